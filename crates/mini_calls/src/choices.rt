@@ -12,6 +12,7 @@ ghost use Rattle.mini_choices.specs.MinimizeHeldBranches.{written as written_of_
 ghost use Rattle.mini_choices.specs.MinimizeLogicalExpression.{written};
 ghost use Rattle.mini_choices.specs.MinimizeNormalAssignmentToCombinedAssignment.{written as written_of_minimize_normal_assignment_to_combined_assignment};
 ghost use Rattle.mini_choices.specs.MinimizeNormalAssignmentToCombinedLogicalAssignment.{marked, written as written_of_minimize_normal_assignment_to_combined_logical_assignment};
+ghost use Rattle.mini_choices.specs.MinimizeLogicalSequence.{written as written_of_minimize_logical_sequence};
 ghost use Rattle.mini_choices.specs.MinimizeNullishComparison.{written as written_of_minimize_nullish_comparison};
 ghost use Rattle.mini_choices.specs.MinimizeObjectTest.{written as written_of_minimize_object_test};
 ghost use Rattle.mini_choices.specs.SubstituteRotateLogicalExpression.{written as written_of_substitute_rotate_logical_expression};
@@ -35,6 +36,21 @@ impl PeepholeOptimizations {
         ensures said { IfOk result (λ changed. changed ≡ is_some (written node.old)) }
     {
         mini_choices::minimize_logical_expression(alloc, node)
+    }
+
+    /// `x || (a, x = b)` becomes `x ||= (a, b)`, and so of `&&` and `??`, where an assignment has no parentheses in the seat that the
+    /// operator hasn't. The answer says whether it did; the only error is that memory runs out, and then the expression is fit only
+    /// to be dropped.
+    pub fn minimize_logical_sequence(
+        &self,
+        alloc: Global,
+        node: &mut Node,
+        seat: Seat,
+    ) -> Result<bool, OutOfMemory>
+        ensures tree { OnOk result (node.new ≡ unwrap_or (written_of_minimize_logical_sequence seat node.old) node.old) }
+        ensures said { IfOk result (λ changed. changed ≡ is_some (written_of_minimize_logical_sequence seat node.old)) }
+    {
+        mini_choices::minimize_logical_sequence(alloc, node, seat)
     }
 
     /// `x ? x : b` becomes `x || b`, `x ? b : x` becomes `x && b`, `a ? x = b : x = c` becomes `x = a ? b : c`, and so of `+=`,

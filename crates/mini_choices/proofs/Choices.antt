@@ -13,8 +13,9 @@ use Rattle.mini_model.specs.declared.operator.LogicalOperator.TheVariants.{Or, A
 use Rattle.mini_model.specs.declared.place.Position.TheVariants.{Expr}
 use Rattle.mini_model.specs.declared.seat.Seat.{Seat}
 use Rattle.mini_model.specs.declared.shape.Shape.TheVariants as shape
-use Rattle.mini_model.specs.Tree.{Tree, Trees, node, leaf, ◌▸◌, identifier, logical, conditional, call, null_literal}
+use Rattle.mini_model.specs.Tree.{Tree, Trees, node, leaf, none, ◌▸◌, identifier, logical, conditional, call, null_literal}
 use Rattle.mini_model.specs.Position.{conditional_level}
+use Rattle.mini_model.specs.Paths.{append}
 use Rattle.mini_model.specs.Weight.{weight}
 use Rattle.mini_node.specs.Children.{part}
 use Rattle.mini_node.specs.Equal.{same_tree}
@@ -22,7 +23,8 @@ use Rattle.mini_node.specs.Kinds.{binary, assignment, is_logical, is_conditional
 use Rattle.mini_node.specs.Made.{assignment_is, logical_is, binary_is, conditional_is, null_is}
 use Rattle.mini_node.proofs.Equality.{tree_same, tree_itself}
 use Rattle.mini_terms.specs.Folds.{is_effect_free}
-use Rattle.mini_rows.specs.Choices.{assign, is_grouped, joined, strictly, joining, asks_object, null_compared, ended, deciding, may_choose, Row39, Row38, Row35, Row35Member, Row45, Row45Member, Key, member_of, Row46Equal, Row46Unequal, Row44, Row13Both, LighterRow, OwnRow, ChoiceRow, ChoiceContracts}
+use Rattle.mini_rows.specs.Lists.{sequence}
+use Rattle.mini_rows.specs.Choices.{assign, is_grouped, joined, strictly, joining, asks_object, null_compared, ended, deciding, may_choose, Row39, Row38, Row35, Row35Member, Row45, Row45Member, Row38Last, Key, member_of, Row46Equal, Row46Unequal, Row44, Row13Both, LighterRow, OwnRow, ChoiceRow, ChoiceContracts}
 use Rattle.mini_rows.proofs.ChoiceCalls.{calls_lighter}
 use Rattle.mini_rows.proofs.ChoiceWeights as choice_weights
 use Rattle.mini_tree.specs.Rule.{Applied}
@@ -31,6 +33,7 @@ use Rattle.mini_choices.specs.Assigning.{is_plain, assigns_name, is_same_operato
 use Rattle.mini_choices.specs.Calling.{calls_either, called}
 use Rattle.mini_choices.specs.SubstituteRotateLogicalExpression as rotate
 use Rattle.mini_choices.specs.MinimizeLogicalExpression as decide
+use Rattle.mini_choices.specs.MinimizeLogicalSequence as decide_last
 use Rattle.mini_choices.specs.MinimizeNormalAssignmentToCombinedAssignment as combine
 use Rattle.mini_choices.specs.MinimizeConditionalBranches as branches
 use Rattle.mini_choices.specs.MinimizeHeldBranches as held
@@ -40,6 +43,7 @@ use Rattle.mini_terms.specs.Parts.{leaves_nothing}
 use Rattle.mini_rows.specs.Spellings.{void_zero}
 use Rattle.mini_choices.specs.EvaluateBothSides as both
 use Rattle.mini_choices.proofs.CombinedAssignment.{one_member, member_there, combined_row, combined_passes, combined_member_passes}
+use Rattle.mini_choices.proofs.LogicalSequence.{last_row, last_passes}
 use Rattle.mini_choices.proofs.BothSides.{both_row, both_passes}
 use Rattle.mini_choices.proofs.ChainLinks.{end_passes, chain_is, folded_row, folded_passes}
 use Rattle.mini_choices.proofs.OptionalChains.{chain_row, chain_passes}
@@ -288,7 +292,7 @@ called_lighter s n w r = record { row = inr (inr (inr (inr (inl r)))); lighter =
 module _ (s : Seat) (n w : Tree) where
   assigned_lighter : Row45 s n (branches.assigned n) ⊎ Row45Member s n (branches.assigned n) → ChoiceContracts (Expr s) n (branches.assigned n)
   assigned_lighter (inl r) = sure s n (branches.assigned n) (inr (inr (inr (inr (inr (inl r))))))
-  assigned_lighter (inr r) = sure s n (branches.assigned n) (inr (inr (inr (inr (inr (inr (inr (inr (inr (inr (inr r)))))))))))
+  assigned_lighter (inr r) = sure s n (branches.assigned n) (inr (inr (inr (inr (inr (inr (inr (inr (inr (inr (inr (inl r))))))))))))
 
   branch_row : branches.written s n ≡ Some w → ChoiceContracts (Expr s) n w
   branch_row =
@@ -352,7 +356,7 @@ either_some (Some a) b w e = inl e
 either_some None b w e = inr e
 
 row_of : (s : Seat) (n w : Tree) → written s n ≡ Some w → ChoiceContracts (Expr s) n w
-row_of s (node (shape.LogicalExpression o) xs m ts) w e = side_row (either_some (both.written s (node (shape.LogicalExpression o) xs m ts)) (operands_written (node (shape.LogicalExpression o) xs m ts)) w e)
+row_of s (node (shape.LogicalExpression o) xs m ts) w e = side_row (either_some (both.written s (node (shape.LogicalExpression o) xs m ts)) (first_of (decide_last.written s (node (shape.LogicalExpression o) xs m ts)) (operands_written (node (shape.LogicalExpression o) xs m ts))) w e)
   where
     comparisons_row : (nullish.written (node (shape.LogicalExpression o) xs m ts) ≡ Some w) ⊎ (object_test.written (node (shape.LogicalExpression o) xs m ts) ≡ Some w) → LighterRow s (node (shape.LogicalExpression o) xs m ts) w
     comparisons_row (inl e) = comparison_row (LighterRow s) (λ n w r. inr (inr (inr (inr (inr (inr (inl r))))))) (λ n w r. inr (inr (inr (inr (inr (inr (inr (inl r)))))))) _ w e
@@ -366,9 +370,16 @@ row_of s (node (shape.LogicalExpression o) xs m ts) w e = side_row (either_some 
     logical_row (inl e) = inl (rotated_row _ w e)
     logical_row (inr e) = others_row (either_some (decide.written (node (shape.LogicalExpression o) xs m ts)) (first_of (nullish.written (node (shape.LogicalExpression o) xs m ts)) (object_test.written (node (shape.LogicalExpression o) xs m ts))) w e)
 
-    side_row : (both.written s (node (shape.LogicalExpression o) xs m ts) ≡ Some w) ⊎ (operands_written (node (shape.LogicalExpression o) xs m ts) ≡ Some w) → ChoiceContracts (Expr s) (node (shape.LogicalExpression o) xs m ts) w
+    operands_row : operands_written (node (shape.LogicalExpression o) xs m ts) ≡ Some w → LighterRow s (node (shape.LogicalExpression o) xs m ts) w
+    operands_row e = logical_row (either_some (rotate.written (node (shape.LogicalExpression o) xs m ts)) (first_of (decide.written (node (shape.LogicalExpression o) xs m ts)) (first_of (nullish.written (node (shape.LogicalExpression o) xs m ts)) (object_test.written (node (shape.LogicalExpression o) xs m ts)))) w e)
+
+    last_or_row : (decide_last.written s (node (shape.LogicalExpression o) xs m ts) ≡ Some w) ⊎ (operands_written (node (shape.LogicalExpression o) xs m ts) ≡ Some w) → LighterRow s (node (shape.LogicalExpression o) xs m ts) w
+    last_or_row (inl e) = inr (inr (inr (inr (inr (inr (inr (inr (inr (inr (inr (inr (last_row s _ w e))))))))))))
+    last_or_row (inr e) = operands_row e
+
+    side_row : (both.written s (node (shape.LogicalExpression o) xs m ts) ≡ Some w) ⊎ (first_of (decide_last.written s (node (shape.LogicalExpression o) xs m ts)) (operands_written (node (shape.LogicalExpression o) xs m ts)) ≡ Some w) → ChoiceContracts (Expr s) (node (shape.LogicalExpression o) xs m ts) w
     side_row (inl e) = both_row s _ w e
-    side_row (inr e) = sure s _ w (logical_row (either_some (rotate.written (node (shape.LogicalExpression o) xs m ts)) (first_of (decide.written (node (shape.LogicalExpression o) xs m ts)) (first_of (nullish.written (node (shape.LogicalExpression o) xs m ts)) (object_test.written (node (shape.LogicalExpression o) xs m ts)))) w e))
+    side_row (inr e) = sure s _ w (last_or_row (either_some (decide_last.written s (node (shape.LogicalExpression o) xs m ts)) (operands_written (node (shape.LogicalExpression o) xs m ts)) w e))
 row_of s (node (shape.AssignmentExpression o) xs m ts) w e = assigned_row (combined_row _ w e)
   where
     assigned_row : Row35 (node (shape.AssignmentExpression o) xs m ts) w ⊎ Row35Member (node (shape.AssignmentExpression o) xs m ts) w → ChoiceContracts (Expr s) (node (shape.AssignmentExpression o) xs m ts) w
@@ -434,13 +445,13 @@ by_nullish t h = in_comparisons t (first_there (nullish.written t) (object_test.
 by_object : (t : Tree) → is_some (object_test.written t) ≡ true → is_some (first_of (rotate.written t) (first_of (decide.written t) (first_of (nullish.written t) (object_test.written t)))) ≡ true
 by_object t h = in_comparisons t (second_there (nullish.written t) (object_test.written t) h)
 
-in_operands : (s : Seat) (t : Tree) → is_some (operands_written t) ≡ true → is_some (first_of (both.written s t) (operands_written t)) ≡ true
-in_operands s t h = second_there (both.written s t) (operands_written t) h
+in_operands : (s : Seat) (t : Tree) → is_some (operands_written t) ≡ true → is_some (first_of (both.written s t) (first_of (decide_last.written s t) (operands_written t))) ≡ true
+in_operands s t h = second_there (both.written s t) (first_of (decide_last.written s t) (operands_written t)) (second_there (decide_last.written s t) (operands_written t) h)
 
 both_there : (s : Seat) (n w : Tree) → Row13Both n w → is_some (both.written s n) ≡ true → is_some (written s n) ≡ true
 both_there s n w r h =
     let t : Tree = logical r.operator r.left r.right in
-    ap (λ t. is_some (written s t)) r.shape ∙ first_there (both.written s t) (operands_written t) (sym (ap (λ t. is_some (both.written s t)) r.shape) ∙ h)
+    ap (λ t. is_some (written s t)) r.shape ∙ first_there (both.written s t) (first_of (decide_last.written s t) (operands_written t)) (sym (ap (λ t. is_some (both.written s t)) r.shape) ∙ h)
 
 sure_passes : (s : Seat) (n w : Tree) → LighterRow s n w → is_some (written s n) ≡ true
 sure_passes s n w (inl r) =
@@ -462,7 +473,10 @@ sure_passes s n w (inr (inr (inr (inr (inr (inr (inr (inl r)))))))) =
 sure_passes s n w (inr (inr (inr (inr (inr (inr (inr (inr (inl r))))))))) =
     let t : Tree = logical (joining (not r.there)) (ended (joining (not r.there)) r.before (asks_object r.there r.name)) (null_compared r.strict (not r.there) r.name) in
     ap (λ t. is_some (written s t)) r.shape ∙ in_operands s t (by_object t (object_passes r.there r.strict r.before r.name r.declared))
-sure_passes s n w (inr (inr (inr (inr (inr (inr (inr (inr (inr (inr (inr r))))))))))) =
+sure_passes s n w (inr (inr (inr (inr (inr (inr (inr (inr (inr (inr (inr (inr r)))))))))))) =
+    let t : Tree = logical r.operator (identifier r.name) (sequence (r.first ▸ append r.others (assign r.name r.b ▸ none))) in
+    ap (λ t. is_some (written s t)) r.shape ∙ second_there (both.written s t) (first_of (decide_last.written s t) (operands_written t)) (first_there (decide_last.written s t) (operands_written t) (last_passes s r.operator r.name r.first r.others r.b r.seated))
+sure_passes s n w (inr (inr (inr (inr (inr (inr (inr (inr (inr (inr (inr (inl r)))))))))))) =
     let t : Tree = conditional r.a (assignment Assign (member_of r.name r.key) r.b) (assignment Assign (member_of r.name r.key) r.c) in
     ap (λ t. is_some (written s t)) r.shape ∙ in_branches s t (by_assignment s t (chosen_member_passes s r.seated r.a r.name r.key r.b r.c r.declared r.effect_free))
 sure_passes s n w (inr (inr (inr (inr (inr (inr (inr (inr (inr (inr (inl r))))))))))) = ap (λ t. is_some (written s t)) r.shape ∙ ap is_some (combined_member_passes r.operator r.combined r.computes r.name r.declared r.key r.b)

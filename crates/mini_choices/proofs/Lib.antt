@@ -6,6 +6,7 @@ pub mod LeftJoins
 pub mod HeldBranches
 pub mod BothSides
 pub mod CombinedAssignment
+pub mod LogicalSequence
 pub mod Calls
 pub mod OptionalChains
 pub mod ChainLinks

@@ -10,6 +10,7 @@ use Rattle.mini_model.specs.Weight.{weight}
 use Rattle.mini_rows.specs.Choices.{ChoiceContracts}
 use Rattle.mini_choices.specs.SubstituteRotateLogicalExpression as rotate
 use Rattle.mini_choices.specs.MinimizeLogicalExpression as decide
+use Rattle.mini_choices.specs.MinimizeLogicalSequence as decide_last
 use Rattle.mini_choices.specs.MinimizeNullishComparison as nullish
 use Rattle.mini_choices.specs.MinimizeObjectTest as object_test
 use Rattle.mini_choices.specs.MinimizeNormalAssignmentToCombinedAssignment as combine
@@ -29,7 +30,7 @@ abbrev pub operands_written : Tree → Option Tree
 operands_written t = first_of (rotate.written t) (first_of (decide.written t) (first_of (nullish.written t) (object_test.written t)))
 
 abbrev pub written_by : Shape → Seat → Tree → Option Tree
-written_by (shape.LogicalExpression o) s t = first_of (both.written s t) (operands_written t)
+written_by (shape.LogicalExpression o) s t = first_of (both.written s t) (first_of (decide_last.written s t) (operands_written t))
 written_by (shape.AssignmentExpression o) s t = combine.written t
 written_by shape.ConditionalExpression s t = first_of (chains.written s t) (first_of (held.written s t) (branches.written s t))
 written_by shape.ChainExpression s t = folded.written s t

@@ -4,6 +4,7 @@ pub mod Forms
 pub mod SubstituteRotateLogicalExpression
 pub mod JoinWithLeftAssociativeOp
 pub mod MinimizeLogicalExpression
+pub mod MinimizeLogicalSequence
 pub mod MinimizeNullishComparison
 pub mod MinimizeObjectTest
 pub mod MinimizeNormalAssignmentToCombinedAssignment

@@ -22,6 +22,7 @@ pub use rewrites::minimize_choices::MinimizeChoices;
 pub use rewrites::minimize_conditional_branches::minimize_conditional_branches;
 pub use rewrites::minimize_held_branches::minimize_held_branches;
 pub use rewrites::minimize_logical_expression::minimize_logical_expression;
+pub use rewrites::minimize_logical_sequence::minimize_logical_sequence;
 pub use rewrites::minimize_normal_assignment_to_combined_assignment::minimize_normal_assignment_to_combined_assignment;
 pub use rewrites::minimize_normal_assignment_to_combined_logical_assignment::{
     MinimizeWrites, minimize_normal_assignment_to_combined_logical_assignment,

@@ -38,7 +38,7 @@ use Rattle.mini_rows.proofs.ListParts.{joined_is}
 use Rattle.mini_rows.proofs.ListShapes.{both_fit, first_fits, parts_fit}
 use Rattle.mini_rows.proofs.ListStatements.{expression_is, if_is, absent_is}
 use Rattle.mini_rows.proofs.ListWeights.{parts_total, parts_weight, sequence_weighs}
-use Rattle.mini_rows.proofs.SequenceLawful.{last_fits}
+use Rattle.mini_rows.proofs.SequenceEnds.{last_fits}
 use Rattle.mini_rows.proofs.SequenceMeaning.{several}
 
 -- ---- meaning

@@ -31,9 +31,11 @@ use Rattle.mini_kept.specs.SameNames.{SameNames, SameScope, NoMoreClash}
 use Rattle.mini_kept.specs.Lawful.{Lawful}
 use Rattle.mini_kept.proofs.Quiet.{no_names, no_body_names, no_body_declarations, no_loop}
 use Rattle.mini_rows.specs.Arranged.{KeptAt, Vanishes}
-use Rattle.mini_rows.specs.Sketches.{Unary, Binary, Logical, Conditional, Assignment, Parts, Sketch, part, under, end, ◌▹◌, Free, Null, Sequence, list, no_items, item}
+use Rattle.mini_rows.specs.Sketches.{Unary, Binary, Logical, Conditional, Assignment, Parts, Sketch, part, under, end, ◌▹◌, Free, Null, Sequence, list, no_items, item, items}
+use Rattle.mini_model.specs.Paths.{append}
+use Rattle.mini_rows.specs.Lists.{sequence}
 use Rattle.mini_rows.specs.Spellings.{IsUndefined, void_zero, assignment}
-use Rattle.mini_rows.specs.Choices.{assign, deciding, strictly, loosely, joining, AreNullish, Row37, Row37After, asks_object, null_compared, held, ended, Row57, Row57Null, Key, Named, Spelled, Numbered, member_of, Row39, Row38, Row35, Row35Member, Row45, Row45Member, ChoiceRow, ChoiceContracts, Row46Equal, Row46Unequal, Row41Or, Row41And, Row42And, Row42Or, Row43Or, Row43And, Row43AndThen, Row43OrThen, Row49, Row13Both, LighterRow, OwnRow, HeldRow}
+use Rattle.mini_rows.specs.Choices.{assign, deciding, strictly, loosely, joining, AreNullish, Row37, Row37After, asks_object, null_compared, held, ended, Row57, Row57Null, Key, Named, Spelled, Numbered, member_of, Row39, Row38, Row35, Row35Member, Row45, Row45Member, Row38Last, ChoiceRow, ChoiceContracts, Row46Equal, Row46Unequal, Row41Or, Row41And, Row42And, Row42Or, Row43Or, Row43And, Row43AndThen, Row43OrThen, Row49, Row13Both, LighterRow, OwnRow, HeldRow}
 use Rattle.mini_rows.proofs.ChainLinkLawful.{chains_kept}
 use Rattle.mini_rows.proofs.ChainEndKept.{end_kept}
 use Rattle.mini_rows.proofs.ArrangedExpressions.{expressions_arranged, expressions_arranged_freely}
@@ -154,6 +156,12 @@ deciding_kept : (q : Seat) (n w : Tree) → Row38 n w → KeptAt (Expr q) n w
 deciding_kept q n w r =
     subst (KeptAt (Expr q) n) (sym r.written)
     (retargeted (deciding r.operator) r.name r.b q n (expressions_arranged_freely first_dropped (record { trees = identifier r.name ▸ r.b ▸ none; lists = [] }) (tt, tt, (name_vanishes r.name, tt)) (under (Logical r.operator) (part 0 ▹ assigns_first (part 1) ▹ end)) (assigns_first (part 1)) refl q n (assign r.name r.b) r.shape refl))
+
+last_kept : (q : Seat) (n w : Tree) → Row38Last q n w → KeptAt (Expr q) n w
+last_kept q n w r =
+    let in_order : Sketch → Sketch = λ last. under Sequence (list (item (part 1) (items 0 (item last no_items))) ▹ end) in
+    subst (KeptAt (Expr q) n) (sym r.written)
+    (retargeted (deciding r.operator) r.name (sequence (r.first ▸ append r.others (r.b ▸ none))) q n (expressions_arranged_freely first_dropped (record { trees = identifier r.name ▸ r.first ▸ r.b ▸ none; lists = r.others ∷ [] }) (tt, tt, (name_vanishes r.name, tt)) (under (Logical r.operator) (part 0 ▹ in_order (assigns_first (part 2)) ▹ end)) (assigns_first (in_order (part 2))) refl q n (assign r.name (sequence (r.first ▸ append r.others (r.b ▸ none)))) r.shape refl))
 
 computing_kept : (q : Seat) (n w : Tree) → Row35 n w → KeptAt (Expr q) n w
 computing_kept q n w r =
@@ -319,7 +327,8 @@ lighter_kept q n w (inr (inr (inr (inr (inr (inr (inr (inl r)))))))) = nullish_a
 lighter_kept q n w (inr (inr (inr (inr (inr (inr (inr (inr (inl r))))))))) = type_kept q n w r
 lighter_kept q n w (inr (inr (inr (inr (inr (inr (inr (inr (inr (inl r)))))))))) = null_type_kept q n w r
 lighter_kept q n w (inr (inr (inr (inr (inr (inr (inr (inr (inr (inr (inl r))))))))))) = computing_member_kept q n w r
-lighter_kept q n w (inr (inr (inr (inr (inr (inr (inr (inr (inr (inr (inr r))))))))))) = chosen_member_kept q n w r
+lighter_kept q n w (inr (inr (inr (inr (inr (inr (inr (inr (inr (inr (inr (inl r)))))))))))) = chosen_member_kept q n w r
+lighter_kept q n w (inr (inr (inr (inr (inr (inr (inr (inr (inr (inr (inr (inr r)))))))))))) = last_kept q n w r
 
 own_kept : (q : Seat) (n w : Tree) → OwnRow n w → KeptAt (Expr q) n w
 own_kept q n w (inl r) = own_or_kept q n w r

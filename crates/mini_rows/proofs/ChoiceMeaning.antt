@@ -40,6 +40,7 @@ use Rattle.mini_rows.proofs.ChainEnds.{end_same, end_read}
 use Rattle.mini_rows.proofs.ChainLawful.{chain_row_same, chain_row_read}
 use Rattle.mini_rows.proofs.ChainRuns.{next, no_names, no_kids}
 use Rattle.mini_rows.proofs.ChoiceCalls.{calls_same}
+use Rattle.mini_rows.proofs.ChoiceLast.{last_same}
 use Rattle.mini_rows.proofs.ChoiceMembers.{member_same, member_chosen_same}
 use Rattle.mini_rows.proofs.ChoiceFree.{free_told, goes_on_chosen, begins_alike}
 use Rattle.mini_rows.proofs.SpellAlike.{SameTree}
@@ -602,7 +603,8 @@ lighter_same s n w (inr (inr (inr (inr (inr (inr (inr (inl r)))))))) = nullish_a
 lighter_same s n w (inr (inr (inr (inr (inr (inr (inr (inr (inl r))))))))) = type_same n w r
 lighter_same s n w (inr (inr (inr (inr (inr (inr (inr (inr (inr (inl r)))))))))) = null_type_same n w r
 lighter_same s n w (inr (inr (inr (inr (inr (inr (inr (inr (inr (inr (inl r))))))))))) = member_same n w r
-lighter_same s n w (inr (inr (inr (inr (inr (inr (inr (inr (inr (inr (inr r))))))))))) = member_chosen_same s n w r
+lighter_same s n w (inr (inr (inr (inr (inr (inr (inr (inr (inr (inr (inr (inl r)))))))))))) = member_chosen_same s n w r
+lighter_same s n w (inr (inr (inr (inr (inr (inr (inr (inr (inr (inr (inr (inr r)))))))))))) = last_same s n w r
 lighter_same s n w (inr (inr (inr (inr (inr (inl r)))))) = chosen_same s n w r
 
 own_same : (n w : Tree) → OwnRow n w → SameTree n w

@@ -17,12 +17,15 @@ use Rattle.mini_kept.specs.KeepsShapes.{AskedAlike, is_default}
 use Rattle.mini_kept.specs.KeepsFrames.{is_body_slot}
 use Rattle.mini_kept.proofs.Bools.{left, both}
 use Rattle.mini_kept.proofs.Expressions.{expression, ThreeFit, of_conditional, TakesExpressionIn, TakesExpression, expression_taken, three_fit, two_fit}
+use Rattle.mini_model.specs.Paths.{append}
+use Rattle.mini_rows.specs.Lists.{sequence}
 use Rattle.mini_rows.specs.Spellings.{binary, assignment}
 use Rattle.mini_rows.specs.Choices.{Key, Named, Spelled, Numbered, member_of, assign, joined, strictly, loosely, joining, asks_object, null_compared, held, ended, deciding, ChoiceRow, pair, Row44, Row13Both, LighterRow, OwnRow, HeldRow}
 use Rattle.mini_rows.proofs.ChainLinkLawful.{chains_fit, chains_asked, chains_slot}
 use Rattle.mini_rows.proofs.ChainEnds.{end_fits, end_asked, end_slot}
 use Rattle.mini_rows.proofs.ChainLawful.{chain_row_fits, chain_row_asked, chain_row_slot}
 use Rattle.mini_rows.proofs.ChoiceCalls.{calls_fit}
+use Rattle.mini_rows.proofs.SequenceEnds.{last_fits}
 use Rattle.mini_rows.proofs.SpellShapes.{Form, a_binary, an_assignment, a_logical, a_conditional, shaped, Kind, Alone, Linked, Ending, Assigned, Nowhere, kind_of, kind_in, filled, fits_is, Formed, formed_asked, formed_slot}
 
 -- ---- where they stand an expression does
@@ -206,7 +209,12 @@ module _ (strict : Bool) where
         let (here, fit) = choice_taken strict s (a_logical o) (ended o r.before test ▸ right ▸ none) refl (subst Here r.shape e) in
         let (first, second) = of_two (ended o r.before test) right fit in
         subst Here (sym r.written) (expression_taken strict s (logical o (ended o r.before (held r.there r.name)) right) here (two_fit strict (ended o r.before (held r.there r.name)) right (ended_fits o r.before test (held r.there r.name) (λ f. held_fits_there r.there r.name (name_there r.strict (not r.there) r.name f)) first) second))
-    lighter_fits q n w (inr (inr (inr (inr (inr (inr (inr (inr (inr (inr (inr r))))))))))) e =
+    lighter_fits q n w (inr (inr (inr (inr (inr (inr (inr (inr (inr (inr (inr (inr r)))))))))))) e =
+        let parts : Tree = sequence (r.first ▸ append r.others (assign r.name r.b ▸ none)) in
+        let (here, fit) = choice_taken strict s (a_logical r.operator) (identifier r.name ▸ parts ▸ none) refl (subst Here r.shape e) in
+        let (name, rest) = of_two (identifier r.name) parts fit in
+        subst Here (sym r.written) (expression_taken strict s (assignment (deciding r.operator) (identifier r.name) (sequence (r.first ▸ append r.others (r.b ▸ none)))) here (assignment_fits (deciding r.operator) r.name (sequence (r.first ▸ append r.others (r.b ▸ none))) name (last_fits strict r.first r.others (assign r.name r.b) rest r.b (λ f. (of_assignment Assign r.name r.b f).1))))
+    lighter_fits q n w (inr (inr (inr (inr (inr (inr (inr (inr (inr (inr (inr (inl r)))))))))))) e =
         let member : Tree = member_of r.name r.key in
         let yes : Tree = assignment Assign member r.b in
         let no : Tree = assignment Assign member r.c in
@@ -265,7 +273,8 @@ row_formed q n w (inr (inr (inr (inr (inl r))))) = record { first = a_conditiona
 row_formed q n w (inr (inr (inr (inr (inr (inr (inl r))))))) = record { first = a_logical (joining r.equal); second = a_binary (loosely r.equal); parts = binary (strictly r.equal) (identifier r.name) r.first ▸ binary (strictly r.equal) (identifier r.name) r.second ▸ none; others = identifier r.name ▸ null_literal ▸ none; read = r.shape; made = r.written; optional = λ x. absurd (cc x) }
 row_formed q n w (inr (inr (inr (inr (inr (inr (inr (inl r)))))))) = record { first = a_logical (joining r.equal); second = a_logical (joining r.equal); parts = logical (joining r.equal) r.before (binary (strictly r.equal) (identifier r.name) r.first) ▸ binary (strictly r.equal) (identifier r.name) r.second ▸ none; others = r.before ▸ binary (loosely r.equal) (identifier r.name) null_literal ▸ none; read = r.shape; made = r.written; optional = λ x. absurd (cc x) }
 row_formed q n w (inr (inr (inr (inr (inr (inr (inr (inr (inl r))))))))) = record { first = a_logical (joining (not r.there)); second = a_logical (joining (not r.there)); parts = ended (joining (not r.there)) r.before (asks_object r.there r.name) ▸ null_compared r.strict (not r.there) r.name ▸ none; others = ended (joining (not r.there)) r.before (asks_object r.there r.name) ▸ held r.there r.name ▸ none; read = r.shape; made = r.written; optional = λ x. absurd (cc x) }
-row_formed q n w (inr (inr (inr (inr (inr (inr (inr (inr (inr (inr (inr r))))))))))) = record { first = a_conditional; second = an_assignment Assign; parts = r.a ▸ assignment Assign (member_of r.name r.key) r.b ▸ assignment Assign (member_of r.name r.key) r.c ▸ none; others = member_of r.name r.key ▸ conditional r.a r.b r.c ▸ none; read = r.shape; made = r.written; optional = λ x. absurd (cc x) }
+row_formed q n w (inr (inr (inr (inr (inr (inr (inr (inr (inr (inr (inr (inr r)))))))))))) = record { first = a_logical r.operator; second = an_assignment (deciding r.operator); parts = identifier r.name ▸ sequence (r.first ▸ append r.others (assign r.name r.b ▸ none)) ▸ none; others = identifier r.name ▸ sequence (r.first ▸ append r.others (r.b ▸ none)) ▸ none; read = r.shape; made = r.written; optional = λ x. absurd (cc x) }
+row_formed q n w (inr (inr (inr (inr (inr (inr (inr (inr (inr (inr (inr (inl r)))))))))))) = record { first = a_conditional; second = an_assignment Assign; parts = r.a ▸ assignment Assign (member_of r.name r.key) r.b ▸ assignment Assign (member_of r.name r.key) r.c ▸ none; others = member_of r.name r.key ▸ conditional r.a r.b r.c ▸ none; read = r.shape; made = r.written; optional = λ x. absurd (cc x) }
 row_formed q n w (inr (inr (inr (inr (inr (inr (inr (inr (inr (inr (inl r))))))))))) = record { first = an_assignment Assign; second = an_assignment r.combined; parts = member_of r.name r.key ▸ binary r.operator (member_of r.name r.key) r.b ▸ none; others = member_of r.name r.key ▸ r.b ▸ none; read = r.shape; made = r.written; optional = λ x. absurd (cc x) }
 row_formed q n w (inr (inr (inr (inr (inr (inr (inr (inr (inr (inl r)))))))))) = record { first = a_logical (joining (not r.there)); second = a_logical (joining (not r.there)); parts = ended (joining (not r.there)) r.before (null_compared r.strict (not r.there) r.name) ▸ asks_object r.there r.name ▸ none; others = ended (joining (not r.there)) r.before (held r.there r.name) ▸ asks_object r.there r.name ▸ none; read = r.shape; made = r.written; optional = λ x. absurd (cc x) }
 

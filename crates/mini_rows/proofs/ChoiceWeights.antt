@@ -15,15 +15,18 @@ use Rattle.mini_model.specs.declared.shape.Shape.TheVariants as shape
 use Rattle.mini_model.specs.Tree.{Tree, Trees, node, none, ◌▸◌, identifier, logical, conditional, null_literal}
 use Rattle.mini_model.specs.declared.place.Position.{Position}
 use Rattle.mini_model.specs.declared.place.Position.TheVariants.{Expr, Target}
-use Rattle.mini_model.specs.Position.{left_operand_seat, right_operand_seat, argument_seat, branch_seat, binary_operand_seat, conditional_level}
+use Rattle.mini_model.specs.Position.{passed_part_seat, left_operand_seat, right_operand_seat, argument_seat, branch_seat, binary_operand_seat, conditional_level}
 use Rattle.mini_model.specs.Weight.{Outline, outline, outlines, weight, place_weight, is_parenthesized, is_awkward, name_weight, spelled_weight, same_text}
 use Rattle.mini_laws.specs.Weights.{Lightens}
 use Rattle.mini_laws.proofs.Seats.{placed, placed_node}
 use Rattle.mini_rows.specs.Spellings.{binary, assignment}
-use Rattle.mini_rows.specs.Choices.{Key, Named, Spelled, Numbered, member_of, asks_object, null_compared, held, ended, assign, is_same_operator, is_grouped, joined, strictly, loosely, joining, AreNullish, deciding, computing, LighterRow, OwnRow, HeldRow, ChoiceRow, ChoiceContracts, ChoicesLighter}
+use Rattle.mini_rows.specs.Choices.{Key, Named, Spelled, Numbered, member_of, keeps_parentheses, asks_object, null_compared, held, ended, assign, is_same_operator, is_grouped, joined, strictly, loosely, joining, AreNullish, deciding, computing, LighterRow, OwnRow, HeldRow, ChoiceRow, ChoiceContracts, ChoicesLighter}
 use Rattle.mini_rows.specs.Chains.{spine, chain, if_nullish}
 use Rattle.mini_rows.proofs.ChainLinkLawful.{chains_outline}
 use Rattle.mini_rows.proofs.ChainEnds.{end_outline}
+use Rattle.mini_rows.specs.Lists.{sequence}
+use Rattle.mini_model.specs.Paths.{append}
+use Rattle.mini_rows.proofs.ListWeights.{parts_append, sequence_weighs}
 use Rattle.mini_rows.proofs.SpellWeights.{falls_by}
 
 -- what a place adds to a node that is neither awkward nor mixed
@@ -219,6 +222,46 @@ chosen_member_falls s e a x k b c =
     let second = placed 0 (branch_seat argument_seat) argument_seat refl (λ h os. omega arith) c in
     omega (arith, marks, first, second, target_heavy x k)
 
+-- 38, of what is assigned last: the name and the `=` go
+
+pairs_at_most : (a b : Bool) → (not a || b) ≡ true → (if a then 4 else 0) ≤ (if b then 4 else 0)
+pairs_at_most true true e = omega arith
+pairs_at_most true false e = absurd (cc e)
+pairs_at_most false b e = at_least b
+  where
+    at_least : (b : Bool) → 0 ≤ (if b then 4 else 0)
+    at_least true = omega arith
+    at_least false = omega arith
+
+abbrev LastFalls : LogicalOperator → Seat → Name → Tree → Trees → Tree → Type 0
+LastFalls o s x p ps b = weight (Expr s) (assignment (deciding o) (identifier x) (sequence (p ▸ append ps (b ▸ none)))) < weight (Expr s) (logical o (identifier x) (sequence (p ▸ append ps (assign x b ▸ none))))
+
+last_falls : (o : LogicalOperator) (s : Seat) (x : Name) (p : Tree) (ps : Trees) (b : Tree) → keeps_parentheses o s ≡ true → LastFalls o s x p ps b
+last_falls Or s x p ps b e =
+    let before = sequence_weighs (right_operand_seat Or s) p (append ps (assign x b ▸ none)) in
+    let after = sequence_weighs argument_seat p (append ps (b ▸ none)) in
+    let one = parts_append ps (assign x b) none in
+    let other = parts_append ps b none in
+    let moved = placed 0 passed_part_seat argument_seat refl (λ h os. omega arith) b in
+    let less = pairs_at_most (is_parenthesized (shape.AssignmentExpression assigning.LogicalOr) s) (is_parenthesized (shape.LogicalExpression Or) s) e in
+    omega (arith, before, after, one, other, moved, less, name_heavy x, no_awkward s.eq_left s.cond_test s.lifted)
+last_falls And s x p ps b e =
+    let before = sequence_weighs (right_operand_seat And s) p (append ps (assign x b ▸ none)) in
+    let after = sequence_weighs argument_seat p (append ps (b ▸ none)) in
+    let one = parts_append ps (assign x b) none in
+    let other = parts_append ps b none in
+    let moved = placed 0 passed_part_seat argument_seat refl (λ h os. omega arith) b in
+    let less = pairs_at_most (is_parenthesized (shape.AssignmentExpression assigning.LogicalAnd) s) (is_parenthesized (shape.LogicalExpression And) s) e in
+    omega (arith, before, after, one, other, moved, less, name_heavy x, no_awkward s.eq_left s.cond_test s.lifted)
+last_falls Coalesce s x p ps b e =
+    let before = sequence_weighs (right_operand_seat Coalesce s) p (append ps (assign x b ▸ none)) in
+    let after = sequence_weighs argument_seat p (append ps (b ▸ none)) in
+    let one = parts_append ps (assign x b) none in
+    let other = parts_append ps b none in
+    let moved = placed 0 passed_part_seat argument_seat refl (λ h os. omega arith) b in
+    let less = pairs_at_most (is_parenthesized (shape.AssignmentExpression assigning.LogicalNullish) s) (is_parenthesized (shape.LogicalExpression Coalesce) s) e in
+    omega (arith, before, after, one, other, moved, less, name_heavy x, no_awkward s.eq_left s.cond_test s.lifted)
+
 -- 46: the comparison and the second name weigh more than a pair of parentheses round each
 
 right_marks : (b : Bool) → (if b then 4 else 0) + (if false || (false || false) then 1 else 0) ≤ 4
@@ -344,7 +387,8 @@ lighter s n w (inr (inr (inr (inr (inr (inr (inl r))))))) = falls_by (Expr s) n 
 lighter s n w (inr (inr (inr (inr (inr (inr (inr (inl r)))))))) = falls_by (Expr s) n w _ _ r.shape r.written (compared_after_falls s r.equal r.before r.name r.first r.second r.nullish)
 lighter s n w (inr (inr (inr (inr (inr (inr (inr (inr (inl r))))))))) = falls_by (Expr s) n w _ _ r.shape r.written (type_falls s r.there r.strict r.before r.name)
 lighter s n w (inr (inr (inr (inr (inr (inr (inr (inr (inr (inl r)))))))))) = falls_by (Expr s) n w _ _ r.shape r.written (null_type_falls s r.there r.strict r.before r.name)
-lighter s n w (inr (inr (inr (inr (inr (inr (inr (inr (inr (inr (inr r))))))))))) = falls_by (Expr s) n w _ _ r.shape r.written (chosen_member_falls s r.seated r.a r.name r.key r.b r.c)
+lighter s n w (inr (inr (inr (inr (inr (inr (inr (inr (inr (inr (inr (inr r)))))))))))) = falls_by (Expr s) n w _ _ r.shape r.written (last_falls r.operator s r.name r.first r.others r.b r.seated)
+lighter s n w (inr (inr (inr (inr (inr (inr (inr (inr (inr (inr (inr (inl r)))))))))))) = falls_by (Expr s) n w _ _ r.shape r.written (chosen_member_falls s r.seated r.a r.name r.key r.b r.c)
 lighter s n w (inr (inr (inr (inr (inr (inr (inr (inr (inr (inr (inl r))))))))))) = falls_by (Expr s) n w _ _ r.shape r.written (computing_member_falls r.operator r.combined r.computes s r.name r.key r.b)
 lighter s n w (inr (inr (inr (inr (inr (inl r)))))) = falls_by (Expr s) n w _ _ r.shape r.written (chosen_falls s r.seated r.operator r.a r.name r.b r.c)
 
@@ -360,7 +404,8 @@ lighter_outline s n w (inr (inr (inr (inr (inr (inr (inr (inl r)))))))) = ap out
 lighter_outline s n w (inr (inr (inr (inr (inr (inr (inr (inr (inl r))))))))) = ap outline r.shape ∙ sym (ap outline r.written)
 lighter_outline s n w (inr (inr (inr (inr (inr (inr (inr (inr (inr (inl r)))))))))) = ap outline r.shape ∙ sym (ap outline r.written)
 lighter_outline s n w (inr (inr (inr (inr (inr (inr (inr (inr (inr (inr (inl r))))))))))) = ap outline r.shape ∙ sym (ap outline r.written)
-lighter_outline s n w (inr (inr (inr (inr (inr (inr (inr (inr (inr (inr (inr r))))))))))) = ap outline r.shape ∙ sym (ap outline r.written)
+lighter_outline s n w (inr (inr (inr (inr (inr (inr (inr (inr (inr (inr (inr (inl r)))))))))))) = ap outline r.shape ∙ sym (ap outline r.written)
+lighter_outline s n w (inr (inr (inr (inr (inr (inr (inr (inr (inr (inr (inr (inr r)))))))))))) = ap outline r.shape ∙ sym (ap outline r.written)
 lighter_outline s n w (inr (inr (inr (inr (inr (inl r)))))) = ap outline r.shape ∙ sym (ap outline r.written)
 
 own_outline : (n w : Tree) → OwnRow n w → outline n ≡ outline w

@@ -114,6 +114,7 @@ pub mod ChoiceWeights
 pub mod ChoiceCalls
 pub mod ChoiceMeaning
 pub mod ChoiceMembers
+pub mod ChoiceLast
 pub mod ChoiceShapes
 mod ChoiceSpines
 pub mod ChoiceLawful
@@ -164,6 +165,7 @@ pub mod SequenceYields
 pub mod SequencePaths
 pub mod SequenceMeaning
 pub mod SequenceWeights
+pub mod SequenceEnds
 pub mod SequenceLawful
 pub mod OperatorBits
 pub mod OperatorMeaning

@@ -122,7 +122,7 @@ parts_fall : (b u : Bool) (p : Tree) (ps : Trees) → are_parts p ps ≡ true �
 parts_fall b u p none e = let (part, declares) = and_parts (is_one_part_shape (shape_of p)) (declares_nothing p) e in let falls = one_falls b u p part in omega (arith, falls)
 parts_fall b u p (q ▸ qs) e = let same = sequence_is b u p (q ▸ qs) in omega (arith, same)
 
-parts_append : (ps : Trees) (q : Tree) (qs : Trees) → parts_total (append ps (q ▸ qs)) + 2 * count (append ps (q ▸ qs)) ≡ parts_total ps + 2 * count ps + parts_weight q qs + 2
+pub parts_append : (ps : Trees) (q : Tree) (qs : Trees) → parts_total (append ps (q ▸ qs)) + 2 * count (append ps (q ▸ qs)) ≡ parts_total ps + 2 * count ps + parts_weight q qs + 2
 parts_append none q qs = omega arith
 parts_append (p ▸ ps) q qs = let rest = parts_append ps q qs in omega (arith, rest)
 

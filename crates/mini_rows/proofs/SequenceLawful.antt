@@ -29,6 +29,7 @@ use Rattle.mini_rows.proofs.ListShapes.{AllFit, sequence_fits, parts_fit, of_par
 use Rattle.mini_rows.proofs.SequenceCalls.{left_number}
 use Rattle.mini_rows.proofs.SequencePaths.{in_order, path, parts_along, path_rearranged, nested_filled, flat_filled}
 use Rattle.mini_rows.proofs.SequenceYields.{yield_at, yielded_fits}
+use Rattle.mini_rows.proofs.SequenceEnds.{last_fits}
 use Rattle.mini_rows.proofs.SequenceMeaning.{several, sequences_same}
 
 -- ---- the same parts
@@ -117,14 +118,6 @@ module _ (strict : Bool) where
   abbrev Fits : Tree → Type 0
   Fits t = fits strict expression t ≡ true
 
-  -- with another last part
-  pub last_fits : (p : Tree) (ps : Trees) (l : Tree) → Fits (sequence (p ▸ append ps (l ▸ none))) → (m : Tree) → (Fits l → Fits m) → Fits (sequence (p ▸ append ps (m ▸ none)))
-  last_fits p ps l e m f =
-      let all = parts_fit strict p (append ps (l ▸ none)) (subst Fits (sym (several p ps l)) e) in
-      let (firsts, lasts) = both_fit strict expression (p ▸ ps) (l ▸ none) all in
-      let last = f (first_fits strict expression l none lasts).0 in
-      subst Fits (several p ps m) (of_parts_fits strict p (append ps (m ▸ none)) (append_fits strict expression (p ▸ ps) (m ▸ none) firsts (more_fit strict expression m none last refl)))
-
   converted_fits : (c : Conversion) (l : Tree) → takes_last (Converts c) l ≡ true → Fits l → Fits (unary (conversion_operator c) l)
   converted_fits Plus l h f = both (fits strict expression l) true f refl
   converted_fits Minus l h f = both (is_not_positive_number l) (fits strict expression l && true) (no_number l (not_true (is_number l) h)) (both (fits strict expression l) true f refl)
@@ -145,22 +138,22 @@ module _ (strict : Bool) where
     over_fits : (r : Operation) → takes_last r l ≡ true → fits strict s (over r (along rs (sequence ts))) ≡ true → TakesExpression s × Fits (sequence (p ▸ append ps (over r l ▸ none)))
     over_fits (Decides o b) h e =
         let (takes, first, second) = operands strict s o (along rs (sequence ts)) b e in
-        (takes, last_fits p ps l (f first) (over (Decides o b) l) (λ g. two_fit strict l b g second))
+        (takes, last_fits strict p ps l (f first) (over (Decides o b) l) (λ g. two_fit strict l b g second))
     over_fits (Chooses b c) h e =
         let (takes, (first, second, third)) = of_conditional strict s (along rs (sequence ts)) b c e in
-        (takes, last_fits p ps l (f first) (over (Chooses b c) l) (λ g. three_fit strict l b c g second third))
+        (takes, last_fits strict p ps l (f first) (over (Chooses b c) l) (λ g. three_fit strict l b c g second third))
     over_fits Negates h e =
         let (takes, first) = of_negation strict s (along rs (sequence ts)) e in
-        (takes, last_fits p ps l (f first) (over Negates l) (λ g. both (fits strict expression l) true g refl))
+        (takes, last_fits strict p ps l (f first) (over Negates l) (λ g. both (fits strict expression l) true g refl))
     over_fits (Converts c) h e =
         let (takes, first) = unary_at strict (conversion_operator c) (along rs (sequence ts)) s e in
-        (takes, last_fits p ps l (f first) (over (Converts c) l) (λ g. converted_fits c l h g))
+        (takes, last_fits strict p ps l (f first) (over (Converts c) l) (λ g. converted_fits c l h g))
     over_fits (Operates o b) h e =
         let (takes, (first, second)) = binary_at strict o (along rs (sequence ts)) b s e in
-        (takes, last_fits p ps l (f first) (over (Operates o b) l) (λ g. two_fit strict l b g second))
+        (takes, last_fits strict p ps l (f first) (over (Operates o b) l) (λ g. two_fit strict l b g second))
     over_fits (Yields d) h e =
         let (takes, first) = yield_at strict d (along rs (sequence ts)) (there rs ts) s e in
-        (takes, last_fits p ps l (f first) (over (Yields d) l) (λ g. yielded_fits strict d l g))
+        (takes, last_fits strict p ps l (f first) (over (Yields d) l) (λ g. yielded_fits strict d l g))
 
   -- what is no number may stand behind a minus
   takes_over : (r o : Operation) (l : Tree) → takes_last r (over o l) ≡ true

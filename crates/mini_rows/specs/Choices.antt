@@ -15,7 +15,8 @@ use Rattle.mini_model.specs.Tree.{Tree, Trees, node, leaf, none, ◌▸◌, iden
 use Rattle.mini_model.specs.declared.place.Position.{Position}
 use Rattle.mini_model.specs.declared.place.Position.TheVariants.{Expr}
 use Rattle.mini_model.specs.Position.{conditional_level}
-use Rattle.mini_model.specs.Weight.{weight}
+use Rattle.mini_model.specs.Paths.{append}
+use Rattle.mini_model.specs.Weight.{is_parenthesized, weight}
 use Rattle.mini_node.specs.Kinds.{static_member, computed_member}
 use Rattle.mini_terms.specs.Folds.{is_effect_free, goes_on}
 use Rattle.mini_terms.specs.Reading.{is_item}
@@ -132,6 +133,21 @@ pub record Row38 (n w : Tree) : Type 0 where
   pub b : Tree
   pub shape : n ≡ logical operator (identifier name) (assign name b)
   pub written : w ≡ assignment (deciding operator) (identifier name) b
+
+-- an assignment has parentheses there only where the operator has them, too
+abbrev pub keeps_parentheses : LogicalOperator → Seat → Bool
+keeps_parentheses o s = not (is_parenthesized (shape.AssignmentExpression (deciding o)) s) || is_parenthesized (shape.LogicalExpression o) s
+
+-- 38: `x || (a, x = b)` becomes `x ||= (a, b)`, and so of `&&` and `??`
+pub record Row38Last (s : Seat) (n w : Tree) : Type 0 where
+  pub operator : LogicalOperator
+  pub name : Name
+  pub first : Tree
+  pub others : Trees
+  pub b : Tree
+  pub seated : keeps_parentheses operator s ≡ true
+  pub shape : n ≡ logical operator (identifier name) (sequence (first ▸ append others (assign name b ▸ none)))
+  pub written : w ≡ assignment (deciding operator) (identifier name) (sequence (first ▸ append others (b ▸ none)))
 
 -- 35: `x = x + b` becomes `x += b`, and so of the other operators of numbers
 pub record Row35 (n w : Tree) : Type 0 where
@@ -360,7 +376,7 @@ pub record Row13Both (n w : Tree) : Type 0 where
 
 -- rows of what is lighter in every seat
 abbrev pub LighterRow : Seat → Tree → Tree → Type 0
-LighterRow s n w = Row39 n w ⊎ (Row38 n w ⊎ (Row35 n w ⊎ (Row46Equal n w ⊎ (Row46Unequal n w ⊎ (Row45 s n w ⊎ (Row37 n w ⊎ (Row37After n w ⊎ (Row57 n w ⊎ (Row57Null n w ⊎ (Row35Member n w ⊎ Row45Member s n w))))))))))
+LighterRow s n w = Row39 n w ⊎ (Row38 n w ⊎ (Row35 n w ⊎ (Row46Equal n w ⊎ (Row46Unequal n w ⊎ (Row45 s n w ⊎ (Row37 n w ⊎ (Row37After n w ⊎ (Row57 n w ⊎ (Row57Null n w ⊎ (Row35Member n w ⊎ (Row45Member s n w ⊎ Row38Last s n w)))))))))))
 
 -- of what may be heavier for its parentheses
 abbrev pub OwnRow : Tree → Tree → Type 0

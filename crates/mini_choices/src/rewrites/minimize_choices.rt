@@ -9,6 +9,7 @@ ghost use Rattle.mini_choices.specs.InjectOptionalChaining as chains;
 ghost use Rattle.mini_choices.specs.MinimizeConditionalBranches as branches;
 ghost use Rattle.mini_choices.specs.MinimizeHeldBranches as held;
 ghost use Rattle.mini_choices.specs.MinimizeLogicalExpression as decide;
+ghost use Rattle.mini_choices.specs.MinimizeLogicalSequence as decide_last;
 ghost use Rattle.mini_choices.specs.MinimizeNullishComparison as nullish;
 ghost use Rattle.mini_choices.specs.MinimizeObjectTest as object_test;
 ghost use Rattle.mini_choices.specs.SubstituteRotateLogicalExpression as rotate;
@@ -19,6 +20,7 @@ use crate::rewrites::inject_optional_chaining::inject_optional_chaining;
 use crate::rewrites::minimize_conditional_branches::minimize_conditional_branches;
 use crate::rewrites::minimize_held_branches::minimize_held_branches;
 use crate::rewrites::minimize_logical_expression::minimize_logical_expression;
+use crate::rewrites::minimize_logical_sequence::minimize_logical_sequence;
 use crate::rewrites::minimize_normal_assignment_to_combined_assignment::minimize_normal_assignment_to_combined_assignment;
 use crate::rewrites::minimize_nullish_comparison::minimize_nullish_comparison;
 use crate::rewrites::minimize_object_test::minimize_object_test;
@@ -61,15 +63,26 @@ fn minimize_logical(alloc: Global, node: &mut Node) -> Result<bool, OutOfMemory>
     minimize_operands(alloc, node)
 }
 
+// Of a logical expression whose last assignment is decided on.
+fn minimize_last(alloc: Global, node: &mut Node, seat: Seat) -> Result<bool, OutOfMemory>
+    ensures tree { OnOk result (node.new ≡ unwrap_or (first_of (decide_last.written seat node.old) (operands_written node.old)) node.old) }
+    ensures said { IfOk result (λ changed. changed ≡ is_some (first_of (decide_last.written seat node.old) (operands_written node.old))) }
+{
+    if minimize_logical_sequence(alloc, node, seat)? {
+        return Ok(true);
+    }
+    minimize_logical(alloc, node)
+}
+
 // Of a logical expression in its seat.
 fn minimize_sides(alloc: Global, node: &mut Node, seat: Seat) -> Result<bool, OutOfMemory>
-    ensures tree { OnOk result (node.new ≡ unwrap_or (first_of (both.written seat node.old) (operands_written node.old)) node.old) }
-    ensures said { IfOk result (λ changed. changed ≡ is_some (first_of (both.written seat node.old) (operands_written node.old))) }
+    ensures tree { OnOk result (node.new ≡ unwrap_or (first_of (both.written seat node.old) (first_of (decide_last.written seat node.old) (operands_written node.old))) node.old) }
+    ensures said { IfOk result (λ changed. changed ≡ is_some (first_of (both.written seat node.old) (first_of (decide_last.written seat node.old) (operands_written node.old)))) }
 {
     if evaluate_both_sides(alloc, node, seat)? {
         return Ok(true);
     }
-    minimize_logical(alloc, node)
+    minimize_last(alloc, node, seat)
 }
 
 // Of the branches of a conditional.
