@@ -49,7 +49,7 @@ use Rattle.mini_rows.proofs.ArrangedNames.{ScopedAs, scoped_local, symbol_times,
 use Rattle.mini_rows.proofs.ArrangedBodies.{quiet, HasBodies, bodies_local, HasFrames, frames_local, Among, Declares, declares_local, FixedBy, fixed_local, rank}
 use Rattle.mini_rows.proofs.ListKeptDeclarations.{all_both, over, is_var, body_are, names_if, declares_as, lets, scope_if, read_opens, own_fixed, own_both_fixed, fixed_down, fixed_up, either_up, either_down, names_are, declarations_are, used, scoped_down, scoped_up, symbols_are, inner_is, numbers_are, declared_are, frames_are, bodies_are, once_is, jumps_are}
 use Rattle.mini_rows.proofs.ListKeptStretch.{joined, parted, stretched, sum_joined, sum_stretched}
-use Rattle.mini_rows.proofs.SingleUse.{Lead, Not, Plus, Tilde, Beside, Deciding, Choosing, Passing, Called, Making, Waiting, Member, Keyed, Doing, Giving, Raising, Testing, head_of, Step, led, is_end, Stands, Well, statement, swapped, taken, swapped_sum, unnamed}
+use Rattle.mini_rows.proofs.SingleUse.{Lead, Not, Plus, Tilde, Beside, Deciding, Choosing, Passing, Called, Making, Waiting, Member, Keyed, Holding, Against, Given, Filling, Keying, Doing, Giving, Raising, Testing, head_of, before, Step, led, is_end, Stands, Well, statement, swapped, taken, swapped_sum, unnamed}
 use Rattle.mini_rows.proofs.UnusedKept.{LeavesThere, NamesThere, DeclaresThere, alone_stricter}
 use Rattle.mini_rows.proofs.UnusedNames.{Other, or_parts, all_unmentioned, declared_other, all_other, unmentioned}
 
@@ -482,7 +482,7 @@ led_hoists AsValue [] w q t e = e
 led_hoists c [] w q t e = absurd w
 led_hoists AsValue (s ∷ ss) w q t e = by s.lead (is_end ss) w.0
   where
-    by : (l : Lead) (b : Bool) → Stands AsValue l b → names_of declared.Hoisted (node (shape_by (head_of l)) [] 0 (led ss t ▸ s.rest)) ≡ []
+    by : (l : Lead) (b : Bool) → Stands AsValue l b → names_of declared.Hoisted (node (shape_by (head_of l)) [] 0 (append (before l) (led ss t ▸ s.rest))) ≡ []
     by Not b w = refl
     by Plus b w = refl
     by Tilde b w = refl
@@ -495,6 +495,11 @@ led_hoists AsValue (s ∷ ss) w q t e = by s.lead (is_end ss) w.0
     by (Waiting d) b w = refl
     by Member b w = refl
     by Keyed b w = refl
+    by Holding b w = refl
+    by (Against o a) b w = refl
+    by (Given a) b w = refl
+    by (Filling a) b w = refl
+    by (Keying a) b w = refl
     by l b w = absurd w
 led_hoists c (s ∷ ss) w q t e = absurd (cc q)
 
@@ -602,21 +607,22 @@ module _ (K : VariableDeclarationKind) (x : Name) (k : ℕ) (e : x.symbol ≡ sy
 -- the two as paths
 module _ (K : VariableDeclarationKind) (x : Name) (k : ℕ) (e : x.symbol ≡ symbol k) (first : Trees) (init head : Tree) (plain : is_plain_part init ≡ true) (r : reads_first x head ≡ true) (i : names x init ≡ false) (f : any_names x first ≡ false) (P : Trees → Trees → Type 0)
     (by : (ss : List Step) → Well AsWholeItem ss → (y : Name) → names x (led ss init) ≡ false → Named (led ss (identifier y)) (led ss init) → P (declared_among K x first init none ▸ (led ss (identifier y) ▸ none)) (declared_left K first ▸ (led ss init ▸ none))) where
-  along : P (declared_among K x first init none ▸ (head ▸ none)) (declared_left K first ▸ (put_first init head ▸ none))
+  along : P (declared_among K x first init none ▸ (head ▸ none)) (declared_left K first ▸ (put_first x init head ▸ none))
   along =
       let t = statement x head r in
-      let steps : List Step = record { lead = t.lead; rest = t.rest } ∷ t.path.steps in
-      let one = λ (u : Tree). led (record { lead = t.lead; rest = t.rest } ∷ []) u in
-      let there : head ≡ led steps (identifier t.path.read) = t.is ∙ ap one t.path.is in
-      let put : put_first init head ≡ led steps init = ap (put_first init) t.is ∙ ap one (t.path.puts init) in
+      let step : Step = record { lead = t.lead; rest = t.rest } in
+      let steps : List Step = step ∷ t.path.steps in
+      let one = λ (u : Tree). led (step ∷ []) u in
+      let there : head ≡ led steps (identifier t.path.read) = t.is ∙ t.along t.inner ∙ ap one t.path.is in
+      let put : put_first x init head ≡ led steps init = t.puts init ∙ t.along (put_first x init t.inner) ∙ ap one (t.path.puts init) in
       subst₂ (λ h w. P (declared_among K x first init none ▸ (h ▸ none)) (declared_left K first ▸ (w ▸ none))) (sym there) (sym put)
-      (by steps (t.stands (is_end t.path.steps), subst (λ c. Well c t.path.steps) (sym (t.below AsWholeItem)) t.path.well) t.path.read (unnamed x steps (t.free, t.path.spared) init i) (stated t.lead (t.stands true) (led t.path.steps (identifier t.path.read)) (led t.path.steps init) t.rest (led_hoists AsValue t.path.steps t.path.well refl (identifier t.path.read) (name_hoists t.path.read)) (led_hoists AsValue t.path.steps t.path.well refl init (plain_hoists init plain))))
+      (by steps (t.stands (is_end t.path.steps), subst (λ c. Well c t.path.steps) (sym (t.below AsWholeItem)) t.path.well) t.path.read (unnamed x steps ((ap (any_names x) t.front, t.free), t.path.spared) init i) (subst₂ Named (t.along (led t.path.steps (identifier t.path.read))) (t.along (led t.path.steps init)) (stated t.lead (t.stands true) (led t.path.steps (identifier t.path.read)) (led t.path.steps init) t.rest (led_hoists AsValue t.path.steps t.path.well refl (identifier t.path.read) (name_hoists t.path.read)) (led_hoists AsValue t.path.steps t.path.well refl init (plain_hoists init plain)))))
 
-pub single_leaves : (K : VariableDeclarationKind) (x : Name) (k : ℕ) → x.symbol ≡ symbol k → (first : Trees) (init head : Tree) → is_plain_part init ≡ true → reads_first x head ≡ true → names x init ≡ false → any_names x first ≡ false → LeavesThere x (declared_among K x first init none ▸ (head ▸ none)) (declared_left K first ▸ (put_first init head ▸ none))
+pub single_leaves : (K : VariableDeclarationKind) (x : Name) (k : ℕ) → x.symbol ≡ symbol k → (first : Trees) (init head : Tree) → is_plain_part init ≡ true → reads_first x head ≡ true → names x init ≡ false → any_names x first ≡ false → LeavesThere x (declared_among K x first init none ▸ (head ▸ none)) (declared_left K first ▸ (put_first x init head ▸ none))
 single_leaves K x k e first init head plain r i f = along K x k e first init head plain r i f (LeavesThere x) (λ ss w y g n. there_leaves K x k e first init f ss w y g n)
 
-pub single_names : (K : VariableDeclarationKind) (x : Name) (k : ℕ) → x.symbol ≡ symbol k → (first : Trees) (init head : Tree) → is_plain_part init ≡ true → reads_first x head ≡ true → names x init ≡ false → any_names x first ≡ false → is_lexical K ≡ true → NamesThere x (declared_among K x first init none ▸ (head ▸ none)) (declared_left K first ▸ (put_first init head ▸ none))
+pub single_names : (K : VariableDeclarationKind) (x : Name) (k : ℕ) → x.symbol ≡ symbol k → (first : Trees) (init head : Tree) → is_plain_part init ≡ true → reads_first x head ≡ true → names x init ≡ false → any_names x first ≡ false → is_lexical K ≡ true → NamesThere x (declared_among K x first init none ▸ (head ▸ none)) (declared_left K first ▸ (put_first x init head ▸ none))
 single_names K x k e first init head plain r i f l = along K x k e first init head plain r i f (NamesThere x) (λ ss w y g n. there_names K x k e first init f ss w y g n l)
 
-pub single_declares : (K : VariableDeclarationKind) (x : Name) (k : ℕ) → x.symbol ≡ symbol k → (first : Trees) (init head : Tree) → is_plain_part init ≡ true → reads_first x head ≡ true → names x init ≡ false → any_names x first ≡ false → DeclaresThere x (declared_among K x first init none ▸ (head ▸ none)) (declared_left K first ▸ (put_first init head ▸ none))
+pub single_declares : (K : VariableDeclarationKind) (x : Name) (k : ℕ) → x.symbol ≡ symbol k → (first : Trees) (init head : Tree) → is_plain_part init ≡ true → reads_first x head ≡ true → names x init ≡ false → any_names x first ≡ false → DeclaresThere x (declared_among K x first init none ▸ (head ▸ none)) (declared_left K first ▸ (put_first x init head ▸ none))
 single_declares K x k e first init head plain r i f = along K x k e first init head plain r i f (DeclaresThere x) (λ ss w y g n. there_declares K x k e first init f ss w y g n)

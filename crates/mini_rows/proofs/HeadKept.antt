@@ -27,7 +27,7 @@ use Rattle.mini_terms.specs.Reading.{is_plain_part}
 use Rattle.mini_rows.specs.Lists.{declaration}
 use Rattle.mini_rows.specs.Declarations.{binding, declarator}
 use Rattle.mini_rows.specs.Sketches.{Asked, AsWholeItem, AsValue, AsWholeList, Leap}
-use Rattle.mini_rows.specs.Unused.{names, any_names, declared_among, declared_left, put_first, reads_first, put_head, reads_head}
+use Rattle.mini_rows.specs.Unused.{names, any_names, declared_among, declared_left, put_first, reads_first, reads_head, evaluated}
 use Rattle.mini_rows.proofs.Arranging.{Any, Local, Summed}
 use Rattle.mini_rows.proofs.ArrangedNames.{ScopedAs, scoped_local, symbol_times, symbols_summed, number_times, numbers_summed, InnerIf, inner_local, Once, once_local, HasTarget, Aimed, aimed_local}
 use Rattle.mini_rows.proofs.ArrangedBodies.{HasBodies, bodies_local, HasFrames, frames_local, Among, Declares, declares_local, FixedBy, fixed_local}
@@ -172,25 +172,25 @@ module _ (K : VariableDeclarationKind) (x : Name) (k : ℕ) (e : x.symbol ≡ sy
   abbrev Written : (P : Trees → Trees → Type 0) → Tree → Tree → Type 0
   Written P h w = P (declared_among K x first init none ▸ (h ▸ none)) (declared_left K first ▸ (w ▸ none))
 
-  initial_along : (t : Initial x head) (P : Trees → Trees → Type 0) → ((ss : List Step) → Well AsValue ss → (r : Name) → any_names x (given t.binds (led ss init) ▸ t.last) ≡ false → Written P (made t.kind (given t.binds (led ss (identifier r)) ▸ t.last)) (made t.kind (given t.binds (led ss init) ▸ t.last))) → Written P head (put_head init head)
+  initial_along : (t : Initial x head) (P : Trees → Trees → Type 0) → ((ss : List Step) → Well AsValue ss → (r : Name) → any_names x (given t.binds (led ss init) ▸ t.last) ≡ false → Written P (made t.kind (given t.binds (led ss (identifier r)) ▸ t.last)) (made t.kind (given t.binds (led ss init) ▸ t.last))) → Written P head (put_first x init head)
   initial_along t P h =
       let p : Path x AsValue t.value = path x false t.value t.once in
       let free = ap (λ u. any_names x (given t.binds u ▸ t.last)) (sym (p.puts init)) ∙ next_unnamed x t.binds t.value t.once init i t.other t.last t.later in
       subst₂ (Written P) (sym (t.is ∙ ap (λ u. declaration t.kind (declarator t.binds u ▸ t.last)) p.is)) (sym (t.puts init ∙ ap (λ u. declaration t.kind (declarator t.binds u ▸ t.last)) (p.puts init))) (h p.steps p.well p.read free)
 
   -- of a statement, or of a declaration
-  by_head : (P : Trees → Trees → Type 0) → (reads_first x head ≡ true → Written P head (put_first init head)) → ((t : Initial x head) → Written P head (put_head init head)) → Written P head (put_head init head)
+  by_head : (P : Trees → Trees → Type 0) → (reads_first x head ≡ true → Written P head (put_first x init head)) → ((t : Initial x head) → Written P head (put_first x init head)) → Written P head (put_first x init head)
   by_head P g h = by (heads x head once)
     where
-      by : ((reads_first x head ≡ true) × ((r : Tree) → put_head r head ≡ put_first r head)) ⊎ Initial x head → Written P head (put_head init head)
-      by (inl (o, p)) = subst (Written P head) (sym (p init)) (g o)
+      by : ((reads_first x head ≡ true) × (evaluated head ≡ head)) ⊎ Initial x head → Written P head (put_first x init head)
+      by (inl (o, p)) = g o
       by (inr t) = h t
 
-  pub head_leaves : Written (LeavesThere x) head (put_head init head)
+  pub head_leaves : Written (LeavesThere x) head (put_first x init head)
   head_leaves = by_head (LeavesThere x) (λ o. single_leaves K x k e first init head plain o i f) (λ t. initial_along t (LeavesThere x) (λ ss w r g. initial_there K x k e first init f t.kind t.binds t.last ss w r g))
 
-  pub head_names : is_lexical K ≡ true → Written (NamesThere x) head (put_head init head)
+  pub head_names : is_lexical K ≡ true → Written (NamesThere x) head (put_first x init head)
   head_names l = by_head (NamesThere x) (λ o. single_names K x k e first init head plain o i f l) (λ t. initial_along t (NamesThere x) (λ ss w r g. initial_names_there K x k e first init f t.kind t.binds t.last ss w r g l))
 
-  pub head_declares : Written (DeclaresThere x) head (put_head init head)
+  pub head_declares : Written (DeclaresThere x) head (put_first x init head)
   head_declares = by_head (DeclaresThere x) (λ o. single_declares K x k e first init head plain o i f) (λ t. initial_along t (DeclaresThere x) (λ ss w r g. initial_declares_there K x k e first init f t.kind t.binds t.last ss w r g))

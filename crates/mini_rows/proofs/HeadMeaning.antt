@@ -13,11 +13,12 @@ use Rattle.mini_kept.specs.Without.{Unseen}
 use Rattle.mini_rows.specs.Lists.{declaration}
 use Rattle.mini_rows.specs.Declarations.{declarator}
 use Rattle.mini_rows.specs.Sketches.{shape_by, AsWholeItem}
-use Rattle.mini_rows.specs.Unused.{resolved, names, any_names, declared_among, declared_left, may_move, put_first, reads_first, put_head, reads_head, Row71}
+use Rattle.mini_rows.specs.Unused.{resolved, names, any_names, declared_among, declared_left, may_move, put_first, are_passed, reads_first, reads_head, evaluated, Row71}
 use Rattle.mini_rows.proofs.FoldMeaning.{plain_read}
 use Rattle.mini_rows.proofs.NextKept.{next_unnamed}
 use Rattle.mini_rows.proofs.NextMeaning.{initial_goes}
-use Rattle.mini_rows.proofs.SingleUse.{Lead, Doing, Giving, Raising, Testing, head_of, Step, led, is_end, Stands, Well, Initial, heads, statement, unnamed}
+use Rattle.mini_rows.proofs.SingleUse.{Lead, Doing, Giving, Raising, Testing, head_of, Step, led, is_end, Stands, Well, AllPass, Initial, heads, statement, unnamed}
+use Rattle.mini_rows.proofs.ItemReads.{plain_item}
 use Rattle.mini_rows.proofs.SingleMeaning.{first_goes}
 use Rattle.mini_rows.proofs.UnusedMeaning.{SameRead, GoesWith, single_read, single_same, first_avoids, same_symbol, movable, block_same, lexical_alone, never_written}
 use Rattle.mini_rows.proofs.UnusedNames.{or_parts, avoided, all_avoided}
@@ -31,20 +32,20 @@ stated Raising b s ts = refl
 stated Testing b s ts = refl
 stated l b s ts = absurd s
 
-statement_read : (x : Name) (head : Tree) → reads_first x head ≡ true → (init : Tree) → SameRead head (put_first init head)
+statement_read : (x : Name) (head : Tree) → reads_first x head ≡ true → (init : Tree) → SameRead head (put_first x init head)
 statement_read x head e init =
     let t = statement x head e in
-    let same = ap summary t.is ∙ stated t.lead true (t.stands true) (t.inner ▸ t.rest) ∙ sym (ap (λ u. summary (put_first init u)) t.is ∙ stated t.lead true (t.stands true) (put_first init t.inner ▸ t.rest)) in
+    let same = ap summary t.is ∙ stated t.lead true (t.stands true) (t.inner ▸ t.rest) ∙ sym (ap summary (t.puts init) ∙ stated t.lead true (t.stands true) (put_first x init t.inner ▸ t.rest)) in
     record { lets = ap (λ i. i.lets) same; functions = ap (λ i. i.functions) same; facts = ap (λ i. i.facts.functions) same; texts = ap (λ i. i.facts.texts) same }
 
-initial_read : (x : Name) (head : Tree) (t : Initial x head) (init : Tree) → SameRead (declaration t.kind (declarator t.binds t.value ▸ t.last)) (declaration t.kind (declarator t.binds (put_first init t.value) ▸ t.last))
+initial_read : (x : Name) (head : Tree) (t : Initial x head) (init : Tree) → SameRead (declaration t.kind (declarator t.binds t.value ▸ t.last)) (declaration t.kind (declarator t.binds (put_first x init t.value) ▸ t.last))
 initial_read x head t init = record { lets = refl; functions = refl; facts = refl; texts = refl }
 
-pub head_read : (x : Name) (head : Tree) → reads_head x head ≡ true → (init : Tree) → SameRead head (put_head init head)
+pub head_read : (x : Name) (head : Tree) → reads_head x head ≡ true → (init : Tree) → SameRead head (put_first x init head)
 head_read x head e init = by (heads x head e)
   where
-    by : ((reads_first x head ≡ true) × ((r : Tree) → put_head r head ≡ put_first r head)) ⊎ Initial x head → SameRead head (put_head init head)
-    by (inl (f, p)) = subst (SameRead head) (sym (p init)) (statement_read x head f init)
+    by : ((reads_first x head ≡ true) × (evaluated head ≡ head)) ⊎ Initial x head → SameRead head (put_first x init head)
+    by (inl (f, p)) = statement_read x head f init
     by (inr t) = subst₂ SameRead (sym t.is) (sym (t.puts init)) (initial_read x head t init)
 
 -- ---- what it does
@@ -53,41 +54,43 @@ module _ (e : Environment) (spelling : List ℕ) (k : ℕ) (z : Unseen (alone (D
   abbrev x : Name
   x = resolved spelling k
 
-  statement_goes : reads_first x head ≡ true → (s : State) → GoesWith e k init head (put_first init head) s
-  statement_goes once s =
+  statement_goes : reads_first x head ≡ true → are_passed x init head ≡ true → (s : State) → GoesWith e k init head (put_first x init head) s
+  statement_goes once passed s =
       let t = statement x head once in
-      let steps : List Step = record { lead = t.lead; rest = t.rest } ∷ t.path.steps in
+      let step : Step = record { lead = t.lead; rest = t.rest } in
+      let steps : List Step = step ∷ t.path.steps in
       let reading = t.path.read in
       let read_as : identifier reading ≡ identifier (resolved reading.spelling k) = ap (λ y. identifier (record { spelling = reading.spelling; symbol = y })) (same_symbol k reading.symbol t.path.same) in
-      let one = λ (u : Tree). led (record { lead = t.lead; rest = t.rest } ∷ []) u in
-      let there : head ≡ led steps (identifier (resolved reading.spelling k)) = t.is ∙ ap one (t.path.is ∙ ap (led t.path.steps) read_as) in
-      let put : put_first init head ≡ led steps init = ap (put_first init) t.is ∙ ap one (t.path.puts init) in
+      let one = λ (u : Tree). led (step ∷ []) u in
+      let there : head ≡ led steps (identifier (resolved reading.spelling k)) = t.is ∙ t.along t.inner ∙ ap one (t.path.is ∙ ap (led t.path.steps) read_as) in
+      let put : put_first x init head ≡ led steps init = t.puts init ∙ t.along (put_first x init t.inner) ∙ ap one (t.path.puts init) in
+      let beside = subst (AllPass init) (sym t.front) tt in
       subst₂ (λ h w. GoesWith e k init h w s) (sym there) (sym put)
-      (first_goes e k z x refl reading.spelling init (sym (plain_read init (movable init moves))) AsWholeItem steps (t.stands (is_end t.path.steps), subst (λ c. Well c t.path.steps) (sym (t.below AsWholeItem)) t.path.well) (t.free, t.path.spared) (Stat None) tt [] s)
+      (first_goes e k z x refl reading.spelling init (sym (plain_read init (movable init moves))) (plain_item init (movable init moves)) AsWholeItem steps (t.stands (is_end t.path.steps), subst (λ c. Well c t.path.steps) (sym (t.below AsWholeItem)) t.path.well) ((ap (any_names x) t.front, t.free), t.path.spared) (beside, t.path.passed init (t.passed init passed)) (Stat None) tt [] s)
 
-  pub head_goes : reads_head x head ≡ true → (s : State) → GoesWith e k init head (put_head init head) s
-  head_goes once s = by (heads x head once)
+  pub head_goes : reads_head x head ≡ true → are_passed x init (evaluated head) ≡ true → (s : State) → GoesWith e k init head (put_first x init head) s
+  head_goes once passed s = by (heads x head once)
     where
-      by : ((reads_first x head ≡ true) × ((r : Tree) → put_head r head ≡ put_first r head)) ⊎ Initial x head → GoesWith e k init head (put_head init head) s
-      by (inl (f, p)) = subst (λ w. GoesWith e k init head w s) (sym (p init)) (statement_goes f s)
-      by (inr t) = subst₂ (λ h w. GoesWith e k init h w s) (sym t.is) (sym (t.puts init)) (initial_goes e spelling k z t.kind init t.binds t.value t.last moves t.once (avoided x k refl t.binds t.other) (all_avoided x k refl t.last t.later) s)
+      by : ((reads_first x head ≡ true) × (evaluated head ≡ head)) ⊎ Initial x head → GoesWith e k init head (put_first x init head) s
+      by (inl (f, p)) = statement_goes f (sym (ap (are_passed x init) p) ∙ passed) s
+      by (inr t) = subst₂ (λ h w. GoesWith e k init h w s) (sym t.is) (sym (t.puts init)) (initial_goes e spelling k z t.kind init t.binds t.value t.last moves t.once (sym (ap (are_passed x init) t.evaluates) ∙ passed) (avoided x k refl t.binds t.other) (all_avoided x k refl t.last t.later) s)
 
 -- ---- nothing that is written mentions the name
 
-statement_unnamed : (x : Name) (head : Tree) → reads_first x head ≡ true → (init : Tree) → names x init ≡ false → names x (put_first init head) ≡ false
+statement_unnamed : (x : Name) (head : Tree) → reads_first x head ≡ true → (init : Tree) → names x init ≡ false → names x (put_first x init head) ≡ false
 statement_unnamed x head e init f =
     let t = statement x head e in
-    ap (λ u. names x (put_first init u)) t.is ∙ ap (λ u. names x u || any_names x t.rest) (t.path.puts init) ∙ ap (λ b. b || any_names x t.rest) (unnamed x t.path.steps t.path.spared init f) ∙ t.free
+    ap (names x) (t.puts init) ∙ ap (λ u. names x u || any_names x t.rest) (t.path.puts init) ∙ ap (λ b. b || any_names x t.rest) (unnamed x t.path.steps t.path.spared init f) ∙ t.free
 
 or_none : (b : Bool) → b ≡ false → (b || false) ≡ false
 or_none b e = ap (λ c. c || false) e
 
-pub head_unnamed : (x : Name) (head : Tree) → reads_head x head ≡ true → (init : Tree) → names x init ≡ false → names x (put_head init head) ≡ false
+pub head_unnamed : (x : Name) (head : Tree) → reads_head x head ≡ true → (init : Tree) → names x init ≡ false → names x (put_first x init head) ≡ false
 head_unnamed x head e init f = by (heads x head e)
   where
-    by : ((reads_first x head ≡ true) × ((r : Tree) → put_head r head ≡ put_first r head)) ⊎ Initial x head → names x (put_head init head) ≡ false
-    by (inl (g, p)) = ap (names x) (p init) ∙ statement_unnamed x head g init f
-    by (inr t) = ap (names x) (t.puts init) ∙ or_none (any_names x (declarator t.binds (put_first init t.value) ▸ t.last)) (next_unnamed x t.binds t.value t.once init f t.other t.last t.later)
+    by : ((reads_first x head ≡ true) × (evaluated head ≡ head)) ⊎ Initial x head → names x (put_first x init head) ≡ false
+    by (inl (g, p)) = statement_unnamed x head g init f
+    by (inr t) = ap (names x) (t.puts init) ∙ or_none (any_names x (declarator t.binds (put_first x init t.value) ▸ t.last)) (next_unnamed x t.binds t.value t.once init f t.other t.last t.later)
 
 -- ---- the row
 
@@ -96,8 +99,8 @@ row_71 e k z n w r h t =
     let x = resolved r.spelling r.symbol in
     let u : Unseen (alone (Declared r.symbol)) e = subst (λ j. Unseen (alone (Declared j)) e) h z in
     let D = alone (Declared r.symbol) in
-    let put = put_head r.init r.head in
+    let put = put_first x r.init r.head in
     let same = block_same e r.spelling r.symbol u r.before r.after (declared_among r.kind x r.first r.init none ▸ (r.head ▸ none)) (declared_left r.kind r.first ▸ (put ▸ none)) (single_read r.spelling r.symbol r.kind r.first r.init r.head put (head_read x r.head r.once r.init)) (all_avoided x r.symbol refl r.before r.earlier)
     (first_avoids D r.kind r.first (all_avoided x r.symbol refl r.first r.declared_earlier), (avoided x r.symbol refl put (head_unnamed x r.head r.once r.init r.initial), tt)) (all_avoided x r.symbol refl r.after r.later)
-    (single_same e r.spelling r.symbol u r.first r.init r.head put (ap (λ i. i.facts.absent) (plain_read r.init (movable r.init r.moves))) r.kind (never_written r.kind e r.symbol (lexical_alone r.kind r.goes)) (head_goes e r.spelling r.symbol u r.init r.head r.moves r.once)) t in
+    (single_same e r.spelling r.symbol u r.first r.init r.head put (ap (λ i. i.facts.absent) (plain_read r.init (movable r.init r.moves))) r.kind (never_written r.kind e r.symbol (lexical_alone r.kind r.goes)) (head_goes e r.spelling r.symbol u r.init r.head r.moves r.once r.passed)) t in
     subst (λ j. Same e (alone (Declared j)) nothing (Stat t) n w) (sym h) (subst₂ (Same e D nothing (Stat t)) (sym r.shape) (sym r.written) same)

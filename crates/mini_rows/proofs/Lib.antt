@@ -132,6 +132,8 @@ pub mod BooleanLawful
 pub mod UnusedNames
 pub mod SingleUse
 pub mod SingleWeights
+mod ItemReads
+mod Passing
 pub mod SingleMeaning
 pub mod SingleFits
 pub mod DeclaredKept

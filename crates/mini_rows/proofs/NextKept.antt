@@ -312,7 +312,7 @@ left_is : (K : VariableDeclarationKind) (first : Trees) (d : Tree) (last : Trees
 left_is K none d last = refl
 left_is K (t ▸ first) d last = refl
 
-pub next_unnamed : (x : Name) (id value : Tree) → is_first x false value ≡ true → (init : Tree) → names x init ≡ false → names x id ≡ false → (last : Trees) → any_names x last ≡ false → any_names x (given id (put_first init value) ▸ last) ≡ false
+pub next_unnamed : (x : Name) (id value : Tree) → is_first x false value ≡ true → (init : Tree) → names x init ≡ false → names x id ≡ false → (last : Trees) → any_names x last ≡ false → any_names x (given id (put_first x init value) ▸ last) ≡ false
 next_unnamed x id value once init f o last g =
     let p = path x false value once in
     (λ i. (o i || (names x (p.puts init i) || false)) || any_names x last) ∙ (λ i. (false || (unnamed x p.steps p.spared init f i || false)) || g i)
@@ -322,7 +322,7 @@ module _ (K : VariableDeclarationKind) (x : Name) (k : ℕ) (e : x.symbol ≡ sy
   with_it = declared_among K x first init (declarator id value ▸ last) ▸ none
 
   abbrev without_it : Trees
-  without_it = declaration K (append first (declarator id (put_first init value) ▸ last)) ▸ none
+  without_it = declaration K (append first (declarator id (put_first x init value) ▸ last)) ▸ none
 
   p : Path x AsValue value
   p = path x false value once
@@ -331,7 +331,7 @@ module _ (K : VariableDeclarationKind) (x : Name) (k : ℕ) (e : x.symbol ≡ sy
   unnamed_there = ap (λ t. any_names x (given id t ▸ last)) (sym (p.puts init)) ∙ next_unnamed x id value once init i o last g
 
   along : (P : Trees → Trees → Type 0) → P (made K (append first (given (binding x) init ▸ (given id (led p.steps (identifier p.read)) ▸ last))) ▸ none) (declared_left K (append first (given id (led p.steps init) ▸ last)) ▸ none) → P with_it without_it
-  along P h = subst₂ P (λ j. made K (append first (given (binding x) init ▸ (given id (sym p.is j) ▸ last))) ▸ none) ((λ j. declared_left K (append first (given id (sym (p.puts init) j) ▸ last)) ▸ none) ∙ ap (λ d. d ▸ none) (left_is K first (given id (put_first init value)) last)) h
+  along P h = subst₂ P (λ j. made K (append first (given (binding x) init ▸ (given id (sym p.is j) ▸ last))) ▸ none) ((λ j. declared_left K (append first (given id (sym (p.puts init) j) ▸ last)) ▸ none) ∙ ap (λ d. d ▸ none) (left_is K first (given id (put_first x init value)) last)) h
 
   pub next_leaves : LeavesThere x with_it without_it
   next_leaves = along (LeavesThere x) (there_leaves K x k e first init id last p.steps p.well p.read f unnamed_there)

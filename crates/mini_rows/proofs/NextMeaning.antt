@@ -25,11 +25,12 @@ use Rattle.mini_kept.specs.Without.{Unseen}
 use Rattle.mini_rows.specs.Lists.{declaration}
 use Rattle.mini_rows.specs.Declarations.{binding, declarator}
 use Rattle.mini_rows.specs.Sketches.{shape_by, AsValue}
-use Rattle.mini_rows.specs.Unused.{resolved, names, any_names, declared_among, may_move, is_first, put_first, Row71Next}
+use Rattle.mini_rows.specs.Unused.{resolved, names, any_names, declared_among, may_move, is_first, put_first, are_passed, Row71Next}
 use Rattle.mini_rows.proofs.FoldMeaning.{plain_read}
 use Rattle.mini_rows.proofs.ListStretches.{lets_append}
 use Rattle.mini_rows.proofs.ListStatements.{declaration_is, declare_more, declare_none, declarations_join}
-use Rattle.mini_rows.proofs.SingleUse.{Lead, Not, head_of, Step, Path, path, led}
+use Rattle.mini_rows.proofs.ItemReads.{plain_item}
+use Rattle.mini_rows.proofs.SingleUse.{Lead, Not, head_of, before, Step, Path, path, led}
 use Rattle.mini_rows.proofs.SingleMeaning.{first_goes}
 use Rattle.mini_rows.proofs.UnusedMeaning.{ReadAs, declared_lets, declared_then, movable, one_same, both_go, same_symbol, block_same, read_alone, never_written, lexical_alone}
 use Rattle.mini_rows.proofs.UnusedNames.{avoided, all_avoided}
@@ -41,7 +42,7 @@ led_there : (ss : List Step) (t : Tree) → (summary t).facts.absent ≡ false �
 led_there [] t e = e
 led_there (s ∷ ss) t e = by s.lead (led_there ss t e)
   where
-    by : (l : Lead) → (summary (led ss t)).facts.absent ≡ false → (summary (node (shape_by (head_of l)) [] 0 (led ss t ▸ s.rest))).facts.absent ≡ false
+    by : (l : Lead) → (summary (led ss t)).facts.absent ≡ false → (summary (node (shape_by (head_of l)) [] 0 (append (before l) (led ss t ▸ s.rest)))).facts.absent ≡ false
     by Not h = h
     by l h = refl
 
@@ -77,7 +78,7 @@ module _ (e : Environment) (id v : Tree) (there : (summary v).facts.absent ≡ f
         ∙ ap (λ c. either c (λ u z. others e id K last z) (λ x z. stop x z)) (alone_is s ∙ given (is_lexical K) s)
         ∙ either_assoc (means e v (As Val) tt s) _ _ _ _ ∙ either_cong (means e v (As Val) tt s) _ _ _ _ (λ a z. refl) (λ x z. either_stop x z _ _)
 
-module _ (e : Environment) (spelling : List ℕ) (k : ℕ) (z : Unseen (alone (Declared k)) e) (K : VariableDeclarationKind) (init id value : Tree) (last : Trees) (moves : may_move init ≡ true) (once : is_first (resolved spelling k) false value ≡ true) where
+module _ (e : Environment) (spelling : List ℕ) (k : ℕ) (z : Unseen (alone (Declared k)) e) (K : VariableDeclarationKind) (init id value : Tree) (last : Trees) (moves : may_move init ≡ true) (once : is_first (resolved spelling k) false value ≡ true) (passed : are_passed (resolved spelling k) init value ≡ true) where
   abbrev x : Name
   x = resolved spelling k
 
@@ -102,18 +103,18 @@ module _ (e : Environment) (spelling : List ℕ) (k : ℕ) (z : Unseen (alone (D
   read_is : value ≡ there
   read_is = reading.is ∙ ap (λ y. led reading.steps (identifier (record { spelling = reading.read.spelling; symbol = y }))) (same_symbol k reading.read.symbol reading.same)
 
-  put_is : put_first init value ≡ led reading.steps init
+  put_is : put_first x init value ≡ led reading.steps init
   put_is = reading.puts init
 
-  value_goes : (s : State) → Go (either (means e init (As Val) tt s) (λ v t. means e value (As Val) tt (after v t)) (λ y t. stop y t)) (means e (put_first init value) (As Val) tt s)
+  value_goes : (s : State) → Go (either (means e init (As Val) tt s) (λ v t. means e value (As Val) tt (after v t)) (λ y t. stop y t)) (means e (put_first x init value) (As Val) tt s)
   value_goes s =
       subst₂ (λ h w. Go (either (means e init (As Val) tt s) (λ v t. means e h (As Val) tt (after v t)) (λ y t. stop y t)) (means e w (As Val) tt s)) (sym read_is) (sym put_is)
-      (first_goes e k z x refl reading.read.spelling init plain AsValue reading.steps reading.well reading.spared (As Val) tt tt s)
+      (first_goes e k z x refl reading.read.spelling init plain (plain_item init (movable init moves)) AsValue reading.steps reading.well reading.spared (reading.passed init passed) (As Val) tt tt s)
 
   value_there : (summary value).facts.absent ≡ false
   value_there = ap (λ t. (summary t).facts.absent) read_is ∙ led_there reading.steps (identifier (resolved reading.read.spelling k)) refl
 
-  put_there : (summary (put_first init value)).facts.absent ≡ false
+  put_there : (summary (put_first x init value)).facts.absent ≡ false
   put_there = ap (λ t. (summary t).facts.absent) put_is ∙ led_there reading.steps init (sym (ap (λ i. i.facts.absent) plain))
 
   module _ (avoids_id : Avoids D id) (avoids_last : AllAvoid D last) where
@@ -129,10 +130,10 @@ module _ (e : Environment) (spelling : List ℕ) (k : ℕ) (z : Unseen (alone (D
         (λ u s t g. insensitive e D z.shared (declaration K last) (tt, ((tt, avoids_last), tt)) (Stat None) [] s t g) (λ y s t g. stopped (Unit {0}) D y s t g)
 
     -- x holds the value where the next is run, or the next is run with the initializer in it
-    pub initial_goes : (s : State) → Go (either (means e init (As Val) tt s) (λ v t. run_of (declarator id value ▸ last) (after v t)) (λ y t. stop y t)) (run_of (declarator id (put_first init value) ▸ last) s)
+    pub initial_goes : (s : State) → Go (either (means e init (As Val) tt s) (λ v t. run_of (declarator id value ▸ last) (after v t)) (λ y t. stop y t)) (run_of (declarator id (put_first x init value) ▸ last) s)
     initial_goes s =
-        subst₂ Go (sym earlier) (sym (with_others e id (put_first init value) put_there K last s))
-        (goes_either true (λ v. Agree D) (Agree D) (Agree D) (λ u. Agree D) (Agree D) valued (means e (put_first init value) (As Val) tt s) _ _ _ _ (value_goes s) on_goes (λ y s t g. stopped (Unit {0}) D y s t g))
+        subst₂ Go (sym earlier) (sym (with_others e id (put_first x init value) put_there K last s))
+        (goes_either true (λ v. Agree D) (Agree D) (Agree D) (λ u. Agree D) (Agree D) valued (means e (put_first x init value) (As Val) tt s) _ _ _ _ (value_goes s) on_goes (λ y s t g. stopped (Unit {0}) D y s t g))
       where
         valued : Completion Value
         valued = either (means e init (As Val) tt s) (λ v t. means e value (As Val) tt (after v t)) (λ y t. stop y t)
@@ -142,15 +143,15 @@ module _ (e : Environment) (spelling : List ℕ) (k : ℕ) (z : Unseen (alone (D
 
     -- in one declaration
     module _ (permit : is_lexical K ≡ false → e.fixed (Declared k) ≡ Writable) (first : Trees) where
-      next_goes : (s : State) → Go (run_of (declarator (binding x) init ▸ (declarator id value ▸ last)) s) (run_of (declarator id (put_first init value) ▸ last) s)
+      next_goes : (s : State) → Go (run_of (declarator (binding x) init ▸ (declarator id value ▸ last)) s) (run_of (declarator id (put_first x init value) ▸ last) s)
       next_goes s =
-          subst (λ c. Go c (run_of (declarator id (put_first init value) ▸ last) s)) (sym (declarations_join e K (declarator (binding x) init ▸ none) (declarator id value ▸ last) s))
-          (declared_then e spelling k z K permit init (ap (λ i. i.facts.absent) (sym plain)) (run_of (declarator id value ▸ last)) s (run_of (declarator id (put_first init value) ▸ last) s) (initial_goes s))
+          subst (λ c. Go c (run_of (declarator id (put_first x init value) ▸ last) s)) (sym (declarations_join e K (declarator (binding x) init ▸ none) (declarator id value ▸ last) s))
+          (declared_then e spelling k z K permit init (ap (λ i. i.facts.absent) (sym plain)) (run_of (declarator id value ▸ last)) s (run_of (declarator id (put_first x init value) ▸ last) s) (initial_goes s))
 
-      pub next_same : Same e D nothing (Stat None) (listed (declared_among K x first init (declarator id value ▸ last) ▸ none)) (listed (declaration K (append first (declarator id (put_first init value) ▸ last)) ▸ none))
+      pub next_same : Same e D nothing (Stat None) (listed (declared_among K x first init (declarator id value ▸ last) ▸ none)) (listed (declaration K (append first (declarator id (put_first x init value) ▸ last)) ▸ none))
       next_same =
-          one_same e spelling k z (declared_among K x first init (declarator id value ▸ last)) (declaration K (append first (declarator id (put_first init value) ▸ last)))
-          (λ s. subst₂ Go (sym (declarations_join e K first (declarator (binding x) init ▸ (declarator id value ▸ last)) s)) (sym (declarations_join e K first (declarator id (put_first init value) ▸ last) s)) (both_go e spelling k z (run_of first s) (run_of (declarator (binding x) init ▸ (declarator id value ▸ last))) (run_of (declarator id (put_first init value) ▸ last)) next_goes))
+          one_same e spelling k z (declared_among K x first init (declarator id value ▸ last)) (declaration K (append first (declarator id (put_first x init value) ▸ last)))
+          (λ s. subst₂ Go (sym (declarations_join e K first (declarator (binding x) init ▸ (declarator id value ▸ last)) s)) (sym (declarations_join e K first (declarator id (put_first x init value) ▸ last) s)) (both_go e spelling k z (run_of first s) (run_of (declarator (binding x) init ▸ (declarator id value ▸ last))) (run_of (declarator id (put_first x init value) ▸ last)) next_goes))
 
 -- what is read of them
 pub next_read : (K : VariableDeclarationKind) (spelling : List ℕ) (k : ℕ) (first last : Trees) (init id value put : Tree) → ReadAs k (declared_among K (resolved spelling k) first init (declarator id value ▸ last)) (declaration K (append first (declarator id put ▸ last)))
@@ -162,8 +163,8 @@ next_read K spelling k first last init id value put = record {
 }
 
 -- nothing that is written mentions it
-pub next_avoids : (x : Name) (k : ℕ) → x.symbol ≡ symbol k → (K : VariableDeclarationKind) (first : Trees) (init id value : Tree) (last : Trees) → is_first x false value ≡ true → any_names x first ≡ false → names x init ≡ false → names x id ≡ false → any_names x last ≡ false → Avoids (alone (Declared k)) (declaration K (append first (declarator id (put_first init value) ▸ last)))
-next_avoids x k e K first init id value last once f i o g = (tt, ((tt, all_avoided x k e (append first (declarator id (put_first init value) ▸ last)) (none_in x first (declarator id (put_first init value) ▸ last) f (next_unnamed x id value once init i o last g))), tt))
+pub next_avoids : (x : Name) (k : ℕ) → x.symbol ≡ symbol k → (K : VariableDeclarationKind) (first : Trees) (init id value : Tree) (last : Trees) → is_first x false value ≡ true → any_names x first ≡ false → names x init ≡ false → names x id ≡ false → any_names x last ≡ false → Avoids (alone (Declared k)) (declaration K (append first (declarator id (put_first x init value) ▸ last)))
+next_avoids x k e K first init id value last once f i o g = (tt, ((tt, all_avoided x k e (append first (declarator id (put_first x init value) ▸ last)) (none_in x first (declarator id (put_first x init value) ▸ last) f (next_unnamed x id value once init i o last g))), tt))
 
 pub row_71_next : (e : Environment) (k : ℕ) → Unseen (alone (Declared k)) e → (n w : Tree) (r : Row71Next nothing n w) → k ≡ r.symbol → (t : Option Tail) → Same e (alone (Declared k)) nothing (Stat t) n w
 row_71_next e k z n w r h t =
@@ -171,10 +172,10 @@ row_71_next e k z n w r h t =
     let u : Unseen (alone (Declared r.symbol)) e = subst (λ j. Unseen (alone (Declared j)) e) h z in
     let D = alone (Declared r.symbol) in
     let d = declared_among r.kind x r.first r.init (declarator r.binds r.value ▸ r.last) in
-    let left = declaration r.kind (append r.first (declarator r.binds (put_first r.init r.value) ▸ r.last)) in
+    let left = declaration r.kind (append r.first (declarator r.binds (put_first x r.init r.value) ▸ r.last)) in
     let first = all_avoided x r.symbol refl r.first r.declared_earlier in
     let last = all_avoided x r.symbol refl r.last r.declared_later in
     let id = avoided x r.symbol refl r.binds r.other in
-    let same = block_same e r.spelling r.symbol u r.before r.after (d ▸ none) (left ▸ none) (read_alone r.symbol d left (next_read r.kind r.spelling r.symbol r.first r.last r.init r.binds r.value (put_first r.init r.value))) (all_avoided x r.symbol refl r.before r.earlier) (next_avoids x r.symbol refl r.kind r.first r.init r.binds r.value r.last r.once r.declared_earlier r.initial r.other r.declared_later, tt) (all_avoided x r.symbol refl r.after r.later)
-    (next_same e r.spelling r.symbol u r.kind r.init r.binds r.value r.last r.moves r.once id last (never_written r.kind e r.symbol (lexical_alone r.kind r.goes)) r.first) t in
+    let same = block_same e r.spelling r.symbol u r.before r.after (d ▸ none) (left ▸ none) (read_alone r.symbol d left (next_read r.kind r.spelling r.symbol r.first r.last r.init r.binds r.value (put_first x r.init r.value))) (all_avoided x r.symbol refl r.before r.earlier) (next_avoids x r.symbol refl r.kind r.first r.init r.binds r.value r.last r.once r.declared_earlier r.initial r.other r.declared_later, tt) (all_avoided x r.symbol refl r.after r.later)
+    (next_same e r.spelling r.symbol u r.kind r.init r.binds r.value r.last r.moves r.once r.passed id last (never_written r.kind e r.symbol (lexical_alone r.kind r.goes)) r.first) t in
     subst (λ j. Same e (alone (Declared j)) nothing (Stat t) n w) (sym h) (subst₂ (Same e D nothing (Stat t)) (sym r.shape) (sym r.written) same)

@@ -1,7 +1,8 @@
--- What a tree reads first may be put there: a variable that holds a value, or the expression that gives the value.
-use Rattle.std.specs.Prelude.{◌&&◌, not, Bool, Option, length, codes, if◌then◌else◌}
+-- What a tree reads may be put there: a variable that holds a value, or the expression that gives the value, where the parts that are
+-- evaluated before pass it.
+use Rattle.std.specs.Prelude.{◌&&◌, not, Bool, Option, length, codes, if◌then◌else◌, ◌⊎◌}
 use Rattle.std.proofs.lemmas.Bool.{eq-eqb}
-use Rattle.std.proofs.Common.{◌≡◌, ℕ, zero, suc, true, false, List, [], ◌∷◌, None, Some, refl, sym, ap, ◌∙◌, subst, subst₂, true≢false}
+use Rattle.std.proofs.Common.{◌≡◌, ℕ, zero, suc, true, false, List, [], ◌∷◌, None, Some, refl, sym, ap, ◌∙◌, subst, subst₂, true≢false, inl, inr}
 use Rattle.mini_model.specs.declared.name.Name.{Name}
 use Rattle.mini_model.specs.declared.operator.BinaryOperator.{BinaryOperator}
 use Rattle.mini_model.specs.declared.operator.BinaryOperator.TheVariants as binary
@@ -11,19 +12,20 @@ use Rattle.mini_model.specs.declared.operator.UnaryOperator.{UnaryOperator}
 use Rattle.mini_model.specs.declared.operator.UnaryOperator.TheVariants.{UnaryPlus, BitwiseNot}
 use Rattle.mini_model.specs.declared.shape.Shape.{Shape}
 use Rattle.mini_model.specs.declared.shape.Shape.TheVariants as shape
-use Rattle.mini_model.specs.Tree.{Tree, Trees, node, none, ◌▸◌, identifier}
+use Rattle.mini_model.specs.Tree.{Tree, Trees, node, none, ◌▸◌, count, identifier}
+use Rattle.mini_model.specs.Paths.{append}
 use Rattle.mini_model.specs.Weight.{same_text}
 use Rattle.mini_laws.specs.Value.{Value, Boolean, Declared, VariableSet, Slot, Holds, choose, truth, is_nullish, variable_eq}
 use Rattle.mini_laws.specs.Conversion.{Made, makes, raises, outside, to_number, known_member}
 use Rattle.mini_laws.specs.Operators.{of_number, strictly_equal, loosely_equal, of_numbers, of_primitives}
 use Rattle.mini_laws.specs.State.{Hint, ForDefault, ForNumber, GetOf, CallOf, DirectEval, Coerce, Entry, Item, Stop, State, Completion, ok, stop, halt, out, Ends, done, ended, either, Environment, with_vars}
-use Rattle.mini_laws.specs.Demand.{Want, Val, Test, Unused, Demand, As, Callee, Parts, Items, Stat, Reference, AMember, Called, Request, Reply, Says}
-use Rattle.mini_laws.specs.Command.{set_var, Command, ret, fails, stuck, op, kid, then, attempt, bind, shift, emit, Kids, act, Gets, run, read_slot, at_variable, is_object}
+use Rattle.mini_laws.specs.Demand.{Want, Val, Test, Unused, Demand, As, Callee, AnEntry, Parts, Items, Stat, Reference, AMember, Called, Request, Reply, Says}
+use Rattle.mini_laws.specs.Command.{set_var, Command, ret, fails, stuck, op, kid, then, attempt, bind, shift, emit, act, Gets, run, read_slot, at_variable, is_object}
 use Rattle.mini_laws.specs.Naming.{EvalName, PlainName, Facts, Summary, summary, summaries, facts_all, naming}
 use Rattle.mini_laws.specs.Asking.{pass, demand, first_demand, parts_demand, logical_demand}
 use Rattle.mini_laws.specs.Replies.{reply, valued, passed, passing, merged, raise, of_made, of_option, primitive, hint_of, numeric, is_of_primitives, operate, loosely, or_event, get_member}
-use Rattle.mini_laws.specs.Expressions.{get_identifier, operate_by, binary_step, logical_step, conditional_step, sequence_step, not_step, number_step, call_event, call_step, new_step, yield_step, member_step, got, called_member}
-use Rattle.mini_laws.specs.Lists.{parts}
+use Rattle.mini_laws.specs.Expressions.{get_identifier, operate_by, binary_step, logical_step, conditional_step, sequence_step, not_step, number_step, call_event, call_step, new_step, array_step, yield_step, member_step, got, called_member}
+use Rattle.mini_laws.specs.Lists.{entries, parts}
 use Rattle.mini_laws.specs.Targets.{as_member}
 use Rattle.mini_laws.specs.Statements.{if_step, return_step, throw_step}
 use Rattle.mini_laws.specs.Step.{step, means, meaning}
@@ -33,55 +35,70 @@ use Rattle.mini_laws.specs.Truth.{told}
 use Rattle.mini_laws.specs.Congruence.{AllAvoid}
 use Rattle.mini_laws.proofs.Congruent.{insensitive}
 use Rattle.mini_laws.proofs.Dead.{dead_sound, alive_self}
-use Rattle.mini_laws.proofs.Runs.{either_cong, either_assoc}
+use Rattle.mini_laws.proofs.Runs.{either_cong, either_assoc, either_ok}
 use Rattle.mini_laws.proofs.Simulation.{goes_either}
 use Rattle.mini_laws.proofs.Truth.{coherent}
 use Rattle.mini_kept.specs.Without.{Unseen}
+use Rattle.mini_terms.specs.Folds.{is_effect_free}
+use Rattle.mini_terms.specs.Reading.{is_item, by_value}
+use Rattle.mini_terms.specs.Sound.{Quiet}
+use Rattle.mini_terms.proofs.Dropping.{weak}
 use Rattle.mini_rows.specs.Sketches.{shape_by, Asked, AsWholeItem, AsValue, AsValues, asked_below}
-use Rattle.mini_rows.specs.Unused.{any_names, resolved}
-use Rattle.mini_rows.proofs.SingleUse.{Lead, Not, Plus, Tilde, Beside, Deciding, Choosing, Passing, Called as CalledLead, Making, Waiting, Member, Keyed, Listing, Doing, Giving, Raising, Testing, head_of, Step, led, is_end, Stands, Well, Spared, summary_led}
+use Rattle.mini_rows.specs.Unused.{any_names, resolved, is_constant}
+use Rattle.mini_rows.proofs.ItemReads.{item_read}
+use Rattle.mini_rows.proofs.Passing.{Replies, Does, Replying, Quietly, constant_replies, quiet_there, quietly, passes_by}
+use Rattle.mini_rows.proofs.SingleUse.{Lead, Not, Plus, Tilde, Beside, Deciding, Choosing, Passing, Called as CalledLead, Making, Waiting, Member, Keyed, Holding, Against, Given as GivenLead, Filling, Keying, Listing, Doing, Giving, Raising, Testing, head_of, before, place, Step, led, is_end, Stands, Well, Spared, AllPass, Passed, summaries_led}
 use Rattle.mini_rows.proofs.UnusedNames.{all_avoided}
 
--- ---- a command that doesn't ask the first child any more
+-- ---- a command that doesn't ask a child any more
 
-abbrev Later : {σ : ℕ → Demand} {A : Type 0} → Command σ A → Type 0
-Later {σ} (ret a) = Unit {0}
-Later {σ} (fails y) = Unit {0}
-Later {σ} stuck = Unit {0}
-Later {σ} (op o k) = ((a : Gets o) → Later (k (done a))) × ((y : Stop) → Later (k (ended y)))
-Later {σ} (kid zero r k) = ⊥
-Later {σ} (kid (suc i) r k) = ((a : Reply (σ (suc i)) r) → Later (k (done a))) × ((y : Stop) → Later (k (ended y)))
+abbrev Apart : ℕ → ℕ → Type 0
+Apart zero zero = ⊥
+Apart (suc i) (suc j) = Apart i j
+Apart i j = Unit {0}
 
-later_bind : {σ : ℕ → Demand} {A B : Type 0} (c : Command σ A) (f : A → Command σ B) → Later c → ((a : A) → Later (f a)) → Later (bind c f)
-later_bind (ret a) f t g = g a
-later_bind (fails y) f t g = tt
-later_bind stuck f t g = tt
-later_bind (op o k) f t g = (λ a. later_bind (k (done a)) f (t.0 a) g, λ y. later_bind (k (ended y)) f (t.1 y) g)
-later_bind (kid zero r k) f t g = absurd t
-later_bind (kid (suc i) r k) f t g = (λ a. later_bind (k (done a)) f (t.0 a) g, λ y. later_bind (k (ended y)) f (t.1 y) g)
+abbrev Later : ℕ → {σ : ℕ → Demand} {A : Type 0} → Command σ A → Type 0
+Later i {σ} (ret a) = Unit {0}
+Later i {σ} (fails y) = Unit {0}
+Later i {σ} stuck = Unit {0}
+Later i {σ} (op o k) = ((a : Gets o) → Later i (k (done a))) × ((y : Stop) → Later i (k (ended y)))
+Later i {σ} (kid j r k) = Apart j i × (((a : Reply (σ j) r) → Later i (k (done a))) × ((y : Stop) → Later i (k (ended y))))
 
-later_attempt : {σ : ℕ → Demand} {A B : Type 0} (c : Command σ A) (f : Ends A → Command σ B) → Later c → ((a : A) → Later (f (done a))) → ((y : Stop) → Later (f (ended y))) → Later (attempt c f)
-later_attempt (ret a) f t g h = g a
-later_attempt (fails y) f t g h = h y
-later_attempt stuck f t g h = tt
-later_attempt (op o k) f t g h = (λ a. later_attempt (k (done a)) f (t.0 a) g h, λ y. later_attempt (k (ended y)) f (t.1 y) g h)
-later_attempt (kid zero r k) f t g h = absurd t
-later_attempt (kid (suc i) r k) f t g h = (λ a. later_attempt (k (done a)) f (t.0 a) g h, λ y. later_attempt (k (ended y)) f (t.1 y) g h)
+later_bind : (i : ℕ) {σ : ℕ → Demand} {A B : Type 0} (c : Command σ A) (f : A → Command σ B) → Later i c → ((a : A) → Later i (f a)) → Later i (bind c f)
+later_bind i (ret a) f t g = g a
+later_bind i (fails y) f t g = tt
+later_bind i stuck f t g = tt
+later_bind i (op o k) f t g = (λ a. later_bind i (k (done a)) f (t.0 a) g, λ y. later_bind i (k (ended y)) f (t.1 y) g)
+later_bind i (kid j r k) f t g = (t.0, (λ a. later_bind i (k (done a)) f (t.1.0 a) g, λ y. later_bind i (k (ended y)) f (t.1.1 y) g))
 
-later_shift : (q : ℕ → Demand) {A : Type 0} (c : Command (λ i. q (suc i)) A) → Later (shift {q = q} c)
+later_attempt : (i : ℕ) {σ : ℕ → Demand} {A B : Type 0} (c : Command σ A) (f : Ends A → Command σ B) → Later i c → ((a : A) → Later i (f (done a))) → ((y : Stop) → Later i (f (ended y))) → Later i (attempt c f)
+later_attempt i (ret a) f t g h = g a
+later_attempt i (fails y) f t g h = h y
+later_attempt i stuck f t g h = tt
+later_attempt i (op o k) f t g h = (λ a. later_attempt i (k (done a)) f (t.0 a) g h, λ y. later_attempt i (k (ended y)) f (t.1 y) g h)
+later_attempt i (kid j r k) f t g h = (t.0, (λ a. later_attempt i (k (done a)) f (t.1.0 a) g h, λ y. later_attempt i (k (ended y)) f (t.1.1 y) g h))
+
+later_shift : (q : ℕ → Demand) {A : Type 0} (c : Command (λ i. q (suc i)) A) → Later 0 (shift {q = q} c)
 later_shift q (ret a) = tt
 later_shift q (fails y) = tt
 later_shift q stuck = tt
 later_shift q (op o k) = (λ a. later_shift q (k (done a)), λ y. later_shift q (k (ended y)))
-later_shift q (kid i r k) = (λ a. later_shift q (k (done a)), λ y. later_shift q (k (ended y)))
+later_shift q (kid i r k) = (tt, (λ a. later_shift q (k (done a)), λ y. later_shift q (k (ended y))))
 
-later_choose : {σ : ℕ → Demand} {A : Type 0} (b : Bool) (x y : Command σ A) → Later x → Later y → Later (choose b x y)
-later_choose true x y t u = t
-later_choose false x y t u = u
+later_shifted : (i : ℕ) (q : ℕ → Demand) {A : Type 0} (c : Command (λ i. q (suc i)) A) → Later i c → Later (suc i) (shift {q = q} c)
+later_shifted i q (ret a) t = tt
+later_shifted i q (fails y) t = tt
+later_shifted i q stuck t = tt
+later_shifted i q (op o k) t = (λ a. later_shifted i q (k (done a)) (t.0 a), λ y. later_shifted i q (k (ended y)) (t.1 y))
+later_shifted i q (kid j r k) t = (t.0, (λ a. later_shifted i q (k (done a)) (t.1.0 a), λ y. later_shifted i q (k (ended y)) (t.1.1 y)))
 
-module _ (σ : ℕ → Demand) where
+later_choose : (i : ℕ) {σ : ℕ → Demand} {A : Type 0} (b : Bool) (x y : Command σ A) → Later i x → Later i y → Later i (choose b x y)
+later_choose i true x y t u = t
+later_choose i false x y t u = u
+
+module _ (i : ℕ) (σ : ℕ → Demand) where
   abbrev Rest : {A : Type 0} → Command σ A → Type 0
-  Rest c = Later {σ = σ} c
+  Rest c = Later i {σ = σ} c
 
   raise_later : (A : Type 0) → Rest {A = A} raise
   raise_later A = (λ v. tt, λ y. tt)
@@ -96,32 +113,32 @@ module _ (σ : ℕ → Demand) where
   option_later None = tt
 
   primitive_later : (hint : Hint) (v : Value) → Rest (primitive hint v)
-  primitive_later hint v = later_choose (is_object v) (emit (Coerce hint) (Item v ∷ [])) (ret v) (λ v. tt, λ y. tt) tt
+  primitive_later hint v = later_choose i (is_object v) (emit (Coerce hint) (Item v ∷ [])) (ret v) (λ v. tt, λ y. tt) tt
 
   numeric_later : (v : Value) → Rest (numeric v)
-  numeric_later v = later_bind (primitive ForNumber v) (λ x. of_made (to_number x)) (primitive_later ForNumber v) (λ x. made_later (to_number x))
+  numeric_later v = later_bind i (primitive ForNumber v) (λ x. of_made (to_number x)) (primitive_later ForNumber v) (λ x. made_later (to_number x))
 
   operate_later : (o : BinaryOperator) (v w : Value) → Rest (operate o v w)
   operate_later o v w =
-      later_choose (is_of_primitives o) (bind (primitive (hint_of o) v) (λ x. bind (primitive (hint_of o) w) (λ y. of_made (of_primitives o x y)))) (bind (numeric v) (λ m. bind (numeric w) (λ n. of_made (of_numbers o m n))))
-      (later_bind (primitive (hint_of o) v) (λ x. bind (primitive (hint_of o) w) (λ y. of_made (of_primitives o x y))) (primitive_later (hint_of o) v) (λ x. later_bind (primitive (hint_of o) w) (λ y. of_made (of_primitives o x y)) (primitive_later (hint_of o) w) (λ y. made_later (of_primitives o x y))))
-      (later_bind (numeric v) (λ m. bind (numeric w) (λ n. of_made (of_numbers o m n))) (numeric_later v) (λ m. later_bind (numeric w) (λ n. of_made (of_numbers o m n)) (numeric_later w) (λ n. made_later (of_numbers o m n))))
+      later_choose i (is_of_primitives o) (bind (primitive (hint_of o) v) (λ x. bind (primitive (hint_of o) w) (λ y. of_made (of_primitives o x y)))) (bind (numeric v) (λ m. bind (numeric w) (λ n. of_made (of_numbers o m n))))
+      (later_bind i (primitive (hint_of o) v) (λ x. bind (primitive (hint_of o) w) (λ y. of_made (of_primitives o x y))) (primitive_later (hint_of o) v) (λ x. later_bind i (primitive (hint_of o) w) (λ y. of_made (of_primitives o x y)) (primitive_later (hint_of o) w) (λ y. made_later (of_primitives o x y))))
+      (later_bind i (numeric v) (λ m. bind (numeric w) (λ n. of_made (of_numbers o m n))) (numeric_later v) (λ m. later_bind i (numeric w) (λ n. of_made (of_numbers o m n)) (numeric_later w) (λ n. made_later (of_numbers o m n))))
 
   loosely_later : (v w : Value) → Rest (loosely v w)
   loosely_later v w =
-      later_choose (is_nullish v) (ret (is_nullish w)) _ tt
-      (later_choose (is_nullish w) (ret false) _ tt
-      (later_choose (is_object v && is_object w) (ret (strictly_equal v w)) _ tt
-      (later_bind (primitive ForDefault v) (λ x. bind (primitive ForDefault w) (λ y. of_option (loosely_equal x y))) (primitive_later ForDefault v)
-      (λ x. later_bind (primitive ForDefault w) (λ y. of_option (loosely_equal x y)) (primitive_later ForDefault w) (λ y. option_later (loosely_equal x y))))))
+      later_choose i (is_nullish v) (ret (is_nullish w)) _ tt
+      (later_choose i (is_nullish w) (ret false) _ tt
+      (later_choose i (is_object v && is_object w) (ret (strictly_equal v w)) _ tt
+      (later_bind i (primitive ForDefault v) (λ x. bind (primitive ForDefault w) (λ y. of_option (loosely_equal x y))) (primitive_later ForDefault v)
+      (λ x. later_bind i (primitive ForDefault w) (λ y. of_option (loosely_equal x y)) (primitive_later ForDefault w) (λ y. option_later (loosely_equal x y))))))
 
   by_later : (o : BinaryOperator) (v w : Value) → Rest (operate_by o v w)
-  by_later binary.Equality v w = later_bind (loosely v w) (λ c. ret (Boolean c)) (loosely_later v w) (λ c. tt)
-  by_later binary.Inequality v w = later_bind (loosely v w) (λ c. ret (Boolean (not c))) (loosely_later v w) (λ c. tt)
+  by_later binary.Equality v w = later_bind i (loosely v w) (λ c. ret (Boolean c)) (loosely_later v w) (λ c. tt)
+  by_later binary.Inequality v w = later_bind i (loosely v w) (λ c. ret (Boolean (not c))) (loosely_later v w) (λ c. tt)
   by_later binary.StrictEquality v w = tt
   by_later binary.StrictInequality v w = tt
-  by_later binary.In v w = later_choose (is_object w) _ raise (λ b. tt, λ y. tt) (raise_later Value)
-  by_later binary.Instanceof v w = later_choose (is_object w) _ raise (λ b. tt, λ y. tt) (raise_later Value)
+  by_later binary.In v w = later_choose i (is_object w) _ raise (λ b. tt, λ y. tt) (raise_later Value)
+  by_later binary.Instanceof v w = later_choose i (is_object w) _ raise (λ b. tt, λ y. tt) (raise_later Value)
   by_later o v w = operate_later o v w
 
   known_later : (m : Option Value) (c : Command σ Value) → Rest c → Rest (or_event m c)
@@ -129,122 +146,165 @@ module _ (σ : ℕ → Demand) where
   known_later None c t = t
 
   get_later : (object key : Value) → Rest (get_member object key)
-  get_later object key = later_choose (is_nullish object) raise (or_event (known_member object key) (emit GetOf (Item object ∷ Item key ∷ []))) (raise_later Value) (known_later (known_member object key) (emit GetOf (Item object ∷ Item key ∷ [])) (λ v. tt, λ y. tt))
+  get_later object key = later_choose i (is_nullish object) raise (or_event (known_member object key) (emit GetOf (Item object ∷ Item key ∷ []))) (raise_later Value) (known_later (known_member object key) (emit GetOf (Item object ∷ Item key ∷ [])) (λ v. tt, λ y. tt))
 
   got_later : (reference : Reference) → Rest (got reference)
   got_later (AMember object key) = get_later object key
   got_later reference = tt
 
   called_later : (reference : Reference) → Rest (called_member reference)
-  called_later (AMember object key) = later_bind (get_member object key) (λ v. ret (record { value = v; this_value = object; direct = false })) (get_later object key) (λ v. tt)
+  called_later (AMember object key) = later_bind i (get_member object key) (λ v. ret (record { value = v; this_value = object; direct = false })) (get_later object key) (λ v. tt)
   called_later reference = tt
 
   call_later : (o : Bool) (f : Called) (vs : List Entry) → Rest (call_event o f vs)
-  call_later o f vs = later_choose (f.direct && not o) (emit DirectEval (Item f.value ∷ vs)) (emit CallOf (Item f.value ∷ Item f.this_value ∷ vs)) (λ v. tt, λ y. tt) (λ v. tt, λ y. tt)
+  call_later o f vs = later_choose i (f.direct && not o) (emit DirectEval (Item f.value ∷ vs)) (emit CallOf (Item f.value ∷ Item f.this_value ∷ vs)) (λ v. tt, λ y. tt) (λ v. tt, λ y. tt)
 
--- ---- a command that asks the first child before all else, once, and ends where that ends
+-- ---- a command that asks the children before the place, each at most once, and then the one there, and ends where that ends
 
-record Begins (σ : ℕ → Demand) (A : Type 0) (c : Command σ A) : Type 0 where
-  request : Request (σ 0)
-  next : Ends (Reply (σ 0) request) → Command σ A
-  is : c ≡ kid 0 request next
-  stops : (y : Stop) → next (ended y) ≡ fails y
-  later : (a : Reply (σ 0) request) → Later (next (done a))
+abbrev Before : ℕ → ℕ → Type 0
+Before zero (suc j) = Unit {0}
+Before (suc i) (suc j) = Before i j
+Before i j = ⊥
 
-begins_bind : (σ : ℕ → Demand) (A B : Type 0) (c : Command σ A) (f : A → Command σ B) → Begins σ A c → ((a : A) → Later (f a)) → Begins σ B (bind c f)
-begins_bind σ A B c f b h = record {
-  request = b.request;
-  next = λ e. bind (b.next e) f;
-  is = ap (λ d. bind d f) b.is;
-  stops = λ y. ap (λ d. bind d f) (b.stops y);
-  later = λ a. later_bind (b.next (done a)) f (b.later a) h;
-}
+record Hits (i : ℕ) (σ : ℕ → Demand) (A : Type 0) (j : ℕ) (r : Request (σ j)) (k : Ends (Reply (σ j) r) → Command σ A) : Type 0 where
+  here : j ≡ i
+  stops : (y : Stop) → k (ended y) ≡ fails y
+  later : (a : Reply (σ j) r) → Later i (k (done a))
 
-begins_statement : (σ : ℕ → Demand) (c : Command σ (Unit {0})) → Begins σ (Unit {0}) c → Begins σ (Unit {0}) (attempt c (merged None))
-begins_statement σ c b = record {
-  request = b.request;
-  next = λ e. attempt (b.next e) (merged None);
-  is = ap (λ d. attempt d (merged None)) b.is;
-  stops = λ y. ap (λ d. attempt d (merged None)) (b.stops y);
-  later = λ a. later_attempt (b.next (done a)) (merged None) (b.later a) (λ u. tt) (λ y. tt);
-}
+abbrev Reaches : ℕ → {σ : ℕ → Demand} {A : Type 0} → Command σ A → Type 0
+Reaches i {σ} {A} (kid j r k) = (Before j i × ((a : Reply (σ j) r) → Reaches i (k (done a)))) ⊎ Hits i σ A j r k
+Reaches i {σ} {A} c = ⊥
 
--- an expression is asked for its value, or as a callee
-abbrev Replies : Demand → Type 0
-Replies (As w) = Unit {0}
-Replies Callee = Unit {0}
-Replies q = ⊥
+reach_bind : (i : ℕ) {σ : ℕ → Demand} {A B : Type 0} (c : Command σ A) (f : A → Command σ B) → Reaches i c → ((a : A) → Later i (f a)) → Reaches i (bind c f)
+reach_bind i (kid j r k) f (inl t) g = inl (t.0, λ a. reach_bind i (k (done a)) f (t.1 a) g)
+reach_bind i (kid j r k) f (inr t) g = inr (record { here = t.here; stops = λ y. ap (λ d. bind d f) (t.stops y); later = λ a. later_bind i (k (done a)) f (t.later a) g })
+reach_bind i (ret a) f t g = absurd t
+reach_bind i (fails y) f t g = absurd t
+reach_bind i stuck f t g = absurd t
+reach_bind i (op o k) f t g = absurd t
 
-begins_valued : (σ : ℕ → Demand) (q : Demand) → Replies q → (r : Request q) (c : Command σ Value) → Begins σ Value c → Begins σ (Reply q r) (valued q r c)
-begins_valued σ (As w) u r c b = begins_bind σ Value (Says w) c (reply (As w) r) b (λ v. tt)
-begins_valued σ Callee u r c b = begins_bind σ Value Called c (reply Callee r) b (λ v. tt)
-begins_valued σ q u r c b = absurd u
+reach_statement : (i : ℕ) {σ : ℕ → Demand} (c : Command σ (Unit {0})) → Reaches i c → Reaches i (attempt c (merged None))
+reach_statement i (kid j r k) (inl t) = inl (t.0, λ a. reach_statement i (k (done a)) (t.1 a))
+reach_statement i (kid j r k) (inr t) = inr (record { here = t.here; stops = λ y. ap (λ d. attempt d (merged None)) (t.stops y); later = λ a. later_attempt i (k (done a)) (merged None) (t.later a) (λ u. tt) (λ y. tt) })
+reach_statement i (ret a) t = absurd t
+reach_statement i (fails y) t = absurd t
+reach_statement i stuck t = absurd t
+reach_statement i (op o k) t = absurd t
 
-begins_passing : (σ : ℕ → Demand) (q : Demand) → Replies q → (r : Request q) (c : Command σ (Says (pass q))) → Begins σ (Says (pass q)) c → Begins σ (Reply q r) (passing q r c)
-begins_passing σ (As w) u r c b = begins_bind σ (Says w) (Says w) c (passed (As w) r) b (λ v. tt)
-begins_passing σ Callee u r c b = begins_bind σ Value Called c (passed Callee r) b (λ v. tt)
-begins_passing σ q u r c b = absurd u
+reach_shift : (i : ℕ) (q : ℕ → Demand) {A : Type 0} (c : Command (λ i. q (suc i)) A) → Reaches i c → Reaches (suc i) (shift {q = q} c)
+reach_shift i q (kid j r k) (inl t) = inl (t.0, λ a. reach_shift i q (k (done a)) (t.1 a))
+reach_shift i q (kid j r k) (inr t) = inr (record { here = ap suc t.here; stops = λ y. ap (shift {q = q}) (t.stops y); later = λ a. later_shifted i q (k (done a)) (t.later a) })
+reach_shift i q (ret a) t = absurd t
+reach_shift i q (fails y) t = absurd t
+reach_shift i q stuck t = absurd t
+reach_shift i q (op o k) t = absurd t
+
+reach_valued : (i : ℕ) (σ : ℕ → Demand) (q : Demand) → Replies q → (r : Request q) (c : Command σ Value) → Reaches i c → Reaches i (valued q r c)
+reach_valued i σ (As w) u r c b = reach_bind i c (reply (As w) r) b (λ v. tt)
+reach_valued i σ Callee u r c b = reach_bind i c (reply Callee r) b (λ v. tt)
+reach_valued i σ AnEntry u r c b = reach_bind i c (reply AnEntry r) b (λ v. tt)
+reach_valued i σ q u r c b = absurd u
+
+reach_passing : (i : ℕ) (σ : ℕ → Demand) (q : Demand) → Replies q → (r : Request q) (c : Command σ (Says (pass q))) → Reaches i c → Reaches i (passing q r c)
+reach_passing i σ (As w) u r c b = reach_bind i c (passed (As w) r) b (λ v. tt)
+reach_passing i σ Callee u r c b = reach_bind i c (passed Callee r) b (λ v. tt)
+reach_passing i σ AnEntry u r c b = reach_bind i c (passed AnEntry r) b (λ v. tt)
+reach_passing i σ q u r c b = absurd u
 
 -- ---- each shape
 
 -- a command that goes on with nothing else of a child
-abbrev one : (σ : ℕ → Demand) (A : Type 0) (r : Request (σ 0)) (f : Reply (σ 0) r → Command σ A) → ((a : Reply (σ 0) r) → Later (f a)) → Begins σ A (kid 0 r ((then) f))
-one σ A r f h = record { request = r; next = (then) f; is = refl; stops = λ y. refl; later = h }
+one : (i : ℕ) (σ : ℕ → Demand) (A : Type 0) (r : Request (σ i)) (f : Reply (σ i) r → Command σ A) → ((a : Reply (σ i) r) → Later i (f a)) → Reaches i {σ = σ} (kid i r ((then) f))
+one i σ A r f h = inr (record { here = refl; stops = λ y. refl; later = h })
 
-number_begins : (o : UnaryOperator) → Begins (λ i. As Val) Value (number_step o)
-number_begins o = one (λ i. As Val) Value tt _ (λ v. later_bind (numeric v) (λ n. of_made (of_number o n)) (numeric_later (λ i. As Val) v) (λ n. made_later (λ i. As Val) (of_number o n)))
+number_begins : (o : UnaryOperator) → Reaches 0 (number_step o)
+number_begins o = one 0 (λ i. As Val) Value tt _ (λ v. later_bind 0 (numeric v) (λ n. of_made (of_number o n)) (numeric_later 0 (λ i. As Val) v) (λ n. made_later 0 (λ i. As Val) (of_number o n)))
 
-binary_begins : (o : BinaryOperator) → Begins (λ i. As Val) Value (binary_step o)
-binary_begins o = one (λ i. As Val) Value tt _ (λ v. (λ w. by_later (λ i. As Val) o v w, λ y. tt))
+binary_begins : (o : BinaryOperator) → Reaches 0 (binary_step o)
+binary_begins o = one 0 (λ i. As Val) Value tt _ (λ v. (tt, (λ w. by_later 0 (λ i. As Val) o v w, λ y. tt)))
 
-logical_begins : (o : LogicalOperator) (w : Want) → Begins (logical_demand o w) (Says w) (logical_step o w)
-logical_begins And Val = one (λ i. As Val) Value tt _ (λ v. later_choose (truth v) (kid 1 tt ((then) ret)) (ret v) (λ v. tt, λ y. tt) tt)
-logical_begins And Test = one (λ i. As Test) Bool tt _ (λ c. later_choose c (kid 1 tt ((then) ret)) (ret false) (λ v. tt, λ y. tt) tt)
-logical_begins And Unused = one (logical_demand And Unused) (Unit {0}) tt _ (λ c. later_choose {σ = logical_demand And Unused} c (kid 1 tt ((then) ret)) (ret tt) (λ v. tt, λ y. tt) tt)
-logical_begins Or Val = one (λ i. As Val) Value tt _ (λ v. later_choose (truth v) (ret v) (kid 1 tt ((then) ret)) tt (λ v. tt, λ y. tt))
-logical_begins Or Test = one (λ i. As Test) Bool tt _ (λ c. later_choose c (ret true) (kid 1 tt ((then) ret)) tt (λ v. tt, λ y. tt))
-logical_begins Or Unused = one (logical_demand Or Unused) (Unit {0}) tt _ (λ c. later_choose {σ = logical_demand Or Unused} c (ret tt) (kid 1 tt ((then) ret)) tt (λ v. tt, λ y. tt))
-logical_begins Coalesce w = one (λ i. As Val) (Says w) tt _ (λ v. later_choose (is_nullish v) _ _ (λ v. tt, λ y. tt) tt)
+binary_goes_on : (o : BinaryOperator) → Reaches 1 (binary_step o)
+binary_goes_on o = inl (tt, λ v. one 1 (λ i. As Val) Value tt _ (λ w. by_later 1 (λ i. As Val) o v w))
 
-conditional_begins : (w : Want) → Begins (first_demand (As Test) (As w)) (Says w) (conditional_step w)
-conditional_begins w = one (first_demand (As Test) (As w)) (Says w) tt _ (λ c. later_choose {σ = first_demand (As Test) (As w)} c (kid 1 tt ((then) ret)) (kid 2 tt ((then) ret)) (λ v. tt, λ y. tt) (λ v. tt, λ y. tt))
+logical_begins : (o : LogicalOperator) (w : Want) → Reaches 0 (logical_step o w)
+logical_begins And Val = one 0 (λ i. As Val) Value tt _ (λ v. later_choose 0 (truth v) (kid 1 tt ((then) ret)) (ret v) (tt, (λ v. tt, λ y. tt)) tt)
+logical_begins And Test = one 0 (λ i. As Test) Bool tt _ (λ c. later_choose 0 c (kid 1 tt ((then) ret)) (ret false) (tt, (λ v. tt, λ y. tt)) tt)
+logical_begins And Unused = one 0 (logical_demand And Unused) (Unit {0}) tt _ (λ c. later_choose 0 {σ = logical_demand And Unused} c (kid 1 tt ((then) ret)) (ret tt) (tt, (λ v. tt, λ y. tt)) tt)
+logical_begins Or Val = one 0 (λ i. As Val) Value tt _ (λ v. later_choose 0 (truth v) (ret v) (kid 1 tt ((then) ret)) tt (tt, (λ v. tt, λ y. tt)))
+logical_begins Or Test = one 0 (λ i. As Test) Bool tt _ (λ c. later_choose 0 c (ret true) (kid 1 tt ((then) ret)) tt (tt, (λ v. tt, λ y. tt)))
+logical_begins Or Unused = one 0 (logical_demand Or Unused) (Unit {0}) tt _ (λ c. later_choose 0 {σ = logical_demand Or Unused} c (ret tt) (kid 1 tt ((then) ret)) tt (tt, (λ v. tt, λ y. tt)))
+logical_begins Coalesce w = one 0 (λ i. As Val) (Says w) tt _ (λ v. later_choose 0 (is_nullish v) _ _ (tt, (λ v. tt, λ y. tt)) tt)
 
-member_begins : Begins (λ i. As Val) Reference (member_step false)
-member_begins = one (λ i. As Val) Reference tt _ (λ v. (λ u. tt, λ y. tt))
+conditional_begins : (w : Want) → Reaches 0 (conditional_step w)
+conditional_begins w = one 0 (first_demand (As Test) (As w)) (Says w) tt _ (λ c. later_choose 0 {σ = first_demand (As Test) (As w)} c (kid 1 tt ((then) ret)) (kid 2 tt ((then) ret)) (tt, (λ v. tt, λ y. tt)) (tt, (λ v. tt, λ y. tt)))
 
-as_member_begins : (q : Demand) → Replies q → (r : Request q) → Begins (λ i. As Val) (Reply q r) (as_member (member_step false) q r)
-as_member_begins (As w) u r = begins_valued (λ i. As Val) (As w) tt r (bind (member_step false) got) (begins_bind (λ i. As Val) Reference Value (member_step false) got member_begins (got_later (λ i. As Val)))
-as_member_begins Callee u r = begins_bind (λ i. As Val) Reference Called (member_step false) called_member member_begins (called_later (λ i. As Val))
-as_member_begins q u r = absurd u
+member_begins : Reaches 0 (member_step false)
+member_begins = one 0 (λ i. As Val) Reference tt _ (λ v. (tt, (λ u. tt, λ y. tt)))
 
-parts_begins : (n : ℕ) (w : Want) → Begins (parts_demand n w) (Says w) (parts n w)
-parts_begins zero w = one (parts_demand zero w) (Says w) tt _ (λ a. tt)
-parts_begins (suc n) w = one (parts_demand (suc n) w) (Says w) tt _ (λ a. later_shift (parts_demand (suc n) w) (parts n w))
+member_goes_on : Reaches 1 (member_step false)
+member_goes_on = inl (tt, λ v. one 1 (λ i. As Val) Reference tt _ (λ u. tt))
+
+as_member_reaches : (i : ℕ) → Reaches i (member_step false) → (q : Demand) → Replies q → (r : Request q) → Reaches i (as_member (member_step false) q r)
+as_member_reaches i m (As w) u r = reach_valued i (λ i. As Val) (As w) tt r (bind (member_step false) got) (reach_bind i (member_step false) got m (got_later i (λ i. As Val)))
+as_member_reaches i m AnEntry u r = reach_valued i (λ i. As Val) AnEntry tt r (bind (member_step false) got) (reach_bind i (member_step false) got m (got_later i (λ i. As Val)))
+as_member_reaches i m Callee u r = reach_bind i (member_step false) called_member m (called_later i (λ i. As Val))
+as_member_reaches i m q u r = absurd u
+
+call_goes_on : Reaches 1 (call_step false)
+call_goes_on = inl (tt, λ f. one 1 (first_demand Callee Items) Value tt _ (λ vs. call_later 1 (first_demand Callee Items) false f vs))
+
+new_goes_on : Reaches 1 new_step
+new_goes_on = inl (tt, λ f. one 1 (first_demand (As Val) Items) Value tt _ (λ vs. (λ v. tt, λ y. tt)))
+
+parts_reach : (i n : ℕ) (w : Want) → Before i (suc n) → Reaches i (parts n w)
+parts_reach zero zero w h = one 0 (parts_demand zero w) (Says w) tt _ (λ a. tt)
+parts_reach zero (suc n) w h = one 0 (parts_demand (suc n) w) (Says w) tt _ (λ a. later_shift (parts_demand (suc n) w) (parts n w))
+parts_reach (suc i) zero w h = absurd (no_less i h)
+  where
+    no_less : (i : ℕ) → Before i 0 → ⊥
+    no_less zero h = h
+    no_less (suc i) h = h
+parts_reach (suc i) (suc n) w h = inl (tt, λ u. reach_shift i (parts_demand (suc n) w) (parts n w) (parts_reach i n w h))
+
+entries_reach : (i n : ℕ) → Before i n → Reaches i (entries n)
+entries_reach zero zero h = absurd h
+entries_reach (suc i) zero h = absurd h
+entries_reach zero (suc n) h = one 0 (λ i. AnEntry) (List Entry) tt _ (λ e. later_bind 0 (shift {q = λ i. AnEntry} (entries n)) (λ es. ret (e ∷ es)) (later_shift (λ i. AnEntry) (entries n)) (λ es. tt))
+entries_reach (suc i) (suc n) h = inl (tt, λ e. reach_bind (suc i) (shift {q = λ i. AnEntry} (entries n)) (λ es. ret (e ∷ es)) (reach_shift i (λ i. AnEntry) (entries n) (entries_reach i n h)) (λ es. tt))
 
 -- what is asked where a step stands
 abbrev Suits : Asked → Demand → Bool → Type 0
 Suits AsWholeItem (Stat None) at_end = Unit {0}
 Suits AsValue (As w) at_end = Unit {0}
+Suits AsValue AnEntry at_end = Unit {0}
 Suits AsValue Callee at_end = at_end ≡ false
 Suits AsValues (Parts w) at_end = Unit {0}
+Suits AsValues Items at_end = Unit {0}
 Suits c q at_end = ⊥
 
 replies : (q : Demand) (b : Bool) → Suits AsValue q b → Replies q
 replies (As w) b u = tt
+replies AnEntry b u = tt
 replies Callee b u = tt
 replies q b u = absurd u
 
+-- what the parts before are asked
+abbrev AllReply : (ℕ → Demand) → Trees → Type 0
+AllReply σ none = Unit {0}
+AllReply σ (t ▸ ts) = Replies (σ 0) × AllReply (λ i. σ (suc i)) ts
+
 record Asks (c : Asked) (l : Lead) (fs : List Facts) (q : Demand) (r : Request q) (at_end : Bool) : Type 0 where
-  begins : Begins (demand (shape_by (head_of l)) fs q) (Reply q r) (step (shape_by (head_of l)) [] fs q r)
-  below : Suits (asked_below (head_of l) c 0) (demand (shape_by (head_of l)) fs q 0) at_end
+  reaches : Reaches (count (before l)) (step (shape_by (head_of l)) [] fs q r)
+  below : Suits (asked_below (head_of l) c (place 0 (before l))) (demand (shape_by (head_of l)) fs q (count (before l))) at_end
+  first : AllReply (demand (shape_by (head_of l)) fs q) (before l)
 
 value_asks : (l : Lead) (b : Bool) → Stands AsValue l b → (fs : List Facts) (q : Demand) → Replies q → (r : Request q) → Asks AsValue l fs q r b
 unfolding step
-value_asks Not b s fs q u r = record { begins = begins_valued (λ i. As Test) q u r not_step (one (λ i. As Test) Value tt _ (λ v. tt)); below = tt }
-value_asks Plus b s fs q u r = record { begins = begins_valued (λ i. As Val) q u r (number_step UnaryPlus) (number_begins UnaryPlus); below = tt }
-value_asks Tilde b s fs q u r = record { begins = begins_valued (λ i. As Val) q u r (number_step BitwiseNot) (number_begins BitwiseNot); below = tt }
-value_asks (Beside o) b s fs q u r = record { begins = begins_valued (λ i. As Val) q u r (binary_step o) (binary_begins o); below = tt }
-value_asks (Deciding o) b s fs q u r = record { begins = begins_passing (logical_demand o (pass q)) q u r (logical_step o (pass q)) (logical_begins o (pass q)); below = left o (pass q) }
+value_asks Not b s fs q u r = record { reaches = reach_valued 0 (λ i. As Test) q u r not_step (one 0 (λ i. As Test) Value tt _ (λ v. tt)); below = tt; first = tt }
+value_asks Plus b s fs q u r = record { reaches = reach_valued 0 (λ i. As Val) q u r (number_step UnaryPlus) (number_begins UnaryPlus); below = tt; first = tt }
+value_asks Tilde b s fs q u r = record { reaches = reach_valued 0 (λ i. As Val) q u r (number_step BitwiseNot) (number_begins BitwiseNot); below = tt; first = tt }
+value_asks (Beside o) b s fs q u r = record { reaches = reach_valued 0 (λ i. As Val) q u r (binary_step o) (binary_begins o); below = tt; first = tt }
+value_asks (Deciding o) b s fs q u r = record { reaches = reach_passing 0 (logical_demand o (pass q)) q u r (logical_step o (pass q)) (logical_begins o (pass q)); below = left o (pass q); first = tt }
   where
     left : (o : LogicalOperator) (w : Want) → Suits AsValue (logical_demand o w 0) b
     left And Val = tt
@@ -254,37 +314,65 @@ value_asks (Deciding o) b s fs q u r = record { begins = begins_passing (logical
     left Or Test = tt
     left Or Unused = tt
     left Coalesce w = tt
-value_asks Choosing b s fs q u r = record { begins = begins_passing (first_demand (As Test) (As (pass q))) q u r (conditional_step (pass q)) (conditional_begins (pass q)); below = tt }
-value_asks Passing b s fs q u r = record { begins = begins_passing (λ i. Parts (pass q)) q u r (sequence_step (pass q)) (one (λ i. Parts (pass q)) (Says (pass q)) tt _ (λ v. tt)); below = tt }
-value_asks CalledLead b s fs q u r = record { begins = begins_valued (first_demand Callee Items) q u r (call_step false) (one (first_demand Callee Items) Value tt _ (λ f. (λ vs. call_later (first_demand Callee Items) false f vs, λ y. tt))); below = s }
-value_asks Making b s fs q u r = record { begins = begins_valued (first_demand (As Val) Items) q u r new_step (one (first_demand (As Val) Items) Value tt _ (λ f. (λ vs. (λ v. tt, λ y. tt), λ y. tt))); below = tt }
-value_asks (Waiting d) b s fs q u r = record { begins = begins_valued (λ i. As Val) q u r (yield_step d) (one (λ i. As Val) Value tt _ (λ v. (λ a. tt, λ y. tt))); below = tt }
-value_asks Member b s fs q u r = record { begins = as_member_begins q u r; below = tt }
-value_asks Keyed b s fs q u r = record { begins = as_member_begins q u r; below = tt }
+value_asks Choosing b s fs q u r = record { reaches = reach_passing 0 (first_demand (As Test) (As (pass q))) q u r (conditional_step (pass q)) (conditional_begins (pass q)); below = tt; first = tt }
+value_asks Passing b s fs q u r = record { reaches = reach_passing 0 (λ i. Parts (pass q)) q u r (sequence_step (pass q)) (one 0 (λ i. Parts (pass q)) (Says (pass q)) tt _ (λ v. tt)); below = tt; first = tt }
+value_asks CalledLead b s fs q u r = record { reaches = reach_valued 0 (first_demand Callee Items) q u r (call_step false) (one 0 (first_demand Callee Items) Value tt _ (λ f. (tt, (λ vs. call_later 0 (first_demand Callee Items) false f vs, λ y. tt)))); below = s; first = tt }
+value_asks Making b s fs q u r = record { reaches = reach_valued 0 (first_demand (As Val) Items) q u r new_step (one 0 (first_demand (As Val) Items) Value tt _ (λ f. (tt, (λ vs. (λ v. tt, λ y. tt), λ y. tt)))); below = tt; first = tt }
+value_asks (Waiting d) b s fs q u r = record { reaches = reach_valued 0 (λ i. As Val) q u r (yield_step d) (one 0 (λ i. As Val) Value tt _ (λ v. (λ a. tt, λ y. tt))); below = tt; first = tt }
+value_asks Member b s fs q u r = record { reaches = as_member_reaches 0 member_begins q u r; below = tt; first = tt }
+value_asks Keyed b s fs q u r = record { reaches = as_member_reaches 0 member_begins q u r; below = tt; first = tt }
+value_asks Holding b s fs q u r = record { reaches = reach_valued 0 (λ i. Items) q u r array_step (one 0 (λ i. Items) Value tt _ (λ vs. (λ v. tt, λ y. tt))); below = tt; first = tt }
+value_asks (Against o a) b s fs q u r = record { reaches = reach_valued 1 (λ i. As Val) q u r (binary_step o) (binary_goes_on o); below = tt; first = (tt, tt) }
+value_asks (GivenLead a) b s fs q u r = record { reaches = reach_valued 1 (first_demand Callee Items) q u r (call_step false) call_goes_on; below = tt; first = (tt, tt) }
+value_asks (Filling a) b s fs q u r = record { reaches = reach_valued 1 (first_demand (As Val) Items) q u r new_step new_goes_on; below = tt; first = (tt, tt) }
+value_asks (Keying a) b s fs q u r = record { reaches = as_member_reaches 1 member_goes_on q u r; below = tt; first = (tt, tt) }
 value_asks l b s fs q u r = absurd s
 
 statement_asks : (l : Lead) (b : Bool) → Stands AsWholeItem l b → (fs : List Facts) (r : Request (Stat None)) → Asks AsWholeItem l fs (Stat None) r b
 unfolding step
-statement_asks Doing b s fs r = record { begins = begins_statement (λ i. As Unused) _ (one (λ i. As Unused) (Unit {0}) tt ret (λ v. tt)); below = tt }
-statement_asks Giving b s fs r = record { begins = begins_statement (λ i. As Val) return_step (one (λ i. As Val) (Unit {0}) tt _ (λ v. tt)); below = tt }
-statement_asks Raising b s fs r = record { begins = begins_statement (λ i. As Val) throw_step (one (λ i. As Val) (Unit {0}) tt _ (λ v. tt)); below = tt }
-statement_asks Testing b s fs r = record { begins = begins_statement (first_demand (As Test) (Stat None)) (if_step None) (one (first_demand (As Test) (Stat None)) (Unit {0}) tt _ (λ c. later_choose {σ = first_demand (As Test) (Stat None)} c (kid 1 [] ((then) ret)) (kid 2 [] ((then) ret)) (λ u. tt, λ y. tt) (λ u. tt, λ y. tt))); below = tt }
+statement_asks Doing b s fs r = record { reaches = reach_statement 0 {σ = λ i. As Unused} (kid 0 tt ((then) ret)) (one 0 (λ i. As Unused) (Unit {0}) tt ret (λ v. tt)); below = tt; first = tt }
+statement_asks Giving b s fs r = record { reaches = reach_statement 0 return_step (one 0 (λ i. As Val) (Unit {0}) tt _ (λ v. tt)); below = tt; first = tt }
+statement_asks Raising b s fs r = record { reaches = reach_statement 0 throw_step (one 0 (λ i. As Val) (Unit {0}) tt _ (λ v. tt)); below = tt; first = tt }
+statement_asks Testing b s fs r = record { reaches = reach_statement 0 (if_step None) (one 0 (first_demand (As Test) (Stat None)) (Unit {0}) tt _ (λ c. later_choose 0 {σ = first_demand (As Test) (Stat None)} c (kid 1 [] ((then) ret)) (kid 2 [] ((then) ret)) (tt, (λ u. tt, λ y. tt)) (tt, (λ u. tt, λ y. tt)))); below = tt; first = tt }
 statement_asks l b s fs r = absurd s
 
-list_asks : (l : Lead) (b : Bool) → Stands AsValues l b → (f : Facts) (fs : List Facts) (w : Want) (r : Request (Parts w)) → Asks AsValues l (f ∷ fs) (Parts w) r b
-unfolding step
-list_asks Listing b s f fs w r = record { begins = parts_begins (length fs) w; below = first (length fs) }
-  where
-    first : (n : ℕ) → Suits AsValue (parts_demand n w 0) b
-    first zero = tt
-    first (suc n) = tt
-list_asks l b s f fs w r = absurd s
+-- the parts of a sequence are asked nothing but the last, and items each for the item
+parts_asked : (i n : ℕ) (w : Want) (b : Bool) → Before i (suc n) → Suits AsValue (parts_demand n w i) b
+parts_asked zero zero w b h = tt
+parts_asked zero (suc n) w b h = tt
+parts_asked (suc i) zero w b h = tt
+parts_asked (suc i) (suc n) w b h = parts_asked i n w b h
 
-asks : (c : Asked) (l : Lead) (b : Bool) → Stands c l b → (f : Facts) (fs : List Facts) (q : Demand) → Suits c q false → (r : Request q) → Asks c l (f ∷ fs) q r b
-asks AsWholeItem l b s f fs (Stat None) u r = statement_asks l b s (f ∷ fs) r
-asks AsValue l b s f fs q u r = value_asks l b s (f ∷ fs) q (replies q false u) r
-asks AsValues l b s f fs (Parts w) u r = list_asks l b s f fs w r
-asks c l b s f fs q u r = absurd u
+parts_reply : (n : ℕ) (w : Want) (ts : Trees) → AllReply (parts_demand n w) ts
+parts_reply n w none = tt
+parts_reply zero w (t ▸ ts) = (tt, unused ts)
+  where
+    unused : (ts : Trees) → AllReply (λ i. As Unused) ts
+    unused none = tt
+    unused (t ▸ ts) = (tt, unused ts)
+parts_reply (suc n) w (t ▸ ts) = (tt, parts_reply n w ts)
+
+entries_reply : (ts : Trees) → AllReply (λ i. AnEntry) ts
+entries_reply none = tt
+entries_reply (t ▸ ts) = (tt, entries_reply ts)
+
+list_asks : (l : Lead) (b : Bool) → Stands AsValues l b → (fs : List Facts) → Before (count (before l)) (length fs) → (q : Demand) → Suits AsValues q false → (r : Request q) → Asks AsValues l fs q r b
+unfolding step
+list_asks (Listing ts) b s [] h q u r = absurd (none_less (count ts) h)
+  where
+    none_less : (i : ℕ) → Before i 0 → ⊥
+    none_less zero h = h
+    none_less (suc i) h = h
+list_asks (Listing ts) b s (f ∷ fs) h (Parts w) u r = record { reaches = parts_reach (count ts) (length fs) w h; below = parts_asked (count ts) (length fs) w b h; first = parts_reply (length fs) w ts }
+list_asks (Listing ts) b s (f ∷ fs) h Items u r = record { reaches = entries_reach (count ts) (suc (length fs)) h; below = tt; first = entries_reply ts }
+list_asks (Listing ts) b s (f ∷ fs) h q u r = absurd u
+list_asks l b s fs h q u r = absurd s
+
+asks : (c : Asked) (l : Lead) (b : Bool) → Stands c l b → (fs : List Facts) → Before (count (before l)) (length fs) → (q : Demand) → Suits c q false → (r : Request q) → Asks c l fs q r b
+asks AsWholeItem l b s fs h (Stat None) u r = statement_asks l b s fs r
+asks AsValue l b s fs h q u r = value_asks l b s fs q (replies q false u) r
+asks AsValues l b s fs h q u r = list_asks l b s fs h q u r
+asks c l b s fs h q u r = absurd u
 
 -- ---- runs
 
@@ -307,17 +395,24 @@ module _ (e : Environment) (k : ℕ) (z : Unseen (alone (Declared k)) e) where
   rest_goes (u ▸ ts) a zero q r s t g = insensitive e D z.shared u a.0 q r s t g
   rest_goes (u ▸ ts) a (suc i) q r s t g = rest_goes ts a.1 i q r s t g
 
-  later_goes : {σ : ℕ → Demand} {A : Type 0} (h : Shape) (q : Demand) (is : List Summary) (t u : Tree) (ts : Trees) → AllAvoid D ts → (c : Command σ A) → Later c → (x y : State) → Agree D x y → Go (run e (naming h q [] 0 is) (λ i r w. meaning e (t ▸ ts) i (σ i) r w) c x) (run e (naming h q [] 0 is) (λ i r w. meaning e (u ▸ ts) i (σ i) r w) c y)
-  unfolding Goes meaning
-  later_goes h q is t u ts a (ret v) l x y g = (refl, g)
-  later_goes h q is t u ts a (fails v) l x y g = (refl, g)
-  later_goes h q is t u ts a stuck l x y g = tt
-  later_goes h q is t u ts a (op o c) l x y g =
+  -- the children but one do the same
+  others_go : (ps : Trees) (t u : Tree) (ts : Trees) → AllAvoid D ps → AllAvoid D ts → (j : ℕ) → Apart j (count ps) → (q : Demand) (r : Request q) (s y : State) → Agree D s y → Go (meaning e (append ps (t ▸ ts)) j q r s) (meaning e (append ps (u ▸ ts)) j q r y)
+  unfolding meaning
+  others_go none t u ts a b zero p q r s y g = absurd p
+  others_go none t u ts a b (suc j) p q r s y g = rest_goes ts b j q r s y g
+  others_go (v ▸ ps) t u ts a b zero p q r s y g = insensitive e D z.shared v a.0 q r s y g
+  others_go (v ▸ ps) t u ts a b (suc j) p q r s y g = others_go ps t u ts a.1 b j p q r s y g
+
+  later_goes : {σ : ℕ → Demand} {A : Type 0} (h : Shape) (q : Demand) (is : List Summary) (ps : Trees) (t u : Tree) (ts : Trees) → AllAvoid D ps → AllAvoid D ts → (c : Command σ A) → Later (count ps) c → (x y : State) → Agree D x y → Go (run e (naming h q [] 0 is) (λ i r w. meaning e (append ps (t ▸ ts)) i (σ i) r w) c x) (run e (naming h q [] 0 is) (λ i r w. meaning e (append ps (u ▸ ts)) i (σ i) r w) c y)
+  unfolding Goes
+  later_goes h q is ps t u ts a b (ret v) l x y g = (refl, g)
+  later_goes h q is ps t u ts a b (fails v) l x y g = (refl, g)
+  later_goes h q is ps t u ts a b stuck l x y g = tt
+  later_goes h q is ps t u ts a b (op o c) l x y g =
       goes_either true (λ v. Agree D) (Agree D) (Agree D) (λ v. Agree D) (Agree D) (act e (naming h q [] 0 is) o x) (act e (naming h q [] 0 is) o y) _ _ _ _
-      ((dead_sound D e z.shared).acts (naming h q [] 0 is) (naming h q [] 0 is) (alive_self D e h q [] 0 is tt) o x y g) (λ v x y g. later_goes h q is t u ts a (c (done v)) (l.0 v) x y g) (λ v x y g. later_goes h q is t u ts a (c (ended v)) (l.1 v) x y g)
-  later_goes h q is t u ts a (kid zero r c) l x y g = absurd l
-  later_goes {σ} h q is t u ts a (kid (suc i) r c) l x y g =
-      goes_either true (λ v. Agree D) (Agree D) (Agree D) (λ v. Agree D) (Agree D) (meaning e ts i (σ (suc i)) r x) (meaning e ts i (σ (suc i)) r y) _ _ _ _ (rest_goes ts a i (σ (suc i)) r x y g) (λ v x y g. later_goes h q is t u ts a (c (done v)) (l.0 v) x y g) (λ v x y g. later_goes h q is t u ts a (c (ended v)) (l.1 v) x y g)
+      ((dead_sound D e z.shared).acts (naming h q [] 0 is) (naming h q [] 0 is) (alive_self D e h q [] 0 is tt) o x y g) (λ v x y g. later_goes h q is ps t u ts a b (c (done v)) (l.0 v) x y g) (λ v x y g. later_goes h q is ps t u ts a b (c (ended v)) (l.1 v) x y g)
+  later_goes {σ} h q is ps t u ts a b (kid j r c) l x y g =
+      goes_either true (λ v. Agree D) (Agree D) (Agree D) (λ v. Agree D) (Agree D) (meaning e (append ps (t ▸ ts)) j (σ j) r x) (meaning e (append ps (u ▸ ts)) j (σ j) r y) _ _ _ _ (others_go ps t u ts a b j l.0 (σ j) r x y g) (λ v x y g. later_goes h q is ps t u ts a b (c (done v)) (l.1.0 v) x y g) (λ v x y g. later_goes h q is ps t u ts a b (c (ended v)) (l.1.1 v) x y g)
 
   -- a node, by what it reads of its children
   abbrev by_summaries : Shape → (q : Demand) (r : Request q) → List Summary → Trees → State → Completion (Reply q r)
@@ -326,14 +421,6 @@ module _ (e : Environment) (k : ℕ) (z : Unseen (alone (Declared k)) e) where
   node_is : (h : Shape) (q : Demand) (r : Request q) (ts : Trees) (s : State) → means e (node h [] 0 ts) q r s ≡ by_summaries h q r (summaries ts) ts s
   unfolding means
   node_is h q r ts s = refl
-
-  asked_first : (h : Shape) (q : Demand) (r : Request q) (is : List Summary) (b : Begins (demand h (facts_all is) q) (Reply q r) (step h [] (facts_all is) q r)) (t : Tree) (ts : Trees) (s : State)
-      → by_summaries h q r is (t ▸ ts) s ≡ next (means e t (demand h (facts_all is) q 0) b.request s) (λ a w. run e (naming h q [] 0 is) (λ i r' s'. meaning e (t ▸ ts) i (demand h (facts_all is) q i) r' s') (b.next (done a)) w)
-  unfolding meaning
-  asked_first h q r is b t ts s =
-      let K : Kids (demand h (facts_all is) q) = λ i r' s'. meaning e (t ▸ ts) i (demand h (facts_all is) q i) r' s' in
-      ap (λ c. run e (naming h q [] 0 is) K c s) b.is
-      ∙ either_cong (means e t (demand h (facts_all is) q 0) b.request s) _ _ _ _ (λ a w. refl) (λ y w. ap (λ c. run e (naming h q [] 0 is) K c w) (b.stops y))
 
   -- ---- the read
 
@@ -373,6 +460,20 @@ module _ (e : Environment) (k : ℕ) (z : Unseen (alone (Declared k)) e) where
       (either_cong (means e init (As Val) tt s) _ _ _ _ (λ v t. sym (coherent (identifier (resolved spelling k)) w e (after v t) ∙ ap (told w) (read_is spelling v t))) (λ y t. refl))
       (sym (coherent init w e s)) (told_goes w (means e init (As Val) tt s))
 
+  -- as an item
+  item_goes : (x : Completion Value) → Go (next x (λ v s. by_value AnEntry tt (ok v (after v s)))) (by_value AnEntry tt x)
+  unfolding Goes either by_value
+  item_goes (ok v s) = (refl, agrees v s)
+  item_goes (stop y s) = (refl, itself s)
+  item_goes (halt y s) = (refl, itself s)
+  item_goes out = tt
+
+  entry_goes : (spelling : List ℕ) (init : Tree) → is_item init ≡ true → (s : State) → Go (next (means e init (As Val) tt s) (λ v t. means e (identifier (resolved spelling k)) AnEntry tt (after v t))) (means e init AnEntry tt s)
+  entry_goes spelling init i s =
+      subst₂ Go
+      (either_cong (means e init (As Val) tt s) _ _ _ _ (λ v t. sym (item_read (identifier (resolved spelling k)) refl e (after v t) ∙ ap (by_value AnEntry tt) (read_is spelling v t))) (λ y t. refl))
+      (sym (item_read init i e s)) (item_goes (means e init (As Val) tt s))
+
   either_stopped : {A B : Type 0} (y : Stop) (p : State) (f : A → State → Completion B) → either (stop y p) f (λ y p. stop y p) ≡ stop y p
   unfolding either
   either_stopped y p f = refl
@@ -381,34 +482,148 @@ module _ (e : Environment) (k : ℕ) (z : Unseen (alone (Declared k)) e) where
   unfolding Goes
   stopped A p x y g = (refl, g)
 
+  -- ---- the parts before
+
+  abbrev front : Trees → (σ : ℕ → Demand) → (j : ℕ) → Does (σ j)
+  front ps σ j r s = meaning e ps j (σ j) r s
+
+  front_is : (ps : Trees) (t : Tree) (ts : Trees) (j : ℕ) → Before j (count ps) → (q : Demand) (r : Request q) (s : State) → meaning e (append ps (t ▸ ts)) j q r s ≡ meaning e ps j q r s
+  unfolding meaning
+  front_is none t ts zero b q r s = absurd b
+  front_is none t ts (suc j) b q r s = absurd b
+  front_is (p ▸ ps) t ts zero b q r s = refl
+  front_is (p ▸ ps) t ts (suc j) b q r s = front_is ps t ts j b q r s
+
+  there_is : (ps : Trees) (t : Tree) (ts : Trees) (q : Demand) (r : Request q) (s : State) → meaning e (append ps (t ▸ ts)) (count ps) q r s ≡ means e t q r s
+  unfolding meaning
+  there_is none t ts q r s = refl
+  there_is (p ▸ ps) t ts q r s = there_is ps t ts q r s
+
+  -- what each of them does
+  abbrev Calm : Tree → (q : Demand) → Does q → Type 0
+  Calm init q m = Replying q m ⊎ ((is_effect_free init ≡ true) × Quietly D q m)
+
+  calm_front : (init : Tree) (ps : Trees) → AllPass init ps → AllAvoid D ps → (σ : ℕ → Demand) → AllReply σ ps → (j : ℕ) → Before j (count ps) → Calm init (σ j) (front ps σ j)
+  unfolding meaning
+  calm_front init none p a σ u zero b = absurd b
+  calm_front init none p a σ u (suc j) b = absurd b
+  calm_front init (t ▸ ps) p a σ u (suc j) b = calm_front init ps p.1 a.1 (λ i. σ (suc i)) u.1 j b
+  calm_front init (t ▸ ps) p a σ u zero b = by (passes_by init t p.0)
+    where
+      by : (is_constant t ≡ true) ⊎ ((is_effect_free init ≡ true) × (is_effect_free t ≡ true) × (is_item t ≡ true)) → Calm init (σ 0) (means e t (σ 0))
+      by (inl c) = inl (constant_replies e t c (σ 0) u.0)
+      by (inr (f, g, i)) = inr (f, quietly e D z.shared t a.0 g i (σ 0) u.0)
+
+  module _ {A : Type 0} (init : Tree) (s : State) where
+    abbrev Started : (Value → State → Completion A) → Completion A
+    Started f = next (means e init (As Val) tt s) (λ v t. f v (after v t))
+
+    -- the value is there, or the run is outside the model
+    with_value : (x : Completion Value) → Quiet s x → (f : Value → State → Completion A) (y : Completion A) → ((v : Value) → x ≡ ok v s → Go (f v (after v s)) y) → Go (next x (λ v t. f v (after v t))) y
+    unfolding Quiet either
+    with_value (ok v t) h f y g = subst (λ z. Go (f v (after v z)) y) (sym h) (g v (ap (ok v) h))
+    with_value (stop x t) h f y g = absurd h
+    with_value (halt x t) h f y g = absurd h
+    with_value out h f y g = weak D y
+
+    -- two that do nothing but reply
+    quiet_both : {R : Type 0} (z : State) (x y : Completion R) → Quiet z x → Quiet s y → Go x y → (F G : R → State → Completion A) (f g : Stop → State → Completion A) → ((a : R) → Go (F a z) (G a s)) → Go (either x F f) (either y G g)
+    unfolding Quiet either Goes
+    quiet_both z (ok a v) (ok b w) m n o F G f g h = subst₂ Go (λ i. F a (sym m i)) (λ i. G (o.0 i) (sym n i)) (h a)
+    quiet_both z (ok a v) (stop b w) m n o F G f g h = absurd n
+    quiet_both z (ok a v) (halt b w) m n o F G f g h = absurd n
+    quiet_both z (ok a v) out m n o F G f g h = absurd o
+    quiet_both z (stop a v) y m n o F G f g h = absurd m
+    quiet_both z (halt a v) y m n o F G f g h = absurd m
+    quiet_both z out y m n o F G f g h = weak D (either y G g)
+
+    passed_goes : (q : Demand) (m : Does q) → Calm init q m → (r : Request q) (F G : Reply q r → State → Completion A) (f g : Stop → State → Completion A) → ((a : Reply q r) → Go (Started (λ v t. F a t)) (G a s)) → Go (Started (λ v t. either (m r t) F f)) (either (m r s) G g)
+    passed_goes q m (inl c) r F G f g h =
+        let (a, is) = c r in
+        subst₂ Go (either_cong (means e init (As Val) tt s) _ _ _ _ (λ v t. sym (ap (λ x. either x F f) (is (after v t)) ∙ either_ok a (after v t) F f)) (λ y t. refl)) (sym (ap (λ x. either x G g) (is s) ∙ either_ok a s G g)) (h a)
+    passed_goes q m (inr (free, n)) r F G f g h =
+        with_value (means e init (As Val) tt s) (quiet_there e init free s) (λ v t. either (m r t) F f) (either (m r s) G g)
+        (λ v is. quiet_both (after v s) (m r (after v s)) (m r s) (n.quiet r (after v s)) (n.quiet r s) (n.same r (after v s) s (agrees v s)) F G f g
+        (λ a. subst (λ c. Go c (G a s)) (ap (λ x. next x (λ v t. F a (after v t))) is ∙ either_ok v s (λ v t. F a (after v t)) (λ y z. stop y z)) (h a)))
+
+  -- ---- a node, with the expression in the place of the read
+
+  module _ (h : Shape) (q : Demand) (is : List Summary) (σ : ℕ → Demand) (ps : Trees) (t u : Tree) (ts : Trees) (init : Tree) (first : AllAvoid D ps) (last : AllAvoid D ts) (calm : (j : ℕ) → Before j (count ps) → Calm init (σ j) (front ps σ j))
+      (inner : (r : Request (σ (count ps))) (s : State) → Go (next (means e init (As Val) tt s) (λ v z. means e t (σ (count ps)) r (after v z))) (means e u (σ (count ps)) r s)) where
+    abbrev runs : {A : Type 0} → Tree → Command σ A → State → Completion A
+    runs w c y = run e (naming h q [] 0 is) (λ i r z. meaning e (append ps (w ▸ ts)) i (σ i) r z) c y
+
+    abbrev Reached : {A : Type 0} → Command σ A → Type 0
+    Reached c = (s : State) → Go (next (means e init (As Val) tt s) (λ v y. runs t c (after v y))) (runs u c s)
+
+    module _ {A : Type 0} (r : Request (σ (count ps))) (c : Ends (Reply (σ (count ps)) r) → Command σ A) (stops : (y : Stop) → c (ended y) ≡ fails y) (later : (a : Reply (σ (count ps)) r) → Later (count ps) (c (done a))) where
+      abbrev goes_on_with : Tree → Reply (σ (count ps)) r → State → Completion A
+      goes_on_with w a y = runs w (c (done a)) y
+
+      asked_there : (w : Tree) (z : State) → runs w (kid (count ps) r c) z ≡ next (means e w (σ (count ps)) r z) (goes_on_with w)
+      asked_there w z =
+          ap (λ x. either x (goes_on_with w) (λ y z. runs w (c (ended y)) z)) (there_is ps w ts (σ (count ps)) r z)
+          ∙ either_cong (means e w (σ (count ps)) r z) _ _ _ _ (λ a y. refl) (λ y z. ap (λ d. runs w d z) (stops y))
+
+      hit_here : Reached (kid (count ps) r c)
+      hit_here s =
+          let v = means e init (As Val) tt s in
+          subst₂ Go
+          (sym (either_cong v _ _ _ _ (λ p y. asked_there t (after p y)) (λ y p. refl) ∙ sym (either_assoc v (λ p y. means e t (σ (count ps)) r (after p y)) (λ y p. stop y p) (goes_on_with t) (λ y p. stop y p) ∙ either_cong v _ _ _ _ (λ p y. refl) (λ y p. either_stopped y p (goes_on_with t)))))
+          (sym (asked_there u s))
+          (goes_either true (λ p. Agree D) (Agree D) (Agree D) (λ p. Agree D) (Agree D) (next v (λ p y. means e t (σ (count ps)) r (after p y))) (means e u (σ (count ps)) r s) _ _ _ _
+          (inner r s)
+          (λ p x y g. later_goes h q is ps t u ts first last (c (done p)) (later p) x y g) (λ p x y g. stopped A p x y g))
+
+    hit_there : {A : Type 0} (j : ℕ) → j ≡ count ps → (r : Request (σ j)) (c : Ends (Reply (σ j) r) → Command σ A) → ((y : Stop) → c (ended y) ≡ fails y) → ((a : Reply (σ j) r) → Later (count ps) (c (done a))) → Reached (kid j r c)
+    hit_there {A} j p =
+        subst (λ j. (r : Request (σ j)) (c : Ends (Reply (σ j) r) → Command σ A) → ((y : Stop) → c (ended y) ≡ fails y) → ((a : Reply (σ j) r) → Later (count ps) (c (done a))) → Reached (kid j r c)) (sym p)
+        (λ r c stops later. hit_here r c stops later)
+
+    reach_goes : {A : Type 0} (c : Command σ A) → Reaches (count ps) c → Reached c
+    reach_goes {A} (kid j r c) (inl l) s =
+        let F = λ (a : Reply (σ j) r) (y : State). runs t (c (done a)) y in
+        let G = λ (a : Reply (σ j) r) (y : State). runs u (c (done a)) y in
+        let f = λ (x : Stop) (y : State). runs t (c (ended x)) y in
+        let g = λ (x : Stop) (y : State). runs u (c (ended x)) y in
+        subst₂ Go (either_cong (means e init (As Val) tt s) _ _ _ _ (λ v y. ap (λ x. either x F f) (sym (front_is ps t ts j l.0 (σ j) r (after v y)))) (λ x y. refl)) (ap (λ x. either x G g) (sym (front_is ps u ts j l.0 (σ j) r s)))
+        (passed_goes init s (σ j) (front ps σ j) (calm j l.0) r F G f g (λ a. reach_goes (c (done a)) (l.1 a) s))
+    reach_goes (kid j r c) (inr l) s = hit_there j l.here r c l.stops l.later s
+    reach_goes (ret a) l s = absurd l
+    reach_goes (fails y) l s = absurd l
+    reach_goes stuck l s = absurd l
+    reach_goes (op o c) l s = absurd l
+
   -- ---- the path
 
   all_spared : (x : Name) → x.symbol ≡ Some (record { 0 = k }) → (ts : Trees) → any_names x ts ≡ false → AllAvoid D ts
   all_spared x h ts f = all_avoided x k h ts f
 
-  module _ (x : Name) (named : x.symbol ≡ Some (record { 0 = k })) (spelling : List ℕ) (init : Tree) (plain : summary (identifier (resolved spelling k)) ≡ summary init) where
+  there_before : (ps : Trees) (t : Tree) (ts : Trees) → Before (count ps) (length (facts_all (summaries (append ps (t ▸ ts)))))
+  there_before none t ts = tt
+  there_before (p ▸ ps) t ts = there_before ps t ts
+
+  module _ (x : Name) (named : x.symbol ≡ Some (record { 0 = k })) (spelling : List ℕ) (init : Tree) (plain : summary (identifier (resolved spelling k)) ≡ summary init) (item : is_item init ≡ true) where
     abbrev read : Tree
     read = identifier (resolved spelling k)
 
-    pub first_goes : (c : Asked) (ss : List Step) → Well c ss → Spared x ss → (q : Demand) → Suits c q (is_end ss) → (r : Request q) (s : State) → Go (next (means e init (As Val) tt s) (λ v t. means e (led ss read) q r (after v t))) (means e (led ss init) q r s)
-    first_goes AsValue [] w f (As v) u r s = read_goes spelling init v s
-    first_goes AsValue [] w f Callee u r s = absurd (true≢false u)
-    first_goes AsValue [] w f q u r s = absurd u
-    first_goes c [] w f q u r s = absurd w
-    first_goes c (s ∷ ss) w f q u r t =
+    pub first_goes : (c : Asked) (ss : List Step) → Well c ss → Spared x ss → Passed init ss → (q : Demand) → Suits c q (is_end ss) → (r : Request q) (s : State) → Go (next (means e init (As Val) tt s) (λ v t. means e (led ss read) q r (after v t))) (means e (led ss init) q r s)
+    first_goes AsValue [] w f p (As v) u r s = read_goes spelling init v s
+    first_goes AsValue [] w f p AnEntry u r s = entry_goes spelling init item s
+    first_goes AsValue [] w f p Callee u r s = absurd (true≢false u)
+    first_goes AsValue [] w f p q u r s = absurd u
+    first_goes c [] w f p q u r s = absurd w
+    first_goes c (s ∷ ss) w f p q u r z =
         let h = shape_by (head_of s.lead) in
-        let is = summary (led ss read) ∷ summaries s.rest in
-        let a = asks c s.lead (is_end ss) w.0 (summary (led ss read)).facts (facts_all (summaries s.rest)) q u r in
+        let ps = before s.lead in
+        let kids = λ (t : Tree). append ps (led ss t ▸ s.rest) in
+        let is = summaries (kids read) in
         let σ = demand h (facts_all is) q in
-        let v = means e init (As Val) tt t in
-        let after_first = λ (u : Tree) (p : Reply (σ 0) a.begins.request) (y : State). run {q = σ} e (naming h q [] 0 is) (λ i r' s'. meaning e (u ▸ s.rest) i (σ i) r' s') (a.begins.next (done p)) y in
-        let avoids = all_spared x named s.rest f.0 in
-        let there = λ (y : State). node_is h q r (led ss read ▸ s.rest) y ∙ asked_first h q r is a.begins (led ss read) s.rest y in
-        let put : means e (led (s ∷ ss) init) q r t ≡ next (means e (led ss init) (σ 0) a.begins.request t) (after_first (led ss init)) =
-        node_is h q r (led ss init ▸ s.rest) t ∙ ap (λ i. by_summaries h q r (i ∷ summaries s.rest) (led ss init ▸ s.rest) t) (sym (summary_led ss read init plain)) ∙ asked_first h q r is a.begins (led ss init) s.rest t in
-        subst₂ Go
-        (sym (either_cong v _ _ _ _ (λ p y. there (after p y)) (λ y p. refl) ∙ sym (either_assoc v (λ p y. means e (led ss read) (σ 0) a.begins.request (after p y)) (λ y p. stop y p) (after_first (led ss read)) (λ y p. stop y p) ∙ either_cong v _ _ _ _ (λ p y. refl) (λ y p. either_stopped y p (after_first (led ss read))))))
-        (sym put)
-        (goes_either true (λ p. Agree D) (Agree D) (Agree D) (λ p. Agree D) (Agree D) (next v (λ p y. means e (led ss read) (σ 0) a.begins.request (after p y))) (means e (led ss init) (σ 0) a.begins.request t) _ _ _ _
-        (first_goes (asked_below (head_of s.lead) c 0) ss w.1 f.1 (σ 0) a.below a.begins.request t)
-        (λ p x y g. later_goes h q is (led ss read) (led ss init) s.rest avoids (a.begins.next (done p)) (a.begins.later p) x y g) (λ p x y g. stopped (Reply q r) p x y g))
+        let a = asks c s.lead (is_end ss) w.0 (facts_all is) (there_before ps (led ss read) s.rest) q u r in
+        let first = all_spared x named ps f.0.0 in
+        let last = all_spared x named s.rest f.0.1 in
+        let there = λ (y : State). node_is h q r (kids read) y in
+        let put : means e (led (s ∷ ss) init) q r z ≡ by_summaries h q r is (kids init) z = node_is h q r (kids init) z ∙ ap (λ i. by_summaries h q r i (kids init) z) (sym (summaries_led s ss read init plain)) in
+        subst₂ Go (sym (either_cong (means e init (As Val) tt z) _ _ _ _ (λ v y. there (after v y)) (λ y p. refl))) (sym put)
+        (reach_goes h q is σ ps (led ss read) (led ss init) s.rest init first last (calm_front init ps p.0 first σ a.first)
+        (λ r' s'. first_goes (asked_below (head_of s.lead) c (place 0 ps)) ss w.1 f.1 p.1 (σ (count ps)) a.below r' s') (step h [] (facts_all is) q r) a.reaches z)

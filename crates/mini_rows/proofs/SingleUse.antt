@@ -1,5 +1,5 @@
--- A tree that reads a variable before all else, as a path to that read: what leads there, and what stands beside it.
-use Rattle.std.specs.Prelude.{ℕ, zero, suc, ◌+◌, ◌≡◌, ◌⊎◌, refl, not, ◌&&◌, ◌||◌, Bool, true, false, List, [], ◌∷◌}
+-- A tree that reads a variable after the parts that stand before, as a path to that read: what leads there, and what stands beside it.
+use Rattle.std.specs.Prelude.{ℕ, zero, suc, ◌+◌, ◌≡◌, ◌⊎◌, refl, not, ◌&&◌, ◌||◌, Bool, true, false, List, [], ◌∷◌, if◌then◌else◌}
 use Rattle.std.proofs.Common.{ap, ◌∙◌, sym, subst, arith, inl, inr, true≢false}
 use Rattle.std.proofs.lemmas.Bool.{and_parts}
 use Rattle.mini_model.specs.declared.kind.VariableDeclarationKind.{VariableDeclarationKind}
@@ -10,15 +10,17 @@ use Rattle.mini_model.specs.declared.operator.UnaryOperator.TheVariants.{Logical
 use Rattle.mini_model.specs.declared.shape.Shape.{Shape}
 use Rattle.mini_model.specs.declared.shape.Shape.TheVariants as shape
 use Rattle.mini_model.specs.Tree.{Tree, Trees, node, none, ◌▸◌, listed, children, identifier}
+use Rattle.mini_model.specs.Paths.{append}
+use Rattle.mini_model.specs.Weight.{same_text}
 use Rattle.mini_laws.specs.Naming.{summary, summaries, summary_of}
 use Rattle.mini_laws.specs.Symbols.{is_same}
-use Rattle.mini_node.specs.Children.{part, rest_children}
-use Rattle.mini_node.specs.Kinds.{is_sequence_shape}
-use Rattle.mini_rows.specs.Sketches.{Head, AList, Unary, Binary, Logical, Conditional, Sequence, Call, New, StaticMember, ComputedMember, Yield, OfExpression, Throw, Return, If, shape_by, Asked, AsWholeItem, AsValue, AsValues, asked_below, Leap}
+use Rattle.mini_node.specs.Children.{part, is_nameless, rest_children}
+use Rattle.mini_node.specs.Kinds.{is_identifier}
+use Rattle.mini_rows.specs.Sketches.{Head, AList, Array, Unary, Binary, Logical, Conditional, Sequence, Call, New, StaticMember, ComputedMember, Yield, OfExpression, Throw, Return, If, shape_by, Asked, AsWholeItem, AsValue, AsValues, asked_below, Leap}
 use Rattle.mini_rows.specs.Lists.{declaration}
 use Rattle.mini_rows.specs.Declarations.{declarator}
-use Rattle.mini_rows.specs.Unused.{names, any_names, leads, is_childless, reads, is_first, put_first, reads_first, is_declarator, declares_list, reads_declarator, reads_declarators, reads_initially, reads_head, put_head}
-use Rattle.mini_rows.proofs.Arranging.{Plain, Local, Summed}
+use Rattle.mini_rows.specs.Unused.{is_like_one, names, any_names, begins, goes_on, leads, holds_list, is_childless, reads, is_first, leads_to, put_first, put_among, passes, are_passed, all_passed, reads_first, is_declarator, declares_list, reads_declarator, reads_declarators, reads_initially, reads_head, evaluated}
+use Rattle.mini_rows.proofs.Arranging.{Plain, Below, sum_below, Local, Summed}
 
 -- ---- what leads there
 
@@ -35,8 +37,14 @@ pub data Lead : Type 0 where
   Waiting : Bool → Lead
   Member : Lead
   Keyed : Lead
-  -- the list of a sequence's parts
-  Listing : Lead
+  Holding : Lead
+  -- after the first part
+  Against : BinaryOperator → Tree → Lead
+  Given : Tree → Lead
+  Filling : Tree → Lead
+  Keying : Tree → Lead
+  -- a list, after these parts
+  Listing : Trees → Lead
   -- statements
   Doing : Lead
   Giving : Lead
@@ -56,11 +64,30 @@ head_of Making = New
 head_of (Waiting d) = Yield d
 head_of Member = StaticMember false
 head_of Keyed = ComputedMember false
-head_of Listing = AList
+head_of Holding = Array
+head_of (Against o a) = Binary o
+head_of (Given a) = Call false
+head_of (Filling a) = New
+head_of (Keying a) = ComputedMember false
+head_of (Listing ts) = AList
 head_of Doing = OfExpression
 head_of Giving = Return
 head_of Raising = Throw
 head_of Testing = If
+
+-- the parts before
+abbrev pub before : Lead → Trees
+before (Against o a) = a ▸ none
+before (Given a) = a ▸ none
+before (Filling a) = a ▸ none
+before (Keying a) = a ▸ none
+before (Listing ts) = ts
+before l = none
+
+-- the place after some parts
+abbrev pub place : ℕ → Trees → ℕ
+place i none = i
+place i (t ▸ ts) = place (suc i) ts
 
 pub record Step : Type 0 where
   pub lead : Lead
@@ -68,7 +95,7 @@ pub record Step : Type 0 where
 
 abbrev pub led : List Step → Tree → Tree
 led [] u = u
-led (s ∷ ss) u = node (shape_by (head_of s.lead)) [] 0 (led ss u ▸ s.rest)
+led (s ∷ ss) u = node (shape_by (head_of s.lead)) [] 0 (append (before s.lead) (led ss u ▸ s.rest))
 
 abbrev pub is_end : List Step → Bool
 is_end [] = true
@@ -80,7 +107,7 @@ Stands AsWholeItem Doing at_end = Unit {0}
 Stands AsWholeItem Giving at_end = Unit {0}
 Stands AsWholeItem Raising at_end = Unit {0}
 Stands AsWholeItem Testing at_end = Unit {0}
-Stands AsValues Listing at_end = Unit {0}
+Stands AsValues (Listing ts) at_end = Unit {0}
 Stands AsValue Not at_end = Unit {0}
 Stands AsValue Plus at_end = Unit {0}
 Stands AsValue Tilde at_end = Unit {0}
@@ -93,16 +120,30 @@ Stands AsValue Making at_end = Unit {0}
 Stands AsValue (Waiting d) at_end = Unit {0}
 Stands AsValue Member at_end = Unit {0}
 Stands AsValue Keyed at_end = Unit {0}
+Stands AsValue Holding at_end = Unit {0}
+Stands AsValue (Against o a) at_end = Unit {0}
+Stands AsValue (Given a) at_end = Unit {0}
+Stands AsValue (Filling a) at_end = Unit {0}
+Stands AsValue (Keying a) at_end = Unit {0}
 Stands c l at_end = ⊥
 
 abbrev pub Well : Asked → List Step → Type 0
 Well AsValue [] = Unit {0}
 Well c [] = ⊥
-Well c (s ∷ ss) = Stands c s.lead (is_end ss) × Well (asked_below (head_of s.lead) c 0) ss
+Well c (s ∷ ss) = Stands c s.lead (is_end ss) × Well (asked_below (head_of s.lead) c (place 0 (before s.lead))) ss
 
 abbrev pub Spared : Name → List Step → Type 0
 Spared x [] = Unit {0}
-Spared x (s ∷ ss) = (any_names x s.rest ≡ false) × Spared x ss
+Spared x (s ∷ ss) = ((any_names x (before s.lead) ≡ false) × (any_names x s.rest ≡ false)) × Spared x ss
+
+-- each of these may be evaluated before r
+abbrev pub AllPass : Tree → Trees → Type 0
+AllPass r none = Unit {0}
+AllPass r (t ▸ ts) = (passes r t ≡ true) × AllPass r ts
+
+abbrev pub Passed : Tree → List Step → Type 0
+Passed r [] = Unit {0}
+Passed r (s ∷ ss) = AllPass r (before s.lead) × Passed r ss
 
 -- ---- a tree as such a path
 
@@ -113,39 +154,65 @@ pub record Path (x : Name) (c : Asked) (t : Tree) : Type 0 where
   pub spared : Spared x steps
   pub same : is_same x.symbol read.symbol ≡ true
   pub is : t ≡ led steps (identifier read)
-  pub puts : (r : Tree) → put_first r t ≡ led steps r
+  pub puts : (r : Tree) → put_first x r t ≡ led steps r
   pub ends : is_end steps ≡ is_childless t
+  pub passed : (r : Tree) → are_passed x r t ≡ true → Passed r steps
 
 abbrev asked : Bool → Asked
 asked true = AsValues
 asked false = AsValue
 
-record Leads (b c : Bool) (h : Shape) : Type 0 where
+record Leads (b c : Bool) (h : Shape) (ts : Trees) : Type 0 where
   lead : Lead
   is : shape_by (head_of lead) ≡ h
+  front : before lead ≡ ts
   stands : Stands (asked b) lead c
-  below : asked_below (head_of lead) (asked b) 0 ≡ asked (is_sequence_shape h)
+  below : asked_below (head_of lead) (asked b) (place 0 (before lead)) ≡ asked (holds_list h (place 0 ts))
 
 not_leaf : (c : Bool) → not c ≡ true → c ≡ false
 not_leaf true e = absurd (true≢false (sym e))
 not_leaf false e = refl
 
-lead_by : (b c : Bool) (h : Shape) → leads b h c ≡ true → Leads b c h
-lead_by true c shape.Listed e = record { lead = Listing; is = refl; stands = tt; below = refl }
-lead_by true c h e = absurd (true≢false (sym e))
-lead_by false c (shape.UnaryExpression LogicalNot) e = record { lead = Not; is = refl; stands = tt; below = refl }
-lead_by false c (shape.UnaryExpression UnaryPlus) e = record { lead = Plus; is = refl; stands = tt; below = refl }
-lead_by false c (shape.UnaryExpression BitwiseNot) e = record { lead = Tilde; is = refl; stands = tt; below = refl }
-lead_by false c (shape.BinaryExpression o) e = record { lead = Beside o; is = refl; stands = tt; below = refl }
-lead_by false c (shape.LogicalExpression o) e = record { lead = Deciding o; is = refl; stands = tt; below = refl }
-lead_by false c shape.ConditionalExpression e = record { lead = Choosing; is = refl; stands = tt; below = refl }
-lead_by false c shape.SequenceExpression e = record { lead = Passing; is = refl; stands = tt; below = refl }
-lead_by false c (shape.CallExpression false) e = record { lead = Called; is = refl; stands = not_leaf c e; below = refl }
-lead_by false c shape.NewExpression e = record { lead = Making; is = refl; stands = tt; below = refl }
-lead_by false c (shape.YieldExpression d) e = record { lead = Waiting d; is = refl; stands = tt; below = refl }
-lead_by false c (shape.StaticMemberExpression false) e = record { lead = Member; is = refl; stands = tt; below = refl }
-lead_by false c (shape.ComputedMemberExpression false) e = record { lead = Keyed; is = refl; stands = tt; below = refl }
-lead_by false c h e = absurd (true≢false (sym e))
+begun_by : (c : Bool) (h : Shape) → begins h c ≡ true → Leads false c h none
+begun_by c (shape.UnaryExpression LogicalNot) e = record { lead = Not; is = refl; front = refl; stands = tt; below = refl }
+begun_by c (shape.UnaryExpression UnaryPlus) e = record { lead = Plus; is = refl; front = refl; stands = tt; below = refl }
+begun_by c (shape.UnaryExpression BitwiseNot) e = record { lead = Tilde; is = refl; front = refl; stands = tt; below = refl }
+begun_by c (shape.BinaryExpression o) e = record { lead = Beside o; is = refl; front = refl; stands = tt; below = refl }
+begun_by c (shape.LogicalExpression o) e = record { lead = Deciding o; is = refl; front = refl; stands = tt; below = refl }
+begun_by c shape.ConditionalExpression e = record { lead = Choosing; is = refl; front = refl; stands = tt; below = refl }
+begun_by c shape.SequenceExpression e = record { lead = Passing; is = refl; front = refl; stands = tt; below = refl }
+begun_by c (shape.CallExpression false) e = record { lead = Called; is = refl; front = refl; stands = not_leaf c e; below = refl }
+begun_by c shape.NewExpression e = record { lead = Making; is = refl; front = refl; stands = tt; below = refl }
+begun_by c shape.ArrayExpression e = record { lead = Holding; is = refl; front = refl; stands = tt; below = refl }
+begun_by c (shape.YieldExpression d) e = record { lead = Waiting d; is = refl; front = refl; stands = tt; below = refl }
+begun_by c (shape.StaticMemberExpression false) e = record { lead = Member; is = refl; front = refl; stands = tt; below = refl }
+begun_by c (shape.ComputedMemberExpression false) e = record { lead = Keyed; is = refl; front = refl; stands = tt; below = refl }
+begun_by c h e = absurd (true≢false (sym e))
+
+gone_on_by : (c : Bool) (h : Shape) (a : Tree) → goes_on h ≡ true → Leads false c h (a ▸ none)
+gone_on_by c (shape.BinaryExpression o) a e = record { lead = Against o a; is = refl; front = refl; stands = tt; below = refl }
+gone_on_by c (shape.CallExpression false) a e = record { lead = Given a; is = refl; front = refl; stands = tt; below = refl }
+gone_on_by c shape.NewExpression a e = record { lead = Filling a; is = refl; front = refl; stands = tt; below = refl }
+gone_on_by c (shape.ComputedMemberExpression false) a e = record { lead = Keying a; is = refl; front = refl; stands = tt; below = refl }
+gone_on_by c h a e = absurd (true≢false (sym e))
+
+place_next : (i : ℕ) (ts : Trees) → place (suc i) ts ≡ suc (place i ts)
+place_next i none = refl
+place_next i (t ▸ ts) = place_next (suc i) ts
+
+no_later : (h : Shape) (c : Bool) (i : ℕ) → leads false h (suc (suc i)) c ≡ true → ⊥
+no_later h c i e = true≢false (sym e)
+
+no_list_of : (i : ℕ) → holds_list shape.Listed i ≡ false
+no_list_of zero = refl
+no_list_of (suc i) = refl
+
+lead_by : (b c : Bool) (h : Shape) (ts : Trees) → leads b h (place 0 ts) c ≡ true → Leads b c h ts
+lead_by true c shape.Listed ts e = record { lead = Listing ts; is = refl; front = refl; stands = tt; below = ap asked (sym (no_list_of (place 0 ts))) }
+lead_by true c h ts e = absurd (true≢false (sym e))
+lead_by false c h none e = begun_by c h e
+lead_by false c h (a ▸ none) e = gone_on_by c h a e
+lead_by false c h (a ▸ (d ▸ ts)) e = absurd (no_later h c (place 0 ts) (sym (ap (λ i. leads false h i c) (place_next 1 ts ∙ ap suc (place_next 0 ts))) ∙ e))
 
 not_true : (b : Bool) → not b ≡ true → b ≡ false
 not_true true e = absurd (true≢false (sym e))
@@ -155,53 +222,155 @@ read_is : (x : Name) (t : Tree) → reads x t ≡ true → (y : Name) × (t ≡ 
 read_is x (node shape.Identifier (y ∷ []) zero none) e = (y, refl, e)
 read_is x t e = absurd (true≢false (sym e))
 
-one_step : (x : Name) (b : Bool) (h : Shape) (t : Tree) (ts : Trees) → Leads b (is_childless t) h → Path x (asked (is_sequence_shape h)) t → any_names x ts ≡ false → Path x (asked b) (node h [] 0 (t ▸ ts))
-one_step x b h t ts l p f = record {
-  steps = record { lead = l.lead; rest = ts } ∷ p.steps;
-  read = p.read;
-  well = (subst (Stands (asked b) l.lead) (sym p.ends) l.stands, subst (λ c. Well c p.steps) (sym l.below) p.well);
-  spared = (f, p.spared);
-  same = p.same;
-  is = λ k. node (sym l.is k) [] 0 (p.is k ▸ ts);
-  puts = λ r k. node (sym l.is k) [] 0 (p.puts r k ▸ ts);
-  ends = refl;
+-- of some parts, from a place on, the one that reads it
+record Among (x : Name) (b : Bool) (h : Shape) (i : ℕ) (ts : Trees) : Type 0 where
+  first : Trees
+  one : Tree
+  rest : Trees
+  is : ts ≡ append first (one ▸ rest)
+  earlier : any_names x first ≡ false
+  later : any_names x rest ≡ false
+  leads : leads b h (place i first) (is_childless one) ≡ true
+  path : Path x (asked (holds_list h (place i first))) one
+  puts : (r : Tree) → put_among x r ts ≡ append first (put_first x r one ▸ rest)
+  passed : (r : Tree) → all_passed x r ts ≡ true → AllPass r first × (are_passed x r one ≡ true)
+
+this_one : (x : Name) (b : Bool) (h : Shape) (i : ℕ) (t : Tree) (ts : Trees) → names x t ≡ true → leads b h i (is_childless t) ≡ true → Path x (asked (holds_list h i)) t → any_names x ts ≡ false → Among x b h i (t ▸ ts)
+this_one x b h i t ts n l p f = record {
+  first = none;
+  one = t;
+  rest = ts;
+  is = refl;
+  earlier = refl;
+  later = f;
+  leads = l;
+  path = p;
+  puts = λ r. ap (λ c. if c then put_first x r t ▸ ts else t ▸ put_among x r ts) n;
+  passed = λ r e. (tt, sym (ap (λ c. if c then are_passed x r t else (passes r t && all_passed x r ts)) n) ∙ e);
 }
 
-pub path : (x : Name) (b : Bool) (t : Tree) → is_first x b t ≡ true → Path x (asked b) t
-path x true (node h ys n none) e = absurd (true≢false (sym e))
-path x false (node h ys n none) e =
-    let (y, is, same) = read_is x (node h ys n none) e in
-    record { steps = []; read = y; well = tt; spared = tt; same = same; is = is; puts = λ r. refl; ends = refl }
-path x b (node h [] zero (t ▸ ts)) e =
-    let (l, p) = and_parts (leads b h (is_childless t)) (is_first x (is_sequence_shape h) t && not (any_names x ts)) e in
-    let (q, f) = and_parts (is_first x (is_sequence_shape h) t) (not (any_names x ts)) p in
-    one_step x b h t ts (lead_by b (is_childless t) h l) (path x (is_sequence_shape h) t q) (not_true (any_names x ts) f)
-path x b (node h [] (suc n) (t ▸ ts)) e = absurd (true≢false (sym (and_parts (leads b h (is_childless t)) false e).1))
-path x b (node h (y ∷ ys) n (t ▸ ts)) e = absurd (true≢false (sym (and_parts (leads b h (is_childless t)) false e).1))
+later_one : (x : Name) (b : Bool) (h : Shape) (i : ℕ) (t : Tree) (ts : Trees) → names x t ≡ false → Among x b h (suc i) ts → Among x b h i (t ▸ ts)
+later_one x b h i t ts n a = record {
+  first = t ▸ a.first;
+  one = a.one;
+  rest = a.rest;
+  is = ap (λ us. t ▸ us) a.is;
+  earlier = ap (λ c. c || any_names x a.first) n ∙ a.earlier;
+  later = a.later;
+  leads = a.leads;
+  path = a.path;
+  puts = λ r. ap (λ c. if c then put_first x r t ▸ ts else t ▸ put_among x r ts) n ∙ ap (λ us. t ▸ us) (a.puts r);
+  passed = λ r e.
+      let (p, q) = and_parts (passes r t) (all_passed x r ts) (sym (ap (λ c. if c then are_passed x r t else (passes r t && all_passed x r ts)) n) ∙ e) in
+      let (f, g) = a.passed r q in
+      ((p, f), g);
+}
+
+one_step : (x : Name) (b : Bool) (h : Shape) (t : Tree) (ts : Trees) → Among x b h 0 (t ▸ ts) → Path x (asked b) (node h [] 0 (t ▸ ts))
+one_step x b h t ts a =
+    let l = lead_by b (is_childless a.one) h a.first a.leads in
+    let p = a.path in
+    let step : Step = record { lead = l.lead; rest = a.rest } in
+    let along : (r u : Tree) → u ≡ led p.steps r → node h [] 0 (append a.first (u ▸ a.rest)) ≡ led (step ∷ p.steps) r = λ r u e k. node (sym l.is k) [] 0 (append (sym l.front k) (e k ▸ a.rest)) in
+    record {
+      steps = step ∷ p.steps;
+      read = p.read;
+      well = (subst (Stands (asked b) l.lead) (sym p.ends) l.stands, subst (λ c. Well c p.steps) (sym l.below) p.well);
+      spared = ((ap (any_names x) l.front ∙ a.earlier, a.later), p.spared);
+      same = p.same;
+      is = ap (node h [] 0) a.is ∙ along (identifier p.read) a.one p.is;
+      puts = λ r. ap (node h [] 0) (a.puts r) ∙ along r (put_first x r a.one) (p.puts r);
+      ends = refl;
+      passed = λ r e. let (f, g) = a.passed r e in (subst (AllPass r) (sym l.front) f, p.passed r g);
+    }
+
+mutual
+  pub path : (x : Name) (b : Bool) (t : Tree) → is_first x b t ≡ true → Path x (asked b) t
+  path x true (node h ys n none) e = absurd (true≢false (sym e))
+  path x false (node h ys n none) e =
+      let (y, is, same) = read_is x (node h ys n none) e in
+      record { steps = []; read = y; well = tt; spared = tt; same = same; is = is; puts = λ r. refl; ends = refl; passed = λ r e. tt }
+  path x b (node h [] zero (t ▸ ts)) e = one_step x b h t ts (among x b h 0 (t ▸ ts) e)
+  path x b (node h [] (suc n) (t ▸ ts)) e = absurd (true≢false (sym e))
+  path x b (node h (y ∷ ys) n (t ▸ ts)) e = absurd (true≢false (sym e))
+
+  among : (x : Name) (b : Bool) (h : Shape) (i : ℕ) (ts : Trees) → leads_to x b h i ts ≡ true → Among x b h i ts
+  among x b h i none e = absurd (true≢false (sym e))
+  among x b h i (t ▸ ts) e = by (names x t) refl e (path x (holds_list h i) t) (among x b h (suc i) ts)
+    where
+      by : (c : Bool) → names x t ≡ c → (if c then (leads b h i (is_childless t) && (is_first x (holds_list h i) t && not (any_names x ts))) else leads_to x b h (suc i) ts) ≡ true → (is_first x (holds_list h i) t ≡ true → Path x (asked (holds_list h i)) t) → (leads_to x b h (suc i) ts ≡ true → Among x b h (suc i) ts) → Among x b h i (t ▸ ts)
+      by true n e f g =
+          let (l, p) = and_parts (leads b h i (is_childless t)) (is_first x (holds_list h i) t && not (any_names x ts)) e in
+          let (q, o) = and_parts (is_first x (holds_list h i) t) (not (any_names x ts)) p in
+          this_one x b h i t ts n l (f q) (not_true (any_names x ts) o)
+      by false n e f g = later_one x b h i t ts n (g e)
+
+-- what it reads it mentions
+or_true : (a b : Bool) → b ≡ true → (a || b) ≡ true
+or_true true b e = refl
+or_true false b e = e
+
+first_true : (a b : Bool) → a ≡ true → (a || b) ≡ true
+first_true true b e = refl
+first_true false b e = absurd (true≢false (sym e))
+
+mutual
+  pub mentioned : (x : Name) (b : Bool) (t : Tree) → is_first x b t ≡ true → names x t ≡ true
+  mentioned x b (node h [] n none) e = absurd (true≢false (sym (and_parts (is_identifier (node h [] n none)) false (and_parts (not b) (reads x (node h [] n none)) e).1).1))
+  mentioned x b (node h (y ∷ ys) n none) e =
+      let same = (and_parts (is_identifier (node h (y ∷ ys) n none)) (is_same x.symbol y.symbol) (and_parts (not b) (reads x (node h (y ∷ ys) n none)) e).1).1 in
+      first_true (is_like_one x (y ∷ ys)) false (first_true (same_text x.spelling y.spelling || is_same x.symbol y.symbol) (is_like_one x ys) (or_true (same_text x.spelling y.spelling) (is_same x.symbol y.symbol) same))
+  mentioned x b (node h ys n (t ▸ ts)) e = or_true (is_like_one x ys) (any_names x (t ▸ ts)) (any_mentioned x b h 0 (t ▸ ts) (and_parts (is_nameless (node h ys n (t ▸ ts))) (leads_to x b h 0 (t ▸ ts)) e).1)
+
+  any_mentioned : (x : Name) (b : Bool) (h : Shape) (i : ℕ) (ts : Trees) → leads_to x b h i ts ≡ true → any_names x ts ≡ true
+  any_mentioned x b h i none e = absurd (true≢false (sym e))
+  any_mentioned x b h i (t ▸ ts) e = by (names x t) e (any_mentioned x b h (suc i) ts)
+    where
+      by : (c : Bool) → (if c then (leads b h i (is_childless t) && (is_first x (holds_list h i) t && not (any_names x ts))) else leads_to x b h (suc i) ts) ≡ true → (leads_to x b h (suc i) ts ≡ true → any_names x ts ≡ true) → (c || any_names x ts) ≡ true
+      by true e f = refl
+      by false e f = f e
 
 -- a statement has at least one step
 pub record Statement (x : Name) (t : Tree) : Type 0 where
   pub lead : Lead
   pub stands : (b : Bool) → Stands AsWholeItem lead b
-  pub below : (c : Asked) → asked_below (head_of lead) c 0 ≡ AsValue
+  pub front : before lead ≡ none
+  pub below : (c : Asked) → asked_below (head_of lead) c (place 0 (before lead)) ≡ AsValue
   pub inner : Tree
   pub rest : Trees
   pub path : Path x AsValue inner
   pub free : any_names x rest ≡ false
   pub is : t ≡ node (shape_by (head_of lead)) [] 0 (inner ▸ rest)
+  pub puts : (r : Tree) → put_first x r t ≡ node (shape_by (head_of lead)) [] 0 (put_first x r inner ▸ rest)
+  pub along : (u : Tree) → node (shape_by (head_of lead)) [] 0 (u ▸ rest) ≡ led (record { lead = lead; rest = rest } ∷ []) u
+  pub passed : (r : Tree) → are_passed x r t ≡ true → are_passed x r inner ≡ true
 
 -- of this lead
-stated : (x : Name) (l : Lead) (t : Tree) (ts : Trees) → ((b : Bool) → Stands AsWholeItem l b) → ((c : Asked) → asked_below (head_of l) c 0 ≡ AsValue) → is_first x false t && not (any_names x ts) ≡ true → Statement x (node (shape_by (head_of l)) [] 0 (t ▸ ts))
-stated x l t ts s b e =
+stated : (x : Name) (l : Lead) (t : Tree) (ts : Trees) → ((b : Bool) → Stands AsWholeItem l b) → before l ≡ none → ((c : Asked) → asked_below (head_of l) c (place 0 (before l)) ≡ AsValue) → is_first x false t && not (any_names x ts) ≡ true → Statement x (node (shape_by (head_of l)) [] 0 (t ▸ ts))
+stated x l t ts s o b e =
     let (q, f) = and_parts (is_first x false t) (not (any_names x ts)) e in
-    record { lead = l; stands = s; below = b; inner = t; rest = ts; path = path x false t q; free = not_true (any_names x ts) f; is = refl }
+    let n = mentioned x false t q in
+    record {
+      lead = l;
+      stands = s;
+      front = o;
+      below = b;
+      inner = t;
+      rest = ts;
+      path = path x false t q;
+      free = not_true (any_names x ts) f;
+      is = refl;
+      puts = λ r. ap (λ c. node (shape_by (head_of l)) [] 0 (if c then put_first x r t ▸ ts else t ▸ put_among x r ts)) n;
+      along = λ u. ap (λ us. node (shape_by (head_of l)) [] 0 (append us (u ▸ ts))) (sym o);
+      passed = λ r e. sym (ap (λ c. if c then are_passed x r t else (passes r t && all_passed x r ts)) n) ∙ e;
+    }
 
 pub statement : (x : Name) (t : Tree) → reads_first x t ≡ true → Statement x t
 statement x (node h ys n none) e = absurd (true≢false (sym e))
-statement x (node shape.ExpressionStatement [] zero (t ▸ ts)) e = stated x Doing t ts (λ b. tt) (λ c. refl) e
-statement x (node shape.ReturnStatement [] zero (t ▸ ts)) e = stated x Giving t ts (λ b. tt) (λ c. refl) e
-statement x (node shape.ThrowStatement [] zero (t ▸ ts)) e = stated x Raising t ts (λ b. tt) (λ c. refl) e
-statement x (node shape.IfStatement [] zero (t ▸ ts)) e = stated x Testing t ts (λ b. tt) (λ c. refl) e
+statement x (node shape.ExpressionStatement [] zero (t ▸ ts)) e = stated x Doing t ts (λ b. tt) refl (λ c. refl) e
+statement x (node shape.ReturnStatement [] zero (t ▸ ts)) e = stated x Giving t ts (λ b. tt) refl (λ c. refl) e
+statement x (node shape.ThrowStatement [] zero (t ▸ ts)) e = stated x Raising t ts (λ b. tt) refl (λ c. refl) e
+statement x (node shape.IfStatement [] zero (t ▸ ts)) e = stated x Testing t ts (λ b. tt) refl (λ c. refl) e
 statement x t e = absurd (true≢false (sym e))
 
 -- a declaration does in its first initializer
@@ -214,7 +383,8 @@ pub record Initial (x : Name) (t : Tree) : Type 0 where
   pub other : names x binds ≡ false
   pub later : any_names x last ≡ false
   pub is : t ≡ declaration kind (declarator binds value ▸ last)
-  pub puts : (r : Tree) → put_head r t ≡ declaration kind (declarator binds (put_first r value) ▸ last)
+  pub puts : (r : Tree) → put_first x r t ≡ declaration kind (declarator binds (put_first x r value) ▸ last)
+  pub evaluates : evaluated t ≡ value
 
 no_first : (ts : Trees) → rest_children 0 ts ≡ ts
 no_first none = refl
@@ -229,6 +399,17 @@ a_declaration (node (shape.VariableDeclaration k) [] zero (node shape.Listed [] 
 a_declaration (node (shape.VariableDeclaration k) [] zero (u ▸ none)) e = absurd (true≢false (sym e))
 a_declaration t e = absurd (true≢false (sym e))
 
+-- the value alone is mentioned there
+put_initially : (x : Name) (k : VariableDeclarationKind) (binds value : Tree) (ds : Trees) → names x binds ≡ false → names x value ≡ true → (r : Tree) → put_first x r (declaration k (declarator binds value ▸ ds)) ≡ declaration k (declarator binds (put_first x r value) ▸ ds)
+put_initially x k binds value ds f n r =
+    let D = declarator binds value in
+    let L : Tree = listed (D ▸ ds) in
+    let one : (names x binds || (names x value || false)) ≡ true = λ i. f i || (n i || false) in
+    let list : ((names x binds || (names x value || false)) || any_names x ds) ≡ true = ap (λ c. c || any_names x ds) one in
+    let both : put_first x r D ≡ declarator binds (put_first x r value) = λ i. node shape.VariableDeclarator [] 0 (if f i then put_first x r binds ▸ (value ▸ none) else binds ▸ (if n i then put_first x r value ▸ none else value ▸ none)) in
+    let inner : put_first x r L ≡ listed (declarator binds (put_first x r value) ▸ ds) = ap (λ c. listed (if c then put_first x r D ▸ ds else D ▸ put_among x r ds)) one ∙ ap (λ u. listed (u ▸ ds)) both in
+    ap (λ c. node (shape.VariableDeclaration k) [] 0 (if c then put_first x r L ▸ none else L ▸ none)) list ∙ ap (λ u. node (shape.VariableDeclaration k) [] 0 (u ▸ none)) inner
+
 of_declarators : (x : Name) (k : VariableDeclarationKind) (ds : Trees) → reads_declarators x (listed ds) ≡ true → Initial x (declaration k ds)
 of_declarators x k none e = absurd (true≢false (sym e))
 of_declarators x k (d ▸ ds) e =
@@ -236,7 +417,9 @@ of_declarators x k (d ▸ ds) e =
     let (n, o) = and_parts (is_declarator d) (is_first x false (part d 1) && not (names x (part d 0))) p in
     let (a, b) = and_parts (is_first x false (part d 1)) (not (names x (part d 0))) o in
     let later = ap (any_names x) (sym (no_first ds)) ∙ not_true (any_names x (rest_children 0 ds)) q in
-    subst (λ u. Initial x (declaration k (u ▸ ds))) (sym (declarator_is d n)) (record { kind = k; binds = part d 0; value = part d 1; last = ds; once = a; other = not_true (names x (part d 0)) b; later = later; is = refl; puts = λ r. refl })
+    let other = not_true (names x (part d 0)) b in
+    subst (λ u. Initial x (declaration k (u ▸ ds))) (sym (declarator_is d n))
+    (record { kind = k; binds = part d 0; value = part d 1; last = ds; once = a; other = other; later = later; is = refl; puts = λ r. put_initially x k (part d 0) (part d 1) ds other (mentioned x false (part d 1) a) r; evaluates = refl })
 
 initially : (x : Name) (t : Tree) → reads_initially x t ≡ true → Initial x t
 initially x t e =
@@ -245,12 +428,12 @@ initially x t e =
     subst (Initial x) (sym is) (of_declarators x k (children (part t 0)) (sym (ap (λ u. reads_declarators x (part u 0)) is) ∙ s))
 
 -- a statement is no declaration
-stays : (x : Name) (t : Tree) → reads_first x t ≡ true → (r : Tree) → put_head r t ≡ put_first r t
-stays x t e r =
+stays : (x : Name) (t : Tree) → reads_first x t ≡ true → evaluated t ≡ t
+stays x t e =
     let s = statement x t e in
-    ap (put_head r) s.is ∙ by s.lead (s.stands true) (s.inner ▸ s.rest) ∙ sym (ap (put_first r) s.is)
+    ap evaluated s.is ∙ by s.lead (s.stands true) (s.inner ▸ s.rest) ∙ sym s.is
   where
-    by : (l : Lead) → Stands AsWholeItem l true → (ts : Trees) → put_head r (node (shape_by (head_of l)) [] 0 ts) ≡ put_first r (node (shape_by (head_of l)) [] 0 ts)
+    by : (l : Lead) → Stands AsWholeItem l true → (ts : Trees) → evaluated (node (shape_by (head_of l)) [] 0 ts) ≡ node (shape_by (head_of l)) [] 0 ts
     by Doing s ts = refl
     by Giving s ts = refl
     by Raising s ts = refl
@@ -258,10 +441,10 @@ stays x t e r =
     by l s ts = absurd s
 
 -- a head is a statement or a declaration
-pub heads : (x : Name) (t : Tree) → reads_head x t ≡ true → ((reads_first x t ≡ true) × ((r : Tree) → put_head r t ≡ put_first r t)) ⊎ Initial x t
+pub heads : (x : Name) (t : Tree) → reads_head x t ≡ true → ((reads_first x t ≡ true) × (evaluated t ≡ t)) ⊎ Initial x t
 heads x t e = by (reads_first x t) refl
   where
-    by : (b : Bool) → reads_first x t ≡ b → ((reads_first x t ≡ true) × ((r : Tree) → put_head r t ≡ put_first r t)) ⊎ Initial x t
+    by : (b : Bool) → reads_first x t ≡ b → ((reads_first x t ≡ true) × (evaluated t ≡ t)) ⊎ Initial x t
     by true f = inl (f, stays x t f)
     by false f = inr (initially x t (sym (ap (λ b. b || reads_initially x t) f) ∙ e))
 
@@ -271,35 +454,75 @@ plain_lead : (l : Lead) (ts : Trees) → Plain (head_of l) ts
 plain_lead Not ts = tt
 plain_lead l ts = tt
 
+-- among neighbours
+module _ (Q : Asked → Tree → Type 0) (cs : ℕ → Asked) where
+  swap_below : (i : ℕ) (ps : Trees) (t u : Tree) (ts : Trees) → (Q (cs (place i ps)) t → Q (cs (place i ps)) u) → Below Q cs i (append ps (t ▸ ts)) → Below Q cs i (append ps (u ▸ ts))
+  swap_below i none t u ts f a = (f a.0, a.1)
+  swap_below i (p ▸ ps) t u ts f a = (a.0, swap_below (suc i) ps t u ts f a.1)
+
+  one_below : (i : ℕ) (ps : Trees) (t : Tree) (ts : Trees) → Below Q cs i (append ps (t ▸ ts)) → Q (cs (place i ps)) t
+  one_below i none t ts a = a.0
+  one_below i (p ▸ ps) t ts a = one_below (suc i) ps t ts a.1
+
 module _ (J : Leap → Type 0) (Q : Asked → Tree → Type 0) (l : Local J Q) where
   pub swapped : (c : Asked) (ss : List Step) → Well c ss → (t r : Tree) → (Q AsValue t → Q AsValue r) → Q c (led ss t) → Q c (led ss r)
   swapped AsValue [] w t r f q = f q
   swapped c [] w t r f q = absurd w
   swapped c (s ∷ ss) w t r f q =
-      let (x, y) = l.down (head_of s.lead) c (led ss t ▸ s.rest) (plain_lead s.lead (led ss t ▸ s.rest)) q in
-      l.up (head_of s.lead) c (led ss r ▸ s.rest) (plain_lead s.lead (led ss r ▸ s.rest)) x (swapped (asked_below (head_of s.lead) c 0) ss w.1 t r f y.0, y.1)
+      let h = head_of s.lead in
+      let ps = before s.lead in
+      let kids = λ (u : Tree). append ps (led ss u ▸ s.rest) in
+      let (x, y) = l.down h c (kids t) (plain_lead s.lead (kids t)) q in
+      l.up h c (kids r) (plain_lead s.lead (kids r)) x (swap_below Q (asked_below h c) 0 ps (led ss t) (led ss r) s.rest (swapped (asked_below h c (place 0 ps)) ss w.1 t r f) y)
 
   pub taken : (c : Asked) (ss : List Step) → Well c ss → (r : Tree) → Q c (led ss r) → Q AsValue r
   taken AsValue [] w r q = q
   taken c [] w r q = absurd w
-  taken c (s ∷ ss) w r q = taken (asked_below (head_of s.lead) c 0) ss w.1 r (l.down (head_of s.lead) c (led ss r ▸ s.rest) (plain_lead s.lead (led ss r ▸ s.rest)) q).1.0
+  taken c (s ∷ ss) w r q =
+      let h = head_of s.lead in
+      let ps = before s.lead in
+      taken (asked_below h c (place 0 ps)) ss w.1 r (one_below Q (asked_below h c) 0 ps (led ss r) s.rest (l.down h c (append ps (led ss r ▸ s.rest)) (plain_lead s.lead (append ps (led ss r ▸ s.rest))) q).1)
+
+module _ (m : Asked → Tree → ℕ) (cs : ℕ → Asked) where
+  swap_sum : (i : ℕ) (ps : Trees) (t u : Tree) (ts : Trees) → sum_below m cs i (append ps (u ▸ ts)) + m (cs (place i ps)) t ≡ sum_below m cs i (append ps (t ▸ ts)) + m (cs (place i ps)) u
+  swap_sum i none t u ts = omega arith
+  swap_sum i (p ▸ ps) t u ts = let rest = swap_sum (suc i) ps t u ts in omega (arith, rest)
 
 module _ (m : Asked → Tree → ℕ) (l : Summed m) where
   pub swapped_sum : (c : Asked) (ss : List Step) → Well c ss → (t r : Tree) → m c (led ss r) + m AsValue t ≡ m c (led ss t) + m AsValue r
   swapped_sum AsValue [] w t r = omega arith
   swapped_sum c [] w t r = absurd w
   swapped_sum c (s ∷ ss) w t r =
-      let one = l (head_of s.lead) c (led ss t ▸ s.rest) (plain_lead s.lead (led ss t ▸ s.rest)) in
-      let other = l (head_of s.lead) c (led ss r ▸ s.rest) (plain_lead s.lead (led ss r ▸ s.rest)) in
-      let inner = swapped_sum (asked_below (head_of s.lead) c 0) ss w.1 t r in
-      omega (arith, one, other, inner)
+      let h = head_of s.lead in
+      let ps = before s.lead in
+      let kids = λ (u : Tree). append ps (led ss u ▸ s.rest) in
+      let one = l h c (kids t) (plain_lead s.lead (kids t)) in
+      let other = l h c (kids r) (plain_lead s.lead (kids r)) in
+      let inner = swapped_sum (asked_below h c (place 0 ps)) ss w.1 t r in
+      let beside = swap_sum m (asked_below h c) 0 ps (led ss t) (led ss r) s.rest in
+      omega (arith, one, other, inner, beside)
 
 -- what a parent reads of it
+summaries_put : (ps : Trees) (t u : Tree) (ts : Trees) → summary t ≡ summary u → summaries (append ps (t ▸ ts)) ≡ summaries (append ps (u ▸ ts))
+summaries_put none t u ts e = ap (λ i. i ∷ summaries ts) e
+summaries_put (p ▸ ps) t u ts e = ap (λ is. summary p ∷ is) (summaries_put ps t u ts e)
+
 pub summary_led : (ss : List Step) (t r : Tree) → summary t ≡ summary r → summary (led ss t) ≡ summary (led ss r)
 summary_led [] t r e = e
-summary_led (s ∷ ss) t r e = ap (λ i. summary_of (shape_by (head_of s.lead)) [] 0 (i ∷ summaries s.rest)) (summary_led ss t r e)
+summary_led (s ∷ ss) t r e = ap (summary_of (shape_by (head_of s.lead)) [] 0) (summaries_put (before s.lead) (led ss t) (led ss r) s.rest (summary_led ss t r e))
+
+pub summaries_led : (s : Step) (ss : List Step) (t r : Tree) → summary t ≡ summary r → summaries (append (before s.lead) (led ss t ▸ s.rest)) ≡ summaries (append (before s.lead) (led ss r ▸ s.rest))
+summaries_led s ss t r e = summaries_put (before s.lead) (led ss t) (led ss r) s.rest (summary_led ss t r e)
 
 -- a name that neither the rest nor what is put there mentions
+none_put : (x : Name) (ps : Trees) (t : Tree) (ts : Trees) → any_names x ps ≡ false → names x t ≡ false → any_names x ts ≡ false → any_names x (append ps (t ▸ ts)) ≡ false
+none_put x none t ts e f g = ap (λ b. b || any_names x ts) f ∙ g
+none_put x (p ▸ ps) t ts e f g = by (names x p) e (none_put x ps t ts)
+  where
+    by : (b : Bool) → (b || any_names x ps) ≡ false → (any_names x ps ≡ false → names x t ≡ false → any_names x ts ≡ false → any_names x (append ps (t ▸ ts)) ≡ false) → (b || any_names x (append ps (t ▸ ts))) ≡ false
+    by true e h = absurd (true≢false e)
+    by false e h = h e f g
+
 pub unnamed : (x : Name) (ss : List Step) → Spared x ss → (r : Tree) → names x r ≡ false → names x (led ss r) ≡ false
 unnamed x [] f r e = e
-unnamed x (s ∷ ss) f r e = ap (λ b. b || any_names x s.rest) (unnamed x ss f.1 r e) ∙ f.0
+unnamed x (s ∷ ss) f r e = none_put x (before s.lead) (led ss r) s.rest f.0.0 (unnamed x ss f.1 r e) f.0.1

@@ -1,4 +1,4 @@
--- What a tree weighs with another in the place of what it reads first.
+-- What a tree weighs with another in the place of what it reads.
 use Rattle.std.proofs.Common.{◌≡◌, ◌⊎◌, inl, inr, ℕ, suc, ◌+◌, ◌≤◌, Bool, true, false, [], ◌∷◌, List, Option, Some, None, refl, sym, ap, ◌∙◌, subst, true≢false, arith}
 use Rattle.std.specs.Prelude.{is_none, if◌then◌else◌}
 use Rattle.mini_model.specs.declared.kind.VariableDeclarationKind.{VariableDeclarationKind}
@@ -6,7 +6,7 @@ use Rattle.mini_model.specs.declared.kind.VariableDeclarationKind.TheVariants.{V
 use Rattle.mini_model.specs.declared.name.Name.{Name}
 use Rattle.mini_model.specs.declared.name.SymbolId.{SymbolId}
 use Rattle.mini_model.specs.declared.place.Position.{Position}
-use Rattle.mini_model.specs.declared.place.Position.TheVariants.{Expr, Stmt, SequenceList, Elsewhere}
+use Rattle.mini_model.specs.declared.place.Position.TheVariants.{Expr, Stmt, ArgumentList, SequenceList, Elsewhere}
 use Rattle.mini_model.specs.declared.seat.Seat.{Seat}
 use Rattle.mini_model.specs.declared.seat.StmtSeat.{StmtSeat}
 use Rattle.mini_model.specs.declared.seat.StmtSeat.TheVariants as stmt_seat
@@ -14,16 +14,16 @@ use Rattle.mini_model.specs.declared.shape.Shape.TheVariants as shape
 use Rattle.mini_model.specs.Tree.{Tree, Trees, node, none, ◌▸◌, count, identifier}
 use Rattle.mini_model.specs.Paths.{append}
 use Rattle.mini_model.specs.Position.{argument_seat, child_position}
-use Rattle.mini_model.specs.Weight.{Outline, commas_weight, outline, outlines, one_chooses, braces_weight, own_weight, spelled_weight, weight}
+use Rattle.mini_model.specs.Weight.{Outline, commas_weight, outline, outlines, one_chooses, braces_weight, own_weight, spelled_weight, weight, weights}
 use Rattle.mini_laws.specs.Symbols.{is_same}
 use Rattle.mini_terms.specs.Reading.{is_plain_part}
 use Rattle.mini_rows.specs.Declarations.{binding, declarator}
 use Rattle.mini_rows.specs.Lists.{block, declaration}
 use Rattle.mini_rows.specs.Sketches.{shape_by, Asked, AsWholeItem, AsValue, AsValues, asked_below}
-use Rattle.mini_rows.specs.Unused.{resolved, declared_among, declared_left, is_first, put_first, reads_first, put_head, reads_head}
+use Rattle.mini_rows.specs.Unused.{resolved, declared_among, declared_left, is_first, put_first, reads_first, reads_head, evaluated}
 use Rattle.mini_rows.proofs.BooleanWeights.{moved}
 use Rattle.mini_rows.proofs.ListWeights.{total, in_list, comma_list, declarators_append}
-use Rattle.mini_rows.proofs.SingleUse.{Lead, Not, Plus, Tilde, Beside, Deciding, Choosing, Passing, Called, Making, Waiting, Member, Keyed, Listing, Doing, Giving, Raising, Testing, head_of, Step, led, is_end, Stands, Well, Initial, heads, path, statement}
+use Rattle.mini_rows.proofs.SingleUse.{Lead, Not, Plus, Tilde, Beside, Deciding, Choosing, Passing, Called, Making, Waiting, Member, Keyed, Holding, Against, Given, Filling, Keying, Listing, Doing, Giving, Raising, Testing, head_of, before, place, Step, led, is_end, Stands, Well, Initial, heads, path, statement}
 
 -- ---- where the steps stand
 
@@ -31,16 +31,21 @@ abbrev Placed : Asked → Position → Type 0
 Placed AsWholeItem (Stmt q) = Unit {0}
 Placed AsValue (Expr s) = Unit {0}
 Placed AsValues (SequenceList s) = Unit {0}
+Placed AsValues ArgumentList = Unit {0}
 Placed c p = ⊥
 
-placed_statement : (l : Lead) (b : Bool) → Stands AsWholeItem l b → (p : Position) (n : ℕ) → Placed (asked_below (head_of l) AsWholeItem 0) (child_position (shape_by (head_of l)) p n 0)
+-- at its place below a step
+abbrev PlacedBelow : Asked → Lead → Position → ℕ → Type 0
+PlacedBelow c l p n = Placed (asked_below (head_of l) c (place 0 (before l))) (child_position (shape_by (head_of l)) p n (count (before l)))
+
+placed_statement : (l : Lead) (b : Bool) → Stands AsWholeItem l b → (p : Position) (n : ℕ) → PlacedBelow AsWholeItem l p n
 placed_statement Doing b s p n = tt
 placed_statement Giving b s p n = tt
 placed_statement Raising b s p n = tt
 placed_statement Testing b s p n = tt
 placed_statement l b s p n = absurd s
 
-placed_value : (l : Lead) (b : Bool) → Stands AsValue l b → (p : Position) (n : ℕ) → Placed (asked_below (head_of l) AsValue 0) (child_position (shape_by (head_of l)) p n 0)
+placed_value : (l : Lead) (b : Bool) → Stands AsValue l b → (p : Position) (n : ℕ) → PlacedBelow AsValue l p n
 placed_value Not b s p n = tt
 placed_value Plus b s p n = tt
 placed_value Tilde b s p n = tt
@@ -53,14 +58,20 @@ placed_value Making b s p n = tt
 placed_value (Waiting d) b s p n = tt
 placed_value Member b s p n = tt
 placed_value Keyed b s p n = tt
+placed_value Holding b s p n = tt
+placed_value (Against o a) b s p n = tt
+placed_value (Given a) b s p n = tt
+placed_value (Filling a) b s p n = tt
+placed_value (Keying a) b s p n = tt
 placed_value l b s p n = absurd s
 
-placed_part : (l : Lead) (b : Bool) → Stands AsValues l b → (p : Position) → Placed AsValues p → (n : ℕ) → Placed (asked_below (head_of l) AsValues 0) (child_position (shape_by (head_of l)) p n 0)
-placed_part Listing b s (SequenceList t) q n = tt
-placed_part Listing b s p q n = absurd q
+placed_part : (l : Lead) (b : Bool) → Stands AsValues l b → (p : Position) → Placed AsValues p → (n : ℕ) → PlacedBelow AsValues l p n
+placed_part (Listing ts) b s (SequenceList t) q n = tt
+placed_part (Listing ts) b s ArgumentList q n = tt
+placed_part (Listing ts) b s p q n = absurd q
 placed_part l b s p q n = absurd s
 
-placed_below : (c : Asked) (l : Lead) (b : Bool) → Stands c l b → (p : Position) → Placed c p → (n : ℕ) → Placed (asked_below (head_of l) c 0) (child_position (shape_by (head_of l)) p n 0)
+placed_below : (c : Asked) (l : Lead) (b : Bool) → Stands c l b → (p : Position) → Placed c p → (n : ℕ) → PlacedBelow c l p n
 placed_below AsWholeItem l b s p q n = placed_statement l b s p n
 placed_below AsValue l b s p q n = placed_value l b s p n
 placed_below AsValues l b s p q n = placed_part l b s p q n
@@ -68,38 +79,77 @@ placed_below c l b s p q n = absurd s
 
 -- ---- a step weighs the same
 
-same_statement : (l : Lead) (b : Bool) → Stands AsWholeItem l b → (q : StmtSeat) (o k : Outline) (os : List Outline) → own_weight (Stmt q) (shape_by (head_of l)) [] (o ∷ os) ≡ own_weight (Stmt q) (shape_by (head_of l)) [] (k ∷ os)
-same_statement Doing b s q o k os = refl
-same_statement Giving b s q o k os = refl
-same_statement Raising b s q o k os = refl
-same_statement Testing b s q o k os = refl
-same_statement l b s q o k os = absurd s
+-- with another child
+abbrev SameOwn : Position → Lead → Tree → Tree → Trees → Type 0
+SameOwn p l t u ts = own_weight p (shape_by (head_of l)) [] (outlines (append (before l) (t ▸ ts))) ≡ own_weight p (shape_by (head_of l)) [] (outlines (append (before l) (u ▸ ts)))
 
-same_value : (l : Lead) (b : Bool) → Stands AsValue l b → (t : Seat) (o k : Outline) (os : List Outline) → own_weight (Expr t) (shape_by (head_of l)) [] (o ∷ os) ≡ own_weight (Expr t) (shape_by (head_of l)) [] (k ∷ os)
-same_value Not b s t o k os = refl
-same_value Plus b s t o k os = refl
-same_value Tilde b s t o k os = refl
-same_value (Beside p) b s t o k os = refl
-same_value (Deciding p) b s t o k os = refl
-same_value Choosing b s t o k os = refl
-same_value Passing b s t o k os = refl
-same_value Called b s t o k os = refl
-same_value Making b s t o k os = refl
-same_value (Waiting d) b s t o k os = refl
-same_value Member b s t o k os = refl
-same_value Keyed b s t o k os = refl
-same_value l b s t o k os = absurd s
+same_statement : (l : Lead) (b : Bool) → Stands AsWholeItem l b → (q : StmtSeat) (t u : Tree) (ts : Trees) → SameOwn (Stmt q) l t u ts
+same_statement Doing b s q t u ts = refl
+same_statement Giving b s q t u ts = refl
+same_statement Raising b s q t u ts = refl
+same_statement Testing b s q t u ts = refl
+same_statement l b s q t u ts = absurd s
 
-same_parts : (l : Lead) (b : Bool) → Stands AsValues l b → (t : Seat) (o k : Outline) (os : List Outline) → own_weight (SequenceList t) (shape_by (head_of l)) [] (o ∷ os) ≡ own_weight (SequenceList t) (shape_by (head_of l)) [] (k ∷ os)
-same_parts Listing b s t o k [] = refl
-same_parts Listing b s t o k (p ∷ os) = refl
-same_parts l b s t o k os = absurd s
+same_value : (l : Lead) (b : Bool) → Stands AsValue l b → (q : Seat) (t u : Tree) (ts : Trees) → SameOwn (Expr q) l t u ts
+same_value Not b s q t u ts = refl
+same_value Plus b s q t u ts = refl
+same_value Tilde b s q t u ts = refl
+same_value (Beside p) b s q t u ts = refl
+same_value (Deciding p) b s q t u ts = refl
+same_value Choosing b s q t u ts = refl
+same_value Passing b s q t u ts = refl
+same_value Called b s q t u ts = refl
+same_value Making b s q t u ts = refl
+same_value (Waiting d) b s q t u ts = refl
+same_value Member b s q t u ts = refl
+same_value Keyed b s q t u ts = refl
+same_value Holding b s q t u ts = refl
+same_value (Against o a) b s q t u ts = refl
+same_value (Given a) b s q t u ts = refl
+same_value (Filling a) b s q t u ts = refl
+same_value (Keying a) b s q t u ts = refl
+same_value l b s q t u ts = absurd s
 
-same_own : (c : Asked) (l : Lead) (b : Bool) → Stands c l b → (p : Position) → Placed c p → (o k : Outline) (os : List Outline) → own_weight p (shape_by (head_of l)) [] (o ∷ os) ≡ own_weight p (shape_by (head_of l)) [] (k ∷ os)
-same_own AsWholeItem l b s (Stmt q) a o k os = same_statement l b s q o k os
-same_own AsValue l b s (Expr t) a o k os = same_value l b s t o k os
-same_own AsValues l b s (SequenceList t) a o k os = same_parts l b s t o k os
-same_own c l b s p a o k os = absurd a
+commas_put : (ps : Trees) (t u : Tree) (ts : Trees) → commas_weight (outlines (append ps (t ▸ ts))) ≡ commas_weight (outlines (append ps (u ▸ ts)))
+commas_put none t u none = refl
+commas_put none t u (v ▸ ts) = refl
+commas_put (p ▸ none) t u ts = ap (λ k. 2 + k) (commas_put none t u ts)
+commas_put (p ▸ (q ▸ ps)) t u ts = ap (λ k. 2 + k) (commas_put (q ▸ ps) t u ts)
+
+same_parts : (l : Lead) (b : Bool) → Stands AsValues l b → (q : Seat) (t u : Tree) (ts : Trees) → SameOwn (SequenceList q) l t u ts
+same_parts (Listing ps) b s q t u ts = ap (λ k. k + 0) (commas_put ps t u ts)
+same_parts l b s q t u ts = absurd s
+
+same_items : (l : Lead) (b : Bool) → Stands AsValues l b → (t u : Tree) (ts : Trees) → SameOwn ArgumentList l t u ts
+same_items (Listing ps) b s t u ts = ap (λ k. k + 0) (commas_put ps t u ts)
+same_items l b s t u ts = absurd s
+
+same_own : (c : Asked) (l : Lead) (b : Bool) → Stands c l b → (p : Position) → Placed c p → (t u : Tree) (ts : Trees) → SameOwn p l t u ts
+same_own AsWholeItem l b s (Stmt q) a t u ts = same_statement l b s q t u ts
+same_own AsValue l b s (Expr q) a t u ts = same_value l b s q t u ts
+same_own AsValues l b s (SequenceList q) a t u ts = same_parts l b s q t u ts
+same_own AsValues l b s ArgumentList a t u ts = same_items l b s t u ts
+same_own c l b s p a t u ts = absurd a
+
+-- among neighbours
+
+one_more : (ps : Trees) (t : Tree) (ts : Trees) → count (append ps (t ▸ ts)) ≡ suc (count ps + count ts)
+one_more none t ts = omega arith
+one_more (p ▸ ps) t ts = let rest = one_more ps t ts in omega (arith, rest)
+
+weights_put : (π : ℕ → Position) (ps : Trees) (t u : Tree) (ts : Trees) (k : ℕ) → weight (π (count ps)) u ≤ weight (π (count ps)) t + k → weights π (append ps (u ▸ ts)) ≤ weights π (append ps (t ▸ ts)) + k
+weights_put π none t u ts k h = omega (arith, h)
+weights_put π (p ▸ ps) t u ts k h = let rest = weights_put (λ i. π (suc i)) ps t u ts k h in omega (arith, rest)
+
+-- of a node whose own text weighs the same
+node_falls : (p : Position) (l : Lead) (t u : Tree) (ts : Trees) (k : ℕ) → SameOwn p l t u ts → ((n : ℕ) → weight (child_position (shape_by (head_of l)) p n (count (before l))) u ≤ weight (child_position (shape_by (head_of l)) p n (count (before l))) t + k) → weight p (node (shape_by (head_of l)) [] 0 (append (before l) (u ▸ ts))) ≤ weight p (node (shape_by (head_of l)) [] 0 (append (before l) (t ▸ ts))) + k
+node_falls p l t u ts k own h =
+    let n = suc (count (before l) + count ts) in
+    let π = λ (i : ℕ). child_position (shape_by (head_of l)) p n i in
+    let kids = weights_put π (before l) t u ts k (h n) in
+    let first = ap (λ m. weights (child_position (shape_by (head_of l)) p m) (append (before l) (t ▸ ts))) (one_more (before l) t ts) in
+    let second = ap (λ m. weights (child_position (shape_by (head_of l)) p m) (append (before l) (u ▸ ts))) (one_more (before l) u ts) in
+    omega (arith, own, kids, first, second)
 
 -- ---- the whole: parentheses and a mark more at most, and the name less
 
@@ -111,21 +161,21 @@ led_falls AsValue [] w (Expr s) a r f y e = let here = moved s argument_seat r f
 led_falls AsValue [] w p a r f y e = absurd a
 led_falls c [] w p a r f y e = absurd w
 led_falls c (s ∷ ss) w p a r f y e =
-    let own = same_own c s.lead (is_end ss) w.0 p a (outline (led ss r)) (outline (led ss (identifier y))) (outlines s.rest) in
-    let inner = led_falls (asked_below (head_of s.lead) c 0) ss w.1 (child_position (shape_by (head_of s.lead)) p (suc (count s.rest)) 0) (placed_below c s.lead (is_end ss) w.0 p a (suc (count s.rest))) r f y e in
-    omega (arith, own, inner)
+    node_falls p s.lead (led ss (identifier y)) (led ss r) s.rest (weight (Expr argument_seat) r + 3) (same_own c s.lead (is_end ss) w.0 p a (led ss (identifier y)) (led ss r) s.rest)
+    (λ n. led_falls (asked_below (head_of s.lead) c (place 0 (before s.lead))) ss w.1 (child_position (shape_by (head_of s.lead)) p n (count (before s.lead))) (placed_below c s.lead (is_end ss) w.0 p a n) r f y e)
 
 some_symbol : (k : ℕ) (y : Option SymbolId) → is_same (Some (record { 0 = k })) y ≡ true → is_none y ≡ false
 some_symbol k (Some y) e = refl
 some_symbol k None e = absurd (true≢false (sym e))
 
-head_falls : (s : List ℕ) (k : ℕ) (head : Tree) → reads_first (resolved s k) head ≡ true → (q : StmtSeat) (r : Tree) → is_plain_part r ≡ true → weight (Stmt q) (put_first r head) ≤ weight (Stmt q) head + (weight (Expr argument_seat) r + 3)
+head_falls : (s : List ℕ) (k : ℕ) (head : Tree) → reads_first (resolved s k) head ≡ true → (q : StmtSeat) (r : Tree) → is_plain_part r ≡ true → weight (Stmt q) (put_first (resolved s k) r head) ≤ weight (Stmt q) head + (weight (Expr argument_seat) r + 3)
 head_falls s k head e q r f =
     let t = statement (resolved s k) head e in
-    let steps : List Step = record { lead = t.lead; rest = t.rest } ∷ t.path.steps in
+    let step : Step = record { lead = t.lead; rest = t.rest } in
+    let steps : List Step = step ∷ t.path.steps in
     let falls = led_falls AsWholeItem steps (t.stands (is_end t.path.steps), subst (λ c. Well c t.path.steps) (sym (t.below AsWholeItem)) t.path.well) (Stmt q) tt r f t.path.read (some_symbol k t.path.read.symbol t.path.same) in
-    let there : head ≡ led steps (identifier t.path.read) = t.is ∙ ap (λ u. led (record { lead = t.lead; rest = t.rest } ∷ []) u) t.path.is in
-    let put : put_first r head ≡ led steps r = ap (put_first r) t.is ∙ ap (λ u. led (record { lead = t.lead; rest = t.rest } ∷ []) u) (t.path.puts r) in
+    let there : head ≡ led steps (identifier t.path.read) = t.is ∙ t.along t.inner ∙ ap (λ u. led (step ∷ []) u) t.path.is in
+    let put : put_first (resolved s k) r head ≡ led steps r = t.puts r ∙ t.along (put_first (resolved s k) r t.inner) ∙ ap (λ u. led (step ∷ []) u) (t.path.puts r) in
     omega (arith, falls, ap (weight (Stmt q)) there, ap (weight (Stmt q)) put)
 
 -- ---- where the next declarator reads it
@@ -134,8 +184,8 @@ led_stands : (ss : List Step) (t : Tree) → (outline t).absent ≡ false → (o
 led_stands [] t e = e
 led_stands (s ∷ ss) t e = by s.lead
   where
-    by : (l : Lead) → (outline (node (shape_by (head_of l)) [] 0 (led ss t ▸ s.rest))).absent ≡ false
-    by Listing = refl
+    by : (l : Lead) → (outline (node (shape_by (head_of l)) [] 0 (append (before l) (led ss t ▸ s.rest)))).absent ≡ false
+    by (Listing ts) = refl
     by l = refl
 
 plain_stands : (t : Tree) → is_plain_part t ≡ true → (outline t).absent ≡ false
@@ -146,14 +196,14 @@ plain_stands (node (shape.NumericLiteral m) xs n ts) e = refl
 plain_stands (node h xs n ts) e = refl
 
 -- the declarator with the initializer in it
-declarator_falls : (s : List ℕ) (k : ℕ) (binds value : Tree) → is_first (resolved s k) false value ≡ true → (r : Tree) → is_plain_part r ≡ true → weight Elsewhere (declarator binds (put_first r value)) ≤ weight Elsewhere (declarator binds value) + (weight (Expr argument_seat) r + 3)
+declarator_falls : (s : List ℕ) (k : ℕ) (binds value : Tree) → is_first (resolved s k) false value ≡ true → (r : Tree) → is_plain_part r ≡ true → weight Elsewhere (declarator binds (put_first (resolved s k) r value)) ≤ weight Elsewhere (declarator binds value) + (weight (Expr argument_seat) r + 3)
 declarator_falls s k binds value e r f =
     let p = path (resolved s k) false value e in
     let falls = led_falls AsValue p.steps p.well (Expr argument_seat) tt r f p.read (some_symbol k p.read.symbol p.same) in
     let stands = ap (λ t. (outline t).absent) p.is ∙ led_stands p.steps (identifier p.read) refl in
     let put_stands = ap (λ t. (outline t).absent) (p.puts r) ∙ led_stands p.steps r (plain_stands r f) in
     let own = λ (t : Tree) (h : (outline t).absent ≡ false). ap (λ b. own_weight Elsewhere shape.VariableDeclarator [] (outline binds ∷ (record (outline t) { absent = b } ∷ []))) h in
-    omega (arith, falls, own value stands, own (put_first r value) put_stands, ap (weight (Expr argument_seat)) p.is, ap (weight (Expr argument_seat)) (p.puts r))
+    omega (arith, falls, own value stands, own (put_first (resolved s k) r value) put_stands, ap (weight (Expr argument_seat)) p.is, ap (weight (Expr argument_seat)) (p.puts r))
 
 -- a comma less
 commas_less : (first : Trees) (d e f : Tree) (last : Trees) → commas_weight (outlines (append first (d ▸ (e ▸ last)))) ≡ commas_weight (outlines (append first (f ▸ last))) + 2
@@ -163,11 +213,11 @@ commas_less (t ▸ none) d e f none = refl
 commas_less (t ▸ none) d e f (u ▸ last) = omega arith
 commas_less (t ▸ (c ▸ first)) d e f last = let rest = commas_less (c ▸ first) d e f last in omega (arith, rest)
 
-pub next_falls : (K : VariableDeclarationKind) (s : List ℕ) (k : ℕ) (first : Trees) (init binds value : Tree) (last : Trees) → is_plain_part init ≡ true → is_first (resolved s k) false value ≡ true → total (declaration K (append first (declarator binds (put_first init value) ▸ last)) ▸ none) + 1 ≤ total (declared_among K (resolved s k) first init (declarator binds value ▸ last) ▸ none)
+pub next_falls : (K : VariableDeclarationKind) (s : List ℕ) (k : ℕ) (first : Trees) (init binds value : Tree) (last : Trees) → is_plain_part init ≡ true → is_first (resolved s k) false value ≡ true → total (declaration K (append first (declarator binds (put_first (resolved s k) init value) ▸ last)) ▸ none) + 1 ≤ total (declared_among K (resolved s k) first init (declarator binds value ▸ last) ▸ none)
 next_falls K s k first init binds value last f e =
     let d = declarator (binding (resolved s k)) init in
     let n = declarator binds value in
-    let put = declarator binds (put_first init value) in
+    let put = declarator binds (put_first (resolved s k) init value) in
     let falls = declarator_falls s k binds value e init f in
     omega (
       arith,
@@ -199,18 +249,18 @@ as_many_commas : (d e : Tree) (last : Trees) → commas_weight (outlines (d ▸ 
 as_many_commas d e none = refl
 as_many_commas d e (t ▸ last) = refl
 
-initial_falls : (s : List ℕ) (k : ℕ) (head : Tree) (t : Initial (resolved s k) head) (r : Tree) → is_plain_part r ≡ true → total (put_head r head ▸ none) ≤ total (head ▸ none) + (weight (Expr argument_seat) r + 3)
+initial_falls : (s : List ℕ) (k : ℕ) (head : Tree) (t : Initial (resolved s k) head) (r : Tree) → is_plain_part r ≡ true → total (put_first (resolved s k) r head ▸ none) ≤ total (head ▸ none) + (weight (Expr argument_seat) r + 3)
 initial_falls s k head t r f =
     let d = declarator t.binds t.value in
-    let put = declarator t.binds (put_first r t.value) in
+    let put = declarator t.binds (put_first (resolved s k) r t.value) in
     let falls = declarator_falls s k t.binds t.value t.once r f in
     omega (arith, falls, comma_list (d ▸ t.last), comma_list (put ▸ t.last), as_many_commas d put t.last, ap (λ u. total (u ▸ none)) t.is, ap (λ u. total (u ▸ none)) (t.puts r))
 
-either_falls : (s : List ℕ) (k : ℕ) (head : Tree) → reads_head (resolved s k) head ≡ true → (r : Tree) → is_plain_part r ≡ true → total (put_head r head ▸ none) ≤ total (head ▸ none) + (weight (Expr argument_seat) r + 3)
+either_falls : (s : List ℕ) (k : ℕ) (head : Tree) → reads_head (resolved s k) head ≡ true → (r : Tree) → is_plain_part r ≡ true → total (put_first (resolved s k) r head ▸ none) ≤ total (head ▸ none) + (weight (Expr argument_seat) r + 3)
 either_falls s k head e r f = by (heads (resolved s k) head e)
   where
-    by : ((reads_first (resolved s k) head ≡ true) × ((r : Tree) → put_head r head ≡ put_first r head)) ⊎ Initial (resolved s k) head → total (put_head r head ▸ none) ≤ total (head ▸ none) + (weight (Expr argument_seat) r + 3)
-    by (inl (o, p)) = let falls = head_falls s k head o stmt_seat.List r f in omega (arith, falls, ap (λ u. total (u ▸ none)) (p r))
+    by : ((reads_first (resolved s k) head ≡ true) × (evaluated head ≡ head)) ⊎ Initial (resolved s k) head → total (put_first (resolved s k) r head ▸ none) ≤ total (head ▸ none) + (weight (Expr argument_seat) r + 3)
+    by (inl (o, p)) = let falls = head_falls s k head o stmt_seat.List r f in omega (arith, falls)
     by (inr t) = initial_falls s k head t r f
 
 -- ---- the block
@@ -220,14 +270,14 @@ no_choice none after d e v w = refl
 no_choice (t ▸ none) after d e v w = refl
 no_choice (t ▸ (u ▸ before)) after d e v w = refl
 
-pub single_falls : (q : StmtSeat) (before : Trees) (K : VariableDeclarationKind) (first : Trees) (s : List ℕ) (k : ℕ) (init head : Tree) (after : Trees) → is_plain_part init ≡ true → reads_head (resolved s k) head ≡ true → weight (Stmt q) (block (append before (declared_left K first ▸ (put_head init head ▸ after)))) + 1 ≤ weight (Stmt q) (block (append before (declared_among K (resolved s k) first init none ▸ (head ▸ after))))
+pub single_falls : (q : StmtSeat) (before : Trees) (K : VariableDeclarationKind) (first : Trees) (s : List ℕ) (k : ℕ) (init head : Tree) (after : Trees) → is_plain_part init ≡ true → reads_head (resolved s k) head ≡ true → weight (Stmt q) (block (append before (declared_left K first ▸ (put_first (resolved s k) init head ▸ after)))) + 1 ≤ weight (Stmt q) (block (append before (declared_among K (resolved s k) first init none ▸ (head ▸ after))))
 single_falls q before K first s k init head after f e =
     let x = resolved s k in
     let d = declared_among K x first init none in
     let left = declared_left K first in
     let one = left_falls K x first init in
     let other = either_falls s k head e init f in
-    let less : total (left ▸ (put_head init head ▸ none)) + 1 ≤ total (d ▸ (head ▸ none)) = omega (arith, one, other) in
-    let falls = in_list before (d ▸ (head ▸ none)) (left ▸ (put_head init head ▸ none)) after 1 less in
-    let braces = ap (braces_weight q) (no_choice before after d head left (put_head init head)) in
+    let less : total (left ▸ (put_first (resolved s k) init head ▸ none)) + 1 ≤ total (d ▸ (head ▸ none)) = omega (arith, one, other) in
+    let falls = in_list before (d ▸ (head ▸ none)) (left ▸ (put_first (resolved s k) init head ▸ none)) after 1 less in
+    let braces = ap (braces_weight q) (no_choice before after d head left (put_first (resolved s k) init head)) in
     omega (arith, falls, braces)

@@ -53,7 +53,7 @@ use Rattle.mini_terms.specs.Reading.{is_plain_part}
 use Rattle.mini_rows.specs.Arranged.{Vanishes}
 use Rattle.mini_rows.specs.Lists.{block, declares_nothing, declaration}
 use Rattle.mini_rows.specs.Declarations.{binding, declarator}
-use Rattle.mini_rows.specs.Unused.{resolved, declared_one, any_names, is_idle, may_move, is_first, reads_first, reads_head, BlockRow, declared_among, declared_left, put_first, put_head}
+use Rattle.mini_rows.specs.Unused.{resolved, declared_one, any_names, is_idle, may_move, is_first, reads_first, reads_head, BlockRow, declared_among, declared_left, put_first, evaluated}
 use Rattle.mini_rows.proofs.ArrangedBodies.{quiet}
 use Rattle.mini_rows.proofs.FoldLawful.{vanishes}
 use Rattle.mini_rows.proofs.ListShapes.{declaration_anywhere, append_fits, both_fit, first_fits, more_fit}
@@ -169,25 +169,25 @@ first_left_fits strict k (t ▸ first) e =
     ∙ both (nat_le 1 (count (t ▸ first))) (fill strict (each (one a_declarator)) (t ▸ first) && true) (le-leb 1 (count (t ▸ first)) (omega arith)) (both (fill strict (each (one a_declarator)) (t ▸ first)) true e refl)
 
 -- so does a declaration whose first initializer has another tree in it
-initial_fits : (strict : Bool) (x : Name) (head : Tree) (t : Initial x head) (r : Tree) → fits strict (one an_expression) r ≡ true → fits strict item head ≡ true → fits strict item (put_head r head) ≡ true
+initial_fits : (strict : Bool) (x : Name) (head : Tree) (t : Initial x head) (r : Tree) → fits strict (one an_expression) r ≡ true → fits strict item head ≡ true → fits strict item (put_first x r head) ≡ true
 initial_fits strict x head t r f e =
     let ds : Trees = declarator t.binds t.value ▸ t.last in
-    let d = declarator t.binds (put_first r t.value) in
+    let d = declarator t.binds (put_first x r t.value) in
     let all = (and_parts (nat_le 1 (count ds)) (fill strict (each (one a_declarator)) ds && true) (sym (declaration_anywhere strict nested t.kind ds) ∙ sym (ap (fits strict item) t.is) ∙ e)).1 in
     let (there, others) = first_fits strict (one a_declarator) (declarator t.binds t.value) t.last (left (fill strict (each (one a_declarator)) ds) true all) in
     let (bound, given) = and_parts (fits strict (one a_pattern) t.binds) (fits strict (one_or_absent an_expression) t.value && true) there in
     let put = put_initial strict x t.value t.once r f (left (fits strict (one_or_absent an_expression) t.value) true given) in
-    let them = more_fit strict (one a_declarator) d t.last (both (fits strict (one a_pattern) t.binds) (fits strict (one_or_absent an_expression) (put_first r t.value) && true) bound (both (fits strict (one_or_absent an_expression) (put_first r t.value)) true put refl)) others in
+    let them = more_fit strict (one a_declarator) d t.last (both (fits strict (one a_pattern) t.binds) (fits strict (one_or_absent an_expression) (put_first x r t.value) && true) bound (both (fits strict (one_or_absent an_expression) (put_first x r t.value)) true put refl)) others in
     ap (fits strict item) (t.puts r) ∙ declaration_anywhere strict nested t.kind (d ▸ t.last) ∙ both (nat_le 1 (count (d ▸ t.last))) (fill strict (each (one a_declarator)) (d ▸ t.last) && true) (le-leb 1 (count (d ▸ t.last)) (omega arith)) (both (fill strict (each (one a_declarator)) (d ▸ t.last)) true them refl)
 
-head_fits : (strict : Bool) (x : Name) (head : Tree) → reads_head x head ≡ true → (r : Tree) → fits strict (one an_expression) r ≡ true → fits strict item head ≡ true → fits strict item (put_head r head) ≡ true
+head_fits : (strict : Bool) (x : Name) (head : Tree) → reads_head x head ≡ true → (r : Tree) → fits strict (one an_expression) r ≡ true → fits strict item head ≡ true → fits strict item (put_first x r head) ≡ true
 head_fits strict x head once r f e = by (heads x head once)
   where
-    by : ((reads_first x head ≡ true) × ((r : Tree) → put_head r head ≡ put_first r head)) ⊎ Initial x head → fits strict item (put_head r head) ≡ true
-    by (inl (o, p)) = ap (fits strict item) (p r) ∙ put_fits strict x head o r f e
+    by : ((reads_first x head ≡ true) × (evaluated head ≡ head)) ⊎ Initial x head → fits strict item (put_first x r head) ≡ true
+    by (inl (o, p)) = put_fits strict x head o r f e
     by (inr t) = initial_fits strict x head t r f e
 
-pub single_fits : (strict : Bool) (k : VariableDeclarationKind) (x : Name) (first : Trees) (init head : Tree) → may_move init ≡ true → reads_head x head ≡ true → fits strict item (declared_among k x first init none) ≡ true → fits strict item head ≡ true → (fits strict item (declared_left k first) ≡ true) × (fits strict item (put_head init head) ≡ true)
+pub single_fits : (strict : Bool) (k : VariableDeclarationKind) (x : Name) (first : Trees) (init head : Tree) → may_move init ≡ true → reads_head x head ≡ true → fits strict item (declared_among k x first init none) ≡ true → fits strict item head ≡ true → (fits strict item (declared_left k first) ≡ true) × (fits strict item (put_first x init head) ≡ true)
 single_fits strict k x first init head m r e f =
     let ds : Trees = append first (declarator (binding x) init ▸ none) in
     let all = (and_parts (nat_le 1 (count ds)) (fill strict (each (one a_declarator)) ds && true) (sym (declaration_anywhere strict nested k ds) ∙ e)).1 in
@@ -197,9 +197,9 @@ single_fits strict k x first init head m r e f =
     let moves = plain_there strict init (movable init m) (left (fits strict (one_or_absent an_expression) init) true value) in
     (first_left_fits strict k first g, head_fits strict x head r init moves f)
 
-pub next_fits : (strict : Bool) (k : VariableDeclarationKind) (x : Name) (first : Trees) (init binds value : Tree) (last : Trees) → may_move init ≡ true → is_first x false value ≡ true → fits strict item (declared_among k x first init (declarator binds value ▸ last)) ≡ true → fits strict item (declaration k (append first (declarator binds (put_first init value) ▸ last))) ≡ true
+pub next_fits : (strict : Bool) (k : VariableDeclarationKind) (x : Name) (first : Trees) (init binds value : Tree) (last : Trees) → may_move init ≡ true → is_first x false value ≡ true → fits strict item (declared_among k x first init (declarator binds value ▸ last)) ≡ true → fits strict item (declaration k (append first (declarator binds (put_first x init value) ▸ last))) ≡ true
 next_fits strict k x first init binds value last m once e =
-    let d = declarator binds (put_first init value) in
+    let d = declarator binds (put_first x init value) in
     let ds : Trees = append first (declarator (binding x) init ▸ (declarator binds value ▸ last)) in
     let all = (and_parts (nat_le 1 (count ds)) (fill strict (each (one a_declarator)) ds && true) (sym (declaration_anywhere strict nested k ds) ∙ e)).1 in
     let (f, g) = both_fit strict (one a_declarator) first (declarator (binding x) init ▸ (declarator binds value ▸ last)) (left (fill strict (each (one a_declarator)) ds) true all) in
@@ -209,13 +209,13 @@ next_fits strict k x first init binds value last m once e =
     let (bound, given) = and_parts (fits strict (one a_pattern) binds) (fits strict (one_or_absent an_expression) value && true) next_there in
     let moves = plain_there strict init (movable init m) (left (fits strict (one_or_absent an_expression) init) true initial) in
     let put = put_initial strict x value once init moves (left (fits strict (one_or_absent an_expression) value) true given) in
-    let there_now = both (fits strict (one a_pattern) binds) (fits strict (one_or_absent an_expression) (put_first init value) && true) bound (both (fits strict (one_or_absent an_expression) (put_first init value)) true put refl) in
+    let there_now = both (fits strict (one a_pattern) binds) (fits strict (one_or_absent an_expression) (put_first x init value) && true) bound (both (fits strict (one_or_absent an_expression) (put_first x init value)) true put refl) in
     let them = append_fits strict (one a_declarator) first (d ▸ last) f (more_fit strict (one a_declarator) d last there_now others) in
     declaration_anywhere strict nested k (append first (d ▸ last)) ∙ both (nat_le 1 (count (append first (d ▸ last)))) (fill strict (each (one a_declarator)) (append first (d ▸ last)) && true) (some first) (both (fill strict (each (one a_declarator)) (append first (d ▸ last))) true them refl)
   where
-    some : (first : Trees) → nat_le 1 (count (append first (declarator binds (put_first init value) ▸ last))) ≡ true
-    some none = le-leb 1 (count (declarator binds (put_first init value) ▸ last)) (omega arith)
-    some (t ▸ first) = le-leb 1 (count (t ▸ append first (declarator binds (put_first init value) ▸ last))) (omega arith)
+    some : (first : Trees) → nat_le 1 (count (append first (declarator binds (put_first x init value) ▸ last))) ≡ true
+    some none = le-leb 1 (count (declarator binds (put_first x init value) ▸ last)) (omega arith)
+    some (t ▸ first) = le-leb 1 (count (t ▸ append first (declarator binds (put_first x init value) ▸ last))) (omega arith)
 
 -- ---- a name that is dropped
 
@@ -318,14 +318,14 @@ row_dropped q n w (inr (inr (inl r))) =
     let x = resolved r.spelling r.symbol in
     let plain = movable r.init r.moves in (
       r.symbol,
-      moved q r.symbol n w _ _ r.shape r.written (dropped q r.spelling r.symbol r.before r.after (declared_among r.kind x r.first r.init none ▸ (r.head ▸ none)) (declared_left r.kind r.first ▸ (put_head r.init r.head ▸ none)) (head_leaves r.kind x r.symbol refl r.first r.init r.head plain r.once r.initial r.declared_earlier) (head_names r.kind x r.symbol refl r.first r.init r.head plain r.once r.initial r.declared_earlier (lexical_alone r.kind r.goes)) r.earlier r.later
-          (λ e z. in_tails e q (alone (Declared r.symbol)) _ _ (row_71 e r.symbol z _ _ (record { before = r.before; kind = r.kind; first = r.first; spelling = r.spelling; symbol = r.symbol; init = r.init; head = r.head; after = r.after; goes = r.goes; moves = r.moves; once = r.once; earlier = r.earlier; declared_earlier = r.declared_earlier; initial = r.initial; later = r.later; unseen = r.unseen; shape = refl; written = refl }) refl))),
+      moved q r.symbol n w _ _ r.shape r.written (dropped q r.spelling r.symbol r.before r.after (declared_among r.kind x r.first r.init none ▸ (r.head ▸ none)) (declared_left r.kind r.first ▸ (put_first x r.init r.head ▸ none)) (head_leaves r.kind x r.symbol refl r.first r.init r.head plain r.once r.initial r.declared_earlier) (head_names r.kind x r.symbol refl r.first r.init r.head plain r.once r.initial r.declared_earlier (lexical_alone r.kind r.goes)) r.earlier r.later
+          (λ e z. in_tails e q (alone (Declared r.symbol)) _ _ (row_71 e r.symbol z _ _ (record { before = r.before; kind = r.kind; first = r.first; spelling = r.spelling; symbol = r.symbol; init = r.init; head = r.head; after = r.after; goes = r.goes; moves = r.moves; once = r.once; passed = r.passed; earlier = r.earlier; declared_earlier = r.declared_earlier; initial = r.initial; later = r.later; unseen = r.unseen; shape = refl; written = refl }) refl))),
     )
 row_dropped q n w (inr (inr (inr r))) =
     let x = resolved r.spelling r.symbol in (
       r.symbol,
-      moved q r.symbol n w _ _ r.shape r.written (dropped q r.spelling r.symbol r.before r.after (declared_among r.kind x r.first r.init (declarator r.binds r.value ▸ r.last) ▸ none) (declaration r.kind (append r.first (declarator r.binds (put_first r.init r.value) ▸ r.last)) ▸ none) (next_leaves r.kind x r.symbol refl r.first r.init r.binds r.value r.last r.once r.declared_earlier r.initial r.other r.declared_later) (next_names r.kind x r.symbol refl r.first r.init r.binds r.value r.last r.once r.declared_earlier r.initial r.other r.declared_later (lexical_alone r.kind r.goes)) r.earlier r.later
-          (λ e z. in_tails e q (alone (Declared r.symbol)) _ _ (row_71_next e r.symbol z _ _ (record { before = r.before; kind = r.kind; first = r.first; spelling = r.spelling; symbol = r.symbol; init = r.init; binds = r.binds; value = r.value; last = r.last; after = r.after; goes = r.goes; moves = r.moves; once = r.once; other = r.other; earlier = r.earlier; declared_earlier = r.declared_earlier; initial = r.initial; declared_later = r.declared_later; later = r.later; unseen = r.unseen; shape = refl; written = refl }) refl))),
+      moved q r.symbol n w _ _ r.shape r.written (dropped q r.spelling r.symbol r.before r.after (declared_among r.kind x r.first r.init (declarator r.binds r.value ▸ r.last) ▸ none) (declaration r.kind (append r.first (declarator r.binds (put_first x r.init r.value) ▸ r.last)) ▸ none) (next_leaves r.kind x r.symbol refl r.first r.init r.binds r.value r.last r.once r.declared_earlier r.initial r.other r.declared_later) (next_names r.kind x r.symbol refl r.first r.init r.binds r.value r.last r.once r.declared_earlier r.initial r.other r.declared_later (lexical_alone r.kind r.goes)) r.earlier r.later
+          (λ e z. in_tails e q (alone (Declared r.symbol)) _ _ (row_71_next e r.symbol z _ _ (record { before = r.before; kind = r.kind; first = r.first; spelling = r.spelling; symbol = r.symbol; init = r.init; binds = r.binds; value = r.value; last = r.last; after = r.after; goes = r.goes; moves = r.moves; once = r.once; passed = r.passed; other = r.other; earlier = r.earlier; declared_earlier = r.declared_earlier; initial = r.initial; declared_later = r.declared_later; later = r.later; unseen = r.unseen; shape = refl; written = refl }) refl))),
     )
 
 record Blocks (n w : Tree) : Type 0 where
@@ -350,15 +350,15 @@ row_blocks q n w (inr (inr (inl r))) =
     let left = declared_left r.kind r.first in
     record {
       first = append r.before (d ▸ (r.head ▸ r.after));
-      second = append r.before (left ▸ (put_head r.init r.head ▸ r.after));
+      second = append r.before (left ▸ (put_first x r.init r.head ▸ r.after));
       before = r.shape;
       after = r.written;
-      fitting = λ strict. two_items strict r.before r.after d r.head left (put_head r.init r.head) (λ f g. single_fits strict r.kind x r.first r.init r.head r.moves r.once f g);
+      fitting = λ strict. two_items strict r.before r.after d r.head left (put_first x r.init r.head) (λ f g. single_fits strict r.kind x r.first r.init r.head r.moves r.once f g);
     }
 row_blocks q n w (inr (inr (inr r))) =
     let x = resolved r.spelling r.symbol in
     let d = declared_among r.kind x r.first r.init (declarator r.binds r.value ▸ r.last) in
-    let left = declaration r.kind (append r.first (declarator r.binds (put_first r.init r.value) ▸ r.last)) in
+    let left = declaration r.kind (append r.first (declarator r.binds (put_first x r.init r.value) ▸ r.last)) in
     record { first = append r.before (d ▸ r.after); second = append r.before (left ▸ r.after); before = r.shape; after = r.written; fitting = λ strict. one_item strict r.before r.after d left (next_fits strict r.kind x r.first r.init r.binds r.value r.last r.moves r.once) }
 
 -- of two blocks, whatever is told by their shape

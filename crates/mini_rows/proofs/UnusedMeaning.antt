@@ -39,7 +39,7 @@ use Rattle.mini_node.specs.Kinds.{is_absent_part}
 use Rattle.mini_node.specs.Made.{absent_is}
 use Rattle.mini_terms.specs.Folds.{is_effect_free}
 use Rattle.mini_terms.specs.Parts.{leaves_nothing}
-use Rattle.mini_terms.specs.Reading.{is_plain_part}
+use Rattle.mini_terms.specs.Reading.{is_item, is_plain_part}
 use Rattle.mini_terms.proofs.Dropping.{does_nothing, weak}
 use Rattle.mini_rows.specs.Cases.{switch_case}
 use Rattle.mini_rows.specs.Lists.{block, switch, declaration, declares_nothing}
@@ -47,7 +47,6 @@ use Rattle.mini_rows.specs.Declarations.{binding, declarator}
 use Rattle.mini_rows.specs.Sketches.{shape_by, AsWholeItem}
 use Rattle.mini_rows.specs.Unused.{resolved, names, any_names, declared_among, declared_one, is_idle, declared_left, is_definition, may_move, put_first, reads_first, statements, static_block, lets_go, Row72, Row72Idle, Row71}
 use Rattle.mini_rows.proofs.FoldMeaning.{plain_read}
-use Rattle.mini_rows.proofs.SingleUse.{Lead, Doing, Giving, Raising, Testing, head_of, Step, led, is_end, Stands, Well, statement, unnamed}
 use Rattle.mini_rows.proofs.SingleMeaning.{first_goes}
 use Rattle.mini_rows.proofs.UnusedNames.{avoided, all_avoided}
 use Rattle.mini_rows.proofs.ListStretches.{lets_append, functions_append, facts_append, texts_append, exec_one, exec_two, listed_is}

@@ -19,7 +19,7 @@ use Rattle.mini_node.specs.Kinds.{is_listed_shape}
 use Rattle.mini_rows.specs.Lists.{block, declares_nothing, declaration}
 use Rattle.mini_rows.specs.Declarations.{binding, declarator}
 use Rattle.mini_rows.specs.Sketches.{shape_by, AsWholeItem}
-use Rattle.mini_rows.specs.Unused.{resolved, names, any_names, declared_one, declared_among, declared_left, is_idle, may_move, is_first, reads_first, put_first, reads_head, put_head, lets_go, BlockRow}
+use Rattle.mini_rows.specs.Unused.{resolved, names, any_names, declared_one, declared_among, declared_left, is_idle, may_move, is_first, reads_first, put_first, are_passed, reads_head, evaluated, lets_go, BlockRow}
 use Rattle.mini_rows.proofs.ListShapes.{declaration_anywhere, first_fits, more_fit}
 use Rattle.mini_rows.proofs.SingleUse.{Lead, Doing, Giving, Raising, Testing, head_of, Stands, statement, Initial, heads}
 use Rattle.mini_rows.proofs.HeadKept.{head_leaves, head_declares, head_names}
@@ -148,25 +148,25 @@ record StandsThere (head put : Tree) : Type 0 where
   head_ported : (rest : Trees) → ports true (head ▸ rest) ≡ ports true rest
   put_ported : (rest : Trees) → ports true (put ▸ rest) ≡ ports true rest
 
-statement_there : (x : Name) (head : Tree) → reads_first x head ≡ true → (init : Tree) → StandsThere head (put_first init head)
+statement_there : (x : Name) (head : Tree) → reads_first x head ≡ true → (init : Tree) → StandsThere head (put_first x init head)
 statement_there x head once init =
     let t = statement x head once in
     record {
       head_in = λ o strict. ap (fits strict (item_in o)) t.is ∙ led_in t.lead (t.stands true) o strict (t.inner ▸ t.rest) ∙ sym (ap (fits strict item) t.is);
-      put_in = λ o strict. ap (λ u. fits strict (item_in o) (put_first init u)) t.is ∙ led_in t.lead (t.stands true) o strict (put_first init t.inner ▸ t.rest) ∙ sym (ap (λ u. fits strict item (put_first init u)) t.is);
+      put_in = λ o strict. ap (fits strict (item_in o)) (t.puts init) ∙ led_in t.lead (t.stands true) o strict (put_first x init t.inner ▸ t.rest) ∙ sym (ap (fits strict item) (t.puts init));
       head_ported = λ rest. ap (λ u. ports true (u ▸ rest)) t.is ∙ led_ported t.lead (t.stands true) (t.inner ▸ t.rest) rest;
-      put_ported = λ rest. ap (λ u. ports true (put_first init u ▸ rest)) t.is ∙ led_ported t.lead (t.stands true) (put_first init t.inner ▸ t.rest) rest;
+      put_ported = λ rest. ap (λ u. ports true (u ▸ rest)) (t.puts init) ∙ led_ported t.lead (t.stands true) (put_first x init t.inner ▸ t.rest) rest;
     }
 
 initial_there : (k : VariableDeclarationKind) (ds es : Trees) → StandsThere (declaration k ds) (declaration k es)
 initial_there k ds es = record { head_in = λ o strict. declaration_in o strict k ds; put_in = λ o strict. declaration_in o strict k es; head_ported = λ rest. refl; put_ported = λ rest. refl }
 
-stands_there : (x : Name) (head : Tree) → reads_head x head ≡ true → (init : Tree) → StandsThere head (put_head init head)
+stands_there : (x : Name) (head : Tree) → reads_head x head ≡ true → (init : Tree) → StandsThere head (put_first x init head)
 stands_there x head once init = by (heads x head once)
   where
-    by : ((reads_first x head ≡ true) × ((r : Tree) → put_head r head ≡ put_first r head)) ⊎ Initial x head → StandsThere head (put_head init head)
-    by (inl (f, p)) = subst (StandsThere head) (sym (p init)) (statement_there x head f init)
-    by (inr t) = subst₂ StandsThere (sym t.is) (sym (t.puts init)) (initial_there t.kind (declarator t.binds t.value ▸ t.last) (declarator t.binds (put_first init t.value) ▸ t.last))
+    by : ((reads_first x head ≡ true) × (evaluated head ≡ head)) ⊎ Initial x head → StandsThere head (put_first x init head)
+    by (inl (f, p)) = statement_there x head f init
+    by (inr t) = subst₂ StandsThere (sym t.is) (sym (t.puts init)) (initial_there t.kind (declarator t.binds t.value ▸ t.last) (declarator t.binds (put_first x init t.value) ▸ t.last))
 
 -- ---- the rows
 
@@ -203,17 +203,17 @@ module _ (W : VariableSet) (K : VariableDeclarationKind) (s : List ℕ) (k : ℕ
         ported = left_ported K (append first last);
       }
 
-  of_71 : (first : Trees) (init head : Tree) → may_move init ≡ true → reads_head x head ≡ true → names x init ≡ false → any_names x first ≡ false → Loses W s k (declared_among K x first init none ▸ (head ▸ none)) (declared_left K first ▸ (put_head init head ▸ none))
-  of_71 first init head moves once initial earlier =
+  of_71 : (first : Trees) (init head : Tree) → may_move init ≡ true → reads_head x head ≡ true → are_passed x init (evaluated head) ≡ true → names x init ≡ false → any_names x first ≡ false → Loses W s k (declared_among K x first init none ▸ (head ▸ none)) (declared_left K first ▸ (put_first x init head ▸ none))
+  of_71 first init head moves once passed initial earlier =
       let d = declared_among K x first init none in
       let left = declared_left K first in
-      let put = put_head init head in
+      let put = put_first x init head in
       let there = stands_there x head once init in
       record {
         leaves = head_leaves K x k refl first init head (movable init moves) once initial earlier;
         declares = head_declares K x k refl first init head (movable init moves) once initial earlier;
         read = single_read s k K first init head put (head_read x head once init);
-        same = λ e u. single_same e s k u.unseen first init head put (ap (λ i. i.facts.absent) (plain_read init (movable init moves))) K (may_write W K e k goes u) (head_goes e s k u.unseen init head moves once);
+        same = λ e u. single_same e s k u.unseen first init head put (ap (λ i. i.facts.absent) (plain_read init (movable init moves))) K (may_write W K e k goes u) (head_goes e s k u.unseen init head moves once passed);
         avoids = (first_avoids (alone (Declared k)) K first (all_avoided x k refl first earlier), (avoided x k refl put (head_unnamed x head once init initial), tt));
         fits = λ o strict h.
             let (f, g) = first_fits strict (item_in o) d (head ▸ none) h in
@@ -223,18 +223,18 @@ module _ (W : VariableSet) (K : VariableDeclarationKind) (s : List ℕ) (k : ℕ
         ported = λ rest. there.head_ported rest ∙ sym (there.put_ported rest) ∙ left_ported K first (put ▸ rest);
       }
 
-  of_next : (first : Trees) (init binds value : Tree) (last : Trees) → may_move init ≡ true → is_first x false value ≡ true → names x binds ≡ false → names x init ≡ false → any_names x first ≡ false → any_names x last ≡ false → Loses W s k (declared_among K x first init (declarator binds value ▸ last) ▸ none) (declaration K (append first (declarator binds (put_first init value) ▸ last)) ▸ none)
-  of_next first init binds value last moves once other initial earlier later =
+  of_next : (first : Trees) (init binds value : Tree) (last : Trees) → may_move init ≡ true → is_first x false value ≡ true → are_passed x init value ≡ true → names x binds ≡ false → names x init ≡ false → any_names x first ≡ false → any_names x last ≡ false → Loses W s k (declared_among K x first init (declarator binds value ▸ last) ▸ none) (declaration K (append first (declarator binds (put_first x init value) ▸ last)) ▸ none)
+  of_next first init binds value last moves once passed other initial earlier later =
       let d = declared_among K x first init (declarator binds value ▸ last) in
-      let w = declaration K (append first (declarator binds (put_first init value) ▸ last)) in
+      let w = declaration K (append first (declarator binds (put_first x init value) ▸ last)) in
       let avoids_last = all_avoided x k refl last later in
       record {
         leaves = next_leaves K x k refl first init binds value last once earlier initial other later;
         declares = next_declares K x k refl first init binds value last once earlier initial other later;
-        read = read_alone k d w (next_read K s k first last init binds value (put_first init value));
-        same = λ e u. next_same e s k u.unseen K init binds value last moves once (avoided x k refl binds other) avoids_last (may_write W K e k goes u) first;
+        read = read_alone k d w (next_read K s k first last init binds value (put_first x init value));
+        same = λ e u. next_same e s k u.unseen K init binds value last moves once passed (avoided x k refl binds other) avoids_last (may_write W K e k goes u) first;
         avoids = (next_avoids x k refl K first init binds value last once earlier initial other later, tt);
-        fits = λ o strict. one_fits o strict d w (next_fits strict K x first init binds value last moves once) (declaration_in o strict K (append first (declarator (binding x) init ▸ (declarator binds value ▸ last)))) (declaration_in o strict K (append first (declarator binds (put_first init value) ▸ last)));
+        fits = λ o strict. one_fits o strict d w (next_fits strict K x first init binds value last moves once) (declaration_in o strict K (append first (declarator (binding x) init ▸ (declarator binds value ▸ last)))) (declaration_in o strict K (append first (declarator binds (put_first x init value) ▸ last)));
         ported = λ rest. refl;
       }
 
@@ -248,11 +248,11 @@ row_stretch W p a b e (inr (inl r)) =
     (ap list_of r.written)
 row_stretch W p a b e (inr (inr (inl r))) =
     let x = resolved r.spelling r.symbol in
-    stretch W p a b e r.spelling r.symbol r.before r.after (declared_among r.kind x r.first r.init none) (r.head ▸ none) (declared_left r.kind r.first ▸ (put_head r.init r.head ▸ none)) refl (of_71 W r.kind r.spelling r.symbol r.goes r.first r.init r.head r.moves r.once r.initial r.declared_earlier) r.earlier r.later (ap list_of r.shape)
+    stretch W p a b e r.spelling r.symbol r.before r.after (declared_among r.kind x r.first r.init none) (r.head ▸ none) (declared_left r.kind r.first ▸ (put_first x r.init r.head ▸ none)) refl (of_71 W r.kind r.spelling r.symbol r.goes r.first r.init r.head r.moves r.once r.passed r.initial r.declared_earlier) r.earlier r.later (ap list_of r.shape)
     (ap list_of r.written)
 row_stretch W p a b e (inr (inr (inr r))) =
     let x = resolved r.spelling r.symbol in
-    stretch W p a b e r.spelling r.symbol r.before r.after (declared_among r.kind x r.first r.init (declarator r.binds r.value ▸ r.last)) none (declaration r.kind (append r.first (declarator r.binds (put_first r.init r.value) ▸ r.last)) ▸ none) refl (of_next W r.kind r.spelling r.symbol r.goes r.first r.init r.binds r.value r.last r.moves r.once r.other r.initial r.declared_earlier r.declared_later) r.earlier r.later (ap list_of r.shape)
+    stretch W p a b e r.spelling r.symbol r.before r.after (declared_among r.kind x r.first r.init (declarator r.binds r.value ▸ r.last)) none (declaration r.kind (append r.first (declarator r.binds (put_first x r.init r.value) ▸ r.last)) ▸ none) refl (of_next W r.kind r.spelling r.symbol r.goes r.first r.init r.binds r.value r.last r.moves r.once r.passed r.other r.initial r.declared_earlier r.declared_later) r.earlier r.later (ap list_of r.shape)
     (ap list_of r.written)
 
 -- in a block, or in a switch, what is declared is a lexical name

@@ -84,7 +84,7 @@ block_lighter q n w (inr (inr (inl r))) =
 block_lighter q n w (inr (inr (inr r))) =
     let x = resolved r.spelling r.symbol in
     let plain = (and_parts (is_plain_part r.init) (not (is_definition (shape_of r.init))) r.moves).0 in
-    let falls = block_falls q r.before r.after (declared_among r.kind x r.first r.init (declarator r.binds r.value ▸ r.last)) (declaration r.kind (append r.first (declarator r.binds (put_first r.init r.value) ▸ r.last))) refl (next_falls r.kind r.spelling r.symbol r.first r.init r.binds r.value r.last plain r.once) in
+    let falls = block_falls q r.before r.after (declared_among r.kind x r.first r.init (declarator r.binds r.value ▸ r.last)) (declaration r.kind (append r.first (declarator r.binds (put_first x r.init r.value) ▸ r.last))) refl (next_falls r.kind r.spelling r.symbol r.first r.init r.binds r.value r.last plain r.once) in
     omega (arith, falls, ap (weight (Stmt q)) r.shape, ap (weight (Stmt q)) r.written)
 
 -- a function's body by the block that what stands before it and its statements would be

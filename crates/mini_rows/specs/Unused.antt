@@ -1,9 +1,9 @@
 -- Rows of names that nothing mentions: each is a shape and what is written in its place, with the JavaScript before and after. W has
 -- the variables that the program mentions and that can be written in it.
-use Rattle.std.specs.Prelude.{◌≡◌, ◌<◌, ◌⊎◌, ◌||◌, ◌&&◌, not, ℕ, Bool, true, false, List, [], ◌∷◌, if◌then◌else◌}
+use Rattle.std.specs.Prelude.{◌≡◌, ◌<◌, ◌⊎◌, ◌||◌, ◌&&◌, not, ℕ, zero, suc, Bool, true, false, List, [], ◌∷◌, if◌then◌else◌}
 use Rattle.mini_model.specs.declared.kind.VariableDeclarationKind.{VariableDeclarationKind}
 use Rattle.mini_model.specs.declared.name.Name.{Name}
-use Rattle.mini_model.specs.declared.operator.UnaryOperator.TheVariants.{LogicalNot, UnaryPlus, BitwiseNot}
+use Rattle.mini_model.specs.declared.operator.UnaryOperator.TheVariants.{LogicalNot, UnaryPlus, BitwiseNot, Void}
 use Rattle.mini_model.specs.declared.place.Position.{Position}
 use Rattle.mini_model.specs.declared.place.Position.TheVariants.{Expr, Stmt, Method, Elsewhere}
 use Rattle.mini_model.specs.declared.shape.Shape.{Shape}
@@ -17,11 +17,11 @@ use Rattle.mini_laws.specs.Symbols.{is_same}
 use Rattle.mini_laws.specs.Value.{Declared, VariableSet, nothing}
 use Rattle.mini_laws.specs.Weights.{Lightens}
 use Rattle.mini_kept.specs.Loosely.{LawfulWith}
-use Rattle.mini_node.specs.Children.{names_of, part, with_part, is_bare, is_nameless, rest_children}
-use Rattle.mini_node.specs.Kinds.{is_absent_part, is_listed, is_listed_shape, is_sequence_shape, is_identifier}
+use Rattle.mini_node.specs.Children.{names_of, part, is_bare, is_nameless, rest_children}
+use Rattle.mini_node.specs.Kinds.{is_absent_part, is_listed, is_listed_shape, is_identifier}
 use Rattle.mini_terms.specs.Folds.{is_effect_free}
 use Rattle.mini_terms.specs.Parts.{leaves_nothing}
-use Rattle.mini_terms.specs.Reading.{is_plain_part}
+use Rattle.mini_terms.specs.Reading.{is_item, is_plain_part}
 use Rattle.mini_rows.specs.Cases.{switch_case}
 use Rattle.mini_rows.specs.Lists.{block, switch, declaration, declares_nothing}
 pub use Rattle.mini_rows.specs.Lists.{resolved}
@@ -118,15 +118,47 @@ begins shape.ConditionalExpression is_leaf = true
 begins shape.SequenceExpression is_leaf = true
 begins (shape.CallExpression false) is_leaf = not is_leaf
 begins shape.NewExpression is_leaf = true
+begins shape.ArrayExpression is_leaf = true
 begins (shape.YieldExpression is_delegate) is_leaf = true
 begins (shape.StaticMemberExpression false) is_leaf = true
 begins (shape.ComputedMemberExpression false) is_leaf = true
 begins h is_leaf = false
 
--- an expression, or the list of a sequence's parts
-abbrev pub leads : Bool → Shape → Bool → Bool
-leads true h is_leaf = is_listed_shape h
-leads false h is_leaf = begins h is_leaf
+-- what evaluates its first part and then this one, and asks for the value of this one alone
+abbrev pub goes_on : Shape → Bool
+goes_on (shape.BinaryExpression o) = true
+goes_on (shape.CallExpression false) = true
+goes_on shape.NewExpression = true
+goes_on (shape.ComputedMemberExpression false) = true
+goes_on h = false
+
+-- so does it the one at the place
+abbrev pub continues : ℕ → Shape → Bool
+continues (suc zero) h = goes_on h
+continues i h = false
+
+-- an expression, which evaluates the part at the place after those before it, or a list of parts
+abbrev pub leads : Bool → Shape → ℕ → Bool → Bool
+leads true h i is_leaf = is_listed_shape h
+leads false h zero is_leaf = begins h is_leaf
+leads false h (suc i) is_leaf = continues (suc i) h
+
+-- its first part is a list: the parts of a sequence, or the elements of an array
+abbrev pub begins_list : Shape → Bool
+begins_list shape.SequenceExpression = true
+begins_list shape.ArrayExpression = true
+begins_list h = false
+
+-- its second part is a list, of arguments
+abbrev pub has_arguments : Shape → Bool
+has_arguments (shape.CallExpression is_optional) = true
+has_arguments shape.NewExpression = true
+has_arguments h = false
+
+-- so is the part at the place
+abbrev pub holds_list : Shape → ℕ → Bool
+holds_list h zero = begins_list h
+holds_list h (suc i) = has_arguments h
 
 abbrev pub is_childless : Tree → Bool
 is_childless (node h ys n none) = true
@@ -140,15 +172,58 @@ has_symbol_of x (y ∷ ys) = is_same x.symbol y.symbol
 abbrev pub reads : Name → Tree → Bool
 reads x t = is_identifier t && has_symbol_of x (names_of t)
 
--- an expression, or a list of parts, reads the variable before all else, and nothing else in it mentions the name
-abbrev pub is_first : Name → Bool → Tree → Bool
-is_first x in_list (node h ys n none) = not in_list && reads x (node h ys n none)
-is_first x in_list (node h ys n (t ▸ ts)) = leads in_list h (is_childless t) && (is_nameless (node h ys n (t ▸ ts)) && (is_first x (is_sequence_shape h) t && not (any_names x ts)))
+-- an expression, or a list of parts, reads the variable after the parts that stand before, and nothing else in it mentions the name
+abbrev mutual
+  pub is_first : Name → Bool → Tree → Bool
+  is_first x in_list (node h ys n none) = not in_list && reads x (node h ys n none)
+  is_first x in_list (node h ys n (t ▸ ts)) = is_nameless (node h ys n (t ▸ ts)) && leads_to x in_list h 0 (t ▸ ts)
+
+  -- of the parts from a place on, the one that mentions it
+  pub leads_to : Name → Bool → Shape → ℕ → Trees → Bool
+  leads_to x in_list h i none = false
+  leads_to x in_list h i (t ▸ ts) = if names x t then (leads in_list h i (is_childless t) && (is_first x (holds_list h i) t && not (any_names x ts))) else leads_to x in_list h (suc i) ts
 
 -- another tree in the place of what is read there
-abbrev pub put_first : Tree → Tree → Tree
-put_first r (node h ys n none) = r
-put_first r (node h ys n (t ▸ ts)) = node h ys n (put_first r t ▸ ts)
+abbrev mutual
+  pub put_first : Name → Tree → Tree → Tree
+  put_first x r (node h ys n none) = r
+  put_first x r (node h ys n (t ▸ ts)) = node h ys n (put_among x r (t ▸ ts))
+
+  pub put_among : Name → Tree → Trees → Trees
+  put_among x r none = none
+  put_among x r (t ▸ ts) = if names x t then put_first x r t ▸ ts else t ▸ put_among x r ts
+
+-- a number, a text, a boolean or null
+abbrev pub is_written_value : Shape → Bool
+is_written_value (shape.NumericLiteral n) = true
+is_written_value (shape.StringLiteral s) = true
+is_written_value (shape.BooleanLiteral b) = true
+is_written_value shape.NullLiteral = true
+is_written_value h = false
+
+-- `!` and `void`
+abbrev pub is_value_operator : Shape → Bool
+is_value_operator (shape.UnaryExpression LogicalNot) = true
+is_value_operator (shape.UnaryExpression Void) = true
+is_value_operator h = false
+
+-- the same value whenever it is evaluated: one of these, `!0` and `void 0` and their like
+abbrev pub is_constant : Tree → Bool
+is_constant (node h ys n (t ▸ none)) = is_written_value h || (is_value_operator h && is_written_value (shape_of t))
+is_constant (node h ys n ts) = is_written_value h
+
+-- it may be evaluated before r rather than after: its value is the same whenever it is evaluated, or neither of them has an effect
+abbrev pub passes : Tree → Tree → Bool
+passes r t = is_constant t || (is_effect_free r && (is_effect_free t && is_item t))
+
+-- each part that is evaluated before the variable is read may be evaluated before r
+abbrev mutual
+  pub are_passed : Name → Tree → Tree → Bool
+  are_passed x r (node h ys n ts) = all_passed x r ts
+
+  pub all_passed : Name → Tree → Trees → Bool
+  all_passed x r none = true
+  all_passed x r (t ▸ ts) = if names x t then are_passed x r t else (passes r t && all_passed x r ts)
 
 abbrev pub is_head_shape : Shape → Bool
 is_head_shape shape.ExpressionStatement = true
@@ -194,22 +269,13 @@ reads_initially x t = declares_list t && reads_declarators x (part t 0)
 abbrev pub reads_head : Name → Tree → Bool
 reads_head x t = reads_first x t || reads_initially x t
 
--- another tree in the place of what the first initializer reads first
-abbrev pub put_declarator : Tree → Tree → Tree
-put_declarator r d = with_part d 1 (put_first r (part d 1))
-
-abbrev pub put_declarators : Tree → Tree → Tree
-put_declarators r l = with_part l 0 (put_declarator r (part l 0))
-
-abbrev pub put_initially : Tree → Tree → Tree
-put_initially r t = with_part t 0 (put_declarators r (part t 0))
-
+-- a declaration with a first declarator
 abbrev pub has_declarator : Tree → Bool
 has_declarator t = declares_list t && (not (is_childless (part t 0)) && is_declarator (part (part t 0) 0))
 
--- in the place of what a head reads first
-abbrev pub put_head : Tree → Tree → Tree
-put_head r t = if has_declarator t then put_initially r t else put_first r t
+-- what a head evaluates: of a declaration the first initializer
+abbrev pub evaluated : Tree → Tree
+evaluated t = if has_declarator t then part (part (part t 0) 0) 1 else t
 
 -- a function or a class without a name of its own gets the variable's (ECMA-262, "NamedEvaluation"): none of them moves
 abbrev pub is_definition : Shape → Bool
@@ -235,13 +301,14 @@ pub record Row71 (W : VariableSet) (n w : Tree) : Type 0 where
   pub goes : lets_go W kind symbol ≡ true
   pub moves : may_move init ≡ true
   pub once : reads_head (resolved spelling symbol) head ≡ true
+  pub passed : are_passed (resolved spelling symbol) init (evaluated head) ≡ true
   pub earlier : any_names (resolved spelling symbol) before ≡ false
   pub declared_earlier : any_names (resolved spelling symbol) first ≡ false
   pub initial : names (resolved spelling symbol) init ≡ false
   pub later : any_names (resolved spelling symbol) after ≡ false
   pub unseen : has_eval (block (append before (declared_among kind (resolved spelling symbol) first init none ▸ (head ▸ after)))) ≡ false
   pub shape : n ≡ block (append before (declared_among kind (resolved spelling symbol) first init none ▸ (head ▸ after)))
-  pub written : w ≡ block (append before (declared_left kind first ▸ (put_head init head ▸ after)))
+  pub written : w ≡ block (append before (declared_left kind first ▸ (put_first (resolved spelling symbol) init head ▸ after)))
 
 -- where the next declarator reads it first: `{ let a, x = b(), y = x.c; d(y); }` becomes `{ let a, y = b().c; d(y); }`
 pub record Row71Next (W : VariableSet) (n w : Tree) : Type 0 where
@@ -258,6 +325,7 @@ pub record Row71Next (W : VariableSet) (n w : Tree) : Type 0 where
   pub goes : lets_go W kind symbol ≡ true
   pub moves : may_move init ≡ true
   pub once : is_first (resolved spelling symbol) false value ≡ true
+  pub passed : are_passed (resolved spelling symbol) init value ≡ true
   pub other : names (resolved spelling symbol) binds ≡ false
   pub earlier : any_names (resolved spelling symbol) before ≡ false
   pub declared_earlier : any_names (resolved spelling symbol) first ≡ false
@@ -266,7 +334,7 @@ pub record Row71Next (W : VariableSet) (n w : Tree) : Type 0 where
   pub later : any_names (resolved spelling symbol) after ≡ false
   pub unseen : has_eval (block (append before (declared_among kind (resolved spelling symbol) first init (declarator binds value ▸ last) ▸ after))) ≡ false
   pub shape : n ≡ block (append before (declared_among kind (resolved spelling symbol) first init (declarator binds value ▸ last) ▸ after))
-  pub written : w ≡ block (append before (declaration kind (append first (declarator binds (put_first init value) ▸ last)) ▸ after))
+  pub written : w ≡ block (append before (declaration kind (append first (declarator binds (put_first (resolved spelling symbol) init value) ▸ last)) ▸ after))
 
 -- one of them reads a block
 abbrev pub BlockRow : VariableSet → Tree → Tree → Type 0

@@ -154,7 +154,7 @@ module _ (W : VariableSet) (outside : Tree) (front ts : Trees) (mentions : (x : 
   read_there : (xs : List Name) (init : Tree) (ds : Trees) (j i : ℕ) → is_read_once xs outside init ds j ts i ≡ is_read_once xs no_outside init ds j behind (suc i)
   read_there [] init ds j i = refl
   read_there (x ∷ xs) init ds j i =
-      let r = reads_next x ts i in
+      let r = reads_next x init ts i in
       let q = is_declared_over x init ds j in
       let f = any_names x (first_children i ts) in
       let c = any_names x (rest_children (suc (suc i)) ts) in
@@ -169,7 +169,7 @@ module _ (W : VariableSet) (outside : Tree) (front ts : Trees) (mentions : (x : 
   then_there : (xs : List Name) (d e : Tree) (ds : Trees) (j i : ℕ) → is_read_then xs d e outside ds j ts i ≡ is_read_then xs d e no_outside ds j behind (suc i)
   then_there [] d e ds j i = refl
   then_there (x ∷ xs) d e ds j i =
-      let r = reads_then x e in
+      let r = reads_then x (part d 1) e in
       let m = is_mentioned_beside x d e ds j in
       let f = any_names x (first_children i ts) in
       let c = any_names x (rest_children (suc i) ts) in

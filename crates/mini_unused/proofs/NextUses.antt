@@ -15,9 +15,9 @@ use Rattle.mini_node.specs.Made.{block_is}
 use Rattle.mini_node.specs.Walks.{next_child}
 use Rattle.mini_rows.specs.Lists.{block, declaration}
 use Rattle.mini_rows.specs.Declarations.{binding, declarator}
-use Rattle.mini_rows.specs.Unused.{resolved, declared_among, names, any_names, is_first, put_first, may_move, lets_go, Row71Next}
+use Rattle.mini_rows.specs.Unused.{resolved, declared_among, names, any_names, is_first, put_first, are_passed, may_move, lets_go, Row71Next}
 use Rattle.mini_unused.specs.RemoveUnusedDeclaration.{declares_name, is_lexical_shape, declares_list, may_lose, is_free_at, list_at}
-use Rattle.mini_unused.specs.SubstituteNext.{is_declarator, is_mentioned_beside, is_mentioned_elsewhere, is_read_then, is_read_by, is_read_by_next, is_next, NextIn, NextOf, NextAt, declarators_next, list_next}
+use Rattle.mini_unused.specs.SubstituteNext.{is_declarator, reads_then, put_named, is_mentioned_beside, is_mentioned_elsewhere, is_read_then, is_read_by, is_read_by_next, is_next, NextIn, NextOf, NextAt, declarators_next, list_next}
 use Rattle.mini_unused.proofs.SingleUses.{no_first, next_there as child_there, rest_there, within_there}
 use Rattle.mini_unused.proofs.Unused.{no_outside, parts_of, with_parts, there_child, there_first, there_rest, there_within, and_both, Declares, declares, declarator_is, a_declaration}
 
@@ -101,6 +101,7 @@ neither false false e = (refl, refl)
 
 record Once (x : Name) (d e : Tree) (ds : Trees) (j : ℕ) (ts : Trees) (i : ℕ) : Type 0 where
   once : is_first x false (part e 1) ≡ true
+  passed : are_passed x (part d 1) (part e 1) ≡ true
   initial : names x (part d 1) ≡ false
   other : names x (part e 0) ≡ false
   declared_earlier : any_names x (first_children j ds) ≡ false
@@ -110,13 +111,14 @@ record Once (x : Name) (d e : Tree) (ds : Trees) (j : ℕ) (ts : Trees) (i : ℕ
 
 read_once : (x : Name) (d e : Tree) (ds : Trees) (j : ℕ) (ts : Trees) (i : ℕ) → is_read_then (x ∷ []) d e no_outside ds j ts i ≡ true → Once x d e ds j ts i
 read_once x d e ds j ts i h =
-    let (p, q) = and_parts (is_first x false (part e 1)) (not (is_mentioned_beside x d e ds j) && not (is_mentioned_elsewhere x ts i)) h in
+    let (u, q) = and_parts (reads_then x (part d 1) e) (not (is_mentioned_beside x d e ds j) && not (is_mentioned_elsewhere x ts i)) h in
     let (r, s) = and_parts (not (is_mentioned_beside x d e ds j)) (not (is_mentioned_elsewhere x ts i)) q in
     let (a, b) = neither (names x (part d 1)) (names x (part e 0) || (any_names x (first_children j ds) || any_names x (rest_children (suc (suc j)) ds))) r in
     let (c, f) = neither (names x (part e 0)) (any_names x (first_children j ds) || any_names x (rest_children (suc (suc j)) ds)) (ap not b) in
     let (g, k) = neither (any_names x (first_children j ds)) (any_names x (rest_children (suc (suc j)) ds)) (ap not f) in
     let (m, n) = neither (any_names x (first_children i ts)) (any_names x (rest_children (suc i) ts)) s in
-    record { once = p; initial = a; other = c; declared_earlier = g; declared_later = k; earlier = m; later = n }
+    let (p, v) = and_parts (is_first x false (part e 1)) (are_passed x (part d 1) (part e 1)) u in
+    record { once = p; passed = v; initial = a; other = c; declared_earlier = g; declared_later = k; earlier = m; later = n }
 
 abbrev pub block_next : Tree → ℕ → ℕ → Tree
 block_next t i j = with_part t 0 (list_next (part t 0) i j)
@@ -193,12 +195,12 @@ module _ (t : Tree) (i j : ℕ) (b : is_block t ≡ true) (h : i < count (childr
   statement_left = with_part statement 0 (declarators_next (part statement 0) j)
 
   abbrev put : Tree → Tree
-  put c = with_part c 1 (put_first init (part c 1))
+  put c = with_part c 1 (put_named (names_of (part d 0)) init (part c 1))
 
-  statement_left_is : statement_left ≡ declaration kind (append first (declarator (part n 0) (put_first init value) ▸ last))
-  statement_left_is = ap (λ c. with_part c 0 (declarators_next (part c 0) j)) let_there ∙ ap (declaration kind) (next_left ds j put g) ∙ ap (λ c. declaration kind (append first (with_part c 1 (put_first init (part c 1)) ▸ last))) other
+  statement_left_is : statement_left ≡ declaration kind (append first (declarator (part n 0) (put_first x init value) ▸ last))
+  statement_left_is = ap (λ c. with_part c 0 (declarators_next (part c 0) j)) let_there ∙ ap (declaration kind) (next_left ds j put g) ∙ ap (λ c. declaration kind (append first (put c ▸ last))) other ∙ ap (λ c. declaration kind (append first (declarator (part n 0) (put_named (names_of (part c 0)) init value) ▸ last))) one.is
 
-  written_there : (u : Tree) → u ≡ block_next t i j → u ≡ block (append before (declaration kind (append first (declarator (part n 0) (put_first init value) ▸ last)) ▸ after))
+  written_there : (u : Tree) → u ≡ block_next t i j → u ≡ block (append before (declaration kind (append first (declarator (part n 0) (put_first x init value) ▸ last)) ▸ after))
   written_there u f = f ∙ ap (λ c. block_next c i j) (block_is t b) ∙ ap block (with_parts ts i statement_left h) ∙ ap (λ c. block (append before (c ▸ after))) statement_left_is
 
   pub next_row : (u : Tree) → u ≡ block_next t i j → Row71Next W t u
@@ -216,6 +218,7 @@ module _ (t : Tree) (i j : ℕ) (b : is_block t ≡ true) (h : i < count (childr
     goes = goes;
     moves = tests.moves;
     once = reading.once;
+    passed = reading.passed;
     other = reading.other;
     earlier = reading.earlier;
     declared_earlier = reading.declared_earlier;
@@ -252,11 +255,12 @@ module _ (W : VariableSet) (t w : Tree) (r : Row71Next W t w) where
   then_is =
       let y = named in
       let all = λ (a b c d f p q : Bool). a && (not (b || (c || (d || f))) && not (p || q)) in
+      let read = and_both (is_first y false r.value) (are_passed y r.init r.value) r.once r.passed in
       let first_ds = ap (any_names y) (there_first r.first declared (following ▸ r.last)) ∙ r.declared_earlier in
       let rest_ds = ap (any_names y) (rest_there r.first declared following r.last) ∙ r.declared_later in
       let first_ts = ap (any_names y) (there_first r.before stated r.after) ∙ r.earlier in
       let rest_ts = ap (any_names y) (there_rest r.before stated r.after) ∙ r.later in
-      λ k. all (r.once k) (r.initial k) (r.other k) (first_ds k) (rest_ds k) (first_ts k) (rest_ts k)
+      λ k. all (read k) (r.initial k) (r.other k) (first_ds k) (rest_ds k) (first_ts k) (rest_ts k)
 
   next_there : is_next W no_outside (children (part t 0)) (count r.before) (count r.first) ≡ true
   next_there =

@@ -3,6 +3,7 @@ use Rattle.std.proofs.Common.{◌≡◌, ℕ, zero, suc, ◌+◌, ◌%◌, ◌<�
 use Rattle.std.specs.Prelude.{not, ◌&&◌, ◌||◌, ◌⊎◌, nat_eq, length, replicate, Option, Some, None, if◌then◌else◌}
 use Rattle.std.proofs.lemmas.Bool.{and_parts, eqb-true, eq-eqb}
 use Rattle.mini_model.specs.declared.name.Name.{Name}
+use Rattle.mini_model.specs.declared.shape.Shape.{Shape}
 use Rattle.mini_model.specs.declared.name.SymbolId.{SymbolId}
 use Rattle.mini_model.specs.Tree.{Tree, Trees, node, none, ◌▸◌, absent, listed, children, count, child_or_absent, empty_statement, expression_statement}
 use Rattle.mini_model.specs.Paths.{append}
@@ -15,12 +16,12 @@ use Rattle.mini_node.specs.Walks.{next_child}
 use Rattle.mini_kept.proofs.SameScopes.{same_texts}
 use Rattle.mini_rows.specs.Lists.{declaration}
 use Rattle.mini_rows.specs.Declarations.{declarator}
-use Rattle.mini_rows.specs.Unused.{resolved, is_like_one, names, any_names, is_idle, leads, is_childless, reads, is_first, put_first, is_head_shape, reads_first, put_declarator, put_declarators, put_initially, has_declarator, put_head, reads_head}
+use Rattle.mini_rows.specs.Unused.{resolved, is_like_one, names, any_names, is_idle, leads, holds_list, is_childless, reads, is_first, leads_to, put_first, put_among, are_passed, is_head_shape, reads_first, reads_head, has_declarator, evaluated}
 use Rattle.mini_rows.proofs.SingleUse.{Initial, heads}
 use Rattle.mini_unused.specs.declared.tallies.Tallies.{Tallies}
 use Rattle.mini_unused.specs.RemoveUnusedDeclaration.{declares_list, is_alone, list_at, let_left, statement_left, list_left}
-use Rattle.mini_unused.specs.SubstituteNext.{is_read_then, declarators_next, list_next, NextGone}
-use Rattle.mini_unused.specs.SubstituteSingleUse.{is_read_once, declaration_left, initializer, list_single, last_place, NameGone, ReadGone, Gone}
+use Rattle.mini_unused.specs.SubstituteNext.{reads_in, put_named, is_read_then, declarators_next, list_next, NextGone}
+use Rattle.mini_unused.specs.SubstituteSingleUse.{reads_next, is_read_once, declaration_left, declared_names, initializer, list_single, last_place, NameGone, ReadGone, Gone}
 use Rattle.mini_unused.specs.Tallies.{number_of, bucket, hash_of, one_if, own_tally, tally, tallies, Counted, Covers, Tallied, HasFew, IsRare}
 use Rattle.mini_unused.proofs.Unused.{parts_of, a_declaration, Declares, declares}
 use Rattle.mini_unused.proofs.SingleUses.{next_part}
@@ -98,25 +99,22 @@ module _ (f : Name → ℕ) (b : ℕ) where
       by true x y = x
       by false x y = y
 
-  put_there : (r t : Tree) → tally f b (put_first r t) ≤ tally f b r + tally f b t
-  put_there r (node h xs n none) = omega arith
-  put_there r (node h xs n (t ▸ ts)) = let rest = put_there r t in omega (arith, rest)
+  mutual
+    put_there : (x : Name) (r t : Tree) → tally f b (put_first x r t) ≤ tally f b r + tally f b t
+    put_there x r (node h xs n none) = omega arith
+    put_there x r (node h xs n (t ▸ ts)) = let rest = put_in x r (t ▸ ts) in omega (arith, rest)
 
-  put_declarator_there : (r d : Tree) → tally f b (put_declarator r d) ≤ tally f b r + tally f b d
-  put_declarator_there r d = let whole = with_there d 1 (put_first r (part d 1)) in let put = put_there r (part d 1) in omega (arith, whole, put)
+    put_in : (x : Name) (r : Tree) (ts : Trees) → tallies f b (put_among x r ts) ≤ tally f b r + tallies f b ts
+    put_in x r none = omega arith
+    put_in x r (t ▸ ts) = by (names x t) (put_there x r t) (put_in x r ts)
+      where
+        by : (c : Bool) → tally f b (put_first x r t) ≤ tally f b r + tally f b t → tallies f b (put_among x r ts) ≤ tally f b r + tallies f b ts → tallies f b (if c then put_first x r t ▸ ts else t ▸ put_among x r ts) ≤ tally f b r + tallies f b (t ▸ ts)
+        by true one others = omega (arith, one)
+        by false one others = omega (arith, others)
 
-  put_declarators_there : (r l : Tree) → tally f b (put_declarators r l) ≤ tally f b r + tally f b l
-  put_declarators_there r l = let whole = with_there l 0 (put_declarator r (part l 0)) in let put = put_declarator_there r (part l 0) in omega (arith, whole, put)
-
-  put_initially_there : (r t : Tree) → tally f b (put_initially r t) ≤ tally f b r + tally f b t
-  put_initially_there r t = let whole = with_there t 0 (put_declarators r (part t 0)) in let put = put_declarators_there r (part t 0) in omega (arith, whole, put)
-
-  put_head_there : (r t : Tree) → tally f b (put_head r t) ≤ tally f b r + tally f b t
-  put_head_there r t = by (has_declarator t)
-    where
-      by : (c : Bool) → tally f b (if c then put_initially r t else put_first r t) ≤ tally f b r + tally f b t
-      by true = put_initially_there r t
-      by false = put_there r t
+  named_there : (xs : List Name) (r t : Tree) → tally f b (put_named xs r t) ≤ tally f b r + tally f b t
+  named_there [] r t = omega arith
+  named_there (x ∷ xs) r t = put_there x r t
 
   list_without : (l : Tree) (i j : ℕ) → tally f b (list_left l i j) ≤ tally f b l
   list_without l i j =
@@ -129,9 +127,10 @@ module _ (f : Name → ℕ) (b : ℕ) where
       let left = declaration_left (part l i) j in
       let init = initializer l i j in
       let first = with_there l i left in
-      let second = with_there (with_part l i left) (suc i) (put_head init (part l (suc i))) in
+      let xs = declared_names l i j in
+      let second = with_there (with_part l i left) (suc i) (put_named xs init (part l (suc i))) in
       let next = ap (tally f b) (next_part l i left) in
-      let put = put_head_there init (part l (suc i)) in
+      let put = named_there xs init (part l (suc i)) in
       let less = declaration_without (part l i) j in
       omega (arith, first, second, next, put, less)
 
@@ -141,9 +140,10 @@ module _ (f : Name → ℕ) (b : ℕ) where
       let m = like l (without (children l) j) in
       let n = part m j in
       let v = part n 1 in
-      let whole = with_there m j (with_part n 1 (put_first r v)) in
-      let next = with_there n 1 (put_first r v) in
-      let put = put_there r v in
+      let xs = names_of (part (part l j) 0) in
+      let whole = with_there m j (with_part n 1 (put_named xs r v)) in
+      let next = with_there n 1 (put_named xs r v) in
+      let put = named_there xs r v in
       let others = without_one (children l) j in
       let o = opened l in
       let value = part_of (part l j) 1 in
@@ -196,20 +196,28 @@ counted_there f b y e = ap one_if (eq-eqb (f y) b e)
 
 -- a name that is read there has the symbol
 
-first_counted : (n : ℕ) (x : Name) (c : Bool) (t : Tree) → is_first x c t ≡ true → 1 ≤ tally (bucket true n) (bucket true n x) t
-first_counted n x c (node h [] k none) e =
-    let reads_it = (and_parts (not c) (reads x (node h [] k none)) e).1 in
-    absurd (true≢false (sym (and_parts (is_identifier (node h [] k none)) false reads_it).1))
-first_counted n x c (node h (y ∷ ys) k none) e =
-    let reads_it = (and_parts (not c) (reads x (node h (y ∷ ys) k none)) e).1 in
-    let same = (and_parts (is_identifier (node h (y ∷ ys) k none)) (is_same x.symbol y.symbol) reads_it).1 in
-    let one = counted_there (bucket true n) (bucket true n x) y (sym (symbols_alike n x y same)) in
-    omega (arith, one)
-first_counted n x c (node h ys k (t ▸ ts)) e =
-    let (l, p) = and_parts (leads c h (is_childless t)) (is_nameless (node h ys k (t ▸ ts)) && (is_first x (is_sequence_shape h) t && not (any_names x ts))) e in
-    let (m, q) = and_parts (is_nameless (node h ys k (t ▸ ts))) (is_first x (is_sequence_shape h) t && not (any_names x ts)) p in
-    let rest = first_counted n x (is_sequence_shape h) t (and_parts (is_first x (is_sequence_shape h) t) (not (any_names x ts)) q).0 in
-    omega (arith, rest)
+mutual
+  first_counted : (n : ℕ) (x : Name) (c : Bool) (t : Tree) → is_first x c t ≡ true → 1 ≤ tally (bucket true n) (bucket true n x) t
+  first_counted n x c (node h [] k none) e =
+      let reads_it = (and_parts (not c) (reads x (node h [] k none)) e).1 in
+      absurd (true≢false (sym (and_parts (is_identifier (node h [] k none)) false reads_it).1))
+  first_counted n x c (node h (y ∷ ys) k none) e =
+      let reads_it = (and_parts (not c) (reads x (node h (y ∷ ys) k none)) e).1 in
+      let same = (and_parts (is_identifier (node h (y ∷ ys) k none)) (is_same x.symbol y.symbol) reads_it).1 in
+      let one = counted_there (bucket true n) (bucket true n x) y (sym (symbols_alike n x y same)) in
+      omega (arith, one)
+  first_counted n x c (node h ys k (t ▸ ts)) e = let rest = lead_counted n x c h 0 (t ▸ ts) (and_parts (is_nameless (node h ys k (t ▸ ts))) (leads_to x c h 0 (t ▸ ts)) e).1 in omega (arith, rest)
+
+  lead_counted : (n : ℕ) (x : Name) (c : Bool) (h : Shape) (i : ℕ) (ts : Trees) → leads_to x c h i ts ≡ true → 1 ≤ tallies (bucket true n) (bucket true n x) ts
+  lead_counted n x c h i none e = absurd (true≢false (sym e))
+  lead_counted n x c h i (t ▸ ts) e = by (names x t) e (first_counted n x (holds_list h i) t) (lead_counted n x c h (suc i) ts)
+    where
+      by : (d : Bool) → (if d then (leads c h i (is_childless t) && (is_first x (holds_list h i) t && not (any_names x ts))) else leads_to x c h (suc i) ts) ≡ true → (is_first x (holds_list h i) t ≡ true → 1 ≤ tally (bucket true n) (bucket true n x) t) → (leads_to x c h (suc i) ts ≡ true → 1 ≤ tallies (bucket true n) (bucket true n x) ts) → 1 ≤ tallies (bucket true n) (bucket true n x) (t ▸ ts)
+      by true e one others =
+          let (l, p) = and_parts (leads c h i (is_childless t)) (is_first x (holds_list h i) t && not (any_names x ts)) e in
+          let there = one (and_parts (is_first x (holds_list h i) t) (not (any_names x ts)) p).0 in
+          omega (arith, there)
+      by false e one others = let there = others e in omega (arith, there)
 
 statement_counted : (n : ℕ) (x : Name) (t : Tree) → reads_first x t ≡ true → 1 ≤ tally (bucket true n) (bucket true n x) t
 statement_counted n x (node h ys k none) e = absurd (true≢false (sym e))
@@ -222,7 +230,7 @@ statement_counted n x (node h ys k (t ▸ ts)) e =
 head_counted : (n : ℕ) (x : Name) (t : Tree) → reads_head x t ≡ true → 1 ≤ tally (bucket true n) (bucket true n x) t
 head_counted n x t e = by (heads x t e)
   where
-    by : ((reads_first x t ≡ true) × ((r : Tree) → put_head r t ≡ put_first r t)) ⊎ Initial x t → 1 ≤ tally (bucket true n) (bucket true n x) t
+    by : ((reads_first x t ≡ true) × (evaluated t ≡ t)) ⊎ Initial x t → 1 ≤ tally (bucket true n) (bucket true n x) t
     by (inl (f, p)) = statement_counted n x t f
     by (inr i) = let read = first_counted n x false i.value i.once in let whole = ap (tally (bucket true n) (bucket true n x)) i.is in omega (arith, read, whole)
 
@@ -337,7 +345,7 @@ module _ (T : Tallies) (o : Tree) (ts : Trees) (i j : ℕ) (h : i < count ts) (d
 
   -- ---- and the next statement reads it
 
-  module _ (next : suc i < count ts) (reads : reads_head x (child_or_absent ts (suc i)) ≡ true) (spelled : 1 ≤ tally (bucket false r) (bucket false r x) (child_or_absent ts (suc i))) where
+  module _ (next : suc i < count ts) (reads : reads_next x init ts i ≡ true) (spelled : 1 ≤ tally (bucket false r) (bucket false r x) (child_or_absent ts (suc i))) where
     abbrev head : Tree
     head = child_or_absent ts (suc i)
 
@@ -356,7 +364,7 @@ module _ (T : Tallies) (o : Tree) (ts : Trees) (i j : ℕ) (h : i < count ts) (d
 
     pub rare_read : IsRare T x 2 → is_read_once (x ∷ []) o init ds j ts i ≡ true
     rare_read rare =
-        let a = once (bucket true n) (within_few true T.by_symbol.items o (listed ts) x 2 (omega arith) told.symbols rare.symbols) (head_counted n x head reads) in
+        let a = once (bucket true n) (within_few true T.by_symbol.items o (listed ts) x 2 (omega arith) told.symbols rare.symbols) (head_counted n x head (and_parts (reads_head x head) (are_passed x init (evaluated head)) reads).0) in
         let b = once (bucket false r) (within_few false T.by_spelling.items o (listed ts) x 2 (omega arith) told.spellings rare.spellings) spelled in
         let one_of = unmentioned x n r in
         let all_of = all_unmentioned x n r in
@@ -369,7 +377,7 @@ module _ (T : Tallies) (o : Tree) (ts : Trees) (i j : ℕ) (h : i < count ts) (d
 
   -- ---- or the next declarator does
 
-  module _ (next : suc j < count ds) (other : part (list_at ts i) (suc j) ≡ declarator (part (part (list_at ts i) (suc j)) 0) (part (part (list_at ts i) (suc j)) 1)) (first : is_first x false (part (part (list_at ts i) (suc j)) 1) ≡ true) (spelled : 1 ≤ tally (bucket false r) (bucket false r x) (part (part (list_at ts i) (suc j)) 1)) where
+  module _ (next : suc j < count ds) (other : part (list_at ts i) (suc j) ≡ declarator (part (part (list_at ts i) (suc j)) 0) (part (part (list_at ts i) (suc j)) 1)) (first : reads_in x init (part (part (list_at ts i) (suc j)) 1) ≡ true) (spelled : 1 ≤ tally (bucket false r) (bucket false r x) (part (part (list_at ts i) (suc j)) 1)) where
     abbrev following : Tree
     following = part (list_at ts i) (suc j)
 
@@ -396,7 +404,7 @@ module _ (T : Tallies) (o : Tree) (ts : Trees) (i j : ℕ) (h : i < count ts) (d
 
     pub rare_next : IsRare T x 2 → is_read_then (x ∷ []) (part (list_at ts i) j) following o ds j ts i ≡ true
     rare_next rare =
-        let a = beside (bucket true n) (within_few true T.by_symbol.items o (listed ts) x 2 (omega arith) told.symbols rare.symbols) (first_counted n x false (part following 1) first) in
+        let a = beside (bucket true n) (within_few true T.by_symbol.items o (listed ts) x 2 (omega arith) told.symbols rare.symbols) (first_counted n x false (part following 1) (and_parts (is_first x false (part following 1)) (are_passed x init (part following 1)) first).0) in
         let b = beside (bucket false r) (within_few false T.by_spelling.items o (listed ts) x 2 (omega arith) told.spellings rare.spellings) spelled in
         let one_of = unmentioned x n r in
         let all_of = all_unmentioned x n r in
@@ -425,13 +433,17 @@ part_spelled x t u b e f h r =
     let whole = part_of (bucket false r) (bucket false r x) t 0 in
     omega (arith, one, same, whole)
 
--- the second part
-pub initial_spelled : (x : Name) (t u : Tree) (b : Bool) → u ≡ part t 1 → (b ≡ true → (r : ℕ) → 1 ≤ tally (bucket false r) (bucket false r x) u) → b ≡ true → (r : ℕ) → 1 ≤ tally (bucket false r) (bucket false r x) t
-initial_spelled x t u b e f h r =
-    let one = f h r in
-    let same = ap (tally (bucket false r) (bucket false r x)) e in
-    let whole = part_of (bucket false r) (bucket false r x) t 1 in
-    omega (arith, one, same, whole)
+-- what a head evaluates
+pub head_spelled : (x : Name) (t u : Tree) (b : Bool) → u ≡ evaluated t → (b ≡ true → (r : ℕ) → 1 ≤ tally (bucket false r) (bucket false r x) u) → b ≡ true → (r : ℕ) → 1 ≤ tally (bucket false r) (bucket false r x) t
+head_spelled x t u b e f h r = by (has_declarator t) (let one = f h r in let same = ap (tally (bucket false r) (bucket false r x)) e in omega (arith, one, same))
+  where
+    by : (c : Bool) → 1 ≤ tally (bucket false r) (bucket false r x) (if c then part (part (part t 0) 0) 1 else t) → 1 ≤ tally (bucket false r) (bucket false r x) t
+    by true one =
+        let inner = part_of (bucket false r) (bucket false r x) (part (part t 0) 0) 1 in
+        let list = part_of (bucket false r) (bucket false r x) (part t 0) 0 in
+        let whole = part_of (bucket false r) (bucket false r x) t 0 in
+        omega (arith, one, inner, list, whole)
+    by false one = one
 
 pub text_counted : (r : ℕ) (x y : Name) → same_text x.spelling y.spelling ≡ true → 1 ≤ own_tally (bucket false r) (bucket false r x) (y ∷ [])
 text_counted r x y e = let one = counted_there (bucket false r) (bucket false r x) y (sym (bucket_alike r x y (same_texts x.spelling y.spelling e))) in omega (arith, one)

@@ -1,26 +1,30 @@
 -- A block in which a name is read once, right after its declaration.
-use Rattle.std.proofs.Common.{◌≡◌, ℕ, zero, suc, ◌+◌, ◌<◌, Bool, true, false, [], ◌∷◌, refl, sym, ap, ◌∙◌, subst, true≢false, add-one, arith}
-use Rattle.std.specs.Prelude.{not, ◌&&◌, ◌||◌}
-use Rattle.std.proofs.lemmas.Bool.{and_parts}
+use Rattle.std.proofs.Common.{◌≡◌, ℕ, zero, suc, ◌+◌, ◌<◌, ◌≤◌, Bool, true, false, [], ◌∷◌, refl, sym, ap, ◌∙◌, subst, true≢false, add-one, arith}
+use Rattle.std.specs.Prelude.{not, ◌&&◌, ◌||◌, if◌then◌else◌}
+use Rattle.std.proofs.lemmas.Bool.{and_parts, ltb-true, ltb-false}
+use Rattle.std.proofs.Math.Dec.{ltb}
 use Rattle.mini_model.specs.declared.kind.VariableDeclarationKind.{VariableDeclarationKind}
 use Rattle.mini_model.specs.declared.name.Name.{Name}
-use Rattle.mini_model.specs.Tree.{Tree, Trees, node, none, ◌▸◌, shape_of, children, count, node_count, child_or_absent}
+use Rattle.mini_model.specs.declared.shape.Shape.{Shape}
+use Rattle.mini_model.specs.declared.shape.Shape.TheVariants as shape
+use Rattle.mini_model.specs.Tree.{Tree, Trees, node, none, ◌▸◌, shape_of, children, count, node_count, node_counts, child_or_absent}
 use Rattle.mini_model.specs.Paths.{append}
 use Rattle.mini_laws.specs.Naming as kinds
 use Rattle.mini_laws.specs.ScopeList.{has_eval}
 use Rattle.mini_laws.specs.Value.{VariableSet}
 use Rattle.mini_node.specs.Children.{names_of, part, with_child, with_part, is_nameless, first_children, rest_children}
-use Rattle.mini_node.specs.Kinds.{is_block, is_sequence_shape}
+use Rattle.mini_node.specs.Kinds.{is_block}
 use Rattle.mini_node.specs.Made.{block_is}
 use Rattle.mini_node.specs.Walks.{next_child}
 use Rattle.mini_rows.specs.Lists.{block, declaration}
 use Rattle.mini_rows.specs.Declarations.{binding, declarator}
-use Rattle.mini_rows.specs.Unused.{resolved, declared_among, declared_left, names, any_names, leads, is_childless, reads, is_first, put_first, is_head_shape, reads_first, reads_head, put_head, may_move, lets_go, Row71}
+use Rattle.mini_rows.specs.Unused.{resolved, declared_among, declared_left, names, any_names, begins, goes_on, leads, has_arguments, holds_list, is_childless, is_written_value, is_value_operator, is_constant, reads, is_first, leads_to, put_first, put_among, passes, are_passed, all_passed, is_head_shape, reads_first, reads_head, evaluated, may_move, lets_go, Row71}
 use Rattle.mini_unused.specs.RemoveUnusedDeclaration.{declares_name, is_lexical_shape, declares_list, may_lose, is_free_at, list_at}
-use Rattle.mini_unused.specs.SubstituteSingleUse.{may_begin, is_head, last_place, is_declared_over, is_mentioned_around, reads_next, is_read_once, is_single_declarator, is_single, declaration_left, initializer, list_single}
+use Rattle.mini_unused.specs.SubstituteNext.{put_named}
+use Rattle.mini_unused.specs.SubstituteSingleUse.{mention_place, may_lead, all_pass, is_head, reads_here, last_place, is_declared_over, is_mentioned_around, reads_next, is_read_once, is_single_declarator, is_single, declaration_left, list_single}
 use Rattle.mini_unused.proofs.Unused.{no_outside, parts_of, there_child, there_first, and_both, Declares, declares, a_declaration, left_is}
 
--- ---- the first part
+-- ---- the part that reads
 
 pub childless : (t : Tree) → count (children t) ≡ 0 → is_childless t ≡ true
 childless (node h xs n none) e = refl
@@ -34,28 +38,213 @@ pub no_first : (ts : Trees) → rest_children 0 ts ≡ ts
 no_first none = refl
 no_first (t ▸ ts) = refl
 
-and_assoc : (a b c : Bool) → (a && (b && c)) ≡ ((a && b) && c)
-and_assoc true b c = refl
-and_assoc false b c = refl
+-- where a part leads at all
+pub leads_further : (h : Shape) (i : ℕ) (c : Bool) → (i ≡ 0 → ⊥) → (i ≡ 1 → ⊥) → leads false h i c ≡ false
+leads_further h zero c f g = absurd (f refl)
+leads_further h (suc zero) c f g = absurd (g refl)
+leads_further h (suc (suc i)) c f g = refl
 
--- by what is asked of the node, of its first part and of the others
-pub first_by : (x : Name) (b : Bool) (t : Tree) (m f a : Bool) → 0 < count (children t) → m ≡ may_begin b t → f ≡ is_first x (is_sequence_shape (shape_of t)) (part t 0) → a ≡ any_names x (rest_children 1 (children t)) → is_first x b t ≡ (m && (f && not a))
-first_by x b (node h xs n none) m f a s e g i = absurd (omega (arith, s))
-first_by x b (node h xs n (t ▸ ts)) m f a s e g i =
-    and_assoc (leads b h (is_childless t)) (is_nameless (node h xs n (t ▸ ts))) (is_first x (is_sequence_shape h) t && not (any_names x ts)) ∙ sym (λ k. e k && (g k && not ((i ∙ ap (any_names x) (no_first ts)) k)))
+pub lists_further : (h : Shape) (i : ℕ) → (i ≡ 0 → ⊥) → holds_list h i ≡ has_arguments h
+lists_further h zero f = absurd (f refl)
+lists_further h (suc i) f = refl
 
-pub not_begun : (x : Name) (b : Bool) (t : Tree) → 0 < count (children t) → may_begin b t ≡ false → is_first x b t ≡ false
-not_begun x b t s e = first_by x b t false (is_first x (is_sequence_shape (shape_of t)) (part t 0)) (any_names x (rest_children 1 (children t))) s (sym e) refl refl
+-- constants
+pub constant_literal : (t : Tree) → is_written_value (shape_of t) ≡ true → is_constant t ≡ true
+constant_literal (node h ys n none) e = e
+constant_literal (node h ys n (t ▸ none)) e = ap (λ b. b || (is_value_operator h && is_written_value (shape_of t))) e
+constant_literal (node h ys n (t ▸ (u ▸ ts))) e = e
+
+pub constant_operator : (t : Tree) → is_written_value (shape_of t) ≡ false → is_value_operator (shape_of t) ≡ true → count (children t) ≡ 1 → is_constant t ≡ is_written_value (shape_of (part t 0))
+constant_operator (node h ys n none) e o c = absurd (omega (arith, c))
+constant_operator (node h ys n (t ▸ none)) e o c = λ k. e k || (o k && is_written_value (shape_of t))
+constant_operator (node h ys n (t ▸ (u ▸ ts))) e o c = absurd (omega (arith, c))
+
+pub no_operator : (t : Tree) → is_written_value (shape_of t) ≡ false → is_value_operator (shape_of t) ≡ false → is_constant t ≡ false
+no_operator (node h ys n none) e f = e
+no_operator (node h ys n (t ▸ none)) e f = λ k. e k || (f k && is_written_value (shape_of t))
+no_operator (node h ys n (t ▸ (u ▸ ts))) e f = e
+
+pub no_constant : (t : Tree) → is_written_value (shape_of t) ≡ false → (count (children t) ≡ 1 → ⊥) → is_constant t ≡ false
+no_constant (node h ys n none) e f = e
+no_constant (node h ys n (t ▸ none)) e f = absurd (f (omega arith))
+no_constant (node h ys n (t ▸ (u ▸ ts))) e f = e
+
+-- where the first of them mentions the name, and where it doesn't
+place_here : (x : Name) (t : Tree) (ts : Trees) → names x t ≡ true → mention_place x (t ▸ ts) ≡ 0
+place_here x t ts e = ap (λ c. if c then 0 else suc (mention_place x ts)) e
+
+place_later : (x : Name) (t : Tree) (ts : Trees) → names x t ≡ false → mention_place x (t ▸ ts) ≡ suc (mention_place x ts)
+place_later x t ts e = ap (λ c. if c then 0 else suc (mention_place x ts)) e
+
+each_bool : (P : Bool → Type 0) (b : Bool) → (b ≡ true → P true) → (b ≡ false → P false) → P b
+each_bool P true f g = f refl
+each_bool P false f g = g refl
+
+-- the part at a place, where there is one
+abbrev leads_there : Name → Bool → Shape → ℕ → ℕ → Trees → Bool
+leads_there x b h i p ts = leads b h i (is_childless (child_or_absent ts p)) && (is_first x (holds_list h i) (child_or_absent ts p) && not (any_names x (rest_children (suc p) ts)))
+
+abbrev leads_one : Name → Bool → Shape → ℕ → Tree → Trees → Bool → Bool
+leads_one x b h i t ts c = if c then (leads b h i (is_childless t) && (is_first x (holds_list h i) t && not (any_names x ts))) else leads_to x b h (suc i) ts
+
+leads_at : (x : Name) (b : Bool) (h : Shape) (i : ℕ) (ts : Trees) → mention_place x ts < count ts → leads_to x b h i ts ≡ leads_there x b h (i + mention_place x ts) (mention_place x ts) ts
+leads_at x b h i none l = absurd (omega (arith, l))
+leads_at x b h i (t ▸ ts) l = by (names x t) refl l (leads_at x b h (suc i) ts)
+  where
+    by : (c : Bool) → names x t ≡ c → mention_place x (t ▸ ts) < count (t ▸ ts) → (mention_place x ts < count ts → leads_to x b h (suc i) ts ≡ leads_there x b h (suc i + mention_place x ts) (mention_place x ts) ts) → leads_to x b h i (t ▸ ts) ≡ leads_there x b h (i + mention_place x (t ▸ ts)) (mention_place x (t ▸ ts)) (t ▸ ts)
+    by true e l f =
+        ap (leads_one x b h i t ts) e ∙ (λ k. leads b h i (is_childless t) && (is_first x (holds_list h i) t && not (any_names x (sym (no_first ts) k)))) ∙ sym (ap (λ p. leads_there x b h (i + p) p (t ▸ ts)) (place_here x t ts e) ∙ ap (λ j. leads_there x b h j 0 (t ▸ ts)) (omega arith))
+    by false e l f =
+        let q = mention_place x ts in
+        let later = place_later x t ts e in
+        ap (leads_one x b h i t ts) e ∙ f (omega (arith, l, later)) ∙ sym (ap (λ p. leads_there x b h (i + p) p (t ▸ ts)) later ∙ ap (λ j. leads_there x b h j (suc q) (t ▸ ts)) (omega arith))
+
+leads_nowhere : (x : Name) (b : Bool) (h : Shape) (i : ℕ) (ts : Trees) → count ts ≤ mention_place x ts → leads_to x b h i ts ≡ false
+leads_nowhere x b h i none l = refl
+leads_nowhere x b h i (t ▸ ts) l = by (names x t) refl l (leads_nowhere x b h (suc i) ts)
+  where
+    by : (c : Bool) → names x t ≡ c → count (t ▸ ts) ≤ mention_place x (t ▸ ts) → (count ts ≤ mention_place x ts → leads_to x b h (suc i) ts ≡ false) → leads_to x b h i (t ▸ ts) ≡ false
+    by true e l f = let here = place_here x t ts e in absurd (omega (arith, l, here))
+    by false e l f = let later = place_later x t ts e in ap (λ c. if c then (leads b h i (is_childless t) && (is_first x (holds_list h i) t && not (any_names x ts))) else leads_to x b h (suc i) ts) e ∙ f (omega (arith, l, later))
 
 and_false : (a : Bool) → (a && false) ≡ false
 and_false true = refl
 and_false false = refl
 
-pub not_read : (x : Name) (b : Bool) (t : Tree) → 0 < count (children t) → is_first x (is_sequence_shape (shape_of t)) (part t 0) ≡ false → is_first x b t ≡ false
-not_read x b t s e = first_by x b t (may_begin b t) false (any_names x (rest_children 1 (children t))) s refl (sym e) refl ∙ and_false (may_begin b t)
+and_assoc : (a b c : Bool) → (a && (b && c)) ≡ ((a && b) && c)
+and_assoc true b c = refl
+and_assoc false b c = refl
 
-pub read_by : (x : Name) (b : Bool) (t : Tree) (a : Bool) → 0 < count (children t) → may_begin b t ≡ true → is_first x (is_sequence_shape (shape_of t)) (part t 0) ≡ true → a ≡ any_names x (rest_children 1 (children t)) → is_first x b t ≡ not a
-read_by x b t a s e f g = first_by x b t true true a s (sym e) (sym f) g
+and_turned : (a b c : Bool) → (a && (b && c)) ≡ ((b && a) && c)
+and_turned true true c = refl
+and_turned true false c = refl
+and_turned false true c = refl
+and_turned false false c = refl
+
+-- by what is asked of the node, of the part and of those after it
+pub first_by : (x : Name) (b : Bool) (t : Tree) (p : ℕ) (m f a : Bool) → p ≡ mention_place x (children t) → p < count (children t) → m ≡ may_lead b t p → f ≡ is_first x (holds_list (shape_of t) p) (part t p) → a ≡ any_names x (rest_children (suc p) (children t)) → is_first x b t ≡ (m && (f && not a))
+first_by x b (node h xs n none) p m f a e l g i k = absurd (omega (arith, l))
+first_by x b (node h xs n (t ▸ ts)) p m f a e l g i k =
+    let us : Trees = t ▸ ts in
+    let same = is_nameless (node h xs n us) in
+    let there = leads_at x b h 0 us (omega (arith, e, l)) ∙ ap (λ j. leads_there x b h j (mention_place x us) us) (omega arith) ∙ sym (ap (λ j. leads_there x b h j j us) e) in
+    ap (λ c. same && c) there ∙ and_turned same (leads b h p (is_childless (child_or_absent us p))) (is_first x (holds_list h p) (child_or_absent us p) && not (any_names x (rest_children (suc p) us))) ∙ sym (λ j. g j && (i j && not (k j)))
+
+pub not_mentioned : (x : Name) (b : Bool) (t : Tree) (p : ℕ) → 0 < count (children t) → p ≡ mention_place x (children t) → count (children t) ≤ p → is_first x b t ≡ false
+not_mentioned x b (node h xs n none) p s e l = absurd (omega (arith, s))
+not_mentioned x b (node h xs n (t ▸ ts)) p s e l = ap (λ c. is_nameless (node h xs n (t ▸ ts)) && c) (leads_nowhere x b h 0 (t ▸ ts) (omega (arith, e, l))) ∙ and_false (is_nameless (node h xs n (t ▸ ts)))
+
+pub not_begun : (x : Name) (b : Bool) (t : Tree) (p : ℕ) → p ≡ mention_place x (children t) → p < count (children t) → may_lead b t p ≡ false → is_first x b t ≡ false
+not_begun x b t p s l e = first_by x b t p false (is_first x (holds_list (shape_of t) p) (part t p)) (any_names x (rest_children (suc p) (children t))) s l (sym e) refl refl
+
+pub not_read : (x : Name) (b : Bool) (t : Tree) (p : ℕ) → p ≡ mention_place x (children t) → p < count (children t) → is_first x (holds_list (shape_of t) p) (part t p) ≡ false → is_first x b t ≡ false
+not_read x b t p s l e = first_by x b t p (may_lead b t p) false (any_names x (rest_children (suc p) (children t))) s l refl (sym e) refl ∙ and_false (may_lead b t p)
+
+pub read_by : (x : Name) (b : Bool) (t : Tree) (p : ℕ) (a : Bool) → p ≡ mention_place x (children t) → p < count (children t) → may_lead b t p ≡ true → is_first x (holds_list (shape_of t) p) (part t p) ≡ true → a ≡ any_names x (rest_children (p + 1) (children t)) → is_first x b t ≡ not a
+read_by x b t p a s l e f g = first_by x b t p true true a s l (sym e) (sym f) (g ∙ ap (λ j. any_names x (rest_children j (children t))) (add-one p))
+
+-- ---- the place of a mention
+
+pub place_start : (x : Name) (ts : Trees) → any_names x (first_children 0 ts) ≡ false
+place_start x none = refl
+place_start x (t ▸ ts) = refl
+
+or_left : (a b : Bool) → (a || b) ≡ false → a ≡ false
+or_left true b e = absurd (true≢false e)
+or_left false b e = refl
+
+or_right : (a b : Bool) → (a || b) ≡ false → b ≡ false
+or_right true b e = absurd (true≢false e)
+or_right false b e = e
+
+pub place_found : (x : Name) (ts : Trees) (i : ℕ) (c : Tree) → i < count ts → any_names x (first_children i ts) ≡ false → c ≡ child_or_absent ts i → names x c ≡ true → i ≡ mention_place x ts
+place_found x none i c l f e n = absurd (omega (arith, l))
+place_found x (t ▸ ts) zero c l f e n = sym (place_here x t ts (sym (ap (names x) e) ∙ n))
+place_found x (t ▸ ts) (suc i) c l f e n = ap suc (place_found x ts i c (omega (arith, l)) (or_right (names x t) (any_names x (first_children i ts)) f) e n) ∙ sym (place_later x t ts (or_left (names x t) (any_names x (first_children i ts)) f))
+
+pub place_end : (x : Name) (ts : Trees) (i : ℕ) → count ts ≤ i → any_names x (first_children i ts) ≡ false → count ts ≡ mention_place x ts
+place_end x none i l f = refl
+place_end x (t ▸ ts) zero l f = absurd (omega (arith, l))
+place_end x (t ▸ ts) (suc i) l f = ap suc (place_end x ts i (omega (arith, l)) (or_right (names x t) (any_names x (first_children i ts)) f)) ∙ sym (place_later x t ts (or_left (names x t) (any_names x (first_children i ts)) f))
+
+pub place_within : (x : Name) (ts : Trees) → mention_place x ts ≤ count ts
+place_within x none = omega arith
+place_within x (t ▸ ts) = by (names x t) refl (place_within x ts)
+  where
+    by : (c : Bool) → names x t ≡ c → mention_place x ts ≤ count ts → mention_place x (t ▸ ts) ≤ count (t ▸ ts)
+    by true e l = let here = place_here x t ts e in omega (arith, here)
+    by false e l = let later = place_later x t ts e in omega (arith, later, l)
+
+-- ---- the parts before it
+
+pub all_start : (r : Tree) (ts : Trees) → all_pass r (first_children 0 ts) ≡ true
+all_start r none = refl
+all_start r (t ▸ ts) = refl
+
+pub all_step : (r : Tree) (ts : Trees) (i : ℕ) (c : Tree) → i < count ts → c ≡ child_or_absent ts i → passes r c ≡ true → all_pass r (first_children i ts) ≡ true → all_pass r (first_children (i + 1) ts) ≡ true
+all_step r ts i c l e p a = ap (λ j. all_pass r (first_children j ts)) (add-one i) ∙ go ts i l e a
+  where
+    go : (ts : Trees) (i : ℕ) → i < count ts → c ≡ child_or_absent ts i → all_pass r (first_children i ts) ≡ true → all_pass r (first_children (suc i) ts) ≡ true
+    go none i l e a = absurd (omega (arith, l))
+    go (t ▸ none) zero l e a = ap (λ b. b && true) (sym (ap (passes r) e) ∙ p)
+    go (t ▸ (u ▸ ts)) zero l e a = ap (λ b. b && true) (sym (ap (passes r) e) ∙ p)
+    go (t ▸ ts) (suc i) l e a =
+        let (x, y) = and_parts (passes r t) (all_pass r (first_children i ts)) a in
+        and_both (passes r t) (all_pass r (first_children (suc i) ts)) x (go ts i (omega (arith, l)) e y)
+
+pub all_stopped : (r : Tree) (ts : Trees) (i m : ℕ) (c : Tree) → i < count ts → i < m → c ≡ child_or_absent ts i → passes r c ≡ false → all_pass r (first_children m ts) ≡ false
+all_stopped r none i m c l k e p = absurd (omega (arith, l))
+all_stopped r (t ▸ ts) i zero c l k e p = absurd (omega (arith, k))
+all_stopped r (t ▸ ts) zero (suc m) c l k e p = ap (λ b. b && all_pass r (first_children m ts)) (sym (ap (passes r) e) ∙ p)
+all_stopped r (t ▸ ts) (suc i) (suc m) c l k e p = ap (λ b. passes r t && b) (all_stopped r ts i m c (omega (arith, l)) (omega (arith, k)) e p) ∙ and_false (passes r t)
+
+-- up to a place, and there
+abbrev passed_there : Name → Tree → Trees → ℕ → Bool
+passed_there x r ts p = all_pass r (first_children p ts) && are_passed x r (child_or_absent ts p)
+
+abbrev passed_one : Name → Tree → Tree → Trees → Bool → Bool
+passed_one x r t ts c = if c then are_passed x r t else (passes r t && all_passed x r ts)
+
+passed_at : (x : Name) (r : Tree) (ts : Trees) → mention_place x ts < count ts → all_passed x r ts ≡ passed_there x r ts (mention_place x ts)
+passed_at x r none l = absurd (omega (arith, l))
+passed_at x r (t ▸ ts) l = by (names x t) refl l (passed_at x r ts)
+  where
+    by : (c : Bool) → names x t ≡ c → mention_place x (t ▸ ts) < count (t ▸ ts) → (mention_place x ts < count ts → all_passed x r ts ≡ passed_there x r ts (mention_place x ts)) → all_passed x r (t ▸ ts) ≡ passed_there x r (t ▸ ts) (mention_place x (t ▸ ts))
+    by true e l f = ap (passed_one x r t ts) e ∙ sym (ap (passed_there x r (t ▸ ts)) (place_here x t ts e))
+    by false e l f =
+        let later = place_later x t ts e in
+        ap (passed_one x r t ts) e ∙ ap (λ c. passes r t && c) (f (omega (arith, l, later))) ∙ and_assoc (passes r t) (all_pass r (first_children (mention_place x ts) ts)) (are_passed x r (child_or_absent ts (mention_place x ts))) ∙ sym (ap (passed_there x r (t ▸ ts)) later)
+
+passed_nowhere : (x : Name) (r : Tree) (ts : Trees) → count ts ≤ mention_place x ts → all_passed x r ts ≡ all_pass r (first_children (count ts) ts)
+passed_nowhere x r none l = refl
+passed_nowhere x r (t ▸ ts) l = by (names x t) refl l (passed_nowhere x r ts)
+  where
+    by : (c : Bool) → names x t ≡ c → count (t ▸ ts) ≤ mention_place x (t ▸ ts) → (count ts ≤ mention_place x ts → all_passed x r ts ≡ all_pass r (first_children (count ts) ts)) → all_passed x r (t ▸ ts) ≡ (passes r t && all_pass r (first_children (count ts) ts))
+    by true e l f = let here = place_here x t ts e in absurd (omega (arith, l, here))
+    by false e l f = let later = place_later x t ts e in ap (λ c. if c then are_passed x r t else (passes r t && all_passed x r ts)) e ∙ ap (λ c. passes r t && c) (f (omega (arith, l, later)))
+
+pub passed_none : (x : Name) (r t : Tree) (p : ℕ) → p ≡ mention_place x (children t) → all_pass r (first_children p (children t)) ≡ false → are_passed x r t ≡ false
+passed_none x r (node h xs n ts) p e f = by (ltb p (count ts)) refl
+  where
+    by : (b : Bool) → ltb p (count ts) ≡ b → all_passed x r ts ≡ false
+    by true k =
+        let less = ltb-true p (count ts) k in
+        passed_at x r ts (omega (arith, e, less)) ∙ sym (ap (passed_there x r ts) e) ∙ ap (λ c. c && are_passed x r (child_or_absent ts p)) f
+    by false k =
+        let more = ltb-false p (count ts) k in
+        let within = place_within x ts in
+        let same : count ts ≡ p = omega (arith, e, more, within) in
+        passed_nowhere x r ts (omega (arith, e, more)) ∙ ap (λ j. all_pass r (first_children j ts)) same ∙ f
+
+pub passed_all : (x : Name) (r t : Tree) (p : ℕ) → p ≡ mention_place x (children t) → count (children t) ≤ p → all_pass r (first_children p (children t)) ≡ true → are_passed x r t ≡ true
+passed_all x r (node h xs n ts) p e l f =
+    let within = place_within x ts in
+    let same : count ts ≡ p = omega (arith, e, l, within) in
+    passed_nowhere x r ts (omega (arith, e, l)) ∙ ap (λ j. all_pass r (first_children j ts)) same ∙ f
+
+pub passed_below : (x : Name) (r t : Tree) (p : ℕ) → p ≡ mention_place x (children t) → p < count (children t) → all_pass r (first_children p (children t)) ≡ true → are_passed x r t ≡ are_passed x r (part t p)
+passed_below x r (node h xs n ts) p e l f =
+    passed_at x r ts (omega (arith, e, l)) ∙ sym (ap (passed_there x r ts) e) ∙ ap (λ c. c && are_passed x r (child_or_absent ts p)) f
 
 -- of a statement
 
@@ -77,17 +266,50 @@ head_not_read x t s e = reads_by x t (is_head t) false (any_names x (rest_childr
 pub head_read_by : (x : Name) (t : Tree) (a : Bool) → 0 < count (children t) → is_head t ≡ true → is_first x false (part t 0) ≡ true → a ≡ any_names x (rest_children 1 (children t)) → reads_first x t ≡ not a
 head_read_by x t a s e f g = reads_by x t true true a s (sym e) (sym f) g
 
-pub put_leaf : (r t : Tree) → count (children t) ≡ 0 → put_first r t ≡ r
-put_leaf r (node h xs n none) e = refl
-put_leaf r (node h xs n (t ▸ ts)) e = absurd (omega (arith, e))
+pub put_leaf : (x : Name) (r t : Tree) → count (children t) ≡ 0 → put_first x r t ≡ r
+put_leaf x r (node h xs n none) e = refl
+put_leaf x r (node h xs n (t ▸ ts)) e = absurd (omega (arith, e))
 
-pub put_step : (r t : Tree) → 0 < count (children t) → put_first r t ≡ with_part t 0 (put_first r (part t 0))
-put_step r (node h xs n none) e = absurd (omega (arith, e))
-put_step r (node h xs n (t ▸ ts)) e = refl
+abbrev put_one : Name → Tree → Tree → Trees → Bool → Trees
+put_one x r t ts c = if c then put_first x r t ▸ ts else t ▸ put_among x r ts
+
+abbrev put_there : Name → Tree → Trees → ℕ → Trees
+put_there x r us p = with_child us p (put_first x r (child_or_absent us p))
+
+put_at : (x : Name) (r : Tree) (ts : Trees) → mention_place x ts < count ts → put_among x r ts ≡ with_child ts (mention_place x ts) (put_first x r (child_or_absent ts (mention_place x ts)))
+put_at x r none l = absurd (omega (arith, l))
+put_at x r (t ▸ ts) l = by (names x t) refl l (put_at x r ts)
+  where
+    by : (c : Bool) → names x t ≡ c → mention_place x (t ▸ ts) < count (t ▸ ts) → (mention_place x ts < count ts → put_among x r ts ≡ put_there x r ts (mention_place x ts)) → put_among x r (t ▸ ts) ≡ put_there x r (t ▸ ts) (mention_place x (t ▸ ts))
+    by true e l f = ap (put_one x r t ts) e ∙ sym (ap (put_there x r (t ▸ ts)) (place_here x t ts e))
+    by false e l f = let later = place_later x t ts e in ap (put_one x r t ts) e ∙ ap (λ us. t ▸ us) (f (omega (arith, l, later))) ∙ sym (ap (put_there x r (t ▸ ts)) later)
+
+put_nowhere : (x : Name) (r : Tree) (ts : Trees) → count ts ≤ mention_place x ts → put_among x r ts ≡ ts
+put_nowhere x r none l = refl
+put_nowhere x r (t ▸ ts) l = by (names x t) refl l (put_nowhere x r ts)
+  where
+    by : (c : Bool) → names x t ≡ c → count (t ▸ ts) ≤ mention_place x (t ▸ ts) → (count ts ≤ mention_place x ts → put_among x r ts ≡ ts) → put_among x r (t ▸ ts) ≡ t ▸ ts
+    by true e l f = let here = place_here x t ts e in absurd (omega (arith, l, here))
+    by false e l f = let later = place_later x t ts e in ap (λ c. if c then put_first x r t ▸ ts else t ▸ put_among x r ts) e ∙ ap (λ us. t ▸ us) (f (omega (arith, l, later)))
+
+pub put_step : (x : Name) (r t : Tree) (p : ℕ) → p ≡ mention_place x (children t) → p < count (children t) → put_first x r t ≡ with_part t p (put_first x r (part t p))
+put_step x r (node h xs n none) p e l = absurd (omega (arith, l))
+put_step x r (node h xs n (t ▸ ts)) p e l = ap (node h xs n) (put_at x r (t ▸ ts) (omega (arith, e, l)) ∙ sym (ap (λ j. with_child (t ▸ ts) j (put_first x r (child_or_absent (t ▸ ts) j))) e))
+
+pub put_none : (x : Name) (r t : Tree) (p : ℕ) → 0 < count (children t) → p ≡ mention_place x (children t) → count (children t) ≤ p → put_first x r t ≡ t
+put_none x r (node h xs n none) p s e l = absurd (omega (arith, s))
+put_none x r (node h xs n (t ▸ ts)) p s e l = ap (node h xs n) (put_nowhere x r (t ▸ ts) (omega (arith, e, l)))
+
+pub smaller_at : (t u : Tree) (p : ℕ) → p < count (children t) → u ≡ part t p → node_count u < node_count t
+smaller_at (node h xs n ts) u p l e = let same = ap node_count e in let less = go ts p l in omega (arith, same, less)
+  where
+    go : (ts : Trees) (p : ℕ) → p < count ts → node_count (child_or_absent ts p) ≤ node_counts ts
+    go none p l = absurd (omega (arith, l))
+    go (t ▸ ts) zero l = omega arith
+    go (t ▸ ts) (suc p) l = let rest = go ts p (omega (arith, l)) in omega (arith, rest)
 
 pub part_smaller : (t u : Tree) → 0 < count (children t) → u ≡ part t 0 → node_count u < node_count t
-part_smaller (node h xs n none) u e f = absurd (omega (arith, e))
-part_smaller (node h xs n (t ▸ ts)) u e f = let same = ap node_count f in omega (arith, same)
+part_smaller t u e f = smaller_at t u 0 e f
 
 -- ---- the last declarator
 
@@ -100,8 +322,8 @@ pub no_declarator : (free : Bool) (W : VariableSet) (l o : Tree) (ts : Trees) (i
 no_declarator free W (node h xs n none) o ts i j e = refl
 no_declarator free W (node h xs n (t ▸ us)) o ts i j e = absurd (omega (arith, e))
 
-pub read_next : (x : Name) (ts : Trees) (i : ℕ) → reads_head x (child_or_absent ts (i + 1)) ≡ reads_next x ts i
-read_next x ts i = ap (λ k. reads_head x (child_or_absent ts k)) (add-one i)
+pub read_next : (x : Name) (r : Tree) (ts : Trees) (i : ℕ) → reads_here x r (child_or_absent ts (i + 1)) ≡ reads_next x r ts i
+read_next x r ts i = ap (λ k. reads_here x r (child_or_absent ts k)) (add-one i)
 
 pub single_by : (W : VariableSet) (o : Tree) (ts : Trees) (i : ℕ) (statement l : Tree) (n : ℕ) (free r : Bool) → statement ≡ child_or_absent ts i → declares_list statement ≡ true → l ≡ part statement 0 → n ≡ last_place (children l) → free ≡ is_lexical_shape (shape_of statement) → r ≡ is_single_declarator free W l n o ts i → r ≡ is_single W o ts i
 single_by W o ts i statement l n free r s e f g z h =
@@ -134,11 +356,6 @@ next_part (node h xs n ts) i x = go ts i
     go (t ▸ ts) zero = refl
     go (t ▸ ts) (suc i) = go ts i
 
--- of a list, by the two that are written
-pub single_is : (l m n : Tree) (i j k : ℕ) (r : Tree) → m ≡ with_part l i (declaration_left (part l i) j) → r ≡ initializer l i j → k ≡ i + 1 → n ≡ with_part m k (put_head r (part m k)) → n ≡ list_single l i j
-single_is l m n i j k r e f g h =
-    h ∙ (λ a. with_part (e a) ((g ∙ add-one i) a) (put_head (f a) (part (e a) ((g ∙ add-one i) a)))) ∙ ap (λ u. with_part (with_part l i (declaration_left (part l i) j)) (suc i) (put_head (initializer l i j) u)) (next_part l i (declaration_left (part l i) j))
-
 with_two : (ts : Trees) (i : ℕ) (x y : Tree) → suc i < count ts → with_child (with_child ts i x) (suc i) y ≡ append (first_children i ts) (x ▸ (y ▸ rest_children (suc (suc i)) ts))
 with_two none i x y h = absurd (omega (arith, h))
 with_two (t ▸ none) i x y h = absurd (omega (arith, h))
@@ -161,6 +378,7 @@ within_there (t ▸ ts) d e us = let within = within_there ts d e us in omega (a
 
 record Once (x : Name) (init : Tree) (ds : Trees) (j : ℕ) (ts : Trees) (i : ℕ) : Type 0 where
   once : reads_head x (child_or_absent ts (suc i)) ≡ true
+  passed : are_passed x init (evaluated (child_or_absent ts (suc i))) ≡ true
   initial : names x init ≡ false
   declared_earlier : any_names x (first_children j ds) ≡ false
   earlier : any_names x (first_children i ts) ≡ false
@@ -173,12 +391,13 @@ neither false false e = (refl, refl)
 
 read_once : (x : Name) (init : Tree) (ds : Trees) (j : ℕ) (ts : Trees) (i : ℕ) → is_read_once (x ∷ []) no_outside init ds j ts i ≡ true → Once x init ds j ts i
 read_once x init ds j ts i e =
-    let a = reads_head x (child_or_absent ts (suc i)) in
+    let a = reads_next x init ts i in
     let (p, q) = and_parts a (not (is_declared_over x init ds j) && not (is_mentioned_around x ts i)) e in
     let (r, s) = and_parts (not (is_declared_over x init ds j)) (not (is_mentioned_around x ts i)) q in
     let (t, u) = neither (names x init) (any_names x (first_children j ds)) r in
     let (w, v) = neither (any_names x (rest_children (suc (suc i)) ts)) (any_names x (first_children i ts)) s in
-    record { once = p; initial = t; declared_earlier = u; earlier = v; later = w }
+    let (f, g) = and_parts (reads_head x (child_or_absent ts (suc i))) (are_passed x init (evaluated (child_or_absent ts (suc i)))) p in
+    record { once = f; passed = g; initial = t; declared_earlier = u; earlier = v; later = w }
 
 abbrev pub block_single : Tree → ℕ → ℕ → Tree
 block_single t i j = with_part t 0 (list_single (part t 0) i j)
@@ -258,9 +477,12 @@ module _ (t : Tree) (i : ℕ) (b : is_block t ≡ true) (next : suc i < count (c
   left_there : declaration_left statement j ≡ declared_left kind first
   left_there = ap (λ y. declaration_left y j) let_there ∙ left_is kind ds j last_within ∙ ap (λ us. declared_left kind (append first us)) (last_rest ds) ∙ ap (declared_left kind) (none_after first)
 
-  written_there : (u : Tree) → u ≡ block_single t i j → u ≡ block (append before (declared_left kind first ▸ (put_head init head ▸ after)))
+  named_there : put_named (names_of (part d 0)) init head ≡ put_first x init head
+  named_there = ap (λ y. put_named (names_of (part y 0)) init head) one.is
+
+  written_there : (u : Tree) → u ≡ block_single t i j → u ≡ block (append before (declared_left kind first ▸ (put_first x init head ▸ after)))
   written_there u f =
-      f ∙ ap (λ y. block_single y i j) (block_is t b) ∙ ap block (with_two ts i (declaration_left statement j) (put_head init head) next) ∙ ap (λ y. block (append before (y ▸ (put_head init head ▸ after)))) left_there
+      f ∙ ap (λ y. block_single y i j) (block_is t b) ∙ ap block (with_two ts i (declaration_left statement j) (put_named (names_of (part d 0)) init head) next) ∙ (λ k. block (append before (left_there k ▸ (named_there k ▸ after))))
 
   pub row_there : (u : Tree) → u ≡ block_single t i j → Row71 W t u
   row_there u f = record {
@@ -275,6 +497,7 @@ module _ (t : Tree) (i : ℕ) (b : is_block t ≡ true) (next : suc i < count (c
     after = after;
     moves = tests.2;
     once = reading.once;
+    passed = reading.passed;
     earlier = reading.earlier;
     declared_earlier = reading.declared_earlier;
     initial = reading.initial;
@@ -306,7 +529,7 @@ module _ (W : VariableSet) (t w : Tree) (r : Row71 W t w) where
   once_is =
       let y = named in
       let all = λ (a b c d f : Bool). a && (not (b || c) && not (d || f)) in
-      let head_there = ap (reads_head y) (next_there r.before stated r.head r.after) ∙ r.once in
+      let head_there = ap (reads_here y r.init) (next_there r.before stated r.head r.after) ∙ and_both (reads_head y r.head) (are_passed y r.init (evaluated r.head)) r.once r.passed in
       let first_ds = ap (any_names y) (there_first r.first declared none) ∙ r.declared_earlier in
       let first_ts = ap (any_names y) (there_first r.before stated (r.head ▸ r.after)) ∙ r.earlier in
       let rest_ts = ap (any_names y) (rest_there r.before stated r.head r.after) ∙ r.later in

@@ -66,15 +66,15 @@ module _ (T : Tallies) (o : Tree) (ts : Trees) (i j : ℕ) (h : i < count ts) (d
       subst (λ u. j < count (children u) → declares_name (part u j) ≡ true → AreRare T (names_of (part (part u j) 0)) 1 → is_alone (names_of (part (part u j) 0)) o (part (part u j) 1) (children u) j ts i ≡ true) (sym e)
       (λ g n r. alone_in g (declares (part (list_at ts i) j) n) r)
 
-  read_in : suc i < count ts → j < count (children (list_at ts i)) → (one : Declares (part (list_at ts i) j)) → AreRead T (names_of (part (part (list_at ts i) j) 0)) (child_or_absent ts (suc i)) → is_read_once (names_of (part (part (list_at ts i) j) 0)) o (part (part (list_at ts i) j) 1) (children (list_at ts i)) j ts i ≡ true
+  read_in : suc i < count ts → j < count (children (list_at ts i)) → (one : Declares (part (list_at ts i) j)) → AreRead T (names_of (part (part (list_at ts i) j) 0)) (part (part (list_at ts i) j) 1) (child_or_absent ts (suc i)) → is_read_once (names_of (part (part (list_at ts i) j) 0)) o (part (part (list_at ts i) j) 1) (children (list_at ts i)) j ts i ≡ true
   read_in next g one r =
       let named = named_is (part (list_at ts i) j) one in
-      let rare = subst (λ xs. AreRead T xs (child_or_absent ts (suc i))) named r in
+      let rare = subst (λ xs. AreRead T xs (part (part (list_at ts i) j) 1) (child_or_absent ts (suc i))) named r in
       subst (λ xs. is_read_once xs o (part (part (list_at ts i) j) 1) (children (list_at ts i)) j ts i ≡ true) (sym named) (rare_read T o ts i j h d g one told next rare.1 rare.2 rare.0)
 
-  pub read_there : suc i < count ts → (l : Tree) → l ≡ list_at ts i → j < count (children l) → declares_name (part l j) ≡ true → AreRead T (names_of (part (part l j) 0)) (child_or_absent ts (suc i)) → is_read_once (names_of (part (part l j) 0)) o (part (part l j) 1) (children l) j ts i ≡ true
+  pub read_there : suc i < count ts → (l : Tree) → l ≡ list_at ts i → j < count (children l) → declares_name (part l j) ≡ true → AreRead T (names_of (part (part l j) 0)) (part (part l j) 1) (child_or_absent ts (suc i)) → is_read_once (names_of (part (part l j) 0)) o (part (part l j) 1) (children l) j ts i ≡ true
   read_there next l e =
-      subst (λ u. j < count (children u) → declares_name (part u j) ≡ true → AreRead T (names_of (part (part u j) 0)) (child_or_absent ts (suc i)) → is_read_once (names_of (part (part u j) 0)) o (part (part u j) 1) (children u) j ts i ≡ true) (sym e)
+      subst (λ u. j < count (children u) → declares_name (part u j) ≡ true → AreRead T (names_of (part (part u j) 0)) (part (part u j) 1) (child_or_absent ts (suc i)) → is_read_once (names_of (part (part u j) 0)) o (part (part u j) 1) (children u) j ts i ≡ true) (sym e)
       (λ g n r. read_in next g (declares (part (list_at ts i) j) n) r)
 
 -- the next one reads it
@@ -100,16 +100,16 @@ next_there W o ts i j statement l free s d h f g z e n t =
     )
 
 module _ (T : Tallies) (o : Tree) (ts : Trees) (i j : ℕ) (h : i < count ts) (d : declares_list (child_or_absent ts i) ≡ true) (told : Tallied T o (listed ts)) where
-  next_in : suc j < count (children (list_at ts i)) → (one : Declares (part (list_at ts i) j)) → is_declarator (part (list_at ts i) (suc j)) ≡ true → AreReadIn T (names_of (part (part (list_at ts i) j) 0)) (part (part (list_at ts i) (suc j)) 1) → is_read_then (names_of (part (part (list_at ts i) j) 0)) (part (list_at ts i) j) (part (list_at ts i) (suc j)) o (children (list_at ts i)) j ts i ≡ true
+  next_in : suc j < count (children (list_at ts i)) → (one : Declares (part (list_at ts i) j)) → is_declarator (part (list_at ts i) (suc j)) ≡ true → AreReadIn T (names_of (part (part (list_at ts i) j) 0)) (part (part (list_at ts i) j) 1) (part (part (list_at ts i) (suc j)) 1) → is_read_then (names_of (part (part (list_at ts i) j) 0)) (part (list_at ts i) j) (part (list_at ts i) (suc j)) o (children (list_at ts i)) j ts i ≡ true
   next_in g one other r =
       let named = named_is (part (list_at ts i) j) one in
-      let rare = subst (λ xs. AreReadIn T xs (part (part (list_at ts i) (suc j)) 1)) named r in
+      let rare = subst (λ xs. AreReadIn T xs (part (part (list_at ts i) j) 1) (part (part (list_at ts i) (suc j)) 1)) named r in
       subst (λ xs. is_read_then xs (part (list_at ts i) j) (part (list_at ts i) (suc j)) o (children (list_at ts i)) j ts i ≡ true) (sym named) (rare_next T o ts i j h d (omega (arith, g)) one told g (declarator_is (part (list_at ts i) (suc j)) other) rare.1 rare.2 rare.0)
 
-  pub read_by_next : (l : Tree) → l ≡ list_at ts i → j + 1 < count (children l) → declares_name (part l j) ≡ true → is_declarator (part l (j + 1)) ≡ true → AreReadIn T (names_of (part (part l j) 0)) (part (part l (j + 1)) 1) → is_read_then (names_of (part (part l j) 0)) (part l j) (part l (j + 1)) o (children l) j ts i ≡ true
+  pub read_by_next : (l : Tree) → l ≡ list_at ts i → j + 1 < count (children l) → declares_name (part l j) ≡ true → is_declarator (part l (j + 1)) ≡ true → AreReadIn T (names_of (part (part l j) 0)) (part (part l j) 1) (part (part l (j + 1)) 1) → is_read_then (names_of (part (part l j) 0)) (part l j) (part l (j + 1)) o (children l) j ts i ≡ true
   read_by_next l e =
-      subst (λ u. j + 1 < count (children u) → declares_name (part u j) ≡ true → is_declarator (part u (j + 1)) ≡ true → AreReadIn T (names_of (part (part u j) 0)) (part (part u (j + 1)) 1) → is_read_then (names_of (part (part u j) 0)) (part u j) (part u (j + 1)) o (children u) j ts i ≡ true) (sym e)
-      (subst (λ k. k < count (children (list_at ts i)) → declares_name (part (list_at ts i) j) ≡ true → is_declarator (part (list_at ts i) k) ≡ true → AreReadIn T (names_of (part (part (list_at ts i) j) 0)) (part (part (list_at ts i) k) 1) → is_read_then (names_of (part (part (list_at ts i) j) 0)) (part (list_at ts i) j) (part (list_at ts i) k) o (children (list_at ts i)) j ts i ≡ true) (sym (add-one j))
+      subst (λ u. j + 1 < count (children u) → declares_name (part u j) ≡ true → is_declarator (part u (j + 1)) ≡ true → AreReadIn T (names_of (part (part u j) 0)) (part (part u j) 1) (part (part u (j + 1)) 1) → is_read_then (names_of (part (part u j) 0)) (part u j) (part u (j + 1)) o (children u) j ts i ≡ true) (sym e)
+      (subst (λ k. k < count (children (list_at ts i)) → declares_name (part (list_at ts i) j) ≡ true → is_declarator (part (list_at ts i) k) ≡ true → AreReadIn T (names_of (part (part (list_at ts i) j) 0)) (part (part (list_at ts i) j) 1) (part (part (list_at ts i) k) 1) → is_read_then (names_of (part (part (list_at ts i) j) 0)) (part (list_at ts i) j) (part (list_at ts i) k) o (children (list_at ts i)) j ts i ≡ true) (sym (add-one j))
       (λ g n m r. next_in g (declares (part (list_at ts i) j) n) m r))
 
 -- ---- a list that has lost a name

@@ -10,14 +10,14 @@ use Rattle.mini_model.specs.Tree.{Tree, Trees, node, none, ◌▸◌, absent, li
 use Rattle.mini_laws.specs.ScopeList.{has_eval, any_has_eval, is_eval_call, is_eval_callee}
 use Rattle.mini_laws.specs.Value.{VariableSet}
 use Rattle.mini_node.specs.Children.{names_of, part, with_child, with_part, without, is_bare, is_nameless}
-use Rattle.mini_node.specs.Kinds.{is_listed, is_sequence_shape}
+use Rattle.mini_node.specs.Kinds.{is_listed}
 use Rattle.mini_rows.specs.Lists.{declaration}
-use Rattle.mini_rows.specs.Unused.{is_idle, any_names, names, begins, leads, is_childless, is_first, put_first, is_head_shape, reads_first, put_head, reads_head, may_move}
-use Rattle.mini_rows.proofs.SingleUse.{Initial, heads}
+use Rattle.mini_rows.specs.Unused.{is_idle, any_names, names, begins, goes_on, leads, holds_list, is_childless, is_first, leads_to, put_first, put_among, are_passed, is_head_shape, reads_first, reads_head, evaluated, may_move}
 use Rattle.mini_unused.specs.RemoveUnusedDeclaration.{declares_list, declares_name, may_lose, is_free_at, is_unused_declarator, list_at, statement_left, let_left}
 use Rattle.mini_rows.specs.Declarations.{declarator}
-use Rattle.mini_unused.specs.SubstituteNext.{is_declarator, is_mentioned_beside, is_mentioned_elsewhere, is_read_then, declarators_next, NextGone}
+use Rattle.mini_unused.specs.SubstituteNext.{reads_then, put_named, is_declarator, is_mentioned_beside, is_mentioned_elsewhere, is_read_then, declarators_next, NextGone}
 use Rattle.mini_unused.specs.SubstituteSingleUse.{declaration_left, last_place, reads_next, is_declared_over, is_mentioned_around, is_read_once, NameGone, ReadGone, Gone}
+use Rattle.mini_rows.proofs.SingleUse.{Initial, heads, mentioned}
 use Rattle.mini_unused.proofs.NextUses.{found, next_child_left}
 use Rattle.mini_unused.proofs.Unused.{a_declaration, declarator_is, not_true}
 
@@ -116,74 +116,130 @@ begun : (h : Shape) (c : Bool) → begins h c ≡ true → (xs : List Name) (n :
 begun shape.Identifier c e xs n ts = absurd (true≢false (sym e))
 begun h c e xs n ts = refl
 
-callee : (x : Name) (r t : Tree) → is_childless t ≡ false → is_first x false t ≡ true → is_eval_callee (put_first r t) ≡ false
+gone_on : (h : Shape) → goes_on h ≡ true → (xs : List Name) (n : ℕ) (ts : Trees) → is_eval_callee (node h xs n ts) ≡ false
+gone_on shape.Identifier e xs n ts = absurd (true≢false (sym e))
+gone_on h e xs n ts = refl
+
+led_by : (h : Shape) (i : ℕ) (c : Bool) → leads false h i c ≡ true → (xs : List Name) (n : ℕ) (ts : Trees) → is_eval_callee (node h xs n ts) ≡ false
+led_by h zero c e = begun h c e
+led_by h (suc zero) c e = gone_on h e
+led_by h (suc (suc i)) c e = absurd (true≢false (sym e))
+
+-- of some parts from a place on, the one that leads there
+record Leading (x : Name) (h : Shape) (i : ℕ) (ts : Trees) : Type 0 where
+  at : ℕ
+  leaf : Bool
+  leads : leads false h at leaf ≡ true
+
+leading : (x : Name) (h : Shape) (i : ℕ) (ts : Trees) → leads_to x false h i ts ≡ true → Leading x h i ts
+leading x h i none e = absurd (true≢false (sym e))
+leading x h i (t ▸ ts) e = by (names x t) e (leading x h (suc i) ts)
+  where
+    by : (c : Bool) → (if c then (leads false h i (is_childless t) && (is_first x (holds_list h i) t && not (any_names x ts))) else leads_to x false h (suc i) ts) ≡ true → (leads_to x false h (suc i) ts ≡ true → Leading x h (suc i) ts) → Leading x h i (t ▸ ts)
+    by true e f = record { at = i; leaf = is_childless t; leads = (and_parts (leads false h i (is_childless t)) (is_first x (holds_list h i) t && not (any_names x ts)) e).0 }
+    by false e f = let l = f e in record { at = l.at; leaf = l.leaf; leads = l.leads }
+
+-- a callee that is no name alone, with the tree in it
+callee : (x : Name) (r t : Tree) → is_childless t ≡ false → is_first x false t ≡ true → is_eval_callee (put_first x r t) ≡ false
 callee x r (node h ys n none) c e = absurd (true≢false c)
 callee x r (node h ys n (t ▸ ts)) c e =
-    begun h (is_childless t) (and_parts (begins h (is_childless t)) (is_nameless (node h ys n (t ▸ ts)) && (is_first x (is_sequence_shape h) t && not (any_names x ts))) e).0 ys n (put_first r t ▸ ts)
+    let l = leading x h 0 (t ▸ ts) (and_parts (is_nameless (node h ys n (t ▸ ts))) (leads_to x false h 0 (t ▸ ts)) e).1 in
+    led_by h l.at l.leaf l.leads ys n (put_among x r (t ▸ ts))
 
-called : (x : Name) (b : Bool) (h : Shape) (r t : Tree) (ts : Trees) → leads b h (is_childless t) ≡ true → is_first x (is_sequence_shape h) t ≡ true → is_eval_call h (put_first r t ▸ ts) ≡ false
-called x true (shape.CallExpression false) r t ts e f = absurd (true≢false (sym e))
-called x false (shape.CallExpression false) r t ts e f = callee x r t (not_true (is_childless t) e) f
-called x b h r t ts e f = refl
+-- a call of a name stays one, and is none of `eval`
+called : (x : Name) (b : Bool) (h : Shape) (r t : Tree) (ts us : Trees) → leads b h 0 (is_childless t) ≡ true → is_first x (holds_list h 0) t ≡ true → is_eval_call h (put_first x r t ▸ us) ≡ false
+called x true (shape.CallExpression false) r t ts us e f = absurd (true≢false (sym e))
+called x false (shape.CallExpression false) r t ts us e f = callee x r t (not_true (is_childless t) e) f
+called x b h r t ts us e f = refl
 
-put_there : (x : Name) (b : Bool) (r t : Tree) → is_first x b t ≡ true → has_eval r ≡ false → has_eval t ≡ false → has_eval (put_first r t) ≡ false
-put_there x b r (node h ys n none) f e g = e
-put_there x b r (node h ys n (t ▸ ts)) f e g =
-    let (l, p) = and_parts (leads b h (is_childless t)) (is_nameless (node h ys n (t ▸ ts)) && (is_first x (is_sequence_shape h) t && not (any_names x ts))) f in
-    let (m, q) = and_parts (is_nameless (node h ys n (t ▸ ts))) (is_first x (is_sequence_shape h) t && not (any_names x ts)) p in
-    let (s, u) = and_parts (is_first x (is_sequence_shape h) t) (not (any_names x ts)) q in
-    let (a, c) = first_and_others t ts (below (node h ys n (t ▸ ts)) g) in
-    over (node h ys n (put_first r t ▸ ts)) (called x b h r t ts l s) (all_of (put_first r t) ts (put_there x (is_sequence_shape h) r t s e a) c)
+same_callee : (h : Shape) (t : Tree) (ts us : Trees) → is_eval_call h (t ▸ ts) ≡ false → is_eval_call h (t ▸ us) ≡ false
+same_callee (shape.CallExpression false) t ts us e = e
+same_callee h t ts us e = refl
+
+no_callee : (h : Shape) (t : Tree) (ts : Trees) → has_eval (node h [] 0 (t ▸ ts)) ≡ false → is_eval_call h (t ▸ ts) ≡ false
+unfolding has_eval
+no_callee h t ts e = (either_not (is_eval_call h (t ▸ ts)) (any_has_eval (t ▸ ts)) e).0
+  where
+    either_not : (a b : Bool) → (a || b) ≡ false → (a ≡ false) × (b ≡ false)
+    either_not true b e = absurd (true≢false e)
+    either_not false b e = (refl, e)
+
+mutual
+  put_there : (x : Name) (b : Bool) (r t : Tree) → is_first x b t ≡ true → has_eval r ≡ false → has_eval t ≡ false → has_eval (put_first x r t) ≡ false
+  put_there x b r (node h ys n none) f e g = e
+  put_there x b r (node h [] zero (t ▸ ts)) f e g =
+      let (a, c) = put_in x b h 0 r (t ▸ ts) f e (below (node h [] 0 (t ▸ ts)) g) in
+      over (node h [] 0 (put_among x r (t ▸ ts))) (by (names x t) refl f) a
+    where
+      by : (c : Bool) → names x t ≡ c → (if c then (leads b h 0 (is_childless t) && (is_first x (holds_list h 0) t && not (any_names x ts))) else leads_to x b h 1 ts) ≡ true → is_eval_call h (put_among x r (t ▸ ts)) ≡ false
+      by true n f =
+          let (l, p) = and_parts (leads b h 0 (is_childless t)) (is_first x (holds_list h 0) t && not (any_names x ts)) f in
+          ap (λ c. is_eval_call h (if c then put_first x r t ▸ ts else t ▸ put_among x r ts)) n ∙ called x b h r t ts ts l (and_parts (is_first x (holds_list h 0) t) (not (any_names x ts)) p).0
+      by false n f = ap (λ c. is_eval_call h (if c then put_first x r t ▸ ts else t ▸ put_among x r ts)) n ∙ same_callee h t ts (put_among x r ts) (no_callee h t ts g)
+  put_there x b r (node h [] (suc n) (t ▸ ts)) f e g = absurd (true≢false (sym f))
+  put_there x b r (node h (y ∷ ys) n (t ▸ ts)) f e g = absurd (true≢false (sym f))
+
+  put_in : (x : Name) (b : Bool) (h : Shape) (i : ℕ) (r : Tree) (ts : Trees) → leads_to x b h i ts ≡ true → has_eval r ≡ false → any_has_eval ts ≡ false → (any_has_eval (put_among x r ts) ≡ false) × (any_has_eval ts ≡ false)
+  put_in x b h i r none f e g = absurd (true≢false (sym f))
+  put_in x b h i r (t ▸ ts) f e g =
+      let (a, c) = first_and_others t ts g in
+      (by (names x t) refl f a c (put_there x (holds_list h i) r t) (put_in x b h (suc i) r ts), g)
+    where
+      by : (c : Bool) → names x t ≡ c → (if c then (leads b h i (is_childless t) && (is_first x (holds_list h i) t && not (any_names x ts))) else leads_to x b h (suc i) ts) ≡ true → has_eval t ≡ false → any_has_eval ts ≡ false
+          → (is_first x (holds_list h i) t ≡ true → has_eval r ≡ false → has_eval t ≡ false → has_eval (put_first x r t) ≡ false) → (leads_to x b h (suc i) ts ≡ true → has_eval r ≡ false → any_has_eval ts ≡ false → (any_has_eval (put_among x r ts) ≡ false) × (any_has_eval ts ≡ false)) → any_has_eval (put_among x r (t ▸ ts)) ≡ false
+      by true n f a c one others =
+          let (l, p) = and_parts (leads b h i (is_childless t)) (is_first x (holds_list h i) t && not (any_names x ts)) f in
+          ap (λ d. any_has_eval (if d then put_first x r t ▸ ts else t ▸ put_among x r ts)) n ∙ all_of (put_first x r t) ts (one (and_parts (is_first x (holds_list h i) t) (not (any_names x ts)) p).0 e a) c
+      by false n f a c one others = ap (λ d. any_has_eval (if d then put_first x r t ▸ ts else t ▸ put_among x r ts)) n ∙ all_of t (put_among x r ts) a (others f e c).0
 
 no_call : (h : Shape) → is_head_shape h ≡ true → (ts : Trees) → is_eval_call h ts ≡ false
 no_call (shape.CallExpression false) e ts = absurd (true≢false (sym e))
 no_call h e ts = refl
 
-put_in_head : (x : Name) (r t : Tree) → reads_first x t ≡ true → has_eval r ≡ false → has_eval t ≡ false → has_eval (put_first r t) ≡ false
+put_in_head : (x : Name) (r t : Tree) → reads_first x t ≡ true → has_eval r ≡ false → has_eval t ≡ false → has_eval (put_first x r t) ≡ false
 put_in_head x r (node h ys n none) f e g = e
 put_in_head x r (node h ys n (t ▸ ts)) f e g =
     let (l, p) = and_parts (is_head_shape h) (is_nameless (node h ys n (t ▸ ts)) && (is_first x false t && not (any_names x ts))) f in
     let (m, q) = and_parts (is_nameless (node h ys n (t ▸ ts))) (is_first x false t && not (any_names x ts)) p in
     let (s, u) = and_parts (is_first x false t) (not (any_names x ts)) q in
     let (a, c) = first_and_others t ts (below (node h ys n (t ▸ ts)) g) in
-    over (node h ys n (put_first r t ▸ ts)) (no_call h l (put_first r t ▸ ts)) (all_of (put_first r t) ts (put_there x false r t s e a) c)
+    ap (λ d. has_eval (node h ys n (if d then put_first x r t ▸ ts else t ▸ put_among x r ts))) (mentioned x false t s) ∙ over (node h ys n (put_first x r t ▸ ts)) (no_call h l (put_first x r t ▸ ts)) (all_of (put_first x r t) ts (put_there x false r t s e a) c)
 
 -- in the first initializer of a declaration
-put_in_initial : (x : Name) (r t : Tree) → Initial x t → has_eval r ≡ false → has_eval t ≡ false → has_eval (put_head r t) ≡ false
+put_in_initial : (x : Name) (r t : Tree) → Initial x t → has_eval r ≡ false → has_eval t ≡ false → has_eval (put_first x r t) ≡ false
 put_in_initial x r t i e g =
     let d = declarator i.binds i.value in
-    let put = put_first r i.value in
+    let put = put_first x r i.value in
     let list = below (listed (d ▸ i.last)) (part_of (declaration i.kind (d ▸ i.last)) 0 (sym (ap has_eval i.is) ∙ g)) in
     let (a, b) = first_and_others d i.last list in
     let there = over (declarator i.binds put) refl (all_of i.binds (put ▸ none) (part_of d 0 a) (all_of put none (put_there x false r i.value i.once e (part_of d 1 a)) nothing_there)) in
     ap has_eval (i.puts r) ∙ declared i.kind (declarator i.binds put ▸ i.last) (all_of (declarator i.binds put) i.last there b)
 
-put_there_head : (x : Name) (r t : Tree) → reads_head x t ≡ true → has_eval r ≡ false → has_eval t ≡ false → has_eval (put_head r t) ≡ false
+put_there_head : (x : Name) (r t : Tree) → reads_head x t ≡ true → has_eval r ≡ false → has_eval t ≡ false → has_eval (put_first x r t) ≡ false
 put_there_head x r t f e g = by (heads x t f)
   where
-    by : ((reads_first x t ≡ true) × ((r : Tree) → put_head r t ≡ put_first r t)) ⊎ Initial x t → has_eval (put_head r t) ≡ false
-    by (inl (o, p)) = ap has_eval (p r) ∙ put_in_head x r t o e g
+    by : ((reads_first x t ≡ true) × (evaluated t ≡ t)) ⊎ Initial x t → has_eval (put_first x r t) ≡ false
+    by (inl (o, p)) = put_in_head x r t o e g
     by (inr i) = put_in_initial x r t i e g
 
 -- ---- a declaration whose declarator has another tree in what it reads first
 
-declarator_with : (d r : Tree) (x : Name) → is_declarator d ≡ true → is_first x false (part d 1) ≡ true → has_eval r ≡ false → has_eval d ≡ false → has_eval (with_part d 1 (put_first r (part d 1))) ≡ false
-declarator_with d r x n f e g =
+declarator_with : (d v : Tree) → is_declarator d ≡ true → has_eval d ≡ false → has_eval v ≡ false → has_eval (with_part d 1 v) ≡ false
+declarator_with d v n g f =
     let is = declarator_is d n in
     let id = part d 0 in
-    let put = put_first r (part d 1) in
-    let shaped : with_part d 1 put ≡ declarator id put = ap (λ t. with_part t 1 put) (is ∙ ap (λ t. declarator t (part d 1)) (sym (ap (λ t. part t 0) is))) in
-    ap has_eval shaped ∙ over (declarator id put) refl (all_of id (put ▸ none) (part_of d 0 g) (all_of put none (put_there x false r (part d 1) f e (part_of d 1 g)) nothing_there))
+    let shaped : with_part d 1 v ≡ declarator id v = ap (λ t. with_part t 1 v) (is ∙ ap (λ t. declarator t (part d 1)) (sym (ap (λ t. part t 0) is))) in
+    ap has_eval shaped ∙ over (declarator id v) refl (all_of id (v ▸ none) (part_of d 0 g) (all_of v none f nothing_there))
 
-next_without : (t : Tree) (j : ℕ) (x : Name) → declares_list t ≡ true → is_declarator (part (part t 0) (suc j)) ≡ true → is_first x false (part (part (part t 0) (suc j)) 1) ≡ true → has_eval t ≡ false → has_eval (with_part t 0 (declarators_next (part t 0) j)) ≡ false
-next_without t j x d n f e =
+next_without : (t : Tree) (j : ℕ) → declares_list t ≡ true → is_declarator (part (part t 0) (suc j)) ≡ true → has_eval (put_named (names_of (part (part (part t 0) j) 0)) (part (part (part t 0) j) 1) (part (part (part t 0) (suc j)) 1)) ≡ false → has_eval t ≡ false → has_eval (with_part t 0 (declarators_next (part t 0) j)) ≡ false
+next_without t j d n f e =
     let (k, is) = a_declaration t d in
     let ds = children (part t 0) in
-    let init = part (part (part t 0) j) 1 in
+    let one = part (part t 0) j in
     let following = part (part t 0) (suc j) in
     let list = below (part t 0) (part_of t 0 e) in
-    let put = λ (c : Tree). with_part c 1 (put_first init (part c 1)) in
-    let there = ap (λ c. has_eval (put c)) (next_child_left ds j) ∙ declarator_with following init x n f (part_of (part (part t 0) j) 1 (part_of (part t 0) j (part_of t 0 e))) (part_of (part t 0) (suc j) (part_of t 0 e)) in
+    let put = λ (c : Tree). with_part c 1 (put_named (names_of (part one 0)) (part one 1) (part c 1)) in
+    let there = ap (λ c. has_eval (put c)) (next_child_left ds j) ∙ declarator_with following (put_named (names_of (part one 0)) (part one 1) (part following 1)) n (part_of (part t 0) (suc j) (part_of t 0 e)) f in
     ap (λ u. has_eval (with_part u 0 (declarators_next (part u 0) j))) is ∙ declared k (with_child (without ds j) j (put (child_or_absent (without ds j) j))) (with_one (without ds j) j (put (child_or_absent (without ds j) j)) (without_one ds j list) there)
 
 -- ---- a list
@@ -206,15 +262,19 @@ unseen_with o l i x c f =
 in_list : (o l : Tree) (i : ℕ) → Unseen o l → has_eval (part l i) ≡ false
 in_list o l i c = part_of l i (neither (has_eval o) (has_eval l) c.unseen).1
 
-once_reads : (xs : List Name) (o init : Tree) (ds : Trees) (j : ℕ) (ts : Trees) (i : ℕ) → is_read_once xs o init ds j ts i ≡ true → (x : Name) × (reads_head x (child_or_absent ts (suc i)) ≡ true)
-once_reads [] o init ds j ts i e = absurd (true≢false (sym e))
-once_reads (x ∷ xs) o init ds j ts i e =
-    let (a, p) = and_parts (not (names x o)) (reads_next x ts i && (not (is_declared_over x init ds j) && not (is_mentioned_around x ts i))) e in
-    (x, (and_parts (reads_next x ts i) (not (is_declared_over x init ds j) && not (is_mentioned_around x ts i)) p).0)
+once_put : (xs : List Name) (o init : Tree) (ds : Trees) (j : ℕ) (ts : Trees) (i : ℕ) → is_read_once xs o init ds j ts i ≡ true → has_eval init ≡ false → has_eval (child_or_absent ts (suc i)) ≡ false → has_eval (put_named xs init (child_or_absent ts (suc i))) ≡ false
+once_put [] o init ds j ts i e f g = absurd (true≢false (sym e))
+once_put (x ∷ xs) o init ds j ts i e f g =
+    let head = child_or_absent ts (suc i) in
+    let (a, p) = and_parts (not (names x o)) (reads_next x init ts i && (not (is_declared_over x init ds j) && not (is_mentioned_around x ts i))) e in
+    let read = (and_parts (reads_next x init ts i) (not (is_declared_over x init ds j) && not (is_mentioned_around x ts i)) p).0 in
+    put_there_head x init head (and_parts (reads_head x head) (are_passed x init (evaluated head)) read).0 f g
 
-then_reads : (xs : List Name) (d e o : Tree) (ds : Trees) (j : ℕ) (ts : Trees) (i : ℕ) → is_read_then xs d e o ds j ts i ≡ true → (x : Name) × (is_first x false (part e 1) ≡ true)
-then_reads [] d e o ds j ts i h = absurd (true≢false (sym h))
-then_reads (x ∷ xs) d e o ds j ts i h = (x, (and_parts (is_first x false (part e 1)) (not (is_mentioned_beside x d e ds j) && (not (names x o) && not (is_mentioned_elsewhere x ts i))) h).0)
+then_put : (xs : List Name) (d e o : Tree) (ds : Trees) (j : ℕ) (ts : Trees) (i : ℕ) → is_read_then xs d e o ds j ts i ≡ true → has_eval (part d 1) ≡ false → has_eval (part e 1) ≡ false → has_eval (put_named xs (part d 1) (part e 1)) ≡ false
+then_put [] d e o ds j ts i h f g = absurd (true≢false (sym h))
+then_put (x ∷ xs) d e o ds j ts i h f g =
+    let read = (and_parts (reads_then x (part d 1) e) (not (is_mentioned_beside x d e ds j) && (not (names x o) && not (is_mentioned_elsewhere x ts i))) h).0 in
+    put_there x false (part d 1) (part e 1) (and_parts (is_first x false (part e 1)) (are_passed x (part d 1) (part e 1)) read).0 f g
 
 module _ (W : VariableSet) (o l m : Tree) (c : Unseen o l) where
   name_gone : NameGone W o l m → Unseen o m
@@ -235,18 +295,21 @@ module _ (W : VariableSet) (o l m : Tree) (c : Unseen o l) where
       let (a, q) = and_parts (declares_name d) (lost && (may_move init && once)) p in
       let (b, r) = and_parts lost (may_move init && once) q in
       let (e, f) = and_parts (may_move init) once r in
-      let (x, reads) = once_reads (names_of (part d 0)) o init (children ds) j ts g.at f in
       let there = in_list o l g.at c in
       let value : has_eval init ≡ false = part_of d 1 (part_of ds j (part_of (part l g.at) 0 there)) in
       let left = unseen_with o l g.at (declaration_left (part l g.at) j) c (declaration_without (part l g.at) j declares there) in
-      let head = put_there_head x init (part l (suc g.at)) reads value (in_list o l (suc g.at) c) in
-      subst (Unseen o) (sym g.left) (unseen_with o (with_part l g.at (declaration_left (part l g.at) j)) (suc g.at) (put_head init (part l (suc g.at))) left head)
+      let head = once_put (names_of (part d 0)) o init (children ds) j ts g.at f value (in_list o l (suc g.at) c) in
+      subst (Unseen o) (sym g.left) (unseen_with o (with_part l g.at (declaration_left (part l g.at) j)) (suc g.at) (put_named (names_of (part d 0)) init (part l (suc g.at))) left head)
 
   next_gone : NextGone W o l m → Unseen o m
   next_gone g =
       let t = found W o (children l) g.at g.which g.there.1.2 in
-      let (x, reads) = then_reads (names_of (part (part (list_at (children l) g.at) g.which) 0)) (part (list_at (children l) g.at) g.which) (part (list_at (children l) g.at) (suc g.which)) o (children (list_at (children l) g.at)) g.which (children l) g.at t.read in
-      subst (Unseen o) (sym g.left) (unseen_with o l g.at (with_part (part l g.at) 0 (declarators_next (part (part l g.at) 0) g.which)) c (next_without (part l g.at) g.which x t.declared t.next reads (in_list o l g.at c)))
+      let ds = list_at (children l) g.at in
+      let one = part ds g.which in
+      let following = part ds (suc g.which) in
+      let there = part_of (part l g.at) 0 (in_list o l g.at c) in
+      let put = then_put (names_of (part one 0)) one following o (children ds) g.which (children l) g.at t.read (part_of one 1 (part_of ds g.which there)) (part_of following 1 (part_of ds (suc g.which) there)) in
+      subst (Unseen o) (sym g.left) (unseen_with o l g.at (with_part (part l g.at) 0 (declarators_next (part (part l g.at) 0) g.which)) c (next_without (part l g.at) g.which t.declared t.next put (in_list o l g.at c)))
 
   pub still_unseen : Gone W o l m → Unseen o m
   still_unseen g = by g.name

@@ -5,13 +5,17 @@ use Rattle.mini_model.specs.declared.name.Name.{Name}
 use Rattle.mini_model.specs.Tree.{Tree, Trees, shape_of, count, child_or_absent, children}
 use Rattle.mini_laws.specs.Value.{VariableSet}
 use Rattle.mini_node.specs.Children.{names_of, like, part, with_part, without, is_bare, first_children, rest_children}
-use Rattle.mini_rows.specs.Unused.{names, any_names, is_first, may_move, put_first}
+use Rattle.mini_rows.specs.Unused.{names, any_names, is_first, may_move, put_first, are_passed}
 pub use Rattle.mini_rows.specs.Unused.{is_declarator}
 use Rattle.mini_unused.specs.RemoveUnusedDeclaration.{declares_name, declares_list, may_lose, is_free_at, list_at}
 
--- the initializer of the next declarator reads it first
-abbrev pub reads_then : Name → Tree → Bool
-reads_then x e = is_first x false (part e 1)
+-- an expression reads it, after parts that pass the initializer r
+abbrev pub reads_in : Name → Tree → Tree → Bool
+reads_in x r v = is_first x false v && are_passed x r v
+
+-- so does the initializer of the next declarator
+abbrev pub reads_then : Name → Tree → Tree → Bool
+reads_then x r e = reads_in x r (part e 1)
 
 -- a name like it stands in the initializer, in what the next declarator declares, or in another declarator
 abbrev pub is_mentioned_beside : Name → Tree → Tree → Trees → ℕ → Bool
@@ -24,7 +28,7 @@ is_mentioned_elsewhere x ts i = any_names x (first_children i ts) || any_names x
 -- the next declarator reads the name first, and no name like it stands elsewhere, nor in what is outside of the statements
 abbrev pub is_read_then : List Name → Tree → Tree → Tree → Trees → ℕ → Trees → ℕ → Bool
 is_read_then [] d e o ds j ts i = false
-is_read_then (x ∷ xs) d e o ds j ts i = reads_then x e && (not (is_mentioned_beside x d e ds j) && (not (names x o) && not (is_mentioned_elsewhere x ts i)))
+is_read_then (x ∷ xs) d e o ds j ts i = reads_then x (part d 1) e && (not (is_mentioned_beside x d e ds j) && (not (names x o) && not (is_mentioned_elsewhere x ts i)))
 
 -- so is the name of a declarator, whose initializer may move, and which is free to go, or one of these variables
 abbrev pub is_read_by : Bool → VariableSet → Tree → Tree → Tree → Trees → ℕ → Trees → ℕ → Bool
@@ -53,13 +57,18 @@ abbrev pub NextAt : VariableSet → Tree → Trees → Option (ℕ × ℕ) → T
 NextAt W o ts (Some p) = (p.0 < count ts) × NextOf W o ts p.0 (Some p.1)
 NextAt W o ts None = (i : ℕ) → i < count ts → NextOf W o ts i None
 
--- of a list of declarators, the one at the place has another in what it reads first
-abbrev pub with_initial : Tree → ℕ → Tree → Tree
-with_initial l j r = with_part l j (with_part (part l j) 1 (put_first r (part (part l j) 1)))
+-- another tree in the place of what a tree reads of a name, where there is one
+abbrev pub put_named : List Name → Tree → Tree → Tree
+put_named [] r t = t
+put_named (x ∷ xs) r t = put_first x r t
+
+-- of a list of declarators, the one at the place has another in what it reads of the name
+abbrev pub with_initial : Tree → ℕ → List Name → Tree → Tree
+with_initial l j xs r = with_part l j (with_part (part l j) 1 (put_named xs r (part (part l j) 1)))
 
 -- the declarator at the place is gone, and its initializer stands in the next
 abbrev pub declarators_next : Tree → ℕ → Tree
-declarators_next l j = with_initial (like l (without (children l) j)) j (part (part l j) 1)
+declarators_next l j = with_initial (like l (without (children l) j)) j (names_of (part (part l j) 0)) (part (part l j) 1)
 
 abbrev pub list_next : Tree → ℕ → ℕ → Tree
 list_next l i j = with_part l i (with_part (part l i) 0 (declarators_next (part (part l i) 0) j))

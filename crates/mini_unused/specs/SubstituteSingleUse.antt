@@ -10,16 +10,26 @@ use Rattle.mini_laws.specs.ScopeList.{has_eval}
 use Rattle.mini_laws.specs.Value.{VariableSet}
 use Rattle.mini_node.specs.Children.{names_of, part, with_part, is_bare, is_nameless, first_children, rest_children}
 use Rattle.mini_node.specs.Kinds.{is_listed}
-use Rattle.mini_rows.specs.Unused.{names, any_names, leads, is_childless, is_head_shape, may_move, reads_head, put_head}
+use Rattle.mini_rows.specs.Unused.{names, any_names, leads, is_childless, is_head_shape, may_move, passes, are_passed, reads_head, evaluated}
 use Rattle.mini_unused.specs.Chains.{Several}
-use Rattle.mini_unused.specs.SubstituteNext.{NextAt, NextGone}
+use Rattle.mini_unused.specs.SubstituteNext.{put_named, NextAt, NextGone}
 use Rattle.mini_unused.specs.RemoveUnusedDeclaration.{declares_name, declares_list, may_lose, is_free_at, list_at, let_left, list_left, UnusedAt}
 
--- a node without a name and a number, which evaluates its first part before all else
-abbrev pub may_begin : Bool → Tree → Bool
-may_begin in_list t = leads in_list (shape_of t) (is_childless (part t 0)) && is_nameless t
+-- the place of the first of some nodes that mentions the name, or how many they are
+abbrev pub mention_place : Name → Trees → ℕ
+mention_place x none = 0
+mention_place x (t ▸ ts) = if names x t then 0 else suc (mention_place x ts)
 
--- a statement that does
+-- a node without a name and a number, which evaluates the part at the place after those before it
+abbrev pub may_lead : Bool → Tree → ℕ → Bool
+may_lead in_list t i = leads in_list (shape_of t) i (is_childless (part t i)) && is_nameless t
+
+-- each of them may be evaluated before r
+abbrev pub all_pass : Tree → Trees → Bool
+all_pass r none = true
+all_pass r (t ▸ ts) = passes r t && all_pass r ts
+
+-- a statement that evaluates its first part before all else
 abbrev pub is_head : Tree → Bool
 is_head t = is_head_shape (shape_of t) && is_nameless t
 
@@ -37,14 +47,18 @@ is_declared_over x init ds j = names x init || any_names x (first_children j ds)
 abbrev pub is_mentioned_around : Name → Trees → ℕ → Bool
 is_mentioned_around x ts i = any_names x (rest_children (suc (suc i)) ts) || any_names x (first_children i ts)
 
--- the next statement reads it first
-abbrev pub reads_next : Name → Trees → ℕ → Bool
-reads_next x ts i = reads_head x (child_or_absent ts (suc i))
+-- a head reads it, after parts that pass the initializer r
+abbrev pub reads_here : Name → Tree → Tree → Bool
+reads_here x r t = reads_head x t && are_passed x r (evaluated t)
 
--- the next statement reads the name first, and no name like it stands elsewhere, nor in what is outside of the statements
+-- so does the next statement
+abbrev pub reads_next : Name → Tree → Trees → ℕ → Bool
+reads_next x r ts i = reads_here x r (child_or_absent ts (suc i))
+
+-- the next statement reads the name, and no name like it stands elsewhere, nor in what is outside of the statements
 abbrev pub is_read_once : List Name → Tree → Tree → Trees → ℕ → Trees → ℕ → Bool
 is_read_once [] o init ds j ts i = false
-is_read_once (x ∷ xs) o init ds j ts i = not (names x o) && (reads_next x ts i && (not (is_declared_over x init ds j) && not (is_mentioned_around x ts i)))
+is_read_once (x ∷ xs) o init ds j ts i = not (names x o) && (reads_next x init ts i && (not (is_declared_over x init ds j) && not (is_mentioned_around x ts i)))
 
 -- so is the name of the declarator at the place, whose initializer may move, and which is free to go, or one of these variables
 abbrev pub is_single_declarator : Bool → VariableSet → Tree → ℕ → Tree → Trees → ℕ → Bool
@@ -67,9 +81,13 @@ declaration_left t j = if is_bare (part t 0) 1 then empty_statement else let_lef
 abbrev pub initializer : Tree → ℕ → ℕ → Tree
 initializer l i j = part (part (part (part l i) 0) j) 1
 
+-- its names
+abbrev pub declared_names : Tree → ℕ → ℕ → List Name
+declared_names l i j = names_of (part (part (part (part l i) 0) j) 0)
+
 -- with that in its place, and the initializer in the next statement
 abbrev pub list_single : Tree → ℕ → ℕ → Tree
-list_single l i j = with_part (with_part l i (declaration_left (part l i) j)) (suc i) (put_head (initializer l i j) (part l (suc i)))
+list_single l i j = with_part (with_part l i (declaration_left (part l i) j)) (suc i) (put_named (declared_names l i j) (initializer l i j) (part l (suc i)))
 
 -- ---- one call, of a list of statements and what is outside of them
 

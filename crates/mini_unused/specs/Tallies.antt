@@ -3,7 +3,8 @@ use Rattle.std.specs.Prelude.{ℕ, ◌+◌, ◌*◌, ◌%◌, ◌<◌, ◌≤◌
 use Rattle.mini_model.specs.declared.name.Name.{Name}
 use Rattle.mini_model.specs.declared.name.SymbolId.{SymbolId}
 use Rattle.mini_model.specs.Tree.{Tree, Trees, node, none, ◌▸◌}
-use Rattle.mini_rows.specs.Unused.{is_first, reads_head}
+use Rattle.mini_unused.specs.SubstituteNext.{reads_in}
+use Rattle.mini_unused.specs.SubstituteSingleUse.{reads_here}
 use Rattle.mini_unused.specs.declared.tallies.Tallies.{Tallies}
 
 abbrev pub hash_from : ℕ → List ℕ → ℕ
@@ -67,12 +68,13 @@ abbrev pub AreRare : Tallies → List Name → ℕ → Type 0
 AreRare c (x ∷ []) k = IsRare c x k
 AreRare c xs k = ⊥
 
--- and a statement reads it first, with its spelling: so it and its declaration are the only ones in its buckets
-abbrev pub AreRead : Tallies → List Name → Tree → Type 0
-AreRead c (x ∷ []) t = IsRare c x 2 × (reads_head x t ≡ true) × (1 ≤ tally (bucket false (length c.by_spelling.items)) (bucket false (length c.by_spelling.items) x) t)
-AreRead c xs t = ⊥
+-- and a statement reads it, with its spelling, after parts that pass the initializer: so it and its declaration are the only ones in its
+-- buckets
+abbrev pub AreRead : Tallies → List Name → Tree → Tree → Type 0
+AreRead c (x ∷ []) r t = IsRare c x 2 × (reads_here x r t ≡ true) × (1 ≤ tally (bucket false (length c.by_spelling.items)) (bucket false (length c.by_spelling.items) x) t)
+AreRead c xs r t = ⊥
 
 -- or an initializer does
-abbrev pub AreReadIn : Tallies → List Name → Tree → Type 0
-AreReadIn c (x ∷ []) v = IsRare c x 2 × (is_first x false v ≡ true) × (1 ≤ tally (bucket false (length c.by_spelling.items)) (bucket false (length c.by_spelling.items) x) v)
-AreReadIn c xs v = ⊥
+abbrev pub AreReadIn : Tallies → List Name → Tree → Tree → Type 0
+AreReadIn c (x ∷ []) r v = IsRare c x 2 × (reads_in x r v ≡ true) × (1 ≤ tally (bucket false (length c.by_spelling.items)) (bucket false (length c.by_spelling.items) x) v)
+AreReadIn c xs r v = ⊥

@@ -1,11 +1,10 @@
 //! Row 71 in one declaration: `{ let x = a(), y = x.b; c(y); }` becomes `{ let y = a().b; c(y); }`, where the next declarator
-//! evaluates x before all else, nothing else in the block has its spelling or its symbol, and no direct eval stands
+//! evaluates x after parts that may be evaluated before the initializer, nothing else in the block has its spelling or its symbol, and no direct eval stands
 //! there.
 
 ghost use Rattle.std.specs.Prelude.{◌≡◌, ◌+◌, ◌<◌, ◌^◌, true, None, IfOk};
 ghost use Rattle.mini_model.specs.Tree.{children, count};
 ghost use Rattle.mini_node.specs.Children.{names, part, with_part};
-ghost use Rattle.mini_rows.specs.Unused.{put_first as it_put_first};
 ghost use Rattle.mini_node.specs.Kinds.{is_listed as is_it_listed};
 ghost use Rattle.mini_unused.specs.RemoveUnusedDeclaration.{declares_name as it_declares_name, marked, open_in, UnusedAt};
 ghost use Rattle.mini_unused.specs.SubstituteNext as row;
@@ -17,7 +16,7 @@ use crate::declarations::{
 };
 use crate::evals::either_has_eval;
 use crate::mentions::{is_mentioned, is_mentioned_before, is_mentioned_from};
-use crate::single_uses::{is_first, may_move, put_first};
+use crate::single_uses::{may_move, put_named, reads_in};
 use crate::sweeping::sweep;
 use mini_context::Scopes;
 use mini_model::{Name, OutOfMemory, Shape};
@@ -82,7 +81,7 @@ pub fn is_read_then(
 {
     match name {
         Some(name) => {
-            is_first(name, false, next.child(1))
+            reads_in(name, declarator.child(1), next.child(1))
                 && !is_mentioned_beside(name, declarator, next, declarators, which)
                 && !is_mentioned(name, outside)
                 && !is_mentioned_elsewhere(name, statements, at)
@@ -212,16 +211,16 @@ pub fn next_at(outside: &Node, statements: &Nodes, scopes: &Scopes) -> Option<(u
     None
 }
 
-// In the declarator at the index a tree goes in the place of what its initializer reads first.
+// In the declarator at the index a tree goes in the place of what its initializer reads of the name.
 #[tactic(auto, using(crate::proofs::Unused::same_parts, crate::proofs::Unused::part_twice))]
-fn put_initial(list: &mut Node, which: usize, value: Node)
+fn put_initial(list: &mut Node, which: usize, name: &Option<Name>, value: Node)
     requires declarator { which < count (children list.old) }
     requires parts { 1 < count (children (part list.old which)) }
-    ensures { list.new ≡ row.with_initial list.old which value }
+    ensures { list.new ≡ row.with_initial list.old which (names name.now) value }
 {
     let mut declarator = take_child(list, which);
     let initial = take_child(&mut declarator, 1);
-    put_child(&mut declarator, 1, put_first(value, initial));
+    put_child(&mut declarator, 1, put_named(name, value, initial));
     put_child(list, which, declarator);
 }
 
@@ -234,8 +233,8 @@ fn substitute_in_declarators(list: &mut Node, which: usize)
     ensures { list.new ≡ row.declarators_next list.old which }
 {
     let (binding, value) = two(list.children_mut().remove(which));
+    put_initial(list, which, binding.name(), value);
     discard(binding);
-    put_initial(list, which, value);
 }
 
 /// Of a list of statements, `let x = a(), y = x.b;` becomes `let y = a().b;`.

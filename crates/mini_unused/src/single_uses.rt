@@ -1,13 +1,15 @@
 //! Row 71: `{ const x = a(); return x + b; }` becomes `{ ; return a() + b; }`, `{ let a, x = b(); return x; }` becomes
-//! `{ let a; return b(); }`, and `{ let x = a(); const y = x.b; c(y); }` becomes `{ ; const y = a().b; c(y); }`, where the next statement
-//! evaluates x before all else and nothing else in the block has its spelling or its symbol, and no direct eval stands there.
+//! `{ let a; return b(); }`, and `{ let x = a(); const y = x.b; c(y); }` becomes `{ ; const y = a().b; c(y); }`, where the parts that the
+//! next statement evaluates before x may be evaluated before the initializer, nothing else in the block has its spelling or its symbol, and
+//! no direct eval stands there.
 
-ghost use Rattle.std.specs.Prelude.{◌≡◌, ◌+◌, ◌<◌, ◌^◌, true, false, None, IfOk, if◌then◌else◌};
+ghost use Rattle.std.specs.Prelude.{◌≡◌, ◌+◌, ◌<◌, ◌≤◌, ◌^◌, true, false, None, IfOk, if◌then◌else◌};
 ghost use Rattle.mini_model.specs.Tree.{child_or_absent, children, count, empty_statement};
-ghost use Rattle.mini_node.specs.Children.{names, part, with_part};
-ghost use Rattle.mini_node.specs.Kinds.{is_listed as is_it_listed, is_sequence_shape as is_it_sequence_shape};
+ghost use Rattle.mini_node.specs.Children.{first_children, names, part, with_part};
+ghost use Rattle.mini_node.specs.Kinds.{is_listed as is_it_listed, is_listed_shape as is_it_listed_shape};
 ghost use Rattle.mini_rows.specs.Unused as reading;
 ghost use Rattle.mini_unused.specs.RemoveUnusedDeclaration.{list_at, marked, open_in, UnusedAt};
+ghost use Rattle.mini_unused.specs.SubstituteNext.{put_named as it_put_named, reads_in as it_reads_in};
 ghost use Rattle.mini_unused.specs.SubstituteSingleUse as row;
 ghost use Rattle.mini_unused.specs.SubstituteSingleUse.{declaration_left, SingleAt, Removed};
 
@@ -21,7 +23,7 @@ use crate::sweeping::sweep;
 use mini_context::Scopes;
 use mini_model::{Name, OutOfMemory, Shape, UnaryOperator};
 use mini_node::{Node, Nodes, discard, empty_statement, is_identifier, two};
-use mini_terms::is_plain_part;
+use mini_terms::{is_effect_free, is_item, is_plain_part};
 use std::alloc::Global;
 
 // What evaluates its first part before all else, and asks for its value alone.
@@ -37,6 +39,7 @@ fn begins(shape: &Shape, is_leaf: bool) -> bool
         | Shape::ConditionalExpression
         | Shape::SequenceExpression
         | Shape::NewExpression
+        | Shape::ArrayExpression
         | Shape::YieldExpression(_)
         | Shape::StaticMemberExpression(false)
         | Shape::ComputedMemberExpression(false) => true,
@@ -45,15 +48,68 @@ fn begins(shape: &Shape, is_leaf: bool) -> bool
     }
 }
 
-// An expression, or the list of a sequence's parts.
-fn leads(in_list: bool, shape: &Shape, is_leaf: bool) -> bool
-    ensures { result ≡ reading.leads in_list shape.now is_leaf }
+// What evaluates its first part and then the second, and asks for the second's value alone.
+fn goes_on(shape: &Shape) -> bool
+    ensures { result ≡ reading.goes_on shape.now }
+{
+    matches!(
+        shape,
+        Shape::BinaryExpression(_)
+            | Shape::CallExpression(false)
+            | Shape::NewExpression
+            | Shape::ComputedMemberExpression(false)
+    )
+}
+
+fn is_listed_shape(shape: &Shape) -> bool
+    ensures { result ≡ is_it_listed_shape shape.now }
+{
+    matches!(shape, Shape::Listed)
+}
+
+// An expression, which evaluates the part at the place after those before it, or a list of parts.
+#[tactic(auto, using(crate::proofs::SingleUses::leads_further))]
+fn leads(in_list: bool, shape: &Shape, at: usize, is_leaf: bool) -> bool
+    ensures { result ≡ reading.leads in_list shape.now at is_leaf }
 {
     if in_list {
-        matches!(shape, Shape::Listed)
-    } else {
-        begins(shape, is_leaf)
+        return is_listed_shape(shape);
     }
+    if at == 0 {
+        return begins(shape, is_leaf);
+    }
+    if at == 1 {
+        return goes_on(shape);
+    }
+    false
+}
+
+// Its first part is a list.
+fn begins_list(shape: &Shape) -> bool
+    ensures { result ≡ reading.begins_list shape.now }
+{
+    matches!(
+        shape,
+        Shape::SequenceExpression | Shape::ArrayExpression
+    )
+}
+
+// Its second part is one.
+fn has_arguments(shape: &Shape) -> bool
+    ensures { result ≡ reading.has_arguments shape.now }
+{
+    matches!(shape, Shape::CallExpression(_) | Shape::NewExpression)
+}
+
+// The part at the place is one.
+#[tactic(auto, using(crate::proofs::SingleUses::lists_further))]
+fn holds_list(shape: &Shape, at: usize) -> bool
+    ensures { result ≡ reading.holds_list shape.now at }
+{
+    if at == 0 {
+        return begins_list(shape);
+    }
+    has_arguments(shape)
 }
 
 fn has_symbol_of(name: &Name, other: &Option<Name>) -> bool
@@ -79,21 +135,28 @@ fn is_childless(node: &Node) -> bool
     node.children().len() == 0
 }
 
-// A node without a name and a number, which evaluates its first part before all else.
-fn may_begin(in_list: bool, node: &Node) -> bool
-    requires { 0 < count (children node.now) }
-    ensures { result ≡ row.may_begin in_list node.now }
+/// The place of the first of some nodes that mentions the name, or how many they are.
+fn mention_place(name: &Name, nodes: &Nodes) -> usize
+    ensures place { result ≡ row.mention_place name.now nodes.now }
+    ensures within { result ≤ count nodes.now }
 {
-    leads(in_list, node.shape(), is_childless(node.child(0))) && node.is_nameless()
+    for at in 0..nodes.len() {
+        if is_mentioned(name, nodes.child(at)) {
+            return at;
+        }
+    }
+    nodes.len()
 }
 
-fn is_sequence_shape(shape: &Shape) -> bool
-    ensures { result ≡ is_it_sequence_shape shape.now }
+// A node without a name and a number, which evaluates the part at the place after those before it.
+fn may_lead(in_list: bool, node: &Node, at: usize) -> bool
+    requires { at < count (children node.now) }
+    ensures { result ≡ row.may_lead in_list node.now at }
 {
-    matches!(shape, Shape::SequenceExpression)
+    leads(in_list, node.shape(), at, is_childless(node.child(at))) && node.is_nameless()
 }
 
-/// An expression, or a list of parts, reads the variable before all else, and nothing else in it mentions the name.
+/// An expression, or a list of parts, reads the variable after the parts that stand before, and nothing else in it mentions the name.
 #[tactic(auto, using(crate::proofs::SingleUses::first_leaf))]
 pub fn is_first(name: &Name, in_list: bool, node: &Node) -> bool
     ensures { result ≡ reading.is_first name.now in_list node.now }
@@ -101,13 +164,100 @@ pub fn is_first(name: &Name, in_list: bool, node: &Node) -> bool
     if node.children().len() == 0 {
         return !in_list && reads(name, node);
     }
-    if !may_begin(in_list, node) {
+    let at = mention_place(name, node.children());
+    if at >= node.children().len() {
         return false;
     }
-    if !is_first(name, is_sequence_shape(node.shape()), node.child(0)) {
+    if !may_lead(in_list, node, at) {
         return false;
     }
-    !is_mentioned_from(name, node.children(), 1)
+    if !is_first(name, holds_list(node.shape(), at), node.child(at)) {
+        return false;
+    }
+    !is_mentioned_from(name, node.children(), at + 1)
+}
+
+// A number, a text, a boolean or null.
+fn is_written_value(shape: &Shape) -> bool
+    ensures { result ≡ reading.is_written_value shape.now }
+{
+    matches!(
+        shape,
+        Shape::NumericLiteral(_)
+            | Shape::StringLiteral(_)
+            | Shape::BooleanLiteral(_)
+            | Shape::NullLiteral
+    )
+}
+
+// `!` and `void`.
+fn is_value_operator(shape: &Shape) -> bool
+    ensures { result ≡ reading.is_value_operator shape.now }
+{
+    matches!(
+        shape,
+        Shape::UnaryExpression(UnaryOperator::LogicalNot | UnaryOperator::Void)
+    )
+}
+
+// The same value whenever it is evaluated.
+#[tactic(auto, using(crate::proofs::SingleUses::constant_literal, crate::proofs::SingleUses::constant_operator, crate::proofs::SingleUses::no_operator, crate::proofs::SingleUses::no_constant))]
+fn is_constant(node: &Node) -> bool
+    ensures { result ≡ reading.is_constant node.now }
+{
+    if is_written_value(node.shape()) {
+        return true;
+    }
+    if !is_value_operator(node.shape()) {
+        return false;
+    }
+    if node.children().len() != 1 {
+        return false;
+    }
+    is_written_value(node.child(0).shape())
+}
+
+// It may be evaluated before the initializer rather than after.
+fn passes(init: &Node, node: &Node) -> bool
+    ensures { result ≡ reading.passes init.now node.now }
+{
+    is_constant(node)
+        || (is_effect_free(init, true) && (is_effect_free(node, true) && is_item(node)))
+}
+
+// So may each of those before the place.
+fn all_pass(init: &Node, nodes: &Nodes, end: usize) -> bool
+    requires { end ≤ count nodes.now }
+    ensures { result ≡ row.all_pass init.now (first_children end nodes.now) }
+{
+    for at in 0..end {
+        if !passes(init, nodes.child(at)) {
+            return false;
+        }
+    }
+    true
+}
+
+/// Each part that is evaluated before the variable is read may be evaluated before the initializer.
+#[tactic(auto, using(crate::proofs::SingleUses::smaller_at))]
+pub fn are_passed(name: &Name, init: &Node, node: &Node) -> bool
+    ensures { result ≡ reading.are_passed name.now init.now node.now }
+{
+    let at = mention_place(name, node.children());
+    if !all_pass(init, node.children(), at) {
+        return false;
+    }
+    if at >= node.children().len() {
+        return true;
+    }
+    are_passed(name, init, node.child(at))
+}
+
+/// An expression reads the variable, after parts that pass the initializer.
+pub fn reads_in(name: &Name, init: &Node, value: &Node) -> bool
+    ensures { result ≡ it_reads_in name.now init.now value.now }
+{
+    is_first(name, false, value) && are_passed(name, init, value)
 }
 
 // A statement that evaluates its first part before all else.
@@ -207,14 +357,42 @@ fn is_mentioned_around(name: &Name, statements: &Nodes, at: usize) -> bool
     is_mentioned_from(name, statements, at + 2) || is_mentioned_before(name, statements, at)
 }
 
-/// Whether the statement after the place reads it first.
+// A declaration with a first declarator.
+fn has_declarator(node: &Node) -> bool
+    ensures value { result ≡ reading.has_declarator node.now }
+    ensures list { result ≡ true → 0 < count (children node.now) }
+    ensures some { result ≡ true → 0 < count (children (part node.now 0)) }
+    ensures parts { result ≡ true → 1 < count (children (part (part node.now 0) 0)) }
+{
+    declares_list(node) && !is_childless(node.child(0)) && is_declarator(node.child(0).child(0))
+}
+
+/// What a head evaluates: of a declaration the first initializer.
+pub fn evaluated(node: &Node) -> &Node
+    ensures { result.now ≡ reading.evaluated node.now }
+{
+    if has_declarator(node) {
+        node.child(0).child(0).child(1)
+    } else {
+        node
+    }
+}
+
+// A head reads it, after parts that pass the initializer.
+fn reads_here(name: &Name, init: &Node, node: &Node) -> bool
+    ensures { result ≡ row.reads_here name.now init.now node.now }
+{
+    reads_head(name, node) && are_passed(name, init, evaluated(node))
+}
+
+/// So does the statement after the place.
 #[tactic(auto, using(crate::proofs::SingleUses::read_next))]
-pub fn reads_next(name: &Name, statements: &Nodes, at: usize) -> bool
+pub fn reads_next(name: &Name, init: &Node, statements: &Nodes, at: usize) -> bool
     requires next { at + 1 < count statements.now }
     requires fits { at + 1 < 2 ^ 64 }
-    ensures { result ≡ row.reads_next name.now statements.now at }
+    ensures { result ≡ row.reads_next name.now init.now statements.now at }
 {
-    reads_head(name, statements.child(at + 1))
+    reads_here(name, init, statements.child(at + 1))
 }
 
 /// The next statement reads the name first, and nothing else mentions it.
@@ -235,7 +413,7 @@ pub fn is_read_once(
     match name {
         Some(name) => {
             !is_mentioned(name, outside)
-                && reads_next(name, statements, at)
+                && reads_next(name, init, statements, at)
                 && !is_declared_over(name, init, declarators, which)
                 && !is_mentioned_around(name, statements, at)
         }
@@ -310,75 +488,36 @@ fn single_at(outside: &Node, statements: &Nodes, scopes: &Scopes) -> Option<usiz
     None
 }
 
-/// Another tree in the place of what is read first.
-#[tactic(auto, using(crate::proofs::SingleUses::put_leaf, crate::proofs::SingleUses::put_step, crate::proofs::SingleUses::part_smaller, crate::proofs::Unused::same_parts, crate::proofs::Unused::part_twice))]
-pub fn put_first(value: Node, mut node: Node) -> Node
-    ensures { result ≡ reading.put_first value node }
+/// Another tree in the place of what is read.
+#[tactic(auto, using(crate::proofs::SingleUses::put_leaf, crate::proofs::SingleUses::put_step, crate::proofs::SingleUses::put_none, crate::proofs::SingleUses::smaller_at, crate::proofs::Unused::same_parts, crate::proofs::Unused::part_twice))]
+fn put_first(name: &Name, value: Node, mut node: Node) -> Node
+    ensures { result ≡ reading.put_first name.now value node }
 {
     if node.children().len() == 0 {
         discard(node);
         return value;
     }
-    let first = take_child(&mut node, 0);
-    let first = put_first(value, first);
-    put_child(&mut node, 0, first);
+    let at = mention_place(name, node.children());
+    if at >= node.children().len() {
+        discard(value);
+        return node;
+    }
+    let part = take_child(&mut node, at);
+    let part = put_first(name, value, part);
+    put_child(&mut node, at, part);
     node
 }
 
-// In the place of what the initializer of a declarator reads first.
-#[tactic(auto, using(crate::proofs::Unused::same_parts, crate::proofs::Unused::part_twice))]
-fn put_declarator(value: Node, node: &mut Node)
-    requires { 1 < count (children node.old) }
-    ensures { node.new ≡ reading.put_declarator value node.old }
+/// In the place of what is read of a name, where there is one.
+pub fn put_named(name: &Option<Name>, value: Node, node: Node) -> Node
+    ensures { result ≡ it_put_named (names name.now) value node }
 {
-    let initial = take_child(node, 1);
-    put_child(node, 1, put_first(value, initial));
-}
-
-// Of that of the first of some declarators.
-#[tactic(auto, using(crate::proofs::Unused::same_parts, crate::proofs::Unused::part_twice))]
-fn put_declarators(value: Node, node: &mut Node)
-    requires some { 0 < count (children node.old) }
-    requires parts { 1 < count (children (part node.old 0)) }
-    ensures { node.new ≡ reading.put_declarators value node.old }
-{
-    let mut declarator = take_child(node, 0);
-    put_declarator(value, &mut declarator);
-    put_child(node, 0, declarator);
-}
-
-// Of that of a declaration.
-#[tactic(auto, using(crate::proofs::Unused::same_parts, crate::proofs::Unused::part_twice))]
-fn put_initially(value: Node, mut node: Node) -> Node
-    requires list { 0 < count (children node) }
-    requires some { 0 < count (children (part node 0)) }
-    requires parts { 1 < count (children (part (part node 0) 0)) }
-    ensures { result ≡ reading.put_initially value node }
-{
-    let mut declarators = take_child(&mut node, 0);
-    put_declarators(value, &mut declarators);
-    put_child(&mut node, 0, declarators);
-    node
-}
-
-/// A declaration with a first declarator.
-pub fn has_declarator(node: &Node) -> bool
-    ensures value { result ≡ reading.has_declarator node.now }
-    ensures list { result ≡ true → 0 < count (children node.now) }
-    ensures some { result ≡ true → 0 < count (children (part node.now 0)) }
-    ensures parts { result ≡ true → 1 < count (children (part (part node.now 0) 0)) }
-{
-    declares_list(node) && !is_childless(node.child(0)) && is_declarator(node.child(0).child(0))
-}
-
-// In the place of what a head reads first.
-fn put_head(value: Node, node: Node) -> Node
-    ensures { result ≡ reading.put_head value node }
-{
-    if has_declarator(&node) {
-        put_initially(value, node)
-    } else {
-        put_first(value, node)
+    match name {
+        Some(name) => put_first(name, value, node),
+        None => {
+            discard(value);
+            node
+        }
     }
 }
 
@@ -393,31 +532,32 @@ fn left_of(alloc: Global, declaration: Node, is_only_one: bool) -> Node
     declaration
 }
 
-// Of a declaration that is the only one, `;` is left, and of another its other declarators. The answer is the initializer.
+// Of a declaration that is the only one, `;` is left, and of another its other declarators. The answer is what it binds and the
+// initializer.
 #[tactic(auto, using(crate::proofs::Unused::same_parts, crate::proofs::Unused::part_twice))]
-fn take_initializer(alloc: Global, list: &mut Node, at: usize, which: usize) -> Node
+fn take_initializer(alloc: Global, list: &mut Node, at: usize, which: usize) -> (Node, Node)
     requires statement { at < count (children list.old) }
     requires declarators { 0 < count (children (part list.old at)) }
     requires declarator { which < count (children (part (part list.old at) 0)) }
-    ensures value { result ≡ row.initializer list.old at which }
+    ensures binding { result.0 ≡ part (part (part (part list.old at) 0) which) 0 }
+    ensures value { result.1 ≡ row.initializer list.old at which }
     ensures left { list.new ≡ with_part list.old at (declaration_left (part list.old at) which) }
 {
     let mut declaration = take_child(list, at);
     let is_only_one = declaration.child(0).is_bare(1);
     let (binding, init) = two(take_declarator(&mut declaration, which));
-    discard(binding);
     put_child(list, at, left_of(alloc, declaration, is_only_one));
-    init
+    (binding, init)
 }
 
-// In the statement at the index it goes in the place of what is read first.
+// In the statement at the index it goes in the place of what is read of the name.
 #[tactic(auto, using(crate::proofs::Unused::same_parts, crate::proofs::Unused::part_twice))]
-fn put_in(list: &mut Node, at: usize, value: Node)
+fn put_in(list: &mut Node, at: usize, name: &Option<Name>, value: Node)
     requires { at < count (children list.old) }
-    ensures { list.new ≡ with_part list.old at (reading.put_head value (part list.old at)) }
+    ensures { list.new ≡ with_part list.old at (it_put_named (names name.now) value (part list.old at)) }
 {
     let head = take_child(list, at);
-    put_child(list, at, put_head(value, head));
+    put_child(list, at, put_named(name, value, head));
 }
 
 /// Of a list.
@@ -429,8 +569,9 @@ pub fn substitute_in_list(alloc: Global, list: &mut Node, at: usize, which: usiz
     requires declarator { which < count (children (part (part list.old at) 0)) }
     ensures { list.new ≡ row.list_single list.old at which }
 {
-    let init = take_initializer(alloc, list, at, which);
-    put_in(list, at + 1, init);
+    let (binding, init) = take_initializer(alloc, list, at, which);
+    put_in(list, at + 1, binding.name(), init);
+    discard(binding);
 }
 
 /// The place of the last declarator of a declaration in a list.

@@ -155,7 +155,13 @@ fn is_read_there(
     if !declares_name(declarator) {
         return false;
     }
-    if is_rarely_read(tallies, declarator.child(0).name(), statements, at) {
+    if is_rarely_read(
+        tallies,
+        declarator.child(0).name(),
+        declarator.child(1),
+        statements,
+        at,
+    ) {
         return true;
     }
     is_read_once(
@@ -252,7 +258,12 @@ fn is_read_next(
     if !is_declarator(next) {
         return false;
     }
-    if is_rarely_read_in(tallies, declarator.child(0).name(), next.child(1)) {
+    if is_rarely_read_in(
+        tallies,
+        declarator.child(0).name(),
+        declarator.child(1),
+        next.child(1),
+    ) {
         return true;
     }
     is_read_then(

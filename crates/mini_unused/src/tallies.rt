@@ -7,8 +7,7 @@ ghost use Rattle.mini_node.specs.Children.{names};
 ghost use Rattle.mini_unused.specs.Tallies.{hash_of, number_of, bucket, one_if, own_tally, tally, tallies, Counted, Covers, Tallied, HasFew, IsRare, AreRare, AreRead, AreReadIn};
 
 use crate::mentions::is_same_text;
-use crate::next_uses::is_declarator;
-use crate::single_uses::{has_declarator, is_first, reads_next};
+use crate::single_uses::{evaluated, reads_in, reads_next};
 use mini_model::{Name, OutOfMemory, SymbolId, Text};
 use mini_node::{Node, Nodes};
 use std::alloc::Global;
@@ -156,50 +155,49 @@ fn is_spelled_first(name: &Name, node: &Node) -> bool
     is_spelled_first(name, node.child(0))
 }
 
-// So does the initializer of a declarator.
-#[tactic(auto, using(crate::proofs::Rare::initial_spelled))]
-fn is_initial_spelled(name: &Name, node: &Node) -> bool
-    ensures { result ≡ true → (r : ℕ) → 1 ≤ tally (bucket false r) (bucket false r name.now) node.now }
-{
-    is_declarator(node) && is_spelled_first(name, node.child(1))
-}
-
-// So does what a head reads first.
-#[tactic(auto, using(crate::proofs::Rare::part_spelled))]
+// So does what a head evaluates.
+#[tactic(auto, using(crate::proofs::Rare::head_spelled))]
 fn is_spelled_in_head(name: &Name, node: &Node) -> bool
     ensures { result ≡ true → (r : ℕ) → 1 ≤ tally (bucket false r) (bucket false r name.now) node.now }
 {
-    if has_declarator(node) {
-        is_initial_spelled(name, node.child(0).child(0))
-    } else {
-        is_spelled_first(name, node)
-    }
+    is_spelled_first(name, evaluated(node))
 }
 
-/// The statement after the place reads a name first, and the two are the only ones in its buckets.
-pub fn is_rarely_read(tallies: &Tallies, name: &Option<Name>, statements: &Nodes, at: usize) -> bool
+/// The statement after the place reads a name, after parts that pass the initializer, and the two are the only ones in its buckets.
+pub fn is_rarely_read(
+    tallies: &Tallies,
+    name: &Option<Name>,
+    init: &Node,
+    statements: &Nodes,
+    at: usize,
+) -> bool
     requires next { at + 1 < count statements.now }
     requires fits { at + 1 < 2 ^ 64 }
-    ensures { result ≡ true → AreRead tallies.now (names name.now) (child_or_absent statements.now (suc at)) }
+    ensures { result ≡ true → AreRead tallies.now (names name.now) init.now (child_or_absent statements.now (suc at)) }
 {
     match name {
         Some(name) => {
             is_rare(tallies, name, 2)
-                && reads_next(name, statements, at)
+                && reads_next(name, init, statements, at)
                 && is_spelled_in_head(name, statements.child(at + 1))
         }
         None => false,
     }
 }
 
-/// An initializer reads a name first, and the two are the only ones in its buckets.
-pub fn is_rarely_read_in(tallies: &Tallies, name: &Option<Name>, value: &Node) -> bool
-    ensures { result ≡ true → AreReadIn tallies.now (names name.now) value.now }
+/// A value reads a name, after parts that pass the initializer, and the two are the only ones in its buckets.
+pub fn is_rarely_read_in(
+    tallies: &Tallies,
+    name: &Option<Name>,
+    init: &Node,
+    value: &Node,
+) -> bool
+    ensures { result ≡ true → AreReadIn tallies.now (names name.now) init.now value.now }
 {
     match name {
         Some(name) => {
             is_rare(tallies, name, 2)
-                && is_first(name, false, value)
+                && reads_in(name, init, value)
                 && is_spelled_first(name, value)
         }
         None => false,

@@ -1,0 +1,193 @@
+-- Parts that may be evaluated before an expression rather than after it: of the same value whenever they are evaluated, or without an
+-- effect, as the expression is.
+use Rattle.std.proofs.Common.{◌≡◌, ℕ, zero, suc, Bool, true, false, List, [], ◌∷◌, ◌⊎◌, inl, inr, refl, sym, ap, ◌∙◌, subst, subst₂, true≢false}
+use Rattle.std.specs.Prelude.{not, ◌&&◌, ◌||◌, Some, None}
+use Rattle.std.proofs.lemmas.Bool.{and_parts}
+use Rattle.mini_model.specs.declared.name.Name.{Name}
+use Rattle.mini_model.specs.declared.operator.UnaryOperator.TheVariants.{LogicalNot, Void}
+use Rattle.mini_model.specs.declared.shape.Shape.{Shape}
+use Rattle.mini_model.specs.declared.shape.Shape.TheVariants as shape
+use Rattle.mini_model.specs.Tree.{Tree, Trees, node, none, ◌▸◌, shape_of}
+use Rattle.mini_laws.specs.Value.{Value, Undefined, Null, Boolean, Number, String, VariableSet, truth, variables}
+use Rattle.mini_laws.specs.State.{Item, State, Stop, Completion, ok, stop, halt, out, either, Environment}
+use Rattle.mini_laws.specs.Demand.{Val, Demand, As, Callee, AnEntry, Stat, Called, Request, Reply, plain_call, says}
+use Rattle.mini_laws.specs.Command.{ret, bind, run}
+use Rattle.mini_laws.specs.Naming.{NameKind, kinds, summaries, naming}
+use Rattle.mini_laws.specs.Expressions.{first_kind, get_identifier, is_eval}
+use Rattle.mini_laws.specs.Step.{step, means, meaning}
+use Rattle.mini_laws.specs.Same.{Goes, Agree}
+use Rattle.mini_laws.specs.Truth.{told}
+use Rattle.mini_laws.specs.Congruence.{Avoids, Apart}
+use Rattle.mini_laws.proofs.Congruent.{insensitive}
+use Rattle.mini_laws.proofs.Runs.{run_bind, either_eta}
+use Rattle.mini_terms.specs.Folds.{is_effect_free}
+use Rattle.mini_terms.specs.Reading.{stands, is_item, by_value}
+use Rattle.mini_terms.specs.Sound.{Quiet}
+use Rattle.mini_terms.proofs.EffectsTable.{effect_free_sound}
+use Rattle.mini_terms.proofs.Reading.{read_by_value}
+use Rattle.mini_rows.specs.Unused.{is_written_value, is_value_operator, is_constant, passes}
+use Rattle.mini_rows.proofs.ItemReads.{item_read}
+
+-- an expression is asked for its value, as a callee, or as an item of a list
+abbrev pub Replies : Demand → Type 0
+Replies (As w) = Unit {0}
+Replies Callee = Unit {0}
+Replies AnEntry = Unit {0}
+Replies q = ⊥
+
+-- what a child does
+abbrev pub Does : Demand → Type 0
+Does q = (r : Request q) → State → Completion (Reply q r)
+
+-- it replies the same in each state
+abbrev pub Replying : (q : Demand) → Does q → Type 0
+Replying q m = (r : Request q) → (a : Reply q r) × ((s : State) → m r s ≡ ok a s)
+
+-- it does nothing but reply, and replies the same whatever the dead variables hold
+pub record Quietly (D : VariableSet) (q : Demand) (m : Does q) : Type 0 where
+  pub quiet : (r : Request q) (s : State) → Quiet s (m r s)
+  pub same : (r : Request q) (s t : State) → Agree D s t → Goes true (λ a. Agree D) (Agree D) (Agree D) (m r s) (m r t)
+
+-- ---- constants
+
+module _ (e : Environment) where
+  abbrev Gives : Tree → Type 0
+  Gives t = (v : Value) × ((s : State) → means e t (As Val) tt s ≡ ok v s)
+
+  not_there : (o : List Name) (n : ℕ) (t : Tree) → is_written_value (shape_of t) ≡ true → Gives (node (shape.UnaryExpression LogicalNot) o n (t ▸ none))
+  unfolding means meaning step either
+  not_there o n (node (shape.NumericLiteral m) xs k ts) c = (Boolean (not (truth (Number m))), λ s. refl)
+  not_there o n (node (shape.StringLiteral m) xs k ts) c = (Boolean (not (truth (String m))), λ s. refl)
+  not_there o n (node (shape.BooleanLiteral m) xs k ts) c = (Boolean (not m), λ s. refl)
+  not_there o n (node shape.NullLiteral xs k ts) c = (Boolean true, λ s. refl)
+  not_there o n (node h xs k ts) c = absurd (true≢false (sym c))
+
+  void_there : (o : List Name) (n : ℕ) (t : Tree) → is_written_value (shape_of t) ≡ true → Gives (node (shape.UnaryExpression Void) o n (t ▸ none))
+  unfolding means meaning step either
+  void_there o n (node (shape.NumericLiteral m) xs k ts) c = (Undefined, λ s. refl)
+  void_there o n (node (shape.StringLiteral m) xs k ts) c = (Undefined, λ s. refl)
+  void_there o n (node (shape.BooleanLiteral m) xs k ts) c = (Undefined, λ s. refl)
+  void_there o n (node shape.NullLiteral xs k ts) c = (Undefined, λ s. refl)
+  void_there o n (node h xs k ts) c = absurd (true≢false (sym c))
+
+  literal_there : (h : Shape) (xs : List Name) (n : ℕ) (ts : Trees) → is_written_value h ≡ true → Gives (node h xs n ts)
+  unfolding means step
+  literal_there (shape.NumericLiteral m) xs n ts c = (Number m, λ s. refl)
+  literal_there (shape.StringLiteral m) xs n ts c = (String m, λ s. refl)
+  literal_there (shape.BooleanLiteral m) xs n ts c = (Boolean m, λ s. refl)
+  literal_there shape.NullLiteral xs n ts c = (Null, λ s. refl)
+  literal_there h xs n ts c = absurd (true≢false (sym c))
+
+  operator_there : (h : Shape) (xs : List Name) (n : ℕ) (t : Tree) → is_value_operator h ≡ true → is_written_value (shape_of t) ≡ true → Gives (node h xs n (t ▸ none))
+  operator_there (shape.UnaryExpression LogicalNot) xs n t o c = not_there xs n t c
+  operator_there (shape.UnaryExpression Void) xs n t o c = void_there xs n t c
+  operator_there h xs n t o c = absurd (true≢false (sym o))
+
+  literal_stands : (h : Shape) (xs : List Name) (n : ℕ) (ts : Trees) → is_written_value h ≡ true → stands (node h xs n ts) ≡ true
+  literal_stands (shape.NumericLiteral m) xs n ts e = refl
+  literal_stands (shape.StringLiteral m) xs n ts e = refl
+  literal_stands (shape.BooleanLiteral m) xs n ts e = refl
+  literal_stands shape.NullLiteral xs n ts e = refl
+  literal_stands h xs n ts e = absurd (true≢false (sym e))
+
+  operator_stands : (h : Shape) (xs : List Name) (n : ℕ) (ts : Trees) → is_value_operator h ≡ true → stands (node h xs n ts) ≡ true
+  operator_stands (shape.UnaryExpression o) xs n ts e = refl
+  operator_stands h xs n ts e = absurd (true≢false (sym e))
+
+  -- which is read by its value
+  abbrev Known : Tree → Type 0
+  Known t = (stands t ≡ true) × Gives t
+
+  value_there : (t : Tree) → is_constant t ≡ true → Known t
+  value_there (node h xs n none) c = (literal_stands h xs n none c, literal_there h xs n none c)
+  value_there (node h xs n (t ▸ (u ▸ ts))) c = (literal_stands h xs n (t ▸ (u ▸ ts)) c, literal_there h xs n (t ▸ (u ▸ ts)) c)
+  value_there (node h xs n (t ▸ none)) c = by (is_written_value h) refl c
+    where
+      by : (b : Bool) → is_written_value h ≡ b → (b || (is_value_operator h && is_written_value (shape_of t))) ≡ true → Known (node h xs n (t ▸ none))
+      by true w c = (literal_stands h xs n (t ▸ none) w, literal_there h xs n (t ▸ none) w)
+      by false w c =
+          let (o, v) = and_parts (is_value_operator h) (is_written_value (shape_of t)) c in
+          (operator_stands h xs n (t ▸ none) o, operator_there h xs n t o v)
+
+  replied : (q : Demand) → Replies q → (v : Value) (r : Request q) → (a : Reply q r) × ((s : State) → by_value q r (ok v s) ≡ ok a s)
+  unfolding by_value told either
+  replied (As w) u v r = (says w v, λ s. refl)
+  replied Callee u v r = (plain_call v, λ s. refl)
+  replied AnEntry u v r = (Item v, λ s. refl)
+  replied q u v r = absurd u
+
+  pub constant_replies : (t : Tree) → is_constant t ≡ true → (q : Demand) → Replies q → Replying q (means e t q)
+  constant_replies t c q u r =
+      let (there, known) = value_there t c in
+      let (v, f) = known in
+      let (a, g) = replied q u v r in
+      (a, λ s. read_by_value t there e q r s ∙ ap (by_value q r) (f s) ∙ g s)
+
+-- ---- without an effect
+
+quiet_mapped : {A : Type 0} (f : Value → A) (s : State) (x : Completion Value) → Quiet s x → Quiet s (either x (λ v z. ok (f v) z) (λ y z. stop y z))
+unfolding Quiet either
+quiet_mapped f s (ok v t) h = h
+quiet_mapped f s out h = tt
+quiet_mapped f s (stop y t) h = absurd h
+quiet_mapped f s (halt y t) h = absurd h
+
+quiet_called : (s : State) (x : Completion Value) → Quiet s x → Quiet s (by_value Callee tt x)
+unfolding by_value
+quiet_called s x h = quiet_mapped plain_call s x h
+
+quiet_item : (s : State) (x : Completion Value) → Quiet s x → Quiet s (by_value AnEntry tt x)
+unfolding by_value
+quiet_item s x h = quiet_mapped Item s x h
+
+module _ (e : Environment) where
+  pub quiet_there : (t : Tree) → is_effect_free t ≡ true → (s : State) → Quiet s (means e t (As Val) tt s)
+  quiet_there t f s = effect_free_sound t e true (λ h. absurd (true≢false h)) f Val s
+
+  abbrev of_name : NameKind → Value → Called
+  of_name k v = record { value = v; this_value = Undefined; direct = is_eval k }
+
+  name_called : (xs : List Name) (n : ℕ) (ts : Trees) (s : State) → Quiet s (means e (node shape.Identifier xs n ts) (As Val) tt s) → Quiet s (means e (node shape.Identifier xs n ts) Callee tt s)
+  unfolding means step
+  name_called xs n ts s h =
+      let names = naming shape.Identifier Callee (variables xs) n (summaries ts) in
+      let k = first_kind (kinds xs) in
+      let K = λ (i : ℕ) (r : Request (Stat None)) (z : State). meaning e ts i (Stat None) r z in
+      subst (Quiet s) (sym (run_bind e names {q = λ i. Stat None} (get_identifier k) (λ v. ret (of_name k v)) K s))
+      (quiet_mapped (of_name k) s (run {q = λ i. Stat None} e names K (get_identifier k) s)
+      (subst (Quiet s) (run_bind e names {q = λ i. Stat None} (get_identifier k) (λ v. ret v) K s ∙ either_eta (run {q = λ i. Stat None} e names K (get_identifier k) s)) h))
+
+  called_quiet : (t : Tree) → is_effect_free t ≡ true → is_item t ≡ true → (s : State) → Quiet s (means e t Callee tt s)
+  unfolding means step Quiet
+  called_quiet (node shape.Identifier xs n ts) f i s = name_called xs n ts s (quiet_there (node shape.Identifier xs n ts) f s)
+  called_quiet (node (shape.BigIntLiteral m) xs n ts) f i s = tt
+  called_quiet (node (shape.StaticMemberExpression b) xs n ts) f i s = absurd (true≢false (sym f))
+  called_quiet (node (shape.ComputedMemberExpression b) xs n ts) f i s = absurd (true≢false (sym f))
+  called_quiet (node (shape.PrivateFieldExpression b) xs n ts) f i s = absurd (true≢false (sym f))
+  called_quiet (node shape.SuperStaticMemberExpression xs n ts) f i s = absurd (true≢false (sym f))
+  called_quiet (node shape.SuperComputedMemberExpression xs n ts) f i s = absurd (true≢false (sym f))
+  called_quiet (node (shape.Function d g ds) xs n ts) f i s = absurd (true≢false (sym f))
+  called_quiet (node (shape.Class d) xs n ts) f i s = absurd (true≢false (sym f))
+  called_quiet (node shape.ChainExpression xs n ts) f i s = absurd (true≢false (sym f))
+  called_quiet (node h xs n ts) f i s = subst (Quiet s) (sym (read_by_value (node h xs n ts) i e Callee tt s)) (quiet_called s (means e (node h xs n ts) (As Val) tt s) (quiet_there (node h xs n ts) f s))
+
+  effect_free_quiet : (t : Tree) → is_effect_free t ≡ true → is_item t ≡ true → (q : Demand) → Replies q → (r : Request q) (s : State) → Quiet s (means e t q r s)
+  effect_free_quiet t f i (As w) u r s = effect_free_sound t e true (λ h. absurd (true≢false h)) f w s
+  effect_free_quiet t f i Callee u r s = called_quiet t f i s
+  effect_free_quiet t f i AnEntry u r s = subst (Quiet s) (sym (item_read t i e s)) (quiet_item s (means e t (As Val) tt s) (quiet_there t f s))
+  effect_free_quiet t f i q u r s = absurd u
+
+  pub quietly : (D : VariableSet) → Apart e D → (t : Tree) → Avoids D t → is_effect_free t ≡ true → is_item t ≡ true → (q : Demand) → Replies q → Quietly D q (means e t q)
+  quietly D apart t a f i q u = record { quiet = λ r s. effect_free_quiet t f i q u r s; same = λ r s z g. insensitive e D apart t a q r s z g }
+
+-- ---- what passes
+
+pub passes_by : (r t : Tree) → passes r t ≡ true → (is_constant t ≡ true) ⊎ ((is_effect_free r ≡ true) × (is_effect_free t ≡ true) × (is_item t ≡ true))
+passes_by r t e = by (is_constant t) refl e
+  where
+    by : (b : Bool) → is_constant t ≡ b → (b || (is_effect_free r && (is_effect_free t && is_item t))) ≡ true → (is_constant t ≡ true) ⊎ ((is_effect_free r ≡ true) × (is_effect_free t ≡ true) × (is_item t ≡ true))
+    by true c e = inl c
+    by false c e =
+        let (f, g) = and_parts (is_effect_free r) (is_effect_free t && is_item t) e in
+        let (h, i) = and_parts (is_effect_free t) (is_item t) g in
+        inr (f, h, i)
