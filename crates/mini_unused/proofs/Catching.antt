@@ -1,5 +1,5 @@
 -- A handler that loses the name of what it catches is what the row says.
-use Rattle.std.proofs.Common.{◌≡◌, zero, Bool, true, false, List, [], ◌∷◌, refl, sym, ap, ◌∙◌, subst, true≢false}
+use Rattle.std.proofs.Common.{◌≡◌, zero, true, false, [], refl, sym, ap, ◌∙◌, subst, true≢false}
 use Rattle.std.specs.Prelude.{not, ◌&&◌}
 use Rattle.std.proofs.lemmas.Bool.{and_parts}
 use Rattle.mini_model.specs.declared.place.Position.{Position}
@@ -8,8 +8,7 @@ use Rattle.mini_model.specs.declared.shape.Shape.TheVariants as shape
 use Rattle.mini_model.specs.Tree.{Tree, node, none, ◌▸◌, shape_of}
 use Rattle.mini_laws.specs.ScopeList.{has_eval}
 use Rattle.mini_node.specs.Children.{names_of, part, is_bare}
-use Rattle.mini_rows.specs.Catches.{handler, Row63, CatchRow, CatchContracts}
-use Rattle.mini_rows.specs.Declarations.{binding}
+use Rattle.mini_rows.specs.Catches.{handler, Row63, CatchContracts}
 use Rattle.mini_rows.specs.Unused.{names, resolved}
 use Rattle.mini_rows.proofs.CatchWeights.{catches_lighter}
 use Rattle.mini_tree.proofs.Reaching.{moves_once}

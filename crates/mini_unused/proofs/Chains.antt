@@ -1,5 +1,4 @@
 -- Steps of a relation as steps of another, and as steps of a rule.
-use Rattle.std.proofs.Common.{◌≡◌, inl, inr}
 use Rattle.mini_model.specs.declared.place.Position.{Position}
 use Rattle.mini_model.specs.Tree.{Tree}
 use Rattle.mini_model.specs.Rewriting.{Reaches, here, done, more}

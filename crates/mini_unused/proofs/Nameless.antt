@@ -1,27 +1,26 @@
 -- A function or class expression that loses its name is what the row says.
-use Rattle.std.proofs.Common.{◌≡◌, ℕ, zero, suc, ◌<◌, Bool, true, false, List, [], ◌∷◌, refl, sym, ap, ◌∙◌, subst, true≢false, arith}
+use Rattle.std.proofs.Common.{◌≡◌, ℕ, zero, suc, Bool, true, false, List, [], ◌∷◌, refl, sym, ap, ◌∙◌, subst, true≢false}
 use Rattle.std.specs.Prelude.{not, ◌&&◌, nat_eq}
 use Rattle.std.proofs.Math.Dec.{eqb-zero-suc, eqb-suc-zero, eqb-suc-suc}
 use Rattle.std.proofs.lemmas.Bool.{and_parts}
-use Rattle.mini_model.specs.declared.name.Name.{Name}
 use Rattle.mini_model.specs.declared.place.Position.{Position}
 use Rattle.mini_model.specs.declared.place.Position.TheVariants.{Expr}
 use Rattle.mini_model.specs.declared.seat.Seat.{Seat}
 use Rattle.mini_model.specs.declared.shape.Shape.TheVariants as shape
-use Rattle.mini_model.specs.Tree.{Tree, Trees, node, none, ◌▸◌, shape_of, children, count, child_or_absent, absent}
+use Rattle.mini_model.specs.Tree.{Tree, Trees, node, none, ◌▸◌, shape_of, children, count, child_or_absent}
 use Rattle.mini_laws.specs.ScopeList.{any_has_eval}
 use Rattle.mini_node.specs.Children.{names_of, part, has_count, rest_children}
 use Rattle.mini_node.specs.Kinds.{is_absent_part}
 use Rattle.mini_node.specs.Made.{absent_is}
 use Rattle.mini_rows.specs.Declarations.{binding}
-use Rattle.mini_rows.specs.Names.{Nameable, AFunction, AClass, shape_by, inside_of, nameable, Row62, NameRow, NameContracts}
+use Rattle.mini_rows.specs.Names.{Nameable, AFunction, AClass, inside_of, nameable, Row62, NameRow, NameContracts}
 use Rattle.mini_rows.specs.Switches.{Switches, let_go}
 use Rattle.mini_rows.specs.Unused.{resolved, any_names}
 use Rattle.mini_rows.proofs.NameWeights.{names_lighter}
 use Rattle.mini_tree.proofs.Reaching.{moves_once}
 use Rattle.mini_unused.specs.RemoveUnusedDeclaration.{is_resolved_binding}
 use Rattle.mini_unused.specs.RemoveUnusedName.{is_nameless, has_its_parts, is_unseen, loses_it, nameless, Applied}
-use Rattle.mini_unused.proofs.Unused.{and_both, not_true, binding_is}
+use Rattle.mini_unused.proofs.Unused.{not_true, binding_is}
 
 -- ---- what the tests say
 

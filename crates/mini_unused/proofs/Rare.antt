@@ -5,16 +5,15 @@ use Rattle.std.proofs.lemmas.Bool.{and_parts, eqb-true, eq-eqb}
 use Rattle.mini_model.specs.declared.name.Name.{Name}
 use Rattle.mini_model.specs.declared.shape.Shape.{Shape}
 use Rattle.mini_model.specs.declared.name.SymbolId.{SymbolId}
-use Rattle.mini_model.specs.Tree.{Tree, Trees, node, none, ◌▸◌, absent, listed, children, count, child_or_absent, empty_statement, expression_statement}
+use Rattle.mini_model.specs.Tree.{Tree, Trees, node, none, ◌▸◌, listed, children, count, child_or_absent, empty_statement, expression_statement}
 use Rattle.mini_model.specs.Paths.{append}
 use Rattle.mini_model.specs.Weight.{same_text}
 use Rattle.mini_laws.specs.Symbols.{is_same}
 use Rattle.mini_laws.specs.Value.{VariableSet}
 use Rattle.mini_node.specs.Children.{names_of, like, part, with_child, with_part, without, is_bare, is_nameless, first_children, rest_children}
-use Rattle.mini_node.specs.Kinds.{is_identifier, is_sequence_shape}
+use Rattle.mini_node.specs.Kinds.{is_identifier}
 use Rattle.mini_node.specs.Walks.{next_child}
 use Rattle.mini_kept.proofs.SameScopes.{same_texts}
-use Rattle.mini_rows.specs.Lists.{declaration}
 use Rattle.mini_rows.specs.Declarations.{declarator}
 use Rattle.mini_rows.specs.Unused.{resolved, is_like_one, names, any_names, is_idle, leads, holds_list, is_childless, reads, is_first, leads_to, put_first, put_among, are_passed, is_head_shape, reads_first, reads_head, has_declarator, evaluated}
 use Rattle.mini_rows.proofs.SingleUse.{Initial, heads}
@@ -23,7 +22,7 @@ use Rattle.mini_unused.specs.RemoveUnusedDeclaration.{declares_list, is_alone, l
 use Rattle.mini_unused.specs.SubstituteNext.{reads_in, put_named, is_read_then, declarators_next, list_next, NextGone}
 use Rattle.mini_unused.specs.SubstituteSingleUse.{reads_next, is_read_once, declaration_left, declared_names, initializer, list_single, last_place, NameGone, ReadGone, Gone}
 use Rattle.mini_unused.specs.Tallies.{number_of, bucket, hash_of, one_if, own_tally, tally, tallies, Counted, Covers, Tallied, HasFew, IsRare}
-use Rattle.mini_unused.proofs.Unused.{parts_of, a_declaration, Declares, declares}
+use Rattle.mini_unused.proofs.Unused.{parts_of, a_declaration, Declares}
 use Rattle.mini_unused.proofs.SingleUses.{next_part}
 
 -- ---- sums

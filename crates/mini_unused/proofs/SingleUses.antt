@@ -6,7 +6,6 @@ use Rattle.std.proofs.Math.Dec.{ltb}
 use Rattle.mini_model.specs.declared.kind.VariableDeclarationKind.{VariableDeclarationKind}
 use Rattle.mini_model.specs.declared.name.Name.{Name}
 use Rattle.mini_model.specs.declared.shape.Shape.{Shape}
-use Rattle.mini_model.specs.declared.shape.Shape.TheVariants as shape
 use Rattle.mini_model.specs.Tree.{Tree, Trees, node, none, ◌▸◌, shape_of, children, count, node_count, node_counts, child_or_absent}
 use Rattle.mini_model.specs.Paths.{append}
 use Rattle.mini_laws.specs.Naming as kinds
@@ -18,7 +17,7 @@ use Rattle.mini_node.specs.Made.{block_is}
 use Rattle.mini_node.specs.Walks.{next_child}
 use Rattle.mini_rows.specs.Lists.{block, declaration}
 use Rattle.mini_rows.specs.Declarations.{binding, declarator}
-use Rattle.mini_rows.specs.Unused.{resolved, declared_among, declared_left, names, any_names, begins, goes_on, leads, has_arguments, holds_list, is_childless, is_written_value, is_value_operator, is_constant, reads, is_first, leads_to, put_first, put_among, passes, are_passed, all_passed, is_head_shape, reads_first, reads_head, evaluated, may_move, lets_go, Row71}
+use Rattle.mini_rows.specs.Unused.{resolved, declared_among, declared_left, names, any_names, leads, has_arguments, holds_list, is_childless, is_written_value, is_value_operator, is_constant, reads, is_first, leads_to, put_first, put_among, passes, are_passed, all_passed, is_head_shape, reads_first, reads_head, evaluated, may_move, lets_go, Row71}
 use Rattle.mini_unused.specs.RemoveUnusedDeclaration.{declares_name, is_lexical_shape, declares_list, may_lose, is_free_at, list_at}
 use Rattle.mini_unused.specs.SubstituteNext.{put_named}
 use Rattle.mini_unused.specs.SubstituteSingleUse.{mention_place, may_lead, all_pass, is_head, reads_here, last_place, is_declared_over, is_mentioned_around, reads_next, is_read_once, is_single_declarator, is_single, declaration_left, list_single}

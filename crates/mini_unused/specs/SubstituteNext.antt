@@ -2,9 +2,9 @@
 -- statements of a function, and there each `var`, too.
 use Rattle.std.specs.Prelude.{◌≡◌, ◌<◌, ℕ, suc, Bool, true, false, not, ◌&&◌, ◌||◌, List, [], ◌∷◌, Option, Some, None}
 use Rattle.mini_model.specs.declared.name.Name.{Name}
-use Rattle.mini_model.specs.Tree.{Tree, Trees, shape_of, count, child_or_absent, children}
+use Rattle.mini_model.specs.Tree.{Tree, Trees, count, child_or_absent, children}
 use Rattle.mini_laws.specs.Value.{VariableSet}
-use Rattle.mini_node.specs.Children.{names_of, like, part, with_part, without, is_bare, first_children, rest_children}
+use Rattle.mini_node.specs.Children.{names_of, like, part, with_part, without, first_children, rest_children}
 use Rattle.mini_rows.specs.Unused.{names, any_names, is_first, may_move, put_first, are_passed}
 pub use Rattle.mini_rows.specs.Unused.{is_declarator}
 use Rattle.mini_unused.specs.RemoveUnusedDeclaration.{declares_name, declares_list, may_lose, is_free_at, list_at}

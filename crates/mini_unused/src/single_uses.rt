@@ -88,10 +88,7 @@ fn leads(in_list: bool, shape: &Shape, at: usize, is_leaf: bool) -> bool
 fn begins_list(shape: &Shape) -> bool
     ensures { result ≡ reading.begins_list shape.now }
 {
-    matches!(
-        shape,
-        Shape::SequenceExpression | Shape::ArrayExpression
-    )
+    matches!(shape, Shape::SequenceExpression | Shape::ArrayExpression)
 }
 
 // Its second part is one.
@@ -561,7 +558,7 @@ fn put_in(list: &mut Node, at: usize, name: &Option<Name>, value: Node)
 }
 
 /// Of a list.
-#[tactic(auto, using(crate::proofs::Unused::same_parts))]
+#[tactic(auto, using(crate::proofs::Unused::same_parts, crate::proofs::SingleUses::next_part))]
 pub fn substitute_in_list(alloc: Global, list: &mut Node, at: usize, which: usize)
     requires next { at + 1 < count (children list.old) }
     requires fits { at + 1 < 2 ^ 64 }

@@ -186,12 +186,7 @@ pub fn is_rarely_read(
 }
 
 /// A value reads a name, after parts that pass the initializer, and the two are the only ones in its buckets.
-pub fn is_rarely_read_in(
-    tallies: &Tallies,
-    name: &Option<Name>,
-    init: &Node,
-    value: &Node,
-) -> bool
+pub fn is_rarely_read_in(tallies: &Tallies, name: &Option<Name>, init: &Node, value: &Node) -> bool
     ensures { result ≡ true → AreReadIn tallies.now (names name.now) init.now value.now }
 {
     match name {

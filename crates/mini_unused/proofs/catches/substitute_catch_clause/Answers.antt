@@ -1,5 +1,5 @@
 use Rattle.std.proofs.Common.{sym}
-use Rattle.mini_unused.proofs.Catching.{applied, stays}
+use Rattle.mini_unused.proofs.Catching.{applied}
 use Rattle.mini_unused.proofs.catches.substitute_catch_clause.Goals as goal
 
 pub returns : goal.returns

@@ -1,4 +1,4 @@
-use Rattle.std.proofs.Common.{◌≡◌, ◌∙◌, true, ap, sym, subst₂}
+use Rattle.std.proofs.Common.{◌∙◌, ap, sym, subst₂}
 use Rattle.mini_node.specs.Kinds.{is_listed}
 use Rattle.mini_model.specs.declared.place.Position.TheVariants.{Stmt}
 use Rattle.mini_model.specs.declared.seat.StmtSeat.{StmtSeat}

@@ -1,9 +1,9 @@
-use Rattle.std.proofs.Common.{◌≡◌, true, false, ◌∙◌, sym, ap, subst₂, arith}
-use Rattle.mini_model.specs.Tree.{Trees, children, count}
+use Rattle.std.proofs.Common.{◌∙◌, sym, ap, arith}
+use Rattle.mini_model.specs.Tree.{count}
 use Rattle.mini_node.specs.Children.{first_children}
 use Rattle.mini_rows.specs.Unused.{are_passed}
 use Rattle.mini_unused.specs.SubstituteSingleUse.{mention_place, all_pass}
-use Rattle.mini_unused.proofs.SingleUses.{passed_none, passed_all, passed_below, place_within}
+use Rattle.mini_unused.proofs.SingleUses.{passed_none, passed_all, passed_below}
 use Rattle.mini_unused.proofs.single_uses.+are_passed.Goals as goal
 
 pub returns-then-not-all_pass : goal.returns-then-not-all_pass

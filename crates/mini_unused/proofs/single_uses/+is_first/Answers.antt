@@ -1,5 +1,5 @@
 use Rattle.std.proofs.Common.{◌+◌, ◌<◌, ◌∙◌, sym, ap, arith}
-use Rattle.mini_model.specs.Tree.{shape_of, children, count}
+use Rattle.mini_model.specs.Tree.{children, count}
 use Rattle.mini_node.specs.Children.{rest_children}
 use Rattle.mini_rows.specs.Unused.{any_names, is_first, holds_list}
 use Rattle.mini_unused.specs.SubstituteSingleUse.{mention_place}

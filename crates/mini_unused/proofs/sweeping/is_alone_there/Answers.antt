@@ -1,5 +1,4 @@
-use Rattle.std.proofs.Common.{◌≡◌, ◌<◌, ◌∙◌, suc, true, refl, ap, sym, subst, arith}
-use Rattle.mini_model.specs.Tree.{children, count}
+use Rattle.std.proofs.Common.{◌≡◌, ◌∙◌, true, refl, ap, sym, subst}
 use Rattle.mini_node.specs.Children.{names_of, part}
 use Rattle.mini_unused.specs.RemoveUnusedDeclaration.{declares_name, is_alone}
 use Rattle.mini_unused.specs.Tallies.{AreRare}

@@ -1,6 +1,5 @@
-use Rattle.std.proofs.Common.{◌≡◌, ◌<◌, ◌∙◌, suc, true, refl, ap, sym, subst, arith}
+use Rattle.std.proofs.Common.{◌<◌, ◌∙◌, refl, ap, sym, arith}
 use Rattle.mini_model.specs.Tree.{children, count}
-use Rattle.mini_node.specs.Children.{names_of, part}
 use Rattle.mini_unused.specs.RemoveUnusedDeclaration.{is_lexical_shape, marked, open_in}
 use Rattle.mini_unused.proofs.Swept.{unused_there}
 use Rattle.mini_unused.proofs.sweeping.is_unused_there.Goals as goal

@@ -1,4 +1,4 @@
-use Rattle.std.proofs.Common.{◌≡◌, ◌<◌, ap, subst, refl, inr, arith}
+use Rattle.std.proofs.Common.{◌<◌, ap, subst, refl, inr, arith}
 use Rattle.std.specs.Prelude.{Some}
 use Rattle.mini_model.specs.Tree.{children, count}
 use Rattle.mini_unused.specs.RemoveUnusedDeclaration.{marked, open_in}

@@ -1,4 +1,4 @@
-use Rattle.std.proofs.Common.{◌≡◌, ◌<◌, ◌∙◌, suc, true, ap, sym, subst, refl, inl, inr, arith}
+use Rattle.std.proofs.Common.{◌≡◌, ◌<◌, ◌∙◌, suc, true, ap, subst, refl, inl, inr, arith}
 use Rattle.mini_model.specs.Tree.{children, count}
 use Rattle.mini_unused.specs.RemoveUnusedDeclaration.{marked, open_in, list_at}
 use Rattle.mini_unused.specs.SubstituteSingleUse.{is_single, list_single}
