@@ -1,12 +1,14 @@
 //! Rewrites of lists of statements, and what they are made with.
 
 ghost use Rattle.mini_rows.specs.Lists as list;
+ghost use Rattle.mini_stmt.specs.JoinLets.{JoinsLets, marked};
 ghost use Rattle.mini_stmt.specs.MinimizeStatements.{MinimizesList, switches_of};
 ghost use Rattle.mini_stmt.specs.Terms as term;
 ghost use Rattle.mini_stmt.specs.TurnLoopGuards.{TurnsLoop};
 ghost use Rattle.std.specs.Prelude.{IfOk, not, ◌≡◌};
 
 use crate::PeepholeOptimizations;
+use mini_context::Scopes;
 use mini_tree::{CompressOptions, Node, OutOfMemory};
 use std::alloc::Global;
 
@@ -23,6 +25,20 @@ impl PeepholeOptimizations {
         ensures { IfOk result (λ changed. MinimizesList (switches_of options) node.old node.new changed) }
     {
         mini_stmt::minimize_statements(alloc, options, node)
+    }
+
+    /// Each value that is written out and assigned to the last name of the `let` before it as an initializer in it, where the program
+    /// lets the name be written. The answer says whether there was one; the only error is that memory runs out, and then the list is fit
+    /// only to be dropped.
+    pub fn join_lets(
+        &self,
+        alloc: Global,
+        node: &mut Node,
+        scopes: &Scopes,
+    ) -> Result<bool, OutOfMemory>
+        ensures { IfOk result (JoinsLets (marked scopes.now) node.old node.new) }
+    {
+        mini_stmt::join_lets(alloc, node, scopes)
     }
 
     /// The last guard in the body of a loop that goes on with the next turn takes in what follows it, where that nests no deeper than 64, or nothing where it is the body:

@@ -137,7 +137,8 @@ module _ (o : CompressOptions) (q : Tree) where
   all_settled p t u small r (inr (inl c)) = r.1.0 u c.row
   all_settled p t u small r (inr (inr (inl c))) = r.1.1.0 u c.row
   all_settled p t u small r (inr (inr (inr (inl c)))) = r.1.1.1.0 u c.row
-  all_settled p t u small r (inr (inr (inr (inr c)))) = r.1.1.1.1 u c.row
+  all_settled p t u small r (inr (inr (inr (inr (inl c))))) = r.1.1.1.1.0 u c.row
+  all_settled p t u small r (inr (inr (inr (inr (inr c))))) = r.1.1.1.1.1 u c.row
 
   rests_settle : (p : Position) (t : Tree) → weight p t < 2 ^ 64 → AllRests o q p t → IsSettled (switches o) (writable_in q) p t
   rests_settle p t small r x = all_settled p t x.to small r x.contracts

@@ -27,6 +27,7 @@ use Rattle.mini_rows.specs.Declarations.{DeclarationContracts}
 use Rattle.mini_rows.specs.Catches.{CatchContracts}
 use Rattle.mini_stmt.specs.MinimizeStatements as lists
 use Rattle.mini_stmt.specs.TurnLoopGuards as loop_guards
+use Rattle.mini_stmt.specs.JoinLets as lets
 use Rattle.mini_unused.specs.RemoveUnusedDeclaration as unused
 use Rattle.mini_unused.specs.RemoveUnusedName as names
 use Rattle.mini_unused.specs.SubstituteCatchClause as catches
@@ -40,7 +41,7 @@ Rests o q = Both logic.Rests (Both bodies.Rests (Both returns.Rests (Both spelli
 
 -- and of those besides that drop names that nothing mentions, or write names that can be written
 abbrev pub AllGives : CompressOptions → Tree → Position → Tree → Tree → Type 0
-AllGives o q = Either (Gives o q) (Either (unused.Gives o q) (Either (names.Gives o q) (Either CatchContracts (writes.Gives o q))))
+AllGives o q = Either (Gives o q) (Either (unused.Gives o q) (Either (names.Gives o q) (Either CatchContracts (Either (writes.Gives o q) (lets.Gives o q)))))
 
 abbrev pub AllRests : CompressOptions → Tree → Position → Tree → Type 0
-AllRests o q = Both (Rests o q) (Both (unused.Rests q) (Both (names.RestsUnder o q) (Both catches.Rests (writes.Rests q))))
+AllRests o q = Both (Rests o q) (Both (unused.Rests q) (Both (names.RestsUnder o q) (Both catches.Rests (Both (writes.Rests q) (lets.Rests q)))))

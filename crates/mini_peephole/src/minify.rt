@@ -23,7 +23,7 @@ use mini_logic::{
     MinimizeBodies, MinimizeConditional, MinimizeIf, MinimizeInBooleanContext, MinimizeNegations,
     MinimizeUnary, MinimizeVoid,
 };
-use mini_stmt::{MinimizeStatements, TurnLoopGuards};
+use mini_stmt::{JoinLets, MinimizeStatements, TurnLoopGuards};
 use mini_syntax::{
     MinimizeSwitches, SubstituteArrows, SubstituteDeclarations, SubstituteKeys,
     SubstitutePropertyKeys, SubstituteReturns, SubstituteSpellings,
@@ -188,7 +188,7 @@ type Keeping = Then<Logic, Then<MinimizeBodies, Spellings>>;
 
 type Naming = Then<
     RemoveUnusedDeclarations,
-    Then<RemoveUnusedNames, Then<SubstituteCatches, MinimizeWrites>>,
+    Then<RemoveUnusedNames, Then<SubstituteCatches, Then<MinimizeWrites, JoinLets>>>,
 >;
 
 const RULES: Then<Keeping, Naming> = Then {
@@ -199,7 +199,10 @@ const RULES: Then<Keeping, Naming> = Then {
             first: RemoveUnusedNames,
             second: Then {
                 first: SubstituteCatches,
-                second: MinimizeWrites,
+                second: Then {
+                    first: MinimizeWrites,
+                    second: JoinLets,
+                },
             },
         },
     },

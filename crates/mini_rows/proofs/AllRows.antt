@@ -33,6 +33,7 @@ use Rattle.mini_rows.specs.Unused.{UnusedContracts}
 use Rattle.mini_rows.specs.Names.{NameContracts}
 use Rattle.mini_rows.specs.Catches.{CatchContracts}
 use Rattle.mini_rows.specs.Writes.{WriteContracts}
+use Rattle.mini_rows.specs.Lets.{LetContracts}
 use Rattle.mini_rows.specs.Redex.{Row, Contracts, Rewrites}
 use Rattle.mini_rows.proofs.SpellKeyLawful as keys
 use Rattle.mini_rows.proofs.FoldRows.{foldings_lawful}
@@ -55,6 +56,7 @@ use Rattle.mini_rows.proofs.KeysJoined.{held_keys_lawful}
 use Rattle.mini_rows.proofs.CatchLawful.{catches_lawful}
 use Rattle.mini_rows.proofs.NameLawful.{names_lawful}
 use Rattle.mini_rows.proofs.WriteLawful.{writes_lawful}
+use Rattle.mini_rows.proofs.LetLawful.{lets_lawful}
 use Rattle.mini_rows.proofs.FunctionBodyLawful.{unused_loose}
 
 module _ (o : Switches) where
@@ -145,8 +147,11 @@ module _ (o : Switches) where
   all_lawful = lawful_narrowed (Contracts o) Families by_family families_lawful
 
   module _ (W : VariableSet) where
+    abbrev Written : Position → Tree → Tree → Type 0
+    Written p n w = WriteContracts W p n w ⊎ LetContracts W p n w
+
     abbrev Named : Position → Tree → Tree → Type 0
-    Named p n w = CatchContracts p n w ⊎ WriteContracts W p n w
+    Named p n w = CatchContracts p n w ⊎ Written p n w
 
     abbrev Dropping : Position → Tree → Tree → Type 0
     Dropping p n w = NameContracts o p n w ⊎ Named p n w
@@ -163,4 +168,5 @@ module _ (o : Switches) where
         loose_join (Contracts o) Going (let_go o) W (lawful_is_loose (Contracts o) (let_go o) W all_lawful)
         (loose_join (UnusedContracts W) Dropping (let_go o) W (unused_loose (let_go o) W)
         (loose_join (NameContracts o) Named (let_go o) W (wider (NameContracts o) (names_lawful o))
-        (loose_join CatchContracts (WriteContracts W) (let_go o) W (wider CatchContracts (catches_lawful (let_go o))) (writes_lawful (let_go o) W))))
+        (loose_join CatchContracts Written (let_go o) W (wider CatchContracts (catches_lawful (let_go o)))
+        (loose_join (WriteContracts W) (LetContracts W) (let_go o) W (writes_lawful (let_go o) W) (lets_lawful (let_go o) W)))))

@@ -217,3 +217,6 @@ pub mod LoopGuardsKept
 pub mod LoopGuardWeights
 pub mod DeadCaseParts
 pub mod DeadCaseKept
+pub mod LetMeaning
+pub mod LetWeights
+pub mod LetLawful

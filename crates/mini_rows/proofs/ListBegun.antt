@@ -57,7 +57,7 @@ module _ (e : Environment) (spelling target : List ℕ) (k : ℕ) where
   unfolding means meaning step
   prepared s = refl
 
-  assigned_is : (b : Tree) (s : State) → means e (assigned (resolved target k) b) (As Unused) tt s ≡ either (means e b (As Val) tt s) takes (λ x z. stop x z)
+  pub assigned_is : (b : Tree) (s : State) → means e (assigned (resolved target k) b) (As Unused) tt s ≡ either (means e b (As Val) tt s) takes (λ x z. stop x z)
   unfolding means meaning step
   assigned_is b s =
       ap (λ y. either y (λ r z. either (means e b (As Val) tt z) (λ v w. either (means e (identifier (resolved target k)) Target (Put r v) w) (λ u x. ok tt x) (λ x t. stop x t)) (λ x t. stop x t)) (λ x t. stop x t)) (prepared s)
@@ -76,11 +76,11 @@ module _ (e : Environment) (spelling target : List ℕ) (k : ℕ) where
   present (node (shape.UnaryExpression LogicalNot) xs n (t ▸ ts)) h = present t h
   present (node h xs n ts) e = refl
 
-  initialised : (b : Tree) → declares_nothing b ≡ true → (s : State) → means e (declarator id b) (Declares false) tt s ≡ either (means e b (As Val) tt s) takes (λ x z. stop x z)
+  pub initialised : (lexical : Bool) (b : Tree) → declares_nothing b ≡ true → (s : State) → means e (declarator id b) (Declares lexical) tt s ≡ either (means e b (As Val) tt s) (λ v z. means e id (Binds lexical) v z) (λ x z. stop x z)
   unfolding means meaning step
-  initialised b h s =
-      ap (λ c. run {q = first_demand (Binds false) (As Val)} e (naming shape.VariableDeclarator (Declares false) [] 0 (summaries (id ▸ (b ▸ none)))) (λ i r z. meaning e (id ▸ (b ▸ none)) i (first_demand (Binds false) (As Val) i) r z) (declares_by false c) s) (present b h)
-      ∙ either_cong (means e b (As Val) tt s) _ _ _ _ (λ v z. either_eta (takes v z)) (λ x z. refl)
+  initialised lexical b h s =
+      ap (λ c. run {q = first_demand (Binds lexical) (As Val)} e (naming shape.VariableDeclarator (Declares lexical) [] 0 (summaries (id ▸ (b ▸ none)))) (λ i r z. meaning e (id ▸ (b ▸ none)) i (first_demand (Binds lexical) (As Val) i) r z) (declares_by lexical c) s) (present b h)
+      ∙ either_cong (means e b (As Val) tt s) _ _ _ _ (λ v z. either_eta (means e id (Binds lexical) v z)) (λ x z. refl)
 
 -- ---- one without an initializer does nothing
 
@@ -128,7 +128,7 @@ module _ (ds : Trees) (spelling target : List ℕ) (k : ℕ) (es : Trees) (value
         ∙ either_ok tt z _ _
         ∙ expression_is e (assigned (resolved target k) value) [] z
         ∙ assigned_is e spelling target k value z
-        ∙ sym (initialised e spelling target k value g z))
+        ∙ sym (initialised e spelling target k false value g z))
         (λ x z. either_stop x z _ _)
         ∙ sym (exec_one e with_value s ∙ declared_by e value h s);
     read = record { lets = refl; functions = refl; facts = refl; texts = refl };

@@ -1,9 +1,10 @@
 -- An assignment that begins the statement after a `var`, and becomes an initializer in it, is kept.
-use Rattle.std.specs.Prelude.{ℕ, ◌+◌, ◌≤◌, ◌≡◌, refl, ◌&&◌, ◌||◌, Bool, true, false, List, [], ◌∷◌, ◌++◌, Contains, Option, None}
+use Rattle.std.specs.Prelude.{ℕ, ◌+◌, ◌≤◌, ◌≡◌, refl, not, ◌&&◌, ◌||◌, Bool, true, false, List, [], ◌∷◌, ◌++◌, Contains, Option, None}
 use Rattle.std.proofs.Common.{ap, ◌∙◌, sym, subst, arith, inl, inr, ◌⊎◌}
 use Rattle.std.proofs.lemmas.List.{append-nil}
 use Rattle.std.proofs.lemmas.List.Elements.{Contains-append_cases}
-use Rattle.mini_model.specs.declared.kind.VariableDeclarationKind.TheVariants.{Var}
+use Rattle.mini_model.specs.declared.kind.VariableDeclarationKind.{VariableDeclarationKind}
+use Rattle.mini_model.specs.declared.kind.VariableDeclarationKind.TheVariants.{Var, Let}
 use Rattle.mini_model.specs.declared.name.Name.{Name}
 use Rattle.mini_model.specs.declared.name.SymbolId.{SymbolId}
 use Rattle.mini_model.specs.declared.operator.AssignmentOperator.TheVariants.{Assign}
@@ -18,15 +19,15 @@ use Rattle.mini_laws.specs.declared.names.Declared.{Declared}
 use Rattle.mini_laws.specs.declared.names.Declared.TheVariants as declared
 use Rattle.mini_laws.specs.declared.names.Targets.{Targets}
 use Rattle.mini_laws.specs.DeclaredNames.{has_inner, any_inner, names_of, all_names, body_names}
-use Rattle.mini_laws.specs.Scopes.{scopes_by}
+use Rattle.mini_laws.specs.Scopes.{scopes_by, lexical_scope}
 use Rattle.mini_laws.specs.Resolved.{Environment}
 use Rattle.mini_laws.specs.Scoped.{Scoped}
-use Rattle.mini_laws.specs.Symbols.{declared as declared_in, times}
+use Rattle.mini_laws.specs.Symbols.{declared as declared_in, symbols_in, times}
 use Rattle.mini_laws.specs.Early.{clashing, own_declarations, scope_declarations, early_names, targets_of, early_jumps}
 use Rattle.mini_laws.proofs.Changes.{times_both}
-use Rattle.mini_laws.specs.Value.{Variable}
+use Rattle.mini_laws.specs.Value.{Variable, VariableSet}
 use Rattle.mini_laws.specs.State.{Fixed, Writable, Constant, KeepsOld}
-use Rattle.mini_laws.specs.Fixity.{stricter, fixed_by, fixed_by_any}
+use Rattle.mini_laws.specs.Fixity.{fixity_by, stricter, fixed_by, fixed_by_any}
 use Rattle.mini_laws.specs.Bodies.{Around, Body, bodies, bodies_from}
 use Rattle.mini_kept.specs.AlikeBodies.{BodiesKept}
 use Rattle.mini_kept.specs.Carried.{numbers, all_numbers}
@@ -39,7 +40,9 @@ use Rattle.mini_kept.proofs.Bools.{left}
 use Rattle.mini_kept.proofs.Fixed.{of_children}
 use Rattle.mini_kept.proofs.Quiet.{no_names}
 use Rattle.mini_kept.proofs.Unplaced.{as_body}
-use Rattle.mini_rows.specs.Lists.{sequence, return_statement, throw_statement, of_parts, Return, Throw, If, Switch, For, resolved, binding, declarator, assigned, Holder, Statement, Heading, holding, Beginning, Alone, Init, Before, begun, begun_without, Row70}
+use Rattle.mini_rows.specs.Lists.{sequence, return_statement, throw_statement, of_parts, Return, Throw, If, Switch, For, resolved, binding, declarator, assigned, Holder, Statement, Heading, holding, Beginning, Alone, Init, Before, begun, begun_without, InList, Row70}
+use Rattle.mini_rows.specs.DeadCases.{known}
+use Rattle.mini_rows.specs.Lets.{Row70Let}
 use Rattle.mini_rows.specs.Arranged.{KeptAt}
 use Rattle.mini_rows.specs.Sketches.{AList, Sequence, Assignment, OfExpression, part, Asked, AsWholeList, AsWholeItem, AsValue, AsValues, AsTarget, AsBranch, Leap, leaps}
 use Rattle.mini_rows.specs.Sketches as sketch
@@ -51,7 +54,7 @@ use Rattle.mini_rows.proofs.ArrangedFolds.{port}
 use Rattle.mini_rows.proofs.ArrangedGather.{concat}
 use Rattle.mini_rows.proofs.ListShapes.{of_expression, of_return, of_throw, of_if, parts_fit, of_parts_fits, first_fits}
 use Rattle.mini_rows.proofs.ListKeptStretch.{stretched, parted, sum_joined, NamesStretched, Stretched, stretch_kept}
-use Rattle.mini_rows.proofs.ListKeptDeclarations.{over, names_if, declares_as, names_are, body_are, declarations_are, all_both, scoped_down as var_scoped_down, scoped_up as var_scoped_up, symbols_are, inner_is, numbers_are, declared_are, frames_are, bodies_are, once_is, jumps_are}
+use Rattle.mini_rows.proofs.ListKeptDeclarations.{over, names_if, is_var, declares_as, scope_if, opens, used, names_are, body_are, declarations_are, all_both, scoped_down as var_scoped_down, scoped_up as var_scoped_up, symbols_are, inner_is, numbers_are, declared_are, frames_are, bodies_are, once_is, jumps_are}
 use Rattle.mini_rows.proofs.ListKeptHeads.{parts_of_it, it_of_parts, of_statement, statement_of, nothing_there, sum_parts, sum_statement, Seat, Loop, Choice, seated, rest, quiet_value, inner_down, inner_up, fixed_down, fixed_up, declares_down, declares_up, frames_beside, frames_down, frames_up, bodies_down, bodies_up, numbers_beside, jumps_beside, aimed_down, aimed_up, Unlexical, value_unlexical, declared_beside, names_beside, once_down, once_up, ScopedBeside, scoped_down, scoped_up, symbols_beside, seated_symbols, seated_hoists, seated_names, seated_body, seated_as_body, seated_port, seated_calm, statement_names, statement_body, statement_as_body, second_of}
 
 -- ---- a statement that holds an expression, and what is beside that
@@ -200,13 +203,9 @@ module _ (x : Name) (value : Tree) where
   unfolding numbers
   no_numbers = refl
 
-  symbols_value : declared_in Hoisted given ≡ declared_in Read value
+  symbols_value : (u : Use) → declared_in u given ≡ declared_in Read value
   unfolding declared_in scopes_by
-  symbols_value = append-nil (declared_in Read value)
-
-  no_symbols : declared_in Hoisted bare ≡ []
-  unfolding declared_in scopes_by
-  no_symbols = refl
+  symbols_value u = append-nil (declared_in Read value)
 
   once_value : early_names [] given ≡ early_names (1 ∷ []) value
   unfolding early_names scope_declarations
@@ -216,9 +215,9 @@ module _ (x : Name) (value : Tree) where
   unfolding early_jumps targets_of
   jumps_value g = append-nil (early_jumps g (1 ∷ []) value)
 
-  scoped_value : (env : Environment) → Scoped Hoisted env bare → Scoped Read env value → Scoped Hoisted env given
+  scoped_value : (u : Use) (env : Environment) → Scoped u env bare → Scoped Read env value → Scoped u env given
   unfolding Scoped scopes_by
-  scoped_value env a b = (a.0, (a.1.0, (subst (λ r. Scoped Read r value) (sym (append-nil (env ++ []) ∙ append-nil env)) b, tt)))
+  scoped_value u env a b = (a.0, (a.1.0, (subst (λ r. Scoped Read r value) (sym (append-nil (env ++ []) ∙ append-nil env)) b, tt)))
 
   among_value : (all : List Name) → Among all (names_declared bare) → Among all (names_declared value) → Among all (names_declared given)
   among_value all a b y c = by (Contains-append_cases (x ∷ []) (names_declared value) y (subst (λ r. Contains r y) declared_value c))
@@ -227,20 +226,23 @@ module _ (x : Name) (value : Tree) where
       by (inl d) = a y d
       by (inr d) = b y d
 
--- ---- a `var` with it in
+-- ---- a declaration with it in, of names that can be written
 
-module _ (ds : Trees) (x : Name) (es : Trees) (value : Tree) where
+abbrev pub IsWritten : VariableDeclarationKind → Type 0
+IsWritten k = fixity_by (shape.VariableDeclaration k) ≡ Writable
+
+module _ (kind : VariableDeclarationKind) (ds : Trees) (x : Name) (es : Trees) (value : Tree) where
   abbrev old_list : Trees
   old_list = append ds (bare x value ▸ es)
 
   abbrev new_list : Trees
   new_list = append ds (given x value ▸ es)
 
-  abbrev old_var : Tree
-  old_var = over Var (listed old_list)
+  abbrev old_declaration : Tree
+  old_declaration = over kind (listed old_list)
 
-  abbrev new_var : Tree
-  new_var = over Var (listed new_list)
+  abbrev new_declaration : Tree
+  new_declaration = over kind (listed new_list)
 
   -- what holds of it and of the value
   filled : (J : Leap → Type 0) (Q : Asked → Tree → Type 0) → Local J Q → (Q AsWholeItem (bare x value) → Q AsWholeItem (given x value)) → Q AsWholeList (listed old_list) → Q AsWholeList (listed new_list)
@@ -256,52 +258,52 @@ module _ (ds : Trees) (x : Name) (es : Trees) (value : Tree) where
       let (c, d) = parted J Q l (given x value ▸ none) es b in
       (l.down AList AsWholeList (given x value ▸ none) tt c).1.0
 
-  inner_given : (b : Bool) → InnerIf b AsWholeItem old_var → InnerIf b AsValue value → InnerIf b AsWholeItem new_var
-  inner_given b q v = subst (λ c. (c || b) ≡ b) (sym (inner_is Var (listed new_list))) (filled Any (InnerIf b) (inner_local b) (λ a. subst (λ c. (c || b) ≡ b) (sym (inner_value x value)) v) (subst (λ c. (c || b) ≡ b) (inner_is Var (listed old_list)) q))
+  inner_given : (b : Bool) → InnerIf b AsWholeItem old_declaration → InnerIf b AsValue value → InnerIf b AsWholeItem new_declaration
+  inner_given b q v = subst (λ c. (c || b) ≡ b) (sym (inner_is kind (listed new_list))) (filled Any (InnerIf b) (inner_local b) (λ a. subst (λ c. (c || b) ≡ b) (sym (inner_value x value)) v) (subst (λ c. (c || b) ≡ b) (inner_is kind (listed old_list)) q))
 
-  inner_taken : (b : Bool) → InnerIf b AsWholeItem new_var → InnerIf b AsWholeItem old_var × InnerIf b AsValue value
+  inner_taken : (b : Bool) → InnerIf b AsWholeItem new_declaration → InnerIf b AsWholeItem old_declaration × InnerIf b AsValue value
   inner_taken b q =
-      let list = subst (λ c. (c || b) ≡ b) (inner_is Var (listed new_list)) q in (
-        subst (λ c. (c || b) ≡ b) (sym (inner_is Var (listed old_list))) (emptied Any (InnerIf b) (inner_local b) (ap (λ c. c || b) (no_inner x value)) list),
+      let list = subst (λ c. (c || b) ≡ b) (inner_is kind (listed new_list)) q in (
+        subst (λ c. (c || b) ≡ b) (sym (inner_is kind (listed old_list))) (emptied Any (InnerIf b) (inner_local b) (ap (λ c. c || b) (no_inner x value)) list),
         subst (λ c. (c || b) ≡ b) (inner_value x value) (found Any (InnerIf b) (inner_local b) list),
       )
 
-  var_fixed : (ts : Trees) (y : Variable) → fixed_by (over Var (listed ts)) y ≡ fixed_by (listed ts) y
-  var_fixed ts y = of_children (shape.VariableDeclaration Var) [] 0 (listed ts ▸ none) y refl ∙ stricter_alone (fixed_by (listed ts) y)
+  declaration_fixed : IsWritten kind → (ts : Trees) (y : Variable) → fixed_by (over kind (listed ts)) y ≡ fixed_by (listed ts) y
+  declaration_fixed free ts y = of_children (shape.VariableDeclaration kind) [] 0 (listed ts ▸ none) y free ∙ stricter_alone (fixed_by (listed ts) y)
 
-  fixed_given : (y : Variable) (k : ℕ) → FixedBy y k AsWholeItem old_var → FixedBy y k AsValue value → FixedBy y k AsWholeItem new_var
-  fixed_given y k q v = subst (λ f. rank f ≤ k) (sym (var_fixed new_list y)) (filled Any (FixedBy y k) (fixed_local y k) (λ a. subst (λ f. rank f ≤ k) (sym (fixed_value x value y)) v) (subst (λ f. rank f ≤ k) (var_fixed old_list y) q))
+  fixed_given : IsWritten kind → (y : Variable) (k : ℕ) → FixedBy y k AsWholeItem old_declaration → FixedBy y k AsValue value → FixedBy y k AsWholeItem new_declaration
+  fixed_given free y k q v = subst (λ f. rank f ≤ k) (sym (declaration_fixed free new_list y)) (filled Any (FixedBy y k) (fixed_local y k) (λ a. subst (λ f. rank f ≤ k) (sym (fixed_value x value y)) v) (subst (λ f. rank f ≤ k) (declaration_fixed free old_list y) q))
 
-  fixed_taken : (y : Variable) (k : ℕ) → FixedBy y k AsWholeItem new_var → FixedBy y k AsWholeItem old_var × FixedBy y k AsValue value
-  fixed_taken y k q =
-      let list = subst (λ f. rank f ≤ k) (var_fixed new_list y) q in (
-        subst (λ f. rank f ≤ k) (sym (var_fixed old_list y)) (emptied Any (FixedBy y k) (fixed_local y k) (subst (λ f. rank f ≤ k) (sym (fixed_bare x value y)) (omega arith)) list),
+  fixed_taken : IsWritten kind → (y : Variable) (k : ℕ) → FixedBy y k AsWholeItem new_declaration → FixedBy y k AsWholeItem old_declaration × FixedBy y k AsValue value
+  fixed_taken free y k q =
+      let list = subst (λ f. rank f ≤ k) (declaration_fixed free new_list y) q in (
+        subst (λ f. rank f ≤ k) (sym (declaration_fixed free old_list y)) (emptied Any (FixedBy y k) (fixed_local y k) (subst (λ f. rank f ≤ k) (sym (fixed_bare x value y)) (omega arith)) list),
         subst (λ f. rank f ≤ k) (fixed_value x value y) (found Any (FixedBy y k) (fixed_local y k) list),
       )
 
-  declares_given : (all : List Name) → Declares all AsWholeItem old_var → Declares all AsValue value → Declares all AsWholeItem new_var
-  declares_given all q v = subst (Among all) (sym (declared_are Var (listed new_list))) (filled Any (Declares all) (declares_local all) (λ a. among_value x value all a v) (subst (Among all) (declared_are Var (listed old_list)) q))
+  declares_given : (all : List Name) → Declares all AsWholeItem old_declaration → Declares all AsValue value → Declares all AsWholeItem new_declaration
+  declares_given all q v = subst (Among all) (sym (declared_are kind (listed new_list))) (filled Any (Declares all) (declares_local all) (λ a. among_value x value all a v) (subst (Among all) (declared_are kind (listed old_list)) q))
 
-  frames_given : (all : List Frame) → HasFrames all AsWholeItem old_var → HasFrames all AsValue value → HasFrames all AsWholeItem new_var
-  frames_given all q v = subst (FramesKept all) (sym (frames_are Var (listed new_list))) (filled Any (HasFrames all) (frames_local all) (λ a. subst (FramesKept all) (sym (frames_value x value)) v) (subst (FramesKept all) (frames_are Var (listed old_list)) q))
+  frames_given : (all : List Frame) → HasFrames all AsWholeItem old_declaration → HasFrames all AsValue value → HasFrames all AsWholeItem new_declaration
+  frames_given all q v = subst (FramesKept all) (sym (frames_are kind (listed new_list))) (filled Any (HasFrames all) (frames_local all) (λ a. subst (FramesKept all) (sym (frames_value x value)) v) (subst (FramesKept all) (frames_are kind (listed old_list)) q))
 
-  bodies_given : (all : List Body) (r : Around) → HasBodies all r AsWholeItem old_var → HasBodies all r AsValue value → HasBodies all r AsWholeItem new_var
-  bodies_given all r q v = subst (BodiesKept all) (sym (bodies_are Var r (listed new_list))) (filled Any (HasBodies all r) (bodies_local all r) (λ a. subst (BodiesKept all) (sym (bodies_value x value r)) v) (subst (BodiesKept all) (bodies_are Var r (listed old_list)) q))
+  bodies_given : (all : List Body) (r : Around) → HasBodies all r AsWholeItem old_declaration → HasBodies all r AsValue value → HasBodies all r AsWholeItem new_declaration
+  bodies_given all r q v = subst (BodiesKept all) (sym (bodies_are kind r (listed new_list))) (filled Any (HasBodies all r) (bodies_local all r) (λ a. subst (BodiesKept all) (sym (bodies_value x value r)) v) (subst (BodiesKept all) (bodies_are kind r (listed old_list)) q))
 
-  targets_given : (g : Targets) → Aimed g AsWholeItem old_var → Aimed g AsValue value → Aimed g AsWholeItem new_var
+  targets_given : (g : Targets) → Aimed g AsWholeItem old_declaration → Aimed g AsValue value → Aimed g AsWholeItem new_declaration
   targets_given g q v =
-      jumps_are Var g (listed new_list)
+      jumps_are kind g (listed new_list)
       ∙ targets_anywhere g [] (0 ∷ []) (listed new_list)
-      (filled (HasTarget g) (Aimed g) (aimed_local g) (λ a. jumps_value x value g ∙ targets_anywhere g [] (1 ∷ []) value v) (targets_anywhere g (0 ∷ []) [] (listed old_list) (sym (jumps_are Var g (listed old_list)) ∙ q)))
+      (filled (HasTarget g) (Aimed g) (aimed_local g) (λ a. jumps_value x value g ∙ targets_anywhere g [] (1 ∷ []) value v) (targets_anywhere g (0 ∷ []) [] (listed old_list) (sym (jumps_are kind g (listed old_list)) ∙ q)))
 
-  once_given : Once AsWholeItem old_var → Once AsValue value → Once AsWholeItem new_var
+  once_given : Once AsWholeItem old_declaration → Once AsValue value → Once AsWholeItem new_declaration
   once_given q v =
-      once_is Var (listed new_list)
+      once_is kind (listed new_list)
       ∙ once_anywhere [] (0 ∷ []) (listed new_list)
-      (filled Any Once once_local (λ a. once_value x value ∙ once_anywhere [] (1 ∷ []) value v) (once_anywhere (0 ∷ []) [] (listed old_list) (sym (once_is Var (listed old_list)) ∙ q)))
+      (filled Any Once once_local (λ a. once_value x value ∙ once_anywhere [] (1 ∷ []) value v) (once_anywhere (0 ∷ []) [] (listed old_list) (sym (once_is kind (listed old_list)) ∙ q)))
 
-  scoped_given : (env : Environment) → ScopedAs Read env AsWholeItem old_var → ScopedAs Read env AsValue value → ScopedAs Read env AsWholeItem new_var
-  scoped_given env q v = var_scoped_up Var env (listed new_list) (filled Any (ScopedAs Hoisted env) (scoped_local Hoisted env) (λ a. scoped_value x value env a v) (var_scoped_down Var env (listed old_list) q))
+  scoped_given : (env : Environment) → ScopedAs Read env AsWholeItem old_declaration → ScopedAs Read env AsValue value → ScopedAs Read env AsWholeItem new_declaration
+  scoped_given env q v = var_scoped_up kind env (listed new_list) (filled Any (ScopedAs (used Read kind) env) (scoped_local (used Read kind) env) (λ a. scoped_value x value (used Read kind) env a v) (var_scoped_down kind env (listed old_list) q))
 
   list_sum : (m : Asked → Tree → ℕ) → Summed m → m AsWholeItem (given x value) ≤ m AsWholeItem (bare x value) + m AsValue value → m AsWholeList (listed new_list) ≤ m AsWholeList (listed old_list) + m AsValue value
   list_sum m l k =
@@ -316,29 +318,35 @@ module _ (ds : Trees) (x : Name) (es : Trees) (value : Tree) where
         l AList AsWholeList (bare x value ▸ none) tt,
       )
 
-  numbers_given : (n : ℕ) → number_times n AsWholeItem new_var ≤ number_times n AsWholeItem old_var + number_times n AsValue value
+  numbers_given : (n : ℕ) → number_times n AsWholeItem new_declaration ≤ number_times n AsWholeItem old_declaration + number_times n AsValue value
   numbers_given n =
       let k : number_times n AsWholeItem (given x value) ≤ number_times n AsWholeItem (bare x value) + number_times n AsValue value = omega (arith, ap (count_of n) (numbers_value x value)) in
-      omega (arith, ap (count_of n) (numbers_are Var (listed new_list)), ap (count_of n) (numbers_are Var (listed old_list)), list_sum (number_times n) (numbers_summed n) k)
-
-  symbols_given : (u : Use) (y : Option SymbolId) → symbol_times u y AsWholeItem new_var ≤ symbol_times u y AsWholeItem old_var + times y (declared_in Read value)
-  symbols_given u y =
-      let k : symbol_times Hoisted y AsWholeItem (given x value) ≤ symbol_times Hoisted y AsWholeItem (bare x value) + symbol_times Hoisted y AsValue value = omega (arith, ap (times y) (symbols_value x value)) in
-      omega (arith, symbols_are u Var y (listed new_list), symbols_are u Var y (listed old_list), list_sum (symbol_times Hoisted y) (symbols_summed Hoisted y) k)
+      omega (arith, ap (count_of n) (numbers_are kind (listed new_list)), ap (count_of n) (numbers_are kind (listed old_list)), list_sum (number_times n) (numbers_summed n) k)
 
   -- its names are those that it had
   bound_same : all_names declared.Bound new_list ≡ all_names declared.Bound old_list
   unfolding names_of
   bound_same = all_both declared.Bound ds (given x value ▸ es) ∙ sym (all_both declared.Bound ds (bare x value ▸ es))
 
-  var_names : (d : Declared) → names_of d new_var ≡ names_of d old_var
-  var_names d = names_are d Var new_list ∙ ap (names_if (declares_as d Var)) bound_same ∙ sym (names_are d Var old_list)
+  scope_same : (c : Bool) (y : Option SymbolId) → times y (symbols_in (scope_if c (listed new_list))) ≡ times y (symbols_in (scope_if c (listed old_list)))
+  unfolding names_of
+  scope_same true y = ap (λ ns. times y (symbols_in (lexical_scope ns))) bound_same
+  scope_same false y = refl
 
-  var_body : body_names new_var ≡ body_names old_var
-  var_body = body_are Var new_list ∙ bound_same ∙ sym (body_are Var old_list)
+  symbols_given : (u : Use) (y : Option SymbolId) → symbol_times u y AsWholeItem new_declaration ≤ symbol_times u y AsWholeItem old_declaration + times y (declared_in Read value)
+  symbols_given u y =
+      let v = used u kind in
+      let k : symbol_times v y AsWholeItem (given x value) ≤ symbol_times v y AsWholeItem (bare x value) + symbol_times v y AsValue value = omega (arith, ap (times y) (symbols_value x value v)) in
+      omega (arith, symbols_are u kind y (listed new_list), symbols_are u kind y (listed old_list), scope_same (opens u kind) y, list_sum (symbol_times v y) (symbols_summed v y) k)
 
-  var_as_body : (o : Bool) → as_body o new_var ≡ as_body o old_var
-  var_as_body o = declarations_are o Var new_list ∙ ap (own_declarations false []) bound_same ∙ sym (declarations_are o Var old_list)
+  declaration_names : (d : Declared) → names_of d new_declaration ≡ names_of d old_declaration
+  declaration_names d = names_are d kind new_list ∙ ap (names_if (declares_as d kind)) bound_same ∙ sym (names_are d kind old_list)
+
+  declaration_body : body_names new_declaration ≡ body_names old_declaration
+  declaration_body = body_are kind new_list ∙ bound_same ∙ sym (body_are kind old_list)
+
+  declaration_as_body : (o : Bool) → as_body o new_declaration ≡ as_body o old_declaration
+  declaration_as_body o = declarations_are o kind new_list ∙ ap (own_declarations (not (is_var kind)) []) bound_same ∙ sym (declarations_are o kind old_list)
 
 -- ---- in the statements that open a scope
 
@@ -462,17 +470,23 @@ left_same g (Before h q qs) a p v z k = ap (λ r. r ++ []) (k _ _ (held_same h (
 
 -- ---- the two statements, and what is written
 
-module _ (ds : Trees) (x y : Name) (es : Trees) (value : Tree) (b : Beginning) where
+abbrev read_as : (kind : VariableDeclarationKind) (ds : Trees) (x y : Name) (es : Trees) (value : Tree) (b : Beginning) → Trees
+read_as kind ds x y es value b = old_declaration kind ds x es value ▸ (begun b (assigned y value) ▸ none)
+
+abbrev put_as : (kind : VariableDeclarationKind) (ds : Trees) (x : Name) (es : Trees) (value : Tree) (b : Beginning) → Trees
+put_as kind ds x es value b = new_declaration kind ds x es value ▸ begun_without b
+
+module _ (kind : VariableDeclarationKind) (free : IsWritten kind) (ds : Trees) (x y : Name) (es : Trees) (value : Tree) (b : Beginning) where
   abbrev assignment : Tree
   assignment = assigned y value
 
   abbrev read : Trees
-  read = old_var ds x es value ▸ (begun b assignment ▸ none)
+  read = read_as kind ds x y es value b
 
   abbrev put : Trees
-  put = new_var ds x es value ▸ begun_without b
+  put = put_as kind ds x es value b
 
-  forward : (J : Leap → Type 0) (Q : Asked → Tree → Type 0) (l : Local J Q) (P : Tree → Type 0) → ((s : Seat) (e d : Tree) → P e → P d → Opens Q (seated s) e d) → Needs P b assignment → (Q AsWholeItem (old_var ds x es value) → Q AsValue value → Q AsWholeItem (new_var ds x es value)) → All Q AsWholeItem read → All Q AsWholeItem put
+  forward : (J : Leap → Type 0) (Q : Asked → Tree → Type 0) (l : Local J Q) (P : Tree → Type 0) → ((s : Seat) (e d : Tree) → P e → P d → Opens Q (seated s) e d) → Needs P b assignment → (Q AsWholeItem (old_declaration kind ds x es value) → Q AsValue value → Q AsWholeItem (new_declaration kind ds x es value)) → All Q AsWholeItem read → All Q AsWholeItem put
   forward J Q l P k n g a =
       let (p, q) = apart J Q l P k b assignment n a.1.0 in
       (g a.0 (value_of J Q l P k y value p), q)
@@ -483,10 +497,10 @@ module _ (ds : Trees) (x y : Name) (es : Trees) (value : Tree) (b : Beginning) w
   nothing_needed (Init u v w) a = (tt, tt)
   nothing_needed (Before h q qs) a = (tt, tt)
 
-  freely : (J : Leap → Type 0) (Q : Asked → Tree → Type 0) (l : Local J Q) → ((s : Seat) (e d : Tree) → Opens Q (seated s) e d) → (Q AsWholeItem (old_var ds x es value) → Q AsValue value → Q AsWholeItem (new_var ds x es value)) → All Q AsWholeItem read → All Q AsWholeItem put
+  freely : (J : Leap → Type 0) (Q : Asked → Tree → Type 0) (l : Local J Q) → ((s : Seat) (e d : Tree) → Opens Q (seated s) e d) → (Q AsWholeItem (old_declaration kind ds x es value) → Q AsValue value → Q AsWholeItem (new_declaration kind ds x es value)) → All Q AsWholeItem read → All Q AsWholeItem put
   freely J Q l k = forward J Q l (λ t. Unit {0}) (λ s e d p q. k s e d) (nothing_needed b assignment)
 
-  backward : (Q : Asked → Tree → Type 0) (l : Local Any Q) → ((s : Seat) (e d : Tree) → Opens Q (seated s) e d) → Q AsTarget (identifier y) → (Q AsWholeItem (new_var ds x es value) → Q AsWholeItem (old_var ds x es value) × Q AsValue value) → All Q AsWholeItem put → All Q AsWholeItem read
+  backward : (Q : Asked → Tree → Type 0) (l : Local Any Q) → ((s : Seat) (e d : Tree) → Opens Q (seated s) e d) → Q AsTarget (identifier y) → (Q AsWholeItem (new_declaration kind ds x es value) → Q AsWholeItem (old_declaration kind ds x es value) × Q AsValue value) → All Q AsWholeItem put → All Q AsWholeItem read
   backward Q l k t g a = let (o, v) = g a.0 in (o, (together Q l k b assignment (assigned_of Q l k y value t v) a.1, tt))
 
   inner_target : (c : Bool) → InnerIf c AsTarget (identifier y)
@@ -509,7 +523,7 @@ module _ (ds : Trees) (x y : Name) (es : Trees) (value : Tree) (b : Beginning) w
       let seats = seat_numbers n in
       omega (
         arith,
-        numbers_given ds x es value n,
+        numbers_given kind ds x es value n,
         begun_sum (number_times n) (numbers_summed n) (λ t. Unit {0}) seats (no_number n) b assignment (nothing_needed b assignment),
         value_sum (number_times n) (numbers_summed n) (λ t. Unit {0}) seats y value,
       )
@@ -526,20 +540,20 @@ module _ (ds : Trees) (x y : Name) (es : Trees) (value : Tree) (b : Beginning) w
         let seats = seat_symbols u z in
         omega (
           arith,
-          symbols_given ds x es value u z,
+          symbols_given kind ds x es value u z,
           begun_sum (symbol_times u z) (symbols_summed u z) Unlexical seats (no_symbol u z) b assignment (needed b v),
           value_sum (symbol_times u z) (symbols_summed u z) Unlexical seats y value,
         )
 
     names_one : NamesStretched read put
     names_one = record {
-      names = λ d i. var_names ds x es value d i ++ left_same (names_of d) b assignment refl v (statement_names d) (λ t u k. k.names d) i;
-      body = λ i. var_body ds x es value i ++ left_same body_names b assignment refl v statement_body (λ t u k. k.body) i;
-      as_body = λ o i. var_as_body ds x es value o i ++ left_same (as_body o) b assignment refl v (statement_as_body o) (λ t u k. k.as_body o) i;
+      names = λ d i. declaration_names kind ds x es value d i ++ left_same (names_of d) b assignment refl v (statement_names d) (λ t u k. k.names d) i;
+      body = λ i. declaration_body kind ds x es value i ++ left_same body_names b assignment refl v statement_body (λ t u k. k.body) i;
+      as_body = λ o i. declaration_as_body kind ds x es value o i ++ left_same (as_body o) b assignment refl v (statement_as_body o) (λ t u k. k.as_body o) i;
       ports = λ m. left_same (port m) b assignment refl v (λ e. refl) (λ t u k. k.ports m);
-      scoped = λ env. forward Any (ScopedAs Read env) (scoped_local Read env) Unlexical (λ s e d. scoped_seat s e d env) (needed b v) (scoped_given ds x es value env);
+      scoped = λ env. forward Any (ScopedAs Read env) (scoped_local Read env) Unlexical (λ s e d. scoped_seat s e d env) (needed b v) (scoped_given kind ds x es value env);
       symbols = symbols_one;
-      once = forward Any Once once_local Unlexical once_seat (needed b v) (once_given ds x es value);
+      once = forward Any Once once_local Unlexical once_seat (needed b v) (once_given kind ds x es value);
     }
 
   left_calm : (c : Beginning) → All Valued AsWholeItem (begun_without c)
@@ -556,14 +570,14 @@ module _ (ds : Trees) (x y : Name) (es : Trees) (value : Tree) (b : Beginning) w
   stretched_one values = record {
     named = λ strict k f. names_one (values strict k f);
     calm = λ strict k f. ((refl, refl), left_calm b);
-    inner = λ c. freely Any (InnerIf c) (inner_local c) (λ s e d. inner_seat s e d c) (inner_given ds x es value c);
-    inner_back = λ c. backward (InnerIf c) (inner_local c) (λ s e d. inner_seat s e d c) (inner_target c) (inner_taken ds x es value c);
-    fixed = λ z k. freely Any (FixedBy z k) (fixed_local z k) (λ s e d. fixed_seat s e d z k) (fixed_given ds x es value z k);
-    fixed_back = λ z k. backward (FixedBy z k) (fixed_local z k) (λ s e d. fixed_seat s e d z k) (fixed_target z k) (fixed_taken ds x es value z k);
-    declares = λ xs. freely Any (Declares xs) (declares_local xs) (λ s e d. declares_seat s e d xs) (declares_given ds x es value xs);
-    frames = λ fs. freely Any (HasFrames fs) (frames_local fs) (λ s e d. frames_seat s e d fs) (frames_given ds x es value fs);
-    bodies = λ bs r. freely Any (HasBodies bs r) (bodies_local bs r) (λ s e d. bodies_seat s e d bs r) (bodies_given ds x es value bs r);
-    targets = λ g. freely (HasTarget g) (Aimed g) (aimed_local g) (λ s e d. targets_seat s e d g) (targets_given ds x es value g);
+    inner = λ c. freely Any (InnerIf c) (inner_local c) (λ s e d. inner_seat s e d c) (inner_given kind ds x es value c);
+    inner_back = λ c. backward (InnerIf c) (inner_local c) (λ s e d. inner_seat s e d c) (inner_target c) (inner_taken kind ds x es value c);
+    fixed = λ z k. freely Any (FixedBy z k) (fixed_local z k) (λ s e d. fixed_seat s e d z k) (fixed_given kind ds x es value free z k);
+    fixed_back = λ z k. backward (FixedBy z k) (fixed_local z k) (λ s e d. fixed_seat s e d z k) (fixed_target z k) (fixed_taken kind ds x es value free z k);
+    declares = λ xs. freely Any (Declares xs) (declares_local xs) (λ s e d. declares_seat s e d xs) (declares_given kind ds x es value xs);
+    frames = λ fs. freely Any (HasFrames fs) (frames_local fs) (λ s e d. frames_seat s e d fs) (frames_given kind ds x es value fs);
+    bodies = λ bs r. freely Any (HasBodies bs r) (bodies_local bs r) (λ s e d. bodies_seat s e d bs r) (bodies_given kind ds x es value bs r);
+    targets = λ g. freely (HasTarget g) (Aimed g) (aimed_local g) (λ s e d. targets_seat s e d g) (targets_given kind ds x es value g);
     numbers = numbers_one;
   }
 
@@ -586,13 +600,26 @@ left_value strict k (Before h q qs) a f =
     let (x, y) = first_fits strict (one an_expression) a (q ▸ qs) (parts_fit strict a (q ▸ qs) (held_sequence strict k h (a ▸ (q ▸ qs)) f)) in
     (sketch_valued (record { trees = of_parts q qs ▸ none; lists = [] }) strict AsValue (one an_expression) (part 0) refl (of_parts_fits strict q qs y)).0
 
+-- a declaration with a value in it, and what is left of the statement that wrote it, in a list
+pub values_kept : (kind : VariableDeclarationKind) → IsWritten kind → (ds : Trees) (x y : Name) (es : Trees) (value : Tree) (b : Beginning) (before after : Trees) → KeptAt StatementList (listed (append before (append (read_as kind ds x y es value b) after))) (listed (append before (append (put_as kind ds x es value b) after)))
+values_kept kind free ds x y es value b before after =
+    let two = read_as kind ds x y es value b in
+    let values = λ (strict : Bool) (k : Depth) (h : fill strict (each (one (a_statement k))) two ≡ true). left_value strict k b (assigned y value) (second_of strict k (old_declaration kind ds x es value) (begun b (assigned y value)) none h) in
+    stretch_kept before after two (put_as kind ds x es value b) (stretched_one kind free ds x y es value b values)
+
 -- `var a; a = b;` and `var a = b;` in a list
 pub begun_kept : (before after : Trees) (n w : Tree) (a b : Trees) → Row70 a b → n ≡ listed (append before (append a after)) → w ≡ listed (append before (append b after)) → KeptAt StatementList n w
 begun_kept before after n w a b r f g =
     let x = resolved r.spelling r.symbol in
     let y = resolved r.target r.symbol in
-    let two = read r.ds x y r.es r.value r.beginning in
-    let one_there = put r.ds x y r.es r.value r.beginning in
-    let values = λ (strict : Bool) (k : Depth) (h : fill strict (each (one (a_statement k))) two ≡ true). left_value strict k r.beginning (assigned y r.value) (second_of strict k (old_var r.ds x r.es r.value) (begun r.beginning (assigned y r.value)) none h) in
     subst (λ t. KeptAt StatementList t w) (sym (f ∙ ap (λ ts. listed (append before (append ts after))) r.shape))
-    (subst (KeptAt StatementList (listed (append before (append two after)))) (sym (g ∙ ap (λ ts. listed (append before (append ts after))) r.written)) (stretch_kept before after two one_there (stretched_one r.ds x y r.es r.value r.beginning values)))
+    (subst (KeptAt StatementList (listed (append before (append (read_as Var r.ds x y r.es r.value r.beginning) after)))) (sym (g ∙ ap (λ ts. listed (append before (append ts after))) r.written)) (values_kept Var refl r.ds x y r.es r.value r.beginning before after))
+
+-- `let a; a = 1;` and `let a = 1;` in a list
+pub let_kept : (W : VariableSet) (n w : Tree) → InList (Row70Let W) n w → KeptAt StatementList n w
+let_kept W n w r =
+    let m = r.row in
+    let x = resolved m.spelling m.symbol in
+    let y = resolved m.target m.symbol in
+    subst (λ t. KeptAt StatementList t w) (sym (r.shape ∙ ap (λ ts. listed (append r.before (append ts r.after))) m.shape))
+    (subst (KeptAt StatementList (listed (append r.before (append (read_as Let m.ds x y none (known m.value) m.beginning) r.after)))) (sym (r.written ∙ ap (λ ts. listed (append r.before (append ts r.after))) m.written)) (values_kept Let refl m.ds x y none (known m.value) m.beginning r.before r.after))

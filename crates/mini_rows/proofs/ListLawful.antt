@@ -86,10 +86,10 @@ module _ (o : Switches) (n w : Tree) (r : InList (NeighbourRow o) n w) where
 pub asked_of_lists : (p : Position) (ts us : Trees) → AskedAlike p (listed ts) (listed us)
 asked_of_lists p ts us = record { absent = λ e. absurd (cc e); body = λ e. absurd (cc e); optional = λ e. absurd (cc e); number = λ e k. refl; spelled = λ s e. absurd (cc e); plain = refl }
 
-list_asked : (R : Trees → Trees → Type 0) (p : Position) (n w : Tree) → InList R n w → AskedAlike p n w
+pub list_asked : (R : Trees → Trees → Type 0) (p : Position) (n w : Tree) → InList R n w → AskedAlike p n w
 list_asked R p n w r = subst (λ t. AskedAlike p t w) (sym r.shape) (subst (AskedAlike p (listed (append r.before (append r.read r.after)))) (sym r.written) (asked_of_lists p (append r.before (append r.read r.after)) (append r.before (append r.put r.after))))
 
-list_slot : (R : Trees → Trees → Type 0) (n w : Tree) → InList R n w → (strict : Bool) (s : Slot) → fits_place StatementList s ≡ true → fits strict s n ≡ true → is_body_slot StatementList s ≡ true
+pub list_slot : (R : Trees → Trees → Type 0) (n w : Tree) → InList R n w → (strict : Bool) (s : Slot) → fits_place StatementList s ≡ true → fits strict s n ≡ true → is_body_slot StatementList s ≡ true
 list_slot R n w r strict s k e = listed_body_slot strict s [] 0 (append r.before (append r.read r.after)) k (subst (λ t. fits strict s t ≡ true) r.shape e)
 
 module _ (o : Switches) where

@@ -321,7 +321,7 @@ then_same a b c h k = record {
   read = record { lets = h.read.lets ∙ k.read.lets; functions = h.read.functions ∙ k.read.functions; facts = h.read.facts ∙ k.read.facts; texts = h.read.texts ∙ k.read.texts };
 }
 
-back_same : (a b : Trees) → SameStretch a b → SameStretch b a
+pub back_same : (a b : Trees) → SameStretch a b → SameStretch b a
 back_same a b h = record { by = λ e s. sym (h.by e s); read = record { lets = sym h.read.lets; functions = sym h.read.functions; facts = sym h.read.facts; texts = sym h.read.texts } }
 
 -- an assignment that begins a statement stands before what is left of it
@@ -345,11 +345,19 @@ init_alone a h u v w = record {
   read = record { lets = refl; functions = refl; facts = refl; texts = refl };
 }
 
-begun_same : (b : Beginning) (x : Name) (value : Tree) → begins_well b ≡ true → SameStretch (expression_statement (assigned x value) ▸ begun_without b) (begun b (assigned x value) ▸ none)
+pub begun_same : (b : Beginning) (x : Name) (value : Tree) → begins_well b ≡ true → SameStretch (expression_statement (assigned x value) ▸ begun_without b) (begun b (assigned x value) ▸ none)
 begun_same Alone x value h = record { by = λ e s. refl; read = record { lets = refl; functions = refl; facts = refl; texts = refl } }
 begun_same (Init u v w) x value h = init_alone (assigned x value) refl u v w
 begun_same (Before Statement q qs) x value h = joined_twice (assigned x value) q qs
 begun_same (Before (Heading head) q qs) x value h = enters (assigned x value) none q qs head h
+
+with_none : (ts : Trees) → append ts none ≡ ts
+with_none none = refl
+with_none (t ▸ ts) = ap (λ us. t ▸ us) (with_none ts)
+
+-- after another statement
+pub stretch_after : (t : Tree) (x y : Trees) → SameStretch x y → SameStretch (t ▸ x) (t ▸ y)
+stretch_after t x y h = subst (λ z. SameStretch (t ▸ z) (t ▸ y)) (with_none x) (subst (λ z. SameStretch (t ▸ append x none) (t ▸ z)) (with_none y) (in_list (t ▸ none) x y none h))
 
 row_70 : (a b : Trees) → Row70 a b → SameStretch a b
 row_70 a b r =
@@ -361,13 +369,6 @@ row_70 a b r =
     let apart : SameStretch (old ▸ (whole ▸ none)) (old ▸ (alone ▸ left)) = stretch_after old _ _ (back_same (alone ▸ left) (whole ▸ none) (begun_same r.beginning (resolved r.target r.symbol) r.value r.parts)) in
     let entered : SameStretch (old ▸ (alone ▸ left)) (new ▸ left) = in_list none (old ▸ (alone ▸ none)) (new ▸ none) left (assignment_enters r.ds r.spelling r.target r.symbol r.es r.value r.bare r.plain) in
     replaced a _ b _ r.shape r.written (then_same _ _ _ apart entered)
-  where
-    with_none : (ts : Trees) → append ts none ≡ ts
-    with_none none = refl
-    with_none (t ▸ ts) = ap (λ us. t ▸ us) (with_none ts)
-
-    stretch_after : (t : Tree) (x y : Trees) → SameStretch x y → SameStretch (t ▸ x) (t ▸ y)
-    stretch_after t x y h = subst (λ z. SameStretch (t ▸ z) (t ▸ y)) (with_none x) (subst (λ z. SameStretch (t ▸ append x none) (t ▸ z)) (with_none y) (in_list (t ▸ none) x y none h))
 
 -- `var a; for (a of b) c`
 row_69 : (k : Each) (a b : Trees) → Row69 k a b → SameStretch a b

@@ -210,7 +210,7 @@ module _ (strict : Bool) where
   abbrev pub Fitting : Trees → Trees → Type 0
   Fitting a b = (d : Depth) → AllFit (statement d) a → AllFit (statement d) b
 
-  like : {a b a' b' : Trees} → a ≡ a' → b ≡ b' → Fitting a' b' → Fitting a b
+  pub like : {a b a' b' : Trees} → a ≡ a' → b ≡ b' → Fitting a' b' → Fitting a b
   like e f g d x = subst (AllFit (statement d)) (sym f) (g d (subst (AllFit (statement d)) e x))
 
   abbrev loop_rest : Tree → Tree → Tree → Bool
@@ -392,14 +392,14 @@ module _ (strict : Bool) where
       (x, just d (expression_statement (of_parts q qs)) (expression_fits d (of_parts q qs) z))
   begun_leaves (Before (Heading h) q qs) y value d k e = head_leaves h (assigned y value) q qs d k e
 
-  begun_fit : (ds : Trees) (x y : Name) (es : Trees) (value : Tree) (b : Beginning) → declares_nothing value ≡ true → begins_well b ≡ true → Fitting (declaration Var (append ds (declarator (binding x) absent ▸ es)) ▸ (begun b (assigned y value) ▸ none)) (declaration Var (append ds (declarator (binding x) value ▸ es)) ▸ begun_without b)
+  pub begun_fit : (kind : VariableDeclarationKind) (ds : Trees) (x y : Name) (es : Trees) (value : Tree) (b : Beginning) → declares_nothing value ≡ true → begins_well b ≡ true → Fitting (declaration kind (append ds (declarator (binding x) absent ▸ es)) ▸ (begun b (assigned y value) ▸ none)) (declaration kind (append ds (declarator (binding x) value ▸ es)) ▸ begun_without b)
   unfolding Leaves
-  begun_fit ds x y es value b h k d e =
+  begun_fit kind ds x y es value b h k d e =
       let old = append ds (declarator (binding x) absent ▸ es) in
       let new = append ds (declarator (binding x) value ▸ es) in
-      let (f, g) = two_of d (declaration Var old) (begun b (assigned y value)) e in
+      let (f, g) = two_of d (declaration kind old) (begun b (assigned y value)) e in
       let (a, left) = begun_leaves b y value d k g in
-      more_fit (statement d) (declaration Var new) (begun_without b) (declaration_anywhere strict d Var new ∙ values_fit ds x es value h (sym (declaration_anywhere strict d Var old) ∙ f) (of_assigned y value a)) left
+      more_fit (statement d) (declaration kind new) (begun_without b) (declaration_anywhere strict d kind new ∙ values_fit ds x es value h (sym (declaration_anywhere strict d kind old) ∙ f) (of_assigned y value a)) left
 
   -- a `var` in the head of a loop
 
@@ -464,17 +464,20 @@ module _ (strict : Bool) where
   neighbours_fit o a b (inl r) = stretch_fits o a b r
   neighbours_fit o a b (inr (inr (inr (inl r)))) = like r.shape r.written (each_fit EachOf (resolved r.spelling r.symbol) (resolved r.target r.symbol) r.right r.body)
   neighbours_fit o a b (inr (inr (inr (inr r)))) = like r.1.shape r.1.written (each_fit EachIn (resolved r.1.spelling r.1.symbol) (resolved r.1.target r.1.symbol) r.1.right r.1.body)
-  neighbours_fit o a b (inr (inr (inl r))) = like r.shape r.written (begun_fit r.ds (resolved r.spelling r.symbol) (resolved r.target r.symbol) r.es r.value r.beginning r.plain r.parts)
+  neighbours_fit o a b (inr (inr (inl r))) = like r.shape r.written (begun_fit Var r.ds (resolved r.spelling r.symbol) (resolved r.target r.symbol) r.es r.value r.beginning r.plain r.parts)
   neighbours_fit o a b (inr (inl (s, inl r))) = like r.shape r.written (guards_fit r.left r.right r.s r.u)
   neighbours_fit o a b (inr (inl (s, inr (inl r)))) = like r.shape r.written (λ d e. just d r.first (two_of d r.first (says r.saying r.e) e).0)
   neighbours_fit o a b (inr (inl (s, inr (inr (inl r))))) = like r.shape r.written (λ d e. just d r.first (two_of d r.first (leap r.leaping) e).0)
   neighbours_fit o a b (inr (inl (s, inr (inr (inr r))))) = like r.shape r.written (unreached_fits r.first r.between r.gone)
 
 -- a list, with the stretch in it
-pub list_fits : (o : Switches) (n w : Tree) → InList (NeighbourRow o) n w → (strict : Bool) (s : Slot) → fits_place StatementList s ≡ true → fits strict s n ≡ true → fits strict s w ≡ true
-list_fits o n w r strict s k e =
+pub stretch_in_list : (R : Trees → Trees → Type 0) → ((strict : Bool) (a b : Trees) → R a b → Fitting strict a b) → (n w : Tree) → InList R n w → (strict : Bool) (s : Slot) → fits_place StatementList s ≡ true → fits strict s n ≡ true → fits strict s w ≡ true
+stretch_in_list R fit n w r strict s k e =
     let (d, q, f) = statements_slot strict s [] 0 (append r.before (append r.read r.after)) k (subst (λ t. fits strict s t ≡ true) r.shape e) in
     let (x, g) = both_fit strict (statement d) r.before (append r.read r.after) f in
     let (y, z) = both_fit strict (statement d) r.read r.after g in
-    let made = append_fits strict (statement d) r.before (append r.put r.after) x (append_fits strict (statement d) r.put r.after (neighbours_fit strict o r.read r.put r.row d y) z) in
+    let made = append_fits strict (statement d) r.before (append r.put r.after) x (append_fits strict (statement d) r.put r.after (fit strict r.read r.put r.row d y) z) in
     subst (λ t. fits strict s t ≡ true) (sym r.written) (subst (λ c. fits strict c (listed (append r.before (append r.put r.after))) ≡ true) (sym q) (both true (fill strict (each (statement d)) (append r.before (append r.put r.after))) refl made))
+
+pub list_fits : (o : Switches) (n w : Tree) → InList (NeighbourRow o) n w → (strict : Bool) (s : Slot) → fits_place StatementList s ≡ true → fits strict s n ≡ true → fits strict s w ≡ true
+list_fits o = stretch_in_list (NeighbourRow o) (λ strict. neighbours_fit strict o)

@@ -88,21 +88,24 @@ pub read_in_list : (pre a b post : Trees) → ReadSame a b → ReadSame (append 
 read_in_list pre a b post r = record { lets = append_same pre a b post (λ x. lets_all (summaries x)) lets_append r.lets; functions = append_same pre a b post (λ x. functions_all (summaries x)) functions_append r.functions; facts = append_same pre a b post (λ x. function_facts (facts_all (summaries x))) facts_append r.facts; texts = append_same pre a b post (λ x. texts_all (facts_all (summaries x))) texts_append r.texts }
 
 -- in any list
+pub in_list_by : (e : Environment) (pre a b post : Trees) → ((s : State) → exec e a None s ≡ exec e b None s) → (s : State) → exec e (append pre (append a post)) None s ≡ exec e (append pre (append b post)) None s
+in_list_by e pre a b post same s =
+    exec_append e pre (append a post) s
+    ∙ either_cong (exec e pre None s) _ _ _ _ (λ u z. exec_append e a post z ∙ ap (λ x. either x (λ u z. exec e post None z) (λ x z. stop x z)) (same z) ∙ sym (exec_append e b post z)) (λ x z. refl)
+    ∙ sym (exec_append e pre (append b post) s)
+
 pub in_list : (pre a b post : Trees) → SameStretch a b → SameStretch (append pre (append a post)) (append pre (append b post))
-in_list pre a b post same = record {
-  by = λ e s.
-      exec_append e pre (append a post) s
-      ∙ either_cong (exec e pre None s) _ _ _ _ (λ u z. exec_append e a post z ∙ ap (λ x. either x (λ u z. exec e post None z) (λ x z. stop x z)) (same.by e z) ∙ sym (exec_append e b post z)) (λ x z. refl)
-      ∙ sym (exec_append e pre (append b post) s);
-  read = read_in_list pre a b post same.read;
-}
+in_list pre a b post same = record { by = λ e. in_list_by e pre a b post (same.by e); read = read_in_list pre a b post same.read }
 
 -- and so the lists do the same in every tail
-pub list_does : (a b : Trees) → SameStretch a b → (e : Environment) (t : Option Tail) (r : LabelSet) (s : State) → means e (listed a) (Stat t) r s ≡ means e (listed b) (Stat t) r s
-list_does a b same e t r s =
+pub list_does_by : (e : Environment) (a b : Trees) → ((s : State) → exec e a None s ≡ exec e b None s) → (t : Option Tail) (r : LabelSet) (s : State) → means e (listed a) (Stat t) r s ≡ means e (listed b) (Stat t) r s
+list_does_by e a b same t r s =
     tail_same e (listed a) t r s
-    ∙ ap (λ x. either x (λ u z. ok tt z) (ends_in t)) (listed_is e a r s ∙ same.by e s ∙ sym (listed_is e b r s))
+    ∙ ap (λ x. either x (λ u z. ok tt z) (ends_in t)) (listed_is e a r s ∙ same s ∙ sym (listed_is e b r s))
     ∙ sym (tail_same e (listed b) t r s)
+
+pub list_does : (a b : Trees) → SameStretch a b → (e : Environment) (t : Option Tail) (r : LabelSet) (s : State) → means e (listed a) (Stat t) r s ≡ means e (listed b) (Stat t) r s
+list_does a b same e = list_does_by e a b (same.by e)
 
 abbrev list_summary : List Variable → List Hoisted → List FunctionFact → List (List ℕ) → Summary
 list_summary ls hs fs ts = record { facts = record { absent = false; shortens = false; declared = None; functions = fs; texts = ts }; lets = ls; name = None; functions = hs }

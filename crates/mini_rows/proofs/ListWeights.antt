@@ -150,7 +150,7 @@ pub record Falls (a b : Trees) : Type 0 where
   pub chosen : (chooses a ≡ false) ⊎ (total b + 5 ≤ total a)
   pub some : count a ≡ 0 → ⊥
 
-replaced : (a a' b b' : Trees) → a ≡ a' → b ≡ b' → Falls a' b' → Falls a b
+pub replaced : (a a' b b' : Trees) → a ≡ a' → b ≡ b' → Falls a' b' → Falls a b
 replaced a a' b b' u v h = subst (λ x. Falls x b) (sym u) (subst (λ y. Falls a' y) (sym v) h)
 
 row_66_empty : (a b : Trees) → Row66Empty a b → Falls a b
@@ -391,8 +391,8 @@ at_most false = omega arith
 value_rises : (x : List ℕ) (k : ℕ) (value : Tree) → weight Elsewhere (declarator (binding (resolved x k)) value) ≤ weight Elsewhere (declarator (binding (resolved x k)) absent) + weight (Expr argument_seat) value + 2
 value_rises x k value = let sign = at_most (outline value).absent in omega (arith, sign)
 
-declared_rises : (ds : Trees) (x : List ℕ) (k : ℕ) (es : Trees) (value : Tree) → total (declaration Var (append ds (declarator (binding (resolved x k)) value ▸ es)) ▸ none) ≤ total (declaration Var (append ds (declarator (binding (resolved x k)) absent ▸ es)) ▸ none) + weight (Expr argument_seat) value + 2
-declared_rises ds x k es value =
+declared_rises : (kind : VariableDeclarationKind) (ds : Trees) (x : List ℕ) (k : ℕ) (es : Trees) (value : Tree) → total (declaration kind (append ds (declarator (binding (resolved x k)) value ▸ es)) ▸ none) ≤ total (declaration kind (append ds (declarator (binding (resolved x k)) absent ▸ es)) ▸ none) + weight (Expr argument_seat) value + 2
+declared_rises kind ds x k es value =
     let old = declarator (binding (resolved x k)) absent in
     let new = declarator (binding (resolved x k)) value in
     omega (
@@ -405,11 +405,15 @@ declared_rises ds x k es value =
       declarators_append ds (old ▸ es),
     )
 
+-- a declaration that takes the value of an assignment falls by the assignment's name
+pub value_falls : (kind : VariableDeclarationKind) (ds : Trees) (x y : List ℕ) (k : ℕ) (es : Trees) (value : Tree) (b : Beginning) → Falls (declaration kind (append ds (declarator (binding (resolved x k)) absent ▸ es)) ▸ (begun b (assigned (resolved y k) value) ▸ none)) (declaration kind (append ds (declarator (binding (resolved x k)) value ▸ es)) ▸ begun_without b)
+value_falls kind ds x y k es value b =
+    let begins = begun_falls b y k value in
+    let rises = declared_rises kind ds x k es value in
+    record { lighter = omega (arith, begins, rises); chosen = inl refl; some = λ e. omega (arith, e) }
+
 row_70 : (a b : Trees) → Row70 a b → Falls a b
-row_70 a b r =
-    let begins = begun_falls r.beginning r.target r.symbol r.value in
-    let rises = declared_rises r.ds r.spelling r.symbol r.es r.value in
-    replaced a _ b _ r.shape r.written (record { lighter = omega (arith, begins, rises); chosen = inl refl; some = λ e. omega (arith, e) })
+row_70 a b r = replaced a _ b _ r.shape r.written (value_falls Var r.ds r.spelling r.target r.symbol r.es r.value r.beginning)
 
 -- `var a; for (a of b) c`
 
@@ -466,7 +470,7 @@ in_list pre a b post k e =
     let old_inner = total_append a post in
     omega (arith, e, new, old, new_outer, new_inner, old_outer, old_inner)
 
-list_lighter : (R : Trees → Trees → Type 0) (n w : Tree) (r : InList R n w) → Falls r.read r.put → weight StatementList w < weight StatementList n
+pub list_lighter : (R : Trees → Trees → Type 0) (n w : Tree) (r : InList R n w) → Falls r.read r.put → weight StatementList w < weight StatementList n
 list_lighter R n w r falls =
     let whole = in_list r.before r.read r.put r.after 1 (omega (arith, falls.lighter)) in
     omega (arith, whole, ap (weight StatementList) r.shape, ap (weight StatementList) r.written)
@@ -475,7 +479,7 @@ list_lighter R n w r falls =
 pub weighs_there : (t : Tree) (ts : Trees) → t ≡ listed ts → weight BodyList t ≡ weight StatementList t
 weighs_there t ts e = ap (weight BodyList) e ∙ body_weighs ts ∙ sym (ap (weight StatementList) e)
 
-body_lighter : (R : Trees → Trees → Type 0) (n w : Tree) (r : InList R n w) → Falls r.read r.put → weight BodyList w < weight BodyList n
+pub body_lighter : (R : Trees → Trees → Type 0) (n w : Tree) (r : InList R n w) → Falls r.read r.put → weight BodyList w < weight BodyList n
 body_lighter R n w r falls =
     let old = weighs_there n (append r.before (append r.read r.after)) r.shape in
     let new = weighs_there w (append r.before (append r.put r.after)) r.written in
@@ -577,14 +581,14 @@ alone (c ▸ none) none s e = absurd (s refl)
 alone (c ▸ none) (d ▸ a) s e = absurd (true≢false (sym e))
 alone (c ▸ (d ▸ pre)) a s e = absurd (true≢false (sym e))
 
-list_chosen : (R : Trees → Trees → Type 0) (n w : Tree) (r : InList R n w) → Falls r.read r.put → ((outline n).chooses ≡ true → (outline w).chooses ≡ true) ⊎ (weight StatementList w + 5 ≤ weight StatementList n)
+pub list_chosen : (R : Trees → Trees → Type 0) (n w : Tree) (r : InList R n w) → Falls r.read r.put → ((outline n).chooses ≡ true → (outline w).chooses ≡ true) ⊎ (weight StatementList w + 5 ≤ weight StatementList n)
 list_chosen R n w r falls = go falls.chosen
   where
     go : (chooses r.read ≡ false) ⊎ (total r.put + 5 ≤ total r.read) → ((outline n).chooses ≡ true → (outline w).chooses ≡ true) ⊎ (weight StatementList w + 5 ≤ weight StatementList n)
     go (inl e) = inl (λ h. absurd (true≢false (sym (alone_after r.read r.after falls.some (alone r.before (append r.read r.after) (some_after r.read r.after falls.some) (sym (ap (λ t. (outline t).chooses) r.shape) ∙ h))) ∙ e)))
     go (inr e) = let whole = in_list r.before r.read r.put r.after 5 e in inr (omega (arith, whole, ap (weight StatementList) r.shape, ap (weight StatementList) r.written))
 
-body_chosen : (R : Trees → Trees → Type 0) (n w : Tree) (r : InList R n w) → Falls r.read r.put → ((outline n).chooses ≡ true → (outline w).chooses ≡ true) ⊎ (weight BodyList w + 5 ≤ weight BodyList n)
+pub body_chosen : (R : Trees → Trees → Type 0) (n w : Tree) (r : InList R n w) → Falls r.read r.put → ((outline n).chooses ≡ true → (outline w).chooses ≡ true) ⊎ (weight BodyList w + 5 ≤ weight BodyList n)
 body_chosen R n w r falls =
     let old = weighs_there n (append r.before (append r.read r.after)) r.shape in
     let new = weighs_there w (append r.before (append r.put r.after)) r.written in
@@ -594,7 +598,7 @@ body_chosen R n w r falls =
     go old new (inl f) = inl f
     go old new (inr f) = inr (omega (arith, f, old, new))
 
-same_outline : {A : Type 0} (f : Outline → A) (R : Trees → Trees → Type 0) (n w : Tree) (r : InList R n w) → f (outline (listed (append r.before (append r.read r.after)))) ≡ f (outline (listed (append r.before (append r.put r.after)))) → f (outline n) ≡ f (outline w)
+pub same_outline : {A : Type 0} (f : Outline → A) (R : Trees → Trees → Type 0) (n w : Tree) (r : InList R n w) → f (outline (listed (append r.before (append r.read r.after)))) ≡ f (outline (listed (append r.before (append r.put r.after)))) → f (outline n) ≡ f (outline w)
 same_outline f R n w r e = ap (λ t. f (outline t)) r.shape ∙ e ∙ sym (ap (λ t. f (outline t)) r.written)
 
 list_absent : (o : Switches) (p : Position) (n w : Tree) → ListRow o p n w → (outline n).absent ≡ (outline w).absent

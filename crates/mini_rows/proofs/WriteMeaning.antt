@@ -96,7 +96,7 @@ module _ (e : Environment) (spelling : List ℕ) (k : ℕ) where
     put_by NumberName h v s = absurd (true≢false (sym h))
 
     -- a write of it writes
-    put_value : (v : Value) (s : State) → put e x v s ≡ write_slot (Declared k) v (s.vars (Declared k)) s
+    pub put_value : (v : Value) (s : State) → put e x v s ≡ write_slot (Declared k) v (s.vars (Declared k)) s
     unfolding means step
     put_value v s = put_by (kind_of x) (declared_plain spelling) v s ∙ either_eta (write_slot (Declared k) v (s.vars (Declared k)) s)
 

@@ -33,3 +33,4 @@ pub mod Writes
 pub mod Cases
 pub mod LoopGuards
 pub mod DeadCases
+pub mod Lets

@@ -29,6 +29,7 @@ use Rattle.mini_rows.specs.Unused.{UnusedContracts}
 use Rattle.mini_rows.specs.Names.{NameContracts}
 use Rattle.mini_rows.specs.Catches.{CatchContracts}
 use Rattle.mini_rows.specs.Writes.{WriteContracts}
+use Rattle.mini_rows.specs.Lets.{LetContracts}
 use Rattle.mini_rows.specs.Negations.{NegationRow}
 use Rattle.mini_rows.specs.Templates.{TemplateRow}
 use Rattle.mini_rows.specs.LoopGuards.{LoopGuardRow}
@@ -45,9 +46,10 @@ pub record Contracts (o : Switches) (p : Position) (n w : Tree) : Type 0 where
   pub row : Row o p n w
   pub lighter : weight p w < weight p n
 
--- or what one of a name that nothing mentions writes, which goes, or one of a name that can be written. W has those variables
+-- or what one of a name that nothing mentions writes, which goes, or one of a name that can be written, a `let` with an assignment after
+-- it among them. W has those variables
 abbrev pub Rewrites : Switches → VariableSet → Position → Tree → Tree → Type 0
-Rewrites o W p n w = Contracts o p n w ⊎ (UnusedContracts W p n w ⊎ (NameContracts o p n w ⊎ (CatchContracts p n w ⊎ WriteContracts W p n w)))
+Rewrites o W p n w = Contracts o p n w ⊎ (UnusedContracts W p n w ⊎ (NameContracts o p n w ⊎ (CatchContracts p n w ⊎ (WriteContracts W p n w ⊎ LetContracts W p n w))))
 
 -- a redex in its place
 pub record Redex (o : Switches) (W : VariableSet) (p : Position) (n : Tree) : Type 0 where

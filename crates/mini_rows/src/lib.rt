@@ -12,6 +12,7 @@ mod constants;
 mod de_morgan;
 mod declarations;
 mod foldings;
+mod lets;
 mod lists;
 mod loop_guards;
 mod names;
@@ -33,6 +34,7 @@ pub use constants::{constants_are_lawful, constants_lighten, constants_mean_the_
 pub use de_morgan::{de_morgan_is_lawful, de_morgan_lightens, de_morgan_means_the_same};
 pub use declarations::{declarations_are_lawful, declarations_lighten, declarations_same};
 pub use foldings::{foldings_are_lawful, foldings_are_lighter, foldings_mean_the_same};
+pub use lets::{lets_are_lawful, lets_lighten};
 pub use loop_guards::{loop_guards_are_lawful, loop_guards_lighten, loop_guards_mean_the_same};
 pub use names::{names_are_lawful, names_lighten};
 pub use negations::{negations_are_lawful, negations_lighten, negations_mean_the_same};

@@ -32,7 +32,7 @@ use Rattle.mini_stmt.proofs.Guards.{last_pushed, last_is, apart_rests, all_rest}
 use Rattle.mini_stmt.proofs.Quiet.{quiet_rests}
 use Rattle.mini_stmt.proofs.Stepping.{neighbours_in, steps_on, changes_on}
 
-both : (a b : Bool) → a ≡ true → b ≡ true → a && b ≡ true
+pub both : (a b : Bool) → a ≡ true → b ≡ true → a && b ≡ true
 both true b e f = f
 both false b e f = absurd (true≢false (sym e))
 
@@ -51,12 +51,12 @@ assignment_is (node (shape.AssignmentExpression Assign) [] zero (x ▸ (b ▸ no
 assignment_is a e = absurd (true≢false (sym e))
 
 -- `x = b` by its parts
-record Assigns (a : Tree) : Type 0 where
-  is : a ≡ node (shape.AssignmentExpression Assign) [] 0 (part a 0 ▸ (part a 1 ▸ none))
-  target : is_identifier (part a 0) ≡ true
-  plain : declares_nothing (part a 1) ≡ true
+pub record Assigns (a : Tree) : Type 0 where
+  pub is : a ≡ node (shape.AssignmentExpression Assign) [] 0 (part a 0 ▸ (part a 1 ▸ none))
+  pub target : is_identifier (part a 0) ≡ true
+  pub plain : declares_nothing (part a 1) ≡ true
 
-assigns_by : (a : Tree) → assigns_name a ≡ true → Assigns a
+pub assigns_by : (a : Tree) → assigns_name a ≡ true → Assigns a
 assigns_by a e =
     let (x, r) = and_parts (is_assign_shape (shape_of a)) (is_bare a 2 && (is_identifier (part a 0) && declares_nothing (part a 1))) e in
     let (y, s) = and_parts (is_bare a 2) (is_identifier (part a 0) && declares_nothing (part a 1)) r in
@@ -80,12 +80,12 @@ name_with : (x : Name) (o : Option SymbolId) → Name
 name_with x o = record { spelling = x.spelling; symbol = o }
 
 -- a declarator and the name that is assigned to, of one symbol
-record Bound (d x : Tree) : Type 0 where
-  name : Name
-  target : Name
-  symbol : ℕ
-  is : d ≡ declarator (binding (resolved name.spelling symbol)) absent
-  target_is : x ≡ identifier (resolved target.spelling symbol)
+pub record Bound (d x : Tree) : Type 0 where
+  pub name : Name
+  pub target : Name
+  pub symbol : ℕ
+  pub is : d ≡ declarator (binding (resolved name.spelling symbol)) absent
+  pub target_is : x ≡ identifier (resolved target.spelling symbol)
 
 bound_names : (d x : Tree) (y z : Name) → d ≡ declarator (binding z) absent → x ≡ identifier y → same_symbol z.symbol y.symbol ≡ true → Bound d x
 unfolding name_with
@@ -99,7 +99,7 @@ bound_names d x y z e f g =
       target_is = f ∙ ap (λ o. identifier (name_with y o)) q;
     }
 
-bound_by : (d x : Tree) → is_identifier x ≡ true → declares_bare d x ≡ true → Bound d x
+pub bound_by : (d x : Tree) → is_identifier x ≡ true → declares_bare d x ≡ true → Bound d x
 bound_by d x i e =
     let id = part d 0 in
     let names = same_names (names_of id) (names_of x) && is_absent_part (part d 1) in
@@ -117,11 +117,11 @@ bound_by d x i e =
 
 -- ---- what a statement begins with
 
-record Begins (u : Tree) : Type 0 where
-  beginning : Beginning
-  well : begins_well beginning ≡ true
-  whole : u ≡ begun beginning (beginning_of u)
-  left : left_of u ≡ begun_without beginning
+pub record Begins (u : Tree) : Type 0 where
+  pub beginning : Beginning
+  pub well : begins_well beginning ≡ true
+  pub whole : u ≡ begun beginning (beginning_of u)
+  pub left : left_of u ≡ begun_without beginning
 
 -- a statement or a head
 record Held (u : Tree) : Type 0 where
@@ -179,7 +179,7 @@ alone_begins u s h = by (is_expression_statement u) refl h
           left = rest ∙ ap (λ c. if c then none else with_part u 0 absent ▸ none) e ∙ ap (λ v. with_part v 0 absent ▸ none) loop;
         }
 
-begins_by : (u : Tree) → holds_sequence u || holds_alone u ≡ true → Begins u
+pub begins_by : (u : Tree) → holds_sequence u || holds_alone u ≡ true → Begins u
 begins_by u h = by (holds_sequence u) refl h
   where
     by : (b : Bool) → holds_sequence u ≡ b → b || holds_alone u ≡ true → Begins u
@@ -271,11 +271,11 @@ holds_tells h a q qs k =
     ∙ ap (λ x. is_sequence x && leaves_parts (children (part x 0))) (holder_first h e) ∙ k
 
 -- it is told, and so is what it begins with
-record Told (b : Beginning) (a : Tree) : Type 0 where
-  holds : holds_sequence (begun b a) || holds_alone (begun b a) ≡ true
-  first : beginning_of (begun b a) ≡ a
+pub record Told (b : Beginning) (a : Tree) : Type 0 where
+  pub holds : holds_sequence (begun b a) || holds_alone (begun b a) ≡ true
+  pub first : beginning_of (begun b a) ≡ a
 
-told_by : (b : Beginning) (x : Name) (value : Tree) → begins_well b ≡ true → Told b (assigned x value)
+pub told_by : (b : Beginning) (x : Name) (value : Tree) → begins_well b ≡ true → Told b (assigned x value)
 told_by Alone x value k = record { holds = refl; first = refl }
 told_by (Init u v w) x value k = record { holds = refl; first = refl }
 told_by (Before h q qs) x value k =

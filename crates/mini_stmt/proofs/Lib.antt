@@ -5,5 +5,6 @@ pub mod Stepping
 pub mod Unreached
 pub mod Guards
 pub mod Assignments
+pub mod LetJoins
 pub mod Bodies
 pub mod LoopGuards

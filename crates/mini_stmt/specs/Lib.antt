@@ -10,6 +10,7 @@ pub mod Lighter
 pub mod JoinGuards
 pub mod DropUnreached
 pub mod JoinAssignments
+pub mod JoinLets
 pub mod MinimizeBody
 pub mod TurnLoopGuards
 pub mod Terminated

@@ -37,8 +37,8 @@ fn assigns_name(node: &Node) -> bool
         && declares_nothing(node.child(1))
 }
 
-// Whether the declarator has no initializer, and the name that is assigned to.
-fn declares_bare(declarator: &Node, target: &Node) -> bool
+/// Whether the declarator has no initializer, and the name that is assigned to.
+pub fn declares_bare(declarator: &Node, target: &Node) -> bool
     ensures { result ≡ row.declares_bare declarator.now target.now }
 {
     matches!(declarator.shape(), Shape::VariableDeclarator)
@@ -102,8 +102,8 @@ fn holds_alone(node: &Node) -> bool
     is_expression_statement(node) || is_for(node)
 }
 
-// What the statement begins with.
-fn beginning_of(node: &Node) -> &Node
+/// What the statement begins with.
+pub fn beginning_of(node: &Node) -> &Node
     requires { 0 < count (children node.now) }
     ensures { result.now ≡ row.beginning_of node.now }
 {
@@ -113,10 +113,11 @@ fn beginning_of(node: &Node) -> &Node
     node.child(0)
 }
 
-// Whether it begins with an assignment, which leaves a statement, or nothing.
-fn assigns_first(node: &Node) -> bool
+/// Whether it begins with an assignment, which leaves a statement, or nothing.
+pub fn assigns_first(node: &Node) -> bool
     ensures kind { result ≡ row.assigns_first node.now }
     ensures parts { result ≡ true → 0 < count (children node.now) }
+    ensures target { result ≡ true → count (children (row.beginning_of node.now)) ≡ 2 }
 {
     (holds_sequence(node) || holds_alone(node)) && assigns_name(beginning_of(node))
 }
@@ -187,8 +188,8 @@ fn leave_alone(alloc: Global, mut next: Node) -> Result<(Node, Nodes), OutOfMemo
     Ok((value, left))
 }
 
-// The value that is assigned, and what is left of the statement.
-fn leave(alloc: Global, next: Node) -> Result<(Node, Nodes), OutOfMemory>
+/// The value that is assigned, and what is left of the statement.
+pub fn leave(alloc: Global, next: Node) -> Result<(Node, Nodes), OutOfMemory>
     requires { 0 < count (children next) }
     ensures value { IfOk result (λ made. made.0 ≡ part (row.beginning_of next) 1) }
     ensures left { IfOk result (λ made. made.1 ≡ row.left_of next) }
@@ -200,8 +201,8 @@ fn leave(alloc: Global, next: Node) -> Result<(Node, Nodes), OutOfMemory>
     }
 }
 
-// The declarator, with a value.
-fn initialised(declarator: Node, value: Node) -> Node
+/// The declarator, with a value.
+pub fn initialised(declarator: Node, value: Node) -> Node
     requires { 1 < count (children declarator) }
     ensures { result ≡ with_part declarator 1 value }
 {
