@@ -28,6 +28,8 @@ pub mod ListParts
 pub mod ListStatements
 pub mod ListHeads
 pub mod ListBegun
+pub mod ListKeptValues
+pub mod ListKeptSpots
 pub mod ListKeptBegun
 pub mod ListEach
 pub mod ListKeptEach

@@ -1,6 +1,7 @@
 -- An assignment that begins the statement after a `var`, and becomes an initializer in it, is kept.
 use Rattle.std.specs.Prelude.{ℕ, ◌+◌, ◌≤◌, ◌≡◌, refl, not, ◌&&◌, ◌||◌, Bool, true, false, List, [], ◌∷◌, ◌++◌, Contains, Option, None}
 use Rattle.std.proofs.Common.{ap, ◌∙◌, sym, subst, arith, inl, inr, ◌⊎◌}
+use Rattle.std.proofs.lemmas.Bool.{and_parts}
 use Rattle.std.proofs.lemmas.List.{append-nil}
 use Rattle.std.proofs.lemmas.List.Elements.{Contains-append_cases}
 use Rattle.mini_model.specs.declared.kind.VariableDeclarationKind.{VariableDeclarationKind}
@@ -12,13 +13,13 @@ use Rattle.mini_model.specs.declared.place.Position.TheVariants.{StatementList}
 use Rattle.mini_model.specs.declared.shape.Shape.TheVariants as shape
 use Rattle.mini_model.specs.Tree.{Tree, Trees, none, ◌▸◌, absent, listed, identifier, shape_of, expression_statement, if_else}
 use Rattle.mini_model.specs.Paths.{append}
-use Rattle.mini_accept.specs.WellShaped.{Depth, a_statement, a_case, an_init, an_expression, one, one_or_absent, many, each, fits, fill, nested}
+use Rattle.mini_accept.specs.WellShaped.{Depth, a_loop_left, a_declarator, a_statement, a_case, an_init, an_expression, one, one_or_absent, many, each, fits, fill, nested}
 use Rattle.mini_laws.specs.declared.names.Use.{Use}
 use Rattle.mini_laws.specs.declared.names.Use.TheVariants.{Read, Hoisted}
 use Rattle.mini_laws.specs.declared.names.Declared.{Declared}
 use Rattle.mini_laws.specs.declared.names.Declared.TheVariants as declared
 use Rattle.mini_laws.specs.declared.names.Targets.{Targets}
-use Rattle.mini_laws.specs.DeclaredNames.{has_inner, any_inner, names_of, all_names, body_names}
+use Rattle.mini_laws.specs.DeclaredNames.{lexical_names, has_inner, any_inner, names_of, all_names, body_names}
 use Rattle.mini_laws.specs.Scopes.{scopes_by, lexical_scope}
 use Rattle.mini_laws.specs.Resolved.{Environment}
 use Rattle.mini_laws.specs.Scoped.{Scoped}
@@ -40,7 +41,7 @@ use Rattle.mini_kept.proofs.Bools.{left}
 use Rattle.mini_kept.proofs.Fixed.{of_children}
 use Rattle.mini_kept.proofs.Quiet.{no_names}
 use Rattle.mini_kept.proofs.Unplaced.{as_body}
-use Rattle.mini_rows.specs.Lists.{sequence, return_statement, throw_statement, of_parts, Return, Throw, If, Switch, For, resolved, binding, declarator, assigned, Holder, Statement, Heading, holding, Beginning, Alone, Init, Before, begun, begun_without, InList, Row70}
+use Rattle.mini_rows.specs.Lists.{sequence, return_statement, throw_statement, of_parts, Return, Throw, If, Switch, For, resolved, binding, declarator, assigned, Holder, Statement, Heading, Going, Declaring, holding, holds_well, begins_well, are_parts, declaration, Each, EachIn, EachOf, each_loop, Beginning, Alone, Init, Before, begun, begun_without, InList, Row70}
 use Rattle.mini_rows.specs.DeadCases.{known}
 use Rattle.mini_rows.specs.Lets.{Row70Let}
 use Rattle.mini_rows.specs.Arranged.{KeptAt}
@@ -52,7 +53,11 @@ use Rattle.mini_rows.proofs.ArrangedBodies.{quiet, HasBodies, bodies_local, HasF
 use Rattle.mini_rows.proofs.ArrangedValues.{is_value, Valued, sketch_valued}
 use Rattle.mini_rows.proofs.ArrangedFolds.{port}
 use Rattle.mini_rows.proofs.ArrangedGather.{concat}
+use Rattle.mini_rows.proofs.ListShapes as shape_law
 use Rattle.mini_rows.proofs.ListShapes.{of_expression, of_return, of_throw, of_if, parts_fit, of_parts_fits, first_fits}
+use Rattle.mini_rows.proofs.ListKeptValues.{Opens, Names, stricter_alone, bare, given, inner_value, no_inner, fixed_value, fixed_bare, declared_value, frames_value, bodies_value, numbers_value, no_numbers, symbols_value, once_value, jumps_value, scoped_value, among_value}
+use Rattle.mini_rows.proofs.ListKeptSpots as spots
+use Rattle.mini_rows.proofs.ListKeptKeys.{left_lexical, left_scope}
 use Rattle.mini_rows.proofs.ListKeptStretch.{stretched, parted, sum_joined, NamesStretched, Stretched, stretch_kept}
 use Rattle.mini_rows.proofs.ListKeptDeclarations.{over, names_if, is_var, declares_as, scope_if, opens, used, names_are, body_are, declarations_are, all_both, scoped_down as var_scoped_down, scoped_up as var_scoped_up, symbols_are, inner_is, numbers_are, declared_are, frames_are, bodies_are, once_is, jumps_are}
 use Rattle.mini_rows.proofs.ListKeptHeads.{parts_of_it, it_of_parts, of_statement, statement_of, nothing_there, sum_parts, sum_statement, Seat, Loop, Choice, seated, rest, quiet_value, inner_down, inner_up, fixed_down, fixed_up, declares_down, declares_up, frames_beside, frames_down, frames_up, bodies_down, bodies_up, numbers_beside, jumps_beside, aimed_down, aimed_up, Unlexical, value_unlexical, declared_beside, names_beside, once_down, once_up, ScopedBeside, scoped_down, scoped_up, symbols_beside, seated_symbols, seated_hoists, seated_names, seated_body, seated_as_body, seated_port, seated_calm, statement_names, statement_body, statement_as_body, second_of}
@@ -60,16 +65,20 @@ use Rattle.mini_rows.proofs.ListKeptHeads.{parts_of_it, it_of_parts, of_statemen
 -- ---- a statement that holds an expression, and what is beside that
 
 -- what has to be known of the expression in the statement, and of the one that is left
-Needs : (Tree → Type 0) → Beginning → Tree → Type 0
-Needs P Alone a = Unit {0}
-Needs P (Init u v w) a = P a × P absent
-Needs P (Before h q qs) a = P (sequence (a ▸ (q ▸ qs))) × P (of_parts q qs)
+Needs : (Tree → Type 0) → (Holder → Type 0) → Beginning → Tree → Type 0
+Needs P H Alone a = Unit {0}
+Needs P H (Init u v w) a = P a × P absent
+Needs P H (Before h q qs) a = H h × (P (sequence (a ▸ (q ▸ qs))) × P (of_parts q qs))
 
--- of two expressions
-record Opens (Q : Asked → Tree → Type 0) (hold : Tree → Tree) (e d : Tree) : Type 1 where
-  Beside : Type 0
-  down : Q AsWholeItem (hold e) → Q AsValue e × Beside
-  up : Q AsValue d → Beside → Q AsWholeItem (hold d)
+-- nothing of the statement
+abbrev anything : Holder → Type 0
+anything h = Unit {0}
+
+-- of what stands in a statement that opens a scope, on the right of a loop, or as a first initializer
+record Spots (Q : Asked → Tree → Type 0) (P : Tree → Type 0) (H : Holder → Type 0) : Type 1 where
+  seats : (s : Seat) (e d : Tree) → P e → P d → Opens Q (seated s) e d
+  loops : (k : Each) (l w : Tree) → H (Going k l w) → (e d : Tree) → P e → P d → Opens Q (λ t. each_loop k l t w) e d
+  firsts : (kind : VariableDeclarationKind) (x : Name) (ds : Trees) (e d : Tree) → P e → P d → Opens Q (λ t. declaration kind (declarator (binding x) t ▸ ds)) e d
 
 module _ (J : Leap → Type 0) (Q : Asked → Tree → Type 0) (l : Local J Q) where
   statement_opens : (e d : Tree) → Opens Q expression_statement e d
@@ -92,25 +101,27 @@ module _ (J : Leap → Type 0) (Q : Asked → Tree → Type 0) (l : Local J Q) w
     up = λ q r. l.up sketch.If AsWholeItem (d ▸ (u ▸ (v ▸ none))) tt tt (q, (r.0, (r.1, tt)));
   }
 
-  holder_opens : (e d : Tree) → ((s : Seat) → Opens Q (seated s) e d) → (h : Holder) → Opens Q (holding h) e d
-  holder_opens e d k Statement = statement_opens e d
-  holder_opens e d k (Heading Return) = return_opens e d
-  holder_opens e d k (Heading Throw) = throw_opens e d
-  holder_opens e d k (Heading (If u v)) = if_opens u v e d
-  holder_opens e d k (Heading (Switch cases)) = k (Choice cases)
-  holder_opens e d k (Heading (For u v w)) = k (Loop u v w)
+  holder_opens : (P : Tree → Type 0) (H : Holder → Type 0) → Spots Q P H → (e d : Tree) → P e → P d → (h : Holder) → H h → Opens Q (holding h) e d
+  holder_opens P H k e d p q Statement n = statement_opens e d
+  holder_opens P H k e d p q (Heading Return) n = return_opens e d
+  holder_opens P H k e d p q (Heading Throw) n = throw_opens e d
+  holder_opens P H k e d p q (Heading (If u v)) n = if_opens u v e d
+  holder_opens P H k e d p q (Heading (Switch cases)) n = k.seats (Choice cases) e d p q
+  holder_opens P H k e d p q (Heading (For u v w)) n = k.seats (Loop u v w) e d p q
+  holder_opens P H k e d p q (Going c l w) n = k.loops c l w n e d p q
+  holder_opens P H k e d p q (Declaring kind x ds) n = k.firsts kind x ds e d p q
 
-  module _ (P : Tree → Type 0) (k : (s : Seat) (e d : Tree) → P e → P d → Opens Q (seated s) e d) where
+  module _ (P : Tree → Type 0) (H : Holder → Type 0) (k : Spots Q P H) where
     -- an assignment, and what is left without it
-    apart : (b : Beginning) (a : Tree) → Needs P b a → Q AsWholeItem (begun b a) → Q AsValue a × All Q AsWholeItem (begun_without b)
+    apart : (b : Beginning) (a : Tree) → Needs P H b a → Q AsWholeItem (begun b a) → Q AsValue a × All Q AsWholeItem (begun_without b)
     unfolding Needs
     apart Alone a n q = (of_statement J Q l a q, tt)
     apart (Init u v w) a n q =
-        let o = k (Loop u v w) a absent n.0 n.1 in
+        let o = k.seats (Loop u v w) a absent n.0 n.1 in
         let (x, r) = o.down q in
         (x, (o.up (nothing_there J Q l) r, tt))
     apart (Before h p ps) a n q =
-        let o = holder_opens (sequence (a ▸ (p ▸ ps))) (of_parts p ps) (λ s. k s (sequence (a ▸ (p ▸ ps))) (of_parts p ps) n.0 n.1) h in
+        let o = holder_opens P H k (sequence (a ▸ (p ▸ ps))) (of_parts p ps) n.1.0 n.1.1 h n.0 in
         let (x, r) = o.down q in
         let all = parts_of_it J Q l a (p ▸ ps) x in
         (all.0, (o.up (it_of_parts J Q l p ps all.1) r, tt))
@@ -120,12 +131,12 @@ module _ (J : Leap → Type 0) (Q : Asked → Tree → Type 0) (l : Local J Q) w
     value_of x value q = (l.down (Assignment Assign) AsValue (identifier x ▸ (value ▸ none)) tt q).1.1.0
 
 -- both together again
-module _ (Q : Asked → Tree → Type 0) (l : Local Any Q) (k : (s : Seat) (e d : Tree) → Opens Q (seated s) e d) where
+module _ (Q : Asked → Tree → Type 0) (l : Local Any Q) (k : Spots Q (λ t. Unit {0}) anything) where
   together : (b : Beginning) (a : Tree) → Q AsValue a → All Q AsWholeItem (begun_without b) → Q AsWholeItem (begun b a)
   together Alone a q r = statement_of Any Q l a q
-  together (Init u v w) a q r = let o = k (Loop u v w) absent a in o.up q (o.down r.0).1
+  together (Init u v w) a q r = let o = k.seats (Loop u v w) absent a tt tt in o.up q (o.down r.0).1
   together (Before h p ps) a q r =
-      let o = holder_opens Any Q l (of_parts p ps) (sequence (a ▸ (p ▸ ps))) (λ s. k s (of_parts p ps) (sequence (a ▸ (p ▸ ps)))) h in
+      let o = holder_opens Any Q l (λ t. Unit {0}) anything k (of_parts p ps) (sequence (a ▸ (p ▸ ps))) tt tt h tt in
       let (x, y) = o.down r.0 in
       o.up (it_of_parts Any Q l a (p ▸ ps) (q, parts_of_it Any Q l p ps x)) y
 
@@ -134,97 +145,32 @@ module _ (Q : Asked → Tree → Type 0) (l : Local Any Q) (k : (s : Seat) (e d 
 
 -- ---- sums
 
-module _ (m : Asked → Tree → ℕ) (l : Summed m) (P : Tree → Type 0) (k : (s : Seat) → (c : ℕ) × ((e : Tree) → P e → m AsWholeItem (seated s e) ≡ m AsValue e + c)) where
+record Sums (m : Asked → Tree → ℕ) (P : Tree → Type 0) : Type 0 where
+  seats : (s : Seat) → (c : ℕ) × ((e : Tree) → P e → m AsWholeItem (seated s e) ≡ m AsValue e + c)
+  loops : (k : Each) (l w : Tree) → (c : ℕ) × ((e : Tree) → m AsWholeItem (each_loop k l e w) ≡ m AsValue e + c)
+  firsts : (kind : VariableDeclarationKind) (x : Name) (ds : Trees) → (c : ℕ) × ((e : Tree) → m AsWholeItem (declaration kind (declarator (binding x) e ▸ ds)) ≡ m AsValue e + c)
+
+module _ (m : Asked → Tree → ℕ) (l : Summed m) (P : Tree → Type 0) (k : Sums m P) where
   held_sum : (h : Holder) → (c : ℕ) × ((e : Tree) → P e → m AsWholeItem (holding h e) ≡ m AsValue e + c)
   held_sum Statement = (0, λ e p. omega (arith, sum_statement m l e))
   held_sum (Heading Return) = (0, λ e p. omega (arith, l sketch.Return AsWholeItem (e ▸ none) tt))
   held_sum (Heading Throw) = (0, λ e p. omega (arith, l sketch.Throw AsWholeItem (e ▸ none) tt))
   held_sum (Heading (If u v)) = (m AsBranch u + m AsBranch v, λ e p. omega (arith, l sketch.If AsWholeItem (e ▸ (u ▸ (v ▸ none))) tt))
-  held_sum (Heading (Switch cases)) = k (Choice cases)
-  held_sum (Heading (For u v w)) = k (Loop u v w)
+  held_sum (Heading (Switch cases)) = k.seats (Choice cases)
+  held_sum (Heading (For u v w)) = k.seats (Loop u v w)
+  held_sum (Going c x w) = let (n, is) = k.loops c x w in (n, λ e p. is e)
+  held_sum (Declaring kind x ds) = let (n, is) = k.firsts kind x ds in (n, λ e p. is e)
 
-  begun_sum : m AsValue absent ≡ 0 → (b : Beginning) (a : Tree) → Needs P b a → m AsValue a + sum_all m AsWholeItem (begun_without b) ≤ m AsWholeItem (begun b a)
+  begun_sum : m AsValue absent ≡ 0 → (b : Beginning) (a : Tree) → Needs P anything b a → m AsValue a + sum_all m AsWholeItem (begun_without b) ≤ m AsWholeItem (begun b a)
   unfolding Needs
   begun_sum z Alone a n = omega (arith, sum_statement m l a)
-  begun_sum z (Init u v w) a n = let (c, is) = k (Loop u v w) in omega (arith, is a n.0, is absent n.1, z)
+  begun_sum z (Init u v w) a n = let (c, is) = k.seats (Loop u v w) in omega (arith, is a n.0, is absent n.1, z)
   begun_sum z (Before h q qs) a n =
       let (c, is) = held_sum h in
-      omega (arith, is (sequence (a ▸ (q ▸ qs))) n.0, is (of_parts q qs) n.1, sum_parts m l a (q ▸ qs), sum_parts m l q qs)
+      omega (arith, is (sequence (a ▸ (q ▸ qs))) n.1.0, is (of_parts q qs) n.1.1, sum_parts m l a (q ▸ qs), sum_parts m l q qs)
 
   value_sum : (x : Name) (value : Tree) → m AsValue value ≤ m AsValue (assigned x value)
   value_sum x value = omega (arith, l (Assignment Assign) AsValue (identifier x ▸ (value ▸ none)) tt)
-
--- ---- a declarator with a value in it
-
-or_nothing : (b : Bool) → (b || false) ≡ b
-or_nothing true = refl
-or_nothing false = refl
-
-pub stricter_alone : (f : Fixed) → stricter f Writable ≡ f
-stricter_alone Writable = refl
-stricter_alone KeepsOld = refl
-stricter_alone Constant = refl
-
-module _ (x : Name) (value : Tree) where
-  abbrev bare : Tree
-  bare = declarator (binding x) absent
-
-  abbrev given : Tree
-  given = declarator (binding x) value
-
-  inner_value : has_inner given ≡ has_inner value
-  unfolding has_inner
-  inner_value = or_nothing (has_inner value)
-
-  no_inner : has_inner bare ≡ false
-  unfolding has_inner
-  no_inner = refl
-
-  fixed_value : (y : Variable) → fixed_by given y ≡ fixed_by value y
-  fixed_value y = of_children shape.VariableDeclarator [] 0 (binding x ▸ (value ▸ none)) y refl ∙ stricter_alone (fixed_by value y)
-
-  fixed_bare : (y : Variable) → fixed_by bare y ≡ Writable
-  fixed_bare y = of_children shape.VariableDeclarator [] 0 (binding x ▸ (absent ▸ none)) y refl
-
-  declared_value : names_declared given ≡ x ∷ names_declared value
-  declared_value = ap (λ r. x ∷ r) (append-nil (names_declared value))
-
-  frames_value : frames None given ≡ frames None value
-  frames_value = append-nil (frames None value)
-
-  bodies_value : (r : Around) → bodies (quiet r) given ≡ bodies (quiet r) value
-  bodies_value r = append-nil (bodies (quiet r) value)
-
-  numbers_value : numbers given ≡ numbers value
-  unfolding numbers
-  numbers_value = append-nil (numbers value)
-
-  no_numbers : numbers bare ≡ []
-  unfolding numbers
-  no_numbers = refl
-
-  symbols_value : (u : Use) → declared_in u given ≡ declared_in Read value
-  unfolding declared_in scopes_by
-  symbols_value u = append-nil (declared_in Read value)
-
-  once_value : early_names [] given ≡ early_names (1 ∷ []) value
-  unfolding early_names scope_declarations
-  once_value = append-nil (early_names (1 ∷ []) value)
-
-  jumps_value : (g : Targets) → early_jumps g [] given ≡ early_jumps g (1 ∷ []) value
-  unfolding early_jumps targets_of
-  jumps_value g = append-nil (early_jumps g (1 ∷ []) value)
-
-  scoped_value : (u : Use) (env : Environment) → Scoped u env bare → Scoped Read env value → Scoped u env given
-  unfolding Scoped scopes_by
-  scoped_value u env a b = (a.0, (a.1.0, (subst (λ r. Scoped Read r value) (sym (append-nil (env ++ []) ∙ append-nil env)) b, tt)))
-
-  among_value : (all : List Name) → Among all (names_declared bare) → Among all (names_declared value) → Among all (names_declared given)
-  among_value all a b y c = by (Contains-append_cases (x ∷ []) (names_declared value) y (subst (λ r. Contains r y) declared_value c))
-    where
-      by : Contains (x ∷ []) y ⊎ Contains (names_declared value) y → Contains all y
-      by (inl d) = a y d
-      by (inr d) = b y d
 
 -- ---- a declaration with it in, of names that can be written
 
@@ -381,6 +327,45 @@ seat_numbers n s = (count_of n (all_numbers (rest s)), λ e p. omega (arith, ap 
 seat_symbols : (u : Use) (x : Option SymbolId) (s : Seat) → (c : ℕ) × ((e : Tree) → Unlexical e → symbol_times u x AsWholeItem (seated s e) ≡ symbol_times u x AsValue e + c)
 seat_symbols u x s = (times x (symbols_beside u s), λ e p. omega (arith, ap (times x) (seated_symbols u s e p), times_both x (declared_in Read e) (symbols_beside u s)))
 
+-- what a statement asks of itself: the head of a loop declares no lexical name
+Plainly : Holder → Type 0
+Plainly (Going k l w) = lexical_names l ≡ []
+Plainly h = Unit {0}
+
+abbrev Freely : (Asked → Tree → Type 0) → Type 1
+Freely Q = Spots Q (λ t. Unit {0}) anything
+
+inner_spots : (b : Bool) → Freely (InnerIf b)
+inner_spots b = record { seats = λ s e d p q. inner_seat s e d b; loops = λ k l w n e d p q. spots.inner_loop k l w e d b; firsts = λ kind x ds e d p q. spots.inner_first kind x ds e d b }
+
+fixed_spots : (z : Variable) (m : ℕ) → Freely (FixedBy z m)
+fixed_spots z m = record { seats = λ s e d p q. fixed_seat s e d z m; loops = λ k l w n e d p q. spots.fixed_loop k l w e d z m; firsts = λ kind x ds e d p q. spots.fixed_first kind x ds e d z m }
+
+declares_spots : (xs : List Name) → Freely (Declares xs)
+declares_spots xs = record { seats = λ s e d p q. declares_seat s e d xs; loops = λ k l w n e d p q. spots.declares_loop k l w e d xs; firsts = λ kind x ds e d p q. spots.declares_first kind x ds e d xs }
+
+frames_spots : (fs : List Frame) → Freely (HasFrames fs)
+frames_spots fs = record { seats = λ s e d p q. frames_seat s e d fs; loops = λ k l w n e d p q. spots.frames_loop k l w e d fs; firsts = λ kind x ds e d p q. spots.frames_first kind x ds e d fs }
+
+bodies_spots : (bs : List Body) (r : Around) → Freely (HasBodies bs r)
+bodies_spots bs r = record { seats = λ s e d p q. bodies_seat s e d bs r; loops = λ k l w n e d p q. spots.bodies_loop k l w e d bs r; firsts = λ kind x ds e d p q. spots.bodies_first kind x ds e d bs r }
+
+targets_spots : (g : Targets) → Freely (Aimed g)
+targets_spots g = record { seats = λ s e d p q. targets_seat s e d g; loops = λ k l w n e d p q. spots.targets_loop k l w e d g; firsts = λ kind x ds e d p q. spots.targets_first kind x ds e d g }
+
+once_spots : Spots Once Unlexical anything
+once_spots = record { seats = once_seat; loops = λ k l w n e d p q. spots.once_loop k l w e d; firsts = λ kind x ds e d p q. spots.once_first kind x ds e d }
+
+scoped_spots : (env : Environment) → Spots (ScopedAs Read env) Unlexical Plainly
+unfolding Plainly
+scoped_spots env = record { seats = λ s e d. scoped_seat s e d env; loops = λ k l w n e d p q. spots.scoped_loop k l w e d (left_scope l n) env; firsts = λ kind x ds e d p q. spots.scoped_first kind x ds e d env }
+
+number_sums : (n : ℕ) → Sums (number_times n) (λ t. Unit {0})
+number_sums n = record { seats = seat_numbers n; loops = λ k l w. spots.numbers_loop k l w n; firsts = λ kind x ds. spots.numbers_first kind x ds n }
+
+symbol_sums : (u : Use) (x : Option SymbolId) → Sums (symbol_times u x) Unlexical
+symbol_sums u x = record { seats = seat_symbols u x; loops = λ k l w. spots.symbols_loop k l w u x; firsts = λ kind y ds. spots.symbols_first kind y ds u x }
+
 -- ---- names
 
 return_names : (d : Declared) (e : Tree) → names_of d (return_statement e) ≡ []
@@ -404,13 +389,6 @@ unfolding names_of
 if_names declared.Bound e j u v k = refl
 if_names declared.Lexical e j u v k = refl
 if_names declared.Hoisted e j u v k = k
-
--- what is known of a statement by its names
-record Names (t u : Tree) : Type 0 where
-  names : (d : Declared) → names_of d u ≡ names_of d t
-  body : body_names u ≡ body_names t
-  as_body : (o : Bool) → as_body o u ≡ as_body o t
-  ports : (m : Bool) → port m u ≡ port m t
 
 return_same : (e j : Tree) → Names (return_statement e) (return_statement j)
 unfolding body_names names_of
@@ -455,10 +433,12 @@ held_same (Heading Throw) e j p q = throw_same e j
 held_same (Heading (If u v)) e j p q = if_same u v e j p q
 held_same (Heading (Switch cases)) e j p q = seat_same (Choice cases) e j p q
 held_same (Heading (For u v w)) e j p q = seat_same (Loop u v w) e j p q
+held_same (Going k l w) e j p q = spots.same_loop k l w e j p q
+held_same (Declaring kind x ds) e j p q = spots.same_first kind x ds e j
 
 -- the expression that is left is one
 LeftValue : Beginning → Type 0
-LeftValue (Before h q qs) = is_value (shape_of (of_parts q qs)) ≡ true
+LeftValue (Before h q qs) = (is_value (shape_of (of_parts q qs)) ≡ true) × Plainly h
 LeftValue b = Unit {0}
 
 -- whatever it gives of the names of a statement
@@ -466,7 +446,7 @@ left_same : {A : Type 0} (g : Tree → List A) (b : Beginning) (a : Tree) → is
 unfolding LeftValue
 left_same g Alone a p v z k = sym (ap (λ r. r ++ []) (z a))
 left_same g (Init x y w) a p v z k = ap (λ r. r ++ []) (k _ _ (seat_same (Loop x y w) a absent p refl))
-left_same g (Before h q qs) a p v z k = ap (λ r. r ++ []) (k _ _ (held_same h (sequence (a ▸ (q ▸ qs))) (of_parts q qs) refl v))
+left_same g (Before h q qs) a p v z k = ap (λ r. r ++ []) (k _ _ (held_same h (sequence (a ▸ (q ▸ qs))) (of_parts q qs) refl v.0))
 
 -- ---- the two statements, and what is written
 
@@ -486,21 +466,21 @@ module _ (kind : VariableDeclarationKind) (free : IsWritten kind) (ds : Trees) (
   abbrev put : Trees
   put = put_as kind ds x es value b
 
-  forward : (J : Leap → Type 0) (Q : Asked → Tree → Type 0) (l : Local J Q) (P : Tree → Type 0) → ((s : Seat) (e d : Tree) → P e → P d → Opens Q (seated s) e d) → Needs P b assignment → (Q AsWholeItem (old_declaration kind ds x es value) → Q AsValue value → Q AsWholeItem (new_declaration kind ds x es value)) → All Q AsWholeItem read → All Q AsWholeItem put
-  forward J Q l P k n g a =
-      let (p, q) = apart J Q l P k b assignment n a.1.0 in
-      (g a.0 (value_of J Q l P k y value p), q)
+  forward : (J : Leap → Type 0) (Q : Asked → Tree → Type 0) (l : Local J Q) (P : Tree → Type 0) (H : Holder → Type 0) → Spots Q P H → Needs P H b assignment → (Q AsWholeItem (old_declaration kind ds x es value) → Q AsValue value → Q AsWholeItem (new_declaration kind ds x es value)) → All Q AsWholeItem read → All Q AsWholeItem put
+  forward J Q l P H k n g a =
+      let (p, q) = apart J Q l P H k b assignment n a.1.0 in
+      (g a.0 (value_of J Q l P H k y value p), q)
 
-  nothing_needed : (c : Beginning) (a : Tree) → Needs (λ t. Unit {0}) c a
+  nothing_needed : (c : Beginning) (a : Tree) → Needs (λ t. Unit {0}) anything c a
   unfolding Needs
   nothing_needed Alone a = tt
   nothing_needed (Init u v w) a = (tt, tt)
-  nothing_needed (Before h q qs) a = (tt, tt)
+  nothing_needed (Before h q qs) a = (tt, (tt, tt))
 
-  freely : (J : Leap → Type 0) (Q : Asked → Tree → Type 0) (l : Local J Q) → ((s : Seat) (e d : Tree) → Opens Q (seated s) e d) → (Q AsWholeItem (old_declaration kind ds x es value) → Q AsValue value → Q AsWholeItem (new_declaration kind ds x es value)) → All Q AsWholeItem read → All Q AsWholeItem put
-  freely J Q l k = forward J Q l (λ t. Unit {0}) (λ s e d p q. k s e d) (nothing_needed b assignment)
+  freely : (J : Leap → Type 0) (Q : Asked → Tree → Type 0) (l : Local J Q) → Freely Q → (Q AsWholeItem (old_declaration kind ds x es value) → Q AsValue value → Q AsWholeItem (new_declaration kind ds x es value)) → All Q AsWholeItem read → All Q AsWholeItem put
+  freely J Q l k = forward J Q l (λ t. Unit {0}) anything k (nothing_needed b assignment)
 
-  backward : (Q : Asked → Tree → Type 0) (l : Local Any Q) → ((s : Seat) (e d : Tree) → Opens Q (seated s) e d) → Q AsTarget (identifier y) → (Q AsWholeItem (new_declaration kind ds x es value) → Q AsWholeItem (old_declaration kind ds x es value) × Q AsValue value) → All Q AsWholeItem put → All Q AsWholeItem read
+  backward : (Q : Asked → Tree → Type 0) (l : Local Any Q) → Freely Q → Q AsTarget (identifier y) → (Q AsWholeItem (new_declaration kind ds x es value) → Q AsWholeItem (old_declaration kind ds x es value) × Q AsValue value) → All Q AsWholeItem put → All Q AsWholeItem read
   backward Q l k t g a = let (o, v) = g a.0 in (o, (together Q l k b assignment (assigned_of Q l k y value t v) a.1, tt))
 
   inner_target : (c : Bool) → InnerIf c AsTarget (identifier y)
@@ -520,7 +500,7 @@ module _ (kind : VariableDeclarationKind) (free : IsWritten kind) (ds : Trees) (
 
   numbers_one : (n : ℕ) → sum_all (number_times n) AsWholeItem put ≤ sum_all (number_times n) AsWholeItem read
   numbers_one n =
-      let seats = seat_numbers n in
+      let seats = number_sums n in
       omega (
         arith,
         numbers_given kind ds x es value n,
@@ -529,19 +509,22 @@ module _ (kind : VariableDeclarationKind) (free : IsWritten kind) (ds : Trees) (
       )
 
   module _ (v : LeftValue b) where
-    needed : (c : Beginning) → LeftValue c → Needs Unlexical c assignment
+    needed : (H : Holder → Type 0) → ((h : Holder) → Plainly h → H h) → (c : Beginning) → LeftValue c → Needs Unlexical H c assignment
     unfolding Needs LeftValue
-    needed Alone w = tt
-    needed (Init p q r) w = (value_unlexical assignment refl, value_unlexical absent refl)
-    needed (Before h q qs) w = (value_unlexical (sequence (assignment ▸ (q ▸ qs))) refl, value_unlexical (of_parts q qs) w)
+    needed H f Alone w = tt
+    needed H f (Init p q r) w = (value_unlexical assignment refl, value_unlexical absent refl)
+    needed H f (Before h q qs) w = (f h w.1, (value_unlexical (sequence (assignment ▸ (q ▸ qs))) refl, value_unlexical (of_parts q qs) w.0))
+
+    needed_anywhere : Needs Unlexical anything b assignment
+    needed_anywhere = needed anything (λ h p. tt) b v
 
     symbols_one : (u : Use) (z : Option SymbolId) → sum_all (symbol_times u z) AsWholeItem put ≤ sum_all (symbol_times u z) AsWholeItem read
     symbols_one u z =
-        let seats = seat_symbols u z in
+        let seats = symbol_sums u z in
         omega (
           arith,
           symbols_given kind ds x es value u z,
-          begun_sum (symbol_times u z) (symbols_summed u z) Unlexical seats (no_symbol u z) b assignment (needed b v),
+          begun_sum (symbol_times u z) (symbols_summed u z) Unlexical seats (no_symbol u z) b assignment needed_anywhere,
           value_sum (symbol_times u z) (symbols_summed u z) Unlexical seats y value,
         )
 
@@ -551,9 +534,9 @@ module _ (kind : VariableDeclarationKind) (free : IsWritten kind) (ds : Trees) (
       body = λ i. declaration_body kind ds x es value i ++ left_same body_names b assignment refl v statement_body (λ t u k. k.body) i;
       as_body = λ o i. declaration_as_body kind ds x es value o i ++ left_same (as_body o) b assignment refl v (statement_as_body o) (λ t u k. k.as_body o) i;
       ports = λ m. left_same (port m) b assignment refl v (λ e. refl) (λ t u k. k.ports m);
-      scoped = λ env. forward Any (ScopedAs Read env) (scoped_local Read env) Unlexical (λ s e d. scoped_seat s e d env) (needed b v) (scoped_given kind ds x es value env);
+      scoped = λ env. forward Any (ScopedAs Read env) (scoped_local Read env) Unlexical Plainly (scoped_spots env) (needed Plainly (λ h p. p) b v) (scoped_given kind ds x es value env);
       symbols = symbols_one;
-      once = forward Any Once once_local Unlexical once_seat (needed b v) (once_given kind ds x es value);
+      once = forward Any Once once_local Unlexical anything once_spots needed_anywhere (once_given kind ds x es value);
     }
 
   left_calm : (c : Beginning) → All Valued AsWholeItem (begun_without c)
@@ -565,19 +548,22 @@ module _ (kind : VariableDeclarationKind) (free : IsWritten kind) (ds : Trees) (
   left_calm (Before (Heading (If u v)) q qs) = ((refl, refl), tt)
   left_calm (Before (Heading (Switch cases)) q qs) = (seated_calm (Choice cases) (of_parts q qs), tt)
   left_calm (Before (Heading (For u v w)) q qs) = (seated_calm (Loop u v w) (of_parts q qs), tt)
+  left_calm (Before (Going EachIn l w) q qs) = ((refl, refl), tt)
+  left_calm (Before (Going EachOf l w) q qs) = ((refl, refl), tt)
+  left_calm (Before (Declaring k z cs) q qs) = ((refl, refl), tt)
 
   stretched_one : ((strict : Bool) (k : Depth) → fill strict (each (one (a_statement k))) read ≡ true → LeftValue b) → Stretched read put
   stretched_one values = record {
     named = λ strict k f. names_one (values strict k f);
     calm = λ strict k f. ((refl, refl), left_calm b);
-    inner = λ c. freely Any (InnerIf c) (inner_local c) (λ s e d. inner_seat s e d c) (inner_given kind ds x es value c);
-    inner_back = λ c. backward (InnerIf c) (inner_local c) (λ s e d. inner_seat s e d c) (inner_target c) (inner_taken kind ds x es value c);
-    fixed = λ z k. freely Any (FixedBy z k) (fixed_local z k) (λ s e d. fixed_seat s e d z k) (fixed_given kind ds x es value free z k);
-    fixed_back = λ z k. backward (FixedBy z k) (fixed_local z k) (λ s e d. fixed_seat s e d z k) (fixed_target z k) (fixed_taken kind ds x es value free z k);
-    declares = λ xs. freely Any (Declares xs) (declares_local xs) (λ s e d. declares_seat s e d xs) (declares_given kind ds x es value xs);
-    frames = λ fs. freely Any (HasFrames fs) (frames_local fs) (λ s e d. frames_seat s e d fs) (frames_given kind ds x es value fs);
-    bodies = λ bs r. freely Any (HasBodies bs r) (bodies_local bs r) (λ s e d. bodies_seat s e d bs r) (bodies_given kind ds x es value bs r);
-    targets = λ g. freely (HasTarget g) (Aimed g) (aimed_local g) (λ s e d. targets_seat s e d g) (targets_given kind ds x es value g);
+    inner = λ c. freely Any (InnerIf c) (inner_local c) (inner_spots c) (inner_given kind ds x es value c);
+    inner_back = λ c. backward (InnerIf c) (inner_local c) (inner_spots c) (inner_target c) (inner_taken kind ds x es value c);
+    fixed = λ z k. freely Any (FixedBy z k) (fixed_local z k) (fixed_spots z k) (fixed_given kind ds x es value free z k);
+    fixed_back = λ z k. backward (FixedBy z k) (fixed_local z k) (fixed_spots z k) (fixed_target z k) (fixed_taken kind ds x es value free z k);
+    declares = λ xs. freely Any (Declares xs) (declares_local xs) (declares_spots xs) (declares_given kind ds x es value xs);
+    frames = λ fs. freely Any (HasFrames fs) (frames_local fs) (frames_spots fs) (frames_given kind ds x es value fs);
+    bodies = λ bs r. freely Any (HasBodies bs r) (bodies_local bs r) (bodies_spots bs r) (bodies_given kind ds x es value bs r);
+    targets = λ g. freely (HasTarget g) (Aimed g) (aimed_local g) (targets_spots g) (targets_given kind ds x es value g);
     numbers = numbers_one;
   }
 
@@ -592,19 +578,36 @@ held_sequence strict k (Heading (Switch cases)) ts f = left (fits strict (one an
 held_sequence strict k (Heading (For u v w)) ts f =
     left (fits strict (one_or_absent an_init) (sequence ts)) (fits strict (one_or_absent an_expression) u && (fits strict (one_or_absent an_expression) v && (fits strict (one (a_statement nested)) w && true))) f
 
-left_value : (strict : Bool) (k : Depth) (b : Beginning) (a : Tree) → fits strict (one (a_statement k)) (begun b a) ≡ true → LeftValue b
+held_sequence strict k (Going EachIn l w) ts f =
+    let r = (and_parts (fits strict (one (a_loop_left true)) l) (fits strict (one an_expression) (sequence ts) && (fits strict (one (a_statement nested)) w && true)) f).1 in
+    left (fits strict (one an_expression) (sequence ts)) (fits strict (one (a_statement nested)) w && true) r
+held_sequence strict k (Going EachOf l w) ts f =
+    let r = (and_parts (fits strict (one (a_loop_left false)) l) (fits strict (one an_expression) (sequence ts) && (fits strict (one (a_statement nested)) w && true)) f).1 in
+    left (fits strict (one an_expression) (sequence ts)) (fits strict (one (a_statement nested)) w && true) r
+held_sequence strict k (Declaring kind x ds) ts f = shape_law.first_sequence strict k kind x ds ts f
+
+-- the head of a loop declares no lexical name there
+held_plainly : (strict : Bool) (k : Depth) (h : Holder) (e : Tree) → holds_well h ≡ true → fits strict (one (a_statement k)) (holding h e) ≡ true → Plainly h
+unfolding Plainly
+held_plainly strict k Statement e p f = tt
+held_plainly strict k (Heading h) e p f = tt
+held_plainly strict k (Going EachIn l w) e p f = left_lexical strict true l p (left (fits strict (one (a_loop_left true)) l) (fits strict (one an_expression) e && (fits strict (one (a_statement nested)) w && true)) f)
+held_plainly strict k (Going EachOf l w) e p f = left_lexical strict false l p (left (fits strict (one (a_loop_left false)) l) (fits strict (one an_expression) e && (fits strict (one (a_statement nested)) w && true)) f)
+held_plainly strict k (Declaring kind x ds) e p f = tt
+
+left_value : (strict : Bool) (k : Depth) (b : Beginning) (a : Tree) → begins_well b ≡ true → fits strict (one (a_statement k)) (begun b a) ≡ true → LeftValue b
 unfolding LeftValue
-left_value strict k Alone a f = tt
-left_value strict k (Init u v w) a f = tt
-left_value strict k (Before h q qs) a f =
+left_value strict k Alone a g f = tt
+left_value strict k (Init u v w) a g f = tt
+left_value strict k (Before h q qs) a g f =
     let (x, y) = first_fits strict (one an_expression) a (q ▸ qs) (parts_fit strict a (q ▸ qs) (held_sequence strict k h (a ▸ (q ▸ qs)) f)) in
-    (sketch_valued (record { trees = of_parts q qs ▸ none; lists = [] }) strict AsValue (one an_expression) (part 0) refl (of_parts_fits strict q qs y)).0
+    ((sketch_valued (record { trees = of_parts q qs ▸ none; lists = [] }) strict AsValue (one an_expression) (part 0) refl (of_parts_fits strict q qs y)).0, held_plainly strict k h (sequence (a ▸ (q ▸ qs))) (and_parts (holds_well h) (are_parts q qs) g).0 f)
 
 -- a declaration with a value in it, and what is left of the statement that wrote it, in a list
-pub values_kept : (kind : VariableDeclarationKind) → IsWritten kind → (ds : Trees) (x y : Name) (es : Trees) (value : Tree) (b : Beginning) (before after : Trees) → KeptAt StatementList (listed (append before (append (read_as kind ds x y es value b) after))) (listed (append before (append (put_as kind ds x es value b) after)))
-values_kept kind free ds x y es value b before after =
+pub values_kept : (kind : VariableDeclarationKind) → IsWritten kind → (ds : Trees) (x y : Name) (es : Trees) (value : Tree) (b : Beginning) → begins_well b ≡ true → (before after : Trees) → KeptAt StatementList (listed (append before (append (read_as kind ds x y es value b) after))) (listed (append before (append (put_as kind ds x es value b) after)))
+values_kept kind free ds x y es value b well before after =
     let two = read_as kind ds x y es value b in
-    let values = λ (strict : Bool) (k : Depth) (h : fill strict (each (one (a_statement k))) two ≡ true). left_value strict k b (assigned y value) (second_of strict k (old_declaration kind ds x es value) (begun b (assigned y value)) none h) in
+    let values = λ (strict : Bool) (k : Depth) (h : fill strict (each (one (a_statement k))) two ≡ true). left_value strict k b (assigned y value) well (second_of strict k (old_declaration kind ds x es value) (begun b (assigned y value)) none h) in
     stretch_kept before after two (put_as kind ds x es value b) (stretched_one kind free ds x y es value b values)
 
 -- `var a; a = b;` and `var a = b;` in a list
@@ -613,7 +616,7 @@ begun_kept before after n w a b r f g =
     let x = resolved r.spelling r.symbol in
     let y = resolved r.target r.symbol in
     subst (λ t. KeptAt StatementList t w) (sym (f ∙ ap (λ ts. listed (append before (append ts after))) r.shape))
-    (subst (KeptAt StatementList (listed (append before (append (read_as Var r.ds x y r.es r.value r.beginning) after)))) (sym (g ∙ ap (λ ts. listed (append before (append ts after))) r.written)) (values_kept Var refl r.ds x y r.es r.value r.beginning before after))
+    (subst (KeptAt StatementList (listed (append before (append (read_as Var r.ds x y r.es r.value r.beginning) after)))) (sym (g ∙ ap (λ ts. listed (append before (append ts after))) r.written)) (values_kept Var refl r.ds x y r.es r.value r.beginning r.parts before after))
 
 -- `let a; a = 1;` and `let a = 1;` in a list
 pub let_kept : (W : VariableSet) (n w : Tree) → InList (Row70Let W) n w → KeptAt StatementList n w
@@ -622,4 +625,4 @@ let_kept W n w r =
     let x = resolved m.spelling m.symbol in
     let y = resolved m.target m.symbol in
     subst (λ t. KeptAt StatementList t w) (sym (r.shape ∙ ap (λ ts. listed (append r.before (append ts r.after))) m.shape))
-    (subst (KeptAt StatementList (listed (append r.before (append (read_as Let m.ds x y none (known m.value) m.beginning) r.after)))) (sym (r.written ∙ ap (λ ts. listed (append r.before (append ts r.after))) m.written)) (values_kept Let refl m.ds x y none (known m.value) m.beginning r.before r.after))
+    (subst (KeptAt StatementList (listed (append r.before (append (read_as Let m.ds x y none (known m.value) m.beginning) r.after)))) (sym (r.written ∙ ap (λ ts. listed (append r.before (append ts r.after))) m.written)) (values_kept Let refl m.ds x y none (known m.value) m.beginning m.parts r.before r.after))

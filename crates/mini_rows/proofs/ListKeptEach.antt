@@ -39,7 +39,7 @@ use Rattle.mini_rows.proofs.ArrangedBodies.{quiet, Among, Declares, rank}
 use Rattle.mini_rows.proofs.ArrangedValues.{Valued}
 use Rattle.mini_rows.proofs.ArrangedFolds.{port}
 use Rattle.mini_rows.proofs.ListKeptStretch.{NamesStretched, Stretched, stretch_kept}
-use Rattle.mini_rows.proofs.ListKeptBegun.{stricter_alone}
+use Rattle.mini_rows.proofs.ListKeptValues.{stricter_alone}
 
 -- ---- the head that assigns to the name, and the one that declares it
 

@@ -72,134 +72,134 @@ module _ {A : Type 0} (all : List A) where
 -- ---- the loop: what stands there beside the expression
 
 module _ (l w : Tree) where
-  abbrev over : Tree → Tree
+  abbrev pub over : Tree → Tree
   over e = for_in l e w
 
   module _ (b : Bool) where
-    abbrev InnerBeside : Type 0
+    abbrev pub InnerBeside : Type 0
     InnerBeside = ((has_inner l || b) ≡ b) × ((any_inner (w ▸ none) || b) ≡ b)
 
-    inner_down : (e : Tree) → InnerIf b AsWholeItem (over e) → InnerIf b AsValue e × InnerBeside
+    pub inner_down : (e : Tree) → InnerIf b AsWholeItem (over e) → InnerIf b AsValue e × InnerBeside
     unfolding has_inner
     inner_down e q =
         let (x, y) = or_both b (has_inner l) (any_inner (e ▸ (w ▸ none))) q in
         let (z, v) = or_both b (has_inner e) (any_inner (w ▸ none)) y in
         (z, (x, v))
 
-    inner_up : (e : Tree) → InnerIf b AsValue e → InnerBeside → InnerIf b AsWholeItem (over e)
+    pub inner_up : (e : Tree) → InnerIf b AsValue e → InnerBeside → InnerIf b AsWholeItem (over e)
     unfolding has_inner
     inner_up e q r = both_or b (has_inner l) (any_inner (e ▸ (w ▸ none))) r.0 (both_or b (has_inner e) (any_inner (w ▸ none)) q r.1)
 
-  fixed_is : (e : Tree) (x : Variable) → fixed_by (over e) x ≡ stricter (fixed_by l x) (stricter (fixed_by e x) (fixed_by_any (w ▸ none) x))
+  pub fixed_is : (e : Tree) (x : Variable) → fixed_by (over e) x ≡ stricter (fixed_by l x) (stricter (fixed_by e x) (fixed_by_any (w ▸ none) x))
   fixed_is e x = ap (λ f. stricter f (stricter (fixed_by l x) (stricter (fixed_by e x) (fixed_by_any (w ▸ none) x)))) (both_writable (is_in x (lets_first (summaries (l ▸ none)))))
 
   module _ (x : Variable) (k : ℕ) where
-    abbrev FixedBeside : Type 0
+    abbrev pub FixedBeside : Type 0
     FixedBeside = (rank (fixed_by l x) ≤ k) × (rank (fixed_by_any (w ▸ none) x) ≤ k)
 
-    fixed_down : (e : Tree) → FixedBy x k AsWholeItem (over e) → FixedBy x k AsValue e × FixedBeside
+    pub fixed_down : (e : Tree) → FixedBy x k AsWholeItem (over e) → FixedBy x k AsValue e × FixedBeside
     fixed_down e q =
         let (y, z) = split_rank k (fixed_by l x) (stricter (fixed_by e x) (fixed_by_any (w ▸ none) x)) (subst (λ f. rank f ≤ k) (fixed_is e x) q) in
         let (v, r) = split_rank k (fixed_by e x) (fixed_by_any (w ▸ none) x) z in
         (v, (y, r))
 
-    fixed_up : (e : Tree) → FixedBy x k AsValue e → FixedBeside → FixedBy x k AsWholeItem (over e)
+    pub fixed_up : (e : Tree) → FixedBy x k AsValue e → FixedBeside → FixedBy x k AsWholeItem (over e)
     fixed_up e q r = subst (λ f. rank f ≤ k) (sym (fixed_is e x)) (both_rank k (fixed_by l x) (stricter (fixed_by e x) (fixed_by_any (w ▸ none) x)) r.0 (both_rank k (fixed_by e x) (fixed_by_any (w ▸ none) x) q r.1))
 
   module _ (all : List Name) where
-    abbrev NamesBeside : Type 0
+    abbrev pub NamesBeside : Type 0
     NamesBeside = Among all (names_declared l) × Among all (declared_all (w ▸ none))
 
-    declares_down : (e : Tree) → Declares all AsWholeItem (over e) → Declares all AsValue e × NamesBeside
+    pub declares_down : (e : Tree) → Declares all AsWholeItem (over e) → Declares all AsValue e × NamesBeside
     declares_down e q =
         let (x, y) = inside_both all (names_declared l) (names_declared e ++ declared_all (w ▸ none)) q in
         let (z, r) = inside_both all (names_declared e) (declared_all (w ▸ none)) y in
         (z, (x, r))
 
-    declares_up : (e : Tree) → Declares all AsValue e → NamesBeside → Declares all AsWholeItem (over e)
+    pub declares_up : (e : Tree) → Declares all AsValue e → NamesBeside → Declares all AsWholeItem (over e)
     declares_up e q r = both_inside all (names_declared l) (names_declared e ++ declared_all (w ▸ none)) r.0 (both_inside all (names_declared e) (declared_all (w ▸ none)) q r.1)
 
-  abbrev last_frames : List Frame
+  abbrev pub last_frames : List Frame
   last_frames = frames_from (property_below shape.ForInStatement) 2 (w ▸ none)
 
   module _ (all : List Frame) where
-    abbrev FramesBeside : Type 0
+    abbrev pub FramesBeside : Type 0
     FramesBeside = FramesKept all (frames None l) × FramesKept all last_frames
 
-    frames_down : (e : Tree) → HasFrames all AsWholeItem (over e) → HasFrames all AsValue e × FramesBeside
+    pub frames_down : (e : Tree) → HasFrames all AsWholeItem (over e) → HasFrames all AsValue e × FramesBeside
     frames_down e q =
         let (x, y) = inside_both all (frames None l) (frames None e ++ last_frames) q in
         let (z, r) = inside_both all (frames None e) last_frames y in
         (z, (x, r))
 
-    frames_up : (e : Tree) → HasFrames all AsValue e → FramesBeside → HasFrames all AsWholeItem (over e)
+    pub frames_up : (e : Tree) → HasFrames all AsValue e → FramesBeside → HasFrames all AsWholeItem (over e)
     frames_up e q r = both_inside all (frames None l) (frames None e ++ last_frames) r.0 (both_inside all (frames None e) last_frames q r.1)
 
   module _ (all : List Body) (a : Around) where
-    abbrev last_bodies : List Body
+    abbrev pub last_bodies : List Body
     last_bodies = bodies_from (λ j. quiet a) 2 (w ▸ none)
 
-    abbrev BodiesBeside : Type 0
+    abbrev pub BodiesBeside : Type 0
     BodiesBeside = BodiesKept all (bodies (quiet a) l) × BodiesKept all last_bodies
 
-    bodies_down : (e : Tree) → HasBodies all a AsWholeItem (over e) → HasBodies all a AsValue e × BodiesBeside
+    pub bodies_down : (e : Tree) → HasBodies all a AsWholeItem (over e) → HasBodies all a AsValue e × BodiesBeside
     bodies_down e q =
         let (x, y) = split_bodies all (bodies (quiet a) l) (bodies (quiet a) e ++ last_bodies) q in
         let (z, r) = split_bodies all (bodies (quiet a) e) last_bodies y in
         (z, (x, r))
 
-    bodies_up : (e : Tree) → HasBodies all a AsValue e → BodiesBeside → HasBodies all a AsWholeItem (over e)
+    pub bodies_up : (e : Tree) → HasBodies all a AsValue e → BodiesBeside → HasBodies all a AsWholeItem (over e)
     bodies_up e q r = both_bodies all (bodies (quiet a) l) (bodies (quiet a) e ++ last_bodies) r.0 (both_bodies all (bodies (quiet a) e) last_bodies q r.1)
 
-  numbers_are : (e : Tree) → numbers (over e) ≡ numbers l ++ (numbers e ++ all_numbers (w ▸ none))
+  pub numbers_are : (e : Tree) → numbers (over e) ≡ numbers l ++ (numbers e ++ all_numbers (w ▸ none))
   unfolding numbers
   numbers_are e = refl
 
   -- jumps
 
   module _ (g : Targets) where
-    last_jumps : List Path
+    pub last_jumps : List Path
     last_jumps = all_early_jumps (targets_of shape.ForInStatement none g) [] 2 (w ▸ none)
 
-    abbrev JumpsBeside : Type 0
+    abbrev pub JumpsBeside : Type 0
     JumpsBeside = (early_jumps g (0 ∷ []) l ≡ []) × (last_jumps ≡ [])
 
-    jumps_are : (e : Tree) → early_jumps g [] (over e) ≡ early_jumps g (0 ∷ []) l ++ (early_jumps g (1 ∷ []) e ++ last_jumps)
+    pub jumps_are : (e : Tree) → early_jumps g [] (over e) ≡ early_jumps g (0 ∷ []) l ++ (early_jumps g (1 ∷ []) e ++ last_jumps)
     unfolding last_jumps early_jumps targets_of
     jumps_are e = refl
 
-    aimed_down : (e : Tree) → Aimed g AsWholeItem (over e) → Aimed g AsValue e × JumpsBeside
+    pub aimed_down : (e : Tree) → Aimed g AsWholeItem (over e) → Aimed g AsValue e × JumpsBeside
     aimed_down e q =
         let (x, y) = empty_both (early_jumps g (0 ∷ []) l) (early_jumps g (1 ∷ []) e ++ last_jumps) (sym (jumps_are e) ∙ q) in
         let (z, r) = empty_both (early_jumps g (1 ∷ []) e) last_jumps y in
         (targets_anywhere g (1 ∷ []) [] e z, (x, r))
 
-    aimed_up : (e : Tree) → Aimed g AsValue e → JumpsBeside → Aimed g AsWholeItem (over e)
+    pub aimed_up : (e : Tree) → Aimed g AsValue e → JumpsBeside → Aimed g AsWholeItem (over e)
     aimed_up e q r = jumps_are e ∙ both_empty (early_jumps g (0 ∷ []) l) (early_jumps g (1 ∷ []) e ++ last_jumps) r.0 (both_empty (early_jumps g (1 ∷ []) e) last_jumps (targets_anywhere g [] (1 ∷ []) e q) r.1)
 
   -- names that are declared twice
 
-  own_clashes : List Path
+  pub own_clashes : List Path
   own_clashes = clashing [] (declarations declared.Lexical true (0 ∷ []) l ++ declarations declared.Hoisted false (2 ∷ []) w)
 
-  last_names : List Path
+  pub last_names : List Path
   last_names = all_early_names [] 2 (w ▸ none)
 
-  abbrev OnceBeside : Type 0
+  abbrev pub OnceBeside : Type 0
   OnceBeside = (own_clashes ≡ []) × ((early_names (0 ∷ []) l ≡ []) × (last_names ≡ []))
 
-  names_are : (e : Tree) → early_names [] (over e) ≡ own_clashes ++ (early_names (0 ∷ []) l ++ (early_names (1 ∷ []) e ++ last_names))
+  pub names_are : (e : Tree) → early_names [] (over e) ≡ own_clashes ++ (early_names (0 ∷ []) l ++ (early_names (1 ∷ []) e ++ last_names))
   unfolding own_clashes last_names early_names scope_declarations
   names_are e = refl
 
-  once_down : (e : Tree) → Once AsWholeItem (over e) → Once AsValue e × OnceBeside
+  pub once_down : (e : Tree) → Once AsWholeItem (over e) → Once AsValue e × OnceBeside
   once_down e q =
       let (c, x) = empty_both own_clashes (early_names (0 ∷ []) l ++ (early_names (1 ∷ []) e ++ last_names)) (sym (names_are e) ∙ q) in
       let (y, z) = empty_both (early_names (0 ∷ []) l) (early_names (1 ∷ []) e ++ last_names) x in
       let (v, r) = empty_both (early_names (1 ∷ []) e) last_names z in
       (once_anywhere (1 ∷ []) [] e v, (c, (y, r)))
 
-  once_up : (e : Tree) → Once AsValue e → OnceBeside → Once AsWholeItem (over e)
+  pub once_up : (e : Tree) → Once AsValue e → OnceBeside → Once AsWholeItem (over e)
   once_up e q r =
       names_are e
       ∙ both_empty own_clashes (early_names (0 ∷ []) l ++ (early_names (1 ∷ []) e ++ last_names)) r.0
@@ -207,38 +207,38 @@ module _ (l w : Tree) where
 
   -- scopes
 
-  abbrev scope : List Binding
+  abbrev pub scope : List Binding
   scope = lexical_scope (lexical_names l)
 
-  abbrev scopes : ℕ → List Binding
+  abbrev pub scopes : ℕ → List Binding
   scopes = at_or_empty (scope ∷ [])
 
-  abbrev uses : Use → ℕ → Use
+  abbrev pub uses : Use → ℕ → Use
   uses u = use_of shape.ForInStatement u
 
   module _ (env : Environment) where
-    abbrev ScopedBeside : Type 0
+    abbrev pub ScopedBeside : Type 0
     ScopedBeside = Scoped Write (env ++ scope) l × AllScoped scopes (uses Read) 2 ((env ++ scope) ++ []) (w ▸ none)
 
     module _ (no_scope : scope ≡ []) where
-      env_is : (env ++ scope) ++ [] ≡ env
+      pub env_is : (env ++ scope) ++ [] ≡ env
       env_is = append-nil (env ++ scope) ∙ ap (λ r. env ++ r) no_scope ∙ append-nil env
 
-      scoped_down : (e : Tree) → Scoped Read env (over e) → Scoped Read env e × ScopedBeside
+      pub scoped_down : (e : Tree) → Scoped Read env (over e) → Scoped Read env e × ScopedBeside
       unfolding Scoped scopes_by
       scoped_down e q = (subst (λ r. Scoped Read r e) env_is q.1.1.0, (q.1.0, q.1.1.1))
 
-      scoped_up : (e : Tree) → Scoped Read env e → ScopedBeside → Scoped Read env (over e)
+      pub scoped_up : (e : Tree) → Scoped Read env e → ScopedBeside → Scoped Read env (over e)
       unfolding Scoped scopes_by
       scoped_up e q r = (tt, (r.0, (subst (λ v. Scoped Read v e) (sym env_is) q, r.1)))
 
-  first_symbols : List (Option SymbolId)
+  pub first_symbols : List (Option SymbolId)
   first_symbols = symbols_in scope ++ declared_in Write l
 
-  last_symbols : Use → List (Option SymbolId)
+  pub last_symbols : Use → List (Option SymbolId)
   last_symbols u = declared_from scopes (uses u) 2 (w ▸ none)
 
-  symbols_are : (u : Use) (x : Option SymbolId) (e : Tree) → times x (declared_in u (over e)) ≡ times x first_symbols + (times x (declared_in Read e) + times x (last_symbols u))
+  pub symbols_are : (u : Use) (x : Option SymbolId) (e : Tree) → times x (declared_in u (over e)) ≡ times x first_symbols + (times x (declared_in Read e) + times x (last_symbols u))
   unfolding declared_in scopes_by first_symbols last_symbols
   symbols_are u x e =
       let more = declared_in Read e ++ declared_from scopes (uses u) 2 (w ▸ none) in
@@ -246,21 +246,21 @@ module _ (l w : Tree) where
 
   -- names
 
-  hoisted_is : (e : Tree) → is_value (shape_of e) ≡ true → names_of declared.Hoisted (over e) ≡ names_of declared.Hoisted l ++ all_names declared.Hoisted (w ▸ none)
+  pub hoisted_is : (e : Tree) → is_value (shape_of e) ≡ true → names_of declared.Hoisted (over e) ≡ names_of declared.Hoisted l ++ all_names declared.Hoisted (w ▸ none)
   unfolding names_of
   hoisted_is e k = ap (λ r. names_of declared.Hoisted l ++ (r ++ all_names declared.Hoisted (w ▸ none))) (no_names declared.Hoisted e (quiet_value e k))
 
-  names_same : (d : Declared) (e j : Tree) → names_of declared.Hoisted (over j) ≡ names_of declared.Hoisted (over e) → names_of d (over j) ≡ names_of d (over e)
+  pub names_same : (d : Declared) (e j : Tree) → names_of declared.Hoisted (over j) ≡ names_of declared.Hoisted (over e) → names_of d (over j) ≡ names_of d (over e)
   unfolding names_of
   names_same declared.Bound e j k = refl
   names_same declared.Lexical e j k = refl
   names_same declared.Hoisted e j k = k
 
-  body_is : (e : Tree) → body_names (over e) ≡ names_of declared.Hoisted (over e)
+  pub body_is : (e : Tree) → body_names (over e) ≡ names_of declared.Hoisted (over e)
   unfolding body_names names_of
   body_is e = refl
 
-  as_body_is : (o : Bool) (e : Tree) → as_body o (over e) ≡ own_declarations false [] (names_of declared.Hoisted (over e))
+  pub as_body_is : (o : Bool) (e : Tree) → as_body o (over e) ≡ own_declarations false [] (names_of declared.Hoisted (over e))
   unfolding names_of
   as_body_is o e = refl
 
@@ -331,17 +331,18 @@ module _ (l w : Tree) where
 
 -- ---- the head declares no lexical name
 
-target_lexical : (strict : Bool) (t : Tree) → declares_nothing t ≡ true → fits strict (one (a_loop_left true)) t ≡ true → lexical_names t ≡ []
+target_lexical : (strict of_keys : Bool) (t : Tree) → declares_nothing t ≡ true → fits strict (one (a_loop_left of_keys)) t ≡ true → lexical_names t ≡ []
 unfolding names_of
-target_lexical strict (node shape.ImportDeclaration xs n ts) e f = absurd (refused_here strict (one (a_loop_left true)) shape.ImportDeclaration xs n ts refl f)
-target_lexical strict (node (shape.VariableDeclaration k) xs n ts) e f = absurd (true≢false (sym e))
-target_lexical strict (node (shape.Function true g ds) xs n ts) e f = absurd (true≢false (sym e))
-target_lexical strict (node (shape.Class true) xs n ts) e f = absurd (true≢false (sym e))
-target_lexical strict (node shape.ExportNamedDeclaration xs n ts) e f = absurd (true≢false (sym e))
-target_lexical strict (node shape.ExportDefaultDeclaration xs n ts) e f = absurd (true≢false (sym e))
-target_lexical strict (node shape.SwitchCase xs n ts) e f = absurd (true≢false (sym e))
-target_lexical strict (node shape.Listed xs n ts) e f = absurd (true≢false (sym e))
-target_lexical strict (node h xs n ts) e f = refl
+target_lexical strict true (node shape.ImportDeclaration xs n ts) e f = absurd (refused_here strict (one (a_loop_left true)) shape.ImportDeclaration xs n ts refl f)
+target_lexical strict false (node shape.ImportDeclaration xs n ts) e f = absurd (refused_here strict (one (a_loop_left false)) shape.ImportDeclaration xs n ts refl f)
+target_lexical strict o (node (shape.VariableDeclaration k) xs n ts) e f = absurd (true≢false (sym e))
+target_lexical strict o (node (shape.Function true g ds) xs n ts) e f = absurd (true≢false (sym e))
+target_lexical strict o (node (shape.Class true) xs n ts) e f = absurd (true≢false (sym e))
+target_lexical strict o (node shape.ExportNamedDeclaration xs n ts) e f = absurd (true≢false (sym e))
+target_lexical strict o (node shape.ExportDefaultDeclaration xs n ts) e f = absurd (true≢false (sym e))
+target_lexical strict o (node shape.SwitchCase xs n ts) e f = absurd (true≢false (sym e))
+target_lexical strict o (node shape.Listed xs n ts) e f = absurd (true≢false (sym e))
+target_lexical strict o (node h xs n ts) e f = refl
 
 var_lexical : (t : Tree) → is_var_shape (shape_of t) ≡ true → lexical_names t ≡ []
 unfolding names_of
@@ -352,10 +353,10 @@ or_split : (a b : Bool) → a || b ≡ true → (a ≡ true) ⊎ (b ≡ true)
 or_split true b h = inl refl
 or_split false b h = inr h
 
-left_lexical : (strict : Bool) (t : Tree) → is_plain_left t ≡ true → fits strict (one (a_loop_left true)) t ≡ true → lexical_names t ≡ []
-left_lexical strict t h f = ⊎_elim (λ e. target_lexical strict t e f) (λ e. var_lexical t (and_parts (is_var_shape (shape_of t)) _ e).0) (or_split (declares_nothing t) (is_bare_var t) h)
+pub left_lexical : (strict of_keys : Bool) (t : Tree) → is_plain_left t ≡ true → fits strict (one (a_loop_left of_keys)) t ≡ true → lexical_names t ≡ []
+left_lexical strict k t h f = ⊎_elim (λ e. target_lexical strict k t e f) (λ e. var_lexical t (and_parts (is_var_shape (shape_of t)) _ e).0) (or_split (declares_nothing t) (is_bare_var t) h)
 
-left_scope : (t : Tree) → lexical_names t ≡ [] → lexical_scope (lexical_names t) ≡ []
+pub left_scope : (t : Tree) → lexical_names t ≡ [] → lexical_scope (lexical_names t) ≡ []
 unfolding with_names
 left_scope t e = ap lexical_scope e
 
@@ -374,5 +375,5 @@ keys_kept before after n w a b r f g =
     (subst (KeptAt StatementList (listed (append before (append (two r.left r.body e d j (parts_join r.p r.ps r.q r.qs)) after)))) (sym (g ∙ ap (λ ts. listed (append before (append ts after))) r.written))
     (stretch_kept before after (two r.left r.body e d j (parts_join r.p r.ps r.q r.qs)) (one_there r.left r.body e d j (parts_join r.p r.ps r.q r.qs))
     (stretched_one r.left r.body e d j (parts_join r.p r.ps r.q r.qs)
-    (λ strict k h. left_scope r.left (left_lexical strict r.left r.plain (in_parts strict k r.left d r.body (second_of strict k (expression_statement e) (for_in r.left d r.body) none h)).0))
+    (λ strict k h. left_scope r.left (left_lexical strict true r.left r.plain (in_parts strict k r.left d r.body (second_of strict k (expression_statement e) (for_in r.left d r.body) none h)).0))
     (λ strict k h. ((sketch_valued (record { trees = d ▸ none; lists = [] }) strict AsValue (one an_expression) (part 0) refl (in_parts strict k r.left d r.body (second_of strict k (expression_statement e) (for_in r.left d r.body) none h)).1).0, both_value r.p r.ps r.q r.qs)))))

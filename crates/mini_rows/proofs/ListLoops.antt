@@ -6,19 +6,19 @@ use Rattle.mini_model.specs.declared.kind.VariableDeclarationKind.TheVariants.{V
 use Rattle.mini_model.specs.declared.shape.Shape.TheVariants as shape
 use Rattle.mini_model.specs.Tree.{Tree, Trees, node, none, ◌▸◌, absent, shape_of}
 use Rattle.mini_laws.specs.Value.{Value, choose, is_nullish}
-use Rattle.mini_laws.specs.State.{NextOf, KeysOf, Item, State, Thrown, Returned, Broken, Continued, Short, Completion, ok, stop, Ends, done, ended, either, Environment}
+use Rattle.mini_laws.specs.State.{NextOf, KeysOf, IteratorOf, Item, State, Thrown, Returned, Broken, Continued, Short, Completion, ok, stop, Ends, done, ended, either, Environment}
 use Rattle.mini_laws.specs.Demand.{Val, LoopTail, Demand, As, Stat, LabelSet}
 use Rattle.mini_laws.specs.Command.{hide, turn, fuel, Naming, Command, ret, fails, op, kid, then, attempt, bind, repeat, loop, emit, Kids, act, run}
 use Rattle.mini_laws.specs.Naming.{Declared, Variables, AClass, summary}
 use Rattle.mini_laws.specs.Asking.{for_demand, each_demand}
 use Rattle.mini_laws.specs.Replies.{as_ended}
 use Rattle.mini_laws.specs.Statements.{scoped}
-use Rattle.mini_laws.specs.Loops.{after_body, has_label, for_test, for_turn, for_turns, for_step, give_left, each_turn, turn_of, next_of, on_next, keys_in, for_in_step}
+use Rattle.mini_laws.specs.Loops.{after_body, has_label, for_test, for_turn, for_turns, for_step, give_left, each_turn, turn_of, next_of, on_next, keys_in, for_in_step, closing, values_of, for_of_step}
 use Rattle.mini_laws.specs.Step.{step, means, meaning}
 use Rattle.mini_laws.proofs.Runs.{either_cong, run_bind}
 use Rattle.mini_laws.proofs.Stretching.{run_attempt}
 use Rattle.mini_laws.proofs.Tailing.{finished, finish_none}
-use Rattle.mini_rows.specs.Lists.{for_in, for_loop, declaration, declares_nothing, is_var_shape, is_bare_var, is_plain_left}
+use Rattle.mini_rows.specs.Lists.{EachOf, each_loop, for_in, for_loop, declaration, declares_nothing, is_var_shape, is_bare_var, is_plain_left}
 use Rattle.mini_rows.proofs.ListHeads.{nothing_by, for_names, for_kids, for_rest, scoped_is, leaving_nothing}
 
 -- ---- commands that do the same over two families of children
@@ -134,6 +134,30 @@ module _ (e : Environment) (left body : Tree) (labels : LabelSet) (d : Option De
         (λ iterator. loop_alike e (for_names []) (each_demand d) (each_demand d) (in_kids x) (in_kids y) (next_of iterator (turn_of d labels)) (next_of iterator (turn_of d labels))
         (bind_alike e (for_names []) (each_demand d) (each_demand d) (in_kids x) (in_kids y) (emit NextOf (Item iterator ∷ [])) (emit NextOf (Item iterator ∷ [])) (on_next (turn_of d labels)) (on_next (turn_of d labels)) (λ z. refl) next_keyed)))
 
+    -- of what an iterator gives
+
+    closing_keyed : (iterator : Value) (c : Ends Bool) → Keyed x y (closing iterator c)
+    closing_keyed iterator (done true) z = refl
+    closing_keyed iterator (done false) z = refl
+    closing_keyed iterator (ended (Thrown v)) z = refl
+    closing_keyed iterator (ended (Returned v)) z = refl
+    closing_keyed iterator (ended (Broken l)) z = refl
+    closing_keyed iterator (ended (Continued l)) z = refl
+    closing_keyed iterator (ended Short) z = refl
+
+    abbrev valued : Value → Value → Command (each_demand d) Bool
+    valued iterator v = attempt (turn_of d labels v) (closing iterator)
+
+    next_valued : (iterator : Value) (o : Option Value) → Keyed x y (on_next (valued iterator) o)
+    next_valued iterator None z = refl
+    next_valued iterator (Some v) z = attempt_alike e (for_names []) (each_demand d) (each_demand d) (in_kids x) (in_kids y) (turn_of d labels v) (turn_of d labels v) (closing iterator) (closing iterator) (turn_keyed v) (closing_keyed iterator) z
+
+    values_keyed : (v : Value) → Keyed x y (values_of d labels v)
+    values_keyed v =
+        bind_alike e (for_names []) (each_demand d) (each_demand d) (in_kids x) (in_kids y) (emit IteratorOf (Item v ∷ [])) (emit IteratorOf (Item v ∷ [])) (λ i. loop (next_of i (valued i))) (λ i. loop (next_of i (valued i))) (λ z. refl)
+        (λ i. loop_alike e (for_names []) (each_demand d) (each_demand d) (in_kids x) (in_kids y) (next_of i (valued i)) (next_of i (valued i))
+        (bind_alike e (for_names []) (each_demand d) (each_demand d) (in_kids x) (in_kids y) (emit NextOf (Item i ∷ [])) (emit NextOf (Item i ∷ [])) (on_next (valued i)) (on_next (valued i)) (λ z. refl) (next_valued i)))
+
 give_keyed : (e : Environment) (left body : Tree) (labels : LabelSet) (d : Option Declared) (x y : Tree) (v : Value) → Keyed e left body labels d x y (give_left d v)
 unfolding meaning
 give_keyed e left body labels (Some (Variables k)) x y v z = refl
@@ -153,6 +177,19 @@ module _ (e : Environment) (left body : Tree) (labels : LabelSet) where
       ∙ scoped_is e (for_names []) {q = each_demand d} (kid 1 tt (then (keys_in d labels))) (in_kids e left body labels d x) s
       ∙ leaving_nothing (for_names []) refl _
       ∙ either_cong (means e x (As Val) tt s) _ _ _ _ (λ v z. keys_keyed e left body labels d x absent (give_keyed e left body labels d x absent) v z) (λ y z. refl)
+
+  pub of_rest : Value → State → Completion (Unit {0})
+  of_rest v z = run {q = each_demand (summary left).facts.declared} e (for_names []) (in_kids e left body labels (summary left).facts.declared absent) (values_of (summary left).facts.declared labels v) z
+
+  pub of_is : (summary left).lets ≡ [] → (x : Tree) (s : State) → means e (each_loop EachOf left x body) (Stat None) labels s ≡ either (means e x (As Val) tt s) (λ v z. of_rest v z) (λ x z. stop x z)
+  unfolding means meaning step of_rest
+  of_is u x s =
+      let d = (summary left).facts.declared in
+      finished e (for_names (summary left).lets) (each_demand d) (in_kids e left body labels d x) None (for_of_step d labels) s ∙ finish_none _
+      ∙ ap (λ l. run {q = each_demand d} e (for_names l) (in_kids e left body labels d x) (for_of_step d labels) s) u
+      ∙ scoped_is e (for_names []) {q = each_demand d} (kid 1 tt (then (values_of d labels))) (in_kids e left body labels d x) s
+      ∙ leaving_nothing (for_names []) refl _
+      ∙ either_cong (means e x (As Val) tt s) _ _ _ _ (λ v z. values_keyed e left body labels d x absent (give_keyed e left body labels d x absent) v z) (λ y z. refl)
 
 -- what such a left side declares is no lexical name
 

@@ -1,5 +1,6 @@
 -- What the rows of lists write means the same.
 use Rattle.std.proofs.Common.{◌≡◌, true, List, [], ◌∷◌, None, refl, sym, ap, ◌∙◌, subst, inl, inr}
+use Rattle.mini_model.specs.declared.kind.VariableDeclarationKind.{VariableDeclarationKind}
 use Rattle.mini_model.specs.declared.kind.VariableDeclarationKind.TheVariants.{Var}
 use Rattle.mini_model.specs.declared.name.Name.{Name}
 use Rattle.mini_model.specs.declared.operator.LogicalOperator.TheVariants.{Or}
@@ -12,8 +13,8 @@ use Rattle.mini_laws.specs.declared.names.Declared.TheVariants as declared
 use Rattle.mini_laws.specs.DeclaredNames.{names_of}
 use Rattle.mini_laws.specs.Value.{Value, truth, choose}
 use Rattle.mini_laws.specs.State.{State, Stop, Thrown, Returned, Completion, ok, stop, either, Environment}
-use Rattle.mini_laws.specs.Demand.{FunctionTail, Want, Val, Test, Unused, Says, Demand, As, Stat, Request}
-use Rattle.mini_laws.specs.Naming.{summary}
+use Rattle.mini_laws.specs.Demand.{FunctionTail, Want, Val, Test, Unused, Says, Demand, As, Stat, Binds, Request}
+use Rattle.mini_laws.specs.Naming.{is_lexical, summary}
 use Rattle.mini_laws.specs.Fits.{Fits}
 use Rattle.mini_laws.specs.Rows.{SameAt}
 use Rattle.mini_laws.specs.Step.{step, means, meaning}
@@ -24,14 +25,14 @@ use Rattle.mini_laws.proofs.Truth.{coherent}
 use Rattle.mini_laws.proofs.Rows.{Equal, equal_same}
 use Rattle.mini_node.specs.Walks.{append_none}
 use Rattle.mini_rows.specs.Switches.{Switches}
-use Rattle.mini_rows.specs.Lists.{declares_nothing, is_one_part_shape, are_parts, of_parts, block, return_statement, throw_statement, switch, for_loop, for_in, declaration, or_void, Head, Return, Throw, If, Switch, For, with_head, Row66Empty, Row66Joined, Row67, Row67Absent, Row67In, Row68, Row68Free, Row68Init, Row73, Row73Bare, Row76, Row79, SequencesRow, LoopRow, JoinRow, StretchRow, InList, ListRow, Row74, NeighbourRow, Saying, AsStatement, AsReturn, AsThrow, says, Row77, Leap, Breaks, Continues, leap, Row77Leap, Row77Unreached, declared_bare, left_behind, is_unscoped, sequence, resolved, assigned, Statement, Heading, Beginning, Alone, Init, Before, begun, begun_without, begins_well, Row70, Each, EachIn, EachOf, Row69}
+use Rattle.mini_rows.specs.Lists.{declares_nothing, is_one_part_shape, are_parts, of_parts, block, return_statement, throw_statement, switch, for_loop, for_in, declaration, or_void, Head, Return, Throw, If, Switch, For, with_head, Row66Empty, Row66Joined, Row67, Row67Absent, Row67In, Row68, Row68Free, Row68Init, Row73, Row73Bare, Row76, Row79, SequencesRow, LoopRow, JoinRow, StretchRow, InList, ListRow, Row74, NeighbourRow, Saying, AsStatement, AsReturn, AsThrow, says, Row77, Leap, Breaks, Continues, leap, Row77Leap, Row77Unreached, declared_bare, left_behind, is_unscoped, sequence, resolved, assigned, Statement, Heading, Beginning, Alone, Init, Before, begun, begun_without, begins_well, Row70, Each, EachIn, EachOf, Row69, is_plain_left, binding, declarator, Going, Declaring, each_loop}
 use Rattle.mini_rows.specs.ListLaws.{ListsMeanSame}
 use Rattle.mini_rows.proofs.ListStretches.{ReadSame, SameStretch, exec_one, exec_two, exec_more, listed_is, in_list, list_does, list_reads, replaced, read_in_list}
 use Rattle.mini_rows.proofs.ListParts.{joined_is}
-use Rattle.mini_rows.proofs.ListStatements.{expression_is, if_is, absent_is, empty_is, return_is, throw_is, conditional_is, or_void_is, declarations_join, declarations_read, one_unscoped, read_nothing, block_is}
+use Rattle.mini_rows.proofs.ListStatements.{expression_is, if_is, absent_is, empty_is, return_is, throw_is, conditional_is, or_void_is, declare, declare_more, declaration_is, declarations_join, declarations_read, one_unscoped, read_nothing, block_is}
 use Rattle.mini_rows.proofs.ListHeads.{Nothing, nothing_by, switch_rest, switch_plain, for_rest, for_is, for_absent_is}
-use Rattle.mini_rows.proofs.ListLoops.{for_var_is, in_rest, in_is, left_lets}
-use Rattle.mini_rows.proofs.ListBegun.{without_value, with_value, assignment_enters}
+use Rattle.mini_rows.proofs.ListLoops.{for_var_is, in_rest, in_is, of_rest, of_is, left_lets}
+use Rattle.mini_rows.proofs.ListBegun.{initialised, without_value, with_value, assignment_enters}
 use Rattle.mini_rows.proofs.ListEach.{each_enters}
 use Rattle.mini_rows.proofs.BodyLists.{body_same}
 use Rattle.mini_rows.proofs.ListTails.{body_end_same, end_reads}
@@ -345,11 +346,49 @@ init_alone a h u v w = record {
   read = record { lets = refl; functions = refl; facts = refl; texts = refl };
 }
 
+-- what a loop goes over, and the first initializer of a declaration
+into_each : (k : Each) (left body : Tree) → is_plain_left left ≡ true → (p : Tree) (q : Tree) (qs : Trees) → SameStretch (expression_statement p ▸ (each_loop k left (of_parts q qs) body ▸ none)) (each_loop k left (sequence (p ▸ (q ▸ qs))) body ▸ none)
+into_each EachIn left body h p q qs =
+    let lets = left_lets left h in
+    into_head p none q qs Val (λ d. for_in left d body)
+    (record { rest = λ e v z. in_rest e left body [] v z; before = λ e s. in_is e left body [] lets (of_parts q qs) s; after = λ e s. in_is e left body [] lets (sequence (p ▸ (q ▸ qs))) s })
+    (record { lets = refl; functions = refl; facts = refl; texts = refl })
+into_each EachOf left body h p q qs =
+    let lets = left_lets left h in
+    into_head p none q qs Val (λ d. each_loop EachOf left d body)
+    (record { rest = λ e v z. of_rest e left body [] v z; before = λ e s. of_is e left body [] lets (of_parts q qs) s; after = λ e s. of_is e left body [] lets (sequence (p ▸ (q ▸ qs))) s })
+    (record { lets = refl; functions = refl; facts = refl; texts = refl })
+
+parts_declare : (q : Tree) (qs : Trees) → are_parts q qs ≡ true → declares_nothing (of_parts q qs) ≡ true
+parts_declare q none h = (and_parts (is_one_part_shape (shape_of q)) (declares_nothing q) h).1
+parts_declare q (c ▸ qs) h = refl
+
+module _ (kind : VariableDeclarationKind) (x : Name) (ds : Trees) where
+  declares_first : Environment → Value → State → Completion (Unit {0})
+  declares_first e v s = either (means e (binding x) (Binds (is_lexical kind)) v s) (λ u z. declare e ds (is_lexical kind) z) (λ y z. stop y z)
+
+  first_is : (e : Environment) (b : Tree) → declares_nothing b ≡ true → (s : State) → means e (declaration kind (declarator (binding x) b ▸ ds)) (Stat None) [] s ≡ either (means e b (As Val) tt s) (λ v z. declares_first e v z) (λ y z. stop y z)
+  unfolding declares_first
+  first_is e b h s =
+      declaration_is e kind (declarator (binding x) b ▸ ds) [] s
+      ∙ declare_more e (declarator (binding x) b) ds (is_lexical kind) s
+      ∙ ap (λ c. either c (λ u z. declare e ds (is_lexical kind) z) (λ y z. stop y z)) (initialised e x (is_lexical kind) b h s)
+      ∙ either_assoc (means e b (As Val) tt s) _ _ _ _
+      ∙ either_cong (means e b (As Val) tt s) _ _ _ _ (λ v z. refl) (λ y z. either_stop y z _ _)
+
+  into_first : (p : Tree) (q : Tree) (qs : Trees) → are_parts q qs ≡ true → SameStretch (expression_statement p ▸ (declaration kind (declarator (binding x) (of_parts q qs) ▸ ds) ▸ none)) (declaration kind (declarator (binding x) (sequence (p ▸ (q ▸ qs))) ▸ ds) ▸ none)
+  into_first p q qs h =
+      into_head p none q qs Val (λ d. declaration kind (declarator (binding x) d ▸ ds))
+      (record { rest = declares_first; before = λ e s. first_is e (of_parts q qs) (parts_declare q qs h) s; after = λ e s. first_is e (sequence (p ▸ (q ▸ qs))) refl s })
+      (record { lets = refl; functions = refl; facts = refl; texts = refl })
+
 pub begun_same : (b : Beginning) (x : Name) (value : Tree) → begins_well b ≡ true → SameStretch (expression_statement (assigned x value) ▸ begun_without b) (begun b (assigned x value) ▸ none)
 begun_same Alone x value h = record { by = λ e s. refl; read = record { lets = refl; functions = refl; facts = refl; texts = refl } }
 begun_same (Init u v w) x value h = init_alone (assigned x value) refl u v w
 begun_same (Before Statement q qs) x value h = joined_twice (assigned x value) q qs
 begun_same (Before (Heading head) q qs) x value h = enters (assigned x value) none q qs head h
+begun_same (Before (Going k left body) q qs) x value h = into_each k left body (and_parts (is_plain_left left) (are_parts q qs) h).0 (assigned x value) q qs
+begun_same (Before (Declaring kind y ds) q qs) x value h = into_first kind y ds (assigned x value) q qs h
 
 with_none : (ts : Trees) → append ts none ≡ ts
 with_none none = refl

@@ -18,7 +18,7 @@ use Rattle.mini_kept.proofs.Bools.{left, right, both}
 use Rattle.mini_kept.proofs.Expressions.{expression_taken, two_fit}
 use Rattle.mini_kept.proofs.Placed.{statements_slot}
 use Rattle.mini_rows.specs.Switches.{Switches}
-use Rattle.mini_rows.specs.Lists.{block, sequence, return_statement, throw_statement, switch, for_loop, declaration, or_void, void_zero, of_parts, is_one_part, are_parts, is_unscoped, are_unscoped, Head as ListHead, Return, Throw, If, Switch, For, with_head, for_in, SequencesRow, LoopRow, JoinRow, StretchRow, InList, NeighbourRow, says, leap, resolved, binding, declarator, assigned, declares_nothing, Statement, Heading, Beginning, Alone, Init, Before, begun, begun_without, begins_well, Each, EachIn, EachOf, each_loop, bare_var, bare_declarators, declared_bare, left_behind}
+use Rattle.mini_rows.specs.Lists.{block, sequence, return_statement, throw_statement, switch, for_loop, declaration, or_void, void_zero, of_parts, is_one_part, are_parts, is_unscoped, are_unscoped, Head as ListHead, Return, Throw, If, Switch, For, with_head, for_in, SequencesRow, LoopRow, JoinRow, StretchRow, InList, NeighbourRow, says, leap, resolved, binding, declarator, assigned, declares_nothing, Statement, Heading, Beginning, Alone, Init, Before, begun, begun_without, begins_well, Each, EachIn, EachOf, each_loop, bare_var, bare_declarators, declared_bare, left_behind, Going, Declaring}
 use Rattle.mini_rows.proofs.UnreachedNames.{AllNamed, names_named}
 
 abbrev pub expression : Slot
@@ -381,6 +381,42 @@ module _ (strict : Bool) where
       let (x, y) = of_sequence a q qs f in
       (x, just d (for_loop (of_parts q qs) u v w) (both (fits strict (one_or_absent an_init) (of_parts q qs)) (loop_rest u v w) (expression_taken strict (one_or_absent an_init) (of_parts q qs) tt y) b))
 
+  each_leaves : (k : Each) (left body : Tree) (a q : Tree) (qs : Trees) (d : Depth) → Fits (statement d) (each_loop k left (sequence (a ▸ (q ▸ qs))) body) → Leaves a (each_loop k left (of_parts q qs) body ▸ none) d
+  unfolding Leaves
+  each_leaves EachIn l w a q qs d e =
+      let (b, r) = and_parts (fits strict (one (a_loop_left true)) l) (fits strict expression (sequence (a ▸ (q ▸ qs))) && (fits strict (statement nested) w && true)) e in
+      let (f, c) = and_parts (fits strict expression (sequence (a ▸ (q ▸ qs)))) (fits strict (statement nested) w && true) r in
+      let (x, y) = of_sequence a q qs f in
+      (x, just d (for_in l (of_parts q qs) w) (both (fits strict (one (a_loop_left true)) l) (fits strict expression (of_parts q qs) && (fits strict (statement nested) w && true)) b (both (fits strict expression (of_parts q qs)) (fits strict (statement nested) w && true) y c)))
+  each_leaves EachOf l w a q qs d e =
+      let (b, r) = and_parts (fits strict (one (a_loop_left false)) l) (fits strict expression (sequence (a ▸ (q ▸ qs))) && (fits strict (statement nested) w && true)) e in
+      let (f, c) = and_parts (fits strict expression (sequence (a ▸ (q ▸ qs)))) (fits strict (statement nested) w && true) r in
+      let (x, y) = of_sequence a q qs f in
+      (x, just d (each_loop EachOf l (of_parts q qs) w) (both (fits strict (one (a_loop_left false)) l) (fits strict expression (of_parts q qs) && (fits strict (statement nested) w && true)) b (both (fits strict expression (of_parts q qs)) (fits strict (statement nested) w && true) y c)))
+
+  -- the first initializer of a declaration is an expression
+  pub first_sequence : (d : Depth) (kind : VariableDeclarationKind) (x : Name) (ds ts : Trees) → Fits (statement d) (declaration kind (declarator (binding x) (sequence ts) ▸ ds)) → Fits expression (sequence ts)
+  first_sequence d kind x ds ts e =
+      let s = sequence ts in
+      let old = declarator (binding x) s ▸ ds in
+      let filled = (and_parts (nat_le 1 (count old)) (fill strict (each (one a_declarator)) old && true) (sym (declaration_anywhere strict d kind old) ∙ e)).1 in
+      let (own, others) = first_fits (one a_declarator) (declarator (binding x) s) ds (left (fill strict (each (one a_declarator)) old) true filled) in
+      present an_expression s refl (left (fits strict (one_or_absent an_expression) s) true (and_parts (fits strict (one a_pattern) (binding x)) (fits strict (one_or_absent an_expression) s && true) own).1)
+
+  first_leaves : (kind : VariableDeclarationKind) (x : Name) (ds : Trees) (a q : Tree) (qs : Trees) (d : Depth) → are_parts q qs ≡ true → Fits (statement d) (declaration kind (declarator (binding x) (sequence (a ▸ (q ▸ qs))) ▸ ds)) → Leaves a (declaration kind (declarator (binding x) (of_parts q qs) ▸ ds) ▸ none) d
+  unfolding Leaves
+  first_leaves kind x ds a q qs d k e =
+      let s = sequence (a ▸ (q ▸ qs)) in
+      let old = declarator (binding x) s ▸ ds in
+      let new = declarator (binding x) (of_parts q qs) ▸ ds in
+      let (some, filled) = and_parts (nat_le 1 (count old)) (fill strict (each (one a_declarator)) old && true) (sym (declaration_anywhere strict d kind old) ∙ e) in
+      let (own, others) = first_fits (one a_declarator) (declarator (binding x) s) ds (left (fill strict (each (one a_declarator)) old) true filled) in
+      let (name, init) = and_parts (fits strict (one a_pattern) (binding x)) (fits strict (one_or_absent an_expression) s && true) own in
+      let (f, y) = of_sequence a q qs (present an_expression s refl (left (fits strict (one_or_absent an_expression) s) true init)) in
+      let value = both (fits strict (one a_pattern) (binding x)) (fits strict (one_or_absent an_expression) (of_parts q qs) && true) name (both (fits strict (one_or_absent an_expression) (of_parts q qs)) true (or_absent an_expression (of_parts q qs) y (parts_there q qs k)) refl) in
+      let all = more_fit (one a_declarator) (declarator (binding x) (of_parts q qs)) ds value others in
+      (f, just d (declaration kind new) (declaration_anywhere strict d kind new ∙ both (nat_le 1 (count new)) (fill strict (each (one a_declarator)) new && true) some (both (fill strict (each (one a_declarator)) new) true all refl)))
+
   begun_leaves : (b : Beginning) (y : Name) (value : Tree) (d : Depth) → begins_well b ≡ true → Fits (statement d) (begun b (assigned y value)) → Leaves (assigned y value) (begun_without b) d
   unfolding Leaves
   begun_leaves Alone y value d k e = (of_expression d (assigned y value) e, refl)
@@ -391,6 +427,8 @@ module _ (strict : Bool) where
       let (x, z) = of_sequence (assigned y value) q qs (of_expression d (sequence (assigned y value ▸ (q ▸ qs))) e) in
       (x, just d (expression_statement (of_parts q qs)) (expression_fits d (of_parts q qs) z))
   begun_leaves (Before (Heading h) q qs) y value d k e = head_leaves h (assigned y value) q qs d k e
+  begun_leaves (Before (Going c l w) q qs) y value d k e = each_leaves c l w (assigned y value) q qs d e
+  begun_leaves (Before (Declaring kind x ds) q qs) y value d k e = first_leaves kind x ds (assigned y value) q qs d k e
 
   pub begun_fit : (kind : VariableDeclarationKind) (ds : Trees) (x y : Name) (es : Trees) (value : Tree) (b : Beginning) → declares_nothing value ≡ true → begins_well b ≡ true → Fitting (declaration kind (append ds (declarator (binding x) absent ▸ es)) ▸ (begun b (assigned y value) ▸ none)) (declaration kind (append ds (declarator (binding x) value ▸ es)) ▸ begun_without b)
   unfolding Leaves

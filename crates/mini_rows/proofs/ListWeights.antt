@@ -23,7 +23,7 @@ use Rattle.mini_laws.specs.Weights.{counts_items}
 use Rattle.mini_laws.proofs.Seats.{is_inner, placed, placed_node, moved}
 use Rattle.mini_node.specs.Walks.{append_none}
 use Rattle.mini_rows.specs.Switches.{Switches}
-use Rattle.mini_rows.specs.Lists.{of_parts, is_one_part_shape, declares_nothing, are_parts, sequence, or_void, return_statement, throw_statement, is_unscoped, Head, Return, Throw, If, Switch, For, with_head, Row66Empty, Row66Joined, Row67, Row67Absent, Row67In, Row68, Row68Free, Row68Init, Row73, Row73Bare, Row76, Row79, SequencesRow, LoopRow, JoinRow, StretchRow, InList, ListRow, ListsLighter, Row74, Row75, Row78, block, alternate_of, bare_return, AtEnd, EndRow, NeighbourRow, Saying, AsStatement, AsReturn, AsThrow, says, Row77, Leap, Breaks, Continues, leap, Row77Leap, left_behind, Row77Unreached, declaration, resolved, binding, declarator, assigned, Holder, Statement, Heading, holding, Beginning, Alone, Init, Before, begun, begun_without, Row70, Each, EachIn, EachOf, each_loop, bare_var, Row69}
+use Rattle.mini_rows.specs.Lists.{of_parts, is_one_part_shape, declares_nothing, are_parts, sequence, or_void, return_statement, throw_statement, is_unscoped, Head, Return, Throw, If, Switch, For, with_head, Row66Empty, Row66Joined, Row67, Row67Absent, Row67In, Row68, Row68Free, Row68Init, Row73, Row73Bare, Row76, Row79, SequencesRow, LoopRow, JoinRow, StretchRow, InList, ListRow, ListsLighter, Row74, Row75, Row78, block, alternate_of, bare_return, AtEnd, EndRow, NeighbourRow, Saying, AsStatement, AsReturn, AsThrow, says, Row77, Leap, Breaks, Continues, leap, Row77Leap, left_behind, Row77Unreached, declaration, resolved, binding, declarator, assigned, Holder, Statement, Heading, holding, Beginning, Alone, Init, Before, begun, begun_without, Row70, Each, EachIn, EachOf, each_loop, bare_var, Row69, Going, Declaring}
 use Rattle.mini_rows.specs.ListLaws.{ListsLighten}
 
 -- the statements of a list, wherever in it they stand
@@ -358,6 +358,30 @@ first_falls b u p q qs =
     let whole = sequence_is b u p (q ▸ qs) in
     omega (arith, left, whole)
 
+commas_there : (ds : Trees) (d c : Tree) (es : Trees) → commas_weight (outlines (append ds (d ▸ es))) ≡ commas_weight (outlines (append ds (c ▸ es)))
+commas_there none d c none = refl
+commas_there none d c (e ▸ es) = refl
+commas_there (t ▸ none) d c es = let rest = commas_there none d c es in omega (arith, rest)
+commas_there (t ▸ (u ▸ ds)) d c es = let rest = commas_there (u ▸ ds) d c es in omega (arith, rest)
+
+at_most : (b : Bool) → (if b then 0 else 2) ≤ 2
+at_most true = omega arith
+at_most false = omega arith
+
+-- and so in the seat of what a `for..of` goes over, or of an initializer, where a sequence has parentheses
+argument_falls : (p q : Tree) (qs : Trees) → weight (Expr argument_seat) (of_parts q qs) + weight (Expr passed_part_seat) p + 2 ≤ weight (Expr argument_seat) (sequence (p ▸ (q ▸ qs)))
+argument_falls p q none =
+    let alone = moved argument_seat passed_part_seat refl q in
+    let whole = sequence_weighs argument_seat p (q ▸ none) in
+    omega (arith, alone, whole)
+argument_falls p q (c ▸ qs) =
+    let left = sequence_weighs argument_seat q (c ▸ qs) in
+    let whole = sequence_weighs argument_seat p (q ▸ (c ▸ qs)) in
+    omega (arith, left, whole)
+
+parts_present : (q : Tree) (qs : Trees) → (if (outline (of_parts q qs)).absent then 0 else 2) ≤ 2
+parts_present q qs = at_most (outline (of_parts q qs)).absent
+
 held_falls : (h : Holder) (p q : Tree) (qs : Trees) → total (holding h (of_parts q qs) ▸ none) + weight (Expr passed_part_seat) p + 2 ≤ total (holding h (sequence (p ▸ (q ▸ qs))) ▸ none)
 held_falls Statement p q qs = let falls = first_falls false true p q qs in omega (arith, falls)
 held_falls (Heading Return) p q qs = let falls = first_falls false false p q qs in omega (arith, falls)
@@ -365,6 +389,12 @@ held_falls (Heading Throw) p q qs = let falls = first_falls false false p q qs i
 held_falls (Heading (If u v)) p q qs = let falls = first_falls true false p q qs in omega (arith, falls)
 held_falls (Heading (Switch cases)) p q qs = let falls = first_falls false false p q qs in omega (arith, falls)
 held_falls (Heading (For u v w)) p q qs = let falls = first_falls false true p q qs in omega (arith, falls)
+held_falls (Going EachIn left body) p q qs = let falls = first_falls false false p q qs in omega (arith, falls)
+held_falls (Going EachOf left body) p q qs = let falls = argument_falls p q qs in omega (arith, falls)
+held_falls (Declaring kind x ds) p q qs =
+    let falls = argument_falls p q qs in
+    let sign = parts_present q qs in
+    omega (arith, falls, sign, commas_there none (declarator (binding x) (of_parts q qs)) (declarator (binding x) (sequence (p ▸ (q ▸ qs)))) ds, comma_list (declarator (binding x) (of_parts q qs) ▸ ds), comma_list (declarator (binding x) (sequence (p ▸ (q ▸ qs))) ▸ ds))
 
 -- an assignment weighs its value, its name and its sign
 assigned_weighs : (x : List ℕ) (k : ℕ) (value : Tree) → weight (Expr passed_part_seat) (assigned (resolved x k) value) ≡ weight (Expr argument_seat) value + 4
@@ -377,16 +407,6 @@ begun_falls (Before h q qs) x k value =
     let falls = held_falls h (assigned (resolved x k) value) q qs in
     let weighs = assigned_weighs x k value in
     omega (arith, falls, weighs)
-
-commas_there : (ds : Trees) (d c : Tree) (es : Trees) → commas_weight (outlines (append ds (d ▸ es))) ≡ commas_weight (outlines (append ds (c ▸ es)))
-commas_there none d c none = refl
-commas_there none d c (e ▸ es) = refl
-commas_there (t ▸ none) d c es = let rest = commas_there none d c es in omega (arith, rest)
-commas_there (t ▸ (u ▸ ds)) d c es = let rest = commas_there (u ▸ ds) d c es in omega (arith, rest)
-
-at_most : (b : Bool) → (if b then 0 else 2) ≤ 2
-at_most true = omega arith
-at_most false = omega arith
 
 value_rises : (x : List ℕ) (k : ℕ) (value : Tree) → weight Elsewhere (declarator (binding (resolved x k)) value) ≤ weight Elsewhere (declarator (binding (resolved x k)) absent) + weight (Expr argument_seat) value + 2
 value_rises x k value = let sign = at_most (outline value).absent in omega (arith, sign)

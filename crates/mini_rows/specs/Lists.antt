@@ -477,17 +477,36 @@ abbrev pub are_bare_declarators : Trees → Bool
 are_bare_declarators none = true
 are_bare_declarators (d ▸ ds) = is_bare_declarator d && are_bare_declarators ds
 
--- what holds an expression that is evaluated first: `e;`, or a head
+-- `for (left in right) body` and `for (left of right) body`
+pub data Each : Type 0 where
+  EachIn : Each
+  EachOf : Each
+
+abbrev pub each_loop : Each → Tree → Tree → Tree → Tree
+each_loop EachIn left right body = for_in left right body
+each_loop EachOf left right body = node shape.ForOfStatement [] 0 (left ▸ (right ▸ (body ▸ none)))
+
+-- what holds an expression that is evaluated first: `e;`, a head, what a `for..in` or `for..of` goes over, or the initializer of the
+-- first name of a declaration
 pub data Holder : Type 0 where
   Statement : Holder
   Heading : Head → Holder
+  Going : Each → Tree → Tree → Holder
+  Declaring : VariableDeclarationKind → Name → Trees → Holder
 
 abbrev pub holding : Holder → Tree → Tree
 holding Statement e = expression_statement e
 holding (Heading h) e = with_head h e
+holding (Going k left body) e = each_loop k left e body
+holding (Declaring kind x ds) e = declaration kind (declarator (binding x) e ▸ ds)
+
+-- the head of a loop declares no lexical name, which would be uninitialised there
+abbrev pub holds_well : Holder → Bool
+holds_well (Going k left body) = is_plain_left left
+holds_well _ = true
 
 -- how an assignment begins a statement: it is all of `e;` or of the expression that a `for` begins with, or the first part of a
--- sequence in such a statement or in a head
+-- sequence that stands in such a place
 pub data Beginning : Type 0 where
   Alone : Beginning
   Init : Tree → Tree → Tree → Beginning
@@ -505,10 +524,11 @@ begun_without (Init u v w) = for_loop absent u v w ▸ none
 begun_without (Before h q qs) = holding h (of_parts q qs) ▸ none
 
 abbrev pub begins_well : Beginning → Bool
-begins_well (Before h q qs) = are_parts q qs
+begins_well (Before h q qs) = holds_well h && are_parts q qs
 begins_well _ = true
 
--- 70: `var a, c; a = b;` becomes `var a = b, c;`, and `var a; return a = b, d;` becomes `var a = b; return d;`
+-- 70: `var a, c; a = b;` becomes `var a = b, c;`, `var a; return a = b, d;` becomes `var a = b; return d;`,
+-- `var a; for (c of (a = b, d)) e` becomes `var a = b; for (c of d) e`, and `var a; let c = (a = b, d);` becomes `var a = b; let c = d;`
 pub record Row70 (a b : Trees) : Type 0 where
   pub ds : Trees
   pub spelling : List ℕ
@@ -522,15 +542,6 @@ pub record Row70 (a b : Trees) : Type 0 where
   pub parts : begins_well beginning ≡ true
   pub shape : a ≡ declaration Var (append ds (declarator (binding (resolved spelling symbol)) absent ▸ es)) ▸ (begun beginning (assigned (resolved target symbol) value) ▸ none)
   pub written : b ≡ declaration Var (append ds (declarator (binding (resolved spelling symbol)) value ▸ es)) ▸ begun_without beginning
-
--- `for (left in right) body` and `for (left of right) body`
-pub data Each : Type 0 where
-  EachIn : Each
-  EachOf : Each
-
-abbrev pub each_loop : Each → Tree → Tree → Tree → Tree
-each_loop EachIn left right body = for_in left right body
-each_loop EachOf left right body = node shape.ForOfStatement [] 0 (left ▸ (right ▸ (body ▸ none)))
 
 -- `var x`
 abbrev pub bare_var : Name → Tree

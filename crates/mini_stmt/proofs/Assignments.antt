@@ -1,7 +1,8 @@
 -- 70: an assignment that begins the statement after a `var`.
 use Rattle.std.proofs.Common.{◌≡◌, ℕ, zero, suc, ◌+◌, ◌<◌, ◌≤◌, Bool, true, false, refl, sym, ap, ◌∙◌, subst, inl, inr, ⊎_elim, true≢false, arith}
-use Rattle.std.specs.Prelude.{◌⊎◌, not, ◌&&◌, ◌||◌, if◌then◌else◌, List, [], ◌∷◌, Option, Some, None, nat_eq, Result, Ok, Err, IfOk}
+use Rattle.std.specs.Prelude.{◌⊎◌, is_some as is_there, not, ◌&&◌, ◌||◌, if◌then◌else◌, List, [], ◌∷◌, Option, Some, None, nat_eq, Result, Ok, Err, IfOk}
 use Rattle.std.proofs.lemmas.Bool.{and_parts, eqb-true, eq-eqb}
+use Rattle.mini_model.specs.declared.kind.VariableDeclarationKind.{VariableDeclarationKind}
 use Rattle.mini_model.specs.declared.kind.VariableDeclarationKind.TheVariants.{Var}
 use Rattle.mini_model.specs.declared.memory.OutOfMemory.{OutOfMemory}
 use Rattle.mini_model.specs.declared.name.Name.{Name}
@@ -17,17 +18,17 @@ use Rattle.mini_node.specs.Lends.{with_children}
 use Rattle.mini_node.specs.Kinds.{is_absent_part, is_identifier, is_named_leaf, is_listed, is_sequence, is_expression_statement, same_symbol, same_names}
 use Rattle.mini_node.specs.Made.{listed_is, absent_is, sequence_is, expression_statement_is, identifier_is}
 use Rattle.mini_node.specs.Walks.{from_first, next_child, no_rest, append_one, append_none}
-use Rattle.mini_rows.specs.Lists.{of_parts, are_parts, sequence, for_loop, declaration, declares_nothing, resolved, binding, declarator, assigned, is_declarator_shape, is_bare_declarator, are_bare_declarators, Head, Return, Throw, If, Switch, For, with_head, Holder, Statement, Heading, holding, Beginning, Alone, Init, Before, begun, begun_without, begins_well, Row70, Each, EachIn, EachOf, each_loop, bare_var, Row69, EntersRow, InList}
+use Rattle.mini_rows.specs.Lists.{of_parts, are_parts, sequence, for_loop, declaration, declares_nothing, resolved, binding, declarator, assigned, is_declarator_shape, is_bare_declarator, are_bare_declarators, Head, Return, Throw, If, Switch, For, with_head, Holder, Statement, Heading, Going, Declaring, holding, holds_well, is_plain_left, Beginning, Alone, Init, Before, begun, begun_without, begins_well, Row70, Each, EachIn, EachOf, each_loop, bare_var, Row69, EntersRow, InList}
 use Rattle.mini_stmt.specs.JoinHeads.{is_for, is_for_in, has_head}
-use Rattle.mini_stmt.specs.JoinVars.{declares}
+use Rattle.mini_stmt.specs.JoinVars.{declared_kind, declares}
 use Rattle.mini_stmt.specs.JoinGuards.{last_after, JoinsOthers}
 use Rattle.mini_rows.specs.Switches.{Switches}
 use Rattle.mini_stmt.specs.MinimizeStatements.{Changes, Moves, is_quiet, reversed, StretchRests, MinimizesList}
 use Rattle.mini_stmt.specs.MinimizeStatements as list
 use Rattle.mini_stmt.specs.JoinGuards as guards
-use Rattle.mini_stmt.specs.JoinAssignments.{is_assign_shape, assigns_name, is_binding_shape, declares_bare, takes_name, TakesAt, leaves_parts, holds_sequence, holds_alone, beginning_of, assigns_first, may_enter, enters, EntersAt, other_parts, left_alone, left_of, with_value, Entered, is_for_of, takes_head, declares_one, heads, joins_var, heads_last, enters_first, are_entered, enters_last, EntersLast, PutEntered, AllEntered, Rests, JoinsAssignments}
+use Rattle.mini_stmt.specs.JoinAssignments.{is_led, goes_over, declares_name, begins_with_name, is_kind, declares_first, holds, held, with_first, with_held, is_assign_shape, assigns_name, is_binding_shape, declares_bare, takes_name, TakesAt, leaves_parts, holds_sequence, holds_alone, beginning_of, assigns_first, may_enter, enters, EntersAt, other_parts, left_alone, left_of, with_value, Entered, is_for_of, takes_head, declares_one, heads, joins_var, heads_last, enters_first, are_entered, enters_last, EntersLast, PutEntered, AllEntered, Rests, JoinsAssignments}
 use Rattle.mini_stmt.proofs.Parts.{not_true, below}
-use Rattle.mini_stmt.proofs.Follows.{head_by, for_is, for_in_is, with_other, declares_is}
+use Rattle.mini_stmt.proofs.Follows.{head_by, for_is, for_in_is, with_other, declared_is, declares_is}
 use Rattle.mini_stmt.proofs.Guards.{last_pushed, last_is, apart_rests, all_rest}
 use Rattle.mini_stmt.proofs.Quiet.{quiet_rests}
 use Rattle.mini_stmt.proofs.Stepping.{neighbours_in, steps_on, changes_on}
@@ -124,44 +125,170 @@ pub record Begins (u : Tree) : Type 0 where
   pub left : left_of u ≡ begun_without beginning
 
 -- a statement or a head
-record Held (u : Tree) : Type 0 where
+record Led (u : Tree) : Type 0 where
   holder : Holder
+  well : holds_well holder ≡ true
   is : u ≡ holding holder (part u 0)
   other : (e : Tree) → with_part u 0 e ≡ holding holder e
 
-held_by : (u : Tree) → is_expression_statement u || has_head u ≡ true → Held u
-held_by u h = ⊎_elim
-    (λ e. let is = expression_statement_is u e in record { holder = Statement; is = is; other = λ x. ap (λ v. with_part v 0 x) is })
-    (λ e. let headed = head_by u e in record { holder = Heading headed.head; is = headed.is; other = λ x. with_other u headed.head (part u 0) x headed.is })
+led_by : (u : Tree) → is_led u ≡ true → Led u
+led_by u h = ⊎_elim
+    (λ e. let is = expression_statement_is u e in record { holder = Statement; well = refl; is = is; other = λ x. ap (λ v. with_part v 0 x) is })
+    (λ e. let headed = head_by u e in record { holder = Heading headed.head; well = refl; is = headed.is; other = λ x. with_other u headed.head (part u 0) x headed.is })
     (or_cases (is_expression_statement u) (has_head u) h)
 
+-- a loop by its parts
+record Loops (u : Tree) : Type 0 where
+  each : Each
+  is : u ≡ each_loop each (part u 0) (part u 1) (part u 2)
+  other : (e : Tree) → with_part u 1 e ≡ each_loop each (part u 0) e (part u 2)
+  plain : is_plain_left (part u 0) ≡ true
+
+for_of_is : (t : Tree) → is_for_of t ≡ true → t ≡ each_loop EachOf (part t 0) (part t 1) (part t 2)
+for_of_is (node shape.ForOfStatement [] zero (a ▸ (b ▸ (c ▸ none)))) e = refl
+for_of_is t e = absurd (cc e)
+
+loops_by : (u : Tree) → goes_over u ≡ true → Loops u
+loops_by u h =
+    let (loop, plain) = and_parts (is_for_in u || is_for_of u) (is_plain_left (part u 0)) h in
+    ⊎_elim (λ e. let is = for_in_is u e in record { each = EachIn; is = is; other = λ x. ap (λ v. with_part v 1 x) is; plain = plain })
+    (λ e. let is = for_of_is u e in record { each = EachOf; is = is; other = λ x. ap (λ v. with_part v 1 x) is; plain = plain }) (or_cases (is_for_in u) (is_for_of u) loop)
+
+-- a declaration by its first declarator
+record Starts (u : Tree) : Type 0 where
+  kind : VariableDeclarationKind
+  name : Name
+  others : Trees
+  is : u ≡ declaration kind (declarator (binding name) (part (part (part u 0) 0) 1) ▸ others)
+
+named_is : (d : Tree) → declares_name d ≡ true → (x : Name) × (d ≡ declarator (binding x) (part d 1))
+named_is d e =
+    let id = part d 0 in
+    let named = is_binding_shape (shape_of id) && is_named_leaf id in
+    let (a, r) = and_parts (is_declarator_shape (shape_of d)) (is_bare d 2 && named) e in
+    let (b, c) = and_parts (is_bare d 2) named r in
+    let (x, is) = binding_is id c in
+    (x, declarator_is d (both (is_declarator_shape (shape_of d)) (is_bare d 2) a b) ∙ ap (λ t. declarator t (part d 1)) is)
+
+starts_by : (u : Tree) → declares_first u ≡ true → Starts u
+starts_by u h =
+    let (declared, named) = and_parts (is_kind (declared_kind u)) (begins_with_name (children (part u 0))) h in
+    of_kind (declared_kind u) refl declared (children (part u 0)) refl named
+  where
+    of_list : (k : VariableDeclarationKind) → declared_kind u ≡ Some k → (ts : Trees) → children (part u 0) ≡ ts → begins_with_name ts ≡ true → Starts u
+    of_list k f none g e = absurd (true≢false (sym e))
+    of_list k f (d ▸ ds) g e =
+        let (x, is) = named_is d e in record {
+          kind = k;
+          name = x;
+          others = ds;
+          is = declared_is u k f ∙ ap (declaration k) (g ∙ ap (λ t. t ▸ ds) is) ∙ ap (λ ts. declaration k (declarator (binding x) (part (child_or_absent ts 0) 1) ▸ ds)) (sym g);
+        }
+
+    of_kind : (o : Option VariableDeclarationKind) → declared_kind u ≡ o → is_kind o ≡ true → (ts : Trees) → children (part u 0) ≡ ts → begins_with_name ts ≡ true → Starts u
+    of_kind (Some k) f j ts g e = of_list k f ts g e
+    of_kind None f j ts g e = absurd (true≢false (sym j))
+
+-- whichever holds an expression
+record Held (u : Tree) : Type 0 where
+  holder : Holder
+  well : holds_well holder ≡ true
+  is : u ≡ holding holder (held u)
+  other : (e : Tree) → with_held u e ≡ holding holder e
+
+held_by : (u : Tree) → holds u ≡ true → Held u
+held_by u h = by (is_led u) (goes_over u) (declares_first u) refl refl refl h
+  where
+    by : (a b c : Bool) → is_led u ≡ a → goes_over u ≡ b → declares_first u ≡ c → a || (b || c) ≡ true → Held u
+    by true b c e f g h =
+        let l = led_by u e in record {
+          holder = l.holder;
+          well = l.well;
+          is = l.is ∙ ap (holding l.holder) (sym (ap (λ c. if c then part u 0 else (if goes_over u then part u 1 else (if declares_first u then part (part (part u 0) 0) 1 else u))) e));
+          other = λ x. ap (λ c. if c then with_part u 0 x else (if goes_over u then with_part u 1 x else with_first u x)) e ∙ l.other x;
+        }
+    by false true c e f g h =
+        let l = loops_by u f in record {
+          holder = Going l.each (part u 0) (part u 2);
+          well = l.plain;
+          is =
+              l.is
+              ∙ ap (λ t. each_loop l.each (part u 0) t (part u 2))
+              (sym (ap (λ c. if c then part u 0 else (if goes_over u then part u 1 else (if declares_first u then part (part (part u 0) 0) 1 else u))) e ∙ ap (λ c. if c then part u 1 else (if declares_first u then part (part (part u 0) 0) 1 else u)) f));
+          other = λ x. ap (λ c. if c then with_part u 0 x else (if goes_over u then with_part u 1 x else with_first u x)) e ∙ ap (λ c. if c then with_part u 1 x else with_first u x) f ∙ l.other x;
+        }
+    by false false true e f g h =
+        let l = starts_by u g in record {
+          holder = Declaring l.kind l.name l.others;
+          well = refl;
+          is =
+              l.is
+              ∙ ap (λ t. declaration l.kind (declarator (binding l.name) t ▸ l.others))
+              (sym (ap (λ c. if c then part u 0 else (if goes_over u then part u 1 else (if declares_first u then part (part (part u 0) 0) 1 else u))) e ∙ ap (λ c. if c then part u 1 else (if declares_first u then part (part (part u 0) 0) 1 else u)) f ∙ ap (λ c. if c then part (part (part u 0) 0) 1 else u) g));
+          other = λ x. ap (λ c. if c then with_part u 0 x else (if goes_over u then with_part u 1 x else with_first u x)) e ∙ ap (λ c. if c then with_part u 1 x else with_first u x) f ∙ ap (λ v. with_first v x) l.is;
+        }
+    by false false false e f g h = absurd (true≢false (sym h))
+
+-- what the calls are given
+pub kind_there : (t : Tree) (o : Option VariableDeclarationKind) → o ≡ declared_kind t → is_there o ≡ true → 0 < count (children t)
+kind_there t (Some k) e f = let is = ap (λ x. count (children x)) (declared_is t k (sym e)) in omega (arith, is)
+kind_there t None e f = absurd (true≢false (sym f))
+
+several_parts : (ts : Trees) → leaves_parts ts ≡ true → 1 < count ts
+several_parts none e = absurd (true≢false (sym e))
+several_parts (a ▸ none) e = absurd (true≢false (sym e))
+several_parts (a ▸ (q ▸ qs)) e = omega arith
+
+sequence_held : (u : Tree) → holds_sequence u ≡ true → 1 < count (children (part (held u) 0))
+sequence_held u e = several_parts (children (part (held u) 0)) (and_parts (is_sequence (held u)) (leaves_parts (children (part (held u) 0))) (and_parts (holds u) (is_sequence (held u) && leaves_parts (children (part (held u) 0))) e).1).1
+
+pub led_parts : (u : Tree) → holds_sequence u ≡ true → is_led u ≡ true → 1 < count (children (part (part u 0) 0))
+led_parts u e l = subst (λ t. 1 < count (children (part t 0))) (ap (λ c. if c then part u 0 else (if goes_over u then part u 1 else (if declares_first u then part (part (part u 0) 0) 1 else u))) l) (sequence_held u e)
+
+pub record FirstHeld (u : Tree) : Type 0 where
+  pub some : 0 < count (children u)
+  pub declarator : 1 < count (children (part (part u 0) 0))
+  pub parts : 1 < count (children (part (part (part (part u 0) 0) 1) 0))
+
+pub first_held : (u : Tree) → holds_sequence u ≡ true → is_led u ≡ false → goes_over u ≡ false → FirstHeld u
+first_held u e l g =
+    let there = (and_parts (holds u) (is_sequence (held u) && leaves_parts (children (part (held u) 0))) e).0 in
+    let starts = sym (ap (λ b. b || (goes_over u || declares_first u)) l ∙ ap (λ b. b || declares_first u) g) ∙ there in
+    let is = (starts_by u starts).is in
+    let here : held u ≡ part (part (part u 0) 0) 1 =
+        ap (λ c. if c then part u 0 else (if goes_over u then part u 1 else (if declares_first u then part (part (part u 0) 0) 1 else u))) l ∙ ap (λ c. if c then part u 1 else (if declares_first u then part (part (part u 0) 0) 1 else u)) g
+        ∙ ap (λ c. if c then part (part (part u 0) 0) 1 else u) starts in
+    let children_is = ap (λ t. count (children t)) is in
+    let declarator_is = ap (λ t. count (children (part (part t 0) 0))) is in
+    record { some = omega (arith, children_is); declarator = omega (arith, declarator_is); parts = subst (λ t. 1 < count (children (part t 0))) here (sequence_held u e) }
+
 -- the parts of its sequence
-several : (u : Tree) (h : Held u) → part u 0 ≡ sequence (children (part (part u 0) 0)) → holds_sequence u ≡ true → (ts : Trees) → children (part (part u 0) 0) ≡ ts → leaves_parts ts ≡ true → Begins u
+several : (u : Tree) (h : Held u) → held u ≡ sequence (children (part (held u) 0)) → holds_sequence u ≡ true → (ts : Trees) → children (part (held u) 0) ≡ ts → leaves_parts ts ≡ true → Begins u
 several u h s b none e f = absurd (true≢false (sym f))
 several u h s b (a ▸ none) e f = absurd (true≢false (sym f))
 several u h s b (a ▸ (q ▸ qs)) e f =
-    let first : beginning_of u ≡ a = ap (λ c. if c then part (part (part u 0) 0) 0 else part u 0) b ∙ ap (λ x. child_or_absent x 0) e in
+    let first : beginning_of u ≡ a = ap (λ c. if c then part (part (held u) 0) 0 else part u 0) b ∙ ap (λ x. child_or_absent x 0) e in
     record {
       beginning = Before h.holder q qs;
-      well = f;
+      well = both (holds_well h.holder) (are_parts q qs) h.well f;
       whole = h.is ∙ ap (holding h.holder) (s ∙ ap sequence e) ∙ ap (λ x. holding h.holder (sequence (x ▸ (q ▸ qs)))) (sym first);
-      left = ap (λ c. if c then with_part u 0 (other_parts (children (part (part u 0) 0))) ▸ none else left_alone u) b ∙ ap (λ x. x ▸ none) (h.other (other_parts (children (part (part u 0) 0))) ∙ ap (λ x. holding h.holder (other_parts x)) e);
+      left = ap (λ c. if c then with_held u (other_parts (children (part (held u) 0))) ▸ none else left_alone u) b ∙ ap (λ x. x ▸ none) (h.other (other_parts (children (part (held u) 0))) ∙ ap (λ x. holding h.holder (other_parts x)) e);
     }
 
 sequence_begins : (u : Tree) → holds_sequence u ≡ true → Begins u
 sequence_begins u e =
-    let (held, r) = and_parts (is_expression_statement u || has_head u) (is_sequence (part u 0) && leaves_parts (children (part (part u 0) 0))) e in
-    let (is, leaves) = and_parts (is_sequence (part u 0)) (leaves_parts (children (part (part u 0) 0))) r in
-    several u (held_by u held) (sequence_is (part u 0) is) e (children (part (part u 0) 0)) refl leaves
+    let (there, r) = and_parts (holds u) (is_sequence (held u) && leaves_parts (children (part (held u) 0))) e in
+    let (is, leaves) = and_parts (is_sequence (held u)) (leaves_parts (children (part (held u) 0))) r in
+    several u (held_by u there) (sequence_is (held u) is) e (children (part (held u) 0)) refl leaves
 
 alone_begins : (u : Tree) → holds_sequence u ≡ false → holds_alone u ≡ true → Begins u
 alone_begins u s h = by (is_expression_statement u) refl h
   where
     first : beginning_of u ≡ part u 0
-    first = ap (λ c. if c then part (part (part u 0) 0) 0 else part u 0) s
+    first = ap (λ c. if c then part (part (held u) 0) 0 else part u 0) s
 
     rest : left_of u ≡ left_alone u
-    rest = ap (λ c. if c then with_part u 0 (other_parts (children (part (part u 0) 0))) ▸ none else left_alone u) s
+    rest = ap (λ c. if c then with_held u (other_parts (children (part (held u) 0))) ▸ none else left_alone u) s
 
     by : (b : Bool) → is_expression_statement u ≡ b → b || is_for u ≡ true → Begins u
     by true e g = record {
@@ -256,19 +383,28 @@ head_first (If u v) e = refl
 head_first (Switch cases) e = refl
 head_first (For u v w) e = refl
 
-holder_has : (h : Holder) (e : Tree) → is_expression_statement (holding h e) || has_head (holding h e) ≡ true
-holder_has Statement e = refl
-holder_has (Heading h) e = ap (λ b. is_expression_statement (with_head h e) || b) (head_has h e) ∙ or_true (is_expression_statement (with_head h e))
+holder_has : (h : Holder) (e : Tree) → holds_well h ≡ true → holds (holding h e) ≡ true
+holder_has Statement e w = refl
+holder_has (Heading h) e w = let u = with_head h e in ap (λ b. (is_expression_statement u || b) || (goes_over u || declares_first u)) (head_has h e) ∙ ap (λ b. b || (goes_over u || declares_first u)) (or_true (is_expression_statement u))
+holder_has (Going EachIn l x) e w = ap (λ b. b || declares_first (each_loop EachIn l e x)) w
+holder_has (Going EachOf l x) e w = ap (λ b. b || declares_first (each_loop EachOf l e x)) w
+holder_has (Declaring k x ds) e w = refl
 
-holder_first : (h : Holder) (e : Tree) → part (holding h e) 0 ≡ e
-holder_first Statement e = refl
-holder_first (Heading h) e = head_first h e
+holder_first : (h : Holder) (e : Tree) → holds_well h ≡ true → held (holding h e) ≡ e
+holder_first Statement e w = refl
+holder_first (Heading h) e w =
+    let u = with_head h e in
+    ap (λ b. if is_expression_statement u || b then part u 0 else (if goes_over u then part u 1 else (if declares_first u then part (part (part u 0) 0) 1 else u))) (head_has h e)
+    ∙ ap (λ b. if b then part u 0 else (if goes_over u then part u 1 else (if declares_first u then part (part (part u 0) 0) 1 else u))) (or_true (is_expression_statement u)) ∙ head_first h e
+holder_first (Going EachIn l x) e w = let u = each_loop EachIn l e x in ap (λ b. if b then e else (if declares_first u then part (part (part u 0) 0) 1 else u)) w
+holder_first (Going EachOf l x) e w = let u = each_loop EachOf l e x in ap (λ b. if b then e else (if declares_first u then part (part (part u 0) 0) 1 else u)) w
+holder_first (Declaring k x ds) e w = refl
 
-holds_tells : (h : Holder) (a q : Tree) (qs : Trees) → are_parts q qs ≡ true → holds_sequence (holding h (sequence (a ▸ (q ▸ qs)))) ≡ true
-holds_tells h a q qs k =
+holds_tells : (h : Holder) (a q : Tree) (qs : Trees) → holds_well h ≡ true → are_parts q qs ≡ true → holds_sequence (holding h (sequence (a ▸ (q ▸ qs)))) ≡ true
+holds_tells h a q qs w k =
     let e = sequence (a ▸ (q ▸ qs)) in
-    ap (λ b. b && (is_sequence (part (holding h e) 0) && leaves_parts (children (part (part (holding h e) 0) 0)))) (holder_has h e)
-    ∙ ap (λ x. is_sequence x && leaves_parts (children (part x 0))) (holder_first h e) ∙ k
+    ap (λ b. b && (is_sequence (held (holding h e)) && leaves_parts (children (part (held (holding h e)) 0)))) (holder_has h e w)
+    ∙ ap (λ x. is_sequence x && leaves_parts (children (part x 0))) (holder_first h e w) ∙ k
 
 -- it is told, and so is what it begins with
 pub record Told (b : Beginning) (a : Tree) : Type 0 where
@@ -280,10 +416,11 @@ told_by Alone x value k = record { holds = refl; first = refl }
 told_by (Init u v w) x value k = record { holds = refl; first = refl }
 told_by (Before h q qs) x value k =
     let e = sequence (assigned x value ▸ (q ▸ qs)) in
-    let told = holds_tells h (assigned x value) q qs k in
+    let (well, parts) = and_parts (holds_well h) (are_parts q qs) k in
+    let told = holds_tells h (assigned x value) q qs well parts in
     record {
       holds = ap (λ b. b || holds_alone (holding h e)) told;
-      first = ap (λ c. if c then part (part (part (holding h e) 0) 0) 0 else part (holding h e) 0) told ∙ ap (λ y. part (part y 0) 0) (holder_first h e);
+      first = ap (λ c. if c then part (part (held (holding h e)) 0) 0 else part (holding h e) 0) told ∙ ap (λ y. part (part y 0) 0) (holder_first h e well);
     }
 
 name_taken : (s t : List ℕ) (k : ℕ) (ds es : Trees) → are_bare_declarators es ≡ true → takes_name (identifier (resolved t k)) (append ds (declarator (binding (resolved s k)) absent ▸ es)) ≡ true
@@ -309,10 +446,6 @@ row_enters a b r =
     }
 
 -- ---- a `var` that goes into the head of a loop
-
-for_of_is : (t : Tree) → is_for_of t ≡ true → t ≡ each_loop EachOf (part t 0) (part t 1) (part t 2)
-for_of_is (node shape.ForOfStatement [] zero (a ▸ (b ▸ (c ▸ none)))) e = refl
-for_of_is t e = absurd (cc e)
 
 -- its one declarator
 one_declarator : (x : Tree) (ds : Trees) → declares_one x ds ≡ true → (d : Tree) × ((ds ≡ d ▸ none) × (declares_bare d x ≡ true))
@@ -568,6 +701,9 @@ holder_smaller (Heading Throw) e d k = omega (arith, k)
 holder_smaller (Heading (If u v)) e d k = omega (arith, k)
 holder_smaller (Heading (Switch cases)) e d k = omega (arith, k)
 holder_smaller (Heading (For u v w)) e d k = omega (arith, k)
+holder_smaller (Going EachIn l w) e d k = omega (arith, k)
+holder_smaller (Going EachOf l w) e d k = omega (arith, k)
+holder_smaller (Declaring kind x ds) e d k = omega (arith, k)
 
 begun_smaller : (b : Beginning) (x : Name) (value : Tree) → node_counts (begun_without b) < node_count (begun b (assigned x value))
 begun_smaller Alone x value = omega arith
@@ -678,6 +814,9 @@ some_part u h = by (begins_by u h)
     held_parts (Heading (If u v)) e = omega arith
     held_parts (Heading (Switch cases)) e = omega arith
     held_parts (Heading (For u v w)) e = omega arith
+    held_parts (Going EachIn l w) e = omega arith
+    held_parts (Going EachOf l w) e = omega arith
+    held_parts (Declaring kind x ds) e = omega arith
 
     begun_parts : (b : Beginning) (a : Tree) → 0 < count (children (begun b a))
     begun_parts Alone a = omega arith

@@ -1,6 +1,7 @@
 -- 70: `var a, c; a = b;` becomes `var a = b, c;`, and so where the assignment begins a sequence or the head of a `for`. 69:
 -- `var a; for (a of b) c` becomes `for (var a of b) c`.
 use Rattle.std.specs.Prelude.{◌≡◌, ◌<◌, ◌+◌, ℕ, suc, Bool, true, false, not, ◌&&◌, ◌||◌, Option, Some, None, if◌then◌else◌}
+use Rattle.mini_model.specs.declared.kind.VariableDeclarationKind.{VariableDeclarationKind}
 use Rattle.mini_model.specs.declared.kind.VariableDeclarationKind.TheVariants.{Var}
 use Rattle.mini_model.specs.declared.operator.AssignmentOperator.TheVariants.{Assign}
 use Rattle.mini_model.specs.declared.place.Position.{Position}
@@ -13,9 +14,9 @@ use Rattle.mini_node.specs.Children.{part, with_part, with_child, is_bare, names
 use Rattle.mini_node.specs.Kinds.{is_absent_part, is_identifier, is_named_leaf, is_sequence, is_expression_statement, same_names}
 use Rattle.mini_tree.specs.Rule as rule
 use Rattle.mini_rows.specs.Switches.{Switches}
-use Rattle.mini_rows.specs.Lists.{of_parts, are_parts, declaration, declares_nothing, is_declarator_shape, are_bare_declarators, Row70, EntersRow, InList, ListContracts}
+use Rattle.mini_rows.specs.Lists.{of_parts, are_parts, declaration, declares_nothing, is_plain_left, is_declarator_shape, are_bare_declarators, Row70, EntersRow, InList, ListContracts}
 use Rattle.mini_stmt.specs.JoinHeads.{is_for, is_for_in, has_head}
-use Rattle.mini_stmt.specs.JoinVars.{declares}
+use Rattle.mini_stmt.specs.JoinVars.{declared_kind, declares}
 use Rattle.mini_stmt.specs.JoinGuards.{last_after}
 use Rattle.mini_stmt.specs.MinimizeStatements.{Changes, reversed}
 
@@ -50,9 +51,62 @@ abbrev pub leaves_parts : Trees → Bool
 leaves_parts (a ▸ (q ▸ qs)) = are_parts q qs
 leaves_parts _ = false
 
--- `a, b;`, or a head with a sequence
+-- `e;`, or a head
+abbrev pub is_led : Tree → Bool
+is_led u = is_expression_statement u || has_head u
+
+abbrev pub is_for_of_shape : Shape → Bool
+is_for_of_shape shape.ForOfStatement = true
+is_for_of_shape _ = false
+
+-- `for (a of b) c`
+abbrev pub is_for_of : Tree → Bool
+is_for_of t = is_for_of_shape (shape_of t) && is_bare t 3
+
+-- a `for..in` or `for..of` whose head declares no lexical name
+abbrev pub goes_over : Tree → Bool
+goes_over u = (is_for_in u || is_for_of u) && is_plain_left (part u 0)
+
+-- a declarator of a name
+abbrev pub declares_name : Tree → Bool
+declares_name d = is_declarator_shape (shape_of d) && (is_bare d 2 && (is_binding_shape (shape_of (part d 0)) && is_named_leaf (part d 0)))
+
+abbrev pub begins_with_name : Trees → Bool
+begins_with_name none = false
+begins_with_name (d ▸ ds) = declares_name d
+
+abbrev pub is_kind : Option VariableDeclarationKind → Bool
+is_kind (Some k) = true
+is_kind None = false
+
+-- a declaration, of a name first
+abbrev pub declares_first : Tree → Bool
+declares_first u = is_kind (declared_kind u) && begins_with_name (children (part u 0))
+
+-- what holds an expression that is evaluated first
+abbrev pub holds : Tree → Bool
+holds u = is_led u || (goes_over u || declares_first u)
+
+-- that expression
+abbrev pub held : Tree → Tree
+held u =
+    if is_led u then part u 0 else (
+    if goes_over u then part u 1 else (
+    if declares_first u then part (part (part u 0) 0) 1 else u))
+
+-- another initializer of the first name
+abbrev pub with_first : Tree → Tree → Tree
+with_first u e = with_part u 0 (with_part (part u 0) 0 (with_part (part (part u 0) 0) 1 e))
+
+-- the same with another expression there
+abbrev pub with_held : Tree → Tree → Tree
+with_held u e =
+    if is_led u then with_part u 0 e else (
+    if goes_over u then with_part u 1 e else with_first u e)
+
+-- a sequence is there
 abbrev pub holds_sequence : Tree → Bool
-holds_sequence u = (is_expression_statement u || has_head u) && (is_sequence (part u 0) && leaves_parts (children (part (part u 0) 0)))
+holds_sequence u = holds u && (is_sequence (held u) && leaves_parts (children (part (held u) 0)))
 
 -- `a;`, or a `for`
 abbrev pub holds_alone : Tree → Bool
@@ -60,7 +114,7 @@ holds_alone u = is_expression_statement u || is_for u
 
 -- what the statement begins with
 abbrev pub beginning_of : Tree → Tree
-beginning_of u = if holds_sequence u then part (part (part u 0) 0) 0 else part u 0
+beginning_of u = if holds_sequence u then part (part (held u) 0) 0 else part u 0
 
 -- it begins with an assignment, which leaves a statement, or nothing
 abbrev pub assigns_first : Tree → Bool
@@ -90,7 +144,7 @@ left_alone u = if is_expression_statement u then none else with_part u 0 absent 
 
 -- what is left of the statement
 abbrev pub left_of : Tree → Trees
-left_of u = if holds_sequence u then with_part u 0 (other_parts (children (part (part u 0) 0))) ▸ none else left_alone u
+left_of u = if holds_sequence u then with_held u (other_parts (children (part (held u) 0))) ▸ none else left_alone u
 
 -- the `var` with a value
 abbrev pub with_value : Tree → ℕ → Tree → Tree
@@ -99,14 +153,6 @@ with_value t i v = declaration Var (with_child (children (part t 0)) i (with_par
 -- the two statements, and what is written for both
 abbrev pub Entered : Tree → Tree → Tree → Trees → Type 0
 Entered t u made left = Row70 (t ▸ (u ▸ none)) (made ▸ left)
-
--- `for (a of b) c`
-abbrev pub is_for_of_shape : Shape → Bool
-is_for_of_shape shape.ForOfStatement = true
-is_for_of_shape _ = false
-
-abbrev pub is_for_of : Tree → Bool
-is_for_of t = is_for_of_shape (shape_of t) && is_bare t 3
 
 -- a loop that takes a `var` into its head: with `in` where sequences are made
 abbrev pub takes_head : Switches → Tree → Bool

@@ -1,18 +1,21 @@
 //! 70: `var a, c; a = b;` becomes `var a = b, c;`, and `var a; return a = b, c;` becomes `var a = b; return c;`. 69:
 //! `var a; for (a of b) c` becomes `for (var a of b) c`.
 
-ghost use Rattle.std.specs.Prelude.{◌≡◌, ◌<◌, true, false, Some, IfOk};
+ghost use Rattle.std.specs.Prelude.{◌≡◌, ◌<◌, ◌&&◌, ◌||◌, true, false, Some, IfOk};
 ghost use Rattle.mini_model.specs.Tree.{Trees, none, ◌▸◌, child_or_absent, children, count};
 ghost use Rattle.mini_node.specs.Children.{part, with_part, rest_children, without};
 ghost use Rattle.mini_rows.specs.Lists as list;
+ghost use Rattle.mini_node.specs.Kinds.{is_sequence as is_it_sequence};
 ghost use Rattle.mini_stmt.specs.JoinAssignments as row;
+ghost use Rattle.mini_stmt.specs.JoinHeads.{is_for_in as is_it_for_in};
+ghost use Rattle.mini_stmt.specs.JoinVars.{declared_kind as kind_of};
 ghost use Rattle.mini_stmt.specs.MinimizeStatements.{switches_of};
 ghost use Rattle.mini_stmt.specs.JoinAssignments.{AllEntered, Entered, EntersAt, EntersLast, JoinsAssignments, PutEntered, TakesAt};
 
 use crate::rewrites::join_heads::{
-    has_head, is_for, is_for_in, lacks_initializer, over_child, take_child,
+    has_head, is_for, is_for_in, is_plain_left, lacks_initializer, over_child, take_child,
 };
-use crate::rewrites::join_vars::declares;
+use crate::rewrites::join_vars::{declared_kind, declares};
 use crate::statements::{put_reversed, take_last};
 use crate::terms::{declares_nothing, is_one_part};
 use mini_model::{AssignmentOperator, OutOfMemory, Shape, VariableDeclarationKind};
@@ -82,16 +85,117 @@ fn leaves_parts(parts: &Nodes) -> bool
     parts.len() > 1 && (parts.len() > 2 || is_one_part(parts.child(1)))
 }
 
-// `a, b;`, or a head with a sequence
+// `e;`, or a head
+fn is_led(node: &Node) -> bool
+    ensures kind { result ≡ row.is_led node.now }
+    ensures parts { result ≡ true → 0 < count (children node.now) }
+{
+    is_expression_statement(node) || has_head(node)
+}
+
+// `for (a of b) c`
+fn is_for_of(node: &Node) -> bool
+    ensures kind { result ≡ row.is_for_of node.now }
+    ensures parts { result ≡ true → count (children node.now) ≡ 3 }
+{
+    matches!(node.shape(), Shape::ForOfStatement) && node.is_bare(3)
+}
+
+// A `for..in` or `for..of`.
+fn is_loop(node: &Node) -> bool
+    ensures kind { result ≡ (is_it_for_in node.now || row.is_for_of node.now) }
+    ensures parts { result ≡ true → count (children node.now) ≡ 3 }
+{
+    is_for_in(node) || is_for_of(node)
+}
+
+// A `for..in` or `for..of` whose head declares no lexical name.
+fn goes_over(node: &Node) -> bool
+    ensures kind { result ≡ row.goes_over node.now }
+    ensures parts { result ≡ true → count (children node.now) ≡ 3 }
+{
+    is_loop(node) && is_plain_left(node.child(0))
+}
+
+// A declarator of a name.
+fn declares_name(declarator: &Node) -> bool
+    ensures kind { result ≡ row.declares_name declarator.now }
+    ensures parts { result ≡ true → count (children declarator.now) ≡ 2 }
+{
+    matches!(declarator.shape(), Shape::VariableDeclarator)
+        && declarator.is_bare(2)
+        && matches!(declarator.child(0).shape(), Shape::BindingIdentifier)
+        && declarator.child(0).is_named_leaf()
+}
+
+// Whether the first declarator is of a name.
+fn begins_with_name(list: &Nodes) -> bool
+    ensures kind { result ≡ row.begins_with_name list.now }
+    ensures some { result ≡ true → 0 < count list.now }
+    ensures parts { result ≡ true → count (children (child_or_absent list.now 0)) ≡ 2 }
+{
+    list.len() > 0 && declares_name(list.child(0))
+}
+
+// A declaration.
+fn is_declaration(node: &Node) -> bool
+    ensures kind { result ≡ row.is_kind (kind_of node.now) }
+    ensures parts { result ≡ true → 0 < count (children node.now) }
+{
+    declared_kind(node).is_some()
+}
+
+// A declaration, of a name first.
+fn declares_first(node: &Node) -> bool
+    ensures kind { result ≡ row.declares_first node.now }
+    ensures parts { result ≡ true → 0 < count (children node.now) }
+    ensures list { result ≡ true → 0 < count (children (part node.now 0)) }
+    ensures declarator { result ≡ true → count (children (part (part node.now 0) 0)) ≡ 2 }
+{
+    is_declaration(node) && begins_with_name(node.child(0).children())
+}
+
+// What holds an expression that is evaluated first.
+fn holds(node: &Node) -> bool
+    ensures kind { result ≡ row.holds node.now }
+    ensures parts { result ≡ true → 0 < count (children node.now) }
+{
+    is_led(node) || goes_over(node) || declares_first(node)
+}
+
+// That expression.
+fn held(node: &Node) -> &Node
+    ensures { result.now ≡ row.held node.now }
+{
+    if is_led(node) {
+        return node.child(0);
+    }
+    if goes_over(node) {
+        return node.child(1);
+    }
+    if declares_first(node) {
+        return node.child(0).child(0).child(1);
+    }
+    node
+}
+
+// Whether an expression is a sequence, of which the others may stand without the first.
+fn is_apart(node: &Node) -> bool
+    ensures kind { result ≡ (is_it_sequence node.now && row.leaves_parts (children (part node.now 0))) }
+    ensures list { result ≡ true → 0 < count (children node.now) }
+    ensures parts { result ≡ true → 1 < count (children (part node.now 0)) }
+{
+    is_sequence(node) && leaves_parts(node.child(0).children())
+}
+
+// Whether a sequence is there.
 fn holds_sequence(node: &Node) -> bool
     ensures kind { result ≡ row.holds_sequence node.now }
     ensures first { result ≡ true → 0 < count (children node.now) }
-    ensures list { result ≡ true → 0 < count (children (part node.now 0)) }
-    ensures parts { result ≡ true → 1 < count (children (part (part node.now 0) 0)) }
+    ensures list { result ≡ true → 0 < count (children (row.held node.now)) }
+    ensures parts { result ≡ true → 1 < count (children (part (row.held node.now) 0)) }
 {
-    (is_expression_statement(node) || has_head(node))
-        && is_sequence(node.child(0))
-        && leaves_parts(node.child(0).child(0).children())
+    holds(node) && is_apart(held(node))
 }
 
 // `a;`, or a `for`
@@ -108,7 +212,7 @@ pub fn beginning_of(node: &Node) -> &Node
     ensures { result.now ≡ row.beginning_of node.now }
 {
     if holds_sequence(node) {
-        return node.child(0).child(0).child(0);
+        return held(node).child(0).child(0);
     }
     node.child(0)
 }
@@ -159,18 +263,72 @@ fn value_of(assignment: Node) -> Node
     value
 }
 
-// `b`, and `c;`, of `a = b, c;`
-#[tactic(auto, using(crate::proofs::Parts::same_parts, crate::proofs::Parts::part_twice, crate::proofs::Assignments::others_are, crate::proofs::Assignments::count_others))]
-fn leave_sequence(alloc: Global, mut next: Node) -> Result<(Node, Nodes), OutOfMemory>
-    requires first { 0 < count (children next) }
-    requires parts { 1 < count (children (part (part next 0) 0)) }
-    ensures value { IfOk result (λ made. made.0 ≡ part (part (part (part next 0) 0) 0) 1) }
-    ensures left { IfOk result (λ made. made.1 ≡ with_part next 0 (row.other_parts (children (part (part next 0) 0))) ▸ none) }
+// `b`, and `c`, of `(a = b, c)`
+#[tactic(auto, using(crate::proofs::Assignments::others_are, crate::proofs::Assignments::count_others))]
+fn split(alloc: Global, sequence: Node) -> Result<(Node, Node), OutOfMemory>
+    requires { 1 < count (children (part sequence 0)) }
+    ensures value { IfOk result (λ made. made.0 ≡ part (part (part sequence 0) 0) 1) }
+    ensures rest { IfOk result (λ made. made.1 ≡ row.other_parts (children (part sequence 0))) }
 {
-    let mut parts = one(take_child(&mut next, 0)).into_children();
+    let mut parts = one(sequence).into_children();
     let value = value_of(parts.remove(0));
     let rest = of_parts(alloc, parts)?;
-    let left = of_one(alloc, over_child(next, 0, rest))?;
+    Ok((value, rest))
+}
+
+// The same of a sequence that is a child.
+#[tactic(auto, using(crate::proofs::Parts::same_parts, crate::proofs::Parts::part_twice))]
+fn leave_child(alloc: Global, mut next: Node, at: usize) -> Result<(Node, Node), OutOfMemory>
+    requires within { at < count (children next) }
+    requires parts { 1 < count (children (part (part next at) 0)) }
+    ensures value { IfOk result (λ made. made.0 ≡ part (part (part (part next at) 0) 0) 1) }
+    ensures left { IfOk result (λ made. made.1 ≡ with_part next at (row.other_parts (children (part (part next at) 0)))) }
+{
+    let sequence = take_child(&mut next, at);
+    let (value, rest) = split(alloc, sequence)?;
+    Ok((value, over_child(next, at, rest)))
+}
+
+// The same of the first initializer of a declaration.
+#[tactic(auto, using(crate::proofs::Parts::same_parts, crate::proofs::Parts::part_twice))]
+fn leave_first(alloc: Global, mut next: Node) -> Result<(Node, Node), OutOfMemory>
+    requires some { 0 < count (children next) }
+    requires list { 0 < count (children (part next 0)) }
+    requires declarator { 1 < count (children (part (part next 0) 0)) }
+    requires parts { 1 < count (children (part (part (part (part next 0) 0) 1) 0)) }
+    ensures value { IfOk result (λ made. made.0 ≡ part (part (part (part (part (part next 0) 0) 1) 0) 0) 1) }
+    ensures left { IfOk result (λ made. made.1 ≡ row.with_first next (row.other_parts (children (part (part (part (part next 0) 0) 1) 0)))) }
+{
+    let mut list = take_child(&mut next, 0);
+    let declarator = take_child(&mut list, 0);
+    let (value, given) = leave_child(alloc, declarator, 1)?;
+    let others = over_child(list, 0, given);
+    Ok((value, over_child(next, 0, others)))
+}
+
+// The same of the sequence that a statement holds.
+fn leave_held(alloc: Global, next: Node) -> Result<(Node, Node), OutOfMemory>
+    requires { row.holds_sequence next ≡ true }
+    ensures value { IfOk result (λ made. made.0 ≡ part (part (part (row.held next) 0) 0) 1) }
+    ensures left { IfOk result (λ made. made.1 ≡ row.with_held next (row.other_parts (children (part (row.held next) 0)))) }
+{
+    if is_led(&next) {
+        return leave_child(alloc, next, 0);
+    }
+    if goes_over(&next) {
+        return leave_child(alloc, next, 1);
+    }
+    leave_first(alloc, next)
+}
+
+// `b`, and `c;`, of `a = b, c;`
+fn leave_sequence(alloc: Global, next: Node) -> Result<(Node, Nodes), OutOfMemory>
+    requires { row.holds_sequence next ≡ true }
+    ensures value { IfOk result (λ made. made.0 ≡ part (part (part (row.held next) 0) 0) 1) }
+    ensures left { IfOk result (λ made. made.1 ≡ row.with_held next (row.other_parts (children (part (row.held next) 0))) ▸ none) }
+{
+    let (value, rest) = leave_held(alloc, next)?;
+    let left = of_one(alloc, rest)?;
     Ok((value, left))
 }
 
@@ -233,14 +391,6 @@ fn enter(alloc: Global, first: Node, next: Node, at: usize) -> Result<(Node, Nod
     let (value, left) = leave(alloc, next)?;
     let declared = with_value(alloc, first, at, value)?;
     Ok((declared, left))
-}
-
-// `for (a of b) c`
-fn is_for_of(node: &Node) -> bool
-    ensures kind { result ≡ row.is_for_of node.now }
-    ensures parts { result ≡ true → count (children node.now) ≡ 3 }
-{
-    matches!(node.shape(), Shape::ForOfStatement) && node.is_bare(3)
 }
 
 // Whether the loop takes a `var` into its head.

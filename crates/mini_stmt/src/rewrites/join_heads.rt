@@ -62,8 +62,8 @@ fn is_bare_var(node: &Node) -> bool
         && are_bare(node.child(0))
 }
 
-// Whether the left side of a `for..in` declares no lexical name and has no initializer.
-fn is_plain_left(node: &Node) -> bool
+/// Whether the left side of a `for..in` or `for..of` declares no lexical name and has no initializer.
+pub fn is_plain_left(node: &Node) -> bool
     ensures { result ≡ list.is_plain_left node.now }
 {
     declares_nothing(node) || is_bare_var(node)
