@@ -44,7 +44,7 @@ use Rattle.mini_rows.proofs.ArrangedBodies.{quiet, HasBodies, bodies_local, HasF
 use Rattle.mini_rows.proofs.ArrangedFolds.{port}
 use Rattle.mini_rows.proofs.ArrangedGather.{concat}
 use Rattle.mini_rows.proofs.ArrangedValues.{Valued}
-use Rattle.mini_rows.proofs.ListKeptBegun.{stricter_alone}
+use Rattle.mini_rows.proofs.ListKeptValues.{stricter_alone}
 use Rattle.mini_rows.proofs.ListKeptDeclarations.{over, is_var, declares_as, names_if, names_are, body_are, declarations_are, scoped_up as var_scoped_up, symbols_are, inner_is, numbers_are, declared_are, frames_are, bodies_are, once_is, jumps_are}
 use Rattle.mini_rows.proofs.ListKeptStretch.{of_all, sum_items, NamesStretched, Stretched, stretch_kept}
 use Rattle.mini_rows.proofs.UnreachedNames.{nameless_vanishes, hoisted_there}
