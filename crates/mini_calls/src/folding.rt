@@ -10,7 +10,7 @@ ghost use Rattle.mini_fold.specs.FoldStaticMember.{written as written_of_fold_st
 ghost use Rattle.mini_fold.specs.FoldTemplates.{Gives as GivesOfFoldTemplates, PartsRest, Rests as RestsOfFoldTemplates};
 ghost use Rattle.mini_fold.specs.MinimizeBinary.{written as written_of_minimize_binary};
 ghost use Rattle.mini_fold.specs.RemoveIdleHead as row;
-ghost use Rattle.mini_fold.specs.Values.{value, value_in};
+ghost use Rattle.mini_terms.specs.Values.{value, value_in};
 ghost use Rattle.mini_node.specs.Children.{part};
 ghost use Rattle.mini_node.specs.Kinds.{unary_operator as its_unary_operator};
 ghost use Rattle.mini_terms.specs.Calculated as term;

@@ -3,11 +3,8 @@ pub mod IdleHeads
 pub mod Counters
 pub mod ForHeads
 pub mod KnownSides
-pub mod Deep
 pub mod Constants
-pub mod Arithmetic
 pub mod Sequences
 pub mod Operators
 pub mod Operands
-pub mod Mixed
 pub mod Templates

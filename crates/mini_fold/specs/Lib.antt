@@ -3,7 +3,6 @@ pub mod FoldStaticMember
 pub mod RemoveIdleHead
 pub mod DecrementCounter
 pub mod FoldKnown
-pub mod Values
 pub mod FoldConstants
 pub mod FoldSequences
 pub mod FoldOperators

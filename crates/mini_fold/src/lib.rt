@@ -4,13 +4,10 @@
 
 mod exports;
 mod laws;
-mod literals;
-mod numbers;
 mod rewrites;
-mod values;
 
 pub use laws::{constants_are_rows, folds_are_rows};
-pub use literals::{evaluate_value, is_true, operand_value};
+pub use mini_terms::{ConstantValue, evaluate_value, is_true, operand_value, value_to_expr};
 pub use rewrites::decrement_counter::decrement_counter;
 pub use rewrites::fold_constants::{FoldConstants, fold_constant};
 pub use rewrites::fold_known::{
@@ -24,4 +21,3 @@ pub use rewrites::fold_static_member::fold_static_member;
 pub use rewrites::fold_templates::{FoldTemplates, fold_templates, inline_template_literal};
 pub use rewrites::minimize_binary::minimize_binary;
 pub use rewrites::remove_idle_head::{has_idle_head, remove_idle_head};
-pub use values::{ConstantValue, value_to_expr};

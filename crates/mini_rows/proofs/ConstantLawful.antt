@@ -1,6 +1,6 @@
 -- What a row on a constant writes keeps all that a program has to keep.
 use Rattle.std.proofs.Common.{◌≡◌, ℕ, suc, Bool, true, false, List, [], ◌∷◌, Option, Some, None, refl, sym, ap, subst, ◌∙◌, zero, true≢false, ltb-true, arith}
-use Rattle.std.specs.Prelude.{◌&&◌, ◌||◌, ◌++◌, ℤ, pos, negsuc, nat_abs, nat_eq, nat_le, nat_lt, ◌-◌, ◌*◌, ◌/◌, ◌%◌, ◌^◌, ◌≤◌, ◌+ℤ◌, ◌-ℤ◌}
+use Rattle.std.specs.Prelude.{not, ◌&&◌, ◌||◌, ◌++◌, ℤ, pos, negsuc, nat_abs, nat_eq, nat_le, nat_lt, ◌-◌, ◌*◌, ◌/◌, ◌%◌, ◌^◌, ◌≤◌, ◌+ℤ◌, ◌-ℤ◌}
 use Rattle.std.specs.Char.Utf16.{utf16_chars}
 use Rattle.std.proofs.Math.Nat.{div-le_self}
 use Rattle.std.proofs.lemmas.Bool.{and_parts, le-leb}
@@ -8,6 +8,8 @@ use Rattle.mini_model.specs.Numerals.{max_safe_integer}
 use Rattle.mini_model.specs.declared.name.Name.{Name}
 use Rattle.mini_model.specs.declared.operator.BinaryOperator.{BinaryOperator}
 use Rattle.mini_model.specs.declared.operator.BinaryOperator.TheVariants as binary_operator
+use Rattle.mini_model.specs.declared.operator.LogicalOperator.{LogicalOperator}
+use Rattle.mini_model.specs.declared.operator.LogicalOperator.TheVariants.{Or, And, Coalesce}
 use Rattle.mini_model.specs.declared.operator.UnaryOperator.{UnaryOperator}
 use Rattle.mini_model.specs.declared.operator.UnaryOperator.TheVariants as unary_operator
 use Rattle.mini_model.specs.declared.place.Position.{Position}
@@ -15,24 +17,28 @@ use Rattle.mini_model.specs.declared.place.Position.TheVariants.{Expr}
 use Rattle.mini_model.specs.declared.seat.Seat.{Seat}
 use Rattle.mini_model.specs.declared.shape.Shape.{Shape}
 use Rattle.mini_model.specs.declared.shape.Shape.TheVariants as shape
-use Rattle.mini_model.specs.Tree.{Tree, Trees, node, none, ◌▸◌, leaf, is_absent, shape_of, unary}
+use Rattle.mini_model.specs.Tree.{Tree, Trees, node, none, ◌▸◌, leaf, is_absent, shape_of, unary, logical, conditional}
 use Rattle.mini_accept.specs.WellShaped.{Depth, in_module, in_body, nested, refused, Class, a_statement, a_key, a_private_or_key, an_inner_key, an_init, an_arrow_body, an_expression, a_link, an_argument, a_default_export, Slot, one, one_or_absent, is_safe, is_paired, has_names, has_its_number, has_plain_fields, has_its_parts, is_whole, class_of, is_function_body, spelling, has_optional, filling, is_strict_in, fits, fill}
 use Rattle.mini_node.specs.Children.{part}
 use Rattle.mini_node.specs.Kinds.{binary, unary_operator as its_unary_operator}
-use Rattle.mini_laws.specs.Value.{Value, Undefined, Null, Boolean, Number, String, Symbol, Object, choose}
-use Rattle.mini_laws.specs.Conversion.{Made, makes, raises, outside, text_of_boolean, to_text, signed}
+use Rattle.mini_laws.specs.Value.{Value, Undefined, Null, Boolean, Number, String, Symbol, Object, choose, truth, is_nullish}
+use Rattle.mini_laws.specs.Conversion.{Made, makes, raises, outside, both, text_of_boolean, to_text, to_number, signed}
 use Rattle.mini_laws.specs.Conversion as conversion
-use Rattle.mini_laws.specs.Operators.{number, safe_number, differ, is_negative, is_odd, small_exponent, quotient, remainder, power, modulo_32, two_to, signed_32, shifted_right, joined, of_number, type_text}
+use Rattle.mini_laws.specs.Expressions.{first_kind}
+use Rattle.mini_laws.specs.Naming.{kinds}
+use Rattle.mini_laws.specs.Operators.{number, of_numbers, by_numbers, of_primitives, loosely_equal, strictly_equal, is_text_less, safe_number, differ, is_negative, is_odd, small_exponent, quotient, remainder, power, modulo_32, two_to, signed_32, shifted_right, joined, of_number, type_text}
 use Rattle.mini_kept.specs.KeepsFrames.{is_body_slot}
 use Rattle.mini_kept.specs.KeepsNames.{is_rewritten_place}
 use Rattle.mini_kept.specs.KeepsShapes.{AskedAlike, is_default}
 use Rattle.mini_kept.specs.Lawful.{Lawful}
 use Rattle.mini_kept.proofs.Expressions.{refused_here, expression, TakesExpressionIn, TakesExpression, expression_taken}
-use Rattle.mini_terms.specs.Const.{made}
-use Rattle.mini_terms.specs.Calculated.{leaf_value, as_number, over_number, calculated_unary, calculated_numbers, calculated_texts, added, calculated_binary, unary_value, binary_value, operand_depth, operand_value, calculated}
+use Rattle.mini_kept.proofs.Expressions as kept_expressions
+use Rattle.mini_terms.specs.Const.{made, mapped, decided, binary_value, binary_const, logical_const, conditional_const}
+use Rattle.mini_terms.specs.Calculated.{undefined_if, leaf_value, as_number, over_number, calculated_unary, calculated_numbers, unary_value, value_within, operand_depth, operand_value, free_value, calculated}
 use Rattle.mini_terms.specs.Parts.{leaves_nothing}
 use Rattle.mini_terms.specs.Plain.{lit, void_zero}
-use Rattle.mini_terms.proofs.Calculated.{Form, of_unary, of_binary, form, within}
+use Rattle.mini_terms.specs.Kind.{is_undefined_name}
+use Rattle.mini_terms.proofs.Calculated.{Form, of_unary, of_binary, Choice, of_logical, of_conditional, within, Calculated, calculated_is}
 use Rattle.mini_rows.specs.Arranged.{KeptAt, Vanishes}
 use Rattle.mini_rows.specs.Sketches.{Null as NullHead, Number as NumberHead, String as StringHead, Unary, Binary, part as hole, under, end, ◌▹◌, Free}
 use Rattle.mini_rows.specs.Constants.{RowConstant, ConstantRow, ConstantContracts}
@@ -75,9 +81,9 @@ operands_go : (o : BinaryOperator) (a b : Tree) → leaves_nothing (binary o a b
 operands_go o a b e = let (first, rest) = and_parts (leaves_nothing a) (leaves_nothing b && true) e in (vanishes a first, vanishes b (and_parts (leaves_nothing b) true rest).0)
 
 constant_kept : (q : Seat) (n w : Tree) → RowConstant q n w → KeptAt (Expr q) n w
-constant_kept q n w r = go (form operand_value n r.value r.known)
+constant_kept q n w r = go (calculated_is n r.value r.known).made_of
   where
-    go : Form operand_value n r.value → KeptAt (Expr q) n w
+    go : Form true free_value n r.value → KeptAt (Expr q) n w
     go (of_unary o is e) = unary_kept q n w o (part n 0) is (operand_goes o (part n 0) (subst (λ x. leaves_nothing x ≡ true) is r.dropped)) r.value r.literal
     go (of_binary o is e) =
         let (first, second) = operands_go o (part n 0) (part n 1) (subst (λ x. leaves_nothing x ≡ true) is r.dropped) in
@@ -108,15 +114,17 @@ whole c h xs n ts e =
 pub plain_fields : (strict : Bool) (s : Slot) (h : Shape) (xs : List Name) (n : ℕ) (ts : Trees) → fits strict s (node h xs n ts) ≡ true → has_plain_fields h ≡ true
 plain_fields strict s h xs n ts e = whole (class_of s) h xs n ts (and_parts (is_whole (class_of s) h xs n ts) (fill (is_strict_in strict h) (filling strict s h) ts) e).0
 
-leaf_written : (h : Shape) (v : Value) → leaf_value h ≡ Some v → has_plain_fields h ≡ true → is_written v ≡ true
-leaf_written (shape.NumericLiteral m) v e f = subst (λ x. is_written x ≡ true) {x = Number m} {y = v} (cc e) f
-leaf_written (shape.StringLiteral s) v e f = subst (λ x. is_written x ≡ true) {x = String s} {y = v} (cc e) f
-leaf_written (shape.BooleanLiteral b) v e f = subst (λ x. is_written x ≡ true) {x = Boolean b} {y = v} (cc e) refl
-leaf_written shape.NullLiteral v e f = subst (λ x. is_written x ≡ true) {x = Null} {y = v} (cc e) refl
-leaf_written h v e f = nothing e
+undefined_written : (b : Bool) (v : Value) → undefined_if b ≡ Some v → is_written v ≡ true
+undefined_written true v e = subst (λ x. is_written x ≡ true) {x = Undefined} {y = v} (cc e) refl
+undefined_written false v e = nothing e
 
-shape_written : (strict : Bool) (a : Tree) (v : Value) → leaf_value (shape_of a) ≡ Some v → fits strict expression a ≡ true → is_written v ≡ true
-shape_written strict (node h xs n ts) v e f = leaf_written h v e (plain_fields strict expression h xs n ts f)
+leaf_written : (strict : Bool) (t : Tree) (v : Value) → leaf_value t ≡ Some v → fits strict expression t ≡ true → is_written v ≡ true
+leaf_written strict (node shape.Identifier xs n ts) v e f = undefined_written (is_undefined_name (first_kind (kinds xs))) v e
+leaf_written strict (node (shape.NumericLiteral m) xs n ts) v e f = subst (λ x. is_written x ≡ true) {x = Number m} {y = v} (cc e) (plain_fields strict expression (shape.NumericLiteral m) xs n ts f)
+leaf_written strict (node (shape.StringLiteral s) xs n ts) v e f = subst (λ x. is_written x ≡ true) {x = String s} {y = v} (cc e) (plain_fields strict expression (shape.StringLiteral s) xs n ts f)
+leaf_written strict (node (shape.BooleanLiteral b) xs n ts) v e f = subst (λ x. is_written x ≡ true) {x = Boolean b} {y = v} (cc e) refl
+leaf_written strict (node shape.NullLiteral xs n ts) v e f = subst (λ x. is_written x ≡ true) {x = Null} {y = v} (cc e) refl
+leaf_written strict t v e f = nothing e
 
 -- numbers
 
@@ -217,18 +225,6 @@ numbers_written binary_operator.StrictEquality x y v e = written_by _ v e refl
 numbers_written binary_operator.StrictInequality x y v e = written_by _ v e refl
 numbers_written o x y v e = nothing e
 
-texts_written : (o : BinaryOperator) (s t : List ℕ) (v : Value) → calculated_texts o s t ≡ Some v → Written (String s) → Written (String t) → Written v
-texts_written binary_operator.Addition s t v e h k = written_by (String (s ++ t)) v e (is_paired_joined s t h k)
-texts_written binary_operator.LessThan s t v e h k = written_by _ v e refl
-texts_written binary_operator.GreaterThan s t v e h k = written_by _ v e refl
-texts_written binary_operator.LessEqualThan s t v e h k = written_by _ v e refl
-texts_written binary_operator.GreaterEqualThan s t v e h k = written_by _ v e refl
-texts_written binary_operator.Equality s t v e h k = written_by _ v e refl
-texts_written binary_operator.Inequality s t v e h k = written_by _ v e refl
-texts_written binary_operator.StrictEquality s t v e h k = written_by _ v e refl
-texts_written binary_operator.StrictInequality s t v e h k = written_by _ v e refl
-texts_written o s t v e h k = nothing e
-
 boolean_paired : (b : Bool) → is_paired (text_of_boolean b) ≡ true
 unfolding utf16_chars
 boolean_paired true = refl
@@ -255,26 +251,50 @@ joined_written (makes s) outside v e h k = nothing e
 joined_written raises d v e h k = nothing e
 joined_written outside d v e h k = nothing e
 
-added_written : (o : BinaryOperator) (c d : Made (List ℕ)) (v : Value) → added o c d ≡ Some v → Paired c → Paired d → Written v
-added_written binary_operator.Addition c d v e h k = joined_written c d v e h k
-added_written o c d v e h k = nothing e
+-- but for equality
+of_numbers_written : (o : BinaryOperator) (x y : ℤ) (v : Value) → made (of_numbers o x y) ≡ Some v → Written v
+of_numbers_written binary_operator.Equality x y v e = nothing e
+of_numbers_written binary_operator.Inequality x y v e = nothing e
+of_numbers_written binary_operator.StrictEquality x y v e = nothing e
+of_numbers_written binary_operator.StrictInequality x y v e = nothing e
+of_numbers_written o x y v e = numbers_written o x y v e
 
-binary_written : (o : BinaryOperator) (x y v : Value) → calculated_binary o x y ≡ Some v → Written x → Written y → Written v
-binary_written o (Number x) (Number y) v e h k = numbers_written o x y v e
-binary_written o (String s) (String t) v e h k = texts_written o s t v e h k
-binary_written o (String s) Undefined v e h k = added_written o (makes s) (to_text Undefined) v e h (text_paired Undefined k)
-binary_written o (String s) Null v e h k = added_written o (makes s) (to_text Null) v e h (text_paired Null k)
-binary_written o (String s) (Boolean b) v e h k = added_written o (makes s) (to_text (Boolean b)) v e h (text_paired (Boolean b) k)
-binary_written o (String s) (Number n) v e h k = added_written o (makes s) (to_text (Number n)) v e h (text_paired (Number n) k)
-binary_written o (String s) (Symbol n) v e h k = added_written o (makes s) (to_text (Symbol n)) v e h (text_paired (Symbol n) k)
-binary_written o (String s) (Object n f) v e h k = added_written o (makes s) (to_text (Object n f)) v e h (text_paired (Object n f) k)
-binary_written o Undefined (String t) v e h k = added_written o (to_text Undefined) (makes t) v e (text_paired Undefined h) k
-binary_written o Null (String t) v e h k = added_written o (to_text Null) (makes t) v e (text_paired Null h) k
-binary_written o (Boolean b) (String t) v e h k = added_written o (to_text (Boolean b)) (makes t) v e (text_paired (Boolean b) h) k
-binary_written o (Number n) (String t) v e h k = added_written o (to_text (Number n)) (makes t) v e (text_paired (Number n) h) k
-binary_written o (Symbol n) (String t) v e h k = added_written o (to_text (Symbol n)) (makes t) v e (text_paired (Symbol n) h) k
-binary_written o (Object n f) (String t) v e h k = added_written o (to_text (Object n f)) (makes t) v e (text_paired (Object n f) h) k
-binary_written o x y v e h k = nothing e
+both_written : (o : BinaryOperator) (m n : Made ℤ) (v : Value) → made (both m n (of_numbers o)) ≡ Some v → Written v
+both_written o (makes x) (makes y) v e = of_numbers_written o x y v e
+both_written o (makes x) raises v e = nothing e
+both_written o (makes x) outside v e = nothing e
+both_written o raises n v e = nothing e
+both_written o outside n v e = nothing e
+
+by_numbers_written : (o : BinaryOperator) (x y v : Value) → made (by_numbers o x y) ≡ Some v → Written v
+by_numbers_written o x y v e = both_written o (to_number x) (to_number y) v e
+
+mapped_written : (f : Bool → Bool) (m : Option Bool) (v : Value) → mapped f m ≡ Some v → Written v
+mapped_written f (Some b) v e = written_by (Boolean (f b)) v e refl
+mapped_written f None v e = nothing e
+
+added_written : (x y v : Value) → made (of_primitives binary_operator.Addition x y) ≡ Some v → Written x → Written y → Written v
+added_written (String s) y v e h k = joined_written (makes s) (to_text y) v e h (text_paired y k)
+added_written x (String t) v e h k = joined_written (to_text x) (makes t) v e (text_paired x h) k
+added_written x y v e h k = by_numbers_written binary_operator.Addition x y v e
+
+ordered_written : (o : BinaryOperator) (x y v : Value) → made (of_primitives o x y) ≡ Some v → (o ≡ binary_operator.Addition → ⊥) → Written v
+ordered_written binary_operator.Addition x y v e h = absurd (h refl)
+ordered_written binary_operator.LessThan (String s) (String t) v e h = written_by (Boolean (is_text_less s t)) v e refl
+ordered_written binary_operator.GreaterThan (String s) (String t) v e h = written_by (Boolean (is_text_less t s)) v e refl
+ordered_written binary_operator.LessEqualThan (String s) (String t) v e h = written_by (Boolean (not (is_text_less t s))) v e refl
+ordered_written binary_operator.GreaterEqualThan (String s) (String t) v e h = written_by (Boolean (not (is_text_less s t))) v e refl
+ordered_written o x y v e h = by_numbers_written o x y v e
+
+binary_written : (o : BinaryOperator) (x y v : Value) → binary_value o x y ≡ Some v → Written x → Written y → Written v
+binary_written binary_operator.Equality x y v e h k = mapped_written (λ c. c) (loosely_equal x y) v e
+binary_written binary_operator.Inequality x y v e h k = mapped_written not (loosely_equal x y) v e
+binary_written binary_operator.StrictEquality x y v e h k = written_by (Boolean (strictly_equal x y)) v e refl
+binary_written binary_operator.StrictInequality x y v e h k = written_by (Boolean (not (strictly_equal x y))) v e refl
+binary_written binary_operator.In x y v e h k = nothing e
+binary_written binary_operator.Instanceof x y v e h k = nothing e
+binary_written binary_operator.Addition x y v e h k = added_written x y v e h k
+binary_written o x y v e h k = ordered_written o x y v e (λ q. cc)
 
 type_written : (u v : Value) → Some (String (type_text u)) ≡ Some v → Written v
 unfolding utf16_chars
@@ -394,29 +414,70 @@ module _ (strict : Bool) where
   abbrev WrittenOf : Tree → Value → Type 0
   WrittenOf t v = fits strict expression t ≡ true → Written v
 
-  by_operand : (o : UnaryOperator) (v : Value) (c : Option Value) → ((u : Value) → c ≡ Some u → Written u) → unary_value o c ≡ Some v → Written v
-  by_operand o v (Some u) h e = unary_written o u v e
-  by_operand o v None h e = nothing e
+  by_operand : (is_free : Bool) (o : UnaryOperator) (v : Value) (c : Option Value) → unary_value is_free o c ≡ Some v → Written v
+  by_operand true unary_operator.Void v c e = written_by Undefined v e refl
+  by_operand true o v (Some u) e = unary_written o u v e
+  by_operand true o v None e = nothing e
+  by_operand false o v (Some u) e = unary_written o u v e
+  by_operand false o v None e = nothing e
 
-  by_operands : (o : BinaryOperator) (v : Value) (c d : Option Value) → ((u : Value) → c ≡ Some u → Written u) → ((u : Value) → d ≡ Some u → Written u) → binary_value o c d ≡ Some v → Written v
+  abbrev WrittenIn : Option Value → Type 0
+  WrittenIn c = (u : Value) → c ≡ Some u → Written u
+
+  by_operands : (o : BinaryOperator) (v : Value) (c d : Option Value) → WrittenIn c → WrittenIn d → binary_const o c d ≡ Some v → Written v
   by_operands o v (Some x) (Some y) h k e = binary_written o x y v e (h x refl) (k y refl)
   by_operands o v (Some x) None h k e = nothing e
   by_operands o v None d h k e = nothing e
 
+  chosen_of : (b : Bool) (x y : Value) → Written x → Written y → Written (choose b x y)
+  chosen_of true x y h k = h
+  chosen_of false x y h k = k
+
+  decided_of : (o : LogicalOperator) (x y : Value) → Written x → Written y → Written (decided o x y)
+  decided_of And x y h k = chosen_of (truth x) y x k h
+  decided_of Or x y h k = chosen_of (truth x) x y h k
+  decided_of Coalesce x y h k = chosen_of (is_nullish x) y x k h
+
+  by_sides : (o : LogicalOperator) (v : Value) (c d : Option Value) → WrittenIn c → WrittenIn d → logical_const o c d ≡ Some v → Written v
+  by_sides o v (Some x) (Some y) h k e = written_by (decided o x y) v e (decided_of o x y (h x refl) (k y refl))
+  by_sides o v (Some x) None h k e = nothing e
+  by_sides o v None d h k e = nothing e
+
+  by_branches : (v : Value) (a c d : Option Value) → WrittenIn c → WrittenIn d → conditional_const a c d ≡ Some v → Written v
+  by_branches v (Some u) (Some x) (Some y) h k e = written_by (choose (truth u) x y) v e (chosen_of (truth u) x y (h x refl) (k y refl))
+  by_branches v (Some u) (Some x) None h k e = nothing e
+  by_branches v (Some u) None d h k e = nothing e
+  by_branches v None c d h k e = nothing e
+
   -- where an operator stands, and what is written for it
-  operated_at : (s : Slot) (f : Tree → Option Value) → ((a : Tree) (u : Value) → f a ≡ Some u → WrittenOf a u) → (t : Tree) (v : Value) → Form f t v → fits strict s t ≡ true → TakesExpression s × Written v
-  operated_at s f h t v (of_unary o is e) k =
-      let (takes, fit) = unary_at strict o (part t 0) s (subst (λ x. fits strict s x ≡ true) is k) in
-      (takes, by_operand o v (f (part t 0)) (λ u g. h (part t 0) u g fit) e)
-  operated_at s f h t v (of_binary o is e) k =
-      let (takes, (first, second)) = binary_at strict o (part t 0) (part t 1) s (subst (λ x. fits strict s x ≡ true) is k) in
-      (takes, by_operands o v (f (part t 0)) (f (part t 1)) (λ u g. h (part t 0) u g first) (λ u g. h (part t 1) u g second) e)
+  module _ (f : Tree → Option Value) (h : (a : Tree) (u : Value) → f a ≡ Some u → WrittenOf a u) (t : Tree) (v : Value) where
+    operated_at : (s : Slot) (is_free : Bool) → Form is_free f t v → fits strict s t ≡ true → TakesExpression s × Written v
+    operated_at s is_free (of_unary o is e) k =
+        let (takes, fit) = unary_at strict o (part t 0) s (subst (λ x. fits strict s x ≡ true) is k) in
+        (takes, by_operand is_free o v (f (part t 0)) e)
+    operated_at s is_free (of_binary o is e) k =
+        let (takes, (first, second)) = binary_at strict o (part t 0) (part t 1) s (subst (λ x. fits strict s x ≡ true) is k) in
+        (takes, by_operands o v (f (part t 0)) (f (part t 1)) (λ u g. h (part t 0) u g first) (λ u g. h (part t 1) u g second) e)
+
+    logical_fit : (o : LogicalOperator) (a b : Tree) → fits strict expression (logical o a b) ≡ true → (fits strict expression a ≡ true) × (fits strict expression b ≡ true)
+    logical_fit o a b e = two_parts (is_whole an_expression (shape.LogicalExpression o) [] 0 (a ▸ b ▸ none)) (fits strict expression a) (fits strict expression b) e
+
+    chosen_at : Choice f t v → fits strict expression t ≡ true → Written v
+    chosen_at (of_logical o is e) k =
+        let (first, second) = logical_fit o (part t 0) (part t 1) (subst (λ x. fits strict expression x ≡ true) is k) in
+        by_sides o v (f (part t 0)) (f (part t 1)) (λ u g. h (part t 0) u g first) (λ u g. h (part t 1) u g second) e
+    chosen_at (of_conditional is e) k =
+        let (takes, (first, second, third)) = kept_expressions.of_conditional strict expression (part t 0) (part t 1) (part t 2) (subst (λ x. fits strict expression x ≡ true) is k) in
+        by_branches v (f (part t 0)) (f (part t 1)) (f (part t 2)) (λ u g. h (part t 1) u g second) (λ u g. h (part t 2) u g third) e
+
+  value_written : (is_free : Bool) (k : ℕ) (t : Tree) (v : Value) → value_within is_free k t ≡ Some v → WrittenOf t v
+  value_written is_free k t v e = within WrittenOf is_free (leaf_written strict) (λ f h t v r fit. (operated_at f h t v expression is_free r fit).1) (λ f h t v r fit. chosen_at f h t v r fit) k t v e
 
   pub operand_written : (t : Tree) (v : Value) → operand_value t ≡ Some v → WrittenOf t v
-  operand_written t v e = within WrittenOf (shape_written strict) (λ f h t v r k. (operated_at expression f h t v r k).1) operand_depth t v e
+  operand_written t v e = value_written false operand_depth t v e
 
   value_at : (s : Slot) (n : Tree) (v : Value) → calculated n ≡ Some v → fits strict s n ≡ true → TakesExpression s × Written v
-  value_at s n v e = operated_at s operand_value operand_written n v (form operand_value n v e)
+  value_at s n v e = operated_at free_value (λ a u g. value_written true operand_depth a u g) n v s true (calculated_is n v e).made_of
 
 abbrev Fits : Bool → Tree → Type 0
 Fits strict t = fits strict expression t ≡ true
@@ -444,9 +505,9 @@ row_slot p n w r strict s e = absurd r
 -- ---- what a parent asks of them
 
 constant_asked : (q : Seat) (n w : Tree) → RowConstant q n w → AskedAlike (Expr q) n w
-constant_asked q n w r = go (form operand_value n r.value r.known)
+constant_asked q n w r = go (calculated_is n r.value r.known).made_of
   where
-    go : Form operand_value n r.value → AskedAlike (Expr q) n w
+    go : Form true free_value n r.value → AskedAlike (Expr q) n w
     go (of_unary o is e) = record {
       absent = λ e. absurd (true≢false (sym e ∙ ap is_absent is));
       body = λ e. absurd (true≢false (sym e ∙ ap is_function_body is));

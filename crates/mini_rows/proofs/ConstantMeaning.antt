@@ -10,7 +10,7 @@ use Rattle.mini_laws.specs.Rows.{SameAt}
 use Rattle.mini_laws.specs.Rewritten.{MeansSame}
 use Rattle.mini_terms.specs.Calculated.{calculated}
 use Rattle.mini_terms.specs.Reading.{is_plain_part}
-use Rattle.mini_terms.proofs.Calculated.{Constant, calculated_is_constant}
+use Rattle.mini_terms.proofs.Calculated.{calculated_is_constant, calculated_stands, calculated_is_const}
 use Rattle.mini_terms.proofs.Dropping.{known_same}
 use Rattle.mini_terms.proofs.Reading.{same_in_seat}
 use Rattle.mini_rows.specs.Constants.{RowConstant, ConstantRow, ConstantContracts}
@@ -25,8 +25,8 @@ calculated_plain t v e = (calculated_is_constant t v e).plain
 
 constant_same : (s : Seat) (n w : Tree) → RowConstant s n w → SameAt (Expr s) n w
 constant_same s n w r =
-    let is : Constant n r.value = calculated_is_constant n r.value r.known in
-    same_in_seat s n w is.standing (value_of s w r.stays) (known_same n w r.value is.constant is.free r.literal)
+    let (constant, free) = calculated_is_const n r.value r.known in
+    same_in_seat s n w (calculated_stands n r.value r.known) (value_of s w r.stays) (known_same n w r.value constant free r.literal)
 
 row_same : (p : Position) (n w : Tree) → ConstantRow p n w → SameAt p n w
 row_same (Expr s) n w r = constant_same s n w r

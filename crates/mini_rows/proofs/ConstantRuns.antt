@@ -1,34 +1,40 @@
 -- What is calculated does nothing but give its value.
 use Rattle.std.proofs.Common.{◌≡◌, ℕ, ℤ, List, [], Option, Some, None, refl, sym, ap, subst, ◌∙◌}
-use Rattle.std.specs.Prelude.{not, Bool, true, false, pos, ◌++◌}
+use Rattle.std.specs.Prelude.{not, Bool, true, false, pos}
 use Rattle.mini_model.specs.declared.name.Name.{Name}
 use Rattle.mini_model.specs.declared.operator.BinaryOperator.{BinaryOperator}
 use Rattle.mini_model.specs.declared.operator.BinaryOperator.TheVariants as binary_operator
+use Rattle.mini_model.specs.declared.operator.LogicalOperator.{LogicalOperator}
+use Rattle.mini_model.specs.declared.operator.LogicalOperator.TheVariants.{Or, And, Coalesce}
 use Rattle.mini_model.specs.declared.operator.UnaryOperator.{UnaryOperator}
 use Rattle.mini_model.specs.declared.operator.UnaryOperator.TheVariants as unary_operator
 use Rattle.mini_model.specs.declared.shape.Shape.{Shape}
 use Rattle.mini_model.specs.declared.shape.Shape.TheVariants as shape
-use Rattle.mini_model.specs.Tree.{Tree, Trees, node, none, ◌▸◌, shape_of, unary}
+use Rattle.mini_model.specs.Tree.{Tree, Trees, node, none, ◌▸◌, unary, logical, conditional}
 use Rattle.mini_node.specs.Children.{part}
 use Rattle.mini_node.specs.Kinds.{binary}
-use Rattle.mini_laws.specs.Value.{Value, Undefined, Null, Boolean, Number, String, Symbol, Object, choose, truth}
-use Rattle.mini_laws.specs.State.{State, Completion, ok, stop, either, Environment}
-use Rattle.mini_laws.specs.Command.{Naming, Kids, bind, run}
-use Rattle.mini_laws.specs.Conversion.{Made, makes, raises, outside, to_text, is_safe}
+use Rattle.mini_laws.specs.Value.{Value, Undefined, Null, Boolean, Number, String, Symbol, Object, choose, truth, is_nullish}
+use Rattle.mini_laws.specs.State.{State, Hint, Completion, ok, stop, either, Environment}
+use Rattle.mini_laws.specs.Command.{Naming, Command, Kids, ret, bind, run}
+use Rattle.mini_laws.specs.Conversion.{Made, makes, raises, outside, both, to_number, is_safe}
 use Rattle.mini_laws.specs.Demand.{Val, As, OfType}
-use Rattle.mini_laws.specs.Expressions.{operate_by}
-use Rattle.mini_laws.specs.Naming.{naming, summaries}
-use Rattle.mini_laws.specs.Operators.{of_number, of_numbers, of_primitives, type_text}
-use Rattle.mini_laws.specs.Replies.{reply, numeric, of_made}
+use Rattle.mini_laws.specs.Expressions.{first_kind, operate_by}
+use Rattle.mini_laws.specs.Naming.{NameKind, UndefinedName, naming, summaries, kinds}
+use Rattle.mini_laws.specs.Operators.{of_number, of_numbers, by_numbers, of_primitives, loosely_equal, type_text}
+use Rattle.mini_laws.specs.Replies.{reply, numeric, primitive, hint_of, loosely, of_made, of_option}
 use Rattle.mini_laws.specs.Step.{step, means, meaning}
+use Rattle.mini_laws.specs.Truth.{told}
 use Rattle.mini_laws.proofs.Runs.{either_cong, either_eta, either_ok, run_bind}
-use Rattle.mini_terms.specs.Calculated.{leaf_value, as_number, over_number, calculated_unary, calculated_numbers, calculated_texts, added, calculated_binary, unary_value, binary_value, operand_depth, operand_value}
-use Rattle.mini_terms.specs.Const.{made}
+use Rattle.mini_terms.specs.Calculated.{undefined_if, leaf_value, as_number, over_number, calculated_unary, unary_value, operand_depth, operand_value}
+use Rattle.mini_terms.specs.Const.{made, mapped, decided, binary_value, binary_const, logical_const, conditional_const}
+use Rattle.mini_terms.specs.Kind.{is_undefined_name}
 use Rattle.mini_terms.specs.Reading.{stands, by_value}
-use Rattle.mini_terms.proofs.Calculated.{Form, of_unary, of_binary, within}
-use Rattle.mini_terms.proofs.Opened.{negation_opened}
+use Rattle.mini_terms.proofs.Calculated.{Form, of_unary, of_binary, Choice, of_logical, of_conditional, within}
+use Rattle.mini_terms.proofs.Fine.{IsPrimitive}
+use Rattle.mini_terms.proofs.Opened.{negation_opened, and_opened, or_opened, coalesce_opened}
+use Rattle.mini_terms.proofs.Primitive.{leaf_primitive, unary_primitive, binary_primitive, decided_primitive, branch_primitive}
 use Rattle.mini_terms.proofs.Reading.{read_by_value}
-use Rattle.mini_rows.proofs.ChoiceRuns.{value, sides, binary_names, binary_value as binary_opened}
+use Rattle.mini_rows.proofs.ChoiceRuns.{value, sides, binary_names, binary_value as binary_opened, conditional_value}
 
 nothing : {A : Type 0} {a : A} {B : Type 0} → None ≡ Some a → B
 nothing e = cc e
@@ -37,105 +43,144 @@ abbrev value_in : Option Value → Value
 value_in (Some w) = w
 value_in None = Undefined
 
--- ---- what is made of numbers and texts
+-- ---- what operators make of primitive values
 
-module _ (e : Environment) (names : Naming) (K : Kids (λ i. As Val)) (v : Value) where
-  made_done : (m : Made Value) → made m ≡ Some v → (s : State) → run {q = λ i. As Val} e names K (of_made m) s ≡ ok v s
-  made_done (makes x) k s = ap (λ o. ok (value_in o) s) k
-  made_done raises k s = nothing k
-  made_done outside k s = nothing k
+module _ (e : Environment) (names : Naming) (K : Kids (λ i. As Val)) where
+  -- a primitive value is made a number without an event
+  numeric_is : {A : Type 0} (u : Value) → IsPrimitive u → (f : ℤ → Command (λ i. As Val) A) → (s : State) → run {q = λ i. As Val} e names K (bind (numeric u) f) s ≡ run {q = λ i. As Val} e names K (bind (of_made (to_number u)) f) s
+  numeric_is (Symbol n) p f s = absurd p
+  numeric_is (Object n g) p f s = absurd p
+  numeric_is Undefined p f s = refl
+  numeric_is Null p f s = refl
+  numeric_is (Boolean b) p f s = refl
+  numeric_is (Number n) p f s = refl
+  numeric_is (String t) p f s = refl
 
-  -- `+`, `-` and `~` of a number
-  number_done : (o : UnaryOperator) (u : Value) → over_number o (as_number u) ≡ Some v → (s : State) → run {q = λ i. As Val} e names K (bind (numeric u) (λ n. of_made (of_number o n))) s ≡ ok v s
-  number_done o Null k s = made_done (of_number o (pos 0)) k s
-  number_done o (Boolean true) k s = made_done (of_number o (pos 1)) k s
-  number_done o (Boolean false) k s = made_done (of_number o (pos 0)) k s
-  number_done o (Number n) k s = safely (is_safe n) k
-    where
-      safely : (b : Bool) → choose b (made (of_number o n)) None ≡ Some v → run {q = λ i. As Val} e names K (of_made (of_number o n)) s ≡ ok v s
-      safely true k = made_done (of_number o n) k s
-      safely false k = nothing k
-  number_done o u k s = nothing k
+  primitive_is : {A : Type 0} (h : Hint) (u : Value) → IsPrimitive u → (f : Value → Command (λ i. As Val) A) → (s : State) → run {q = λ i. As Val} e names K (bind (primitive h u) f) s ≡ run {q = λ i. As Val} e names K (f u) s
+  primitive_is h (Symbol n) p f s = absurd p
+  primitive_is h (Object n g) p f s = absurd p
+  primitive_is h Undefined p f s = refl
+  primitive_is h Null p f s = refl
+  primitive_is h (Boolean b) p f s = refl
+  primitive_is h (Number n) p f s = refl
+  primitive_is h (String t) p f s = refl
 
-  abbrev Operates : BinaryOperator → Value → Value → Type 0
-  Operates o x y = (s : State) → run {q = λ i. As Val} e names K (operate_by o x y) s ≡ ok v s
+  module _ (v : Value) where
+    made_done : (m : Made Value) → made m ≡ Some v → (s : State) → run {q = λ i. As Val} e names K (of_made m) s ≡ ok v s
+    made_done (makes x) k s = ap (λ o. ok (value_in o) s) k
+    made_done raises k s = nothing k
+    made_done outside k s = nothing k
 
-  numbers_done : (o : BinaryOperator) (x y : ℤ) → calculated_numbers o x y ≡ Some v → Operates o (Number x) (Number y)
-  numbers_done binary_operator.Equality x y k s = ap (λ o. ok (value_in o) s) k
-  numbers_done binary_operator.Inequality x y k s = ap (λ o. ok (value_in o) s) k
-  numbers_done binary_operator.StrictEquality x y k s = ap (λ o. ok (value_in o) s) k
-  numbers_done binary_operator.StrictInequality x y k s = ap (λ o. ok (value_in o) s) k
-  numbers_done binary_operator.In x y k s = nothing k
-  numbers_done binary_operator.Instanceof x y k s = nothing k
-  numbers_done o x y k s = made_done (of_numbers o x y) k s
+    -- `+`, `-` and `~`
+    number_made : (o : UnaryOperator) (m : Made ℤ) → over_number o (made m) ≡ Some v → (s : State) → run {q = λ i. As Val} e names K (bind (of_made m) (λ n. of_made (of_number o n))) s ≡ ok v s
+    number_made o (makes n) k s = safely (is_safe n) k
+      where
+        safely : (b : Bool) → choose b (made (of_number o n)) None ≡ Some v → run {q = λ i. As Val} e names K (of_made (of_number o n)) s ≡ ok v s
+        safely true k = made_done (of_number o n) k s
+        safely false k = nothing k
+    number_made o raises k s = nothing k
+    number_made o outside k s = nothing k
 
-  texts_done : (o : BinaryOperator) (x y : List ℕ) → calculated_texts o x y ≡ Some v → Operates o (String x) (String y)
-  texts_done binary_operator.Addition x y k s = ap (λ o. ok (value_in o) s) k
-  texts_done binary_operator.LessThan x y k s = ap (λ o. ok (value_in o) s) k
-  texts_done binary_operator.GreaterThan x y k s = ap (λ o. ok (value_in o) s) k
-  texts_done binary_operator.LessEqualThan x y k s = ap (λ o. ok (value_in o) s) k
-  texts_done binary_operator.GreaterEqualThan x y k s = ap (λ o. ok (value_in o) s) k
-  texts_done binary_operator.Equality x y k s = ap (λ o. ok (value_in o) s) k
-  texts_done binary_operator.Inequality x y k s = ap (λ o. ok (value_in o) s) k
-  texts_done binary_operator.StrictEquality x y k s = ap (λ o. ok (value_in o) s) k
-  texts_done binary_operator.StrictInequality x y k s = ap (λ o. ok (value_in o) s) k
-  texts_done o x y k s = nothing k
+    number_done : (o : UnaryOperator) (u : Value) → IsPrimitive u → over_number o (as_number u) ≡ Some v → (s : State) → run {q = λ i. As Val} e names K (bind (numeric u) (λ n. of_made (of_number o n))) s ≡ ok v s
+    number_done o u p k s = numeric_is u p (λ n. of_made (of_number o n)) s ∙ number_made o (to_number u) k s
 
-  after_done : (o : BinaryOperator) (x : List ℕ) (u : Value) → added o (makes x) (to_text u) ≡ Some v → Operates o (String x) u
-  after_done binary_operator.Addition x Undefined k s = ap (λ o. ok (value_in o) s) k
-  after_done binary_operator.Addition x Null k s = ap (λ o. ok (value_in o) s) k
-  after_done binary_operator.Addition x (Boolean b) k s = ap (λ o. ok (value_in o) s) k
-  after_done binary_operator.Addition x (Number n) k s = ap (λ o. ok (value_in o) s) k
-  after_done binary_operator.Addition x (String t) k s = ap (λ o. ok (value_in o) s) k
-  after_done binary_operator.Addition x (Symbol n) k s = nothing k
-  after_done binary_operator.Addition x (Object n f) k s = nothing k
-  after_done o x u k s = nothing k
+    abbrev Operates : BinaryOperator → Value → Value → Type 0
+    Operates o x y = (s : State) → run {q = λ i. As Val} e names K (operate_by o x y) s ≡ ok v s
 
-  before_done : (o : BinaryOperator) (u : Value) (x : List ℕ) → added o (to_text u) (makes x) ≡ Some v → Operates o u (String x)
-  before_done binary_operator.Addition Undefined x k s = ap (λ o. ok (value_in o) s) k
-  before_done binary_operator.Addition Null x k s = ap (λ o. ok (value_in o) s) k
-  before_done binary_operator.Addition (Boolean b) x k s = ap (λ o. ok (value_in o) s) k
-  before_done binary_operator.Addition (Number n) x k s = ap (λ o. ok (value_in o) s) k
-  before_done binary_operator.Addition (String t) x k s = ap (λ o. ok (value_in o) s) k
-  before_done binary_operator.Addition (Symbol n) x k s = nothing k
-  before_done binary_operator.Addition (Object n f) x k s = nothing k
-  before_done o u x k s = nothing k
+    -- both are made numbers
+    second_made : (o : BinaryOperator) (m : ℤ) (n : Made ℤ) → made (both (makes m) n (of_numbers o)) ≡ Some v → (s : State) → run {q = λ i. As Val} e names K (bind (of_made n) (λ n. of_made (of_numbers o m n))) s ≡ ok v s
+    second_made o m (makes n) k s = made_done (of_numbers o m n) k s
+    second_made o m raises k s = nothing k
+    second_made o m outside k s = nothing k
 
-  values_done : (o : BinaryOperator) (x y : Value) → calculated_binary o x y ≡ Some v → Operates o x y
-  values_done o (Number x) (Number y) k s = numbers_done o x y k s
-  values_done o (String x) (String y) k s = texts_done o x y k s
-  values_done o (String x) Undefined k s = after_done o x Undefined k s
-  values_done o (String x) Null k s = after_done o x Null k s
-  values_done o (String x) (Boolean b) k s = after_done o x (Boolean b) k s
-  values_done o (String x) (Number n) k s = after_done o x (Number n) k s
-  values_done o (String x) (Symbol n) k s = after_done o x (Symbol n) k s
-  values_done o (String x) (Object n f) k s = after_done o x (Object n f) k s
-  values_done o Undefined (String x) k s = before_done o Undefined x k s
-  values_done o Null (String x) k s = before_done o Null x k s
-  values_done o (Boolean b) (String x) k s = before_done o (Boolean b) x k s
-  values_done o (Number n) (String x) k s = before_done o (Number n) x k s
-  values_done o (Symbol n) (String x) k s = before_done o (Symbol n) x k s
-  values_done o (Object n f) (String x) k s = before_done o (Object n f) x k s
-  values_done o x y k s = nothing k
+    first_made : (o : BinaryOperator) (m : Made ℤ) (y : Value) → IsPrimitive y → made (both m (to_number y) (of_numbers o)) ≡ Some v → (s : State) → run {q = λ i. As Val} e names K (bind (of_made m) (λ m. bind (numeric y) (λ n. of_made (of_numbers o m n)))) s ≡ ok v s
+    first_made o (makes m) y p k s = numeric_is y p (λ n. of_made (of_numbers o m n)) s ∙ second_made o m (to_number y) k s
+    first_made o raises y p k s = nothing k
+    first_made o outside y p k s = nothing k
+
+    numbers_done : (o : BinaryOperator) (x y : Value) → IsPrimitive x → IsPrimitive y → made (by_numbers o x y) ≡ Some v → (s : State) → run {q = λ i. As Val} e names K (bind (numeric x) (λ m. bind (numeric y) (λ n. of_made (of_numbers o m n)))) s ≡ ok v s
+    numbers_done o x y p r k s = numeric_is x p (λ m. bind (numeric y) (λ n. of_made (of_numbers o m n))) s ∙ first_made o (to_number x) y r k s
+
+    -- both are made primitive, which they are
+    primitives_done : (o : BinaryOperator) (x y : Value) → IsPrimitive x → IsPrimitive y → made (of_primitives o x y) ≡ Some v → (s : State) → run {q = λ i. As Val} e names K (bind (primitive (hint_of o) x) (λ x. bind (primitive (hint_of o) y) (λ y. of_made (of_primitives o x y)))) s ≡ ok v s
+    primitives_done o x y p r k s =
+        primitive_is (hint_of o) x p (λ x. bind (primitive (hint_of o) y) (λ y. of_made (of_primitives o x y))) s
+        ∙ primitive_is (hint_of o) y r (λ y. of_made (of_primitives o x y)) s
+        ∙ made_done (of_primitives o x y) k s
+
+    option_done : (f : Bool → Bool) (m : Option Bool) → mapped f m ≡ Some v → (s : State) → run {q = λ i. As Val} e names K (bind (of_option m) (λ c. ret (Boolean (f c)))) s ≡ ok v s
+    option_done f (Some c) k s = ap (λ o. ok (value_in o) s) k
+    option_done f None k s = nothing k
+
+    loosely_done : (f : Bool → Bool) (x y : Value) → IsPrimitive x → IsPrimitive y → mapped f (loosely_equal x y) ≡ Some v → (s : State) → run {q = λ i. As Val} e names K (bind (loosely x y) (λ c. ret (Boolean (f c)))) s ≡ ok v s
+    loosely_done f (Symbol n) y p r k s = absurd p
+    loosely_done f (Object n g) y p r k s = absurd p
+    loosely_done f x (Symbol n) p r k s = absurd r
+    loosely_done f x (Object n g) p r k s = absurd r
+    loosely_done f Undefined y p r k s = ap (λ o. ok (value_in o) s) k
+    loosely_done f Null y p r k s = ap (λ o. ok (value_in o) s) k
+    loosely_done f x Undefined p r k s = ap (λ o. ok (value_in o) s) k
+    loosely_done f x Null p r k s = ap (λ o. ok (value_in o) s) k
+    loosely_done f x y p r k s = option_done f (loosely_equal x y) k s
+
+    values_done : (o : BinaryOperator) (x y : Value) → IsPrimitive x → IsPrimitive y → binary_value o x y ≡ Some v → Operates o x y
+    values_done binary_operator.Equality x y p r k s = loosely_done (λ c. c) x y p r k s
+    values_done binary_operator.Inequality x y p r k s = loosely_done not x y p r k s
+    values_done binary_operator.StrictEquality x y p r k s = ap (λ o. ok (value_in o) s) k
+    values_done binary_operator.StrictInequality x y p r k s = ap (λ o. ok (value_in o) s) k
+    values_done binary_operator.In x y p r k s = nothing k
+    values_done binary_operator.Instanceof x y p r k s = nothing k
+    values_done binary_operator.Addition x y p r k s = primitives_done binary_operator.Addition x y p r k s
+    values_done binary_operator.LessThan x y p r k s = primitives_done binary_operator.LessThan x y p r k s
+    values_done binary_operator.GreaterThan x y p r k s = primitives_done binary_operator.GreaterThan x y p r k s
+    values_done binary_operator.LessEqualThan x y p r k s = primitives_done binary_operator.LessEqualThan x y p r k s
+    values_done binary_operator.GreaterEqualThan x y p r k s = primitives_done binary_operator.GreaterEqualThan x y p r k s
+    values_done o x y p r k s = numbers_done o x y p r k s
 
 -- ---- what operators do with the values of their operands
 
 module _ (e : Environment) where
-  -- what stands alone, and gives this value
+  -- what does nothing but give this value, under `typeof` too
   record Settled (t : Tree) (v : Value) : Type 0 where
-    standing : stands t ≡ true
+    typed : (s : State) → means e t OfType tt s ≡ ok v s
     gives : (s : State) → value e t s ≡ ok v s
+    primitive : IsPrimitive v
 
-  leaf_done : (h : Shape) (xs : List Name) (n : ℕ) (ts : Trees) (v : Value) → leaf_value h ≡ Some v → Settled (node h xs n ts) v
+  standing_type : (t : Tree) (v : Value) → stands t ≡ true → ((s : State) → value e t s ≡ ok v s) → (s : State) → means e t OfType tt s ≡ ok v s
+  unfolding by_value
+  standing_type t v h g s = read_by_value t h e OfType tt s ∙ g s
+
+  stays : (t : Tree) (v : Value) → stands t ≡ true → ((s : State) → value e t s ≡ ok v s) → IsPrimitive v → Settled t v
+  stays t v h g p = record { typed = standing_type t v h g; gives = g; primitive = p }
+
+  -- the name `undefined`
+  module _ (xs : List Name) (n : ℕ) (ts : Trees) (v : Value) (s : State) where
+    name_gives : (k : NameKind) → first_kind (kinds xs) ≡ k → undefined_if (is_undefined_name k) ≡ Some v → value e (node shape.Identifier xs n ts) s ≡ ok v s
+    unfolding means step
+    name_gives UndefinedName h k = rw h (ap (λ o. ok (value_in o) s) k)
+    name_gives j h k = nothing k
+
+    name_typed : (k : NameKind) → first_kind (kinds xs) ≡ k → undefined_if (is_undefined_name k) ≡ Some v → means e (node shape.Identifier xs n ts) OfType tt s ≡ ok v s
+    unfolding means step
+    name_typed UndefinedName h k = rw h (ap (λ o. ok (value_in o) s) k)
+    name_typed j h k = nothing k
+
+  leaf_gives : (h : Shape) (xs : List Name) (n : ℕ) (ts : Trees) (v : Value) → leaf_value (node h xs n ts) ≡ Some v → (s : State) → value e (node h xs n ts) s ≡ ok v s
   unfolding means step
-  leaf_done (shape.NumericLiteral m) xs n ts v k = record { standing = refl; gives = λ s. ap (λ o. ok (value_in o) s) k }
-  leaf_done (shape.StringLiteral t) xs n ts v k = record { standing = refl; gives = λ s. ap (λ o. ok (value_in o) s) k }
-  leaf_done (shape.BooleanLiteral b) xs n ts v k = record { standing = refl; gives = λ s. ap (λ o. ok (value_in o) s) k }
-  leaf_done shape.NullLiteral xs n ts v k = record { standing = refl; gives = λ s. ap (λ o. ok (value_in o) s) k }
-  leaf_done h xs n ts v k = nothing k
+  leaf_gives shape.Identifier xs n ts v k s = name_gives xs n ts v s (first_kind (kinds xs)) refl k
+  leaf_gives (shape.NumericLiteral m) xs n ts v k s = ap (λ o. ok (value_in o) s) k
+  leaf_gives (shape.StringLiteral t) xs n ts v k s = ap (λ o. ok (value_in o) s) k
+  leaf_gives (shape.BooleanLiteral b) xs n ts v k s = ap (λ o. ok (value_in o) s) k
+  leaf_gives shape.NullLiteral xs n ts v k s = ap (λ o. ok (value_in o) s) k
+  leaf_gives h xs n ts v k s = nothing k
 
-  shape_done : (t : Tree) (v : Value) → leaf_value (shape_of t) ≡ Some v → Settled t v
-  shape_done (node h xs n ts) v k = leaf_done h xs n ts v k
+  leaf_done : (t : Tree) (v : Value) → leaf_value t ≡ Some v → Settled t v
+  leaf_done (node shape.Identifier xs n ts) v k = record { typed = λ s. name_typed xs n ts v s (first_kind (kinds xs)) refl k; gives = leaf_gives shape.Identifier xs n ts v k; primitive = leaf_primitive (node shape.Identifier xs n ts) v k }
+  leaf_done (node (shape.NumericLiteral m) xs n ts) v k = stays (node (shape.NumericLiteral m) xs n ts) v refl (leaf_gives (shape.NumericLiteral m) xs n ts v k) (leaf_primitive (node (shape.NumericLiteral m) xs n ts) v k)
+  leaf_done (node (shape.StringLiteral t) xs n ts) v k = stays (node (shape.StringLiteral t) xs n ts) v refl (leaf_gives (shape.StringLiteral t) xs n ts v k) (leaf_primitive (node (shape.StringLiteral t) xs n ts) v k)
+  leaf_done (node (shape.BooleanLiteral b) xs n ts) v k = stays (node (shape.BooleanLiteral b) xs n ts) v refl (leaf_gives (shape.BooleanLiteral b) xs n ts v k) (leaf_primitive (node (shape.BooleanLiteral b) xs n ts) v k)
+  leaf_done (node shape.NullLiteral xs n ts) v k = stays (node shape.NullLiteral xs n ts) v refl (leaf_gives shape.NullLiteral xs n ts v k) (leaf_primitive (node shape.NullLiteral xs n ts) v k)
+  leaf_done t v k = nothing k
 
   module _ (a : Tree) where
     abbrev under : Kids (λ i. As Val)
@@ -151,10 +196,6 @@ module _ (e : Environment) where
     after_type : (u : Value) (s : State) → means e a OfType tt s ≡ ok u s → value e (unary unary_operator.Typeof a) s ≡ ok (String (type_text u)) s
     unfolding means meaning step either
     after_type u s h = ap (λ c. either c (λ v z. ok (String (type_text v)) z) (λ x z. stop x z)) h
-
-    of_type : (u : Value) → Settled a u → (s : State) → means e a OfType tt s ≡ ok u s
-    unfolding by_value
-    of_type u h s = read_by_value a h.standing e OfType tt s ∙ h.gives s
 
     abbrev NumberOpened : UnaryOperator → Type 0
     NumberOpened o = (s : State) → value e (unary o a) s ≡ either (value e a s) (λ v z. run {q = λ i. As Val} e (its_names o) under (bind (numeric v) (λ n. of_made (of_number o n))) z) (λ x z. stop x z)
@@ -176,12 +217,12 @@ module _ (e : Environment) where
         opened s
         ∙ ap (λ c. either c (λ v z. run {q = λ i. As Val} e (its_names o) under (bind (numeric v) (λ n. of_made (of_number o n))) z) (λ x z. stop x z)) (h.gives s)
         ∙ either_ok u s _ _
-        ∙ number_done e (its_names o) under v o u k s
+        ∙ number_done e (its_names o) under v o u h.primitive k s
 
     over_done : (o : UnaryOperator) (u v : Value) → Settled a u → calculated_unary o u ≡ Some v → (s : State) → value e (unary o a) s ≡ ok v s
     over_done unary_operator.Void u v h k s = after_void u s (h.gives s) ∙ ap (λ o. ok (value_in o) s) k
     over_done unary_operator.LogicalNot u v h k s = negation_opened e a s ∙ ap (λ c. either c (λ w z. ok (Boolean (not (truth w))) z) (λ x z. stop x z)) (h.gives s) ∙ either_ok u s _ _ ∙ ap (λ o. ok (value_in o) s) k
-    over_done unary_operator.Typeof u v h k s = after_type u s (of_type u h s) ∙ ap (λ o. ok (value_in o) s) k
+    over_done unary_operator.Typeof u v h k s = after_type u s (h.typed s) ∙ ap (λ o. ok (value_in o) s) k
     over_done unary_operator.UnaryPlus u v h k s = numbered unary_operator.UnaryPlus plus_opened u v h k s
     over_done unary_operator.UnaryNegation u v h k s = numbered unary_operator.UnaryNegation minus_opened u v h k s
     over_done unary_operator.BitwiseNot u v h k s = numbered unary_operator.BitwiseNot inverse_opened u v h k s
@@ -195,28 +236,76 @@ module _ (e : Environment) where
             unsafe false k = k
         undeleted None k = k
 
-    by_operand : (o : UnaryOperator) (v : Value) (c : Option Value) → ((u : Value) → c ≡ Some u → Settled a u) → unary_value o c ≡ Some v → Settled (unary o a) v
-    by_operand o v (Some u) h k = record { standing = refl; gives = over_done o u v (h u refl) k }
+    by_operand : (o : UnaryOperator) (v : Value) (c : Option Value) → ((u : Value) → c ≡ Some u → Settled a u) → unary_value false o c ≡ Some v → Settled (unary o a) v
+    by_operand o v (Some u) h k = stays (unary o a) v refl (over_done o u v (h u refl) k) (unary_primitive o u v k)
     by_operand o v None h k = nothing k
 
   module _ (o : BinaryOperator) (a b : Tree) (v : Value) where
-    two_done : (x y : Value) → Settled a x → Settled b y → calculated_binary o x y ≡ Some v → (s : State) → value e (binary o a b) s ≡ ok v s
+    two_done : (x y : Value) → Settled a x → Settled b y → binary_value o x y ≡ Some v → (s : State) → value e (binary o a b) s ≡ ok v s
     two_done x y h l k s =
         binary_opened e o a b s
         ∙ ap (λ c. either c (λ w z. either (value e b z) (λ u y. run {q = λ i. As Val} e (binary_names o a b) (sides e a b) (operate_by o w u) y) (λ x y. stop x y)) (λ x z. stop x z)) (h.gives s)
         ∙ either_ok x s _ _
         ∙ ap (λ c. either c (λ u z. run {q = λ i. As Val} e (binary_names o a b) (sides e a b) (operate_by o x u) z) (λ x y. stop x y)) (l.gives s)
         ∙ either_ok y s _ _
-        ∙ values_done e (binary_names o a b) (sides e a b) v o x y k s
+        ∙ values_done e (binary_names o a b) (sides e a b) v o x y h.primitive l.primitive k s
 
-    by_operands : (c d : Option Value) → ((u : Value) → c ≡ Some u → Settled a u) → ((u : Value) → d ≡ Some u → Settled b u) → binary_value o c d ≡ Some v → Settled (binary o a b) v
-    by_operands (Some x) (Some y) h l k = record { standing = refl; gives = two_done x y (h x refl) (l y refl) k }
+    by_operands : (c d : Option Value) → ((u : Value) → c ≡ Some u → Settled a u) → ((u : Value) → d ≡ Some u → Settled b u) → binary_const o c d ≡ Some v → Settled (binary o a b) v
+    by_operands (Some x) (Some y) h l k = stays (binary o a b) v refl (two_done x y (h x refl) (l y refl) k) (binary_primitive o x y v k)
     by_operands (Some x) None h l k = nothing k
     by_operands None d h l k = nothing k
 
-  operated : (f : Tree → Option Value) → ((a : Tree) (u : Value) → f a ≡ Some u → Settled a u) → (t : Tree) (v : Value) → Form f t v → Settled t v
-  operated f h t v (of_unary o is k) = subst (λ x. Settled x v) (sym is) (by_operand (part t 0) o v (f (part t 0)) (h (part t 0)) k)
-  operated f h t v (of_binary o is k) = subst (λ x. Settled x v) (sym is) (by_operands o (part t 0) (part t 1) v (f (part t 0)) (f (part t 1)) (h (part t 0)) (h (part t 1)) k)
+  -- ---- choices
+
+  either_way : (c : Bool) (x y : Value) (m n : Completion Value) (s : State) → m ≡ ok x s → n ≡ ok y s → choose c m n ≡ ok (choose c x y) s
+  either_way true x y m n s h k = h
+  either_way false x y m n s h k = k
+
+  told_value : (x : Value) (s : State) → told Val (ok x s) ≡ ok x s
+  unfolding told either
+  told_value x s = refl
+
+  module _ (a b : Tree) (x y : Value) (h : Settled a x) (l : Settled b y) (s : State) where
+    decided_done : (o : LogicalOperator) → value e (logical o a b) s ≡ ok (decided o x y) s
+    decided_done And = and_opened e a b Val s ∙ ap (λ c. either c (λ v z. choose (truth v) (value e b z) (ok v z)) (λ x z. stop x z)) (h.gives s) ∙ either_ok x s _ _ ∙ either_way (truth x) y x (value e b s) (ok x s) s (l.gives s) refl
+    decided_done Or = or_opened e a b Val s ∙ ap (λ c. either c (λ v z. choose (truth v) (ok v z) (value e b z)) (λ x z. stop x z)) (h.gives s) ∙ either_ok x s _ _ ∙ either_way (truth x) x y (ok x s) (value e b s) s refl (l.gives s)
+    decided_done Coalesce = coalesce_opened e a b Val s ∙ ap (λ c. either c (λ v z. choose (is_nullish v) (told Val (value e b z)) (ok v z)) (λ x z. stop x z)) (h.gives s) ∙ either_ok x s _ _ ∙ either_way (is_nullish x) y x (told Val (value e b s)) (ok x s) s (ap (told Val) (l.gives s) ∙ told_value y s) refl
+
+  by_sides : (o : LogicalOperator) (a b : Tree) (v : Value) (c d : Option Value) → ((u : Value) → c ≡ Some u → Settled a u) → ((u : Value) → d ≡ Some u → Settled b u) → logical_const o c d ≡ Some v → Settled (logical o a b) v
+  by_sides o a b v (Some x) (Some y) h l k =
+      let first : Settled a x = h x refl in
+      let second : Settled b y = l y refl in
+      subst (Settled (logical o a b)) {x = decided o x y} {y = v} (cc k) (stays (logical o a b) (decided o x y) refl (λ s. decided_done a b x y first second s o) (decided_primitive o x y first.primitive second.primitive))
+  by_sides o a b v (Some x) None h l k = nothing k
+  by_sides o a b v None d h l k = nothing k
+
+  branch_done : (a b c : Tree) (x y z : Value) → Settled a x → Settled b y → Settled c z → (s : State) → value e (conditional a b c) s ≡ ok (choose (truth x) y z) s
+  branch_done a b c x y z h l m s =
+      conditional_value e a b c s
+      ∙ ap (λ r. either r (λ v z. choose (truth v) (value e b z) (value e c z)) (λ x z. stop x z)) (h.gives s)
+      ∙ either_ok x s _ _
+      ∙ either_way (truth x) y z (value e b s) (value e c s) s (l.gives s) (m.gives s)
+
+  by_branches : (a b c : Tree) (v : Value) (x y z : Option Value) → ((u : Value) → x ≡ Some u → Settled a u) → ((u : Value) → y ≡ Some u → Settled b u) → ((u : Value) → z ≡ Some u → Settled c u) → conditional_const x y z ≡ Some v → Settled (conditional a b c) v
+  by_branches a b c v (Some x) (Some y) (Some z) h l m k =
+      let first : Settled a x = h x refl in
+      let second : Settled b y = l y refl in
+      let third : Settled c z = m z refl in
+      subst (Settled (conditional a b c)) {x = choose (truth x) y z} {y = v} (cc k) (stays (conditional a b c) (choose (truth x) y z) refl (branch_done a b c x y z first second third) (branch_primitive x y z second.primitive third.primitive))
+  by_branches a b c v (Some x) (Some y) None h l m k = nothing k
+  by_branches a b c v (Some x) None z h l m k = nothing k
+  by_branches a b c v None y z h l m k = nothing k
+
+  -- ---- all
+
+  module _ (f : Tree → Option Value) (h : (a : Tree) (u : Value) → f a ≡ Some u → Settled a u) (t : Tree) (v : Value) where
+    operated : Form false f t v → Settled t v
+    operated (of_unary o is k) = subst (λ x. Settled x v) (sym is) (by_operand (part t 0) o v (f (part t 0)) (h (part t 0)) k)
+    operated (of_binary o is k) = subst (λ x. Settled x v) (sym is) (by_operands o (part t 0) (part t 1) v (f (part t 0)) (f (part t 1)) (h (part t 0)) (h (part t 1)) k)
+
+    chosen : Choice f t v → Settled t v
+    chosen (of_logical o is k) = subst (λ x. Settled x v) (sym is) (by_sides o (part t 0) (part t 1) v (f (part t 0)) (f (part t 1)) (h (part t 0)) (h (part t 1)) k)
+    chosen (of_conditional is k) = subst (λ x. Settled x v) (sym is) (by_branches (part t 0) (part t 1) (part t 2) v (f (part t 0)) (f (part t 1)) (f (part t 2)) (h (part t 0)) (h (part t 1)) (h (part t 2)) k)
 
   pub operand_done : (t : Tree) (v : Value) → operand_value t ≡ Some v → (s : State) → value e t s ≡ ok v s
-  operand_done t v k s = (within Settled shape_done operated operand_depth t v k).gives s
+  operand_done t v k s = (within Settled false leaf_done operated chosen operand_depth t v k).gives s

@@ -10,9 +10,9 @@ use Rattle.mini_model.specs.Tree.{Tree, leaf, unary}
 use Rattle.mini_model.specs.Weight.{outline, weight}
 use Rattle.mini_laws.specs.Value.{Value, Undefined, Null, Boolean, Number, String}
 use Rattle.mini_laws.specs.Weights.{Lightens, counts_items}
-use Rattle.mini_terms.specs.Calculated.{operand_value, calculated}
+use Rattle.mini_terms.specs.Calculated.{free_value, calculated}
 use Rattle.mini_terms.specs.Plain.{lit, void_zero}
-use Rattle.mini_terms.proofs.Calculated.{Form, of_unary, of_binary, form}
+use Rattle.mini_terms.proofs.Calculated.{Form, of_unary, of_binary, calculated_is}
 use Rattle.mini_rows.specs.Constants.{RowConstant, ConstantRow, least_gain, ConstantContracts}
 use Rattle.mini_rows.proofs.ConstantMeaning.{nothing, calculated_plain}
 use Rattle.mini_rows.proofs.FoldMeaning.{plain_of}
@@ -40,9 +40,9 @@ lit_zero (String t) w e = inl (subst NoZero {x = leaf (shape.StringLiteral t)} {
 lit_zero v w e = nothing e
 
 calculated_no_zero : (t : Tree) (v : Value) → calculated t ≡ Some v → NoZero t
-calculated_no_zero t v e = go (form operand_value t v e)
+calculated_no_zero t v e = go (calculated_is t v e).made_of
   where
-    go : Form operand_value t v → NoZero t
+    go : Form true free_value t v → NoZero t
     go (of_unary o is e) = ap (λ x. (outline x).is_zero) is
     go (of_binary o is e) = ap (λ x. (outline x).is_zero) is
 

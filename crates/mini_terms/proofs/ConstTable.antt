@@ -61,21 +61,21 @@ made_map P Q f (makes a) p = f a p
 made_map P Q f raises p = tt
 made_map P Q f outside p = tt
 
-number_primitive : (m : Made Value) → Is IsNumber m → MadeIs IsPrimitive m
+pub number_primitive : (m : Made Value) → Is IsNumber m → MadeIs IsPrimitive m
 number_primitive m p = made_map (OfKind IsNumber) IsPrimitive (λ v q. primitive_of IsNumber v refl q) m p
 
-boolean_primitive : (m : Made Value) → Is IsBoolean m → MadeIs IsPrimitive m
+pub boolean_primitive : (m : Made Value) → Is IsBoolean m → MadeIs IsPrimitive m
 boolean_primitive m p = made_map (OfKind IsBoolean) IsPrimitive (λ v q. primitive_of IsBoolean v refl q) m p
 
 string_primitive : (m : Made Value) → Is IsString m → MadeIs IsPrimitive m
 string_primitive m p = made_map (OfKind IsString) IsPrimitive (λ v q. primitive_of IsString v refl q) m p
 
-added_primitive : (x y : Value) → MadeIs IsPrimitive (of_primitives binary.Addition x y)
+pub added_primitive : (x y : Value) → MadeIs IsPrimitive (of_primitives binary.Addition x y)
 added_primitive (String s) y = string_primitive (of_primitives binary.Addition (String s) y) (text_added s y)
 added_primitive x (String t) = string_primitive (of_primitives binary.Addition x (String t)) (added_text x t)
 added_primitive x y = number_primitive (of_primitives binary.Addition x y) (added_number x y tt tt)
 
-related_primitive : (o : BinaryOperator) (x y : Value) → Is IsBoolean (of_primitives o x y) → MadeIs IsPrimitive (of_primitives o x y)
+pub related_primitive : (o : BinaryOperator) (x y : Value) → Is IsBoolean (of_primitives o x y) → MadeIs IsPrimitive (of_primitives o x y)
 related_primitive o x y p = boolean_primitive (of_primitives o x y) p
 
 -- commands

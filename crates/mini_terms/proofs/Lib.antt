@@ -11,4 +11,9 @@ pub mod Opened
 pub mod Reading
 pub mod Evidence
 pub mod Dropping
+pub mod Primitive
 pub mod Calculated
+pub mod Arithmetic
+pub mod Mixed
+pub mod Deep
+pub mod TextNumbers

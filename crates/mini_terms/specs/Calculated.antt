@@ -1,40 +1,47 @@
 -- The constant of an operator over constants, as far as it is calculated.
-use Rattle.std.specs.Prelude.{◌≡◌, ℕ, ℤ, zero, suc, pos, true, false, not, List, ◌++◌, Option, Some, None}
+use Rattle.std.specs.Prelude.{◌≡◌, ℕ, ℤ, zero, suc, Bool, true, false, not, Option, Some, None}
 use Rattle.mini_model.specs.declared.operator.BinaryOperator.{BinaryOperator}
 use Rattle.mini_model.specs.declared.operator.BinaryOperator.TheVariants as binary
+use Rattle.mini_model.specs.declared.operator.LogicalOperator.{LogicalOperator}
 use Rattle.mini_model.specs.declared.operator.UnaryOperator.{UnaryOperator}
 use Rattle.mini_model.specs.declared.operator.UnaryOperator.TheVariants as unary
 use Rattle.mini_model.specs.declared.shape.Shape.{Shape}
 use Rattle.mini_model.specs.declared.shape.Shape.TheVariants as shape
-use Rattle.mini_model.specs.Tree.{Tree, shape_of}
-use Rattle.mini_model.specs.Weight.{same_text}
+use Rattle.mini_model.specs.Tree.{Tree, node}
 use Rattle.mini_node.specs.Children.{part}
-use Rattle.mini_node.specs.Kinds.{unary_operator, binary_operator}
+use Rattle.mini_node.specs.Kinds.{unary_operator, binary_operator, logical_operator, is_conditional}
 use Rattle.mini_laws.specs.Value.{Value, Undefined, Null, Boolean, Number, String, choose, truth}
-use Rattle.mini_laws.specs.Conversion.{Made, makes, is_safe, to_text}
-use Rattle.mini_laws.specs.Operators.{of_numbers, of_number, joined, is_text_less, same_number, type_text}
-use Rattle.mini_terms.specs.Const.{made, const}
+use Rattle.mini_laws.specs.Conversion.{to_number, is_safe}
+use Rattle.mini_laws.specs.Expressions.{first_kind}
+use Rattle.mini_laws.specs.Naming.{NameKind, kinds}
+use Rattle.mini_laws.specs.Operators.{of_numbers, of_number, same_number, type_text}
+use Rattle.mini_terms.specs.Const.{made, binary_const, logical_const, conditional_const, const}
 use Rattle.mini_terms.specs.Folds.{is_effect_free}
+use Rattle.mini_terms.specs.Kind.{is_undefined_name}
 use Rattle.mini_terms.specs.Plain.{lit}
 use Rattle.mini_terms.specs.Reading.{SameWanted}
 
--- of a literal that is no operator's
-abbrev pub leaf_value : Shape → Option Value
-leaf_value (shape.NumericLiteral n) = Some (Number n)
-leaf_value (shape.StringLiteral s) = Some (String s)
-leaf_value (shape.BooleanLiteral b) = Some (Boolean b)
-leaf_value shape.NullLiteral = Some Null
-leaf_value h = None
+abbrev pub undefined_if : Bool → Option Value
+undefined_if true = Some Undefined
+undefined_if false = None
+
+-- of a literal, and of the name `undefined`, which no scope declares
+abbrev pub leaf_by : Shape → NameKind → Option Value
+leaf_by shape.Identifier k = undefined_if (is_undefined_name k)
+leaf_by (shape.NumericLiteral n) k = Some (Number n)
+leaf_by (shape.StringLiteral s) k = Some (String s)
+leaf_by (shape.BooleanLiteral b) k = Some (Boolean b)
+leaf_by shape.NullLiteral k = Some Null
+leaf_by h k = None
+
+abbrev pub leaf_value : Tree → Option Value
+leaf_value (node h xs n ts) = leaf_by h (first_kind (kinds xs))
 
 -- Operators
 
--- a number, a boolean or null as a number; no text is read as one
+-- the number of a value, if that is whole and safe: a text is read as one
 abbrev pub as_number : Value → Option ℤ
-as_number Null = Some (pos 0)
-as_number (Boolean true) = Some (pos 1)
-as_number (Boolean false) = Some (pos 0)
-as_number (Number n) = Some n
-as_number v = None
+as_number v = made (to_number v)
 
 -- `+`, `-` and `~` of a safe number
 abbrev pub over_number : UnaryOperator → Option ℤ → Option Value
@@ -54,75 +61,57 @@ calculated_numbers binary.Inequality m n = Some (Boolean (not (same_number m n))
 calculated_numbers binary.StrictInequality m n = Some (Boolean (not (same_number m n)))
 calculated_numbers o m n = made (of_numbers o m n)
 
-abbrev pub compared_texts : BinaryOperator → List ℕ → List ℕ → Option Value
-compared_texts binary.LessThan s t = Some (Boolean (is_text_less s t))
-compared_texts binary.GreaterThan s t = Some (Boolean (is_text_less t s))
-compared_texts binary.LessEqualThan s t = Some (Boolean (not (is_text_less t s)))
-compared_texts binary.GreaterEqualThan s t = Some (Boolean (not (is_text_less s t)))
-compared_texts binary.Equality s t = Some (Boolean (same_text s t))
-compared_texts binary.StrictEquality s t = Some (Boolean (same_text s t))
-compared_texts binary.Inequality s t = Some (Boolean (not (same_text s t)))
-compared_texts binary.StrictInequality s t = Some (Boolean (not (same_text s t)))
-compared_texts o s t = None
-
-abbrev pub calculated_texts : BinaryOperator → List ℕ → List ℕ → Option Value
-calculated_texts binary.Addition s t = Some (String (s ++ t))
-calculated_texts o s t = compared_texts o s t
-
-abbrev pub added : BinaryOperator → Made (List ℕ) → Made (List ℕ) → Option Value
-added binary.Addition s t = made (joined s t)
-added o s t = None
-
--- `+` with a text makes a text of the other side
-abbrev pub calculated_mixed : BinaryOperator → Value → Value → Option Value
-calculated_mixed o (String s) u = added o (makes s) (to_text u)
-calculated_mixed o v (String t) = added o (to_text v) (makes t)
-calculated_mixed o v u = None
-
-abbrev pub calculated_binary : BinaryOperator → Value → Value → Option Value
-calculated_binary o (Number m) (Number n) = calculated_numbers o m n
-calculated_binary o (String s) (String t) = calculated_texts o s t
-calculated_binary o v u = calculated_mixed o v u
-
 -- All
 
-abbrev pub unary_value : UnaryOperator → Option Value → Option Value
-unary_value o (Some v) = calculated_unary o v
-unary_value o None = None
+-- `void e` is undefined whatever e is: where it has to do nothing either, e has to have a value
+abbrev pub unary_value : Bool → UnaryOperator → Option Value → Option Value
+unary_value true unary.Void c = Some Undefined
+unary_value is_free o (Some v) = calculated_unary o v
+unary_value is_free o None = None
 
-abbrev pub binary_value : BinaryOperator → Option Value → Option Value → Option Value
-binary_value o (Some v) (Some u) = calculated_binary o v u
-binary_value o c d = None
+-- of unary and binary operators, by the values of their operands
+abbrev pub calculated_by : Bool → (Tree → Option Value) → Option UnaryOperator → Option BinaryOperator → Tree → Option Value
+calculated_by is_free f (Some o) p t = unary_value is_free o (f (part t 0))
+calculated_by is_free f None (Some o) t = binary_const o (f (part t 0)) (f (part t 1))
+calculated_by is_free f None None t = None
 
--- by the values of its operands
-abbrev pub calculated_by : (Tree → Option Value) → Option UnaryOperator → Option BinaryOperator → Tree → Option Value
-calculated_by f (Some o) p t = unary_value o (f (part t 0))
-calculated_by f None (Some o) t = binary_value o (f (part t 0)) (f (part t 1))
-calculated_by f None None t = None
+abbrev pub calculated_over : Bool → (Tree → Option Value) → Tree → Option Value
+calculated_over is_free f t = calculated_by is_free f (unary_operator t) (binary_operator t) t
 
-abbrev pub calculated_over : (Tree → Option Value) → Tree → Option Value
-calculated_over f t = calculated_by f (unary_operator t) (binary_operator t) t
+-- of logical expressions and conditionals
+abbrev pub chosen_by : (Tree → Option Value) → Option LogicalOperator → Bool → Tree → Option Value
+chosen_by f (Some o) b t = logical_const o (f (part t 0)) (f (part t 1))
+chosen_by f None true t = conditional_const (f (part t 0)) (f (part t 1)) (f (part t 2))
+chosen_by f None false t = None
 
-abbrev pub or_leaf : Option Value → Tree → Option Value
-or_leaf (Some v) t = Some v
-or_leaf None t = leaf_value (shape_of t)
+abbrev pub chosen_over : (Tree → Option Value) → Tree → Option Value
+chosen_over f t = chosen_by f (logical_operator t) (is_conditional t) t
+
+abbrev pub or_else : Option Value → Option Value → Option Value
+or_else (Some v) c = Some v
+or_else None c = c
 
 -- the value of a literal, or of operators over literals, of which at most so many lie one within another
-abbrev pub value_within : ℕ → Tree → Option Value
-value_within zero t = leaf_value (shape_of t)
-value_within (suc k) t = or_leaf (calculated_over (value_within k) t) t
+abbrev pub value_within : Bool → ℕ → Tree → Option Value
+value_within is_free zero t = leaf_value t
+value_within is_free (suc k) t = or_else (calculated_over is_free (value_within is_free k) t) (or_else (chosen_over (value_within is_free k) t) (leaf_value t))
 
 -- No further is looked into an operand. What is left of a constant weighs no more than its literal, so of a number there are hardly
 -- as many.
 abbrev pub operand_depth : ℕ
 operand_depth = 8
 
+-- whose evaluation does nothing but give it
 abbrev pub operand_value : Tree → Option Value
-operand_value t = value_within operand_depth t
+operand_value t = value_within false operand_depth t
 
--- the constant of an expression, as far as it is calculated: `(1 << 20) - 1` is 1048575
+-- of an effect-free expression
+abbrev pub free_value : Tree → Option Value
+free_value t = value_within true operand_depth t
+
+-- the constant of an effect-free unary or binary expression, as far as it is calculated: `(1 << 20) - 1` is 1048575
 abbrev pub calculated : Tree → Option Value
-calculated t = calculated_over operand_value t
+calculated t = choose (is_effect_free t) (calculated_over true free_value t) None
 
 -- it is the constant of an effect-free expression
 abbrev pub CalculatedIsConst : Type 0

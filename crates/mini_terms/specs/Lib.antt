@@ -9,4 +9,6 @@ pub mod Reading
 pub mod Folds
 pub mod Parts
 pub mod Calculated
+pub mod Texts
+pub mod Values
 pub mod Examples

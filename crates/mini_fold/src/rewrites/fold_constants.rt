@@ -8,11 +8,9 @@ ghost use Rattle.mini_fold.specs.FoldConstants.{is_lighter as is_it_lighter, rep
 ghost use Rattle.mini_rows.specs.Constants.{least_gain as gain};
 ghost use Rattle.mini_fold.specs.Lighter.{constants_lighter};
 
-use crate::literals::evaluate_value;
-use crate::values::value_to_expr;
 use mini_model::{OutOfMemory, Position, Seat, Shape};
 use mini_node::Node;
-use mini_terms::{leaves_nothing, suits};
+use mini_terms::{evaluate_value, leaves_nothing, suits, value_to_expr};
 use mini_tree::{Context, Rule, expr_weight};
 use std::alloc::Global;
 

@@ -19,8 +19,6 @@ ghost use Rattle.mini_fold.specs.FoldOperands as operand;
 ghost use Rattle.mini_fold.specs.FoldOperands.{Gives, Rests};
 ghost use Rattle.mini_fold.specs.Lighter.{operands_lighter};
 
-use crate::literals::{NULL, copied, text_of_both};
-use crate::numbers::is_same;
 use crate::rewrites::fold_operators::{
     drops_left, drops_right, fold_delete, holds_bitwise, masked, negated_digit, told_by_types,
 };
@@ -34,10 +32,14 @@ use mini_node::{
     unary_operator,
 };
 use mini_terms::{
-    Kind, goes_on, has_no_effect, is_plain_part, kind_of, leaves_nothing, suits, weighs,
+    Kind, copied, goes_on, has_no_effect, is_plain_part, is_same, kind_of, leaves_nothing, suits,
+    text_of_both, weighs,
 };
 use mini_tree::{Context, Rule, seats};
 use std::alloc::Global;
+
+// The units of `null`.
+const NULL: [u16; 4] = [110, 117, 108, 108];
 
 // Whether the operands tell the truth of the whole: of `&&` and `||`.
 fn is_and_or(operator: LogicalOperator) -> bool

@@ -13,16 +13,16 @@ ghost use Rattle.mini_rows.specs.Choices.{pair};
 ghost use Rattle.mini_rows.specs.Operators as row;
 ghost use Rattle.mini_rows.specs.Spellings.{negated_digit as negated_digit_of};
 ghost use Rattle.mini_fold.specs.FoldOperators as tree;
-ghost use Rattle.mini_fold.specs.Values.{value_in};
+ghost use Rattle.mini_terms.specs.Values.{value_in};
 
-use crate::numbers::calculated_numbers;
-use crate::values::ConstantValue;
 use mini_model::{BinaryOperator, OutOfMemory, Text, UnaryOperator, decimal};
 use mini_node::{
     Node, binary_operator, discard, is_identifier, is_same_tree, negation, number, numeric_literal,
     of_two, one, sequence, string, taken, unary_operator,
 };
-use mini_terms::{Kind, has_no_effect, kind_of, leaves_nothing, stands};
+use mini_terms::{
+    ConstantValue, Kind, calculated_numbers, has_no_effect, kind_of, leaves_nothing, stands,
+};
 use std::alloc::Global;
 
 // The units of the texts that `typeof` gives, and of one that it gave of old.

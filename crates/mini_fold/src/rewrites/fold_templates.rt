@@ -15,7 +15,6 @@ ghost use Rattle.mini_node.specs.Children.{part};
 ghost use Rattle.mini_node.specs.Kinds.{binary_operator as its_binary_operator};
 ghost use Rattle.mini_fold.specs.Lighter.{templates_lighter};
 
-use crate::literals::{copied, operand_value, text_of_both, to_text};
 use crate::rewrites::fold_operands::{is_string_kind, last};
 use crate::rewrites::fold_sequences::take_last;
 use mini_model::{
@@ -26,7 +25,10 @@ use mini_node::{
     Node, Nodes, binary, binary_operator, discard, is_listed, listed, of_two, one, take_first,
     taken, two,
 };
-use mini_terms::{has_no_effect, is_primitive, kind_of, leaves_nothing};
+use mini_terms::{
+    copied, has_no_effect, is_primitive, kind_of, leaves_nothing, operand_value, text_of_both,
+    to_text,
+};
 use mini_tree::{Context, Rule, expr_weight, seats};
 use std::alloc::Global;
 

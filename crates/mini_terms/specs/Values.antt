@@ -1,8 +1,8 @@
 -- The values that are calculated.
 use Rattle.std.specs.Prelude.{ℤ, Bool, true, false, Option, Some, None}
 use Rattle.mini_laws.specs.Value.{Value, Undefined, Null, Boolean, Number, String}
-use Rattle.mini_fold.specs.declared.values.ConstantValue.{ConstantValue}
-use Rattle.mini_fold.specs.declared.values.ConstantValue.TheVariants as constant
+use Rattle.mini_terms.specs.declared.values.ConstantValue.{ConstantValue}
+use Rattle.mini_terms.specs.declared.values.ConstantValue.TheVariants as constant
 
 abbrev pub value : ConstantValue → Value
 value constant.Undefined = Undefined

@@ -1,6 +1,6 @@
 use Rattle.std.proofs.Common.{arith}
-use Rattle.mini_fold.proofs.Mixed.{less_goes_on, less_differs, less_ends, less_at_end}
-use Rattle.mini_fold.proofs.literals.is_less.Goals as goal
+use Rattle.mini_terms.proofs.Mixed.{less_goes_on, less_differs, less_ends, less_at_end}
+use Rattle.mini_terms.proofs.literals.is_less.Goals as goal
 
 pub returns-then-at-right : goal.returns-then-at-right
 returns-then-at-right c = less_ends c.args.left.now c.args.right.now c.loop-at.at (omega arith) (omega arith) c.loop-at.invariant

@@ -5,7 +5,7 @@ ghost use Rattle.mini_laws.specs.Conversion as conversion;
 ghost use Rattle.mini_laws.specs.Operators as operators;
 ghost use Rattle.mini_terms.specs.Calculated.{calculated_numbers as calculated_of_numbers, over_number as over_number_of};
 ghost use Rattle.mini_terms.specs.Const.{made};
-ghost use Rattle.mini_fold.specs.Values.{value_in, number_in};
+ghost use Rattle.mini_terms.specs.Values.{value_in, number_in};
 
 use crate::values::ConstantValue;
 use mini_model::{BinaryOperator, UnaryOperator};
@@ -52,7 +52,7 @@ fn difference(left: i64, right: i64) -> Option<i64>
 
 // The number of this size, with a minus or without.
 #[tactic(auto, using(crate::proofs::Arithmetic::large_out, crate::proofs::Arithmetic::minus_zero, crate::proofs::Arithmetic::negative_is, crate::proofs::Arithmetic::positive_is))]
-fn signed(is_negative: bool, size: u64) -> Option<i64>
+pub fn signed(is_negative: bool, size: u64) -> Option<i64>
     ensures { number_in result ≡ made (operators.number (conversion.signed is_negative size)) }
 {
     if size >= PAST_SAFE {
@@ -276,9 +276,9 @@ pub fn over_number(operator: UnaryOperator, operand: i64) -> Option<ConstantValu
     }
 }
 
-/// An operator of two numbers, as far as it is calculated.
-pub fn calculated_numbers(operator: BinaryOperator, left: i64, right: i64) -> Option<ConstantValue>
-    ensures { value_in result ≡ calculated_of_numbers operator left right }
+/// An operator of two numbers, but for equality (ECMA-262, "ApplyStringOrNumericBinaryOperator" and "IsLessThan").
+pub fn of_numbers(operator: BinaryOperator, left: i64, right: i64) -> Option<ConstantValue>
+    ensures { value_in result ≡ made (operators.of_numbers operator left right) }
 {
     let holds = match operator {
         BinaryOperator::Addition => return number(sum(left, right)),
@@ -301,9 +301,22 @@ pub fn calculated_numbers(operator: BinaryOperator, left: i64, right: i64) -> Op
         BinaryOperator::GreaterThan => is_less(right, left),
         BinaryOperator::LessEqualThan => !is_less(right, left),
         BinaryOperator::GreaterEqualThan => !is_less(left, right),
-        BinaryOperator::Equality | BinaryOperator::StrictEquality => is_same(left, right),
-        BinaryOperator::Inequality | BinaryOperator::StrictInequality => !is_same(left, right),
         _ => return None,
     };
     Some(ConstantValue::Boolean(holds))
+}
+
+/// An operator of two numbers, as far as it is calculated.
+pub fn calculated_numbers(operator: BinaryOperator, left: i64, right: i64) -> Option<ConstantValue>
+    ensures { value_in result ≡ calculated_of_numbers operator left right }
+{
+    match operator {
+        BinaryOperator::Equality | BinaryOperator::StrictEquality => {
+            Some(ConstantValue::Boolean(is_same(left, right)))
+        }
+        BinaryOperator::Inequality | BinaryOperator::StrictInequality => {
+            Some(ConstantValue::Boolean(!is_same(left, right)))
+        }
+        _ => of_numbers(operator, left, right),
+    }
 }

@@ -1,5 +1,5 @@
 use Rattle.std.proofs.Common.{◌≡◌, ◌++◌, take}
-use Rattle.mini_fold.proofs.literals.text_of_both.Given as goal
+use Rattle.mini_terms.proofs.literals.text_of_both.Given as goal
 
 abbrev pub invariant-loop-unit : goal.invariant-loop-unit
 invariant-loop-unit l = l.text ≡ l.initial.text ++ take l.unit-index l.unit-items

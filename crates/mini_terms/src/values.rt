@@ -3,7 +3,7 @@
 ghost use Rattle.std.specs.Prelude.{◌≡◌, Some, IfOk};
 ghost use Rattle.mini_laws.specs.Value.{Boolean};
 ghost use Rattle.mini_terms.specs.Plain.{lit};
-ghost use Rattle.mini_fold.specs.Values.{value};
+ghost use Rattle.mini_terms.specs.Values.{value};
 
 use mini_model::{OutOfMemory, Text, UnaryOperator};
 use mini_node::{Node, null_literal, numeric_literal, string_literal, unary};
