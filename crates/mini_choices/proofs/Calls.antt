@@ -1,9 +1,10 @@
 -- Two calls that differ in their first argument: what is written for a choice between them is what a row says, and where nothing is
 -- written no row reads it.
-use Rattle.std.proofs.Common.{◌≡◌, ℕ, suc, ◌+◌, ◌<◌, ◌≤◌, Bool, true, false, refl, sym, ap, ◌∙◌, true≢false, arith}
-use Rattle.std.specs.Prelude.{◌&&◌, not, is_none}
-use Rattle.std.proofs.lemmas.Bool.{and_parts}
-use Rattle.mini_model.specs.Tree.{Tree, Trees, none, ◌▸◌, listed, count, children, child_or_absent, first_or_absent, identifier, conditional, call}
+use Rattle.std.proofs.Common.{◌≡◌, ℕ, zero, suc, [], ◌+◌, ◌<◌, ◌≤◌, Bool, true, false, refl, sym, ap, ◌∙◌, true≢false, arith}
+use Rattle.std.specs.Prelude.{◌&&◌, ◌||◌, not, is_none, if◌then◌else◌}
+use Rattle.std.proofs.lemmas.Bool.{and_parts, false≢true}
+use Rattle.mini_model.specs.declared.shape.Shape.TheVariants as shape
+use Rattle.mini_model.specs.Tree.{Tree, Trees, node, none, ◌▸◌, listed, count, children, child_or_absent, first_or_absent, identifier, conditional, call}
 use Rattle.mini_node.specs.Children.{part, without, with_inserted, rest_children}
 use Rattle.mini_node.specs.Equal.{same_root, same_tree, same_trees}
 use Rattle.mini_node.specs.Kinds.{is_call_expression, is_conditional, is_identifier}
@@ -13,9 +14,9 @@ use Rattle.mini_node.proofs.Equality.{by_root, tree_itself, trees_same}
 use Rattle.mini_node.proofs.Equality as equality
 use Rattle.mini_terms.specs.Folds.{is_effect_free}
 use Rattle.mini_terms.specs.Reading.{is_item}
-use Rattle.mini_rows.specs.Choices.{Row44}
+use Rattle.mini_rows.specs.Choices.{spread, argument, Row44}
 use Rattle.mini_choices.specs.Assigning.{is_same_name, is_declared}
-use Rattle.mini_choices.specs.Calling.{begins_with_item, are_others_same, calls_name, are_alike, calls_either, called}
+use Rattle.mini_choices.specs.Calling.{is_spread, begins_with_item, begins_with_spread, begin_alike, are_others_same, calls_name, are_alike, calls_either, chosen_first, called}
 use Rattle.mini_choices.proofs.Names.{one_name}
 use Rattle.mini_choices.proofs.Trials.{not_true, both_true}
 
@@ -28,6 +29,14 @@ none_first (t ▸ ts) e = absurd (omega (arith, e))
 pub some_first : (ts : Trees) → begins_with_item ts ≡ true → 0 < count ts
 some_first none e = absurd (true≢false (sym e))
 some_first (t ▸ ts) e = omega arith
+
+pub none_spread : (ts : Trees) → count ts ≤ 0 → begins_with_spread ts ≡ false
+none_spread none e = refl
+none_spread (t ▸ ts) e = absurd (omega (arith, e))
+
+pub some_spread : (ts : Trees) → begins_with_spread ts ≡ true → 0 < count ts
+some_spread none e = absurd (true≢false (sym e))
+some_spread (t ▸ ts) e = omega arith
 
 pub other_counts : (ts us : Trees) → 0 < count ts → 0 < count us → (count ts ≡ count us → ⊥) → false ≡ are_others_same ts us
 other_counts none us h k n = absurd (omega (arith, h))
@@ -58,9 +67,9 @@ each_ends ts us i h k b inv = sym (λ j. same_trees (no_rest ts i h j) (no_rest 
 
 -- ---- what is written is what a row says
 
--- a list whose first item is an expression is of that and of the rest
-begins : (ts : Trees) → begins_with_item ts ≡ true → ts ≡ child_or_absent ts 0 ▸ without ts 0
-begins none e = absurd (true≢false (sym e))
+-- a list whose first item is there is of that and of the rest
+begins : (ts : Trees) → 0 < count ts → ts ≡ child_or_absent ts 0 ▸ without ts 0
+begins none e = absurd (omega (arith, e))
 begins (t ▸ ts) e = refl
 
 first_is : (ts : Trees) → first_or_absent ts ≡ child_or_absent ts 0
@@ -71,17 +80,50 @@ inserted_first : (ts : Trees) (t : Tree) → with_inserted ts 0 t ≡ t ▸ ts
 inserted_first none t = refl
 inserted_first (u ▸ ts) t = refl
 
--- a call of a name is of its first argument and of the others
-record CallOf (t : Tree) : Type 0 where
-  is_first : is_item (child_or_absent (children (part t 1)) 0) ≡ true
-  is : t ≡ call false (part t 0) (child_or_absent (children (part t 1)) 0 ▸ without (children (part t 1)) 0)
+spread_is : (t : Tree) → is_spread t ≡ true → t ≡ spread (part t 0)
+spread_is (node shape.SpreadElement [] zero (a ▸ none)) e = refl
+spread_is t e = absurd (false≢true e)
 
-call_of : (t : Tree) → calls_name t ≡ true → CallOf t
-call_of t e =
-    let list = children (part t 1) in
-    let (kind, rest) = and_parts (is_call_expression t) (is_identifier (part t 0) && begins_with_item list) e in
-    let (name, first) = and_parts (is_identifier (part t 0)) (begins_with_item list) rest in
-    record { is_first = first; is = call_expression_is t kind ∙ ap (call false (part t 0)) (begins list first) }
+spread_is_no_item : (t : Tree) → is_item t ≡ true → is_spread t ≡ false
+spread_is_no_item (node shape.SpreadElement xs n ts) e = absurd (true≢false (sym e))
+spread_is_no_item (node h xs n ts) e = refl
+
+-- two first arguments of which both are expressions, or both spread
+record Firsts (a x y : Tree) : Type 0 where
+  is_spread : Bool
+  p : Tree
+  q : Tree
+  first : is_spread || is_item p ≡ true
+  second : is_spread || is_item q ≡ true
+  first_is : x ≡ argument is_spread p
+  second_is : y ≡ argument is_spread q
+  chosen : chosen_first a x y ≡ argument is_spread (conditional a p q)
+
+both_items : (a x y : Tree) → is_item x ≡ true → is_item y ≡ true → Firsts a x y
+both_items a x y e f = record { is_spread = false; p = x; q = y; first = e; second = f; first_is = refl; second_is = refl; chosen = ap (λ b. if b then spread (conditional a (part x 0) (part y 0)) else conditional a x y) (spread_is_no_item x e) }
+
+both_spread : (a x y : Tree) → is_spread x ≡ true → is_spread y ≡ true → Firsts a x y
+both_spread a x y e f = record { is_spread = true; p = part x 0; q = part y 0; first = refl; second = refl; first_is = spread_is x e; second_is = spread_is y f; chosen = ap (λ b. if b then spread (conditional a (part x 0) (part y 0)) else conditional a x y) e }
+
+record Begun (a : Tree) (ts us : Trees) : Type 0 where
+  firsts : Firsts a (child_or_absent ts 0) (child_or_absent us 0)
+  some : 0 < count ts
+  others : 0 < count us
+
+begun : (a : Tree) (ts us : Trees) → begin_alike ts us ≡ true → Begun a ts us
+begun a ts us e = go (begins_with_item ts && begins_with_item us) refl e
+  where
+    go : (b : Bool) → begins_with_item ts && begins_with_item us ≡ b → b || (begins_with_spread ts && begins_with_spread us) ≡ true → Begun a ts us
+    go true h e =
+        let (x, y) = and_parts (begins_with_item ts) (begins_with_item us) h in
+        record { firsts = both_items a (child_or_absent ts 0) (child_or_absent us 0) x y; some = some_first ts x; others = some_first us y }
+    go false h e =
+        let (x, y) = and_parts (begins_with_spread ts) (begins_with_spread us) e in
+        record { firsts = both_spread a (child_or_absent ts 0) (child_or_absent us 0) x y; some = some_spread ts x; others = some_spread us y }
+
+-- a call of a name is of its first argument and of the others
+call_of : (t : Tree) → calls_name t ≡ true → 0 < count (children (part t 1)) → t ≡ call false (part t 0) (child_or_absent (children (part t 1)) 0 ▸ without (children (part t 1)) 0)
+call_of t e some = call_expression_is t (and_parts (is_call_expression t) (is_identifier (part t 0)) e).0 ∙ ap (call false (part t 0)) (begins (children (part t 1)) some)
 
 pub called_row : (n : Tree) → calls_either n ≡ true → Row44 n (called n)
 called_row n e =
@@ -93,26 +135,26 @@ called_row n e =
     let (left, e2) = and_parts (calls_name yes) (calls_name no && (are_alike yes no && is_effect_free (part n 0))) e1 in
     let (right, e3) = and_parts (calls_name no) (are_alike yes no && is_effect_free (part n 0)) e2 in
     let (alike, free) = and_parts (are_alike yes no) (is_effect_free (part n 0)) e3 in
-    let (same, e4) = and_parts (is_same_name (part yes 0) (part no 0)) (is_declared (part yes 0) && are_others_same first second) alike in
-    let (declared, others) = and_parts (is_declared (part yes 0)) (are_others_same first second) e4 in
+    let (begin, e4) = and_parts (begin_alike first second) (is_same_name (part yes 0) (part no 0) && (is_declared (part yes 0) && are_others_same first second)) alike in
+    let (same, e5) = and_parts (is_same_name (part yes 0) (part no 0)) (is_declared (part yes 0) && are_others_same first second) e4 in
+    let (declared, others) = and_parts (is_declared (part yes 0)) (are_others_same first second) e5 in
     let one = one_name (part yes 0) (part no 0) same in
-    let l = call_of yes left in
-    let r = call_of no right in
+    let b = begun (part n 0) first second begin in
+    let f = b.firsts in
     let rest = trees_same (without first 0) (without second 0) others in
-    let p = child_or_absent first 0 in
-    let q = child_or_absent second 0 in
     record {
       a = part n 0;
       name = one.name;
-      p = p;
-      q = q;
+      is_spread = f.is_spread;
+      p = f.p;
+      q = f.q;
       others = without first 0;
       declared = not_true (is_none one.name.symbol) (sym (ap is_declared one.first) ∙ declared);
       effect_free = free;
-      first = l.is_first;
-      second = r.is_first;
-      shape = conditional_is n chooses ∙ (λ i. conditional (part n 0) ((l.is ∙ ap (λ t. call false t (p ▸ without first 0)) one.first) i) ((r.is ∙ (λ j. call false (one.second j) (q ▸ sym rest j))) i));
-      written = λ i. call false (one.first i) ((inserted_first (without first 0) (conditional (part n 0) (first_or_absent first) q) ∙ ap (λ t. conditional (part n 0) t q ▸ without first 0) (first_is first)) i);
+      first = f.first;
+      second = f.second;
+      shape = conditional_is n chooses ∙ (λ i. conditional (part n 0) ((call_of yes left b.some ∙ (λ j. call false (one.first j) (f.first_is j ▸ without first 0))) i) ((call_of no right b.others ∙ (λ j. call false (one.second j) (f.second_is j ▸ sym rest j))) i));
+      written = λ i. call false (one.first i) ((inserted_first (without first 0) (chosen_first (part n 0) (first_or_absent first) (child_or_absent second 0)) ∙ ap (λ t. chosen_first (part n 0) t (child_or_absent second 0) ▸ without first 0) (first_is first) ∙ ap (λ t. t ▸ without first 0) f.chosen) i);
     }
 
 -- ---- and what the row reads is written
@@ -120,11 +162,20 @@ called_row n e =
 trees_itself : (ts : Trees) → same_trees ts ts ≡ true
 trees_itself ts = (and_parts (same_root (listed ts) (listed ts)) (same_trees ts ts) (sym (by_root (listed ts) (listed ts)) ∙ tree_itself (listed ts))).1
 
-pub called_passes : (n w : Tree) (r : Row44 n w) → calls_either (conditional r.a (call false (identifier r.name) (r.p ▸ r.others)) (call false (identifier r.name) (r.q ▸ r.others))) ≡ true
+or_true : (b c : Bool) → c ≡ true → b || c ≡ true
+or_true true c e = refl
+or_true false c e = e
+
+both_begin : (b : Bool) (p q : Tree) (ts : Trees) → b || is_item p ≡ true → b || is_item q ≡ true → begin_alike (argument b p ▸ ts) (argument b q ▸ ts) ≡ true
+both_begin false p q ts e f = ap (λ c. c || (begins_with_spread (p ▸ ts) && begins_with_spread (q ▸ ts))) (both_true (is_item p) (is_item q) e f)
+both_begin true p q ts e f = or_true (begins_with_item (argument true p ▸ ts) && begins_with_item (argument true q ▸ ts)) true refl
+
+pub called_passes : (n w : Tree) (r : Row44 n w) → calls_either (conditional r.a (call false (identifier r.name) (argument r.is_spread r.p ▸ r.others)) (call false (identifier r.name) (argument r.is_spread r.q ▸ r.others))) ≡ true
 called_passes n w r =
     let x : Tree = identifier r.name in
-    both_true (is_item r.p) _ r.first
-    (both_true (is_item r.q) _ r.second
-    (both_true (are_alike (call false x (r.p ▸ r.others)) (call false x (r.q ▸ r.others))) (is_effect_free r.a)
-    (both_true (same_tree x x) _ (tree_itself x) (both_true (is_declared x) (same_trees r.others r.others) (ap not r.declared) (trees_itself r.others)))
-    r.effect_free))
+    let ts : Trees = argument r.is_spread r.p ▸ r.others in
+    let us : Trees = argument r.is_spread r.q ▸ r.others in
+    both_true (are_alike (call false x ts) (call false x us)) (is_effect_free r.a)
+    (both_true (begin_alike ts us) _ (both_begin r.is_spread r.p r.q r.others r.first r.second)
+    (both_true (same_tree x x) _ (tree_itself x) (both_true (is_declared x) (same_trees r.others r.others) (ap not r.declared) (trees_itself r.others))))
+    r.effect_free

@@ -24,7 +24,7 @@ use Rattle.mini_node.specs.Made.{assignment_is, logical_is, binary_is, condition
 use Rattle.mini_node.proofs.Equality.{tree_same, tree_itself}
 use Rattle.mini_terms.specs.Folds.{is_effect_free}
 use Rattle.mini_rows.specs.Lists.{sequence}
-use Rattle.mini_rows.specs.Choices.{assign, is_grouped, joined, strictly, joining, asks_object, null_compared, ended, deciding, may_choose, Row39, Row38, Row35, Row35Member, Row45, Row45Member, Row38Last, Key, member_of, Row46Equal, Row46Unequal, Row44, Row13Both, LighterRow, OwnRow, ChoiceRow, ChoiceContracts}
+use Rattle.mini_rows.specs.Choices.{argument, assign, is_grouped, joined, strictly, joining, asks_object, null_compared, ended, deciding, may_choose, Row39, Row38, Row35, Row35Member, Row45, Row45Member, Row38Last, Key, member_of, Row46Equal, Row46Unequal, Row44, Row13Both, LighterRow, OwnRow, ChoiceRow, ChoiceContracts}
 use Rattle.mini_rows.proofs.ChoiceCalls.{calls_lighter}
 use Rattle.mini_rows.proofs.ChoiceWeights as choice_weights
 use Rattle.mini_tree.specs.Rule.{Applied}
@@ -507,7 +507,7 @@ passes s n w (inr (inr (inr (inr (inr (inl r)))))) small less = folded_there s n
 passes s n w (inr (inr (inr (inr (inr (inr (inl r))))))) small less = folded_there s n (end_passes s n w r small less)
 passes s n w (inr (inr (inr (inr (inr (inr (inr r))))))) small less = both_there s n w r (both_passes s n w r small less)
 passes s n w (inr (inr (inr (inr (inl r))))) small less =
-    let t : Tree = conditional r.a (call false (identifier r.name) (r.p ▸ r.others)) (call false (identifier r.name) (r.q ▸ r.others)) in
+    let t : Tree = conditional r.a (call false (identifier r.name) (argument r.is_spread r.p ▸ r.others)) (call false (identifier r.name) (argument r.is_spread r.q ▸ r.others)) in
     ap (λ t. is_some (written s t)) r.shape ∙ in_branches s t (by_called s t (called_passes n w r))
 
 pub unwritten_rests : UnwrittenRests

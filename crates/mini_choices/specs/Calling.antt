@@ -1,28 +1,47 @@
 -- Tests of calls of names, and of two that differ in their first argument.
-use Rattle.std.specs.Prelude.{Bool, false, ◌&&◌}
-use Rattle.mini_model.specs.Tree.{Tree, Trees, call, conditional, children, child_or_absent, first_or_absent}
-use Rattle.mini_node.specs.Children.{part, without, with_inserted}
+use Rattle.std.specs.Prelude.{Bool, true, false, ◌&&◌, ◌||◌, if◌then◌else◌}
+use Rattle.mini_model.specs.declared.shape.Shape.{Shape}
+use Rattle.mini_model.specs.declared.shape.Shape.TheVariants as shape
+use Rattle.mini_model.specs.Tree.{Tree, Trees, shape_of, call, conditional, children, child_or_absent, first_or_absent}
+use Rattle.mini_node.specs.Children.{part, is_bare, without, with_inserted}
 use Rattle.mini_node.specs.Equal.{same_trees}
 use Rattle.mini_node.specs.Kinds.{is_call_expression, is_conditional, is_identifier}
 use Rattle.mini_terms.specs.Folds.{is_effect_free}
 use Rattle.mini_terms.specs.Reading.{is_item}
+use Rattle.mini_rows.specs.Choices.{spread}
 use Rattle.mini_choices.specs.Assigning.{is_same_name, is_declared}
+
+abbrev pub is_spread_shape : Shape → Bool
+is_spread_shape shape.SpreadElement = true
+is_spread_shape _ = false
+
+-- `...p`
+abbrev pub is_spread : Tree → Bool
+is_spread t = is_spread_shape (shape_of t) && is_bare t 1
 
 -- an expression stands first
 abbrev pub begins_with_item : Trees → Bool
 begins_with_item ts = is_item (child_or_absent ts 0)
 
+-- or one that is spread
+abbrev pub begins_with_spread : Trees → Bool
+begins_with_spread ts = is_spread (child_or_absent ts 0)
+
+-- of both of them the one, or the other
+abbrev pub begin_alike : Trees → Trees → Bool
+begin_alike ts us = (begins_with_item ts && begins_with_item us) || (begins_with_spread ts && begins_with_spread us)
+
 -- all but the first are the same
 abbrev pub are_others_same : Trees → Trees → Bool
 are_others_same ts us = same_trees (without ts 0) (without us 0)
 
--- `f(p, r)`, of a name and an expression
+-- `f(p, r)`, of a name
 abbrev pub calls_name : Tree → Bool
-calls_name t = is_call_expression t && (is_identifier (part t 0) && begins_with_item (children (part t 1)))
+calls_name t = is_call_expression t && is_identifier (part t 0)
 
--- of one name, which a scope declares, with the same arguments after the first
+-- of one name, which a scope declares, with the same arguments after the first, which both are expressions or both are spread
 abbrev pub are_alike : Tree → Tree → Bool
-are_alike t u = is_same_name (part t 0) (part u 0) && (is_declared (part t 0) && are_others_same (children (part t 1)) (children (part u 1)))
+are_alike t u = begin_alike (children (part t 1)) (children (part u 1)) && (is_same_name (part t 0) (part u 0) && (is_declared (part t 0) && are_others_same (children (part t 1)) (children (part u 1))))
 
 -- `a ? f(p, r) : f(q, r)`, where evaluating a has no effect
 abbrev pub calls_either : Tree → Bool
@@ -32,6 +51,10 @@ calls_either t = is_conditional t && (calls_name (part t 1) && (calls_name (part
 abbrev pub with_first : Trees → Tree → Trees
 with_first ts t = with_inserted (without ts 0) 0 t
 
+-- `a ? p : q`, and `...a ? p : q`
+abbrev pub chosen_first : Tree → Tree → Tree → Tree
+chosen_first a p q = if is_spread p then spread (conditional a (part p 0) (part q 0)) else conditional a p q
+
 -- `f(a ? p : q, r)`
 abbrev pub called : Tree → Tree
-called t = call false (part (part t 1) 0) (with_first (children (part (part t 1) 1)) (conditional (part t 0) (first_or_absent (children (part (part t 1) 1))) (part (part (part t 2) 1) 0)))
+called t = call false (part (part t 1) 0) (with_first (children (part (part t 1) 1)) (chosen_first (part t 0) (first_or_absent (children (part (part t 1) 1))) (part (part (part t 2) 1) 0)))

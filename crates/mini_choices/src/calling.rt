@@ -3,16 +3,25 @@
 ghost use Rattle.std.specs.Prelude.{◌≡◌, ◌<◌, true, IfOk};
 ghost use Rattle.mini_model.specs.Tree.{children, count};
 ghost use Rattle.mini_node.specs.Children.{part};
-ghost use Rattle.mini_choices.specs.Calling.{begins_with_item as it_begins_with_item, are_others_same as are_its_others_same, calls_name as it_calls_name, are_alike as are_they_alike, calls_either as it_calls_either, called as called_of};
+ghost use Rattle.mini_rows.specs.Choices.{spread as spread_of};
+ghost use Rattle.mini_choices.specs.Calling.{is_spread as is_it_spread, begins_with_item as it_begins_with_item, begins_with_spread as it_begins_with_spread, begin_alike as they_begin_alike, chosen_first as first_chosen, are_others_same as are_its_others_same, calls_name as it_calls_name, are_alike as are_they_alike, calls_either as it_calls_either, called as called_of};
 
 use crate::assigning::{is_declared, is_same_name};
-use mini_model::OutOfMemory;
+use mini_model::{OutOfMemory, Shape};
 use mini_node::{
     Node, Nodes, call_expression, conditional, discard, is_call_expression, is_conditional,
-    is_identifier, is_same_tree, one, take_first, three, two,
+    is_identifier, is_same_tree, of_one, one, take_first, three, two,
 };
 use mini_terms::{has_no_effect, is_item};
 use std::alloc::Global;
+
+// Whether it is `...p`.
+fn is_spread(node: &Node) -> bool
+    ensures kind { result ≡ is_it_spread node.now }
+    ensures parts { result ≡ true → count (children node.now) ≡ 1 }
+{
+    matches!(node.shape(), Shape::SpreadElement) && node.is_bare(1)
+}
 
 // Whether an expression stands first.
 #[tactic(auto, using(crate::proofs::Calls::none_first, crate::proofs::Calls::some_first))]
@@ -21,6 +30,25 @@ fn begins_with_item(nodes: &Nodes) -> bool
     ensures parts { result ≡ true → 0 < count nodes.now }
 {
     nodes.len() > 0 && is_item(nodes.child(0))
+}
+
+// Whether what stands first is spread.
+#[tactic(auto, using(crate::proofs::Calls::none_spread, crate::proofs::Calls::some_spread))]
+fn begins_with_spread(nodes: &Nodes) -> bool
+    ensures kind { result ≡ it_begins_with_spread nodes.now }
+    ensures parts { result ≡ true → 0 < count nodes.now }
+{
+    nodes.len() > 0 && is_spread(nodes.child(0))
+}
+
+// Whether both begin with an expression, or both with one that is spread.
+fn begin_alike(first: &Nodes, second: &Nodes) -> bool
+    ensures kind { result ≡ they_begin_alike first.now second.now }
+    ensures first_there { result ≡ true → 0 < count first.now }
+    ensures second_there { result ≡ true → 0 < count second.now }
+{
+    begins_with_item(first) && begins_with_item(second)
+        || begins_with_spread(first) && begins_with_spread(second)
 }
 
 // Whether all but the first are the same.
@@ -41,26 +69,22 @@ fn are_others_same(first: &Nodes, second: &Nodes) -> bool
     true
 }
 
-// `f(p, r)`, of a name and an expression.
+// `f(p, r)`, of a name.
 fn calls_name(node: &Node) -> bool
     ensures kind { result ≡ it_calls_name node.now }
     ensures parts { result ≡ true → count (children node.now) ≡ 2 }
-    ensures arguments { result ≡ true → 0 < count (children (part node.now 1)) }
 {
-    is_call_expression(node)
-        && is_identifier(node.child(0))
-        && begins_with_item(node.child(1).children())
+    is_call_expression(node) && is_identifier(node.child(0))
 }
 
-// Whether two calls are of one name, which a scope declares, with the same arguments after the first.
+// Whether two calls are of one name, which a scope declares, with the same arguments after the first, of which both are expressions or both spread.
 fn are_alike(first: &Node, second: &Node) -> bool
     requires first_parts { count (children first.now) ≡ 2 }
     requires second_parts { count (children second.now) ≡ 2 }
-    requires first_arguments { 0 < count (children (part first.now 1)) }
-    requires second_arguments { 0 < count (children (part second.now 1)) }
     ensures { result ≡ are_they_alike first.now second.now }
 {
-    is_same_name(first.child(0), second.child(0))
+    begin_alike(first.child(1).children(), second.child(1).children())
+        && is_same_name(first.child(0), second.child(0))
         && is_declared(first.child(0))
         && are_others_same(first.child(1).children(), second.child(1).children())
 }
@@ -76,6 +100,24 @@ pub fn calls_either(node: &Node) -> bool
         && has_no_effect(node.child(0))
 }
 
+// `...p`
+fn spread(alloc: Global, operand: Node) -> Result<Node, OutOfMemory>
+    ensures { IfOk result (λ w. w ≡ spread_of operand) }
+{
+    Ok(Node::new(Shape::SpreadElement, of_one(alloc, operand)?))
+}
+
+// `a ? p : q`, and `...a ? p : q`
+fn chosen_first(alloc: Global, test: Node, first: Node, second: Node) -> Result<Node, OutOfMemory>
+    ensures { IfOk result (λ w. w ≡ first_chosen test first second) }
+{
+    if is_spread(&first) {
+        let value = conditional(alloc, test, one(first), one(second))?;
+        return spread(alloc, value);
+    }
+    conditional(alloc, test, first, second)
+}
+
 /// `f(a ? p : q, r)`
 pub fn called(alloc: Global, node: Node) -> Result<Node, OutOfMemory>
     ensures { IfOk result (λ w. w ≡ called_of node) }
@@ -86,7 +128,7 @@ pub fn called(alloc: Global, node: Node) -> Result<Node, OutOfMemory>
     discard(again);
     let mut arguments = list.into_children();
     let first = take_first(&mut arguments);
-    let value = conditional(alloc, test, first, one(others))?;
+    let value = chosen_first(alloc, test, first, one(others))?;
     arguments.insert(0, value)?;
     call_expression(alloc, callee, arguments)
 }

@@ -24,11 +24,11 @@ use Rattle.mini_kept.proofs.Bools.{left}
 use Rattle.mini_kept.proofs.Expressions.{refused_here}
 use Rattle.mini_kept.proofs.InOrder.{in_order}
 use Rattle.mini_kept.proofs.Quiet.{is_quiet, IsQuiet, no_names, no_body_names, no_body_declarations, no_loop, same_symbols as same_symbols_of}
-use Rattle.mini_rows.specs.Sketches.{still, rearranges_expression, Head, AList, Piece, Empty, OfExpression, Throw, Return, If, Block, shape_by, Sketch, part, under, list, Sketches, Parts, filled, all_filled, AsValue, parts_of, Free, is_rearranged, is_expression_head, is_piece_head, stands_well, is_expression}
+use Rattle.mini_rows.specs.Sketches.{still, rearranges_expression, Head, AList, Spread, Piece, Empty, OfExpression, Throw, Return, If, Block, shape_by, Sketch, part, under, list, Sketches, Parts, filled, all_filled, AsValue, parts_of, Free, is_rearranged, is_expression_head, is_piece_head, stands_well, is_expression}
 use Rattle.mini_rows.specs.Arranged.{KeptAt, AreFree, ExpressionsArranged}
 use Rattle.mini_rows.proofs.Arranging.{Any, Each}
 use Rattle.mini_rows.proofs.ArrangedBodies.{quiet}
-use Rattle.mini_rows.proofs.ArrangedValues.{is_no_inner, is_value, is_no_list, Valued, head_valued}
+use Rattle.mini_rows.proofs.ArrangedValues.{is_no_inner, is_value, suits_anywhere, Valued, head_valued}
 use Rattle.mini_rows.proofs.ArrangedTrees.{same_inner, same_fixed, same_declared, same_frames, same_bodies, same_once, same_targets, parts_valued, same_scoped, same_symbols, same_numbers}
 
 -- ---- tables
@@ -109,8 +109,9 @@ no_statement false nested If e = absurd (cc e)
 no_statement false nested Block e = absurd (cc e)
 no_statement false nested h e = refl
 
-not_list : (h : Head) → is_expression_head h ≡ true → is_no_list h ≡ true
+not_list : (h : Head) → is_expression_head h ≡ true → suits_anywhere h ≡ true
 not_list AList e = absurd (cc e)
+not_list Spread e = absurd (cc e)
 not_list h e = refl
 
 pub no_method : (strict : Bool) (h : Head) → slots_of strict a_method (shape_by h) ≡ None

@@ -31,11 +31,11 @@ use Rattle.mini_kept.proofs.Expressions.{refused_here}
 use Rattle.mini_kept.proofs.InOrder.{in_order}
 use Rattle.mini_kept.proofs.Placed.{statements_slot}
 use Rattle.mini_kept.proofs.Unplaced.{as_body, body_same}
-use Rattle.mini_rows.specs.Sketches.{Head, AList, Piece, is_piece_head, shape_by, Sketch, part, under, list, Sketches, Items, no_items, item, items, Parts, list_at, filled, all_filled, items_filled, Asked, AsWhole, AsWholeList, AsWholeItem, use_by, parts_of, parts_in, Free, is_rearranged, all_settled, is_statement_head, asked_below, stands_well, all_stand_well, items_stand_well, are_loose, statements, are_same_holes, keeps_statements}
+use Rattle.mini_rows.specs.Sketches.{Head, AList, Spread, Piece, is_piece_head, shape_by, Sketch, part, under, list, Sketches, Items, no_items, item, items, Parts, list_at, filled, all_filled, items_filled, Asked, AsWhole, AsWholeList, AsWholeItem, use_by, parts_of, parts_in, Free, is_rearranged, all_settled, is_statement_head, asked_below, stands_well, all_stand_well, items_stand_well, are_loose, statements, are_same_holes, keeps_statements}
 use Rattle.mini_rows.specs.Arranged.{KeptAt, AreFree, StatementsArranged, ListsArranged}
 use Rattle.mini_rows.proofs.Arranging.{All, Any, Each, first_each, second_each}
 use Rattle.mini_rows.proofs.ArrangedBodies.{quiet}
-use Rattle.mini_rows.proofs.ArrangedValues.{Calm, Valued, is_no_list, head_valued, sketch_valued, suits}
+use Rattle.mini_rows.proofs.ArrangedValues.{Calm, Valued, suits_anywhere, head_valued, sketch_valued, suits}
 use Rattle.mini_rows.proofs.ArrangedTrees.{same_inner, same_fixed, same_declared, same_frames, same_bodies, same_once, same_targets, parts_valued, same_scoped, same_symbols, same_numbers}
 use Rattle.mini_rows.proofs.ArrangedGather.{filled_valued, Fold, Gives, gives_same}
 use Rattle.mini_rows.proofs.ArrangedFolds.{bound_fold, lexical_fold, hoisted_fold, body_fold, hoists, declared_fold, same_trees, port, ports_in, ports_fold}
@@ -120,8 +120,9 @@ unfolding is_loop
 no_loop AList ts e = refl
 no_loop h ts e = refl
 
-pub not_list : (h : Head) → is_statement_head h ≡ true → is_no_list h ≡ true
+pub not_list : (h : Head) → is_statement_head h ≡ true → suits_anywhere h ≡ true
 not_list AList e = absurd (cc e)
+not_list Spread e = absurd (cc e)
 not_list h e = refl
 
 statement_no_piece : (h : Head) → is_statement_head h ≡ true → is_piece_head h ≡ false

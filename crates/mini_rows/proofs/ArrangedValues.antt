@@ -7,13 +7,13 @@ use Rattle.mini_model.specs.declared.operator.AssignmentOperator.TheVariants.{As
 use Rattle.mini_model.specs.declared.shape.Shape.{Shape}
 use Rattle.mini_model.specs.declared.shape.Shape.TheVariants as shape
 use Rattle.mini_model.specs.Tree.{Tree, Trees, node, none, ◌▸◌, shape_of, child_or_absent}
-use Rattle.mini_accept.specs.WellShaped.{Depth, in_module, in_body, nested, Class, a_statement, a_word, a_key, a_private_or_key, an_inner_key, an_expression, a_link, a_chain, an_argument, an_object_property, Slot, one, one_or_absent, many, many_or_holes, many_and_rest, many_or_holes_and_rest, quasis, Tagging, untagged, tagged, is_text, none_if, statement_slots, word_slots, slots_of, Filling, refused, these, each, each_or_last, pieces, filling_by, filling, class_of, has_names, has_its_number, has_plain_fields, has_its_parts, is_whole, is_strict_in, is_last, is_quasi, are_quasis, fits, fill}
+use Rattle.mini_accept.specs.WellShaped.{Depth, in_module, in_body, nested, Class, a_statement, a_word, a_key, a_private_or_key, an_inner_key, an_expression, a_link, a_chain, an_argument, an_inner_argument, an_object_property, Slot, one, one_or_absent, many, many_or_holes, many_and_rest, many_or_holes_and_rest, quasis, Tagging, untagged, tagged, is_text, none_if, statement_slots, word_slots, slots_of, Filling, refused, these, each, each_or_last, pieces, filling_by, filling, class_of, has_names, has_its_number, has_plain_fields, has_its_parts, is_whole, is_strict_in, is_last, is_quasi, are_quasis, fits, fill}
 use Rattle.mini_model.specs.Paths.{append}
 use Rattle.mini_laws.specs.DeclaredNames.{own_names}
 use Rattle.mini_kept.proofs.Bools.{left, right}
 use Rattle.mini_kept.proofs.Expressions.{refused_here}
 use Rattle.mini_kept.proofs.Quiet.{is_quiet}
-use Rattle.mini_rows.specs.Sketches.{Head, AbsentPart, AList, Number, PropertyName, Call, StaticMember, ComputedMember, Yield, Assignment, shape_by, Sketch, part, under, list, Sketches, end, ◌▹◌, Items, no_items, item, items, Parts, list_at, filled, all_filled, items_filled, Asked, AsWhole, AsWholeList, AsWholeItem, AsValue, AsValues, AsWord, AsHeld, AsTarget, AsUpdated, AsBranch, AsItems, AsItem, asked_below, item_asked, is_statement_asked, Leap, leaps, Hole, leap_holes, parts_of, parts_from, parts_in}
+use Rattle.mini_rows.specs.Sketches.{Head, AbsentPart, AList, Spread, Number, PropertyName, Call, StaticMember, ComputedMember, Yield, Assignment, shape_by, Sketch, part, under, list, Sketches, end, ◌▹◌, Items, no_items, item, items, Parts, list_at, filled, all_filled, items_filled, Asked, AsWhole, AsWholeList, AsWholeItem, AsValue, AsValues, AsWord, AsHeld, AsTarget, AsUpdated, AsBranch, AsItems, AsItem, asked_below, item_asked, is_statement_asked, Leap, leaps, Hole, leap_holes, parts_of, parts_from, parts_in}
 use Rattle.mini_rows.proofs.Arranging.{All, Any, Each, both_each}
 
 abbrev pub is_no_inner : Shape → Bool
@@ -218,24 +218,36 @@ word_suits : (w : List ℕ) (h : Head) (c : Asked) → option_suits (asked_below
 word_suits w (PropertyName s) c = no_slots (not (is_text s w)) (asked_below (PropertyName s) c)
 word_suits w h c = refl
 
-pub class_suits : (strict : Bool) (k : Class) (h : Head) (c : Asked) → option_suits (asked_below h c) (slots_of strict k (shape_by h)) ≡ true
-class_suits strict (a_statement d) h c = statement_suits strict d h c
-class_suits strict (a_word w) h c = word_suits w h c
-class_suits strict (a_key true) AList c = refl
-class_suits strict (a_private_or_key true) AList c = refl
-class_suits strict (an_inner_key true) AList c = refl
-class_suits strict k (Assignment Assign) c = refl
-class_suits strict k (Yield true) c = refl
-class_suits strict k (Yield false) c = refl
-class_suits strict k (Number (pos n)) c = refl
-class_suits strict k (Number (negsuc n)) c = refl
-class_suits strict k (Call true) c = refl
-class_suits strict k (Call false) c = refl
-class_suits strict k (StaticMember true) c = refl
-class_suits strict k (StaticMember false) c = refl
-class_suits strict k (ComputedMember true) c = refl
-class_suits strict k (ComputedMember false) c = refl
-class_suits strict k h c = refl
+-- its parts suit any slot in which it stands; a list's and what is spread suit where it does
+abbrev pub suits_anywhere : Head → Bool
+suits_anywhere AList = false
+suits_anywhere Spread = false
+suits_anywhere h = true
+
+pub class_suits : (strict : Bool) (k : Class) (h : Head) (c : Asked) → (suits_anywhere h || suits c (one k)) ≡ true → option_suits (asked_below h c) (slots_of strict k (shape_by h)) ≡ true
+class_suits strict (a_statement d) h c e = statement_suits strict d h c
+class_suits strict (a_word w) h c e = word_suits w h c
+class_suits strict (a_key true) AList c e = refl
+class_suits strict (a_private_or_key true) AList c e = refl
+class_suits strict (an_inner_key true) AList c e = refl
+class_suits strict an_inner_argument Spread AsValue e = absurd (cc e)
+class_suits strict an_inner_argument Spread c e = refl
+class_suits strict an_argument Spread AsValue e = refl
+class_suits strict an_argument Spread c e = refl
+class_suits strict an_object_property Spread AsValue e = refl
+class_suits strict an_object_property Spread c e = refl
+class_suits strict k (Assignment Assign) c e = refl
+class_suits strict k (Yield true) c e = refl
+class_suits strict k (Yield false) c e = refl
+class_suits strict k (Number (pos n)) c e = refl
+class_suits strict k (Number (negsuc n)) c e = refl
+class_suits strict k (Call true) c e = refl
+class_suits strict k (Call false) c e = refl
+class_suits strict k (StaticMember true) c e = refl
+class_suits strict k (StaticMember false) c e = refl
+class_suits strict k (ComputedMember true) c e = refl
+class_suits strict k (ComputedMember false) c e = refl
+class_suits strict k h c e = refl
 
 abbrev Suits : (ℕ → Asked) → ℕ → Filling → Type 0
 Suits cs i refused = Unit {0}
@@ -248,9 +260,26 @@ of_option : (cs : ℕ → Asked) (o : Option (List Slot)) → option_suits cs o 
 of_option cs None e = tt
 of_option cs (Some ss) e = e
 
-abbrev pub is_no_list : Head → Bool
-is_no_list AList = false
-is_no_list h = true
+-- where something suits one that may be absent it suits one that may not
+one_suits : (c : Asked) (k : Class) → suits c (one_or_absent k) ≡ true → suits c (one k) ≡ true
+one_suits AsValue an_argument e = refl
+one_suits AsValue an_expression e = refl
+one_suits AsValue k e = absurd (cc e)
+one_suits AsBranch (a_statement d) e = refl
+one_suits AsBranch k e = absurd (cc e)
+one_suits AsWholeItem (a_statement d) e = refl
+one_suits AsWholeItem k e = absurd (cc e)
+one_suits AsItem (a_statement d) e = refl
+one_suits AsItem k e = absurd (cc e)
+one_suits AsWord k e = refl
+one_suits AsHeld k e = refl
+one_suits AsTarget k e = refl
+one_suits AsUpdated k e = refl
+one_suits c k e = absurd (cc e)
+
+or_one : (b : Bool) (c : Asked) (k : Class) → (b || suits c (one_or_absent k)) ≡ true → (b || suits c (one k)) ≡ true
+or_one true c k e = refl
+or_one false c k e = one_suits c k e
 
 item_suits : (k : Class) (c : Asked) → suits c (many k) ≡ true → suits (item_asked c) (one k) ≡ true
 item_suits an_expression AsValues e = refl
@@ -294,10 +323,10 @@ pieces_suit : (g : Tagging) (c : Asked) → suits c (quasis g) ≡ true → item
 pieces_suit g AsHeld e = refl
 pieces_suit g c e = absurd (cc e)
 
-filling_suits : (strict : Bool) (s : Slot) (h : Head) (c : Asked) → (is_no_list h || suits c s) ≡ true → Suits (asked_below h c) 0 (filling strict s (shape_by h))
-filling_suits strict (one k) h c e = of_option (asked_below h c) (slots_of strict k (shape_by h)) (class_suits strict k h c)
+filling_suits : (strict : Bool) (s : Slot) (h : Head) (c : Asked) → (suits_anywhere h || suits c s) ≡ true → Suits (asked_below h c) 0 (filling strict s (shape_by h))
+filling_suits strict (one k) h c e = of_option (asked_below h c) (slots_of strict k (shape_by h)) (class_suits strict k h c e)
 filling_suits strict (one_or_absent k) AbsentPart c e = refl
-filling_suits strict (one_or_absent k) h c e = of_option (asked_below h c) (slots_of strict k (shape_by h)) (class_suits strict k h c)
+filling_suits strict (one_or_absent k) h c e = of_option (asked_below h c) (slots_of strict k (shape_by h)) (class_suits strict k h c (or_one (suits_anywhere h) c k e))
 filling_suits strict (many k) AList c e = λ j. item_suits k c e
 filling_suits strict (many k) h c e = tt
 filling_suits strict (many_or_holes k) AList c e = λ j. hole_suits k c e
@@ -472,7 +501,7 @@ module _ (ps : Parts) where
     pub sketch_valued : (strict : Bool) (c : Asked) (s : Slot) (r : Sketch) → suits c s ≡ true → fits strict s (filled ps r) ≡ true → Each Any Valued ps (parts_of c r)
     sketch_valued strict c s (part i) e f = (valued strict c s (child_or_absent ps.trees i) e f, tt)
     sketch_valued strict c s (under h ss) e f =
-        with_leaps (leaps h) (parts_from (asked_below h c) 0 ss) (sketches_valued (is_strict_in strict (shape_by h)) (asked_below h c) 0 (filling strict s (shape_by h)) (filling_suits strict s h c (ap (λ b. is_no_list h || b) e ∙ or_true (is_no_list h))) ss
+        with_leaps (leaps h) (parts_from (asked_below h c) 0 ss) (sketches_valued (is_strict_in strict (shape_by h)) (asked_below h c) 0 (filling strict s (shape_by h)) (filling_suits strict s h c (ap (λ b. suits_anywhere h || b) e ∙ or_true (suits_anywhere h))) ss
         (right (is_whole (class_of s) (shape_by h) [] 0 (all_filled ps ss)) (fill (is_strict_in strict (shape_by h)) (filling strict s (shape_by h)) (all_filled ps ss)) f))
     sketch_valued strict c s (list is) e f =
         items_valued strict (item_asked c) (filling strict s shape.Listed) (filling_suits strict s AList c e) (listed_not strict s) is
@@ -521,7 +550,7 @@ module _ (ps : Parts) where
         (items_valued strict c (each_or_last x l) k n is b)
 
   -- below a head, in any slot
-  pub head_valued : (strict : Bool) (c : Asked) (s : Slot) (h : Head) (ss : Sketches) → is_no_list h ≡ true → fits strict s (filled ps (under h ss)) ≡ true → Each Any Valued ps (parts_of c (under h ss))
+  pub head_valued : (strict : Bool) (c : Asked) (s : Slot) (h : Head) (ss : Sketches) → suits_anywhere h ≡ true → fits strict s (filled ps (under h ss)) ≡ true → Each Any Valued ps (parts_of c (under h ss))
   head_valued strict c s h ss e f =
       with_leaps (leaps h) (parts_from (asked_below h c) 0 ss)
       (sketches_valued (is_strict_in strict (shape_by h)) (asked_below h c) 0 (filling strict s (shape_by h)) (filling_suits strict s h c (ap (λ b. b || suits c s) e)) ss

@@ -1,6 +1,6 @@
 -- Two calls of a name between which a conditional chooses, and which differ in their first argument alone: one call chooses that.
 use Rattle.std.proofs.Common.{◌≡◌, ◌<◌, ◌≤◌, Bool, true, false, List, [], ◌∷◌, refl, sym, ap, ◌∙◌, inl, inr, true≢false, arith}
-use Rattle.std.specs.Prelude.{◌&&◌}
+use Rattle.std.specs.Prelude.{◌+◌, ◌&&◌, ◌||◌}
 use Rattle.std.proofs.lemmas.Bool.{and_parts}
 use Rattle.mini_model.specs.declared.name.Name.{Name}
 use Rattle.mini_model.specs.declared.place.Position.TheVariants.{Expr}
@@ -17,6 +17,7 @@ use Rattle.mini_laws.specs.Naming.{kind_of}
 use Rattle.mini_laws.specs.Expressions.{is_eval}
 use Rattle.mini_laws.proofs.Runs.{either_eta}
 use Rattle.mini_laws.proofs.Seats.{placed}
+use Rattle.mini_model.specs.Paths.{append}
 use Rattle.mini_node.specs.Walks.{append_none}
 use Rattle.mini_terms.specs.Folds.{is_effect_free}
 use Rattle.mini_terms.specs.Reading.{is_item, by_value}
@@ -24,13 +25,13 @@ use Rattle.mini_terms.proofs.Reading.{read_by_value}
 use Rattle.mini_kept.proofs.Bools.{left, both}
 use Rattle.mini_kept.proofs.Expressions.{expression, expression_taken, three_fit}
 use Rattle.mini_rows.specs.Arranged.{KeptAt}
-use Rattle.mini_rows.specs.Sketches.{Conditional, Call, Sketch, part, under, list, end, ◌▹◌, item as item_of, items as items_of, no_items}
+use Rattle.mini_rows.specs.Sketches.{Conditional, Call, Spread, Sketch, Parts, part, under, list, end, ◌▹◌, item as item_of, items as items_of, no_items}
 use Rattle.mini_rows.specs.Chains.{a_call}
-use Rattle.mini_rows.specs.Choices.{Row44, CallsLighter}
+use Rattle.mini_rows.specs.Choices.{argument, Row44, CallsLighter}
 use Rattle.mini_rows.proofs.ArrangedExpressions.{expressions_arranged}
 use Rattle.mini_rows.proofs.ChainRuns.{called, items, next, calls, named_call, value_is, name_called}
 use Rattle.mini_rows.proofs.ChoiceFree.{Told, free_told, chosen, goes_on_chosen, begins_alike}
-use Rattle.mini_rows.proofs.ChoiceItems.{item, item_read, gathers, items_split}
+use Rattle.mini_rows.proofs.ChoiceItems.{given, argument_read, nothing_given, gathers, items_split}
 use Rattle.mini_rows.proofs.ChoiceRuns.{value, asked, Tells, Reading, reading, conditional_tells, conditional_value}
 use Rattle.mini_rows.proofs.ChoiceRuns.{by_value as same_value}
 use Rattle.mini_rows.proofs.ChoiceWeights.{no_awkward, pair_of, name_heavy}
@@ -49,7 +50,11 @@ as_asked q r x = refl
 call_tells : (f : Tree) (ts : Trees) → Tells (call false f ts)
 call_tells f ts = record { by = λ e q r s. read_by_value (call false f ts) refl e q r s ∙ as_asked q r (value e (call false f ts) s) }
 
-module _ (e : Environment) (x : Name) (a p q : Tree) (ts : Trees) (free : is_effect_free a ≡ true) (is_first : is_item p ≡ true) (is_second : is_item q ≡ true) (s : State) where
+or_right : (b : Bool) → b || true ≡ true
+or_right true = refl
+or_right false = refl
+
+module _ (e : Environment) (x : Name) (b : Bool) (a p q : Tree) (ts : Trees) (free : is_effect_free a ≡ true) (is_first : b || is_item p ≡ true) (is_second : b || is_item q ≡ true) (s : State) where
   abbrev f : Tree
   f = identifier x
 
@@ -66,40 +71,40 @@ module _ (e : Environment) (x : Name) (a p q : Tree) (ts : Trees) (free : is_eff
 
   -- the call, after the function and the first argument's value
   abbrev goes_on : Called → Completion Value → Completion Value
-  goes_on g y = next (next (item y) (gathers e ts)) (λ vs z. calls e false g vs z)
+  goes_on g y = next (next (given e b y) (gathers e ts)) (λ vs z. calls e false g vs z)
 
   -- and after the function alone
   abbrev follows : Tree → Called → State → Completion Value
-  follows t g z = next (items e (t ▸ ts) z) (λ vs y. calls e false g vs y)
+  follows t g z = next (items e (argument b t ▸ ts) z) (λ vs y. calls e false g vs y)
 
   nothing_goes_on : (g : Called) → goes_on g out ≡ out
   unfolding either
-  nothing_goes_on g = refl
+  nothing_goes_on g = ap (λ y. next (next y (gathers e ts)) (λ vs z. calls e false g vs z)) (nothing_given e b)
 
-  follows_value : (t : Tree) → is_item t ≡ true → (g : Called) (z : State) → follows t g z ≡ goes_on g (value e t z)
-  follows_value t i g z = ap (λ y. next y (λ vs z. calls e false g vs z)) (items_split e t ts z ∙ ap (λ y. next y (gathers e ts)) (item_read t i e z))
+  follows_value : (t : Tree) → b || is_item t ≡ true → (g : Called) (z : State) → follows t g z ≡ goes_on g (value e t z)
+  follows_value t i g z = ap (λ y. next y (λ vs z. calls e false g vs z)) (items_split e (argument b t) ts z ∙ ap (λ y. next y (gathers e ts)) (argument_read b t i e z))
 
   follows_chosen : (g : Called) → follows either_one g s ≡ chosen (value e a s) (follows p g) (follows q g)
   follows_chosen g =
-      follows_value either_one refl g s
+      follows_value either_one (or_right b) g s
       ∙ ap (goes_on g) (conditional_value e a p q s)
       ∙ goes_on_chosen (goes_on g) (nothing_goes_on g) (value e a s) s (free_told e a free s) (λ z. value e p z) (λ z. value e q z)
       ∙ (λ i. chosen (value e a s) (λ z. (sym (follows_value p is_first g z)) i) (λ z. (sym (follows_value q is_second g z)) i))
 
-  call_chosen : value e (conditional a (call false f (p ▸ ts)) (call false f (q ▸ ts))) s ≡ value e (call false f (either_one ▸ ts)) s
+  call_chosen : value e (conditional a (call false f (argument b p ▸ ts)) (call false f (argument b q ▸ ts))) s ≡ value e (call false f (argument b either_one ▸ ts)) s
   call_chosen =
-      conditional_value e a (call false f (p ▸ ts)) (call false f (q ▸ ts)) s
-      ∙ begins_alike s (called e f s) (value e a s) (name_told (reading e x s)) (free_told e a free s) (follows p) (follows q) (follows either_one) follows_chosen (λ z. value e (call false f (p ▸ ts)) z) (λ z. value e (call false f (q ▸ ts)) z) (value_is e false (a_call (p ▸ ts)) f s) (value_is e false (a_call (q ▸ ts)) f s)
-      ∙ sym (value_is e false (a_call (either_one ▸ ts)) f s)
+      conditional_value e a (call false f (argument b p ▸ ts)) (call false f (argument b q ▸ ts)) s
+      ∙ begins_alike s (called e f s) (value e a s) (name_told (reading e x s)) (free_told e a free s) (follows p) (follows q) (follows either_one) follows_chosen (λ z. value e (call false f (argument b p ▸ ts)) z) (λ z. value e (call false f (argument b q ▸ ts)) z) (value_is e false (a_call (argument b p ▸ ts)) f s) (value_is e false (a_call (argument b q ▸ ts)) f s)
+      ∙ sym (value_is e false (a_call (argument b either_one ▸ ts)) f s)
 
 -- 44 means the same
 pub calls_same : (n w : Tree) → Row44 n w → SameTree n w
 calls_same n w r =
-    let first : Tree = call false (identifier r.name) (r.p ▸ r.others) in
-    let second : Tree = call false (identifier r.name) (r.q ▸ r.others) in
+    let first : Tree = call false (identifier r.name) (argument r.is_spread r.p ▸ r.others) in
+    let second : Tree = call false (identifier r.name) (argument r.is_spread r.q ▸ r.others) in
     same_by n w _ _ r.shape r.written
-    (same_value _ _ (conditional_tells r.a first second) (call_tells (identifier r.name) (conditional r.a r.p r.q ▸ r.others)) refl
-    (λ e s. call_chosen e r.name r.a r.p r.q r.others r.effect_free r.first r.second s))
+    (same_value _ _ (conditional_tells r.a first second) (call_tells (identifier r.name) (argument r.is_spread (conditional r.a r.p r.q) ▸ r.others)) refl
+    (λ e s. call_chosen e r.name r.is_spread r.a r.p r.q r.others r.effect_free r.first r.second s))
 
 -- ---- where it stands
 
@@ -115,34 +120,51 @@ module _ (strict : Bool) where
   argument_is (node shape.SpreadElement xs n ts) i e = absurd (true≢false (sym i))
   argument_is (node h xs n ts) i e = e
 
-  of_call : (f p : Tree) (ts : Trees) → is_item p ≡ true → Fits (call false f (p ▸ ts)) → Fits f × (Fits p × AreArguments ts)
-  of_call f p ts i e =
-      let (callee, rest) = and_parts (fits strict expression f) (fits strict (many an_argument) (listed (p ▸ ts)) && true) e in
-      let (first, others) = and_parts (fits strict (one an_argument) p) (fill strict (each (one an_argument)) ts) (left (fits strict (many an_argument) (listed (p ▸ ts))) true rest) in
-      (callee, (argument_is p i first, others))
+  -- what is spread is one, too
+  given_is : (b : Bool) (t : Tree) → b || is_item t ≡ true → fits strict (one an_argument) (argument b t) ≡ true → Fits t
+  given_is false t i e = argument_is t i e
+  given_is true t i e = left (fits strict expression t) true e
 
-  call_fits : (f t : Tree) (ts : Trees) → Fits f → Fits t → AreArguments ts → Fits (call false f (t ▸ ts))
-  call_fits f t ts callee first others =
-      both (fits strict expression f) (fits strict (many an_argument) (listed (t ▸ ts)) && true) callee
-      (both (fits strict (many an_argument) (listed (t ▸ ts))) true (both (fits strict (one an_argument) t) (fill strict (each (one an_argument)) ts) (expression_taken strict (one an_argument) t tt first) others) refl)
+  given_fits : (b : Bool) (t : Tree) → Fits t → fits strict (one an_argument) (argument b t) ≡ true
+  given_fits false t e = expression_taken strict (one an_argument) t tt e
+  given_fits true t e = both (fits strict expression t) true e refl
 
-  pub calls_fit : (x : Name) (a p q : Tree) (ts : Trees) → is_item p ≡ true → is_item q ≡ true → Fits a → Fits (call false (identifier x) (p ▸ ts)) → Fits (call false (identifier x) (q ▸ ts)) → Fits (call false (identifier x) (conditional a p q ▸ ts))
-  calls_fit x a p q ts i j test e f =
-      let (callee, (first, others)) = of_call (identifier x) p ts i e in
-      let (again, (second, same)) = of_call (identifier x) q ts j f in
-      call_fits (identifier x) (conditional a p q) ts callee (three_fit strict a p q test first second) others
+  of_call : (f : Tree) (b : Bool) (p : Tree) (ts : Trees) → b || is_item p ≡ true → Fits (call false f (argument b p ▸ ts)) → Fits f × (Fits p × AreArguments ts)
+  of_call f b p ts i e =
+      let (callee, rest) = and_parts (fits strict expression f) (fits strict (many an_argument) (listed (argument b p ▸ ts)) && true) e in
+      let (first, others) = and_parts (fits strict (one an_argument) (argument b p)) (fill strict (each (one an_argument)) ts) (left (fits strict (many an_argument) (listed (argument b p ▸ ts))) true rest) in
+      (callee, (given_is b p i first, others))
+
+  call_fits : (f : Tree) (b : Bool) (t : Tree) (ts : Trees) → Fits f → Fits t → AreArguments ts → Fits (call false f (argument b t ▸ ts))
+  call_fits f b t ts callee first others =
+      both (fits strict expression f) (fits strict (many an_argument) (listed (argument b t ▸ ts)) && true) callee
+      (both (fits strict (many an_argument) (listed (argument b t ▸ ts))) true (both (fits strict (one an_argument) (argument b t)) (fill strict (each (one an_argument)) ts) (given_fits b t first) others) refl)
+
+  pub calls_fit : (x : Name) (b : Bool) (a p q : Tree) (ts : Trees) → b || is_item p ≡ true → b || is_item q ≡ true → Fits a → Fits (call false (identifier x) (argument b p ▸ ts)) → Fits (call false (identifier x) (argument b q ▸ ts)) → Fits (call false (identifier x) (argument b (conditional a p q) ▸ ts))
+  calls_fit x b a p q ts i j test e f =
+      let (callee, (first, others)) = of_call (identifier x) b p ts i e in
+      let (again, (second, same)) = of_call (identifier x) b q ts j f in
+      call_fits (identifier x) b (conditional a p q) ts callee (three_fit strict a p q test first second) others
 
 -- ---- the same parts
 
 abbrev calls_part : Sketch → Sketch
 calls_part s = under (Call false) (part 0 ▹ list (item_of s (items_of 0 no_items)) ▹ end)
 
+abbrev call_parts : Name → Tree → Tree → Tree → Trees → Parts
+call_parts x a p q ts = record { trees = identifier x ▸ a ▸ p ▸ q ▸ none; lists = ts ∷ [] }
+
+chosen_kept : (b : Bool) (x : Name) (a p q : Tree) (ts : Trees) (s : Seat) (n w : Tree) → n ≡ conditional a (call false (identifier x) (argument b p ▸ append ts none)) (call false (identifier x) (argument b q ▸ append ts none)) → w ≡ call false (identifier x) (argument b (conditional a p q) ▸ append ts none) → KeptAt (Expr s) n w
+chosen_kept false x a p q ts s n w e f = expressions_arranged (call_parts x a p q ts) (under Conditional (part 1 ▹ calls_part (part 2) ▹ calls_part (part 3) ▹ end)) (calls_part (under Conditional (part 1 ▹ part 2 ▹ part 3 ▹ end))) refl s n w e f
+chosen_kept true x a p q ts s n w e f =
+    expressions_arranged (call_parts x a p q ts) (under Conditional (part 1 ▹ calls_part (under Spread (part 2 ▹ end)) ▹ calls_part (under Spread (part 3 ▹ end)) ▹ end)) (calls_part (under Spread (under Conditional (part 1 ▹ part 2 ▹ part 3 ▹ end) ▹ end))) refl s n w e f
+
 pub calls_kept : (q : Seat) (n w : Tree) → Row44 n w → KeptAt (Expr q) n w
 calls_kept q n w r =
     let others = sym (append_none r.others) in
-    expressions_arranged (record { trees = identifier r.name ▸ r.a ▸ r.p ▸ r.q ▸ none; lists = r.others ∷ [] }) (under Conditional (part 1 ▹ calls_part (part 2) ▹ calls_part (part 3) ▹ end)) (calls_part (under Conditional (part 1 ▹ part 2 ▹ part 3 ▹ end))) refl q n w
-    (r.shape ∙ (λ i. conditional r.a (call false (identifier r.name) (r.p ▸ others i)) (call false (identifier r.name) (r.q ▸ others i))))
-    (r.written ∙ (λ i. call false (identifier r.name) (conditional r.a r.p r.q ▸ others i)))
+    chosen_kept r.is_spread r.name r.a r.p r.q r.others q n w
+    (r.shape ∙ (λ i. conditional r.a (call false (identifier r.name) (argument r.is_spread r.p ▸ others i)) (call false (identifier r.name) (argument r.is_spread r.q ▸ others i))))
+    (r.written ∙ (λ i. call false (identifier r.name) (argument r.is_spread (conditional r.a r.p r.q) ▸ others i)))
 
 -- ---- lighter: a call and a name go
 
@@ -154,13 +176,25 @@ first_comma : (o u : Outline) (os : List Outline) → commas_weight (o ∷ os) �
 first_comma o u [] = refl
 first_comma o u (p ∷ os) = refl
 
-call_falls : (s : Seat) (x : Name) (a p q : Tree) (ts : Trees) → weight (Expr s) (call false (identifier x) (conditional a p q ▸ ts)) < weight (Expr s) (conditional a (call false (identifier x) (p ▸ ts)) (call false (identifier x) (q ▸ ts)))
-call_falls s x a p q ts =
-    let marks = call_marks s (outlines (identifier x ▸ listed (conditional a p q ▸ ts) ▸ none)) in
+-- an argument weighs what its expression does, more or less
+given_weighs : (b : Bool) (t u : Tree) → weight (Expr argument_seat) (argument b t) + weight (Expr argument_seat) u ≡ weight (Expr argument_seat) (argument b u) + weight (Expr argument_seat) t
+given_weighs false t u = omega arith
+given_weighs true t u = omega arith
+
+given_least : (b : Bool) (t : Tree) → weight (Expr argument_seat) t ≤ weight (Expr argument_seat) (argument b t)
+given_least false t = omega arith
+given_least true t = omega arith
+
+call_falls : (s : Seat) (x : Name) (b : Bool) (a p q : Tree) (ts : Trees) → weight (Expr s) (call false (identifier x) (argument b (conditional a p q) ▸ ts)) < weight (Expr s) (conditional a (call false (identifier x) (argument b p ▸ ts)) (call false (identifier x) (argument b q ▸ ts)))
+call_falls s x b a p q ts =
+    let one = argument b (conditional a p q) in
+    let marks = call_marks s (outlines (identifier x ▸ listed (one ▸ ts) ▸ none)) in
     let first = placed 0 (branch_seat argument_seat) argument_seat refl (λ h os. omega arith) p in
     let second = placed 0 (branch_seat argument_seat) argument_seat refl (λ h os. omega arith) q in
-    let commas = first_comma (outline (conditional a p q)) (outline p) (outlines ts) in
-    omega (arith, marks, first, second, commas, name_heavy x)
+    let commas = first_comma (outline one) (outline (argument b p)) (outlines ts) in
+    let given = given_weighs b (conditional a p q) p in
+    let least = given_least b q in
+    omega (arith, marks, first, second, commas, given, least, name_heavy x)
 
 pub calls_lighter : CallsLighter
-calls_lighter s n w r = falls_by (Expr s) n w _ _ r.shape r.written (call_falls s r.name r.a r.p r.q r.others)
+calls_lighter s n w r = falls_by (Expr s) n w _ _ r.shape r.written (call_falls s r.name r.is_spread r.a r.p r.q r.others)

@@ -1,14 +1,14 @@
 -- An expression that is an item of a list, as an argument, is read by its value, and what a list gives is that of its first item and of the rest.
-use Rattle.std.proofs.Common.{◌≡◌, ℕ, true, false, List, [], ◌∷◌, None, refl, sym, ap, ◌∙◌}
-use Rattle.std.specs.Prelude.{length}
+use Rattle.std.proofs.Common.{◌≡◌, ℕ, Bool, true, false, List, [], ◌∷◌, None, refl, sym, ap, ◌∙◌}
+use Rattle.std.specs.Prelude.{length, ◌||◌}
 use Rattle.mini_model.specs.declared.name.Name.{Name}
 use Rattle.mini_model.specs.declared.shape.Shape.{Shape}
 use Rattle.mini_model.specs.declared.shape.Shape.TheVariants as shape
-use Rattle.mini_model.specs.Tree.{Tree, Trees, node, ◌▸◌}
+use Rattle.mini_model.specs.Tree.{Tree, Trees, node, none, ◌▸◌, absent}
 use Rattle.mini_laws.specs.Value.{Value, variables}
-use Rattle.mini_laws.specs.State.{Anything, AnObject, NodeOf, Create, Entry, Item, Short, done, ended, State, Completion, ok, stop, halt, out, either, Environment}
+use Rattle.mini_laws.specs.State.{Anything, AnObject, NodeOf, Create, SpreadOf, Entry, Item, Spreaded, Short, done, ended, State, Completion, ok, stop, halt, out, either, Environment}
 use Rattle.mini_laws.specs.Demand.{Val, Demand, As, AnEntry, Items, Stat, Binds}
-use Rattle.mini_laws.specs.Command.{Naming, Command, ret, bind, shift, emit_mine, Kids, run}
+use Rattle.mini_laws.specs.Command.{Naming, Command, ret, bind, shift, emit, emit_mine, Kids, act, run}
 use Rattle.mini_laws.specs.Naming.{kinds, first_facts, summaries, facts, naming}
 use Rattle.mini_laws.specs.Replies.{reply, valued}
 use Rattle.mini_laws.specs.Expressions.{first_kind, get_identifier, member_step, got, chain_value, chain_end}
@@ -18,6 +18,7 @@ use Rattle.mini_laws.specs.Step.{step, means, meaning}
 use Rattle.mini_laws.proofs.Runs.{either_cong, either_eta, run_bind, run_shift}
 use Rattle.mini_terms.specs.Reading.{is_item, is_item_by, by_value}
 use Rattle.mini_terms.proofs.Reading.{read_by_value}
+use Rattle.mini_rows.specs.Choices.{spread, argument}
 use Rattle.mini_rows.proofs.ChainRuns.{items, next}
 use Rattle.mini_rows.proofs.ChoiceRuns.{value}
 
@@ -65,6 +66,46 @@ module _ (e : Environment) where
 
 pub item_read : (t : Tree) → is_item t ≡ true → (e : Environment) (s : State) → entry e t s ≡ item (value e t s)
 item_read (node h xs n ts) p e s = item_by e h p xs n ts s
+
+-- ---- what is spread is read by its operand's value
+
+abbrev spread_names : Tree → Naming
+spread_names a = naming shape.SpreadElement AnEntry [] 0 (summaries (a ▸ none))
+
+abbrev spread_operand : Environment → Tree → Kids (λ i. As Val)
+spread_operand e a i r z = meaning e (a ▸ none) i (As Val) r z
+
+abbrev spreads : Value → Command (λ i. As Val) Entry
+spreads v = bind (emit SpreadOf (Item v ∷ [])) (λ w. ret (Spreaded w))
+
+-- with the value of its operand, which is this one
+abbrev pub spread_entry : Environment → Value → State → Completion Entry
+spread_entry e v z = run {q = λ i. As Val} e (spread_names absent) (spread_operand e absent) (spreads v) z
+
+spread_alike : (e : Environment) (a b : Tree) (v : Value) (z : State) → run {q = λ i. As Val} e (spread_names a) (spread_operand e a) (spreads v) z ≡ run {q = λ i. As Val} e (spread_names b) (spread_operand e b) (spreads v) z
+unfolding act
+spread_alike e a b v z = refl
+
+spread_replied : (e : Environment) (a : Tree) (v : Value) (z : State) → run {q = λ i. As Val} e (spread_names a) (spread_operand e a) (bind (spreads v) ret) z ≡ spread_entry e v z
+spread_replied e a v z = run_bind e (spread_names a) (spreads v) ret (spread_operand e a) z ∙ either_eta (run {q = λ i. As Val} e (spread_names a) (spread_operand e a) (spreads v) z) ∙ spread_alike e a absent v z
+
+spread_read : (e : Environment) (a : Tree) (s : State) → entry e (spread a) s ≡ next (value e a s) (λ v z. spread_entry e v z)
+unfolding means meaning step
+spread_read e a s = either_cong (value e a s) _ _ _ _ (λ v z. spread_replied e a v z) (λ x z. refl)
+
+-- so an argument by that of its expression
+abbrev pub given : Environment → Bool → Completion Value → Completion Entry
+given e false x = item x
+given e true x = next x (λ v z. spread_entry e v z)
+
+pub argument_read : (b : Bool) (t : Tree) → b || is_item t ≡ true → (e : Environment) (s : State) → entry e (argument b t) s ≡ given e b (value e t s)
+argument_read false t p e s = item_read t p e s
+argument_read true t p e s = spread_read e t s
+
+pub nothing_given : (e : Environment) (b : Bool) → given e b out ≡ out
+unfolding either
+nothing_given e false = refl
+nothing_given e true = refl
 
 -- ---- arguments, one after another
 

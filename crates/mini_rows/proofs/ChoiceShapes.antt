@@ -20,7 +20,7 @@ use Rattle.mini_kept.proofs.Expressions.{expression, ThreeFit, of_conditional, T
 use Rattle.mini_model.specs.Paths.{append}
 use Rattle.mini_rows.specs.Lists.{sequence}
 use Rattle.mini_rows.specs.Spellings.{binary, assignment}
-use Rattle.mini_rows.specs.Choices.{Key, Named, Spelled, Numbered, member_of, assign, joined, strictly, loosely, joining, asks_object, null_compared, held, ended, deciding, ChoiceRow, pair, Row44, Row13Both, LighterRow, OwnRow, HeldRow}
+use Rattle.mini_rows.specs.Choices.{Key, Named, Spelled, Numbered, member_of, assign, joined, strictly, loosely, joining, asks_object, null_compared, held, ended, deciding, ChoiceRow, pair, argument, Row44, Row13Both, LighterRow, OwnRow, HeldRow}
 use Rattle.mini_rows.proofs.ChainLinkLawful.{chains_fit, chains_asked, chains_slot}
 use Rattle.mini_rows.proofs.ChainEnds.{end_fits, end_asked, end_slot}
 use Rattle.mini_rows.proofs.ChainLawful.{chain_row_fits, chain_row_asked, chain_row_slot}
@@ -259,7 +259,7 @@ module _ (strict : Bool) where
     held_fits n w (inr (inr (inr (inr (inr (inr r)))))) = for_choice n w _ _ _ r.shape (λ x y z. subst Fits (sym r.written) (pair_fits r.a r.b x y))
 
     called_fits : (n w : Tree) → Row44 n w → Here n → Here w
-    called_fits n w r = for_choice n w _ _ _ r.shape (λ x y z. subst Fits (sym r.written) (calls_fit strict r.name r.a r.p r.q r.others r.first r.second x y z))
+    called_fits n w r = for_choice n w _ _ _ r.shape (λ x y z. subst Fits (sym r.written) (calls_fit strict r.name r.is_spread r.a r.p r.q r.others r.first r.second x y z))
 
 -- ---- what a parent asks
 
@@ -327,7 +327,7 @@ held_choosing n w (inr (inr (inr (inr (inr (inl r)))))) = record { a = r.a; b = 
 held_choosing n w (inr (inr (inr (inr (inr (inr r)))))) = record { a = r.a; b = r.b; c = r.b; read = r.shape; number = ap is_not_positive_number r.written }
 
 called_choosing : (n w : Tree) → Row44 n w → Choosing n w
-called_choosing n w r = record { a = r.a; b = call false (identifier r.name) (r.p ▸ r.others); c = call false (identifier r.name) (r.q ▸ r.others); read = r.shape; number = ap is_not_positive_number r.written }
+called_choosing n w r = record { a = r.a; b = call false (identifier r.name) (argument r.is_spread r.p ▸ r.others); c = call false (identifier r.name) (argument r.is_spread r.q ▸ r.others); read = r.shape; number = ap is_not_positive_number r.written }
 
 -- ---- wherever rows are made
 

@@ -1,6 +1,6 @@
 -- Rows of conditionals, logical expressions and assignments that are written shorter of the same parts, as equations: each is a
 -- shape and what is written in its place. No order of rewriting is meant.
-use Rattle.std.specs.Prelude.{◌≡◌, ◌<◌, ◌⊎◌, ◌||◌, ◌&&◌, ℕ, ℤ, List, Bool, true, false, not, nat_eq, Option, Some, None, is_none, codes}
+use Rattle.std.specs.Prelude.{◌≡◌, ◌<◌, ◌⊎◌, ◌||◌, ◌&&◌, ℕ, ℤ, List, [], Bool, true, false, not, nat_eq, Option, Some, None, is_none, codes}
 use Rattle.mini_model.specs.declared.name.Name.{Name}
 use Rattle.mini_model.specs.declared.operator.AssignmentOperator.{AssignmentOperator}
 use Rattle.mini_model.specs.declared.operator.AssignmentOperator.TheVariants as assigning
@@ -349,20 +349,29 @@ pub record Row49 (n w : Tree) : Type 0 where
 
 -- Where the test has no effect, what both branches read before their own parts may be read before it
 
--- 44: `a ? f(p, r) : f(q, r)` becomes `f(a ? p : q, r)`, where a scope declares f, which is a name, and a has no effect; r may be of any
--- number of arguments, and p and q are expressions
+abbrev pub spread : Tree → Tree
+spread p = node shape.SpreadElement [] 0 (p ▸ none)
+
+-- an argument, and one that is spread: `p`, and `...p`
+abbrev pub argument : Bool → Tree → Tree
+argument false p = p
+argument true p = spread p
+
+-- 44: `a ? f(p, r) : f(q, r)` becomes `f(a ? p : q, r)`, and `a ? f(...p, r) : f(...q, r)` becomes `f(...a ? p : q, r)`, where a scope declares
+-- f, which is a name, and a has no effect; r may be of any number of arguments, and p and q are expressions
 pub record Row44 (n w : Tree) : Type 0 where
   pub a : Tree
   pub name : Name
+  pub is_spread : Bool
   pub p : Tree
   pub q : Tree
   pub others : Trees
   pub declared : is_none name.symbol ≡ false
   pub effect_free : is_effect_free a ≡ true
-  pub first : is_item p ≡ true
-  pub second : is_item q ≡ true
-  pub shape : n ≡ conditional a (call false (identifier name) (p ▸ others)) (call false (identifier name) (q ▸ others))
-  pub written : w ≡ call false (identifier name) (conditional a p q ▸ others)
+  pub first : is_spread || is_item p ≡ true
+  pub second : is_spread || is_item q ≡ true
+  pub shape : n ≡ conditional a (call false (identifier name) (argument is_spread p ▸ others)) (call false (identifier name) (argument is_spread q ▸ others))
+  pub written : w ≡ call false (identifier name) (argument is_spread (conditional a p q) ▸ others)
 
 -- 13, and 15 of `??`: after a left side that lets the right one be evaluated, whatever it does besides, both are in order:
 -- `(x = []) && b` becomes `x = [], b`, and `void f() ?? b` becomes `void f(), b`

@@ -39,6 +39,7 @@ pub data Head : Type 0 where
   Object : Head
   -- a property that is no method and no accessor: whether it is shorthand, and whether its key stands in brackets
   Property : Bool → Bool → Head
+  Spread : Head
   Yield : Bool → Head
   Template : Head
   -- a piece of a template's text: whether it is the last, the raw text and the cooked one
@@ -75,6 +76,7 @@ shape_by Chain = shape.ChainExpression
 shape_by Array = shape.ArrayExpression
 shape_by Object = shape.ObjectExpression
 shape_by (Property is_shorthand is_computed) = shape.ObjectProperty Init false is_shorthand is_computed
+shape_by Spread = shape.SpreadElement
 shape_by (Yield is_delegate) = shape.YieldExpression is_delegate
 shape_by Template = shape.TemplateLiteral
 shape_by (Piece is_tail raw cooked) = shape.TemplateElement is_tail raw (Some cooked)
@@ -158,12 +160,18 @@ abbrev pub target_asked : AssignmentOperator → Asked
 target_asked Assign = AsTarget
 target_asked o = AsUpdated
 
+-- what is spread is an expression; where none stands, nothing is asked of it
+abbrev pub spread_asked : Asked → Asked
+spread_asked AsValue = AsValue
+spread_asked c = AsWord
+
 abbrev pub asked_below : Head → Asked → ℕ → Asked
 asked_below AList c i = item_asked c
 asked_below Sequence c i = AsValues
 asked_below Array c i = AsValues
 asked_below Object c i = AsValues
 asked_below (Property is_shorthand is_computed) c zero = AsWord
+asked_below Spread c i = spread_asked c
 asked_below (Call is_optional) c (suc i) = AsValues
 asked_below New c (suc i) = AsValues
 asked_below (StaticMember is_optional) c (suc i) = AsWord
@@ -319,6 +327,7 @@ abbrev pub is_expression_head : Head → Bool
 is_expression_head AbsentPart = false
 is_expression_head AList = false
 is_expression_head (PropertyName s) = false
+is_expression_head Spread = false
 is_expression_head (Piece is_tail raw cooked) = false
 is_expression_head Empty = false
 is_expression_head OfExpression = false
@@ -341,6 +350,12 @@ abbrev pub is_absent_head : Head → Bool
 is_absent_head AbsentPart = true
 is_absent_head h = false
 
+-- an expression, or what is spread, or nothing
+abbrev pub is_operand_head : Head → Bool
+is_operand_head AbsentPart = true
+is_operand_head Spread = true
+is_operand_head h = is_expression_head h
+
 abbrev pub is_word_head : Head → Bool
 is_word_head (PropertyName s) = true
 is_word_head (String s) = true
@@ -357,7 +372,7 @@ is_member_head (ComputedMember is_optional) = true
 is_member_head h = false
 
 abbrev pub stands_as : Asked → Head → Bool
-stands_as AsValue h = is_expression_head h || is_absent_head h
+stands_as AsValue h = is_operand_head h
 stands_as AsWord h = is_word_head h
 stands_as AsHeld h = is_piece_head h
 stands_as AsTarget h = is_member_head h
