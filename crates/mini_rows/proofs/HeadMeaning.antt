@@ -19,7 +19,7 @@ use Rattle.mini_rows.proofs.NextKept.{next_unnamed}
 use Rattle.mini_rows.proofs.NextMeaning.{initial_goes}
 use Rattle.mini_rows.proofs.SingleUse.{Lead, Doing, Giving, Raising, Testing, head_of, Step, led, is_end, Stands, Well, AllPass, Initial, heads, statement, unnamed}
 use Rattle.mini_rows.proofs.ItemReads.{plain_item}
-use Rattle.mini_rows.proofs.SingleMeaning.{first_goes}
+use Rattle.mini_rows.proofs.ConstantUse.{moves_there}
 use Rattle.mini_rows.proofs.UnusedMeaning.{SameRead, GoesWith, single_read, single_same, first_avoids, same_symbol, movable, block_same, lexical_alone, never_written}
 use Rattle.mini_rows.proofs.UnusedNames.{or_parts, avoided, all_avoided}
 
@@ -66,7 +66,7 @@ module _ (e : Environment) (spelling : List ℕ) (k : ℕ) (z : Unseen (alone (D
       let put : put_first x init head ≡ led steps init = t.puts init ∙ t.along (put_first x init t.inner) ∙ ap one (t.path.puts init) in
       let beside = subst (AllPass init) (sym t.front) tt in
       subst₂ (λ h w. GoesWith e k init h w s) (sym there) (sym put)
-      (first_goes e k z x refl reading.spelling init (sym (plain_read init (movable init moves))) (plain_item init (movable init moves)) AsWholeItem steps (t.stands (is_end t.path.steps), subst (λ c. Well c t.path.steps) (sym (t.below AsWholeItem)) t.path.well) ((ap (any_names x) t.front, t.free), t.path.spared) (beside, t.path.passed init (t.passed init passed)) (Stat None) tt [] s)
+      (moves_there e k z x refl reading.spelling init (sym (plain_read init (movable init moves))) (plain_item init (movable init moves)) AsWholeItem steps (t.stands (is_end t.path.steps), subst (λ c. Well c t.path.steps) (sym (t.below AsWholeItem)) t.path.well) ((ap (any_names x) t.front, t.free), t.path.spared) (beside, t.path.passed init (t.passed init passed)) (Stat None) tt [] s)
 
   pub head_goes : reads_head x head ≡ true → are_passed x init (evaluated head) ≡ true → (s : State) → GoesWith e k init head (put_first x init head) s
   head_goes once passed s = by (heads x head once)

@@ -136,7 +136,9 @@ pub mod SingleUse
 pub mod SingleWeights
 mod ItemReads
 mod Passing
+mod Avoiding
 pub mod SingleMeaning
+mod ConstantUse
 pub mod SingleFits
 pub mod DeclaredKept
 pub mod Surrogates

@@ -31,7 +31,7 @@ use Rattle.mini_rows.proofs.ListStretches.{lets_append}
 use Rattle.mini_rows.proofs.ListStatements.{declaration_is, declare_more, declare_none, declarations_join}
 use Rattle.mini_rows.proofs.ItemReads.{plain_item}
 use Rattle.mini_rows.proofs.SingleUse.{Lead, Not, head_of, before, Step, Path, path, led}
-use Rattle.mini_rows.proofs.SingleMeaning.{first_goes}
+use Rattle.mini_rows.proofs.ConstantUse.{moves_there}
 use Rattle.mini_rows.proofs.UnusedMeaning.{ReadAs, declared_lets, declared_then, movable, one_same, both_go, same_symbol, block_same, read_alone, never_written, lexical_alone}
 use Rattle.mini_rows.proofs.UnusedNames.{avoided, all_avoided}
 use Rattle.mini_rows.proofs.DeclaredKept.{none_in}
@@ -109,7 +109,7 @@ module _ (e : Environment) (spelling : List ℕ) (k : ℕ) (z : Unseen (alone (D
   value_goes : (s : State) → Go (either (means e init (As Val) tt s) (λ v t. means e value (As Val) tt (after v t)) (λ y t. stop y t)) (means e (put_first x init value) (As Val) tt s)
   value_goes s =
       subst₂ (λ h w. Go (either (means e init (As Val) tt s) (λ v t. means e h (As Val) tt (after v t)) (λ y t. stop y t)) (means e w (As Val) tt s)) (sym read_is) (sym put_is)
-      (first_goes e k z x refl reading.read.spelling init plain (plain_item init (movable init moves)) AsValue reading.steps reading.well reading.spared (reading.passed init passed) (As Val) tt tt s)
+      (moves_there e k z x refl reading.read.spelling init plain (plain_item init (movable init moves)) AsValue reading.steps reading.well reading.spared (reading.passed init passed) (As Val) tt tt s)
 
   value_there : (summary value).facts.absent ≡ false
   value_there = ap (λ t. (summary t).facts.absent) read_is ∙ led_there reading.steps (identifier (resolved reading.read.spelling k)) refl

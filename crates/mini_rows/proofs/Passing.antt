@@ -51,7 +51,7 @@ pub record Quietly (D : VariableSet) (q : Demand) (m : Does q) : Type 0 where
 -- ---- constants
 
 module _ (e : Environment) where
-  abbrev Gives : Tree → Type 0
+  abbrev pub Gives : Tree → Type 0
   Gives t = (v : Value) × ((s : State) → means e t (As Val) tt s ≡ ok v s)
 
   not_there : (o : List Name) (n : ℕ) (t : Tree) → is_written_value (shape_of t) ≡ true → Gives (node (shape.UnaryExpression LogicalNot) o n (t ▸ none))
@@ -95,10 +95,10 @@ module _ (e : Environment) where
   operator_stands h xs n ts e = absurd (true≢false (sym e))
 
   -- which is read by its value
-  abbrev Known : Tree → Type 0
+  abbrev pub Known : Tree → Type 0
   Known t = (stands t ≡ true) × Gives t
 
-  value_there : (t : Tree) → is_constant t ≡ true → Known t
+  pub value_there : (t : Tree) → is_constant t ≡ true → Known t
   value_there (node h xs n none) c = (literal_stands h xs n none c, literal_there h xs n none c)
   value_there (node h xs n (t ▸ (u ▸ ts))) c = (literal_stands h xs n (t ▸ (u ▸ ts)) c, literal_there h xs n (t ▸ (u ▸ ts)) c)
   value_there (node h xs n (t ▸ none)) c = by (is_written_value h) refl c
@@ -182,8 +182,8 @@ module _ (e : Environment) where
 
 -- ---- what passes
 
-pub passes_by : (r t : Tree) → passes r t ≡ true → (is_constant t ≡ true) ⊎ ((is_effect_free r ≡ true) × (is_effect_free t ≡ true) × (is_item t ≡ true))
-passes_by r t e = by (is_constant t) refl e
+pub passes_by : (r t : Tree) → is_constant r ≡ false → passes r t ≡ true → (is_constant t ≡ true) ⊎ ((is_effect_free r ≡ true) × (is_effect_free t ≡ true) × (is_item t ≡ true))
+passes_by r t d e = by (is_constant t) refl (sym (ap (λ b. b || (is_constant t || (is_effect_free r && (is_effect_free t && is_item t)))) d) ∙ e)
   where
     by : (b : Bool) → is_constant t ≡ b → (b || (is_effect_free r && (is_effect_free t && is_item t))) ≡ true → (is_constant t ≡ true) ⊎ ((is_effect_free r ≡ true) × (is_effect_free t ≡ true) × (is_item t ≡ true))
     by true c e = inl c

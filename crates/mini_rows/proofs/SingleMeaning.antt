@@ -161,7 +161,7 @@ module _ (i : ℕ) (σ : ℕ → Demand) where
 
 -- ---- a command that asks the children before the place, each at most once, and then the one there, and ends where that ends
 
-abbrev Before : ℕ → ℕ → Type 0
+abbrev pub Before : ℕ → ℕ → Type 0
 Before zero (suc j) = Unit {0}
 Before (suc i) (suc j) = Before i j
 Before i j = ⊥
@@ -273,7 +273,7 @@ entries_reach zero (suc n) h = one 0 (λ i. AnEntry) (List Entry) tt _ (λ e. la
 entries_reach (suc i) (suc n) h = inl (tt, λ e. reach_bind (suc i) (shift {q = λ i. AnEntry} (entries n)) (λ es. ret (e ∷ es)) (reach_shift i (λ i. AnEntry) (entries n) (entries_reach i n h)) (λ es. tt))
 
 -- what is asked where a step stands
-abbrev Suits : Asked → Demand → Bool → Type 0
+abbrev pub Suits : Asked → Demand → Bool → Type 0
 Suits AsWholeItem (Stat None) at_end = Unit {0}
 Suits AsValue (As w) at_end = Unit {0}
 Suits AsValue AnEntry at_end = Unit {0}
@@ -373,6 +373,10 @@ asks AsWholeItem l b s fs h (Stat None) u r = statement_asks l b s fs r
 asks AsValue l b s fs h q u r = value_asks l b s fs q (replies q false u) r
 asks AsValues l b s fs h q u r = list_asks l b s fs h q u r
 asks c l b s fs h q u r = absurd u
+
+-- what is asked of the part there
+pub suits_below : (c : Asked) (l : Lead) (b : Bool) → Stands c l b → (fs : List Facts) → Before (count (before l)) (length fs) → (q : Demand) → Suits c q false → (r : Request q) → Suits (asked_below (head_of l) c (place 0 (before l))) (demand (shape_by (head_of l)) fs q (count (before l))) b
+suits_below c l b s fs h q u r = (asks c l b s fs h q u r).below
 
 -- ---- runs
 
@@ -503,12 +507,12 @@ module _ (e : Environment) (k : ℕ) (z : Unseen (alone (Declared k)) e) where
   abbrev Calm : Tree → (q : Demand) → Does q → Type 0
   Calm init q m = Replying q m ⊎ ((is_effect_free init ≡ true) × Quietly D q m)
 
-  calm_front : (init : Tree) (ps : Trees) → AllPass init ps → AllAvoid D ps → (σ : ℕ → Demand) → AllReply σ ps → (j : ℕ) → Before j (count ps) → Calm init (σ j) (front ps σ j)
+  calm_front : (init : Tree) → is_constant init ≡ false → (ps : Trees) → AllPass init ps → AllAvoid D ps → (σ : ℕ → Demand) → AllReply σ ps → (j : ℕ) → Before j (count ps) → Calm init (σ j) (front ps σ j)
   unfolding meaning
-  calm_front init none p a σ u zero b = absurd b
-  calm_front init none p a σ u (suc j) b = absurd b
-  calm_front init (t ▸ ps) p a σ u (suc j) b = calm_front init ps p.1 a.1 (λ i. σ (suc i)) u.1 j b
-  calm_front init (t ▸ ps) p a σ u zero b = by (passes_by init t p.0)
+  calm_front init o none p a σ u zero b = absurd b
+  calm_front init o none p a σ u (suc j) b = absurd b
+  calm_front init o (t ▸ ps) p a σ u (suc j) b = calm_front init o ps p.1 a.1 (λ i. σ (suc i)) u.1 j b
+  calm_front init o (t ▸ ps) p a σ u zero b = by (passes_by init t o p.0)
     where
       by : (is_constant t ≡ true) ⊎ ((is_effect_free init ≡ true) × (is_effect_free t ≡ true) × (is_item t ≡ true)) → Calm init (σ 0) (means e t (σ 0))
       by (inl c) = inl (constant_replies e t c (σ 0) u.0)
@@ -603,7 +607,7 @@ module _ (e : Environment) (k : ℕ) (z : Unseen (alone (Declared k)) e) where
   there_before none t ts = tt
   there_before (p ▸ ps) t ts = there_before ps t ts
 
-  module _ (x : Name) (named : x.symbol ≡ Some (record { 0 = k })) (spelling : List ℕ) (init : Tree) (plain : summary (identifier (resolved spelling k)) ≡ summary init) (item : is_item init ≡ true) where
+  module _ (x : Name) (named : x.symbol ≡ Some (record { 0 = k })) (spelling : List ℕ) (init : Tree) (plain : summary (identifier (resolved spelling k)) ≡ summary init) (item : is_item init ≡ true) (varies : is_constant init ≡ false) where
     abbrev read : Tree
     read = identifier (resolved spelling k)
 
@@ -625,5 +629,5 @@ module _ (e : Environment) (k : ℕ) (z : Unseen (alone (Declared k)) e) where
         let there = λ (y : State). node_is h q r (kids read) y in
         let put : means e (led (s ∷ ss) init) q r z ≡ by_summaries h q r is (kids init) z = node_is h q r (kids init) z ∙ ap (λ i. by_summaries h q r i (kids init) z) (sym (summaries_led s ss read init plain)) in
         subst₂ Go (sym (either_cong (means e init (As Val) tt z) _ _ _ _ (λ v y. there (after v y)) (λ y p. refl))) (sym put)
-        (reach_goes h q is σ ps (led ss read) (led ss init) s.rest init first last (calm_front init ps p.0 first σ a.first)
+        (reach_goes h q is σ ps (led ss read) (led ss init) s.rest init first last (calm_front init varies ps p.0 first σ a.first)
         (λ r' s'. first_goes (asked_below (head_of s.lead) c (place 0 ps)) ss w.1 f.1 p.1 (σ (count ps)) a.below r' s') (step h [] (facts_all is) q r) a.reaches z)

@@ -212,9 +212,9 @@ abbrev pub is_constant : Tree → Bool
 is_constant (node h ys n (t ▸ none)) = is_written_value h || (is_value_operator h && is_written_value (shape_of t))
 is_constant (node h ys n ts) = is_written_value h
 
--- it may be evaluated before r rather than after: its value is the same whenever it is evaluated, or neither of them has an effect
+-- it may be evaluated before r rather than after: one of both has the same value whenever it is evaluated, or neither of them has an effect
 abbrev pub passes : Tree → Tree → Bool
-passes r t = is_constant t || (is_effect_free r && (is_effect_free t && is_item t))
+passes r t = is_constant r || (is_constant t || (is_effect_free r && (is_effect_free t && is_item t)))
 
 -- each part that is evaluated before the variable is read may be evaluated before r
 abbrev mutual

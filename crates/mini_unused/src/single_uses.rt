@@ -218,7 +218,8 @@ fn is_constant(node: &Node) -> bool
 fn passes(init: &Node, node: &Node) -> bool
     ensures { result ≡ reading.passes init.now node.now }
 {
-    is_constant(node)
+    is_constant(init)
+        || is_constant(node)
         || (is_effect_free(init, true) && (is_effect_free(node, true) && is_item(node)))
 }
 
