@@ -47,7 +47,6 @@ use Rattle.mini_rows.specs.Declarations.{binding, declarator}
 use Rattle.mini_rows.specs.Sketches.{shape_by, AsWholeItem}
 use Rattle.mini_rows.specs.Unused.{resolved, names, any_names, declared_among, declared_one, is_idle, declared_left, is_definition, may_move, put_first, reads_first, statements, static_block, lets_go, Row72, Row72Idle, Row71}
 use Rattle.mini_rows.proofs.FoldMeaning.{plain_read}
-
 use Rattle.mini_rows.proofs.UnusedNames.{avoided, all_avoided}
 use Rattle.mini_rows.proofs.ListStretches.{lets_append, functions_append, facts_append, texts_append, exec_one, exec_two, listed_is}
 use Rattle.mini_rows.proofs.ListStatements.{declaration_is, declare_more, declare_none, expression_is, empty_is, declarations_join}
