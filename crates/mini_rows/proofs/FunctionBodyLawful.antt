@@ -43,6 +43,7 @@ use Rattle.mini_rows.proofs.ArrangedBodies.{quiet}
 use Rattle.mini_rows.proofs.ArrowBodyLawful.{Instance, list_fits, none_mention, statements_run, OfArrow, arrows_loose}
 use Rattle.mini_rows.proofs.FunctionBodyKept.{function_less, function_keeps, function_fixed, statements_frames, function_frames, function_bodies, function_declares}
 use Rattle.mini_rows.proofs.ModuleLawful.{OfModule, modules_loose}
+use Rattle.mini_rows.proofs.ForHeadLawful.{OfFor, heads_loose}
 use Rattle.mini_rows.proofs.StaticBlockLawful.{OfStaticBlock, static_blocks_loose}
 use Rattle.mini_rows.proofs.SwitchLawful.{OfSwitch, switches_loose}
 use Rattle.mini_rows.proofs.UnusedLawful.{OfBlock, blocks_loose}
@@ -334,7 +335,7 @@ OfBody W p n w = OfFunction W p n w ⊎ OfList W p n w
 
 -- of what holds statements and is no body
 abbrev OfInner : Position → Tree → Tree → Type 0
-OfInner p n w = OfBlock p n w ⊎ OfSwitch p n w
+OfInner p n w = OfBlock p n w ⊎ (OfSwitch p n w ⊎ OfFor p n w)
 
 abbrev OfUnused : VariableSet → Position → Tree → Tree → Type 0
 OfUnused W p n w = OfInner p n w ⊎ (OfArrow W p n w ⊎ OfBody W p n w)
@@ -357,4 +358,4 @@ either_holder W p n w c = by p c.row
 pub unused_loose : UnusedAreLawful
 unused_loose K W =
     loose_narrowed (UnusedContracts W) (OfUnused W) K W (either_holder W)
-    (loose_join OfInner (λ p n w. OfArrow W p n w ⊎ OfBody W p n w) K W (loose_wider OfInner K nothing W (nothing_part W) (loose_join OfBlock OfSwitch K nothing (blocks_loose K) (switches_loose K))) (loose_join (OfArrow W) (OfBody W) K W (arrows_loose K W) (loose_join (OfFunction W) (OfList W) K W (functions_loose K W) (loose_join (OfModule W) (OfStaticBlock W) K W (modules_loose K W) (static_blocks_loose K W)))))
+    (loose_join OfInner (λ p n w. OfArrow W p n w ⊎ OfBody W p n w) K W (loose_wider OfInner K nothing W (nothing_part W) (loose_join OfBlock (λ p n w. OfSwitch p n w ⊎ OfFor p n w) K nothing (blocks_loose K) (loose_join OfSwitch OfFor K nothing (switches_loose K) (heads_loose K)))) (loose_join (OfArrow W) (OfBody W) K W (arrows_loose K W) (loose_join (OfFunction W) (OfList W) K W (functions_loose K W) (loose_join (OfModule W) (OfStaticBlock W) K W (modules_loose K W) (static_blocks_loose K W)))))

@@ -159,6 +159,8 @@ pub mod StaticBlockKept
 pub mod StaticBlockLawful
 pub mod SwitchKept
 pub mod SwitchLawful
+pub mod ForHeadKept
+pub mod ForHeadLawful
 pub mod FunctionBodyLawful
 pub mod DeMorganMeaning
 pub mod DeMorganLawful

@@ -13,7 +13,7 @@ use Rattle.mini_model.specs.Tree.{Tree, Trees, node, none, ◌▸◌, absent, li
 use Rattle.mini_model.specs.Paths.{append}
 use Rattle.mini_laws.specs.Value.{Value, Undefined, Variable, Declared, VariableSet, Slot, Holds, Missing, Uninitialised, choose, variable_eq, is_in, nothing}
 use Rattle.mini_laws.specs.State.{State, Completion, ok, stop, halt, out, either, Writable, Environment, with_vars}
-use Rattle.mini_laws.specs.Demand.{Val, Unused, Tail, FunctionTail, Demand, As, Stat, Declares, Binds}
+use Rattle.mini_laws.specs.Demand.{Val, Unused, Tail, FunctionTail, Demand, As, Stat, Declares, Binds, LabelSet}
 use Rattle.mini_laws.specs.Command.{set_var, run, note, act, at_variable, write_slot}
 use Rattle.mini_laws.specs.State.{FreshOf}
 use Rattle.mini_laws.specs.Naming.{summary, summaries, facts_all, lets_all, functions_all, function_facts, texts_all, naming, is_lexical}
@@ -439,6 +439,46 @@ pub declared_lets : (K : VariableDeclarationKind) (k : ℕ) (ds : Trees) (first 
 declared_lets Let k ds first last ys f g = inl (first, last, f, g)
 declared_lets Const k ds first last ys f g = inl (first, last, f, g)
 declared_lets Var k ds first last ys f g = inr (sym g)
+
+-- ---- the head of a `for`
+
+module _ (e : Environment) (spelling : List ℕ) (k : ℕ) (z : Unseen (alone (Declared k)) e) (K : VariableDeclarationKind) (lexical : is_lexical K ≡ true) (first last : Trees) (init : Tree) (h : is_idle init ≡ true) where
+  abbrev with_it : Tree
+  with_it = declared_among K (resolved spelling k) first init last
+
+  abbrev without_it : Tree
+  without_it = declaration K (append first last)
+
+  -- labels before a declaration do nothing
+  unlabeled : (ds : Trees) (r : LabelSet) (s : State) → means e (declaration K ds) (Stat None) [] s ≡ means e (declaration K ds) (Stat None) r s
+  unlabeled ds r s = declaration_is e K ds [] s ∙ sym (declaration_is e K ds r s)
+
+  head_same : AllAvoid (alone (Declared k)) last → Same e (alone (Declared k)) nothing (Stat None) with_it without_it
+  head_same a = record {
+    by = λ r s i. subst₂ (Goes true (λ u. Agree (alone (Declared k))) (Agree (alone (Declared k))) (Agree (alone (Declared k)))) (unlabeled (append first (declarator (binding (resolved spelling k)) init ▸ last)) r s) (unlabeled (append first last) r s)
+        (among_go e spelling k z K (λ f. absurd (true≢false (sym lexical ∙ f))) first last init h a s);
+  }
+
+  head_lets : OneLess k (summary with_it).lets (summary without_it).lets
+  head_lets = declared_lets K k (append first (declarator (binding (resolved spelling k)) init ▸ last)) (lets_all (summaries first)) (lets_all (summaries last)) (summary without_it).lets (lets_append first (declarator (binding (resolved spelling k)) init ▸ last)) (ap (λ l. choose (is_lexical K) l []) (lets_append first last))
+
+  alone_lets : OneLess k (lets_all (summaries (with_it ▸ none))) (lets_all (summaries (without_it ▸ none)))
+  alone_lets = alone_less k (summary with_it).lets (summary without_it).lets head_lets
+
+  head_read : ReadAlike (alone (Declared k)) e (summary with_it) (summary without_it)
+  head_read = record {
+    facts = refl;
+    lets = λ y f. ap (is_in y) (sym (append-nil (summary with_it).lets)) ∙ lets_alike e spelling k z none none (with_it ▸ none) (without_it ▸ none) alone_lets y f ∙ ap (is_in y) (append-nil (summary without_it).lets);
+    shared_lets = ap (only e.shared) (sym (append-nil (summary with_it).lets)) ∙ shared_alike e spelling k z none none (with_it ▸ none) (without_it ▸ none) alone_lets ∙ ap (only e.shared) (append-nil (summary without_it).lets);
+    name = refl;
+    functions = refl;
+  }
+
+  -- and so does a `for` with such a head
+  pub for_same : AllAvoid (alone (Declared k)) first → AllAvoid (alone (Declared k)) last → (rest : Trees) → AllAvoid (alone (Declared k)) rest → (t : Option Tail) → Same e (alone (Declared k)) nothing (Stat t) (node shape.ForStatement [] 0 (with_it ▸ rest)) (node shape.ForStatement [] 0 (without_it ▸ rest))
+  for_same f l rest r t =
+      let D = alone (Declared k) in
+      congruent_same e D z.shared (inside shape.ForStatement [] 0 none here rest) with_it without_it (tt, tt, tt, r) (tt, ((tt, all_join D first last f l), tt)) head_read nothing (Stat t) (no_off _) (weaker e D D nothing _ (within_refl D) (no_within _) (Stat None) with_it without_it (head_same l))
 
 abbrev no_variables : List Variable
 no_variables = []

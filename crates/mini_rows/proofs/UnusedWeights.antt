@@ -19,7 +19,7 @@ use Rattle.mini_laws.proofs.Seats.{moved}
 use Rattle.mini_rows.specs.Declarations.{binding, declarator}
 use Rattle.mini_rows.specs.Cases.{switch_case}
 use Rattle.mini_rows.specs.Lists.{block, switch, declaration}
-use Rattle.mini_rows.specs.Unused.{resolved, declared_among, declared_one, declared_left, put_first, is_definition, BlockRow, ArrowBodyRow, FunctionBodyRow, ModuleRow, StaticBlockRow, switch_around, SwitchRow, UnusedRow, UnusedLighten, UnusedLighter}
+use Rattle.mini_rows.specs.Unused.{resolved, declared_among, declared_one, declared_left, put_first, is_definition, BlockRow, ArrowBodyRow, FunctionBodyRow, ModuleRow, StaticBlockRow, switch_around, SwitchRow, ForRow, UnusedRow, UnusedLighten, UnusedLighter}
 use Rattle.mini_terms.specs.Reading.{is_plain_part}
 use Rattle.mini_rows.proofs.SingleWeights.{single_falls, next_falls}
 use Rattle.mini_rows.proofs.ListWeights.{total, list_is, body_is, in_list, comma_list, declarators_append}
@@ -160,10 +160,25 @@ switch_lighter q n w r =
       ap (weight (Stmt q)) r.written,
     )
 
+for_lighter : (q : StmtSeat) (n w : Tree) → ForRow n w → weight (Stmt q) w < weight (Stmt q) n
+for_lighter q n w r =
+    let d = declarator (binding (resolved r.spelling r.symbol)) r.init in
+    omega (
+      arith,
+      commas_fall r.first r.last d,
+      comma_list (append r.first r.last),
+      comma_list (append r.first (d ▸ r.last)),
+      declarators_append r.first r.last,
+      declarators_append r.first (d ▸ r.last),
+      ap (weight (Stmt q)) r.shape,
+      ap (weight (Stmt q)) r.written,
+    )
+
 pub unused_lighter : UnusedLighter
 unused_lighter W (Stmt q) n w (inl r) = block_lighter q n w r
 unused_lighter W (Stmt q) n w (inr (inl r)) = function_lighter (Stmt q) n w r
-unused_lighter W (Stmt q) n w (inr (inr r)) = switch_lighter q n w r
+unused_lighter W (Stmt q) n w (inr (inr (inl r))) = switch_lighter q n w r
+unused_lighter W (Stmt q) n w (inr (inr (inr r))) = for_lighter q n w r
 unused_lighter W (Expr s) n w (inl r) = arrow_lighter s n w r
 unused_lighter W (Expr s) n w (inr r) = function_lighter (Expr s) n w r
 unused_lighter W Method n w r = function_lighter Method n w r
@@ -183,7 +198,8 @@ same_outline W (Stmt q) n w (inl (inr (inl r))) = ap outline r.shape ∙ sym (ap
 same_outline W (Stmt q) n w (inl (inr (inr (inl r)))) = ap outline r.shape ∙ sym (ap outline r.written)
 same_outline W (Stmt q) n w (inl (inr (inr (inr r)))) = ap outline r.shape ∙ sym (ap outline r.written)
 same_outline W (Stmt q) n w (inr (inl r)) = function_outline n w r
-same_outline W (Stmt q) n w (inr (inr r)) = ap outline r.shape ∙ sym (ap outline r.written)
+same_outline W (Stmt q) n w (inr (inr (inl r))) = ap outline r.shape ∙ sym (ap outline r.written)
+same_outline W (Stmt q) n w (inr (inr (inr r))) = ap outline r.shape ∙ sym (ap outline r.written)
 same_outline W (Expr s) n w (inl r) = ap outline r.shape ∙ sym (ap outline r.written)
 same_outline W (Expr s) n w (inr r) = function_outline n w r
 same_outline W Method n w r = function_outline n w r

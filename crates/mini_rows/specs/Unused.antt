@@ -1,6 +1,6 @@
 -- Rows of names that nothing mentions: each is a shape and what is written in its place, with the JavaScript before and after. W has
 -- the variables that the program mentions and that can be written in it.
-use Rattle.std.specs.Prelude.{◌≡◌, ◌<◌, ◌⊎◌, ◌||◌, ◌&&◌, not, ℕ, zero, suc, Bool, true, false, List, [], ◌∷◌, if◌then◌else◌}
+use Rattle.std.specs.Prelude.{◌≡◌, ◌<◌, ◌⊎◌, ◌||◌, ◌&&◌, not, ℕ, nat_le, zero, suc, Bool, true, false, List, [], ◌∷◌, if◌then◌else◌}
 use Rattle.mini_model.specs.declared.kind.VariableDeclarationKind.{VariableDeclarationKind}
 use Rattle.mini_model.specs.declared.name.Name.{Name}
 use Rattle.mini_model.specs.declared.operator.UnaryOperator.TheVariants.{LogicalNot, UnaryPlus, BitwiseNot, Void}
@@ -8,7 +8,7 @@ use Rattle.mini_model.specs.declared.place.Position.{Position}
 use Rattle.mini_model.specs.declared.place.Position.TheVariants.{Expr, Stmt, Method, Elsewhere}
 use Rattle.mini_model.specs.declared.shape.Shape.{Shape}
 use Rattle.mini_model.specs.declared.shape.Shape.TheVariants as shape
-use Rattle.mini_model.specs.Tree.{Tree, Trees, node, none, ◌▸◌, absent, listed, shape_of, children, program, empty_statement, expression_statement}
+use Rattle.mini_model.specs.Tree.{Tree, Trees, node, none, ◌▸◌, absent, listed, count, shape_of, children, program, empty_statement, expression_statement}
 use Rattle.mini_model.specs.Paths.{append}
 use Rattle.mini_model.specs.Weight.{same_text, weight}
 use Rattle.mini_laws.specs.Naming.{is_lexical}
@@ -23,7 +23,7 @@ use Rattle.mini_terms.specs.Folds.{is_effect_free}
 use Rattle.mini_terms.specs.Parts.{leaves_nothing}
 use Rattle.mini_terms.specs.Reading.{is_item, is_plain_part}
 use Rattle.mini_rows.specs.Cases.{switch_case}
-use Rattle.mini_rows.specs.Lists.{block, switch, declaration, declares_nothing}
+use Rattle.mini_rows.specs.Lists.{block, switch, for_loop, declaration, declares_nothing}
 pub use Rattle.mini_rows.specs.Lists.{resolved}
 use Rattle.mini_rows.specs.Declarations.{binding, declarator}
 
@@ -433,11 +433,37 @@ pub record SwitchRow (n w : Tree) : Type 0 where
   pub shape : n ≡ switch discriminant (listed (append first (switch_case test before ▸ last)))
   pub written : w ≡ switch discriminant (listed (append first (switch_case test after ▸ last)))
 
+-- ---- in the head of a `for`
+
+-- 72 among the declarators of its head: `for (let i = 0, x = 1; i < a; i++) b(i);` becomes `for (let i = 0; i < a; i++) b(i);`. What is
+-- declared there is seen in the loop alone (ECMA-262, "ForLoopEvaluation")
+pub record ForRow (n w : Tree) : Type 0 where
+  pub kind : VariableDeclarationKind
+  pub first : Trees
+  pub spelling : List ℕ
+  pub symbol : ℕ
+  pub init : Tree
+  pub last : Trees
+  pub test : Tree
+  pub update : Tree
+  pub body : Tree
+  pub lexical : is_lexical kind ≡ true
+  pub idle : is_idle init ≡ true
+  -- there is another declarator
+  pub others : nat_le 1 (count (append first last)) ≡ true
+  pub declared_earlier : any_names (resolved spelling symbol) first ≡ false
+  pub initial : names (resolved spelling symbol) init ≡ false
+  pub declared_later : any_names (resolved spelling symbol) last ≡ false
+  pub later : any_names (resolved spelling symbol) (test ▸ (update ▸ (body ▸ none))) ≡ false
+  pub unseen : has_eval (for_loop (declared_among kind (resolved spelling symbol) first init last) test update body) ≡ false
+  pub shape : n ≡ for_loop (declared_among kind (resolved spelling symbol) first init last) test update body
+  pub written : w ≡ for_loop (declaration kind (append first last)) test update body
+
 -- a row reads n as w at this place: a function may be a statement, an expression, the value of a method, or exported, a program stands
 -- nowhere else, and a static block in a class. A block that is no body and a switch keep each
 -- `var`: its name is seen around it
 abbrev pub UnusedRow : VariableSet → Position → Tree → Tree → Type 0
-UnusedRow W (Stmt q) n w = BlockRow nothing n w ⊎ (FunctionBodyRow W n w ⊎ SwitchRow n w)
+UnusedRow W (Stmt q) n w = BlockRow nothing n w ⊎ (FunctionBodyRow W n w ⊎ (SwitchRow n w ⊎ ForRow n w))
 UnusedRow W (Expr s) n w = ArrowBodyRow W n w ⊎ FunctionBodyRow W n w
 UnusedRow W Method n w = FunctionBodyRow W n w
 UnusedRow W Elsewhere n w = FunctionBodyRow W n w ⊎ (ModuleRow W n w ⊎ StaticBlockRow W n w)

@@ -1,8 +1,8 @@
 -- What holds the statements of a list: a block, or a function, which is read like a block that begins with what stands before its
 -- statements: its name and its parameters. A module and a static block are read like a function without them.
 use Rattle.std.proofs.Common.{◌≡◌, ℕ, zero, suc, ◌<◌, Bool, true, false, List, [], ◌∷◌, refl, sym, ap, ◌∙◌, subst, inl, inr, true≢false, arith}
-use Rattle.std.specs.Prelude.{not, ◌⊎◌, ◌&&◌, ◌||◌, nat_eq, None, Result, Ok, Err, IfOk}
-use Rattle.std.proofs.lemmas.Bool.{and_parts, eqb-true}
+use Rattle.std.specs.Prelude.{not, ◌⊎◌, ◌&&◌, ◌||◌, nat_eq, nat_le, None, Result, Ok, Err, IfOk}
+use Rattle.std.proofs.lemmas.Bool.{and_parts, eqb-true, le-leb, leb-true}
 use Rattle.mini_model.specs.declared.name.Name.{Name}
 use Rattle.mini_model.specs.declared.place.Position.{Position}
 use Rattle.mini_model.specs.declared.place.Position.TheVariants.{Expr, Stmt, Method, Elsewhere}
@@ -15,19 +15,22 @@ use Rattle.mini_laws.specs.Value.{Variable, VariableSet, Declared, Global, nothi
 use Rattle.mini_node.specs.Children.{names_of, number_of, part, with_part, first_children, rest_children}
 use Rattle.mini_node.specs.Kinds.{is_block, is_listed}
 use Rattle.mini_node.specs.Made.{block_is, listed_is}
+use Rattle.mini_model.specs.Paths.{append}
+use Rattle.mini_laws.specs.Naming as kinds
+use Rattle.mini_rows.specs.Declarations.{binding, declarator}
 use Rattle.mini_rows.specs.Lists.{block}
-use Rattle.mini_rows.specs.Unused.{names, any_names, may_move, statements, arrow_with, ArrowBodyRow, function_with, FunctionBodyRow, ModuleRow, static_block, StaticBlockRow, SwitchRow, BlockRow, UnusedRow}
+use Rattle.mini_rows.specs.Unused.{names, any_names, may_move, statements, arrow_with, ArrowBodyRow, function_with, FunctionBodyRow, ModuleRow, static_block, StaticBlockRow, SwitchRow, ForRow, resolved, BlockRow, UnusedRow}
 use Rattle.mini_tree.specs.declared.options.CompressOptions.{CompressOptions}
 use Rattle.mini_tree.specs.Rule as rule
 use Rattle.mini_context.specs.declared.context.TraverseCtx.{TraverseCtx}
 use Rattle.mini_context.specs.Known.{Knows}
 use Rattle.mini_laws.specs.Writable.{writable_in}
-use Rattle.mini_unused.specs.RemoveUnusedDeclaration.{declares_name, declares_list, is_free_at, may_lose, may_go, open_in, is_alone, list_at, is_unused, UnusedAt, is_arrow_shape, are_statements, are_no_names, has_statements, is_function_shape, is_function, is_module, is_static_block, holds_list, is_switch, marked, Applied, AppliedInFunction, Gives, Rests}
+use Rattle.mini_unused.specs.RemoveUnusedDeclaration.{declares_name, declares_list, is_free_at, may_lose, may_go, open_in, is_alone, list_at, is_unused, UnusedAt, is_arrow_shape, are_statements, are_no_names, has_statements, is_function_shape, is_function, is_module, is_static_block, holds_list, is_switch, is_for_shape, has_head, marked, Applied, AppliedInFunction, Gives, Rests}
 use Rattle.mini_unused.specs.SubstituteNext.{is_declarator, reads_then, is_mentioned_beside, is_read_then, is_next, NextAt, NextGone}
 use Rattle.mini_unused.specs.SubstituteSingleUse.{last_place, is_declared_over, reads_next, is_read_once, is_single, SingleAt, NameGone, ReadGone, Gone, Removed}
 use Rattle.mini_unused.specs.Chains.{Several}
 use Rattle.mini_unused.proofs.Chains.{several_over, several_moves}
-use Rattle.mini_unused.proofs.Unused.{no_outside, part_twice, row_at, no_row, no_block, all_used, seen_by_eval}
+use Rattle.mini_unused.proofs.Unused.{no_outside, and_both, part_twice, row_at, no_row, no_block, all_used, seen_by_eval}
 use Rattle.mini_rows.proofs.UnusedNames.{or_parts}
 use Rattle.mini_unused.proofs.SingleUses.{row_there, none_single}
 use Rattle.mini_unused.proofs.NextUses.{next_row, none_next}
@@ -91,6 +94,26 @@ no_function W t e w r = true≢false (sym (ap is_function r.shape) ∙ e)
 no_arrow : (W : VariableSet) (t : Tree) → has_statements t ≡ false → (w : Tree) → ArrowBodyRow W t w → ⊥
 no_arrow W t e w r = true≢false (sym (ap has_statements r.shape) ∙ e)
 
+-- a `for` that a row reads has a head with several declarators
+
+pub count_more : (us : Trees) (c : Tree) (vs : Trees) → count (append us (c ▸ vs)) ≡ suc (count (append us vs))
+count_more none c vs = refl
+count_more (u ▸ us) c vs = ap suc (count_more us c vs)
+
+row_has_head : (t w : Tree) → ForRow t w → has_head t ≡ true
+row_has_head t w r =
+    let d = declarator (binding (resolved r.spelling r.symbol)) r.init in
+    let ds = append r.first (d ▸ r.last) in
+    let some = leb-true 1 (count (append r.first r.last)) r.others in
+    ap has_head r.shape ∙ and_both (kinds.is_lexical r.kind) (nat_le 2 (count ds)) r.lexical (le-leb 2 (count ds) (omega (arith, some, count_more r.first d r.last)))
+
+pub no_head : (t : Tree) → has_head t ≡ false → (w : Tree) → ForRow t w → ⊥
+no_head t e w r = true≢false (sym (row_has_head t w r) ∙ e)
+
+-- and is a `for`
+pub no_for : (t : Tree) → is_for_shape (shape_of t) ≡ false → (w : Tree) → ForRow t w → ⊥
+no_for t e w r = true≢false (sym (ap (λ u. is_for_shape (shape_of u)) r.shape) ∙ e)
+
 pub no_switch : (t : Tree) → is_switch t ≡ false → (w : Tree) → SwitchRow t w → ⊥
 no_switch t e w r = true≢false (sym (ap is_switch r.shape) ∙ e)
 
@@ -101,7 +124,8 @@ block_applied W ts m false r q = (ap held r.0, by)
     by : (w : Tree) → UnusedRow W (Stmt q) (block ts) w → ⊥
     by w (inl b) = rests nothing ts m r w b
     by w (inr (inl f)) = no_function W (block ts) refl w f
-    by w (inr (inr s)) = no_switch (block ts) refl w s
+    by w (inr (inr (inl s))) = no_switch (block ts) refl w s
+    by w (inr (inr (inr v))) = no_for (block ts) refl w v
 
 pub of_block : (W : VariableSet) (t m : Tree) (c : Bool) → is_block t ≡ true → Removed (open_in (with_part t 0 absent) W) (with_part t 0 absent) (part t 0) m c → (u : Tree) → u ≡ with_part t 0 m → (q : StmtSeat) → Applied W (Stmt q) t u c
 of_block W t m c b r u f q =
@@ -472,14 +496,15 @@ stays W t e = (refl, no_function W t e)
 
 -- ---- where a function stands
 
-pub as_statement : (W : VariableSet) (t u : Tree) (c : Bool) → is_switch t ≡ false → is_block t ≡ false → AppliedInFunction W t u c → (q : StmtSeat) → Applied W (Stmt q) t u c
-as_statement W t u true s e r q = several_moves W (Stmt q) (FunctionBodyRow W) (λ t u f. inr (inl f)) t u r
-as_statement W t u false s e r q = (r.0, by)
+pub as_statement : (W : VariableSet) (t u : Tree) (c : Bool) → has_head t ≡ false → is_switch t ≡ false → is_block t ≡ false → AppliedInFunction W t u c → (q : StmtSeat) → Applied W (Stmt q) t u c
+as_statement W t u true h s e r q = several_moves W (Stmt q) (FunctionBodyRow W) (λ t u f. inr (inl f)) t u r
+as_statement W t u false h s e r q = (r.0, by)
   where
     by : (w : Tree) → UnusedRow W (Stmt q) t w → ⊥
     by w (inl b) = no_block nothing t e w b
     by w (inr (inl f)) = r.1 w f
-    by w (inr (inr v)) = no_switch t s w v
+    by w (inr (inr (inl v))) = no_switch t s w v
+    by w (inr (inr (inr v))) = no_head t h w v
 
 pub as_expression : (W : VariableSet) (t u : Tree) (c : Bool) → has_statements t ≡ false → AppliedInFunction W t u c → (s : Seat) → Applied W (Expr s) t u c
 as_expression W t u true e r s = several_moves W (Expr s) (FunctionBodyRow W) (λ t u f. inr f) t u r

@@ -10,5 +10,6 @@ pub mod Chains
 pub mod Swept
 pub mod Holders
 pub mod Switches
+pub mod Heads
 pub mod Nameless
 pub mod Catching

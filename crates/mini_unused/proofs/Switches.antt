@@ -15,12 +15,12 @@ use Rattle.mini_node.specs.Kinds.{is_block, is_listed}
 use Rattle.mini_rows.specs.Cases.{switch_case}
 use Rattle.mini_rows.specs.Lists.{block, switch}
 use Rattle.mini_rows.specs.Unused.{names, any_names, switch_around, SwitchRow, BlockRow, FunctionBodyRow, UnusedRow}
-use Rattle.mini_unused.specs.RemoveUnusedDeclaration.{is_function, is_switch_shape, is_switch, is_case_shape, is_case, case_at, with_statements, open_in, Applied, AppliedInCase, AppliedInCases}
+use Rattle.mini_unused.specs.RemoveUnusedDeclaration.{is_function, is_switch_shape, is_switch, is_case_shape, is_case, case_at, with_statements, open_in, is_for_shape, Applied, AppliedInCase, AppliedInCases}
 use Rattle.mini_unused.specs.SubstituteSingleUse.{Gone, Removed}
 use Rattle.mini_unused.specs.Chains.{Several}
 use Rattle.mini_unused.proofs.Chains.{several_moves}
 use Rattle.mini_unused.proofs.Unused.{same_parts, part_twice, part_with, parts_of, with_parts, there_within, there_child, no_block}
-use Rattle.mini_unused.proofs.Holders.{or_none, left_listed, several_in, row_behind, none_behind, no_function}
+use Rattle.mini_unused.proofs.Holders.{or_none, left_listed, several_in, row_behind, none_behind, no_function, no_for}
 
 -- ---- what it looks like
 
@@ -218,14 +218,15 @@ pub next_cases : (t : Tree) (i : ℕ) (v u : Tree) (a b : Bool) → a ≡ false 
 next_cases t i v u a b e one others = later_cases t i v u b (subst (AppliedInCase t i v) e one) (subst (λ j. AppliedInCases v j u b) (add-one i) others)
 
 pub of_switch : (W : VariableSet) (t u : Tree) (b : Bool) → is_switch t ≡ true → AppliedInCases t 0 u b → (q : StmtSeat) → Applied W (Stmt q) t u b
-of_switch W t u true s r q = several_moves W (Stmt q) SwitchRow (λ t u r. inr (inr r)) t u r
+of_switch W t u true s r q = several_moves W (Stmt q) SwitchRow (λ t u r. inr (inr (inl r))) t u r
 of_switch W t u false s r q = (r.0, by)
   where
-    no_other : (t : Tree) → is_switch t ≡ true → (is_block t ≡ false) × (is_function t ≡ false)
-    no_other (node shape.SwitchStatement [] zero ts) e = (refl, refl)
+    no_other : (t : Tree) → is_switch t ≡ true → (is_block t ≡ false) × (is_function t ≡ false) × (is_for_shape (shape_of t) ≡ false)
+    no_other (node shape.SwitchStatement [] zero ts) e = (refl, refl, refl)
     no_other t e = absurd (true≢false (sym e))
 
     by : (w : Tree) → UnusedRow W (Stmt q) t w → ⊥
     by w (inl b) = no_block nothing t (no_other t s).0 w b
     by w (inr (inl f)) = no_function W t (no_other t s).1 w f
-    by w (inr (inr v)) = r.1 w v (omega arith)
+    by w (inr (inr (inl v))) = r.1 w v (omega arith)
+    by w (inr (inr (inr f))) = no_for t (no_other t s).2 w f

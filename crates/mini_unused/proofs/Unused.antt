@@ -196,16 +196,16 @@ module _ (t : Tree) (i j : ℕ) (b : is_block t ≡ true) (h : i < count (childr
   abbrev ts : Trees
   ts = children (part t 0)
 
-  abbrev statement : Tree
+  abbrev pub statement : Tree
   statement = child_or_absent ts i
 
-  abbrev ds : Trees
+  abbrev pub ds : Trees
   ds = children (part statement 0)
 
-  abbrev d : Tree
+  abbrev pub d : Tree
   d = child_or_absent ds j
 
-  abbrev init : Tree
+  abbrev pub init : Tree
   init = part d 1
 
   abbrev before : Trees
@@ -214,10 +214,10 @@ module _ (t : Tree) (i j : ℕ) (b : is_block t ≡ true) (h : i < count (childr
   abbrev after : Trees
   after = rest_children (suc i) ts
 
-  abbrev first : Trees
+  abbrev pub first : Trees
   first = first_children j ds
 
-  abbrev last : Trees
+  abbrev pub last : Trees
   last = rest_children (suc j) ds
 
   abbrev alone_there : Bool
@@ -226,7 +226,7 @@ module _ (t : Tree) (i j : ℕ) (b : is_block t ≡ true) (h : i < count (childr
   abbrev lost : Bool
   lost = may_lose (is_free_at ts i) W (names_of (part d 0))
 
-  tests : (declares_list statement ≡ true) × (declares_name d ≡ true) × (may_go init (part statement 0) ≡ true) × (alone_there ≡ true) × (lost ≡ true)
+  pub tests : (declares_list statement ≡ true) × (declares_name d ≡ true) × (may_go init (part statement 0) ≡ true) × (alone_there ≡ true) × (lost ≡ true)
   tests =
       let (a, p) = and_parts (declares_list statement) (declares_name d && (lost && (may_go init (part statement 0) && alone_there))) e in
       let (c, q) = and_parts (declares_name d) (lost && (may_go init (part statement 0) && alone_there)) p in
@@ -234,16 +234,16 @@ module _ (t : Tree) (i j : ℕ) (b : is_block t ≡ true) (h : i < count (childr
       let (f, r) = and_parts (may_go init (part statement 0)) alone_there m in
       (a, c, f, r, l)
 
-  abbrev kind : VariableDeclarationKind
+  abbrev pub kind : VariableDeclarationKind
   kind = (a_declaration statement tests.0).0
 
-  let_there : statement ≡ declaration kind ds
+  pub let_there : statement ≡ declaration kind ds
   let_there = (a_declaration statement tests.0).1
 
-  abbrev one : Declares d
+  abbrev pub one : Declares d
   one = declares d tests.1
 
-  abbrev x : Name
+  abbrev pub x : Name
   x = resolved one.spelling one.symbol
 
   goes : lets_go W kind one.symbol ≡ true
@@ -252,16 +252,16 @@ module _ (t : Tree) (i j : ℕ) (b : is_block t ≡ true) (h : i < count (childr
   nothing_else : Quiet x init ds j ts i
   nothing_else = quiet x init ds j ts i (sym (ap (λ y. is_alone (names_of (part y 0)) no_outside init ds j ts i) one.is) ∙ tests.3)
 
-  statement_is : statement ≡ declared_among kind x first init last
+  pub statement_is : statement ≡ declared_among kind x first init last
   statement_is = let_there ∙ ap (declaration kind) (parts_of ds j g ∙ ap (λ y. append first (y ▸ last)) one.is)
 
   block_there : t ≡ block (append before (declared_among kind x first init last ▸ after))
   block_there = block_is t b ∙ ap block (parts_of ts i h ∙ ap (λ y. append before (y ▸ after)) statement_is)
 
-  unused : Alone kind x before first init last after
+  pub unused : Alone kind x before first init last after
   unused = record { earlier = nothing_else.earlier; declared_earlier = nothing_else.declared_earlier; initial = nothing_else.initial; declared_later = nothing_else.declared_later; later = nothing_else.later; unseen = sym (ap has_eval block_there) ∙ v }
 
-  list_is : part statement 0 ≡ listed ds
+  pub list_is : part statement 0 ≡ listed ds
   list_is = ap (λ y. part y 0) let_there
 
   abbrev left_by : Bool → Tree
@@ -317,18 +317,18 @@ module _ (t : Tree) (i j : ℕ) (b : is_block t ≡ true) (h : i < count (childr
 
 -- a block that a row reads
 pub record Read (W : VariableSet) (t : Tree) : Type 0 where
-  before : Trees
-  kind : VariableDeclarationKind
-  first : Trees
-  spelling : List ℕ
-  symbol : ℕ
-  init : Tree
-  last : Trees
-  after : Trees
-  lost : lets_go W kind symbol ≡ true
-  goes : may_go init (listed (append first (declarator (binding (resolved spelling symbol)) init ▸ last))) ≡ true
-  unused : Alone kind (resolved spelling symbol) before first init last after
-  shape : t ≡ block (append before (declared_among kind (resolved spelling symbol) first init last ▸ after))
+  pub before : Trees
+  pub kind : VariableDeclarationKind
+  pub first : Trees
+  pub spelling : List ℕ
+  pub symbol : ℕ
+  pub init : Tree
+  pub last : Trees
+  pub after : Trees
+  pub lost : lets_go W kind symbol ≡ true
+  pub goes : may_go init (listed (append first (declarator (binding (resolved spelling symbol)) init ▸ last))) ≡ true
+  pub unused : Alone kind (resolved spelling symbol) before first init last after
+  pub shape : t ≡ block (append before (declared_among kind (resolved spelling symbol) first init last ▸ after))
 
 pub or_true : (b : Bool) → (b || true) ≡ true
 or_true true = refl
@@ -366,7 +366,7 @@ module _ (W : VariableSet) (t : Tree) (r : Read W t) where
       let first_ts = ap (any_names y) (there_first r.before statement_there r.after) ∙ r.unused.earlier in
       λ k. all (r.unused.initial k) (rest_ds k) (rest_ts k) (first_ds k) (first_ts k)
 
-  unused_there : is_unused W no_outside (children (part t 0)) (count r.before) (count r.first) ≡ true
+  pub unused_there : is_unused W no_outside (children (part t 0)) (count r.before) (count r.first) ≡ true
   unused_there =
       let ts = statements_there in
       let i = count r.before in
@@ -380,7 +380,7 @@ module _ (W : VariableSet) (t : Tree) (r : Read W t) where
   statement_within : count r.before < count (children (part t 0))
   statement_within = subst (λ v. count r.before < count (children (part v 0))) (sym r.shape) (there_within r.before statement_there r.after)
 
-  declarator_within : count r.first < count (children (list_at (children (part t 0)) (count r.before)))
+  pub declarator_within : count r.first < count (children (list_at (children (part t 0)) (count r.before)))
   declarator_within =
       subst (λ v. count r.first < count (children (list_at (children (part v 0)) (count r.before)))) (sym r.shape)
       (subst (λ c. count r.first < count (children (part c 0))) (sym (there_child r.before statement_there r.after)) (there_within r.first declarator_there r.last))

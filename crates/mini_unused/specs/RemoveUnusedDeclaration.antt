@@ -1,7 +1,8 @@
 -- 72, `remove_unused_declaration`: `{ let x = a(); b(); }` becomes `{ a(); b(); }`, `{ let x = 1; b(); }` becomes `{ ; b(); }`, and
 -- `{ let x, y = b(); c(y); }` becomes `{ let y = b(); c(y); }`; so do the statements of a function, of a module and of a static
--- block, and there each `var`, too, and the cases of a switch.
-use Rattle.std.specs.Prelude.{◌≡◌, ◌<◌, ◌≤◌, ℕ, suc, nat_eq, Bool, true, false, not, ◌&&◌, ◌||◌, List, [], ◌∷◌, Option, Some, None, is_some, if◌then◌else◌}
+-- block, and there each `var`, too, and the cases of a switch
+-- and the head of a `for`.
+use Rattle.std.specs.Prelude.{◌≡◌, ◌<◌, ◌≤◌, ℕ, suc, nat_eq, nat_le, Bool, true, false, not, ◌&&◌, ◌||◌, List, [], ◌∷◌, Option, Some, None, is_some, if◌then◌else◌}
 use Rattle.mini_model.specs.declared.name.Name.{Name}
 use Rattle.mini_model.specs.declared.name.SymbolId.{SymbolId}
 use Rattle.mini_model.specs.declared.place.Position.{Position}
@@ -13,7 +14,7 @@ use Rattle.mini_laws.specs.Value.{Declared, Global, VariableSet}
 use Rattle.mini_node.specs.Children.{names_of, like, part, with_part, without, is_bare, first_children, rest_children}
 use Rattle.mini_node.specs.Kinds.{is_listed, is_named_leaf}
 use Rattle.mini_rows.specs.Lists.{declares_nothing}
-use Rattle.mini_rows.specs.Unused.{names, any_names, is_idle, FunctionBodyRow, SwitchRow, UnusedRow, UnusedContracts}
+use Rattle.mini_rows.specs.Unused.{names, any_names, is_idle, FunctionBodyRow, SwitchRow, ForRow, UnusedRow, UnusedContracts}
 pub use Rattle.mini_rows.specs.Unused.{is_declarator_shape, is_variables_shape, declares_list}
 use Rattle.mini_tree.specs.declared.options.CompressOptions.{CompressOptions}
 use Rattle.mini_tree.specs.Rule as rule
@@ -204,6 +205,19 @@ AppliedInCase t i u false = (u ≡ t) × ((w : Tree) (r : SwitchRow t w) → cou
 abbrev pub AppliedInCases : Tree → ℕ → Tree → Bool → Type 0
 AppliedInCases t i u true = Several SwitchRow t u
 AppliedInCases t i u false = (u ≡ t) × ((w : Tree) (r : SwitchRow t w) → i ≤ count r.first → ⊥)
+
+-- a `for` over a `let` or a `const` of several declarators
+abbrev pub is_for_shape : Shape → Bool
+is_for_shape shape.ForStatement = true
+is_for_shape _ = false
+
+abbrev pub has_head : Tree → Bool
+has_head t = is_for_shape (shape_of t) && (is_bare t 4 && (is_lexical_shape (shape_of (part t 0)) && (declares_list (part t 0) && nat_le 2 (count (children (part (part t 0) 0))))))
+
+-- one call of it for the head of a `for`
+abbrev pub AppliedInHead : Tree → Tree → Bool → Type 0
+AppliedInHead t u true = ForRow t u
+AppliedInHead t u false = (u ≡ t) × ((w : Tree) → ForRow t w → ⊥)
 
 -- no row of these variables reads it as anything
 abbrev pub RestsOver : VariableSet → Position → Tree → Type 0

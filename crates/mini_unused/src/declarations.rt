@@ -8,17 +8,17 @@ ghost use Rattle.mini_model.specs.declared.place.Position.TheVariants.{Expr, Stm
 ghost use Rattle.mini_model.specs.declared.seat.Seat.{Seat};
 ghost use Rattle.mini_model.specs.declared.seat.StmtSeat.{StmtSeat};
 ghost use Rattle.mini_laws.specs.Naming.{is_lexical as is_it_lexical};
-ghost use Rattle.mini_model.specs.Tree.{absent, children, count, shape_of};
+ghost use Rattle.mini_model.specs.Tree.{absent, children, count, empty_statement as is_nothing, shape_of};
 ghost use Rattle.mini_node.specs.Children.{names, part, with_part};
 ghost use Rattle.mini_node.specs.Kinds.{is_listed as is_it_listed};
 ghost use Rattle.mini_rows.specs.Unused.{is_idle as is_it_idle};
 ghost use Rattle.mini_unused.specs.Lighter.{unused_is_lighter};
 ghost use Rattle.mini_unused.specs.RemoveUnusedDeclaration as row;
-ghost use Rattle.mini_unused.specs.RemoveUnusedDeclaration.{declares_name as it_declares_name, declares_list as it_declares_list, is_lexical_shape, is_free_at, let_left, marked, open_in, case_at, with_statements, UnusedIn, UnusedOf, UnusedAt, Applied, AppliedInCase, AppliedInCases, AppliedInFunction, Gives, Rests};
+ghost use Rattle.mini_unused.specs.RemoveUnusedDeclaration.{declares_name as it_declares_name, declares_list as it_declares_list, is_lexical_shape, is_free_at, let_left, marked, open_in, case_at, with_statements, UnusedIn, UnusedOf, UnusedAt, Applied, AppliedInCase, AppliedInCases, AppliedInFunction, AppliedInHead, Gives, Rests};
 ghost use Rattle.mini_unused.specs.SubstituteSingleUse.{Removed};
 
 use crate::declares::declares_nothing;
-use crate::evals::either_has_eval;
+use crate::evals::{either_has_eval, has_eval};
 use crate::mentions::{is_mentioned, is_mentioned_before, is_mentioned_from};
 use crate::single_uses::substitute_single_uses;
 use crate::sweeping::sweep;
@@ -447,9 +447,63 @@ fn remove_unused_in_switch(
     remove_in_cases(alloc, node, 0, scopes)
 }
 
+// A `for` over a `let` or a `const` of several declarators.
+fn has_head(node: &Node) -> bool
+    ensures kind { result ≡ row.has_head node.now }
+    ensures parts { result ≡ true → count (children node.now) ≡ 4 }
+{
+    matches!(node.shape(), Shape::ForStatement)
+        && node.is_bare(4)
+        && is_lexical(node.child(0).shape())
+        && declares_list(node.child(0))
+        && node.child(0).child(0).children().len() >= 2
+}
+
+// Of these the first whose name nothing else in the `for` mentions, and that may go.
+fn unused_in_head(alloc: Global, node: &Node, scopes: &Scopes) -> Option<usize>
+    requires { 0 < count (children node.now) }
+    ensures { UnusedOf (open_in is_nothing (marked scopes.now)) is_nothing (children node.now) 0 result }
+{
+    let outside = empty_statement(alloc);
+    let found = unused_of(&outside, node.children(), 0, scopes);
+    discard(outside);
+    found
+}
+
+// The declarator at the index goes.
+#[tactic(auto, using(crate::proofs::Unused::same_parts, crate::proofs::Unused::part_twice))]
+fn drop_in_head(node: &mut Node, which: usize)
+    requires head { 0 < count (children node.old) }
+    requires list { 0 < count (children (part node.old 0)) }
+    requires declarator { which < count (children (part (part node.old 0) 0)) }
+    ensures { node.new ≡ with_part node.old 0 (let_left (part node.old 0) which) }
+{
+    let mut head = take_child(node, 0);
+    discard(take_declarator(&mut head, which));
+    put_child(node, 0, head);
+}
+
+// Of the head of a `for` such a declarator goes.
+fn remove_in_head(alloc: Global, node: &mut Node, scopes: &Scopes) -> bool
+    requires head { row.has_head node.old ≡ true }
+    requires parts { 0 < count (children node.old) }
+    ensures { AppliedInHead node.old node.new result }
+{
+    match unused_in_head(alloc, node, scopes) {
+        Some(which) => {
+            if has_eval(node) {
+                return false;
+            }
+            drop_in_head(node, which);
+            true
+        }
+        None => false,
+    }
+}
+
 /// Of a block, `let x = a();` becomes `a();`, `let x;` and `let x = 1;` become `;`, and `let x, y = b();` becomes `let y = b();`
-/// where nothing mentions x, and so do the cases of a switch and the statements of a function that is declared. The answer says whether
-/// one did; the only error is that memory runs out.
+/// where nothing mentions x, and so do the cases of a switch, the head of a `for` and the statements of a function that is declared. The
+/// answer says whether one did; the only error is that memory runs out.
 #[tactic(auto, using(crate::proofs::Unused::same_parts, crate::proofs::Unused::part_twice))]
 pub fn remove_unused_declaration(
     alloc: Global,
@@ -458,6 +512,9 @@ pub fn remove_unused_declaration(
 ) -> Result<bool, OutOfMemory>
     ensures { IfOk result (λ changed. (q : StmtSeat) → Applied (marked scopes.now) (Stmt q) node.old node.new changed) }
 {
+    if has_head(node) {
+        return Ok(remove_in_head(alloc, node, scopes));
+    }
     if is_switch(node) {
         return remove_unused_in_switch(alloc, node, scopes);
     }

@@ -6,6 +6,7 @@ use Rattle.mini_unused.specs.RemoveUnusedDeclaration.{marked, open_in, Applied, 
 use Rattle.mini_unused.specs.SubstituteSingleUse.{Removed}
 use Rattle.mini_unused.proofs.Swept.{in_block}
 use Rattle.mini_unused.proofs.Holders.{of_block, as_statement, where_ok, put_back}
+use Rattle.mini_unused.proofs.Heads.{of_head}
 use Rattle.mini_unused.proofs.declarations.remove_unused_declaration.Goals as goal
 
 pub remove_in_list-changed-requires : goal.remove_in_list-changed-requires
@@ -21,4 +22,7 @@ returns c =
 pub returns-then-not-is_block : goal.returns-then-not-is_block
 returns-then-not-is_block c =
     where_ok c.remove_unused_in_function.result (λ changed. AppliedInFunction (marked c.args.scopes.now) c.args.node.now c.remove_unused_in_function.new.node changed) (λ changed. (q : StmtSeat) → Applied (marked c.args.scopes.now) (Stmt q) c.args.node.now c.remove_unused_in_function.new.node changed)
-    (λ changed r. as_statement (marked c.args.scopes.now) c.args.node.now c.remove_unused_in_function.new.node changed (sym c.if-is_switch.ensures.kind) (sym c.if-not-is_block.ensures.kind) r) c.remove_unused_in_function.ensures
+    (λ changed r. as_statement (marked c.args.scopes.now) c.args.node.now c.remove_unused_in_function.new.node changed (sym c.if-has_head.ensures.kind) (sym c.if-is_switch.ensures.kind) (sym c.if-not-is_block.ensures.kind) r) c.remove_unused_in_function.ensures
+
+pub returns-then-has_head : goal.returns-then-has_head
+returns-then-has_head c = λ q. of_head (marked c.args.scopes.now) c.args.node.now c.remove_in_head.new.node c.remove_in_head.result (sym c.if-has_head.ensures.kind) c.remove_in_head.ensures q

@@ -1,0 +1,211 @@
+-- What the rows of names that nothing mentions write of the head of a `for` is loosely lawful.
+use Rattle.std.specs.Prelude.{ℕ, ◌≡◌, ◌⊎◌, refl, ◌&&◌, Bool, true, false, [], Contains, Option, None, nat_le}
+use Rattle.std.proofs.Common.{ap, ◌∙◌, sym, subst, subst₂, inl, inr, true≢false}
+use Rattle.std.proofs.lemmas.Bool.{and_parts}
+use Rattle.mini_model.specs.declared.kind.VariableDeclarationKind.{VariableDeclarationKind}
+use Rattle.mini_model.specs.declared.name.Name.{Name}
+use Rattle.mini_model.specs.declared.place.Position.{Position}
+use Rattle.mini_model.specs.declared.place.Position.TheVariants.{Stmt}
+use Rattle.mini_model.specs.declared.seat.StmtSeat.{StmtSeat}
+use Rattle.mini_model.specs.declared.shape.Shape.{Shape}
+use Rattle.mini_model.specs.declared.shape.Shape.TheVariants as shape
+use Rattle.mini_model.specs.Tree.{Tree, Trees, none, ◌▸◌, shape_of, count}
+use Rattle.mini_model.specs.Paths.{append}
+use Rattle.mini_accept.specs.WellShaped.{Depth, in_module, in_body, nested, Class, a_statement, a_declarator, a_key, a_private_or_key, an_inner_key, a_default_export, an_init, an_expression, Slot, one, one_or_absent, each, filling, filling_by, fits, fill}
+use Rattle.mini_laws.specs.Value.{Declared, VariableSet, nothing}
+use Rattle.mini_laws.specs.State.{Environment}
+use Rattle.mini_laws.specs.Demand.{Tail, Demand, Stat}
+use Rattle.mini_laws.specs.Naming.{summary}
+use Rattle.mini_laws.specs.Same.{Same}
+use Rattle.mini_laws.specs.Substitution.{alone}
+use Rattle.mini_laws.specs.Bodies.{arrow_kind}
+use Rattle.mini_kept.specs.Declaring.{declared}
+use Rattle.mini_kept.specs.KeepsFrames.{is_in_body, is_body_slot, IsShownAlike, NoPort, NoDeclaration, KeepsFunction, KeepsHolder}
+use Rattle.mini_kept.specs.KeepsLoosely.{KeepsLoosely}
+use Rattle.mini_kept.specs.KeepsNames.{is_rewritten_place}
+use Rattle.mini_kept.specs.KeepsShapes.{AskedAlike}
+use Rattle.mini_kept.specs.Lifted.{is_piece, KeepsRoot}
+use Rattle.mini_kept.specs.Loosely.{Stays, Drops, LawfulLoosely}
+use Rattle.mini_kept.specs.Placed.{fits_place, is_statement_list}
+use Rattle.mini_kept.specs.ShownFrames.{no_key, gone_from}
+use Rattle.mini_kept.specs.Frames.{frames}
+use Rattle.mini_kept.specs.Without.{Unseen}
+use Rattle.mini_kept.proofs.Bools.{left, both}
+use Rattle.mini_kept.proofs.Expressions.{refused_here}
+use Rattle.mini_kept.proofs.InOrder.{in_order}
+use Rattle.mini_kept.proofs.ShownFrames.{kept_shown}
+use Rattle.mini_kept.proofs.WithoutLists.{from_kept}
+use Rattle.mini_rows.specs.Declarations.{binding, declarator}
+use Rattle.mini_rows.specs.Lists.{declaration, for_loop}
+use Rattle.mini_rows.specs.Unused.{resolved, declared_among, declared_left, names, any_names, ForRow}
+use Rattle.mini_rows.proofs.DeclaredKept.{idle_leaves, idle_names}
+use Rattle.mini_rows.proofs.ForHeadKept.{for_less, for_kept, for_keeps, for_fixed, for_frames, for_bodies, for_declares}
+use Rattle.mini_rows.proofs.ListShapes.{init_declares, append_fits, both_fit, first_fits}
+use Rattle.mini_rows.proofs.UnusedKept.{LeavesThere, NamesThere}
+use Rattle.mini_rows.proofs.UnusedLawful.{Dropped, in_tails, idle_vanishes}
+use Rattle.mini_rows.proofs.UnusedMeaning.{for_same}
+use Rattle.mini_rows.proofs.UnusedNames.{or_parts, unmentioned, avoided, all_avoided}
+
+-- ---- the declaration without the declarator fits where it stood
+
+some_left : (K : VariableDeclarationKind) (ds : Trees) → nat_le 1 (count ds) ≡ true → declared_left K ds ≡ declaration K ds
+some_left K none e = absurd (true≢false (sym e))
+some_left K (t ▸ ds) e = refl
+
+module _ (K : VariableDeclarationKind) (x : Name) (first : Trees) (init : Tree) (last : Trees) (some : nat_le 1 (count (append first last)) ≡ true) (test update body : Tree) where
+  abbrev before : Tree
+  before = declared_among K x first init last
+
+  abbrev after : Tree
+  after = declaration K (append first last)
+
+  head_fits : (strict : Bool) → fits strict (one_or_absent an_init) before ≡ true → fits strict (one_or_absent an_init) after ≡ true
+  head_fits strict e =
+      let ds = append first (declarator (binding x) init ▸ last) in
+      let all = (and_parts (nat_le 1 (count ds)) (fill strict (each (one a_declarator)) ds && true) (sym (init_declares strict K ds) ∙ e)).1 in
+      let (f, g) = both_fit strict (one a_declarator) first (declarator (binding x) init ▸ last) (left (fill strict (each (one a_declarator)) ds) true all) in
+      let rest = append_fits strict (one a_declarator) first last f (first_fits strict (one a_declarator) (declarator (binding x) init) last g).1 in
+      init_declares strict K (append first last) ∙ both (nat_le 1 (count (append first last))) (fill strict (each (one a_declarator)) (append first last) && true) some (both (fill strict (each (one a_declarator)) (append first last)) true rest refl)
+
+  abbrev Rest : Bool → Bool
+  Rest strict = fits strict (one_or_absent an_expression) test && (fits strict (one_or_absent an_expression) update && (fits strict (one (a_statement nested)) body && true))
+
+  over : (strict : Bool) → (fits strict (one_or_absent an_init) before && Rest strict) ≡ true → (fits strict (one_or_absent an_init) after && Rest strict) ≡ true
+  over strict e =
+      let (h, r) = and_parts (fits strict (one_or_absent an_init) before) (Rest strict) e in
+      both (fits strict (one_or_absent an_init) after) (Rest strict) (head_fits strict h) r
+
+  abbrev Kept : Bool → Class → Type 0
+  Kept strict c = fits strict (one c) (for_loop before test update body) ≡ true → (fits strict (one c) (for_loop after test update body) ≡ true) × (is_in_body c ≡ true)
+
+  refused : (strict : Bool) (s : Slot) → filling strict s shape.ForStatement ≡ filling_by None → fits strict s (for_loop before test update body) ≡ true → ⊥
+  refused strict s f e = refused_here strict s shape.ForStatement [] 0 (before ▸ (test ▸ (update ▸ (body ▸ none)))) f e
+
+  in_class : (strict : Bool) (c : Class) → Kept strict c
+  in_class true (a_statement in_module) e = (over true e, refl)
+  in_class true (a_statement in_body) e = (over true e, refl)
+  in_class true (a_statement nested) e = (over true e, refl)
+  in_class false (a_statement in_module) e = (over false e, refl)
+  in_class false (a_statement in_body) e = (over false e, refl)
+  in_class false (a_statement nested) e = (over false e, refl)
+  in_class strict (a_key true) e = absurd (refused strict (one (a_key true)) refl e)
+  in_class strict (a_key false) e = absurd (refused strict (one (a_key false)) refl e)
+  in_class strict (a_private_or_key true) e = absurd (refused strict (one (a_private_or_key true)) refl e)
+  in_class strict (a_private_or_key false) e = absurd (refused strict (one (a_private_or_key false)) refl e)
+  in_class strict (an_inner_key true) e = absurd (refused strict (one (an_inner_key true)) refl e)
+  in_class strict (an_inner_key false) e = absurd (refused strict (one (an_inner_key false)) refl e)
+  in_class strict c e = absurd (refused strict (one c) refl e)
+
+  in_slot : (strict : Bool) (p : Position) (s : Slot) → fits strict s (for_loop before test update body) ≡ true → (fits strict s (for_loop after test update body) ≡ true) × (is_body_slot p s ≡ true)
+  in_slot strict p (one c) e = in_class strict c e
+  in_slot strict p (one_or_absent c) e = let (f, g) = in_class strict c e in (f, g)
+  in_slot strict p s e = absurd (refused strict s refl e)
+
+-- ---- a name that is dropped
+
+module _ (q : StmtSeat) (n w : Tree) (r : ForRow n w) where
+  abbrev x : Name
+  x = resolved r.spelling r.symbol
+
+  abbrev D : VariableSet
+  D = alone (Declared r.symbol)
+
+  abbrev d : Tree
+  d = declared_among r.kind x r.first r.init r.last
+
+  abbrev v : Tree
+  v = declaration r.kind (append r.first r.last)
+
+  abbrev this : Tree
+  this = for_loop d r.test r.update r.body
+
+  abbrev that : Tree
+  that = for_loop v r.test r.update r.body
+
+  left_is : declared_left r.kind (append r.first r.last) ≡ v
+  left_is = some_left r.kind (append r.first r.last) r.others
+
+  leaves : LeavesThere x (d ▸ none) (v ▸ none)
+  leaves = subst (λ t. LeavesThere x (d ▸ none) (t ▸ none)) left_is (idle_leaves r.kind x r.symbol refl r.first r.init r.last (idle_vanishes r.init r.idle) r.declared_earlier r.declared_later)
+
+  names_there : NamesThere x (d ▸ none) (v ▸ none)
+  names_there = subst (λ t. NamesThere x (d ▸ none) (t ▸ none)) left_is (idle_names r.kind x r.symbol refl r.first r.init r.last (idle_vanishes r.init r.idle) r.declared_earlier r.declared_later r.lexical)
+
+  in_test : (names x r.test ≡ false) × (any_names x (r.update ▸ (r.body ▸ none)) ≡ false)
+  in_test = or_parts (names x r.test) (any_names x (r.update ▸ (r.body ▸ none))) r.later
+
+  in_update : (names x r.update ≡ false) × (any_names x (r.body ▸ none) ≡ false)
+  in_update = or_parts (names x r.update) (any_names x (r.body ▸ none)) in_test.1
+
+  in_body_free : names x r.body ≡ false
+  in_body_free = (or_parts (names x r.body) false in_update.1).0
+
+  same : (e : Environment) → Unseen D e → (t : Option Tail) → Same e D nothing (Stat t) this that
+  same e u t = for_same e r.spelling r.symbol u r.kind r.lexical r.first r.last r.init r.idle (all_avoided x r.symbol refl r.first r.declared_earlier) (all_avoided x r.symbol refl r.last r.declared_later) (r.test ▸ (r.update ▸ (r.body ▸ none))) (all_avoided x r.symbol refl (r.test ▸ (r.update ▸ (r.body ▸ none))) r.later) t
+
+  dropped : Dropped q r.symbol this that
+  dropped =
+      let a = unmentioned x r.symbol refl r.test in_test.0 in
+      let b = unmentioned x r.symbol refl r.update in_update.0 in
+      let c = unmentioned x r.symbol refl r.body in_body_free in
+      record {
+        keeps = in_order (Stmt q) this that (for_keeps x d v leaves names_there r.test r.update r.body a b c q);
+        drops = λ K. record {
+          kept = for_kept x d v leaves names_there r.test r.update r.body a b c;
+          less = for_less x d v leaves names_there r.test r.update r.body r.symbol refl;
+          same = λ e u. in_tails e q D this that (same e u.unseen);
+          fixed = for_fixed x d v leaves names_there r.test r.update r.body;
+          frames = λ strict s g f. kept_shown (gone_from K D) no_key (frames None this) (frames None that) (for_frames x d v leaves names_there r.test r.update r.body);
+          bodies = λ strict s g f o z. from_kept D _ _ (for_bodies x d v leaves names_there r.test r.update r.body o);
+        };
+        declared_there = for_declares x d v leaves names_there r.test r.update r.body;
+      }
+
+  row_dropped : Dropped q r.symbol n w
+  row_dropped = subst (λ t. Dropped q r.symbol t w) (sym r.shape) (subst (Dropped q r.symbol this) (sym r.written) dropped)
+
+  in_place : (strict : Bool) (s : Slot) → fits strict s n ≡ true → (fits strict s w ≡ true) × (is_body_slot (Stmt q) s ≡ true)
+  in_place strict s e =
+      let (f, g) = in_slot r.kind x r.first r.init r.last r.others r.test r.update r.body strict (Stmt q) s (sym (ap (fits strict s) r.shape) ∙ e) in
+      (ap (fits strict s) r.written ∙ f, g)
+
+-- ---- all
+
+-- whatever is told by the shape
+shaped : (P : Tree → Tree → Type 0) → ((K : VariableDeclarationKind) (ds es : Trees) (t u b : Tree) → P (for_loop (declaration K ds) t u b) (for_loop (declaration K es) t u b)) → (n w : Tree) → ForRow n w → P n w
+shaped P f n w r =
+    let before = append r.first (declarator (binding (resolved r.spelling r.symbol)) r.init ▸ r.last) in
+    subst (λ t. P t w) (sym r.shape) (subst (P (for_loop (declaration r.kind before) r.test r.update r.body)) (sym r.written) (f r.kind before (append r.first r.last) r.test r.update r.body))
+
+-- of a statement
+abbrev pub OfFor : Position → Tree → Tree → Type 0
+OfFor (Stmt q) n w = ForRow n w
+OfFor p n w = ⊥
+
+-- whichever place it is
+at_statement : (P : Position → Tree → Tree → Type 0) → ((q : StmtSeat) (n w : Tree) → ForRow n w → P (Stmt q) n w) → (p : Position) (n w : Tree) → OfFor p n w → P p n w
+at_statement P f (Stmt q) n w c = f q n w c
+at_statement P f p n w c = absurd c
+
+pub heads_loose : (K : Shape → Bool) → LawfulLoosely K OfFor
+heads_loose K = record {
+  shapes = record {
+    fitting = at_statement (λ p n w. (strict : Bool) (s : Slot) → fits_place p s ≡ true → fits strict s n ≡ true → fits strict s w ≡ true) (λ q n w r strict s o e. (in_place q n w r strict s e).0);
+    asked = at_statement AskedAlike (λ q. shaped (AskedAlike (Stmt q)) (λ K ds es t u b. record { absent = λ g. absurd (true≢false (sym g)); body = λ g. absurd (true≢false (sym g)); optional = λ g. absurd (true≢false (sym g)); number = λ g h. refl; spelled = λ r g. absurd (cc g); plain = refl }));
+  };
+  places = record {
+    names = record {
+      places = at_statement (λ p n w. (is_rewritten_place p ≡ true) ⊎ KeepsRoot p n w) (λ q n w r. inl refl);
+      pieces = at_statement (λ p n w. is_piece (shape_of n) ≡ false) (λ q. shaped (λ n w. is_piece (shape_of n) ≡ false) (λ K ds es t u b. refl));
+      keeps = at_statement (λ p n w. (strict : Bool) (s : Slot) → fits_place p s ≡ true → fits strict s n ≡ true → KeepsLoosely p n w) (λ q n w r strict s o e. (row_dropped q n w r).keeps);
+    };
+    slots = at_statement (λ p n w. (strict : Bool) (s : Slot) → fits_place p s ≡ true → fits strict s n ≡ true → ((is_body_slot p s ≡ true) ⊎ IsShownAlike s n w) ⊎ KeepsHolder n w) (λ q n w r strict s o e. inl (inl (in_place q n w r strict s e).1));
+    ports = at_statement (λ p n w. (strict : Bool) (d : Depth) → fits strict (one (a_statement d)) n ≡ true → (m : Bool) → NoPort m n w ⊎ KeepsFunction n w) (λ q n w r strict d e m. inl (shaped (NoPort m) (λ K ds es t u b. (refl, refl)) n w r));
+    listed = λ p n w e c. absurd (at_statement (λ p n w. is_statement_list p ≡ true → ⊥) (λ q n w r e. cc e) p n w c e);
+    exported = at_statement (λ p n w. (strict : Bool) → fits strict (one a_default_export) n ≡ true → NoDeclaration n w ⊎ KeepsFunction n w) (λ q n w r strict e. inl (shaped NoDeclaration (λ K ds es t u b. (refl, refl)) n w r));
+  };
+  reads = at_statement (λ p n w. summary n ≡ summary w) (λ q. shaped (λ n w. summary n ≡ summary w) (λ K ds es t u b. refl));
+  kind = at_statement (λ p n w. (strict : Bool) (s : Slot) → fits strict s n ≡ true → arrow_kind (shape_of n) ≡ arrow_kind (shape_of w)) (λ q n w r strict s e. shaped (λ n w. arrow_kind (shape_of n) ≡ arrow_kind (shape_of w)) (λ K ds es t u b. refl) n w r);
+  declared = at_statement (λ p n w. (y : Name) → Contains (declared w) y → Contains (declared n) y) (λ q n w r. (row_dropped q n w r).declared_there);
+  instances = at_statement (λ p n w. Stays p n w ⊎ ((k : ℕ) × Drops K k p n w)) (λ q n w r. inr (r.symbol, (row_dropped q n w r).drops K));
+}

@@ -1,0 +1,201 @@
+-- The head of a `for`: its parts are read like the statements of a block, of which its declaration is the first.
+use Rattle.std.proofs.Common.{◌≡◌, ℕ, zero, suc, ◌+◌, ◌<◌, ◌≤◌, Bool, true, false, List, [], ◌∷◌, refl, sym, ap, ◌∙◌, subst, inl, inr, true≢false, arith}
+use Rattle.std.specs.Prelude.{not, ◌⊎◌, ◌&&◌, ◌||◌, nat_le, Option, Some, None}
+use Rattle.std.proofs.lemmas.Bool.{and_parts, le-leb, leb-true}
+use Rattle.mini_model.specs.declared.name.Name.{Name}
+use Rattle.mini_model.specs.declared.place.Position.TheVariants.{Stmt}
+use Rattle.mini_model.specs.declared.seat.StmtSeat.{StmtSeat}
+use Rattle.mini_model.specs.declared.shape.Shape.TheVariants as shape
+use Rattle.mini_model.specs.Tree.{Tree, Trees, node, none, ◌▸◌, listed, shape_of, children, count, child_or_absent, empty_statement}
+use Rattle.mini_model.specs.Paths.{append}
+use Rattle.mini_laws.specs.ScopeList.{has_eval, any_has_eval}
+use Rattle.mini_laws.specs.Value.{VariableSet, nothing}
+use Rattle.mini_node.specs.Children.{names_of, part, with_part, is_bare, without, first_children, rest_children}
+use Rattle.mini_node.specs.Kinds.{is_block}
+use Rattle.mini_rows.specs.Declarations.{binding, declarator}
+use Rattle.mini_rows.specs.Lists.{block, declaration, declares_nothing, for_loop}
+use Rattle.mini_rows.specs.Unused.{resolved, declared_among, is_idle, UnusedRow, ForRow}
+use Rattle.mini_unused.specs.RemoveUnusedDeclaration.{declares_name, declares_list, is_lexical_shape, is_free_at, may_lose, may_go, is_alone, is_unused_declarator, list_at, is_unused, UnusedOf, let_left, open_in, is_function, is_switch, is_for_shape, has_head, Applied, AppliedInHead}
+use Rattle.mini_unused.specs.Chains.{still}
+use Rattle.mini_unused.proofs.Chains.{several_moves}
+use Rattle.mini_unused.proofs.Unused.{no_outside, and_both, without_is, parts_of, statement, ds, d, init, first, last, tests, kind, let_there, one, x, unused, statement_is, list_is, Read, unused_there, declarator_within, no_block}
+use Rattle.mini_unused.proofs.Holders.{or_none, count_more, no_function, no_switch}
+
+-- ---- what is outside of it mentions nothing
+
+alone_same : (xs : List Name) (v : Tree) (us : Trees) (j : ℕ) (ts : Trees) (i : ℕ) → is_alone xs empty_statement v us j ts i ≡ is_alone xs no_outside v us j ts i
+alone_same [] v us j ts i = refl
+alone_same (y ∷ xs) v us j ts i = refl
+
+same_test : (W : VariableSet) (ts : Trees) (j : ℕ) → is_lexical_shape (shape_of (child_or_absent ts 0)) ≡ true → is_unused (open_in empty_statement W) empty_statement ts 0 j ≡ is_unused nothing no_outside ts 0 j
+same_test W ts j e =
+    let c = child_or_absent ts 0 in
+    let l = list_at ts 0 in
+    let p = part l j in
+    ap (λ f. declares_list c && is_unused_declarator f (open_in empty_statement W) l j empty_statement ts 0) e
+    ∙ ap (λ b. declares_list c && (declares_name p && (true && (may_go (part p 1) l && b)))) (alone_same (names_of (part p 0)) (part p 1) (children l) j ts 0)
+    ∙ sym (ap (λ f. declares_list c && is_unused_declarator f nothing l j no_outside ts 0) e)
+
+-- ---- a `for`
+
+record Head (t : Tree) : Type 0 where
+  is : t ≡ for_loop (part t 0) (part t 1) (part t 2) (part t 3)
+  lexical : is_lexical_shape (shape_of (part t 0)) ≡ true
+  declares : declares_list (part t 0) ≡ true
+  several : 2 ≤ count (children (part (part t 0) 0))
+
+for_is : (t : Tree) → is_for_shape (shape_of t) && is_bare t 4 ≡ true → t ≡ for_loop (part t 0) (part t 1) (part t 2) (part t 3)
+for_is (node shape.ForStatement [] zero (a ▸ (b ▸ (c ▸ (e ▸ none))))) h = refl
+for_is t h = absurd (true≢false (sym h))
+
+head : (t : Tree) → has_head t ≡ true → Head t
+head t h =
+    let (a, p) = and_parts (is_for_shape (shape_of t)) (is_bare t 4 && (is_lexical_shape (shape_of (part t 0)) && (declares_list (part t 0) && nat_le 2 (count (children (part (part t 0) 0)))))) h in
+    let (b, q) = and_parts (is_bare t 4) (is_lexical_shape (shape_of (part t 0)) && (declares_list (part t 0) && nat_le 2 (count (children (part (part t 0) 0))))) p in
+    let (c, r) = and_parts (is_lexical_shape (shape_of (part t 0))) (declares_list (part t 0) && nat_le 2 (count (children (part (part t 0) 0)))) q in
+    let (e, f) = and_parts (declares_list (part t 0)) (nat_le 2 (count (children (part (part t 0) 0)))) r in
+    record { is = for_is t (and_both (is_for_shape (shape_of t)) (is_bare t 4) a b); lexical = c; declares = e; several = leb-true 2 (count (children (part (part t 0) 0))) f }
+
+not_one : (us : Trees) → 2 ≤ count us → is_bare (listed us) 1 ≡ false
+not_one none h = absurd (omega (arith, h))
+not_one (a ▸ none) h = absurd (omega (arith, h))
+not_one (a ▸ (b ▸ us)) h = refl
+
+block_evals : (ts : Trees) → has_eval (block ts) ≡ any_has_eval ts
+unfolding has_eval
+block_evals ts = or_none (any_has_eval ts)
+
+for_evals : (a b c e : Tree) → has_eval (for_loop a b c e) ≡ any_has_eval (a ▸ (b ▸ (c ▸ (e ▸ none))))
+unfolding has_eval
+for_evals a b c e = refl
+
+-- ---- such a declarator is what the row says
+
+module _ (a b c e : Tree) (lexical : is_lexical_shape (shape_of a) ≡ true) (several : 2 ≤ count (children (part a 0))) (j : ℕ) (g : j < count (children (part a 0))) (u : is_unused nothing no_outside (a ▸ (b ▸ (c ▸ (e ▸ none)))) 0 j ≡ true) (v : has_eval (for_loop a b c e) ≡ false) where
+  abbrev all : Trees
+  all = a ▸ (b ▸ (c ▸ (e ▸ none)))
+
+  abbrev as_block : Tree
+  as_block = block all
+
+  within : 0 < count all
+  within = omega arith
+
+  unseen : has_eval as_block ≡ false
+  unseen = block_evals all ∙ sym (for_evals a b c e) ∙ v
+
+  abbrev there : Tree
+  there = declared_among (kind as_block 0 j refl within g nothing u unseen) (x as_block 0 j refl within g nothing u unseen) (first as_block 0 j refl within g nothing u unseen) (init as_block 0 j refl within g nothing u unseen) (last as_block 0 j refl within g nothing u unseen)
+
+  is_there : a ≡ there
+  is_there = statement_is as_block 0 j refl within g nothing u unseen
+
+  only_others : count (ds as_block 0 j refl within g nothing u unseen) ≡ suc (count (append (first as_block 0 j refl within g nothing u unseen) (last as_block 0 j refl within g nothing u unseen)))
+  only_others = ap count (parts_of (ds as_block 0 j refl within g nothing u unseen) j g) ∙ count_more (first as_block 0 j refl within g nothing u unseen) (d as_block 0 j refl within g nothing u unseen) (last as_block 0 j refl within g nothing u unseen)
+
+  idle_there : is_idle (init as_block 0 j refl within g nothing u unseen) ≡ true
+  idle_there =
+      let i = init as_block 0 j refl within g nothing u unseen in
+      let goes = (tests as_block 0 j refl within g nothing u unseen).2 in
+      let bare : is_bare (part a 0) 1 ≡ false = ap (λ l. is_bare l 1) (list_is as_block 0 j refl within g nothing u unseen) ∙ not_one (children (part a 0)) several in
+      by (is_idle i) (sym (ap (λ y. is_idle i || (y && declares_nothing i)) bare) ∙ goes)
+    where
+      by : (y : Bool) → (y || false) ≡ true → y ≡ true
+      by true h = refl
+      by false h = h
+
+  in_head : ForRow (for_loop a b c e) (for_loop (let_left a j) b c e)
+  in_head =
+      let k = kind as_block 0 j refl within g nothing u unseen in
+      let s = one as_block 0 j refl within g nothing u unseen in
+      let f = first as_block 0 j refl within g nothing u unseen in
+      let l = last as_block 0 j refl within g nothing u unseen in
+      let alone_there = unused as_block 0 j refl within g nothing u unseen in
+      let us = ds as_block 0 j refl within g nothing u unseen in
+      record {
+        kind = k;
+        first = f;
+        spelling = s.spelling;
+        symbol = s.symbol;
+        init = init as_block 0 j refl within g nothing u unseen;
+        last = l;
+        test = b;
+        update = c;
+        body = e;
+        lexical = sym (ap (λ y. is_lexical_shape (shape_of y)) is_there) ∙ lexical;
+        idle = idle_there;
+        others = le-leb 1 (count (append f l)) (omega (arith, several, only_others));
+        declared_earlier = alone_there.declared_earlier;
+        initial = alone_there.initial;
+        declared_later = alone_there.declared_later;
+        later = alone_there.later;
+        unseen = sym (ap (λ y. has_eval (for_loop y b c e)) is_there) ∙ v;
+        shape = ap (λ y. for_loop y b c e) is_there;
+        written = ap (λ y. for_loop (let_left y j) b c e) (let_there as_block 0 j refl within g nothing u unseen) ∙ ap (λ vs. for_loop (declaration k vs) b c e) (without_is us j);
+      }
+
+pub dropped_there : (W : VariableSet) (t : Tree) (j : ℕ) → has_head t ≡ true → UnusedOf (open_in empty_statement W) empty_statement (children t) 0 (Some j) → has_eval t ≡ false → (u : Tree) → u ≡ with_part t 0 (let_left (part t 0) j) → AppliedInHead t u true
+dropped_there W t j h n v u e =
+    let r = head t h in
+    let a = part t 0 in
+    let b = part t 1 in
+    let c = part t 2 in
+    let z = part t 3 in
+    let ts = ap children r.is in
+    let found = sym (same_test W (a ▸ (b ▸ (c ▸ (z ▸ none)))) j r.lexical) ∙ sym (ap (λ us. is_unused (open_in empty_statement W) empty_statement us 0 j) ts) ∙ n.2 in
+    let inside = subst (λ us. j < count (children (list_at us 0))) ts n.1 in
+    let row = in_head a b c z r.lexical r.several j inside found (sym (ap has_eval r.is) ∙ v) in
+    subst (λ y. ForRow y u) (sym r.is) (subst (ForRow (for_loop a b c z)) (sym (e ∙ ap (λ y. with_part y 0 (let_left a j)) r.is)) row)
+
+-- ---- where there is none, no row reads it
+
+as_read : (t w : Tree) (r : ForRow t w) → Read nothing (block (declared_among r.kind (resolved r.spelling r.symbol) r.first r.init r.last ▸ (r.test ▸ (r.update ▸ (r.body ▸ none)))))
+as_read t w r =
+    let a = declared_among r.kind (resolved r.spelling r.symbol) r.first r.init r.last in
+    record {
+      before = none;
+      kind = r.kind;
+      first = r.first;
+      spelling = r.spelling;
+      symbol = r.symbol;
+      init = r.init;
+      last = r.last;
+      after = r.test ▸ (r.update ▸ (r.body ▸ none));
+      lost = ap (λ b. b || false) r.lexical;
+      goes = ap (λ b. b || (is_bare (listed (append r.first (declarator (binding (resolved r.spelling r.symbol)) r.init ▸ r.last))) 1 && declares_nothing r.init)) r.idle;
+      unused = record { earlier = refl; declared_earlier = r.declared_earlier; initial = r.initial; declared_later = r.declared_later; later = r.later; unseen = block_evals (a ▸ (r.test ▸ (r.update ▸ (r.body ▸ none)))) ∙ sym (for_evals a r.test r.update r.body) ∙ r.unseen };
+      shape = refl;
+    }
+
+pub none_there : (W : VariableSet) (t : Tree) → has_head t ≡ true → UnusedOf (open_in empty_statement W) empty_statement (children t) 0 None → AppliedInHead t t false
+unfolding as_read
+none_there W t h n = (refl, by)
+  where
+    by : (w : Tree) → ForRow t w → ⊥
+    by w r =
+        let a = declared_among r.kind (resolved r.spelling r.symbol) r.first r.init r.last in
+        let ts : Trees = a ▸ (r.test ▸ (r.update ▸ (r.body ▸ none))) in
+        let read = as_read t w r in
+        let here = unused_there nothing (block ts) read in
+        let inside = declarator_within nothing (block ts) read in
+        let moved = subst (λ us. UnusedOf (open_in empty_statement W) empty_statement us 0 None) (ap children r.shape) n in
+        true≢false (sym (same_test W ts (count r.first) r.lexical ∙ here) ∙ moved (count r.first) inside)
+
+pub seen_there : (t : Tree) → has_eval t ≡ true → AppliedInHead t t false
+seen_there t e = (refl, λ w r. true≢false (sym e ∙ ap has_eval r.shape ∙ r.unseen))
+
+-- ---- as a statement
+
+pub of_head : (W : VariableSet) (t u : Tree) (b : Bool) → has_head t ≡ true → AppliedInHead t u b → (q : StmtSeat) → Applied W (Stmt q) t u b
+of_head W t u true h r q = several_moves W (Stmt q) ForRow (λ t u r. inr (inr (inr r))) t u (record { next = u; first = r; others = still u })
+of_head W t u false h r q = (r.0, by)
+  where
+    no_other : (t : Tree) → has_head t ≡ true → (is_block t ≡ false) × (is_function t ≡ false) × (is_switch t ≡ false)
+    no_other (node shape.ForStatement xs n ts) e = (refl, refl, refl)
+    no_other t e = absurd (true≢false (sym e))
+
+    by : (w : Tree) → UnusedRow W (Stmt q) t w → ⊥
+    by w (inl k) = no_block nothing t (no_other t h).0 w k
+    by w (inr (inl f)) = no_function W t (no_other t h).1 w f
+    by w (inr (inr (inl s))) = no_switch t (no_other t h).2 w s
+    by w (inr (inr (inr v))) = r.1 w v
