@@ -55,7 +55,7 @@ module _ (e : Environment) (spelling target : List ℕ) (k : ℕ) where
 
   given_starts : (l : Known) (s : State) → means e (declarator id (known l)) (Declares true) tt s ≡ ok tt (started (value_of l) s)
   given_starts l s =
-      initialised e (resolved spelling k) true (known l) (known_declares l) s
+      initialised e id true (known l) (known_declares l) s
       ∙ ap (λ c. either c (λ v z. means e id (Binds true) v z) (λ y z. stop y z)) (known_means e l s)
       ∙ either_ok (value_of l) s _ _
       ∙ starts (value_of l) s

@@ -77,12 +77,12 @@ present (node (shape.UnaryExpression LogicalNot) xs n none) h = absurd (true≢f
 present (node (shape.UnaryExpression LogicalNot) xs n (t ▸ ts)) h = present t h
 present (node h xs n ts) e = refl
 
--- a name with an initializer
-pub initialised : (e : Environment) (x : Name) (lexical : Bool) (b : Tree) → declares_nothing b ≡ true → (s : State) → means e (declarator (binding x) b) (Declares lexical) tt s ≡ either (means e b (As Val) tt s) (λ v z. means e (binding x) (Binds lexical) v z) (λ x z. stop x z)
+-- what has an initializer
+pub initialised : (e : Environment) (id : Tree) (lexical : Bool) (b : Tree) → declares_nothing b ≡ true → (s : State) → means e (declarator id b) (Declares lexical) tt s ≡ either (means e b (As Val) tt s) (λ v z. means e id (Binds lexical) v z) (λ x z. stop x z)
 unfolding means meaning step
-initialised e x lexical b h s =
-    ap (λ c. run {q = first_demand (Binds lexical) (As Val)} e (naming shape.VariableDeclarator (Declares lexical) [] 0 (summaries (binding x ▸ (b ▸ none)))) (λ i r z. meaning e (binding x ▸ (b ▸ none)) i (first_demand (Binds lexical) (As Val) i) r z) (declares_by lexical c) s) (present b h)
-    ∙ either_cong (means e b (As Val) tt s) _ _ _ _ (λ v z. either_eta (means e (binding x) (Binds lexical) v z)) (λ x z. refl)
+initialised e id lexical b h s =
+    ap (λ c. run {q = first_demand (Binds lexical) (As Val)} e (naming shape.VariableDeclarator (Declares lexical) [] 0 (summaries (id ▸ (b ▸ none)))) (λ i r z. meaning e (id ▸ (b ▸ none)) i (first_demand (Binds lexical) (As Val) i) r z) (declares_by lexical c) s) (present b h)
+    ∙ either_cong (means e b (As Val) tt s) _ _ _ _ (λ v z. either_eta (means e id (Binds lexical) v z)) (λ x z. refl)
 
 -- ---- one without an initializer does nothing
 
@@ -130,7 +130,7 @@ module _ (ds : Trees) (spelling target : List ℕ) (k : ℕ) (es : Trees) (value
         ∙ either_ok tt z _ _
         ∙ expression_is e (assigned (resolved target k) value) [] z
         ∙ assigned_is e spelling target k value z
-        ∙ sym (initialised e (resolved spelling k) false value g z))
+        ∙ sym (initialised e (binding (resolved spelling k)) false value g z))
         (λ x z. either_stop x z _ _)
         ∙ sym (exec_one e with_value s ∙ declared_by e value h s);
     read = record { lets = refl; functions = refl; facts = refl; texts = refl };

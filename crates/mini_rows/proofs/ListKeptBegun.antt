@@ -78,7 +78,7 @@ anything h = Unit {0}
 record Spots (Q : Asked → Tree → Type 0) (P : Tree → Type 0) (H : Holder → Type 0) : Type 1 where
   seats : (s : Seat) (e d : Tree) → P e → P d → Opens Q (seated s) e d
   loops : (k : Each) (l w : Tree) → H (Going k l w) → (e d : Tree) → P e → P d → Opens Q (λ t. each_loop k l t w) e d
-  firsts : (kind : VariableDeclarationKind) (x : Name) (ds : Trees) (e d : Tree) → P e → P d → Opens Q (λ t. declaration kind (declarator (binding x) t ▸ ds)) e d
+  firsts : (kind : VariableDeclarationKind) (id : Tree) (ds : Trees) (e d : Tree) → P e → P d → Opens Q (λ t. declaration kind (declarator id t ▸ ds)) e d
 
 module _ (J : Leap → Type 0) (Q : Asked → Tree → Type 0) (l : Local J Q) where
   statement_opens : (e d : Tree) → Opens Q expression_statement e d
@@ -148,7 +148,7 @@ module _ (Q : Asked → Tree → Type 0) (l : Local Any Q) (k : Spots Q (λ t. U
 record Sums (m : Asked → Tree → ℕ) (P : Tree → Type 0) : Type 0 where
   seats : (s : Seat) → (c : ℕ) × ((e : Tree) → P e → m AsWholeItem (seated s e) ≡ m AsValue e + c)
   loops : (k : Each) (l w : Tree) → (c : ℕ) × ((e : Tree) → m AsWholeItem (each_loop k l e w) ≡ m AsValue e + c)
-  firsts : (kind : VariableDeclarationKind) (x : Name) (ds : Trees) → (c : ℕ) × ((e : Tree) → m AsWholeItem (declaration kind (declarator (binding x) e ▸ ds)) ≡ m AsValue e + c)
+  firsts : (kind : VariableDeclarationKind) (id : Tree) (ds : Trees) → (c : ℕ) × ((e : Tree) → m AsWholeItem (declaration kind (declarator id e ▸ ds)) ≡ m AsValue e + c)
 
 module _ (m : Asked → Tree → ℕ) (l : Summed m) (P : Tree → Type 0) (k : Sums m P) where
   held_sum : (h : Holder) → (c : ℕ) × ((e : Tree) → P e → m AsWholeItem (holding h e) ≡ m AsValue e + c)

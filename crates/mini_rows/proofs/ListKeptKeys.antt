@@ -56,13 +56,13 @@ use Rattle.mini_rows.proofs.ListKeptHeads.{of_statement, statement_of, sum_state
 -- each of a list with others before it
 
 module _ {A : Type 0} (all : List A) where
-  abbrev Inside : List A → Type 0
+  abbrev pub Inside : List A → Type 0
   Inside xs = (x : A) → Contains xs x → Contains all x
 
-  inside_both : (xs ys : List A) → Inside (xs ++ ys) → Inside xs × Inside ys
+  pub inside_both : (xs ys : List A) → Inside (xs ++ ys) → Inside xs × Inside ys
   inside_both xs ys k = (λ x c. k x (Contains-append_left xs ys x c), λ x c. k x (Contains-append_right xs ys x c))
 
-  both_inside : (xs ys : List A) → Inside xs → Inside ys → Inside (xs ++ ys)
+  pub both_inside : (xs ys : List A) → Inside xs → Inside ys → Inside (xs ++ ys)
   both_inside xs ys k l x c = by (Contains-append_cases xs ys x c)
     where
       by : Contains xs x ⊎ Contains ys x → Contains all x

@@ -7,6 +7,7 @@ use Rattle.std.proofs.lemmas.List.Elements.{Contains-append_left, Contains-appen
 use Rattle.mini_model.specs.declared.kind.VariableDeclarationKind.{VariableDeclarationKind}
 use Rattle.mini_model.specs.declared.name.Name.{Name}
 use Rattle.mini_model.specs.declared.name.SymbolId.{SymbolId}
+use Rattle.mini_model.specs.declared.shape.Shape.TheVariants as shape
 use Rattle.mini_model.specs.Tree.{Tree, Trees, none, ◌▸◌, absent, listed, shape_of}
 use Rattle.mini_laws.specs.declared.names.Use.{Use}
 use Rattle.mini_laws.specs.declared.names.Use.TheVariants.{Read}
@@ -20,15 +21,18 @@ use Rattle.mini_laws.specs.Scoped.{Scoped}
 use Rattle.mini_laws.specs.Symbols.{declared as declared_in, symbols_in, times}
 use Rattle.mini_laws.specs.Early.{own_declarations, scope_declarations, early_names, targets_of, early_jumps}
 use Rattle.mini_laws.specs.Value.{Variable}
-use Rattle.mini_laws.specs.Fixity.{fixed_by}
+use Rattle.mini_laws.specs.Fixity.{stricter, fixed_by}
 use Rattle.mini_laws.specs.Bodies.{Around, Body, bodies}
 use Rattle.mini_kept.specs.AlikeBodies.{BodiesKept}
 use Rattle.mini_kept.specs.Carried.{numbers, all_numbers}
 use Rattle.mini_kept.specs.Declaring.{declared as names_declared}
-use Rattle.mini_kept.specs.Frames.{Frame, frames, FramesKept}
+use Rattle.mini_kept.specs.Frames.{Frame, property_below, frames, FramesKept}
 use Rattle.mini_kept.specs.KeepsNames.{count_of}
 use Rattle.mini_kept.proofs.Anywhere.{once_anywhere, targets_anywhere}
-use Rattle.mini_kept.proofs.Below.{both_counts}
+use Rattle.mini_kept.proofs.Below.{both_counts, empty_both, both_empty}
+use Rattle.mini_kept.proofs.BodyLists.{both_of as both_bodies}
+use Rattle.mini_kept.proofs.Fixed.{of_children}
+use Rattle.mini_laws.proofs.Changes.{times_both}
 use Rattle.mini_kept.proofs.Unplaced.{as_body}
 use Rattle.mini_rows.specs.Lists.{declaration, binding, declarator, for_in, Each, EachIn, EachOf, each_loop}
 use Rattle.mini_rows.specs.Sketches.{AList, Asked, AsWholeList, AsWholeItem, AsValue, Leap}
@@ -38,8 +42,9 @@ use Rattle.mini_rows.proofs.ArrangedBodies.{quiet, HasBodies, bodies_local, HasF
 use Rattle.mini_rows.proofs.ArrangedValues.{is_value}
 use Rattle.mini_rows.proofs.ArrangedFolds.{port}
 use Rattle.mini_rows.proofs.ListKeptStretch.{joined, parted, sum_joined}
-use Rattle.mini_rows.proofs.ListKeptDeclarations.{over, names_if, is_var, declares_as, scope_if, opens, used, own_fixed, names_are, body_are, declarations_are, scoped_down, scoped_up, symbols_are, inner_is, numbers_are, declared_are, frames_are, bodies_are, once_is, jumps_are, fixed_down, fixed_up}
-use Rattle.mini_rows.proofs.ListKeptValues.{Opens, Names, bare, given, inner_value, fixed_value, declared_value, frames_value, bodies_value, numbers_value, symbols_value, once_value, jumps_value, scoped_value, among_value}
+use Rattle.mini_rows.proofs.ListKeptDeclarations.{over, names_if, is_var, declares_as, scope_if, opens, used, own_fixed, split_rank, both_rank, names_are, body_are, declarations_are, scoped_down, scoped_up, symbols_are, inner_is, numbers_are, declared_are, frames_are, bodies_are, once_is, jumps_are, fixed_down, fixed_up}
+use Rattle.mini_rows.proofs.ListKeptValues.{Opens, Names, or_nothing, stricter_alone}
+use Rattle.mini_rows.proofs.ListKeptHeads.{or_both, both_or, split_bodies}
 use Rattle.mini_rows.proofs.ListKeptKeys as keys
 
 -- ---- a loop is kept as a `for..in` is
@@ -212,23 +217,62 @@ module _ (k : Each) (l w : Tree) where
 
 -- ---- the first initializer of a declaration
 
-module _ (J : Leap → Type 0) (Q : Asked → Tree → Type 0) (n : Local J Q) (x : Name) (e : Tree) (ds : Trees) where
-  first_down : Q AsWholeList (listed (given x e ▸ ds)) → Q AsWholeItem (given x e) × Q AsWholeList (listed ds)
+module _ (id e : Tree) where
+  abbrev given : Tree
+  given = declarator id e
+
+  inner_given : has_inner given ≡ (has_inner id || has_inner e)
+  unfolding has_inner
+  inner_given = ap (λ c. has_inner id || c) (or_nothing (has_inner e))
+
+  fixed_given : (y : Variable) → fixed_by given y ≡ stricter (fixed_by id y) (fixed_by e y)
+  fixed_given y = of_children shape.VariableDeclarator [] 0 (id ▸ (e ▸ none)) y refl ∙ ap (stricter (fixed_by id y)) (stricter_alone (fixed_by e y))
+
+  declared_given : names_declared given ≡ names_declared id ++ names_declared e
+  declared_given = ap (λ r. names_declared id ++ r) (append-nil (names_declared e))
+
+  abbrev id_frames : List Frame
+  id_frames = frames (property_below shape.VariableDeclarator 0) id
+
+  frames_given : frames None given ≡ id_frames ++ frames None e
+  frames_given = ap (λ r. id_frames ++ r) (append-nil (frames None e))
+
+  bodies_given : (r : Around) → bodies (quiet r) given ≡ bodies (quiet r) id ++ bodies (quiet r) e
+  bodies_given r = ap (λ b. bodies (quiet r) id ++ b) (append-nil (bodies (quiet r) e))
+
+  numbers_given : numbers given ≡ numbers id ++ numbers e
+  unfolding numbers
+  numbers_given = ap (λ r. numbers id ++ r) (append-nil (numbers e))
+
+  symbols_given : (u : Use) → declared_in u given ≡ declared_in u id ++ declared_in Read e
+  unfolding declared_in scopes_by
+  symbols_given u = ap (λ r. declared_in u id ++ r) (append-nil (declared_in Read e))
+
+  once_given : early_names [] given ≡ early_names (0 ∷ []) id ++ early_names (1 ∷ []) e
+  unfolding early_names scope_declarations
+  once_given = ap (λ r. early_names (0 ∷ []) id ++ r) (append-nil (early_names (1 ∷ []) e))
+
+  jumps_given : (g : Targets) → early_jumps g [] given ≡ early_jumps g (0 ∷ []) id ++ early_jumps g (1 ∷ []) e
+  unfolding early_jumps targets_of
+  jumps_given g = ap (λ r. early_jumps g (0 ∷ []) id ++ r) (append-nil (early_jumps g (1 ∷ []) e))
+
+module _ (J : Leap → Type 0) (Q : Asked → Tree → Type 0) (n : Local J Q) (id e : Tree) (ds : Trees) where
+  first_down : Q AsWholeList (listed (given id e ▸ ds)) → Q AsWholeItem (given id e) × Q AsWholeList (listed ds)
   first_down q =
-      let (a, b) = parted J Q n (given x e ▸ none) ds q in
-      ((n.down AList AsWholeList (given x e ▸ none) tt a).1.0, b)
+      let (a, b) = parted J Q n (given id e ▸ none) ds q in
+      ((n.down AList AsWholeList (given id e ▸ none) tt a).1.0, b)
 
-  first_up : Q AsWholeItem (given x e) → Q AsWholeList (listed ds) → Q AsWholeList (listed (given x e ▸ ds))
-  first_up q r = joined J Q n (given x e ▸ none) ds (n.up AList AsWholeList (given x e ▸ none) tt tt (q, tt)) r
+  first_up : Q AsWholeItem (given id e) → Q AsWholeList (listed ds) → Q AsWholeList (listed (given id e ▸ ds))
+  first_up q r = joined J Q n (given id e ▸ none) ds (n.up AList AsWholeList (given id e ▸ none) tt tt (q, tt)) r
 
-module _ (kind : VariableDeclarationKind) (x : Name) (ds : Trees) where
+module _ (kind : VariableDeclarationKind) (id : Tree) (ds : Trees) where
   abbrev list : Tree → Tree
-  list t = listed (given x t ▸ ds)
+  list t = listed (given id t ▸ ds)
 
   abbrev declares : Tree → Tree
-  declares t = declaration kind (given x t ▸ ds)
+  declares t = declaration kind (given id t ▸ ds)
 
-  bound_alike : (e d : Tree) → all_names declared.Bound (given x d ▸ ds) ≡ all_names declared.Bound (given x e ▸ ds)
+  bound_alike : (e d : Tree) → all_names declared.Bound (given id d ▸ ds) ≡ all_names declared.Bound (given id e ▸ ds)
   unfolding names_of
   bound_alike e d = refl
 
@@ -239,102 +283,112 @@ module _ (kind : VariableDeclarationKind) (x : Name) (ds : Trees) where
 
   pub numbers_first : (n : ℕ) → (c : ℕ) × ((e : Tree) → number_times n AsWholeItem (declares e) ≡ number_times n AsValue e + c)
   numbers_first n = (
-    number_times n AsWholeList (listed ds),
-    λ e. omega (arith, ap (count_of n) (numbers_are kind (list e)), sum_joined (number_times n) (numbers_summed n) (given x e ▸ none) ds, numbers_summed n AList AsWholeList (given x e ▸ none) tt, ap (count_of n) (numbers_value x e)),
+    count_of n (numbers id) + number_times n AsWholeList (listed ds),
+    λ e. omega (arith, ap (count_of n) (numbers_are kind (list e)), sum_joined (number_times n) (numbers_summed n) (given id e ▸ none) ds, numbers_summed n AList AsWholeList (given id e ▸ none) tt, ap (count_of n) (numbers_given id e), both_counts n (numbers id) (numbers e)),
   )
 
   pub symbols_first : (u : Use) (y : Option SymbolId) → (c : ℕ) × ((e : Tree) → symbol_times u y AsWholeItem (declares e) ≡ symbol_times u y AsValue e + c)
   symbols_first u y =
       let v = used u kind in (
-        times y (symbols_in (scope_if (opens u kind) (list absent))) + symbol_times v y AsWholeList (listed ds),
-        λ e. omega (arith, symbols_are u kind y (list e), scope_alike (opens u kind) y e, sum_joined (symbol_times v y) (symbols_summed v y) (given x e ▸ none) ds, symbols_summed v y AList AsWholeList (given x e ▸ none) tt, ap (times y) (symbols_value x e v)),
+        times y (symbols_in (scope_if (opens u kind) (list absent))) + times y (declared_in v id) + symbol_times v y AsWholeList (listed ds),
+        λ e. omega (arith, symbols_are u kind y (list e), scope_alike (opens u kind) y e, sum_joined (symbol_times v y) (symbols_summed v y) (given id e ▸ none) ds, symbols_summed v y AList AsWholeList (given id e ▸ none) tt, ap (times y) (symbols_given id e v), times_both y (declared_in v id) (declared_in Read e)),
       )
 
   module _ (e d : Tree) where
     pub inner_first : (b : Bool) → Opens (InnerIf b) declares e d
     inner_first b = record {
-      Beside = InnerIf b AsWholeList (listed ds);
+      Beside = ((has_inner id || b) ≡ b) × InnerIf b AsWholeList (listed ds);
       down = λ q.
-          let (y, r) = first_down Any (InnerIf b) (inner_local b) x e ds (subst (λ c. (c || b) ≡ b) (inner_is kind (list e)) q) in
-          (subst (λ c. (c || b) ≡ b) (inner_value x e) y, r);
-      up = λ q r. subst (λ c. (c || b) ≡ b) (sym (inner_is kind (list d))) (first_up Any (InnerIf b) (inner_local b) x d ds (subst (λ c. (c || b) ≡ b) (sym (inner_value x d)) q) r);
+          let (y, r) = first_down Any (InnerIf b) (inner_local b) id e ds (subst (λ c. (c || b) ≡ b) (inner_is kind (list e)) q) in
+          let (own, v) = or_both b (has_inner id) (has_inner e) (subst (λ c. (c || b) ≡ b) (inner_given id e) y) in
+          (v, (own, r));
+      up = λ q r. subst (λ c. (c || b) ≡ b) (sym (inner_is kind (list d))) (first_up Any (InnerIf b) (inner_local b) id d ds (subst (λ c. (c || b) ≡ b) (sym (inner_given id d)) (both_or b (has_inner id) (has_inner d) r.0 q)) r.1);
     }
 
     pub fixed_first : (y : Variable) (m : ℕ) → Opens (FixedBy y m) declares e d
     fixed_first y m = record {
-      Beside = (rank (own_fixed m kind y (given x absent ▸ ds)) ≤ m) × FixedBy y m AsWholeList (listed ds);
+      Beside = (rank (own_fixed m kind y (given id absent ▸ ds)) ≤ m) × ((rank (fixed_by id y) ≤ m) × FixedBy y m AsWholeList (listed ds));
       down = λ q.
-          let (own, all) = fixed_down m kind y (given x e ▸ ds) q in
-          let (v, r) = first_down Any (FixedBy y m) (fixed_local y m) x e ds all in
-          (subst (λ f. rank f ≤ m) (fixed_value x e y) v, (own, r));
-      up = λ q r. fixed_up m kind y (given x d ▸ ds) r.0 (first_up Any (FixedBy y m) (fixed_local y m) x d ds (subst (λ f. rank f ≤ m) (sym (fixed_value x d y)) q) r.1);
+          let (own, all) = fixed_down m kind y (given id e ▸ ds) q in
+          let (v, r) = first_down Any (FixedBy y m) (fixed_local y m) id e ds all in
+          let (name, value) = split_rank m (fixed_by id y) (fixed_by e y) (subst (λ f. rank f ≤ m) (fixed_given id e y) v) in
+          (value, (own, (name, r)));
+      up = λ q r. fixed_up m kind y (given id d ▸ ds) r.0 (first_up Any (FixedBy y m) (fixed_local y m) id d ds (subst (λ f. rank f ≤ m) (sym (fixed_given id d y)) (both_rank m (fixed_by id y) (fixed_by d y) r.1.0 q)) r.1.1);
     }
 
     pub declares_first : (all : List Name) → Opens (Declares all) declares e d
     declares_first all = record {
-      Beside = Among all (names_declared (bare x e)) × Declares all AsWholeList (listed ds);
+      Beside = Among all (names_declared id) × Declares all AsWholeList (listed ds);
       down = λ q.
-          let (v, r) = first_down Any (Declares all) (declares_local all) x e ds (subst (Among all) (declared_are kind (list e)) q) in
-          let own = subst (Among all) (declared_value x e) v in
-          (λ z c. own z (Contains-append_right (x ∷ []) (names_declared e) z c), (λ z c. own z (Contains-append_left (x ∷ []) (names_declared e) z c), r));
-      up = λ q r. subst (Among all) (sym (declared_are kind (list d))) (first_up Any (Declares all) (declares_local all) x d ds (among_value x d all r.0 q) r.1);
+          let (v, r) = first_down Any (Declares all) (declares_local all) id e ds (subst (Among all) (declared_are kind (list e)) q) in
+          let (own, value) = keys.inside_both all (names_declared id) (names_declared e) (subst (Among all) (declared_given id e) v) in
+          (value, (own, r));
+      up = λ q r. subst (Among all) (sym (declared_are kind (list d))) (first_up Any (Declares all) (declares_local all) id d ds (subst (Among all) (sym (declared_given id d)) (keys.both_inside all (names_declared id) (names_declared d) r.0 q)) r.1);
     }
 
     pub frames_first : (fs : List Frame) → Opens (HasFrames fs) declares e d
     frames_first fs = record {
-      Beside = HasFrames fs AsWholeList (listed ds);
+      Beside = FramesKept fs (id_frames id e) × HasFrames fs AsWholeList (listed ds);
       down = λ q.
-          let (v, r) = first_down Any (HasFrames fs) (frames_local fs) x e ds (subst (FramesKept fs) (frames_are kind (list e)) q) in
-          (subst (FramesKept fs) (frames_value x e) v, r);
-      up = λ q r. subst (FramesKept fs) (sym (frames_are kind (list d))) (first_up Any (HasFrames fs) (frames_local fs) x d ds (subst (FramesKept fs) (sym (frames_value x d)) q) r);
+          let (v, r) = first_down Any (HasFrames fs) (frames_local fs) id e ds (subst (FramesKept fs) (frames_are kind (list e)) q) in
+          let (own, value) = keys.inside_both fs (id_frames id e) (frames None e) (subst (FramesKept fs) (frames_given id e) v) in
+          (value, (own, r));
+      up = λ q r. subst (FramesKept fs) (sym (frames_are kind (list d))) (first_up Any (HasFrames fs) (frames_local fs) id d ds (subst (FramesKept fs) (sym (frames_given id d)) (keys.both_inside fs (id_frames id d) (frames None d) r.0 q)) r.1);
     }
 
     pub bodies_first : (bs : List Body) (a : Around) → Opens (HasBodies bs a) declares e d
     bodies_first bs a = record {
-      Beside = HasBodies bs a AsWholeList (listed ds);
+      Beside = BodiesKept bs (bodies (quiet a) id) × HasBodies bs a AsWholeList (listed ds);
       down = λ q.
-          let (v, r) = first_down Any (HasBodies bs a) (bodies_local bs a) x e ds (subst (BodiesKept bs) (bodies_are kind a (list e)) q) in
-          (subst (BodiesKept bs) (bodies_value x e a) v, r);
-      up = λ q r. subst (BodiesKept bs) (sym (bodies_are kind a (list d))) (first_up Any (HasBodies bs a) (bodies_local bs a) x d ds (subst (BodiesKept bs) (sym (bodies_value x d a)) q) r);
+          let (v, r) = first_down Any (HasBodies bs a) (bodies_local bs a) id e ds (subst (BodiesKept bs) (bodies_are kind a (list e)) q) in
+          let (own, value) = split_bodies bs (bodies (quiet a) id) (bodies (quiet a) e) (subst (BodiesKept bs) (bodies_given id e a) v) in
+          (value, (own, r));
+      up = λ q r. subst (BodiesKept bs) (sym (bodies_are kind a (list d))) (first_up Any (HasBodies bs a) (bodies_local bs a) id d ds (subst (BodiesKept bs) (sym (bodies_given id d a)) (both_bodies bs (bodies (quiet a) id) (bodies (quiet a) d) r.0 q)) r.1);
     }
 
     pub targets_first : (g : Targets) → Opens (Aimed g) declares e d
     targets_first g = record {
-      Beside = Aimed g AsWholeList (listed ds);
+      Beside = (early_jumps g (0 ∷ []) id ≡ []) × Aimed g AsWholeList (listed ds);
       down = λ q.
-          let (v, r) = first_down (HasTarget g) (Aimed g) (aimed_local g) x e ds (targets_anywhere g (0 ∷ []) [] (list e) (sym (jumps_are kind g (list e)) ∙ q)) in
-          (targets_anywhere g (1 ∷ []) [] e (sym (jumps_value x e g) ∙ v), r);
-      up = λ q r. jumps_are kind g (list d) ∙ targets_anywhere g [] (0 ∷ []) (list d) (first_up (HasTarget g) (Aimed g) (aimed_local g) x d ds (jumps_value x d g ∙ targets_anywhere g [] (1 ∷ []) d q) r);
+          let (v, r) = first_down (HasTarget g) (Aimed g) (aimed_local g) id e ds (targets_anywhere g (0 ∷ []) [] (list e) (sym (jumps_are kind g (list e)) ∙ q)) in
+          let (own, value) = empty_both (early_jumps g (0 ∷ []) id) (early_jumps g (1 ∷ []) e) (sym (jumps_given id e g) ∙ v) in
+          (targets_anywhere g (1 ∷ []) [] e value, (own, r));
+      up = λ q r. jumps_are kind g (list d) ∙ targets_anywhere g [] (0 ∷ []) (list d) (first_up (HasTarget g) (Aimed g) (aimed_local g) id d ds (jumps_given id d g ∙ both_empty (early_jumps g (0 ∷ []) id) (early_jumps g (1 ∷ []) d) r.0 (targets_anywhere g [] (1 ∷ []) d q)) r.1);
     }
 
     pub once_first : Opens Once declares e d
     once_first = record {
-      Beside = Once AsWholeList (listed ds);
+      Beside = (early_names (0 ∷ []) id ≡ []) × Once AsWholeList (listed ds);
       down = λ q.
-          let (v, r) = first_down Any Once once_local x e ds (once_anywhere (0 ∷ []) [] (list e) (sym (once_is kind (list e)) ∙ q)) in
-          (once_anywhere (1 ∷ []) [] e (sym (once_value x e) ∙ v), r);
-      up = λ q r. once_is kind (list d) ∙ once_anywhere [] (0 ∷ []) (list d) (first_up Any Once once_local x d ds (once_value x d ∙ once_anywhere [] (1 ∷ []) d q) r);
+          let (v, r) = first_down Any Once once_local id e ds (once_anywhere (0 ∷ []) [] (list e) (sym (once_is kind (list e)) ∙ q)) in
+          let (own, value) = empty_both (early_names (0 ∷ []) id) (early_names (1 ∷ []) e) (sym (once_given id e) ∙ v) in
+          (once_anywhere (1 ∷ []) [] e value, (own, r));
+      up = λ q r. once_is kind (list d) ∙ once_anywhere [] (0 ∷ []) (list d) (first_up Any Once once_local id d ds (once_given id d ∙ both_empty (early_names (0 ∷ []) id) (early_names (1 ∷ []) d) r.0 (once_anywhere [] (1 ∷ []) d q)) r.1);
     }
 
-    value_scoped : (u : Use) (env : Environment) → Scoped u env (given x e) → Scoped Read env e × Scoped u env (bare x e)
+    value_scoped : (u : Use) (env : Environment) → Scoped u env (given id e) → Scoped Read env e × Scoped u (env ++ []) id
     unfolding Scoped scopes_by
-    value_scoped u env a = (subst (λ r. Scoped Read r e) (append-nil (env ++ []) ∙ append-nil env) a.1.1.0, (a.0, (a.1.0, ((tt, tt), tt))))
+    value_scoped u env a = (subst (λ r. Scoped Read r e) (append-nil (env ++ []) ∙ append-nil env) a.1.1.0, a.1.0)
+
+    given_scoped : (u : Use) (env : Environment) → Scoped Read env d → Scoped u (env ++ []) id → Scoped u env (given id d)
+    unfolding Scoped scopes_by
+    given_scoped u env q a = (tt, (a, (subst (λ r. Scoped Read r d) (sym (append-nil (env ++ []) ∙ append-nil env)) q, tt)))
 
     pub scoped_first : (env : Environment) → Opens (ScopedAs Read env) declares e d
     scoped_first env =
         let u = used Read kind in record {
-          Beside = Scoped u env (bare x e) × ScopedAs u env AsWholeList (listed ds);
+          Beside = Scoped u (env ++ []) id × ScopedAs u env AsWholeList (listed ds);
           down = λ q.
-              let (v, r) = first_down Any (ScopedAs u env) (scoped_local u env) x e ds (scoped_down kind env (list e) q) in
+              let (v, r) = first_down Any (ScopedAs u env) (scoped_local u env) id e ds (scoped_down kind env (list e) q) in
               let (y, b) = value_scoped u env v in
               (y, (b, r));
-          up = λ q r. scoped_up kind env (list d) (first_up Any (ScopedAs u env) (scoped_local u env) x d ds (scoped_value x d u env r.0 q) r.1);
+          up = λ q r. scoped_up kind env (list d) (first_up Any (ScopedAs u env) (scoped_local u env) id d ds (given_scoped u env q r.0) r.1);
         }
 
     pub same_first : Names (declares e) (declares d)
     same_first = record {
-      names = λ s. names_are s kind (given x d ▸ ds) ∙ ap (names_if (declares_as s kind)) (bound_alike e d) ∙ sym (names_are s kind (given x e ▸ ds));
-      body = body_are kind (given x d ▸ ds) ∙ bound_alike e d ∙ sym (body_are kind (given x e ▸ ds));
-      as_body = λ o. declarations_are o kind (given x d ▸ ds) ∙ ap (own_declarations (not (is_var kind)) []) (bound_alike e d) ∙ sym (declarations_are o kind (given x e ▸ ds));
+      names = λ s. names_are s kind (given id d ▸ ds) ∙ ap (names_if (declares_as s kind)) (bound_alike e d) ∙ sym (names_are s kind (given id e ▸ ds));
+      body = body_are kind (given id d ▸ ds) ∙ bound_alike e d ∙ sym (body_are kind (given id e ▸ ds));
+      as_body = λ o. declarations_are o kind (given id d ▸ ds) ∙ ap (own_declarations (not (is_var kind)) []) (bound_alike e d) ∙ sym (declarations_are o kind (given id e ▸ ds));
       ports = λ m. refl;
     }

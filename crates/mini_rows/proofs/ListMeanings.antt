@@ -363,22 +363,22 @@ parts_declare : (q : Tree) (qs : Trees) → are_parts q qs ≡ true → declares
 parts_declare q none h = (and_parts (is_one_part_shape (shape_of q)) (declares_nothing q) h).1
 parts_declare q (c ▸ qs) h = refl
 
-module _ (kind : VariableDeclarationKind) (x : Name) (ds : Trees) where
+module _ (kind : VariableDeclarationKind) (id : Tree) (ds : Trees) where
   declares_first : Environment → Value → State → Completion (Unit {0})
-  declares_first e v s = either (means e (binding x) (Binds (is_lexical kind)) v s) (λ u z. declare e ds (is_lexical kind) z) (λ y z. stop y z)
+  declares_first e v s = either (means e id (Binds (is_lexical kind)) v s) (λ u z. declare e ds (is_lexical kind) z) (λ y z. stop y z)
 
-  first_is : (e : Environment) (b : Tree) → declares_nothing b ≡ true → (s : State) → means e (declaration kind (declarator (binding x) b ▸ ds)) (Stat None) [] s ≡ either (means e b (As Val) tt s) (λ v z. declares_first e v z) (λ y z. stop y z)
+  first_is : (e : Environment) (b : Tree) → declares_nothing b ≡ true → (s : State) → means e (declaration kind (declarator id b ▸ ds)) (Stat None) [] s ≡ either (means e b (As Val) tt s) (λ v z. declares_first e v z) (λ y z. stop y z)
   unfolding declares_first
   first_is e b h s =
-      declaration_is e kind (declarator (binding x) b ▸ ds) [] s
-      ∙ declare_more e (declarator (binding x) b) ds (is_lexical kind) s
-      ∙ ap (λ c. either c (λ u z. declare e ds (is_lexical kind) z) (λ y z. stop y z)) (initialised e x (is_lexical kind) b h s)
+      declaration_is e kind (declarator id b ▸ ds) [] s
+      ∙ declare_more e (declarator id b) ds (is_lexical kind) s
+      ∙ ap (λ c. either c (λ u z. declare e ds (is_lexical kind) z) (λ y z. stop y z)) (initialised e id (is_lexical kind) b h s)
       ∙ either_assoc (means e b (As Val) tt s) _ _ _ _
       ∙ either_cong (means e b (As Val) tt s) _ _ _ _ (λ v z. refl) (λ y z. either_stop y z _ _)
 
-  into_first : (p : Tree) (q : Tree) (qs : Trees) → are_parts q qs ≡ true → SameStretch (expression_statement p ▸ (declaration kind (declarator (binding x) (of_parts q qs) ▸ ds) ▸ none)) (declaration kind (declarator (binding x) (sequence (p ▸ (q ▸ qs))) ▸ ds) ▸ none)
+  into_first : (p : Tree) (q : Tree) (qs : Trees) → are_parts q qs ≡ true → SameStretch (expression_statement p ▸ (declaration kind (declarator id (of_parts q qs) ▸ ds) ▸ none)) (declaration kind (declarator id (sequence (p ▸ (q ▸ qs))) ▸ ds) ▸ none)
   into_first p q qs h =
-      into_head p none q qs Val (λ d. declaration kind (declarator (binding x) d ▸ ds))
+      into_head p none q qs Val (λ d. declaration kind (declarator id d ▸ ds))
       (record { rest = declares_first; before = λ e s. first_is e (of_parts q qs) (parts_declare q qs h) s; after = λ e s. first_is e (sequence (p ▸ (q ▸ qs))) refl s })
       (record { lets = refl; functions = refl; facts = refl; texts = refl })
 

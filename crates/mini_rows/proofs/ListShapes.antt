@@ -395,26 +395,26 @@ module _ (strict : Bool) where
       (x, just d (each_loop EachOf l (of_parts q qs) w) (both (fits strict (one (a_loop_left false)) l) (fits strict expression (of_parts q qs) && (fits strict (statement nested) w && true)) b (both (fits strict expression (of_parts q qs)) (fits strict (statement nested) w && true) y c)))
 
   -- the first initializer of a declaration is an expression
-  pub first_sequence : (d : Depth) (kind : VariableDeclarationKind) (x : Name) (ds ts : Trees) → Fits (statement d) (declaration kind (declarator (binding x) (sequence ts) ▸ ds)) → Fits expression (sequence ts)
-  first_sequence d kind x ds ts e =
+  pub first_sequence : (d : Depth) (kind : VariableDeclarationKind) (id : Tree) (ds ts : Trees) → Fits (statement d) (declaration kind (declarator id (sequence ts) ▸ ds)) → Fits expression (sequence ts)
+  first_sequence d kind id ds ts e =
       let s = sequence ts in
-      let old = declarator (binding x) s ▸ ds in
+      let old = declarator id s ▸ ds in
       let filled = (and_parts (nat_le 1 (count old)) (fill strict (each (one a_declarator)) old && true) (sym (declaration_anywhere strict d kind old) ∙ e)).1 in
-      let (own, others) = first_fits (one a_declarator) (declarator (binding x) s) ds (left (fill strict (each (one a_declarator)) old) true filled) in
-      present an_expression s refl (left (fits strict (one_or_absent an_expression) s) true (and_parts (fits strict (one a_pattern) (binding x)) (fits strict (one_or_absent an_expression) s && true) own).1)
+      let (own, others) = first_fits (one a_declarator) (declarator id s) ds (left (fill strict (each (one a_declarator)) old) true filled) in
+      present an_expression s refl (left (fits strict (one_or_absent an_expression) s) true (and_parts (fits strict (one a_pattern) id) (fits strict (one_or_absent an_expression) s && true) own).1)
 
-  first_leaves : (kind : VariableDeclarationKind) (x : Name) (ds : Trees) (a q : Tree) (qs : Trees) (d : Depth) → are_parts q qs ≡ true → Fits (statement d) (declaration kind (declarator (binding x) (sequence (a ▸ (q ▸ qs))) ▸ ds)) → Leaves a (declaration kind (declarator (binding x) (of_parts q qs) ▸ ds) ▸ none) d
+  first_leaves : (kind : VariableDeclarationKind) (id : Tree) (ds : Trees) (a q : Tree) (qs : Trees) (d : Depth) → are_parts q qs ≡ true → Fits (statement d) (declaration kind (declarator id (sequence (a ▸ (q ▸ qs))) ▸ ds)) → Leaves a (declaration kind (declarator id (of_parts q qs) ▸ ds) ▸ none) d
   unfolding Leaves
-  first_leaves kind x ds a q qs d k e =
+  first_leaves kind id ds a q qs d k e =
       let s = sequence (a ▸ (q ▸ qs)) in
-      let old = declarator (binding x) s ▸ ds in
-      let new = declarator (binding x) (of_parts q qs) ▸ ds in
+      let old = declarator id s ▸ ds in
+      let new = declarator id (of_parts q qs) ▸ ds in
       let (some, filled) = and_parts (nat_le 1 (count old)) (fill strict (each (one a_declarator)) old && true) (sym (declaration_anywhere strict d kind old) ∙ e) in
-      let (own, others) = first_fits (one a_declarator) (declarator (binding x) s) ds (left (fill strict (each (one a_declarator)) old) true filled) in
-      let (name, init) = and_parts (fits strict (one a_pattern) (binding x)) (fits strict (one_or_absent an_expression) s && true) own in
+      let (own, others) = first_fits (one a_declarator) (declarator id s) ds (left (fill strict (each (one a_declarator)) old) true filled) in
+      let (name, init) = and_parts (fits strict (one a_pattern) id) (fits strict (one_or_absent an_expression) s && true) own in
       let (f, y) = of_sequence a q qs (present an_expression s refl (left (fits strict (one_or_absent an_expression) s) true init)) in
-      let value = both (fits strict (one a_pattern) (binding x)) (fits strict (one_or_absent an_expression) (of_parts q qs) && true) name (both (fits strict (one_or_absent an_expression) (of_parts q qs)) true (or_absent an_expression (of_parts q qs) y (parts_there q qs k)) refl) in
-      let all = more_fit (one a_declarator) (declarator (binding x) (of_parts q qs)) ds value others in
+      let value = both (fits strict (one a_pattern) id) (fits strict (one_or_absent an_expression) (of_parts q qs) && true) name (both (fits strict (one_or_absent an_expression) (of_parts q qs)) true (or_absent an_expression (of_parts q qs) y (parts_there q qs k)) refl) in
+      let all = more_fit (one a_declarator) (declarator id (of_parts q qs)) ds value others in
       (f, just d (declaration kind new) (declaration_anywhere strict d kind new ∙ both (nat_le 1 (count new)) (fill strict (each (one a_declarator)) new && true) some (both (fill strict (each (one a_declarator)) new) true all refl)))
 
   begun_leaves : (b : Beginning) (y : Name) (value : Tree) (d : Depth) → begins_well b ≡ true → Fits (statement d) (begun b (assigned y value)) → Leaves (assigned y value) (begun_without b) d

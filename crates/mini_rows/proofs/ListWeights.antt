@@ -391,10 +391,10 @@ held_falls (Heading (Switch cases)) p q qs = let falls = first_falls false false
 held_falls (Heading (For u v w)) p q qs = let falls = first_falls false true p q qs in omega (arith, falls)
 held_falls (Going EachIn left body) p q qs = let falls = first_falls false false p q qs in omega (arith, falls)
 held_falls (Going EachOf left body) p q qs = let falls = argument_falls p q qs in omega (arith, falls)
-held_falls (Declaring kind x ds) p q qs =
+held_falls (Declaring kind id ds) p q qs =
     let falls = argument_falls p q qs in
     let sign = parts_present q qs in
-    omega (arith, falls, sign, commas_there none (declarator (binding x) (of_parts q qs)) (declarator (binding x) (sequence (p ▸ (q ▸ qs)))) ds, comma_list (declarator (binding x) (of_parts q qs) ▸ ds), comma_list (declarator (binding x) (sequence (p ▸ (q ▸ qs))) ▸ ds))
+    omega (arith, falls, sign, commas_there none (declarator id (of_parts q qs)) (declarator id (sequence (p ▸ (q ▸ qs)))) ds, comma_list (declarator id (of_parts q qs) ▸ ds), comma_list (declarator id (sequence (p ▸ (q ▸ qs))) ▸ ds))
 
 -- an assignment weighs its value, its name and its sign
 assigned_weighs : (x : List ℕ) (k : ℕ) (value : Tree) → weight (Expr passed_part_seat) (assigned (resolved x k) value) ≡ weight (Expr argument_seat) value + 4

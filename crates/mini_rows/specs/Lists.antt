@@ -486,19 +486,19 @@ abbrev pub each_loop : Each → Tree → Tree → Tree → Tree
 each_loop EachIn left right body = for_in left right body
 each_loop EachOf left right body = node shape.ForOfStatement [] 0 (left ▸ (right ▸ (body ▸ none)))
 
--- what holds an expression that is evaluated first: `e;`, a head, what a `for..in` or `for..of` goes over, or the initializer of the
--- first name of a declaration
+-- what holds an expression that is evaluated first: `e;`, a head, what a `for..in` or `for..of` goes over, or the first initializer of
+-- a declaration
 pub data Holder : Type 0 where
   Statement : Holder
   Heading : Head → Holder
   Going : Each → Tree → Tree → Holder
-  Declaring : VariableDeclarationKind → Name → Trees → Holder
+  Declaring : VariableDeclarationKind → Tree → Trees → Holder
 
 abbrev pub holding : Holder → Tree → Tree
 holding Statement e = expression_statement e
 holding (Heading h) e = with_head h e
 holding (Going k left body) e = each_loop k left e body
-holding (Declaring kind x ds) e = declaration kind (declarator (binding x) e ▸ ds)
+holding (Declaring kind id ds) e = declaration kind (declarator id e ▸ ds)
 
 -- the head of a loop declares no lexical name, which would be uninitialised there
 abbrev pub holds_well : Holder → Bool

@@ -26,7 +26,7 @@ use Rattle.mini_rows.specs.Switches.{Switches}
 use Rattle.mini_stmt.specs.MinimizeStatements.{Changes, Moves, is_quiet, reversed, StretchRests, MinimizesList}
 use Rattle.mini_stmt.specs.MinimizeStatements as list
 use Rattle.mini_stmt.specs.JoinGuards as guards
-use Rattle.mini_stmt.specs.JoinAssignments.{is_led, goes_over, declares_name, begins_with_name, is_kind, declares_first, holds, held, with_first, with_held, is_assign_shape, assigns_name, is_binding_shape, declares_bare, takes_name, TakesAt, leaves_parts, holds_sequence, holds_alone, beginning_of, assigns_first, may_enter, enters, EntersAt, other_parts, left_alone, left_of, with_value, Entered, is_for_of, takes_head, declares_one, heads, joins_var, heads_last, enters_first, are_entered, enters_last, EntersLast, PutEntered, AllEntered, Rests, JoinsAssignments}
+use Rattle.mini_stmt.specs.JoinAssignments.{is_led, goes_over, begins_with_one, is_kind, declares_first, holds, held, with_first, with_held, is_assign_shape, assigns_name, is_binding_shape, declares_bare, takes_name, TakesAt, leaves_parts, holds_sequence, holds_alone, beginning_of, assigns_first, may_enter, enters, EntersAt, other_parts, left_alone, left_of, with_value, Entered, is_for_of, takes_head, declares_one, heads, joins_var, heads_last, enters_first, are_entered, enters_last, EntersLast, PutEntered, AllEntered, Rests, JoinsAssignments}
 use Rattle.mini_stmt.proofs.Parts.{not_true, below}
 use Rattle.mini_stmt.proofs.Follows.{head_by, for_is, for_in_is, with_other, declared_is, declares_is}
 use Rattle.mini_stmt.proofs.Guards.{last_pushed, last_is, apart_rests, all_rest}
@@ -157,35 +157,25 @@ loops_by u h =
 -- a declaration by its first declarator
 record Starts (u : Tree) : Type 0 where
   kind : VariableDeclarationKind
-  name : Name
+  id : Tree
   others : Trees
-  is : u ≡ declaration kind (declarator (binding name) (part (part (part u 0) 0) 1) ▸ others)
-
-named_is : (d : Tree) → declares_name d ≡ true → (x : Name) × (d ≡ declarator (binding x) (part d 1))
-named_is d e =
-    let id = part d 0 in
-    let named = is_binding_shape (shape_of id) && is_named_leaf id in
-    let (a, r) = and_parts (is_declarator_shape (shape_of d)) (is_bare d 2 && named) e in
-    let (b, c) = and_parts (is_bare d 2) named r in
-    let (x, is) = binding_is id c in
-    (x, declarator_is d (both (is_declarator_shape (shape_of d)) (is_bare d 2) a b) ∙ ap (λ t. declarator t (part d 1)) is)
+  is : u ≡ declaration kind (declarator id (part (part (part u 0) 0) 1) ▸ others)
 
 starts_by : (u : Tree) → declares_first u ≡ true → Starts u
 starts_by u h =
-    let (declared, named) = and_parts (is_kind (declared_kind u)) (begins_with_name (children (part u 0))) h in
-    of_kind (declared_kind u) refl declared (children (part u 0)) refl named
+    let (declared, one) = and_parts (is_kind (declared_kind u)) (begins_with_one (children (part u 0))) h in
+    of_kind (declared_kind u) refl declared (children (part u 0)) refl one
   where
-    of_list : (k : VariableDeclarationKind) → declared_kind u ≡ Some k → (ts : Trees) → children (part u 0) ≡ ts → begins_with_name ts ≡ true → Starts u
+    of_list : (k : VariableDeclarationKind) → declared_kind u ≡ Some k → (ts : Trees) → children (part u 0) ≡ ts → begins_with_one ts ≡ true → Starts u
     of_list k f none g e = absurd (true≢false (sym e))
-    of_list k f (d ▸ ds) g e =
-        let (x, is) = named_is d e in record {
-          kind = k;
-          name = x;
-          others = ds;
-          is = declared_is u k f ∙ ap (declaration k) (g ∙ ap (λ t. t ▸ ds) is) ∙ ap (λ ts. declaration k (declarator (binding x) (part (child_or_absent ts 0) 1) ▸ ds)) (sym g);
-        }
+    of_list k f (d ▸ ds) g e = record {
+      kind = k;
+      id = part d 0;
+      others = ds;
+      is = declared_is u k f ∙ ap (declaration k) (g ∙ ap (λ t. t ▸ ds) (declarator_is d e)) ∙ ap (λ ts. declaration k (declarator (part d 0) (part (child_or_absent ts 0) 1) ▸ ds)) (sym g);
+    }
 
-    of_kind : (o : Option VariableDeclarationKind) → declared_kind u ≡ o → is_kind o ≡ true → (ts : Trees) → children (part u 0) ≡ ts → begins_with_name ts ≡ true → Starts u
+    of_kind : (o : Option VariableDeclarationKind) → declared_kind u ≡ o → is_kind o ≡ true → (ts : Trees) → children (part u 0) ≡ ts → begins_with_one ts ≡ true → Starts u
     of_kind (Some k) f j ts g e = of_list k f ts g e
     of_kind None f j ts g e = absurd (true≢false (sym j))
 
@@ -219,11 +209,11 @@ held_by u h = by (is_led u) (goes_over u) (declares_first u) refl refl refl h
         }
     by false false true e f g h =
         let l = starts_by u g in record {
-          holder = Declaring l.kind l.name l.others;
+          holder = Declaring l.kind l.id l.others;
           well = refl;
           is =
               l.is
-              ∙ ap (λ t. declaration l.kind (declarator (binding l.name) t ▸ l.others))
+              ∙ ap (λ t. declaration l.kind (declarator l.id t ▸ l.others))
               (sym (ap (λ c. if c then part u 0 else (if goes_over u then part u 1 else (if declares_first u then part (part (part u 0) 0) 1 else u))) e ∙ ap (λ c. if c then part u 1 else (if declares_first u then part (part (part u 0) 0) 1 else u)) f ∙ ap (λ c. if c then part (part (part u 0) 0) 1 else u) g));
           other = λ x. ap (λ c. if c then with_part u 0 x else (if goes_over u then with_part u 1 x else with_first u x)) e ∙ ap (λ c. if c then with_part u 1 x else with_first u x) f ∙ ap (λ v. with_first v x) l.is;
         }

@@ -67,21 +67,20 @@ is_for_of t = is_for_of_shape (shape_of t) && is_bare t 3
 abbrev pub goes_over : Tree → Bool
 goes_over u = (is_for_in u || is_for_of u) && is_plain_left (part u 0)
 
--- a declarator of a name
-abbrev pub declares_name : Tree → Bool
-declares_name d = is_declarator_shape (shape_of d) && (is_bare d 2 && (is_binding_shape (shape_of (part d 0)) && is_named_leaf (part d 0)))
+abbrev pub is_declarator : Tree → Bool
+is_declarator d = is_declarator_shape (shape_of d) && is_bare d 2
 
-abbrev pub begins_with_name : Trees → Bool
-begins_with_name none = false
-begins_with_name (d ▸ ds) = declares_name d
+abbrev pub begins_with_one : Trees → Bool
+begins_with_one none = false
+begins_with_one (d ▸ ds) = is_declarator d
 
 abbrev pub is_kind : Option VariableDeclarationKind → Bool
 is_kind (Some k) = true
 is_kind None = false
 
--- a declaration, of a name first
+-- a declaration with a declarator
 abbrev pub declares_first : Tree → Bool
-declares_first u = is_kind (declared_kind u) && begins_with_name (children (part u 0))
+declares_first u = is_kind (declared_kind u) && begins_with_one (children (part u 0))
 
 -- what holds an expression that is evaluated first
 abbrev pub holds : Tree → Bool
@@ -94,7 +93,7 @@ held u =
     if goes_over u then part u 1 else (
     if declares_first u then part (part (part u 0) 0) 1 else u))
 
--- another initializer of the first name
+-- another first initializer
 abbrev pub with_first : Tree → Tree → Tree
 with_first u e = with_part u 0 (with_part (part u 0) 0 (with_part (part (part u 0) 0) 1 e))
 

@@ -117,24 +117,19 @@ fn goes_over(node: &Node) -> bool
     is_loop(node) && is_plain_left(node.child(0))
 }
 
-// A declarator of a name.
-fn declares_name(declarator: &Node) -> bool
-    ensures kind { result ≡ row.declares_name declarator.now }
-    ensures parts { result ≡ true → count (children declarator.now) ≡ 2 }
+fn is_declarator(node: &Node) -> bool
+    ensures kind { result ≡ row.is_declarator node.now }
+    ensures parts { result ≡ true → count (children node.now) ≡ 2 }
 {
-    matches!(declarator.shape(), Shape::VariableDeclarator)
-        && declarator.is_bare(2)
-        && matches!(declarator.child(0).shape(), Shape::BindingIdentifier)
-        && declarator.child(0).is_named_leaf()
+    matches!(node.shape(), Shape::VariableDeclarator) && node.is_bare(2)
 }
 
-// Whether the first declarator is of a name.
-fn begins_with_name(list: &Nodes) -> bool
-    ensures kind { result ≡ row.begins_with_name list.now }
+fn begins_with_one(list: &Nodes) -> bool
+    ensures kind { result ≡ row.begins_with_one list.now }
     ensures some { result ≡ true → 0 < count list.now }
     ensures parts { result ≡ true → count (children (child_or_absent list.now 0)) ≡ 2 }
 {
-    list.len() > 0 && declares_name(list.child(0))
+    list.len() > 0 && is_declarator(list.child(0))
 }
 
 // A declaration.
@@ -145,14 +140,14 @@ fn is_declaration(node: &Node) -> bool
     declared_kind(node).is_some()
 }
 
-// A declaration, of a name first.
+// A declaration with a declarator.
 fn declares_first(node: &Node) -> bool
     ensures kind { result ≡ row.declares_first node.now }
     ensures parts { result ≡ true → 0 < count (children node.now) }
     ensures list { result ≡ true → 0 < count (children (part node.now 0)) }
     ensures declarator { result ≡ true → count (children (part (part node.now 0) 0)) ≡ 2 }
 {
-    is_declaration(node) && begins_with_name(node.child(0).children())
+    is_declaration(node) && begins_with_one(node.child(0).children())
 }
 
 // What holds an expression that is evaluated first.
