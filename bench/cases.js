@@ -487,7 +487,7 @@ becomes("one of two declarations that become one", "{ let x; let y = b(); c(y, y
 becomes("each declarator of several", "{ let x, y = 1; b(); }", "b();", { symbols: [] });
 becomes("one that leaves another alone", "{ let x = a(), y; b(); }", "a(), b();", { symbols: [] });
 becomes("two of a consequent of nothing else", "if (a) { let b, c; }", "a;", { symbols: [] });
-becomes("one in a body, none in the head", "for (let i = 0, j; i < a; i++) { let x, y = b(i); c(y, y); }", "for (let i = 0, j; i < a; i++) { let y = b(i); c(y, y); }", { symbols: [0, 1, 3] });
+becomes("one in a body, and one in the head", "for (let i = 0, j; i < a; i++) { let x, y = b(i); c(y, y); }", "for (let i = 0; i < a; i++) { let y = b(i); c(y, y); }", { symbols: [0, 3] });
 becomes("a let of an arrow function", "f(() => { let x = a(); b(); });", "f(() => { a(), b(); });", { kept: 2, symbols: [], passes: 3 });
 becomes("one beside its parameters", "f((y, z) => { let x; y(z); });", "f((y, z) => { y(z); });", { kept: 2, symbols: 2, passes: 3 });
 
