@@ -508,15 +508,15 @@ unfolding names_of
 name_hoists y = refl
 
 -- a statement and the one that is written for it declare no lexical name, and hoist the same
-record Named (t u : Tree) : Type 0 where
-  lexical : names_of declared.Lexical t ≡ []
-  still_none : names_of declared.Lexical u ≡ []
-  hoisted : names_of declared.Hoisted u ≡ names_of declared.Hoisted t
-  declares : as_body false u ≡ as_body false t
+pub record Named (t u : Tree) : Type 0 where
+  pub lexical : names_of declared.Lexical t ≡ []
+  pub still_none : names_of declared.Lexical u ≡ []
+  pub hoisted : names_of declared.Hoisted u ≡ names_of declared.Hoisted t
+  pub declares : as_body false u ≡ as_body false t
   -- and so in a function's body
-  names : body_names t ≡ names_of declared.Hoisted t
-  left : body_names u ≡ names_of declared.Hoisted u
-  declares_there : as_body true u ≡ as_body true t
+  pub names : body_names t ≡ names_of declared.Hoisted t
+  pub left : body_names u ≡ names_of declared.Hoisted u
+  pub declares_there : as_body true u ≡ as_body true t
 
 stated : (l : Lead) → Stands AsWholeItem l true → (t u : Tree) (ts : Trees) → names_of declared.Hoisted t ≡ [] → names_of declared.Hoisted u ≡ [] → Named (node (shape_by (head_of l)) [] 0 (t ▸ ts)) (node (shape_by (head_of l)) [] 0 (u ▸ ts))
 unfolding names_of body_names
@@ -529,7 +529,47 @@ stated Testing s t u ts e f =
     record { lexical = refl; still_none = refl; hoisted = same; declares = alike; names = refl; left = refl; declares_there = alike }
 stated l s t u ts e f = absurd s
 
-module _ (K : VariableDeclarationKind) (x : Name) (k : ℕ) (e : x.symbol ≡ symbol k) (first : Trees) (init : Tree) (f : any_names x first ≡ false) (ss : List Step) (w : Well AsWholeItem ss) (y : Name) (g : names x (led ss init) ≡ false) (n : Named (led ss (identifier y)) (led ss init)) where
+-- names, of two statements that declare no lexical one and hoist the same
+module _ (K : VariableDeclarationKind) (x : Name) (first : Trees) (init : Tree) (f : any_names x first ≡ false) (head put : Tree) (g : names x put ≡ false) (n : Named head put) where
+  abbrev this_one : Trees
+  this_one = append first (declarator (binding x) init ▸ none)
+
+  first_less : (o : Bool) → NoMoreClash (as_body o (declared_left K first)) (as_body o (declared_among K x first init none))
+  first_less o = subst (λ ts. NoMoreClash (as_body o (declared_left K ts)) (as_body o (declared_among K x first init none))) (none_after first) (clash_less K o x first none init)
+
+  pub named_names : is_lexical K ≡ true → NamesThere x (declared_among K x first init none ▸ (head ▸ none)) (declared_left K first ▸ (put ▸ none))
+  unfolding names_of
+  named_names l = record {
+    first = all_names declared.Bound first;
+    last = [];
+    names = (λ i. (lexical_names K l this_one ∙ all_both declared.Bound first (declarator (binding x) init ▸ none)) i ++ (n.lexical i ++ [])) ∙ append-nil (all_names declared.Bound first ++ x ∷ []);
+    left = λ i. lexical_names_left K l first i ++ (n.still_none i ++ []);
+    others_first = all_other x declared.Bound first f;
+    others_last = tt;
+    hoists = λ i. (hoists_nothing_left K l first ∙ sym (hoists_nothing K l this_one)) i ++ (n.hoisted i ++ []);
+    clash = no_more_both (as_body false (declared_among K x first init none)) (as_body false (declared_left K first)) (as_body false head ++ []) (as_body false put ++ []) (first_less false) (no_more_same (as_body false head ++ []) (as_body false put ++ []) (ap (λ ds. unplaced (ds ++ [])) n.declares));
+  }
+
+  same_there : (o : Bool) → as_body o put ≡ as_body o head
+  same_there true = n.declares_there
+  same_there false = n.declares
+
+  pub named_declares : DeclaresThere x (declared_among K x first init none ▸ (head ▸ none)) (declared_left K first ▸ (put ▸ none))
+  unfolding body_names names_of
+  named_declares =
+      let bound = all_names declared.Bound first in
+      let hoists = names_of declared.Hoisted head in
+      record {
+        first = bound;
+        last = hoists;
+        names = (λ i. (body_are K this_one ∙ all_both declared.Bound first (declarator (binding x) init ▸ none)) i ++ (n.names i ++ [])) ∙ ap (λ ys. (bound ++ x ∷ []) ++ ys) (append-nil hoists) ∙ append_assoc bound (x ∷ []) hoists;
+        left = (λ i. body_names_left K first i ++ ((n.left ∙ n.hoisted) i ++ [])) ∙ ap (λ ys. bound ++ ys) (append-nil hoists);
+        others_first = all_other x declared.Bound first f;
+        others_last = subst (Other x) n.hoisted (declared_other x declared.Hoisted put g);
+        clash = λ o. no_more_both (as_body o (declared_among K x first init none)) (as_body o (declared_left K first)) (as_body o head ++ []) (as_body o put ++ []) (first_less o) (no_more_same (as_body o head ++ []) (as_body o put ++ []) (ap (λ ds. unplaced (ds ++ [])) (same_there o)));
+      }
+
+module _ (K : VariableDeclarationKind) (x : Name) (k : ℕ) (e : x.symbol ≡ symbol k) (first : Trees) (init : Tree) (f : any_names x first ≡ false) (ss : List Step) (w : Well AsWholeItem ss) (y : Name) (g : names x (led ss init) ≡ false) where
   abbrev head : Tree
   head = led ss (identifier y)
 
@@ -566,44 +606,6 @@ module _ (K : VariableDeclarationKind) (x : Name) (k : ℕ) (e : x.symbol ≡ sy
     declares = λ all. moved Any (Declares all) (declares_local all) (declares_both K x init first all);
   }
 
-  abbrev this_one : Trees
-  this_one = append first (declarator (binding x) init ▸ none)
-
-  first_less : (o : Bool) → NoMoreClash (as_body o (declared_left K first)) (as_body o (declared_among K x first init none))
-  first_less o = subst (λ ts. NoMoreClash (as_body o (declared_left K ts)) (as_body o (declared_among K x first init none))) (none_after first) (clash_less K o x first none init)
-
-  there_names : is_lexical K ≡ true → NamesThere x earlier later
-  unfolding names_of
-  there_names l = record {
-    first = all_names declared.Bound first;
-    last = [];
-    names = (λ i. (lexical_names K l this_one ∙ all_both declared.Bound first (declarator (binding x) init ▸ none)) i ++ (n.lexical i ++ [])) ∙ append-nil (all_names declared.Bound first ++ x ∷ []);
-    left = λ i. lexical_names_left K l first i ++ (n.still_none i ++ []);
-    others_first = all_other x declared.Bound first f;
-    others_last = tt;
-    hoists = λ i. (hoists_nothing_left K l first ∙ sym (hoists_nothing K l this_one)) i ++ (n.hoisted i ++ []);
-    clash = no_more_both (as_body false (declared_among K x first init none)) (as_body false (declared_left K first)) (as_body false head ++ []) (as_body false put ++ []) (first_less false) (no_more_same (as_body false head ++ []) (as_body false put ++ []) (ap (λ ds. unplaced (ds ++ [])) n.declares));
-  }
-
-  same_there : (o : Bool) → as_body o put ≡ as_body o head
-  same_there true = n.declares_there
-  same_there false = n.declares
-
-  there_declares : DeclaresThere x earlier later
-  unfolding body_names names_of
-  there_declares =
-      let bound = all_names declared.Bound first in
-      let hoists = names_of declared.Hoisted head in
-      record {
-        first = bound;
-        last = hoists;
-        names = (λ i. (body_are K this_one ∙ all_both declared.Bound first (declarator (binding x) init ▸ none)) i ++ (n.names i ++ [])) ∙ ap (λ ys. (bound ++ x ∷ []) ++ ys) (append-nil hoists) ∙ append_assoc bound (x ∷ []) hoists;
-        left = (λ i. body_names_left K first i ++ ((n.left ∙ n.hoisted) i ++ [])) ∙ ap (λ ys. bound ++ ys) (append-nil hoists);
-        others_first = all_other x declared.Bound first f;
-        others_last = subst (Other x) n.hoisted (declared_other x declared.Hoisted put g);
-        clash = λ o. no_more_both (as_body o (declared_among K x first init none)) (as_body o (declared_left K first)) (as_body o head ++ []) (as_body o put ++ []) (first_less o) (no_more_same (as_body o head ++ []) (as_body o put ++ []) (ap (λ ds. unplaced (ds ++ [])) (same_there o)));
-      }
-
 -- the two as paths
 module _ (K : VariableDeclarationKind) (x : Name) (k : ℕ) (e : x.symbol ≡ symbol k) (first : Trees) (init head : Tree) (plain : is_plain_part init ≡ true) (r : reads_first x head ≡ true) (i : names x init ≡ false) (f : any_names x first ≡ false) (P : Trees → Trees → Type 0)
     (by : (ss : List Step) → Well AsWholeItem ss → (y : Name) → names x (led ss init) ≡ false → Named (led ss (identifier y)) (led ss init) → P (declared_among K x first init none ▸ (led ss (identifier y) ▸ none)) (declared_left K first ▸ (led ss init ▸ none))) where
@@ -619,10 +621,10 @@ module _ (K : VariableDeclarationKind) (x : Name) (k : ℕ) (e : x.symbol ≡ sy
       (by steps (t.stands (is_end t.path.steps), subst (λ c. Well c t.path.steps) (sym (t.below AsWholeItem)) t.path.well) t.path.read (unnamed x steps ((ap (any_names x) t.front, t.free), t.path.spared) init i) (subst₂ Named (t.along (led t.path.steps (identifier t.path.read))) (t.along (led t.path.steps init)) (stated t.lead (t.stands true) (led t.path.steps (identifier t.path.read)) (led t.path.steps init) t.rest (led_hoists AsValue t.path.steps t.path.well refl (identifier t.path.read) (name_hoists t.path.read)) (led_hoists AsValue t.path.steps t.path.well refl init (plain_hoists init plain)))))
 
 pub single_leaves : (K : VariableDeclarationKind) (x : Name) (k : ℕ) → x.symbol ≡ symbol k → (first : Trees) (init head : Tree) → is_plain_part init ≡ true → reads_first x head ≡ true → names x init ≡ false → any_names x first ≡ false → LeavesThere x (declared_among K x first init none ▸ (head ▸ none)) (declared_left K first ▸ (put_first x init head ▸ none))
-single_leaves K x k e first init head plain r i f = along K x k e first init head plain r i f (LeavesThere x) (λ ss w y g n. there_leaves K x k e first init f ss w y g n)
+single_leaves K x k e first init head plain r i f = along K x k e first init head plain r i f (LeavesThere x) (λ ss w y g n. there_leaves K x k e first init f ss w y g)
 
 pub single_names : (K : VariableDeclarationKind) (x : Name) (k : ℕ) → x.symbol ≡ symbol k → (first : Trees) (init head : Tree) → is_plain_part init ≡ true → reads_first x head ≡ true → names x init ≡ false → any_names x first ≡ false → is_lexical K ≡ true → NamesThere x (declared_among K x first init none ▸ (head ▸ none)) (declared_left K first ▸ (put_first x init head ▸ none))
-single_names K x k e first init head plain r i f l = along K x k e first init head plain r i f (NamesThere x) (λ ss w y g n. there_names K x k e first init f ss w y g n l)
+single_names K x k e first init head plain r i f l = along K x k e first init head plain r i f (NamesThere x) (λ ss w y g n. named_names K x first init f (led ss (identifier y)) (led ss init) g n l)
 
 pub single_declares : (K : VariableDeclarationKind) (x : Name) (k : ℕ) → x.symbol ≡ symbol k → (first : Trees) (init head : Tree) → is_plain_part init ≡ true → reads_first x head ≡ true → names x init ≡ false → any_names x first ≡ false → DeclaresThere x (declared_among K x first init none ▸ (head ▸ none)) (declared_left K first ▸ (put_first x init head ▸ none))
-single_declares K x k e first init head plain r i f = along K x k e first init head plain r i f (DeclaresThere x) (λ ss w y g n. there_declares K x k e first init f ss w y g n)
+single_declares K x k e first init head plain r i f = along K x k e first init head plain r i f (DeclaresThere x) (λ ss w y g n. named_declares K x first init f (led ss (identifier y)) (led ss init) g n)

@@ -35,7 +35,9 @@ use Rattle.mini_rows.proofs.DeclaredKept.{none_after, made, scoped_left, symbols
 use Rattle.mini_rows.proofs.ListKeptDeclarations.{all_both, names_are, names_if, declares_as, body_are, declarations_are, fixed_down, fixed_up, used, scoped_down, numbers_are, declared_are, frames_are, bodies_are}
 use Rattle.mini_rows.proofs.ListKeptStretch.{items_of, stretched, sum_list}
 use Rattle.mini_rows.proofs.NextKept.{given, next_unnamed, inner_value, fixed_value, among_value, frames_value, bodies_value, scoped_value, once_value, aimed_value, inner_other, fixed_other, among_other, frames_other, bodies_other, scoped_other, once_other, aimed_other, number_sum, symbol_sum}
-use Rattle.mini_rows.proofs.SingleUse.{Step, led, Well, Path, path, Initial, heads, swapped, taken, swapped_sum}
+use Rattle.mini_rows.proofs.ListKeptHeads.{seated}
+use Rattle.mini_rows.proofs.OpeningKept.{opening_leaves, opening_names, opening_declares}
+use Rattle.mini_rows.proofs.SingleUse.{Step, led, Well, Spared, Path, path, Initial, Outside, Heads, heads, swapped, taken, swapped_sum}
 use Rattle.mini_rows.proofs.UnusedKept.{LeavesThere, NamesThere, DeclaresThere}
 use Rattle.mini_rows.proofs.UnusedNames.{Other, all_other}
 
@@ -178,19 +180,31 @@ module _ (K : VariableDeclarationKind) (x : Name) (k : ℕ) (e : x.symbol ≡ sy
       let free = ap (λ u. any_names x (given t.binds u ▸ t.last)) (sym (p.puts init)) ∙ next_unnamed x t.binds t.value t.once init i t.other t.last t.later in
       subst₂ (Written P) (sym (t.is ∙ ap (λ u. declaration t.kind (declarator t.binds u ▸ t.last)) p.is)) (sym (t.puts init ∙ ap (λ u. declaration t.kind (declarator t.binds u ▸ t.last)) (p.puts init))) (h p.steps p.well p.read free)
 
-  -- of a statement, or of a declaration
-  by_head : (P : Trees → Trees → Type 0) → (reads_first x head ≡ true → Written P head (put_first x init head)) → ((t : Initial x head) → Written P head (put_first x init head)) → Written P head (put_first x init head)
-  by_head P g h = by (heads x head once)
+  outside_along : (t : Outside x head) (P : Trees → Trees → Type 0) → ((ss : List Step) → Well AsValue ss → Spared x ss → (r : Name) → Written P (seated t.seat (led ss (identifier r))) (seated t.seat (led ss init))) → Written P head (put_first x init head)
+  outside_along t P h =
+      let p : Path x AsValue t.value = path x false t.value t.once in
+      subst₂ (Written P) (sym (t.is ∙ ap (seated t.seat) p.is)) (sym (t.puts init ∙ ap (seated t.seat) (p.puts init))) (h p.steps p.well p.spared p.read)
+
+  -- of a statement, of a declaration, or of what opens a scope
+  by_head : (P : Trees → Trees → Type 0) → (reads_first x head ≡ true → Written P head (put_first x init head)) → ((t : Initial x head) → Written P head (put_first x init head)) → ((t : Outside x head) → Written P head (put_first x init head)) → Written P head (put_first x init head)
+  by_head P g h o = by (heads x head once)
     where
-      by : ((reads_first x head ≡ true) × (evaluated head ≡ head)) ⊎ Initial x head → Written P head (put_first x init head)
-      by (inl (o, p)) = g o
-      by (inr t) = h t
+      by : Heads x head → Written P head (put_first x init head)
+      by (inl (z, p)) = g z
+      by (inr (inl t)) = h t
+      by (inr (inr t)) = o t
 
   pub head_leaves : Written (LeavesThere x) head (put_first x init head)
-  head_leaves = by_head (LeavesThere x) (λ o. single_leaves K x k e first init head plain o i f) (λ t. initial_along t (LeavesThere x) (λ ss w r g. initial_there K x k e first init f t.kind t.binds t.last ss w r g))
+  head_leaves =
+      by_head (LeavesThere x) (λ o. single_leaves K x k e first init head plain o i f) (λ t. initial_along t (LeavesThere x) (λ ss w r g. initial_there K x k e first init f t.kind t.binds t.last ss w r g))
+      (λ t. outside_along t (LeavesThere x) (λ ss w g r. opening_leaves K x k e first init plain f i t.seat t.beside ss w g r))
 
   pub head_names : is_lexical K ≡ true → Written (NamesThere x) head (put_first x init head)
-  head_names l = by_head (NamesThere x) (λ o. single_names K x k e first init head plain o i f l) (λ t. initial_along t (NamesThere x) (λ ss w r g. initial_names_there K x k e first init f t.kind t.binds t.last ss w r g l))
+  head_names l =
+      by_head (NamesThere x) (λ o. single_names K x k e first init head plain o i f l) (λ t. initial_along t (NamesThere x) (λ ss w r g. initial_names_there K x k e first init f t.kind t.binds t.last ss w r g l))
+      (λ t. outside_along t (NamesThere x) (λ ss w g r. opening_names K x k e first init plain f i t.seat t.beside ss w g r l))
 
   pub head_declares : Written (DeclaresThere x) head (put_first x init head)
-  head_declares = by_head (DeclaresThere x) (λ o. single_declares K x k e first init head plain o i f) (λ t. initial_along t (DeclaresThere x) (λ ss w r g. initial_declares_there K x k e first init f t.kind t.binds t.last ss w r g))
+  head_declares =
+      by_head (DeclaresThere x) (λ o. single_declares K x k e first init head plain o i f) (λ t. initial_along t (DeclaresThere x) (λ ss w r g. initial_declares_there K x k e first init f t.kind t.binds t.last ss w r g))
+      (λ t. outside_along t (DeclaresThere x) (λ ss w g r. opening_declares K x k e first init plain f i t.seat t.beside ss w g r))

@@ -17,7 +17,9 @@ use Rattle.mini_rows.specs.Unused.{resolved, names, any_names, declared_among, d
 use Rattle.mini_rows.proofs.FoldMeaning.{plain_read}
 use Rattle.mini_rows.proofs.NextKept.{next_unnamed}
 use Rattle.mini_rows.proofs.NextMeaning.{initial_goes}
-use Rattle.mini_rows.proofs.SingleUse.{Lead, Doing, Giving, Raising, Testing, head_of, Step, led, is_end, Stands, Well, AllPass, Initial, heads, statement, unnamed}
+use Rattle.mini_rows.proofs.SingleUse.{Lead, Doing, Giving, Raising, Testing, head_of, Step, led, is_end, Stands, Well, AllPass, Initial, heads, statement, unnamed, Outside, Heads, path}
+use Rattle.mini_rows.proofs.ListKeptHeads.{Seat, Loop, Choice, seated, rest}
+use Rattle.mini_rows.proofs.OpeningMeaning.{outside_goes}
 use Rattle.mini_rows.proofs.ItemReads.{plain_item}
 use Rattle.mini_rows.proofs.ConstantUse.{moves_there}
 use Rattle.mini_rows.proofs.UnusedMeaning.{SameRead, GoesWith, single_read, single_same, first_avoids, same_symbol, movable, block_same, lexical_alone, never_written}
@@ -41,12 +43,17 @@ statement_read x head e init =
 initial_read : (x : Name) (head : Tree) (t : Initial x head) (init : Tree) → SameRead (declaration t.kind (declarator t.binds t.value ▸ t.last)) (declaration t.kind (declarator t.binds (put_first x init t.value) ▸ t.last))
 initial_read x head t init = record { lets = refl; functions = refl; facts = refl; texts = refl }
 
+outside_read : (c : Seat) (a b : Tree) → SameRead (seated c a) (seated c b)
+outside_read (Choice cases) a b = record { lets = refl; functions = refl; facts = refl; texts = refl }
+outside_read (Loop u v w) a b = record { lets = refl; functions = refl; facts = refl; texts = refl }
+
 pub head_read : (x : Name) (head : Tree) → reads_head x head ≡ true → (init : Tree) → SameRead head (put_first x init head)
 head_read x head e init = by (heads x head e)
   where
-    by : ((reads_first x head ≡ true) × (evaluated head ≡ head)) ⊎ Initial x head → SameRead head (put_first x init head)
+    by : Heads x head → SameRead head (put_first x init head)
     by (inl (f, p)) = statement_read x head f init
-    by (inr t) = subst₂ SameRead (sym t.is) (sym (t.puts init)) (initial_read x head t init)
+    by (inr (inl t)) = subst₂ SameRead (sym t.is) (sym (t.puts init)) (initial_read x head t init)
+    by (inr (inr t)) = subst₂ SameRead (sym t.is) (sym (t.puts init)) (outside_read t.seat t.value (put_first x init t.value))
 
 -- ---- what it does
 
@@ -68,12 +75,20 @@ module _ (e : Environment) (spelling : List ℕ) (k : ℕ) (z : Unseen (alone (D
       subst₂ (λ h w. GoesWith e k init h w s) (sym there) (sym put)
       (moves_there e k z x refl reading.spelling init (sym (plain_read init (movable init moves))) (plain_item init (movable init moves)) AsWholeItem steps (t.stands (is_end t.path.steps), subst (λ c. Well c t.path.steps) (sym (t.below AsWholeItem)) t.path.well) ((ap (any_names x) t.front, t.free), t.path.spared) (beside, t.path.passed init (t.passed init passed)) (Stat None) tt [] s)
 
+  scope_goes : (t : Outside x head) → are_passed x init head ≡ true → (s : State) → GoesWith e k init head (put_first x init head) s
+  scope_goes t passed s =
+      let p = path x false t.value t.once in
+      let read_as : identifier p.read ≡ identifier (resolved p.read.spelling k) = ap (λ y. identifier (record { spelling = p.read.spelling; symbol = y })) (same_symbol k p.read.symbol p.same) in
+      subst₂ (λ h w. GoesWith e k init h w s) (sym (t.is ∙ ap (seated t.seat) (p.is ∙ ap (led p.steps) read_as))) (sym (t.puts init ∙ ap (seated t.seat) (p.puts init)))
+      (outside_goes e k z x refl p.read.spelling init (sym (plain_read init (movable init moves))) (plain_item init (movable init moves)) p.steps p.well p.spared (p.passed init (t.passed init passed)) t.seat t.beside s)
+
   pub head_goes : reads_head x head ≡ true → are_passed x init (evaluated head) ≡ true → (s : State) → GoesWith e k init head (put_first x init head) s
   head_goes once passed s = by (heads x head once)
     where
-      by : ((reads_first x head ≡ true) × (evaluated head ≡ head)) ⊎ Initial x head → GoesWith e k init head (put_first x init head) s
+      by : Heads x head → GoesWith e k init head (put_first x init head) s
       by (inl (f, p)) = statement_goes f (sym (ap (are_passed x init) p) ∙ passed) s
-      by (inr t) = subst₂ (λ h w. GoesWith e k init h w s) (sym t.is) (sym (t.puts init)) (initial_goes e spelling k z t.kind init t.binds t.value t.last moves t.once (sym (ap (are_passed x init) t.evaluates) ∙ passed) (avoided x k refl t.binds t.other) (all_avoided x k refl t.last t.later) s)
+      by (inr (inr t)) = scope_goes t (sym (ap (are_passed x init) t.evaluates) ∙ passed) s
+      by (inr (inl t)) = subst₂ (λ h w. GoesWith e k init h w s) (sym t.is) (sym (t.puts init)) (initial_goes e spelling k z t.kind init t.binds t.value t.last moves t.once (sym (ap (are_passed x init) t.evaluates) ∙ passed) (avoided x k refl t.binds t.other) (all_avoided x k refl t.last t.later) s)
 
 -- ---- nothing that is written mentions the name
 
@@ -85,12 +100,17 @@ statement_unnamed x head e init f =
 or_none : (b : Bool) → b ≡ false → (b || false) ≡ false
 or_none b e = ap (λ c. c || false) e
 
+seated_unnamed : (x : Name) (c : Seat) (t : Tree) → names x t ≡ false → any_names x (rest c) ≡ false → names x (seated c t) ≡ false
+seated_unnamed x (Choice cases) t f g = ap (λ b. b || any_names x (cases ▸ none)) f ∙ g
+seated_unnamed x (Loop u v w) t f g = ap (λ b. b || any_names x (u ▸ (v ▸ (w ▸ none)))) f ∙ g
+
 pub head_unnamed : (x : Name) (head : Tree) → reads_head x head ≡ true → (init : Tree) → names x init ≡ false → names x (put_first x init head) ≡ false
 head_unnamed x head e init f = by (heads x head e)
   where
-    by : ((reads_first x head ≡ true) × (evaluated head ≡ head)) ⊎ Initial x head → names x (put_first x init head) ≡ false
+    by : Heads x head → names x (put_first x init head) ≡ false
     by (inl (g, p)) = statement_unnamed x head g init f
-    by (inr t) = ap (names x) (t.puts init) ∙ or_none (any_names x (declarator t.binds (put_first x init t.value) ▸ t.last)) (next_unnamed x t.binds t.value t.once init f t.other t.last t.later)
+    by (inr (inr t)) = let p = path x false t.value t.once in ap (names x) (t.puts init) ∙ seated_unnamed x t.seat (put_first x init t.value) (ap (names x) (p.puts init) ∙ unnamed x p.steps p.spared init f) t.beside
+    by (inr (inl t)) = ap (names x) (t.puts init) ∙ or_none (any_names x (declarator t.binds (put_first x init t.value) ▸ t.last)) (next_unnamed x t.binds t.value t.once init f t.other t.last t.later)
 
 -- ---- the row
 

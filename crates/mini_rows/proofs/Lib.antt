@@ -192,7 +192,9 @@ pub mod TemplateLawful
 pub mod NameWeights
 pub mod NextKept
 pub mod NextMeaning
+pub mod OpeningKept
 pub mod HeadKept
+pub mod OpeningMeaning
 pub mod HeadMeaning
 pub mod NameLawful
 pub mod CatchWeights

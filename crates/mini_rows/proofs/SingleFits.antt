@@ -6,14 +6,14 @@ use Rattle.mini_model.specs.declared.name.Name.{Name}
 use Rattle.mini_model.specs.declared.shape.Shape.TheVariants as shape
 use Rattle.mini_model.specs.Tree.{Tree, Trees, node, none, ◌▸◌, count, children, identifier}
 use Rattle.mini_model.specs.Paths.{append}
-use Rattle.mini_accept.specs.WellShaped.{nested, a_statement, an_expression, an_argument, Slot, one, one_or_absent, many, many_or_holes, these, each, fits, fill}
+use Rattle.mini_accept.specs.WellShaped.{nested, a_statement, an_init, an_expression, an_argument, Slot, one, one_or_absent, many, many_or_holes, these, each, fits, fill}
 use Rattle.mini_kept.proofs.Bools.{both}
 use Rattle.mini_kept.proofs.Expressions.{refused_here}
 use Rattle.mini_rows.specs.Sketches.{shape_by, Asked, AsWholeItem, AsValue, AsValues, asked_below}
 use Rattle.mini_rows.specs.Unused.{is_first, put_first, reads_first}
 use Rattle.mini_rows.proofs.SingleUse.{Lead, Not, Plus, Tilde, Beside, Deciding, Choosing, Passing, Called, Making, Waiting, Member, Keyed, Holding, Against, Given, Filling, Keying, Listing, Doing, Giving, Raising, Testing, head_of, before, place, Step, led, is_end, Stands, Well, path, statement}
 
-first_of : (a b c : Bool) → (a ≡ true → b ≡ true) → a && c ≡ true → b && c ≡ true
+pub first_of : (a b c : Bool) → (a ≡ true → b ≡ true) → a && c ≡ true → b && c ≡ true
 first_of true b c f e = ap (λ d. d && c) (f refl) ∙ e
 first_of false b c f e = absurd (true≢false (sym e))
 
@@ -184,7 +184,7 @@ stated Testing s true t u ts f e = first_of (fits true (one an_expression) t) (f
 stated Testing s false t u ts f e = first_of (fits false (one an_expression) t) (fits false (one an_expression) u) _ (f (one an_expression) tt) e
 stated l s strict t u ts f e = absurd s
 
-put_in : (strict : Bool) (x : Name) (t : Tree) → (e : is_first x false t ≡ true) → (r : Tree) → fits strict (one an_expression) r ≡ true → FitsAs strict AsValue t (put_first x r t)
+pub put_in : (strict : Bool) (x : Name) (t : Tree) → (e : is_first x false t ≡ true) → (r : Tree) → fits strict (one an_expression) r ≡ true → FitsAs strict AsValue t (put_first x r t)
 put_in strict x t e r f =
     let p = path x false t e in
     subst₂ (FitsAs strict AsValue) (sym p.is) (sym (p.puts r)) (put_along strict p.steps p.well p.read r f)
@@ -199,3 +199,44 @@ put_fits strict x head e r f g =
 -- as what a declarator is initialised with
 pub put_initial : (strict : Bool) (x : Name) (value : Tree) → is_first x false value ≡ true → (r : Tree) → fits strict (one an_expression) r ≡ true → fits strict (one_or_absent an_expression) value ≡ true → fits strict (one_or_absent an_expression) (put_first x r value) ≡ true
 put_initial strict x value e r f g = put_in strict x value e r f (one_or_absent an_expression) tt g
+
+-- as what a `switch` asks
+pub put_asked : (strict : Bool) (x : Name) (value : Tree) → is_first x false value ≡ true → (r : Tree) → fits strict (one an_expression) r ≡ true → fits strict (one an_expression) value ≡ true → fits strict (one an_expression) (put_first x r value) ≡ true
+put_asked strict x value e r f g = put_in strict x value e r f (one an_expression) tt g
+
+-- as what a `for` begins with
+begun : (strict : Bool) (t : Tree) → fits strict (one an_expression) t ≡ true → fits strict (one_or_absent an_init) t ≡ true
+begun strict (node shape.Absent xs n ts) e = absurd (refused_here strict (one an_expression) shape.Absent xs n ts refl e)
+begun strict (node (shape.VariableDeclaration k) xs n ts) e = absurd (refused_here strict (one an_expression) (shape.VariableDeclaration k) xs n ts refl e)
+begun strict (node h xs n ts) e = e
+
+begun_there : (strict : Bool) (ss : List Step) → Well AsValue ss → (y : Name) → fits strict (one_or_absent an_init) (led ss (identifier y)) ≡ true → fits strict (one an_expression) (led ss (identifier y)) ≡ true
+begun_there strict [] w y e = e
+begun_there strict (s ∷ ss) w y e = by s.lead w.0 (append (before s.lead) (led ss (identifier y) ▸ s.rest)) e
+  where
+    by : (l : Lead) → Stands AsValue l (is_end ss) → (ts : Trees) → fits strict (one_or_absent an_init) (node (shape_by (head_of l)) [] 0 ts) ≡ true → fits strict (one an_expression) (node (shape_by (head_of l)) [] 0 ts) ≡ true
+    by Not s ts e = e
+    by Plus s ts e = e
+    by Tilde s ts e = e
+    by (Beside o) s ts e = e
+    by (Deciding o) s ts e = e
+    by Choosing s ts e = e
+    by Passing s ts e = e
+    by Called s ts e = e
+    by Making s ts e = e
+    by (Waiting true) s ts e = e
+    by (Waiting false) s ts e = e
+    by Member s ts e = e
+    by Keyed s ts e = e
+    by Holding s ts e = e
+    by (Against o a) s ts e = e
+    by (Given a) s ts e = e
+    by (Filling a) s ts e = e
+    by (Keying a) s ts e = e
+    by l s ts e = absurd s
+
+pub put_begun : (strict : Bool) (x : Name) (value : Tree) → is_first x false value ≡ true → (r : Tree) → fits strict (one an_expression) r ≡ true → fits strict (one_or_absent an_init) value ≡ true → fits strict (one_or_absent an_init) (put_first x r value) ≡ true
+put_begun strict x value e r f g =
+    let p = path x false value e in
+    let there = ap (fits strict (one an_expression)) p.is ∙ begun_there strict p.steps p.well p.read (sym (ap (fits strict (one_or_absent an_init)) p.is) ∙ g) in
+    begun strict (put_first x r value) (put_asked strict x value e r f there)

@@ -57,21 +57,21 @@ Apart zero zero = ⊥
 Apart (suc i) (suc j) = Apart i j
 Apart i j = Unit {0}
 
-abbrev Later : ℕ → {σ : ℕ → Demand} {A : Type 0} → Command σ A → Type 0
+abbrev pub Later : ℕ → {σ : ℕ → Demand} {A : Type 0} → Command σ A → Type 0
 Later i {σ} (ret a) = Unit {0}
 Later i {σ} (fails y) = Unit {0}
 Later i {σ} stuck = Unit {0}
 Later i {σ} (op o k) = ((a : Gets o) → Later i (k (done a))) × ((y : Stop) → Later i (k (ended y)))
 Later i {σ} (kid j r k) = Apart j i × (((a : Reply (σ j) r) → Later i (k (done a))) × ((y : Stop) → Later i (k (ended y))))
 
-later_bind : (i : ℕ) {σ : ℕ → Demand} {A B : Type 0} (c : Command σ A) (f : A → Command σ B) → Later i c → ((a : A) → Later i (f a)) → Later i (bind c f)
+pub later_bind : (i : ℕ) {σ : ℕ → Demand} {A B : Type 0} (c : Command σ A) (f : A → Command σ B) → Later i c → ((a : A) → Later i (f a)) → Later i (bind c f)
 later_bind i (ret a) f t g = g a
 later_bind i (fails y) f t g = tt
 later_bind i stuck f t g = tt
 later_bind i (op o k) f t g = (λ a. later_bind i (k (done a)) f (t.0 a) g, λ y. later_bind i (k (ended y)) f (t.1 y) g)
 later_bind i (kid j r k) f t g = (t.0, (λ a. later_bind i (k (done a)) f (t.1.0 a) g, λ y. later_bind i (k (ended y)) f (t.1.1 y) g))
 
-later_attempt : (i : ℕ) {σ : ℕ → Demand} {A B : Type 0} (c : Command σ A) (f : Ends A → Command σ B) → Later i c → ((a : A) → Later i (f (done a))) → ((y : Stop) → Later i (f (ended y))) → Later i (attempt c f)
+pub later_attempt : (i : ℕ) {σ : ℕ → Demand} {A B : Type 0} (c : Command σ A) (f : Ends A → Command σ B) → Later i c → ((a : A) → Later i (f (done a))) → ((y : Stop) → Later i (f (ended y))) → Later i (attempt c f)
 later_attempt i (ret a) f t g h = g a
 later_attempt i (fails y) f t g h = h y
 later_attempt i stuck f t g h = tt
@@ -166,12 +166,12 @@ Before zero (suc j) = Unit {0}
 Before (suc i) (suc j) = Before i j
 Before i j = ⊥
 
-record Hits (i : ℕ) (σ : ℕ → Demand) (A : Type 0) (j : ℕ) (r : Request (σ j)) (k : Ends (Reply (σ j) r) → Command σ A) : Type 0 where
-  here : j ≡ i
-  stops : (y : Stop) → k (ended y) ≡ fails y
-  later : (a : Reply (σ j) r) → Later i (k (done a))
+pub record Hits (i : ℕ) (σ : ℕ → Demand) (A : Type 0) (j : ℕ) (r : Request (σ j)) (k : Ends (Reply (σ j) r) → Command σ A) : Type 0 where
+  pub here : j ≡ i
+  pub stops : (y : Stop) → k (ended y) ≡ fails y
+  pub later : (a : Reply (σ j) r) → Later i (k (done a))
 
-abbrev Reaches : ℕ → {σ : ℕ → Demand} {A : Type 0} → Command σ A → Type 0
+abbrev pub Reaches : ℕ → {σ : ℕ → Demand} {A : Type 0} → Command σ A → Type 0
 Reaches i {σ} {A} (kid j r k) = (Before j i × ((a : Reply (σ j) r) → Reaches i (k (done a)))) ⊎ Hits i σ A j r k
 Reaches i {σ} {A} c = ⊥
 
@@ -183,7 +183,7 @@ reach_bind i (fails y) f t g = absurd t
 reach_bind i stuck f t g = absurd t
 reach_bind i (op o k) f t g = absurd t
 
-reach_statement : (i : ℕ) {σ : ℕ → Demand} (c : Command σ (Unit {0})) → Reaches i c → Reaches i (attempt c (merged None))
+pub reach_statement : (i : ℕ) {σ : ℕ → Demand} (c : Command σ (Unit {0})) → Reaches i c → Reaches i (attempt c (merged None))
 reach_statement i (kid j r k) (inl t) = inl (t.0, λ a. reach_statement i (k (done a)) (t.1 a))
 reach_statement i (kid j r k) (inr t) = inr (record { here = t.here; stops = λ y. ap (λ d. attempt d (merged None)) (t.stops y); later = λ a. later_attempt i (k (done a)) (merged None) (t.later a) (λ u. tt) (λ y. tt) })
 reach_statement i (ret a) t = absurd t
@@ -214,7 +214,7 @@ reach_passing i σ q u r c b = absurd u
 -- ---- each shape
 
 -- a command that goes on with nothing else of a child
-one : (i : ℕ) (σ : ℕ → Demand) (A : Type 0) (r : Request (σ i)) (f : Reply (σ i) r → Command σ A) → ((a : Reply (σ i) r) → Later i (f a)) → Reaches i {σ = σ} (kid i r ((then) f))
+pub one : (i : ℕ) (σ : ℕ → Demand) (A : Type 0) (r : Request (σ i)) (f : Reply (σ i) r → Command σ A) → ((a : Reply (σ i) r) → Later i (f a)) → Reaches i {σ = σ} (kid i r ((then) f))
 one i σ A r f h = inr (record { here = refl; stops = λ y. refl; later = h })
 
 number_begins : (o : UnaryOperator) → Reaches 0 (number_step o)
@@ -380,7 +380,7 @@ suits_below c l b s fs h q u r = (asks c l b s fs h q u r).below
 
 -- ---- runs
 
-abbrev next : {A B : Type 0} → Completion A → (A → State → Completion B) → Completion B
+abbrev pub next : {A B : Type 0} → Completion A → (A → State → Completion B) → Completion B
 next x f = either x f (λ y z. stop y z)
 
 module _ (e : Environment) (k : ℕ) (z : Unseen (alone (Declared k)) e) where
@@ -419,10 +419,10 @@ module _ (e : Environment) (k : ℕ) (z : Unseen (alone (Declared k)) e) where
       goes_either true (λ v. Agree D) (Agree D) (Agree D) (λ v. Agree D) (Agree D) (meaning e (append ps (t ▸ ts)) j (σ j) r x) (meaning e (append ps (u ▸ ts)) j (σ j) r y) _ _ _ _ (others_go ps t u ts a b j l.0 (σ j) r x y g) (λ v x y g. later_goes h q is ps t u ts a b (c (done v)) (l.1.0 v) x y g) (λ v x y g. later_goes h q is ps t u ts a b (c (ended v)) (l.1.1 v) x y g)
 
   -- a node, by what it reads of its children
-  abbrev by_summaries : Shape → (q : Demand) (r : Request q) → List Summary → Trees → State → Completion (Reply q r)
+  abbrev pub by_summaries : Shape → (q : Demand) (r : Request q) → List Summary → Trees → State → Completion (Reply q r)
   by_summaries h q r is ts s = run e (naming h q [] 0 is) (λ i r' s'. meaning e ts i (demand h (facts_all is) q i) r' s') (step h [] (facts_all is) q r) s
 
-  node_is : (h : Shape) (q : Demand) (r : Request q) (ts : Trees) (s : State) → means e (node h [] 0 ts) q r s ≡ by_summaries h q r (summaries ts) ts s
+  pub node_is : (h : Shape) (q : Demand) (r : Request q) (ts : Trees) (s : State) → means e (node h [] 0 ts) q r s ≡ by_summaries h q r (summaries ts) ts s
   unfolding means
   node_is h q r ts s = refl
 
@@ -482,7 +482,7 @@ module _ (e : Environment) (k : ℕ) (z : Unseen (alone (Declared k)) e) where
   unfolding either
   either_stopped y p f = refl
 
-  stopped : (A : Type 0) (p : Stop) (x y : State) → Agree D x y → Go {A = A} (stop p x) (stop p y)
+  pub stopped : (A : Type 0) (p : Stop) (x y : State) → Agree D x y → Go {A = A} (stop p x) (stop p y)
   unfolding Goes
   stopped A p x y g = (refl, g)
 
@@ -584,7 +584,7 @@ module _ (e : Environment) (k : ℕ) (z : Unseen (alone (Declared k)) e) where
         subst (λ j. (r : Request (σ j)) (c : Ends (Reply (σ j) r) → Command σ A) → ((y : Stop) → c (ended y) ≡ fails y) → ((a : Reply (σ j) r) → Later (count ps) (c (done a))) → Reached (kid j r c)) (sym p)
         (λ r c stops later. hit_here r c stops later)
 
-    reach_goes : {A : Type 0} (c : Command σ A) → Reaches (count ps) c → Reached c
+    pub reach_goes : {A : Type 0} (c : Command σ A) → Reaches (count ps) c → Reached c
     reach_goes {A} (kid j r c) (inl l) s =
         let F = λ (a : Reply (σ j) r) (y : State). runs t (c (done a)) y in
         let G = λ (a : Reply (σ j) r) (y : State). runs u (c (done a)) y in

@@ -19,8 +19,9 @@ use Rattle.mini_node.specs.Kinds.{is_identifier}
 use Rattle.mini_rows.specs.Sketches.{Head, AList, Array, Unary, Binary, Logical, Conditional, Sequence, Call, New, StaticMember, ComputedMember, Yield, OfExpression, Throw, Return, If, shape_by, Asked, AsWholeItem, AsValue, AsValues, asked_below, Leap}
 use Rattle.mini_rows.specs.Lists.{declaration}
 use Rattle.mini_rows.specs.Declarations.{declarator}
-use Rattle.mini_rows.specs.Unused.{is_like_one, names, any_names, begins, goes_on, leads, holds_list, is_childless, reads, is_first, leads_to, put_first, put_among, passes, are_passed, all_passed, reads_first, is_declarator, declares_list, reads_declarator, reads_declarators, reads_initially, reads_head, evaluated}
+use Rattle.mini_rows.specs.Unused.{is_like_one, names, any_names, begins, goes_on, leads, holds_list, is_childless, reads, is_first, leads_to, put_first, put_among, passes, are_passed, all_passed, reads_first, is_declarator, declares_list, reads_declarator, reads_declarators, reads_initially, reads_outside, reads_head, evaluated}
 use Rattle.mini_rows.proofs.Arranging.{Plain, Below, sum_below, Local, Summed}
+use Rattle.mini_rows.proofs.ListKeptHeads.{Seat, Loop, Choice, seated, rest}
 
 -- ---- what leads there
 
@@ -440,13 +441,48 @@ stays x t e =
     by Testing s ts = refl
     by l s ts = absurd s
 
--- a head is a statement or a declaration
-pub heads : (x : Name) (t : Tree) → reads_head x t ≡ true → ((reads_first x t ≡ true) × (evaluated t ≡ t)) ⊎ Initial x t
-heads x t e = by (reads_first x t) refl
+-- what opens a scope, and reads it outside of that
+pub record Outside (x : Name) (t : Tree) : Type 0 where
+  pub seat : Seat
+  pub value : Tree
+  pub once : is_first x false value ≡ true
+  pub beside : any_names x (rest seat) ≡ false
+  pub is : t ≡ seated seat value
+  pub puts : (r : Tree) → put_first x r t ≡ seated seat (put_first x r value)
+  pub evaluates : evaluated t ≡ t
+  pub passed : (r : Tree) → are_passed x r t ≡ true → are_passed x r value ≡ true
+
+outside_of : (x : Name) (s : Seat) (h : Shape) (value : Tree) (ts : Trees) → ((u : Tree) → seated s u ≡ node h [] 0 (u ▸ ts)) → rest s ≡ ts → evaluated (seated s value) ≡ seated s value → is_first x false value && not (any_names x (rest_children 0 ts)) ≡ true → Outside x (seated s value)
+outside_of x s h value ts there same evaluates e =
+    let (a, b) = and_parts (is_first x false value) (not (any_names x (rest_children 0 ts))) e in
+    let n = mentioned x false value a in
+    record {
+      seat = s;
+      value = value;
+      once = a;
+      beside = ap (any_names x) (same ∙ sym (no_first ts)) ∙ not_true (any_names x (rest_children 0 ts)) b;
+      is = refl;
+      puts = λ r. ap (put_first x r) (there value) ∙ ap (λ c. node h [] 0 (if c then put_first x r value ▸ ts else value ▸ put_among x r ts)) n ∙ sym (there (put_first x r value));
+      evaluates = evaluates;
+      passed = λ r e. sym (ap (λ c. if c then are_passed x r value else (passes r value && all_passed x r ts)) n) ∙ (sym (ap (are_passed x r) (there value)) ∙ e);
+    }
+
+outside : (x : Name) (t : Tree) → reads_outside x t ≡ true → Outside x t
+outside x (node shape.SwitchStatement [] zero (value ▸ (cases ▸ none))) e = outside_of x (Choice cases) shape.SwitchStatement value (cases ▸ none) (λ u. refl) refl refl e
+outside x (node shape.ForStatement [] zero (value ▸ (u ▸ (v ▸ (w ▸ none))))) e = outside_of x (Loop u v w) shape.ForStatement value (u ▸ (v ▸ (w ▸ none))) (λ u. refl) refl refl e
+outside x t e = absurd (true≢false (sym e))
+
+-- a head is a statement, a declaration, or opens a scope
+abbrev pub Heads : Name → Tree → Type 0
+Heads x t = ((reads_first x t ≡ true) × (evaluated t ≡ t)) ⊎ (Initial x t ⊎ Outside x t)
+
+pub heads : (x : Name) (t : Tree) → reads_head x t ≡ true → Heads x t
+heads x t e = by (reads_first x t) (reads_initially x t) refl refl
   where
-    by : (b : Bool) → reads_first x t ≡ b → ((reads_first x t ≡ true) × (evaluated t ≡ t)) ⊎ Initial x t
-    by true f = inl (f, stays x t f)
-    by false f = inr (initially x t (sym (ap (λ b. b || reads_initially x t) f) ∙ e))
+    by : (a b : Bool) → reads_first x t ≡ a → reads_initially x t ≡ b → Heads x t
+    by true b f g = inl (f, stays x t f)
+    by false true f g = inr (inl (initially x t g))
+    by false false f g = inr (inr (outside x t (sym (λ i. f i || (g i || reads_outside x t)) ∙ e)))
 
 -- ---- what holds of it
 

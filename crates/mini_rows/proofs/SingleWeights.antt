@@ -13,7 +13,7 @@ use Rattle.mini_model.specs.declared.seat.StmtSeat.TheVariants as stmt_seat
 use Rattle.mini_model.specs.declared.shape.Shape.TheVariants as shape
 use Rattle.mini_model.specs.Tree.{Tree, Trees, node, none, ◌▸◌, count, identifier}
 use Rattle.mini_model.specs.Paths.{append}
-use Rattle.mini_model.specs.Position.{argument_seat, child_position}
+use Rattle.mini_model.specs.Position.{argument_seat, statement_expression_seat, whole_seat, child_position}
 use Rattle.mini_model.specs.Weight.{Outline, commas_weight, outline, outlines, one_chooses, braces_weight, own_weight, spelled_weight, weight, weights}
 use Rattle.mini_laws.specs.Symbols.{is_same}
 use Rattle.mini_terms.specs.Reading.{is_plain_part}
@@ -23,7 +23,9 @@ use Rattle.mini_rows.specs.Sketches.{shape_by, Asked, AsWholeItem, AsValue, AsVa
 use Rattle.mini_rows.specs.Unused.{resolved, declared_among, declared_left, is_first, put_first, reads_first, reads_head, evaluated}
 use Rattle.mini_rows.proofs.BooleanWeights.{moved}
 use Rattle.mini_rows.proofs.ListWeights.{total, in_list, comma_list, declarators_append}
-use Rattle.mini_rows.proofs.SingleUse.{Lead, Not, Plus, Tilde, Beside, Deciding, Choosing, Passing, Called, Making, Waiting, Member, Keyed, Holding, Against, Given, Filling, Keying, Listing, Doing, Giving, Raising, Testing, head_of, before, place, Step, led, is_end, Stands, Well, Initial, heads, path, statement}
+use Rattle.mini_rows.proofs.ListKeptHeads as opening
+use Rattle.mini_rows.proofs.ListKeptHeads.{Loop, Choice, seated}
+use Rattle.mini_rows.proofs.SingleUse.{Lead, Not, Plus, Tilde, Beside, Deciding, Choosing, Passing, Called, Making, Waiting, Member, Keyed, Holding, Against, Given, Filling, Keying, Listing, Doing, Giving, Raising, Testing, head_of, before, place, Step, led, is_end, Stands, Well, Initial, heads, path, statement, Outside, Heads, Path}
 
 -- ---- where the steps stand
 
@@ -256,12 +258,31 @@ initial_falls s k head t r f =
     let falls = declarator_falls s k t.binds t.value t.once r f in
     omega (arith, falls, comma_list (d ▸ t.last), comma_list (put ▸ t.last), as_many_commas d put t.last, ap (λ u. total (u ▸ none)) t.is, ap (λ u. total (u ▸ none)) (t.puts r))
 
+-- a `switch` weighs what it asks, and a `for` what it begins with
+outside_falls : (s : List ℕ) (k : ℕ) (head : Tree) (t : Outside (resolved s k) head) (r : Tree) → is_plain_part r ≡ true → total (put_first (resolved s k) r head ▸ none) ≤ total (head ▸ none) + (weight (Expr argument_seat) r + 3)
+outside_falls s k head t r f =
+    let there = by t.seat in
+    omega (arith, there, ap (λ u. total (u ▸ none)) t.is, ap (λ u. total (u ▸ none)) (t.puts r))
+  where
+    p : Path (resolved s k) AsValue t.value
+    p = path (resolved s k) false t.value t.once
+
+    value_falls : (place : Seat) → weight (Expr place) (put_first (resolved s k) r t.value) ≤ weight (Expr place) t.value + (weight (Expr argument_seat) r + 3)
+    value_falls place =
+        let falls = led_falls AsValue p.steps p.well (Expr place) tt r f p.read (some_symbol k p.read.symbol p.same) in
+        omega (arith, falls, ap (weight (Expr place)) p.is, ap (weight (Expr place)) (p.puts r))
+
+    by : (c : opening.Seat) → total (seated c (put_first (resolved s k) r t.value) ▸ none) ≤ total (seated c t.value ▸ none) + (weight (Expr argument_seat) r + 3)
+    by (Choice cases) = omega (arith, value_falls whole_seat)
+    by (Loop u v w) = omega (arith, value_falls statement_expression_seat)
+
 either_falls : (s : List ℕ) (k : ℕ) (head : Tree) → reads_head (resolved s k) head ≡ true → (r : Tree) → is_plain_part r ≡ true → total (put_first (resolved s k) r head ▸ none) ≤ total (head ▸ none) + (weight (Expr argument_seat) r + 3)
 either_falls s k head e r f = by (heads (resolved s k) head e)
   where
-    by : ((reads_first (resolved s k) head ≡ true) × (evaluated head ≡ head)) ⊎ Initial (resolved s k) head → total (put_first (resolved s k) r head ▸ none) ≤ total (head ▸ none) + (weight (Expr argument_seat) r + 3)
+    by : Heads (resolved s k) head → total (put_first (resolved s k) r head ▸ none) ≤ total (head ▸ none) + (weight (Expr argument_seat) r + 3)
     by (inl (o, p)) = let falls = head_falls s k head o stmt_seat.List r f in omega (arith, falls)
-    by (inr t) = initial_falls s k head t r f
+    by (inr (inl t)) = initial_falls s k head t r f
+    by (inr (inr t)) = outside_falls s k head t r f
 
 -- ---- the block
 

@@ -13,7 +13,7 @@ use Rattle.mini_model.specs.declared.shape.Shape.TheVariants as shape
 use Rattle.mini_model.specs.Tree.{Tree, Trees, node, none, ◌▸◌, absent, listed, shape_of, empty_statement, expression_statement, count}
 use Rattle.mini_model.specs.Paths.{append}
 use Rattle.mini_accept.specs.WellShaped as well
-use Rattle.mini_accept.specs.WellShaped.{Depth, in_module, in_body, nested, Class, a_statement, a_block, a_key, a_private_or_key, an_inner_key, a_declarator, a_pattern, an_expression, a_default_export, Slot, one, one_or_absent, many, many_or_holes, many_and_rest, many_or_holes_and_rest, quasis, each, filling, fits, fill}
+use Rattle.mini_accept.specs.WellShaped.{Depth, in_module, in_body, nested, Class, a_statement, a_block, a_key, a_private_or_key, an_inner_key, a_declarator, a_pattern, an_init, an_expression, a_default_export, Slot, one, one_or_absent, many, many_or_holes, many_and_rest, many_or_holes_and_rest, quasis, each, filling, fits, fill}
 use Rattle.mini_laws.specs.declared.names.Binding.{Binding}
 use Rattle.mini_laws.specs.DeclaredNames.{has_inner}
 use Rattle.mini_laws.specs.declared.names.Declared.TheVariants.{Lexical}
@@ -61,8 +61,9 @@ use Rattle.mini_rows.proofs.UnusedKept.{LeavesThere, NamesThere, list_fixed, lis
 use Rattle.mini_rows.proofs.DeclaredKept.{value_leaves, value_names, idle_leaves, idle_names}
 use Rattle.mini_rows.proofs.HeadKept.{head_leaves, head_names}
 use Rattle.mini_rows.proofs.HeadMeaning.{row_71}
-use Rattle.mini_rows.proofs.SingleUse.{Initial, heads}
-use Rattle.mini_rows.proofs.SingleFits.{put_fits, put_initial}
+use Rattle.mini_rows.proofs.ListKeptHeads.{Seat, Loop, Choice, seated}
+use Rattle.mini_rows.proofs.SingleUse.{Initial, Outside, Heads, heads}
+use Rattle.mini_rows.proofs.SingleFits.{first_of, put_fits, put_initial, put_asked, put_begun}
 use Rattle.mini_rows.proofs.UnusedMeaning.{movable, lexical_alone, row_72, row_72_idle}
 use Rattle.mini_rows.proofs.NextKept.{next_leaves, next_names}
 use Rattle.mini_rows.proofs.NextMeaning.{row_71_next}
@@ -180,12 +181,29 @@ initial_fits strict x head t r f e =
     let them = more_fit strict (one a_declarator) d t.last (both (fits strict (one a_pattern) t.binds) (fits strict (one_or_absent an_expression) (put_first x r t.value) && true) bound (both (fits strict (one_or_absent an_expression) (put_first x r t.value)) true put refl)) others in
     ap (fits strict item) (t.puts r) ∙ declaration_anywhere strict nested t.kind (d ▸ t.last) ∙ both (nat_le 1 (count (d ▸ t.last))) (fill strict (each (one a_declarator)) (d ▸ t.last) && true) (le-leb 1 (count (d ▸ t.last)) (omega arith)) (both (fill strict (each (one a_declarator)) (d ▸ t.last)) true them refl)
 
+-- and a `switch` and a `for`
+switch_fits : (strict : Bool) (cases a b : Tree) → (fits strict (one an_expression) a ≡ true → fits strict (one an_expression) b ≡ true) → fits strict item (seated (Choice cases) a) ≡ true → fits strict item (seated (Choice cases) b) ≡ true
+switch_fits true cases a b h e = first_of (fits true (one an_expression) a) (fits true (one an_expression) b) _ h e
+switch_fits false cases a b h e = first_of (fits false (one an_expression) a) (fits false (one an_expression) b) _ h e
+
+for_fits : (strict : Bool) (u v w a b : Tree) → (fits strict (one_or_absent an_init) a ≡ true → fits strict (one_or_absent an_init) b ≡ true) → fits strict item (seated (Loop u v w) a) ≡ true → fits strict item (seated (Loop u v w) b) ≡ true
+for_fits true u v w a b h e = first_of (fits true (one_or_absent an_init) a) (fits true (one_or_absent an_init) b) _ h e
+for_fits false u v w a b h e = first_of (fits false (one_or_absent an_init) a) (fits false (one_or_absent an_init) b) _ h e
+
+outside_fits : (strict : Bool) (x : Name) (head : Tree) (t : Outside x head) (r : Tree) → fits strict (one an_expression) r ≡ true → fits strict item head ≡ true → fits strict item (put_first x r head) ≡ true
+outside_fits strict x head t r f e = ap (fits strict item) (t.puts r) ∙ by t.seat (sym (ap (fits strict item) t.is) ∙ e)
+  where
+    by : (s : Seat) → fits strict item (seated s t.value) ≡ true → fits strict item (seated s (put_first x r t.value)) ≡ true
+    by (Choice cases) g = switch_fits strict cases t.value (put_first x r t.value) (put_asked strict x t.value t.once r f) g
+    by (Loop u v w) g = for_fits strict u v w t.value (put_first x r t.value) (put_begun strict x t.value t.once r f) g
+
 head_fits : (strict : Bool) (x : Name) (head : Tree) → reads_head x head ≡ true → (r : Tree) → fits strict (one an_expression) r ≡ true → fits strict item head ≡ true → fits strict item (put_first x r head) ≡ true
 head_fits strict x head once r f e = by (heads x head once)
   where
-    by : ((reads_first x head ≡ true) × (evaluated head ≡ head)) ⊎ Initial x head → fits strict item (put_first x r head) ≡ true
+    by : Heads x head → fits strict item (put_first x r head) ≡ true
     by (inl (o, p)) = put_fits strict x head o r f e
-    by (inr t) = initial_fits strict x head t r f e
+    by (inr (inl t)) = initial_fits strict x head t r f e
+    by (inr (inr t)) = outside_fits strict x head t r f e
 
 pub single_fits : (strict : Bool) (k : VariableDeclarationKind) (x : Name) (first : Trees) (init head : Tree) → may_move init ≡ true → reads_head x head ≡ true → fits strict item (declared_among k x first init none) ≡ true → fits strict item head ≡ true → (fits strict item (declared_left k first) ≡ true) × (fits strict item (put_first x init head) ≡ true)
 single_fits strict k x first init head m r e f =

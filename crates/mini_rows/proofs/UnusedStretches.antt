@@ -21,7 +21,8 @@ use Rattle.mini_rows.specs.Declarations.{binding, declarator}
 use Rattle.mini_rows.specs.Sketches.{shape_by, AsWholeItem}
 use Rattle.mini_rows.specs.Unused.{resolved, names, any_names, declared_one, declared_among, declared_left, is_idle, may_move, is_first, reads_first, put_first, are_passed, reads_head, evaluated, lets_go, BlockRow}
 use Rattle.mini_rows.proofs.ListShapes.{declaration_anywhere, first_fits, more_fit}
-use Rattle.mini_rows.proofs.SingleUse.{Lead, Doing, Giving, Raising, Testing, head_of, Stands, statement, Initial, heads}
+use Rattle.mini_rows.proofs.SingleUse.{Lead, Doing, Giving, Raising, Testing, head_of, Stands, statement, Heads, heads}
+use Rattle.mini_rows.proofs.ListKeptHeads.{Seat, Loop, Choice, seated}
 use Rattle.mini_rows.proofs.HeadKept.{head_leaves, head_declares, head_names}
 use Rattle.mini_rows.proofs.HeadMeaning.{head_read, head_goes, head_unnamed}
 use Rattle.mini_rows.proofs.FoldMeaning.{plain_read}
@@ -161,12 +162,17 @@ statement_there x head once init =
 initial_there : (k : VariableDeclarationKind) (ds es : Trees) → StandsThere (declaration k ds) (declaration k es)
 initial_there k ds es = record { head_in = λ o strict. declaration_in o strict k ds; put_in = λ o strict. declaration_in o strict k es; head_ported = λ rest. refl; put_ported = λ rest. refl }
 
+outside_there : (c : Seat) (a b : Tree) → StandsThere (seated c a) (seated c b)
+outside_there (Choice cases) a b = record { head_in = λ o strict. refl; put_in = λ o strict. refl; head_ported = λ rest. refl; put_ported = λ rest. refl }
+outside_there (Loop u v w) a b = record { head_in = λ o strict. refl; put_in = λ o strict. refl; head_ported = λ rest. refl; put_ported = λ rest. refl }
+
 stands_there : (x : Name) (head : Tree) → reads_head x head ≡ true → (init : Tree) → StandsThere head (put_first x init head)
 stands_there x head once init = by (heads x head once)
   where
-    by : ((reads_first x head ≡ true) × (evaluated head ≡ head)) ⊎ Initial x head → StandsThere head (put_first x init head)
+    by : Heads x head → StandsThere head (put_first x init head)
     by (inl (f, p)) = statement_there x head f init
-    by (inr t) = subst₂ StandsThere (sym t.is) (sym (t.puts init)) (initial_there t.kind (declarator t.binds t.value ▸ t.last) (declarator t.binds (put_first x init t.value) ▸ t.last))
+    by (inr (inl t)) = subst₂ StandsThere (sym t.is) (sym (t.puts init)) (initial_there t.kind (declarator t.binds t.value ▸ t.last) (declarator t.binds (put_first x init t.value) ▸ t.last))
+    by (inr (inr t)) = subst₂ StandsThere (sym t.is) (sym (t.puts init)) (outside_there t.seat t.value (put_first x init t.value))
 
 -- ---- the rows
 

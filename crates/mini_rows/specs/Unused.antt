@@ -265,9 +265,26 @@ reads_declarators x l = not (is_childless l) && (reads_declarator x (part l 0) &
 abbrev pub reads_initially : Name → Tree → Bool
 reads_initially x t = declares_list t && reads_declarators x (part t 0)
 
+-- what opens a scope, which the expression that it evaluates before all else is outside of: `switch (e) { .. }`, and
+-- `for (e; ..; ..) ..` where no declaration stands there
+abbrev pub is_switch_shape : Shape → Bool
+is_switch_shape shape.SwitchStatement = true
+is_switch_shape _ = false
+
+abbrev pub is_for_shape : Shape → Bool
+is_for_shape shape.ForStatement = true
+is_for_shape _ = false
+
+abbrev pub opens_scope : Tree → Bool
+opens_scope t = (is_switch_shape (shape_of t) && is_bare t 2) || (is_for_shape (shape_of t) && is_bare t 4)
+
+-- it does so, too
+abbrev pub reads_outside : Name → Tree → Bool
+reads_outside x t = opens_scope t && (is_first x false (part t 0) && not (any_names x (rest_children 1 (children t))))
+
 -- a head: what may stand right after the declaration
 abbrev pub reads_head : Name → Tree → Bool
-reads_head x t = reads_first x t || reads_initially x t
+reads_head x t = reads_first x t || (reads_initially x t || reads_outside x t)
 
 -- a declaration with a first declarator
 abbrev pub has_declarator : Tree → Bool
@@ -287,8 +304,8 @@ is_definition h = false
 abbrev pub may_move : Tree → Bool
 may_move t = is_plain_part t && not (is_definition (shape_of t))
 
--- 71: `{ let a, x = b(); return x + c; }` becomes `{ let a; return b() + c; }`, `{ const x = b(); return x; }` `{ ; return b(); }`, and
--- `{ let x = a(); const y = x.b; c(y); }` `{ ; const y = a().b; c(y); }`
+-- 71: `{ let a, x = b(); return x + c; }` becomes `{ let a; return b() + c; }`, `{ const x = b(); return x; }` `{ ; return b(); }`,
+-- `{ let x = a(); const y = x.b; c(y); }` `{ ; const y = a().b; c(y); }`, and `{ let x = a(); switch (x.b) { } }` `{ ; switch (a().b) { } }`
 pub record Row71 (W : VariableSet) (n w : Tree) : Type 0 where
   pub before : Trees
   pub kind : VariableDeclarationKind

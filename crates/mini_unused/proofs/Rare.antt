@@ -16,7 +16,8 @@ use Rattle.mini_node.specs.Walks.{next_child}
 use Rattle.mini_kept.proofs.SameScopes.{same_texts}
 use Rattle.mini_rows.specs.Declarations.{declarator}
 use Rattle.mini_rows.specs.Unused.{resolved, is_like_one, names, any_names, is_idle, leads, holds_list, is_childless, reads, is_first, leads_to, put_first, put_among, are_passed, is_head_shape, reads_first, reads_head, has_declarator, evaluated}
-use Rattle.mini_rows.proofs.SingleUse.{Initial, heads}
+use Rattle.mini_rows.proofs.ListKeptHeads.{Seat, Loop, Choice, seated}
+use Rattle.mini_rows.proofs.SingleUse.{Heads, heads}
 use Rattle.mini_unused.specs.declared.tallies.Tallies.{Tallies}
 use Rattle.mini_unused.specs.RemoveUnusedDeclaration.{declares_list, is_alone, list_at, let_left, statement_left, list_left}
 use Rattle.mini_unused.specs.SubstituteNext.{reads_in, put_named, is_read_then, declarators_next, list_next, NextGone}
@@ -229,9 +230,14 @@ statement_counted n x (node h ys k (t ▸ ts)) e =
 head_counted : (n : ℕ) (x : Name) (t : Tree) → reads_head x t ≡ true → 1 ≤ tally (bucket true n) (bucket true n x) t
 head_counted n x t e = by (heads x t e)
   where
-    by : ((reads_first x t ≡ true) × (evaluated t ≡ t)) ⊎ Initial x t → 1 ≤ tally (bucket true n) (bucket true n x) t
+    seated_counted : (c : Seat) (v : Tree) → 1 ≤ tally (bucket true n) (bucket true n x) v → 1 ≤ tally (bucket true n) (bucket true n x) (seated c v)
+    seated_counted (Loop u v w) t k = omega (arith, k)
+    seated_counted (Choice cases) t k = omega (arith, k)
+
+    by : Heads x t → 1 ≤ tally (bucket true n) (bucket true n x) t
     by (inl (f, p)) = statement_counted n x t f
-    by (inr i) = let read = first_counted n x false i.value i.once in let whole = ap (tally (bucket true n) (bucket true n x)) i.is in omega (arith, read, whole)
+    by (inr (inl i)) = let read = first_counted n x false i.value i.once in let whole = ap (tally (bucket true n) (bucket true n x)) i.is in omega (arith, read, whole)
+    by (inr (inr i)) = let read = seated_counted i.seat i.value (first_counted n x false i.value i.once) in let whole = ap (tally (bucket true n) (bucket true n x)) i.is in omega (arith, read, whole)
 
 -- in the buckets of x, of tables so large
 module _ (x : Name) (n r : ℕ) where

@@ -17,7 +17,8 @@ use Rattle.mini_unused.specs.RemoveUnusedDeclaration.{declares_list, declares_na
 use Rattle.mini_rows.specs.Declarations.{declarator}
 use Rattle.mini_unused.specs.SubstituteNext.{reads_then, put_named, is_declarator, is_mentioned_beside, is_mentioned_elsewhere, is_read_then, declarators_next, NextGone}
 use Rattle.mini_unused.specs.SubstituteSingleUse.{declaration_left, last_place, reads_next, is_declared_over, is_mentioned_around, is_read_once, NameGone, ReadGone, Gone}
-use Rattle.mini_rows.proofs.SingleUse.{Initial, heads, mentioned}
+use Rattle.mini_rows.proofs.ListKeptHeads.{Seat, Loop, Choice, seated}
+use Rattle.mini_rows.proofs.SingleUse.{Initial, Heads, heads, mentioned}
 use Rattle.mini_unused.proofs.NextUses.{found, next_child_left}
 use Rattle.mini_unused.proofs.Unused.{a_declaration, declarator_is, not_true}
 
@@ -215,12 +216,18 @@ put_in_initial x r t i e g =
     let there = over (declarator i.binds put) refl (all_of i.binds (put ▸ none) (part_of d 0 a) (all_of put none (put_there x false r i.value i.once e (part_of d 1 a)) nothing_there)) in
     ap has_eval (i.puts r) ∙ declared i.kind (declarator i.binds put ▸ i.last) (all_of (declarator i.binds put) i.last there b)
 
+-- in what opens a scope
+put_outside : (c : Seat) (a b : Tree) → (has_eval a ≡ false → has_eval b ≡ false) → has_eval (seated c a) ≡ false → has_eval (seated c b) ≡ false
+put_outside (Choice cases) a b h g = let (x, y) = first_and_others a (cases ▸ none) (below (seated (Choice cases) a) g) in over (seated (Choice cases) b) refl (all_of b (cases ▸ none) (h x) y)
+put_outside (Loop u v w) a b h g = let (x, y) = first_and_others a (u ▸ (v ▸ (w ▸ none))) (below (seated (Loop u v w) a) g) in over (seated (Loop u v w) b) refl (all_of b (u ▸ (v ▸ (w ▸ none))) (h x) y)
+
 put_there_head : (x : Name) (r t : Tree) → reads_head x t ≡ true → has_eval r ≡ false → has_eval t ≡ false → has_eval (put_first x r t) ≡ false
 put_there_head x r t f e g = by (heads x t f)
   where
-    by : ((reads_first x t ≡ true) × (evaluated t ≡ t)) ⊎ Initial x t → has_eval (put_first x r t) ≡ false
+    by : Heads x t → has_eval (put_first x r t) ≡ false
     by (inl (o, p)) = put_in_head x r t o e g
-    by (inr i) = put_in_initial x r t i e g
+    by (inr (inl i)) = put_in_initial x r t i e g
+    by (inr (inr i)) = ap has_eval (i.puts r) ∙ put_outside i.seat i.value (put_first x r i.value) (put_there x false r i.value i.once e) (sym (ap has_eval i.is) ∙ g)
 
 -- ---- a declaration whose declarator has another tree in what it reads first
 

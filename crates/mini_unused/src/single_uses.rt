@@ -314,11 +314,29 @@ fn reads_initially(name: &Name, node: &Node) -> bool
     declares_list(node) && reads_declarators(name, node.child(0))
 }
 
+// `switch (e) { .. }`, and a `for`.
+fn opens_scope(node: &Node) -> bool
+    ensures value { result ≡ reading.opens_scope node.now }
+    ensures some { result ≡ true → 0 < count (children node.now) }
+{
+    matches!(node.shape(), Shape::SwitchStatement) && node.is_bare(2)
+        || matches!(node.shape(), Shape::ForStatement) && node.is_bare(4)
+}
+
+// It reads the variable before all else, outside of the scope that it opens.
+fn reads_outside(name: &Name, node: &Node) -> bool
+    ensures { result ≡ reading.reads_outside name.now node.now }
+{
+    opens_scope(node)
+        && is_first(name, false, node.child(0))
+        && !is_mentioned_from(name, node.children(), 1)
+}
+
 // What may stand right after the declaration.
 fn reads_head(name: &Name, node: &Node) -> bool
     ensures { result ≡ reading.reads_head name.now node.now }
 {
-    reads_first(name, node) || reads_initially(name, node)
+    reads_first(name, node) || reads_initially(name, node) || reads_outside(name, node)
 }
 
 // A function or a class, which may get the variable's name.

@@ -1,0 +1,153 @@
+-- What a `switch` or a `for` reads before all else may be put there: it is outside of the scope that the statement opens.
+use Rattle.std.specs.Prelude.{Option}
+use Rattle.std.proofs.Common.{◌≡◌, ℕ, zero, suc, true, false, List, [], ◌∷◌, None, Some, refl, sym, ap, ◌∙◌, subst, subst₂}
+use Rattle.mini_model.specs.declared.name.Name.{Name}
+use Rattle.mini_model.specs.declared.shape.Shape.TheVariants as shape
+use Rattle.mini_model.specs.Tree.{Tree, Trees, node, none, ◌▸◌, absent, identifier}
+use Rattle.mini_model.specs.Paths.{append}
+use Rattle.mini_laws.specs.Value.{Value, Declared, VariableSet, Holds}
+use Rattle.mini_laws.specs.State.{Stop, Broken, State, Completion, stop, either, done, ended, Environment, with_vars}
+use Rattle.mini_laws.specs.Demand.{Val, Unused, Demand, As, Cases, Stat, LabelSet, Request, Reply}
+use Rattle.mini_laws.specs.Command.{set_var, Command, kid, bind, run}
+use Rattle.mini_laws.specs.Naming.{Facts, FunctionFact, Named, NamedDefault, BareDefault, function_facts, summary, summaries, facts_all, naming}
+use Rattle.mini_laws.specs.Asking.{demand, first_demand}
+use Rattle.mini_laws.specs.Statements.{scoped, create_function, create_functions, switch_step, unbroken}
+use Rattle.mini_laws.specs.Step.{step, means, meaning}
+use Rattle.mini_laws.specs.Same.{Goes, Agree}
+use Rattle.mini_laws.specs.Substitution.{alone}
+use Rattle.mini_laws.specs.Congruence.{AllAvoid}
+use Rattle.mini_laws.proofs.Congruent.{insensitive}
+use Rattle.mini_laws.proofs.Runs.{either_cong, either_assoc, either_stop}
+use Rattle.mini_laws.proofs.Simulation.{goes_either}
+use Rattle.mini_kept.specs.Without.{Unseen}
+use Rattle.mini_terms.specs.Reading.{is_item}
+use Rattle.mini_rows.specs.Lists.{switch, for_loop}
+use Rattle.mini_rows.specs.Sketches.{shape_by, AsValue, asked_below}
+use Rattle.mini_rows.specs.Unused.{any_names, resolved}
+use Rattle.mini_rows.proofs.ListHeads.{Nothing, for_rest, for_is, for_absent_is}
+use Rattle.mini_rows.proofs.ListKeptHeads.{Seat, Loop, Choice, seated, rest}
+use Rattle.mini_rows.proofs.SingleUse.{Lead, Not, Plus, Tilde, Beside, Deciding, Choosing, Passing, Called, Making, Waiting, Member, Keyed, Holding, Against, Given, Filling, Keying, head_of, before, place, Step, led, is_end, Stands, Well, Spared, Passed, summary_led}
+use Rattle.mini_rows.proofs.ConstantUse.{moves_there}
+use Rattle.mini_rows.proofs.SingleMeaning.{Before, Later, later_bind, later_attempt, Reaches, reach_statement, one, next, by_summaries, node_is, stopped, reach_goes}
+use Rattle.mini_rows.proofs.UnusedNames.{all_avoided}
+
+-- ---- behind what it asks a `switch` asks nothing of that any more
+
+create_later : (f : FunctionFact) (i : ℕ) → Later 0 {σ = first_demand (As Val) Cases} (create_function true f i)
+create_later Named i = (λ v. (λ u. tt, λ y. tt), λ y. tt)
+create_later NamedDefault i = (λ v. (λ u. (λ w. tt, λ y. tt), λ y. tt), λ y. tt)
+create_later BareDefault i = (λ v. (λ w. tt, λ y. tt), λ y. tt)
+
+creates_later : (fs : List FunctionFact) (i : ℕ) → Later 0 {σ = first_demand (As Val) Cases} (create_functions true fs i)
+creates_later [] i = tt
+creates_later (f ∷ fs) i = later_bind 0 (create_function true f i) (λ u. create_functions true fs (suc i)) (create_later f i) (λ u. creates_later fs (suc i))
+
+unbroken_later : (y : Stop) → Later 0 {σ = first_demand (As Val) Cases} (unbroken (ended y))
+unbroken_later (Broken None) = tt
+unbroken_later y = tt
+
+switch_later : (fs : List FunctionFact) (v : Value) → Later 0 {σ = first_demand (As Val) Cases} (scoped (bind (create_functions true fs 0) (λ u. kid 1 v unbroken)))
+switch_later fs v = (
+  λ u. later_attempt 0 (bind (create_functions true fs 0) (λ u. kid 1 v unbroken)) _ (later_bind 0 (create_functions true fs 0) (λ u. kid 1 v unbroken) (creates_later fs 0) (λ u. (tt, (λ a. tt, λ y. unbroken_later y)))) (λ a. (λ u. tt, λ y. tt)) (λ y. (λ u. tt, λ y. tt)),
+  λ y. tt,
+)
+
+switch_reaches : (fs : List Facts) → Reaches 0 (step shape.SwitchStatement [] fs (Stat None) [])
+unfolding step
+switch_reaches fs = reach_statement 0 (switch_step fs) (one 0 (first_demand (As Val) Cases) (Unit {0}) tt _ (λ v. switch_later (function_facts fs) v))
+
+-- nothing stands before
+none_before : (j : ℕ) → Before j 0 → ⊥
+none_before zero b = b
+none_before (suc j) b = b
+
+-- ---- what an expression declares: nothing
+
+nothing_led : (ss : List Step) → Well AsValue ss → (t : Tree) → Nothing t → Nothing (led ss t)
+nothing_led [] w t n = n
+nothing_led (s ∷ ss) w t n = by s.lead w.0 (λ q. nothing_led ss (subst (λ c. Well c ss) q w.1) t n)
+  where
+    by : (l : Lead) → Stands AsValue l (is_end ss) → (asked_below (head_of l) AsValue (place 0 (before l)) ≡ AsValue → Nothing (led ss t)) → Nothing (node (shape_by (head_of l)) [] 0 (append (before l) (led ss t ▸ s.rest)))
+    by Not s m = let inner = m refl in record { lets = inner.lets; functions = inner.functions; facts = inner.facts; declared = inner.declared }
+    by Plus s m = record { lets = refl; functions = refl; facts = refl; declared = refl }
+    by Tilde s m = record { lets = refl; functions = refl; facts = refl; declared = refl }
+    by (Beside o) s m = record { lets = refl; functions = refl; facts = refl; declared = refl }
+    by (Deciding o) s m = record { lets = refl; functions = refl; facts = refl; declared = refl }
+    by Choosing s m = record { lets = refl; functions = refl; facts = refl; declared = refl }
+    by Passing s m = record { lets = refl; functions = refl; facts = refl; declared = refl }
+    by Called s m = record { lets = refl; functions = refl; facts = refl; declared = refl }
+    by Making s m = record { lets = refl; functions = refl; facts = refl; declared = refl }
+    by (Waiting d) s m = record { lets = refl; functions = refl; facts = refl; declared = refl }
+    by Member s m = record { lets = refl; functions = refl; facts = refl; declared = refl }
+    by Keyed s m = record { lets = refl; functions = refl; facts = refl; declared = refl }
+    by Holding s m = record { lets = refl; functions = refl; facts = refl; declared = refl }
+    by (Against o a) s m = record { lets = refl; functions = refl; facts = refl; declared = refl }
+    by (Given a) s m = record { lets = refl; functions = refl; facts = refl; declared = refl }
+    by (Filling a) s m = record { lets = refl; functions = refl; facts = refl; declared = refl }
+    by (Keying a) s m = record { lets = refl; functions = refl; facts = refl; declared = refl }
+    by l s m = absurd s
+
+-- ---- the statements
+
+module _ (e : Environment) (k : ℕ) (z : Unseen (alone (Declared k)) e) (x : Name) (named : x.symbol ≡ Some (record { 0 = k })) (spelling : List ℕ) (init : Tree) (plain : summary (identifier (resolved spelling k)) ≡ summary init) (item : is_item init ≡ true) (ss : List Step) (w : Well AsValue ss) (f : Spared x ss) (p : Passed init ss) where
+  abbrev D : VariableSet
+  D = alone (Declared k)
+
+  abbrev Go : {A : Type 0} → Completion A → Completion A → Type 0
+  Go a b = Goes true (λ u. Agree D) (Agree D) (Agree D) a b
+
+  abbrev after : Value → State → State
+  after v s = with_vars s (set_var s.vars (Declared k) (Holds v))
+
+  abbrev value : Tree
+  value = led ss (identifier (resolved spelling k))
+
+  abbrev put : Tree
+  put = led ss init
+
+  -- what follows, where the statement is run
+  abbrev Moves : Tree → Tree → Type 0
+  Moves head there = (s : State) → Go (next (means e init (As Val) tt s) (λ v t. means e head (Stat None) [] (after v t))) (means e there (Stat None) [] s)
+
+  switch_goes : (cases : Tree) → any_names x (cases ▸ none) ≡ false → Moves (switch value cases) (switch put cases)
+  switch_goes cases g t =
+      let h = shape.SwitchStatement in
+      let ts : Trees = cases ▸ none in
+      let is = summaries (value ▸ ts) in
+      let σ = demand h (facts_all is) (Stat None) in
+      let there = λ (y : State). node_is e k z h (Stat None) [] (value ▸ ts) y in
+      let put_is : means e (switch put cases) (Stat None) [] t ≡ by_summaries e k z h (Stat None) [] is (put ▸ ts) t =
+      node_is e k z h (Stat None) [] (put ▸ ts) t ∙ ap (λ i. by_summaries e k z h (Stat None) [] (i ∷ summaries ts) (put ▸ ts) t) (sym (summary_led ss (identifier (resolved spelling k)) init plain)) in
+      subst₂ Go (sym (either_cong (means e init (As Val) tt t) _ _ _ _ (λ v y. there (after v y)) (λ y p. refl))) (sym put_is)
+      (reach_goes e k z h (Stat None) is σ none value put ts init tt (all_avoided x k named ts g) (λ j b. absurd (none_before j b))
+      (λ r' s'. moves_there e k z x named spelling init plain item AsValue ss w f p (As Val) tt r' s') (step h [] (facts_all is) (Stat None) []) (switch_reaches (facts_all is)) t)
+
+  nothing_value : Nothing value
+  nothing_value = nothing_led ss w (identifier (resolved spelling k)) (record { lets = refl; functions = refl; facts = refl; declared = refl })
+
+  nothing_put : Nothing put
+  nothing_put = nothing_led ss w init (record { lets = sym (ap (λ i. i.lets) plain); functions = sym (ap (λ i. i.functions) plain); facts = sym (ap (λ i. i.facts.functions) plain); declared = sym (ap (λ i. i.facts.declared) plain) })
+
+  module _ (test update body : Tree) (g : any_names x (test ▸ (update ▸ (body ▸ none))) ≡ false) where
+    abbrev turns : State → Completion (Unit {0})
+    turns y = for_rest e test update body [] y
+
+    turns_go : (y y' : State) → Agree D y y' → Go (turns y) (turns y')
+    turns_go y y' a =
+        subst₂ Go (for_absent_is e test update body [] y) (for_absent_is e test update body [] y')
+        (insensitive e D z.shared (for_loop absent test update body) (tt, ((tt, tt), all_avoided x k named (test ▸ (update ▸ (body ▸ none))) g)) (Stat None) [] y y' a)
+
+    for_goes : Moves (for_loop value test update body) (for_loop put test update body)
+    for_goes t =
+        let v = means e init (As Val) tt t in
+        let begun = next v (λ p y. means e value (As Unused) tt (after p y)) in
+        subst₂ Go
+        (sym (either_cong v _ _ _ _ (λ p y. for_is e test update body value nothing_value [] (after p y)) (λ y p. refl) ∙ sym (either_assoc v _ _ _ _ ∙ either_cong v _ _ _ _ (λ p y. refl) (λ y p. either_stop y p _ _))))
+        (sym (for_is e test update body put nothing_put [] t))
+        (goes_either true (λ p. Agree D) (Agree D) (Agree D) (λ p. Agree D) (Agree D) begun (means e put (As Unused) tt t) _ _ _ _
+        (moves_there e k z x named spelling init plain item AsValue ss w f p (As Unused) tt tt t)
+        (λ u y y' a. turns_go y y' a) (λ c y y' a. stopped e k z (Unit {0}) c y y' a))
+
+  pub outside_goes : (c : Seat) → any_names x (rest c) ≡ false → Moves (seated c value) (seated c put)
+  outside_goes (Choice cases) g = switch_goes cases g
+  outside_goes (Loop test update body) g = for_goes test update body g
