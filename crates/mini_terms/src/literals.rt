@@ -20,7 +20,9 @@ use crate::names::is_undefined_name;
 use crate::numbers::{is_same, of_numbers, over_number};
 use crate::texts::text_number;
 use crate::values::ConstantValue;
-use mini_model::{BinaryOperator, LogicalOperator, OutOfMemory, Shape, Text, UnaryOperator, decimal};
+use mini_model::{
+    BinaryOperator, LogicalOperator, OutOfMemory, Shape, Text, UnaryOperator, decimal,
+};
 use mini_node::{Node, binary_operator, is_conditional, logical_operator, unary_operator};
 use std::alloc::Global;
 
@@ -528,13 +530,7 @@ fn branch(
     ensures { value_in result ≡ conditional_const (Some (Boolean is_true)) (value_in consequent) (value_in alternate) }
 {
     match (consequent, alternate) {
-        (Some(first), Some(second)) => {
-            if is_true {
-                Some(first)
-            } else {
-                Some(second)
-            }
-        }
+        (Some(first), Some(second)) => { if is_true { Some(first) } else { Some(second) } }
         _ => None,
     }
 }
