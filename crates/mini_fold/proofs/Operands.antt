@@ -22,7 +22,8 @@ use Rattle.mini_terms.specs.declared.kinds.Kind.TheVariants.{Boolean as IsBoolea
 use Rattle.mini_terms.specs.Folds.{is_effect_free, goes_on}
 use Rattle.mini_terms.specs.Kind.{kind}
 use Rattle.mini_terms.specs.Parts.{takes_numbers, suits, leaves_nothing, weighs}
-use Rattle.mini_terms.specs.Reading.{is_unguarded, is_plain_part, stands}
+use Rattle.mini_terms.specs.Reading.{is_unguarded, is_plain_part}
+use Rattle.mini_rows.specs.ChainLinks.{is_lone}
 use Rattle.mini_rows.specs.Choices.{loosely}
 use Rattle.mini_rows.specs.Operands.{beside, told_by, tail_text, is_bits, is_int32, is_shifted, keeps_bits, has_room, zero_told, Row14, Row7, Row4, Row27, Row27Asked, Row31, Row32, OperandRow}
 use Rattle.mini_rows.specs.Booleans.{digit, plus}
@@ -437,7 +438,7 @@ written_is_row s n w e = go (shape_of n) e
 operator_passes : (s : Seat) (n w : Tree) → Row16 n w ⊎ (Row17 n w ⊎ (Row56Left n w ⊎ (Row56Right n w ⊎ Row8 n w))) → is_some (written s n) ≡ true
 operator_passes s n w (inl r) = ap (λ t. is_some (written s t)) r.shape ∙ same_there r.operator r.name r.equality (operands_written s r.operator (binary r.operator (unary Typeof (identifier r.name)) (unary Typeof (identifier r.name))))
 operator_passes s n w (inr (inl r)) = ap (λ t. is_some (written s t)) r.shape ∙ never_there r.operator r.operand r.right r.equality r.known r.effect_free r.dropped (operands_written s r.operator (binary r.operator (unary Typeof r.operand) r.right))
-operator_passes s n w (inr (inr (inl r))) = ap (λ t. is_some (written s t)) r.shape ∙ left_there r.operator r.operand r.number r.numeric (operands_written s r.operator (binary r.operator (plus r.operand) (numeral r.number)))
+operator_passes s n w (inr (inr (inl r))) = ap (λ t. is_some (written s t)) r.shape ∙ left_there r.operator r.operand r.right r.number r.numeric r.known (operands_written s r.operator (binary r.operator (plus r.operand) r.right))
 operator_passes s n w (inr (inr (inr (inl r)))) = ap (λ t. is_some (written s t)) r.shape ∙ right_there r.operator r.left r.operand r.numeric r.known (operands_written s r.operator (binary r.operator r.left (plus r.operand)))
 operator_passes s n w (inr (inr (inr (inr r)))) = ap (λ t. is_some (written s t)) r.shape ∙ masks_there r.operator r.on_right r.operand r.first r.second r.joined r.bitwise r.known r.short (operands_written s r.operator (binary r.operator (with_number r.operator r.on_right r.operand r.first) (numeral r.second)))
 
@@ -450,7 +451,7 @@ passes s n w (inr (inr (inr (inr (inl r))))) = joined_passes s n w r
 passes s n w (inr (inr (inr (inr (inr (inl r)))))) = ap (λ t. is_some (written s t)) r.shape ∙ zero_passes_as s r.equal r.operand r.known
 passes s n w (inr (inr (inr (inr (inr (inr (inl r))))))) = ap (λ t. is_some (written s t)) r.shape ∙ kept_passes s r.operator r.on_right r.number r.known r.sided r.seated r.operand
 passes s n w (inr (inr (inr (inr (inr (inr (inr (inl r)))))))) = ap (λ t. is_some (written s t)) r.shape ∙ whole_passes s r.on_right r.operand r.known
-passes s n w (inr (inr (inr (inr (inr (inr (inr (inr (inl (inl r)))))))))) = ap (λ t. is_some (written s t)) r.shape ∙ there (stands r.operand) (deleted r.operand) r.value
+passes s n w (inr (inr (inr (inr (inr (inr (inr (inr (inl (inl r)))))))))) = ap (λ t. is_some (written s t)) r.shape ∙ there (is_lone r.operand) (deleted r.operand) r.value
 passes s n w (inr (inr (inr (inr (inr (inr (inr (inr (inl (inr r)))))))))) = operator_passes s n w r
 passes s n w (inr (inr (inr (inr (inr (inr (inr (inr (inr r))))))))) = ap (λ t. is_some (written s t)) r.shape ∙ shift_passes s r.operand r.known r.asked
 

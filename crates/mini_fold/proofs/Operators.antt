@@ -18,15 +18,15 @@ use Rattle.mini_node.proofs.Equality.{tree_same, tree_itself}
 use Rattle.mini_terms.specs.declared.kinds.Kind.{Kind}
 use Rattle.mini_terms.specs.declared.kinds.Kind.TheVariants.{Number as IsNumber}
 use Rattle.mini_laws.specs.Value.{Value, Number}
-use Rattle.mini_terms.specs.Calculated.{calculated_numbers}
+use Rattle.mini_terms.specs.Calculated.{calculated_numbers, operand_value}
 use Rattle.mini_terms.specs.Folds.{is_effect_free}
 use Rattle.mini_terms.specs.Kind.{is_number, kind}
 use Rattle.mini_terms.specs.Parts.{leaves_nothing}
-use Rattle.mini_terms.specs.Reading.{stands}
+use Rattle.mini_rows.specs.ChainLinks.{is_lone}
 use Rattle.mini_rows.specs.Booleans.{plus}
 use Rattle.mini_rows.specs.Operators.{deleted, says_equal, is_no_type, makes_numbers, is_bitwise, with_number, is_short, Row2, Row8, Row16, Row17, Row56Left, Row56Right, OperatorRow}
 use Rattle.mini_rows.specs.Spellings.{binary, negated_digit, numeral}
-use Rattle.mini_fold.specs.FoldOperators.{delete_written, is_typeof_by, is_typeof, are_types_same, is_never_type, told_by, told, is_plus_by, is_plus, drops_left, drops_right, holds_bitwise, number_of, shortened, masked, with_mask, masks_written, mask_written, without_plus, boolean_or, operator_written}
+use Rattle.mini_fold.specs.FoldOperators.{delete_written, is_typeof_by, is_typeof, are_types_same, is_never_type, told_by, told, is_plus_by, is_plus, is_number_value, drops_left, drops_right, holds_bitwise, number_of, shortened, masked, with_mask, masks_written, mask_written, without_plus, boolean_or, operator_written}
 
 both_true : (b c : Bool) → b ≡ true → c ≡ true → b && c ≡ true
 both_true true c e f = f
@@ -41,9 +41,9 @@ nothing e = cc e
 -- ---- 2
 
 pub delete_row : (n w : Tree) (o : Option UnaryOperator) → unary_operator n ≡ o → delete_written o (part n 0) ≡ Some w → Row2 n w
-delete_row n w (Some Delete) h e = go (stands (part n 0)) refl e
+delete_row n w (Some Delete) h e = go (is_lone (part n 0)) refl e
   where
-    go : (b : Bool) → stands (part n 0) ≡ b → (if b then Some (deleted (part n 0)) else None) ≡ Some w → Row2 n w
+    go : (b : Bool) → is_lone (part n 0) ≡ b → (if b then Some (deleted (part n 0)) else None) ≡ Some w → Row2 n w
     go true k f = record { operand = part n 0; value = k; shape = unary_is n Delete h; written = sym (some_is (deleted (part n 0)) w f) }
     go false k f = nothing f
 delete_row n w o h e = nothing e
@@ -106,20 +106,17 @@ number_kind : (k : Kind) → is_number k ≡ true → k ≡ IsNumber
 number_kind IsNumber e = refl
 number_kind k e = absurd (true≢false (sym e))
 
-number_there : (t : Tree) → is_some (number t) ≡ true → (m : ℤ) × (t ≡ numeral m)
-number_there t e = go (number t) refl e
-  where
-    go : (c : Option ℤ) → number t ≡ c → is_some c ≡ true → (m : ℤ) × (t ≡ numeral m)
-    go (Some m) h k = (m, number_is t m h)
-    go None h k = absurd (true≢false (sym k))
+number_there : (c : Option Value) → is_number_value c ≡ true → (m : ℤ) × (c ≡ Some (Number m))
+number_there (Some (Number m)) e = (m, refl)
+number_there c e = absurd (true≢false (sym e))
 
 module _ (s : Seat) (n : Tree) (o : BinaryOperator) (a b : Tree) (is : n ≡ binary o a b) where
   left_row : drops_left o a b ≡ true → Row56Left n (binary o (part a 0) b)
   left_row e =
-      let (first, rest) = and_parts (is_plus a) (makes_numbers o && is_some (number b)) e in
-      let (numeric, there) = and_parts (makes_numbers o) (is_some (number b)) rest in
-      let (m, last) = number_there b there in
-      record { operator = o; operand = part a 0; number = m; numeric = numeric; shape = is ∙ ap (λ t. binary o t b) (plus_is a first) ∙ ap (binary o (plus (part a 0))) last; written = ap (binary o (part a 0)) last }
+      let (first, rest) = and_parts (is_plus a) (makes_numbers o && is_number_value (operand_value b)) e in
+      let (numeric, there) = and_parts (makes_numbers o) (is_number_value (operand_value b)) rest in
+      let (m, known) = number_there (operand_value b) there in
+      record { operator = o; operand = part a 0; right = b; number = m; numeric = numeric; known = known; shape = is ∙ ap (λ t. binary o t b) (plus_is a first); written = refl }
 
   right_row : drops_right o a b ≡ true → Row56Right n (binary o a (part b 0))
   right_row e =
@@ -244,10 +241,10 @@ second_there : (x y : Bool) (t v : Tree) (u : Option Tree) → y ≡ true → is
 second_there true y t v u h = refl
 second_there false y t v u h = first_there y v u h
 
-pub left_there : (o : BinaryOperator) (a : Tree) (m : ℤ) → makes_numbers o ≡ true → (u : Option Tree) → is_some (operator_written o (binary o (plus a) (numeral m)) u) ≡ true
-left_there o a m h u =
-    let t : Tree = binary o (plus a) (numeral m) in
-    after_boolean (told o t) (without_plus o (plus a) (numeral m) (mask_written o (plus a) (numeral m) u)) (first_there (drops_left o (plus a) (numeral m)) (binary o a (numeral m)) _ (both_true (makes_numbers o) true h refl))
+pub left_there : (o : BinaryOperator) (a k : Tree) (m : ℤ) → makes_numbers o ≡ true → operand_value k ≡ Some (Number m) → (u : Option Tree) → is_some (operator_written o (binary o (plus a) k) u) ≡ true
+left_there o a k m h known u =
+    let t : Tree = binary o (plus a) k in
+    after_boolean (told o t) (without_plus o (plus a) k (mask_written o (plus a) k u)) (first_there (drops_left o (plus a) k) (binary o a k) _ (both_true (makes_numbers o) (is_number_value (operand_value k)) h (ap is_number_value known)))
 
 pub right_there : (o : BinaryOperator) (a b : Tree) → makes_numbers o ≡ true → kind a ≡ IsNumber → (u : Option Tree) → is_some (operator_written o (binary o a (plus b)) u) ≡ true
 right_there o a b h k u =

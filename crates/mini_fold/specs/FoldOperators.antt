@@ -10,18 +10,18 @@ use Rattle.mini_node.specs.Children.{part}
 use Rattle.mini_node.specs.Equal.{same_tree}
 use Rattle.mini_node.specs.Kinds.{unary_operator, binary_operator, is_identifier, number}
 use Rattle.mini_laws.specs.Value.{Value, Number}
-use Rattle.mini_terms.specs.Calculated.{calculated_numbers}
+use Rattle.mini_terms.specs.Calculated.{calculated_numbers, operand_value}
 use Rattle.mini_terms.specs.Folds.{is_effect_free}
 use Rattle.mini_terms.specs.Kind.{is_number, kind}
 use Rattle.mini_terms.specs.Parts.{leaves_nothing}
-use Rattle.mini_terms.specs.Reading.{stands}
+use Rattle.mini_rows.specs.ChainLinks.{is_lone}
 use Rattle.mini_rows.specs.Operators.{deleted, says_equal, is_no_type, makes_numbers, is_short}
 use Rattle.mini_rows.specs.Spellings.{binary, negated_digit, numeral}
 
 -- ---- 2
 
 abbrev pub delete_written : Option UnaryOperator → Tree → Option Tree
-delete_written (Some Delete) a = if stands a then Some (deleted a) else None
+delete_written (Some Delete) a = if is_lone a then Some (deleted a) else None
 delete_written o a = None
 
 -- ---- 16 and 17
@@ -59,9 +59,13 @@ is_plus_by o = false
 abbrev pub is_plus : Tree → Bool
 is_plus t = is_plus_by (unary_operator t)
 
--- the plus on the left goes, beside a number
+abbrev pub is_number_value : Option Value → Bool
+is_number_value (Some (Number n)) = true
+is_number_value c = false
+
+-- the plus on the left goes, beside what does nothing but give a number
 abbrev pub drops_left : BinaryOperator → Tree → Tree → Bool
-drops_left o a b = is_plus a && (makes_numbers o && is_some (number b))
+drops_left o a b = is_plus a && (makes_numbers o && is_number_value (operand_value b))
 
 -- and the one on the right, where the left side is a number
 abbrev pub drops_right : BinaryOperator → Tree → Tree → Bool

@@ -142,6 +142,7 @@ mod ConstantUse
 pub mod SingleFits
 pub mod DeclaredKept
 pub mod Surrogates
+pub mod LoneReads
 pub mod ConstantRuns
 pub mod ConstantMeaning
 pub mod ConstantWeights

@@ -1,13 +1,18 @@
 -- What is told of an operand by its operator or its literal.
-use Rattle.std.proofs.Common.{◌≡◌, Bool, false, ℕ, ℤ, true, List, Option, Some, None, refl, sym, ap, ◌∙◌, true≢false}
-use Rattle.std.specs.Prelude.{codes}
+use Rattle.std.proofs.Common.{◌≡◌, Bool, false, ℕ, ℤ, zero, true, List, [], ◌∷◌, Option, Some, None, refl, sym, ap, ◌∙◌, true≢false}
+use Rattle.std.specs.Prelude.{codes, is_none}
 use Rattle.std.specs.Fmt.{signed_decimal}
-use Rattle.std.proofs.lemmas.Bool.{and_parts}
+use Rattle.std.proofs.lemmas.Bool.{and_parts, false≢true}
+use Rattle.mini_model.specs.declared.name.Name.{Name}
+use Rattle.mini_model.specs.declared.name.SymbolId.{SymbolId}
 use Rattle.mini_model.specs.declared.operator.BinaryOperator.{BinaryOperator}
 use Rattle.mini_model.specs.declared.operator.BinaryOperator.TheVariants as binary_operator
 use Rattle.mini_model.specs.declared.operator.UnaryOperator.{UnaryOperator}
 use Rattle.mini_model.specs.declared.operator.UnaryOperator.TheVariants as unary_operator
-use Rattle.mini_model.specs.Tree.{Tree, unary, null_literal}
+use Rattle.mini_model.specs.declared.shape.Shape.TheVariants as shape
+use Rattle.mini_model.specs.Tree.{Tree, node, none, unary, identifier, unresolved, null_literal}
+use Rattle.mini_model.specs.Weight.{same_text}
+use Rattle.mini_kept.proofs.SameScopes.{same_texts}
 use Rattle.mini_node.specs.Children.{part}
 use Rattle.mini_node.specs.Kinds.{unary_operator as its_unary_operator, binary_operator as its_binary_operator, number, string, is_null}
 use Rattle.mini_node.specs.Made.{unary_is, binary_is, number_is, string_is, null_is}
@@ -15,24 +20,45 @@ use Rattle.mini_terms.specs.declared.kinds.Kind.{Kind}
 use Rattle.mini_terms.specs.declared.kinds.Kind.TheVariants.{Number as IsNumber}
 use Rattle.mini_terms.specs.Kind.{is_number, kind}
 use Rattle.mini_terms.specs.Reading.{is_plain_part}
-use Rattle.mini_rows.specs.Operands.{tail_by, tail_text, makes_bits, is_bits, makes_int32, is_int32, makes_shift, is_shifted}
+use Rattle.mini_rows.specs.Operands.{is_undefined_name, is_undefined, word_by, word, tail_by, tail_text, makes_bits, is_bits, makes_int32, is_int32, makes_shift, is_shifted}
 use Rattle.mini_rows.specs.Spellings.{binary, numeral, text}
 
--- a text, a number or `null`
+-- a text, a number, `null` or `undefined`
 
 pub data Tail (k : Tree) (t : List ℕ) : Type 0 where
   of_text : k ≡ text t → Tail k t
   of_number : (n : ℤ) → k ≡ numeral n → signed_decimal n ≡ t → Tail k t
   of_null : k ≡ null_literal → codes "null" ≡ t → Tail k t
+  of_undefined : k ≡ identifier (unresolved (codes "undefined")) → codes "undefined" ≡ t → Tail k t
+
+abbrev named : List ℕ → Option SymbolId → Name
+named s o = record { spelling = s; symbol = o }
+
+no_symbol : (o : Option SymbolId) → is_none o ≡ true → o ≡ None
+no_symbol None e = refl
+no_symbol (Some i) e = absurd (cc e)
+
+name_is : (x : Name) → is_undefined_name (x ∷ []) ≡ true → x ≡ unresolved (codes "undefined")
+name_is x e =
+    let (free, spelled) = and_parts (is_none x.symbol) (same_text x.spelling (codes "undefined")) e in
+    ap (λ s. named s x.symbol) (same_texts x.spelling (codes "undefined") spelled) ∙ ap (named (codes "undefined")) (no_symbol x.symbol free)
+
+undefined_is : (t : Tree) → is_undefined t ≡ true → t ≡ identifier (unresolved (codes "undefined"))
+undefined_is (node shape.Identifier (x ∷ []) zero none) e = ap identifier (name_is x e)
+undefined_is t e = absurd (false≢true e)
 
 pub tail_form : (k : Tree) (t : List ℕ) → tail_text k ≡ Some t → Tail k t
-tail_form k t e = go (string k) (number k) (is_null k) refl refl refl e
+tail_form k t e = go (string k) (number k) refl refl e
   where
-    go : (c : Option (List ℕ)) (d : Option ℤ) (b : Bool) → string k ≡ c → number k ≡ d → is_null k ≡ b → tail_by c d b ≡ Some t → Tail k t
-    go (Some r) d b h g j e = let same : r ≡ t = cc e in of_text (string_is k r h ∙ ap text same)
-    go None (Some n) b h g j e = let same : signed_decimal n ≡ t = cc e in of_number n (number_is k n g) same
-    go None None true h g j e = let same : codes "null" ≡ t = cc e in of_null (null_is k j) same
-    go None None false h g j e = cc e
+    of_word : (b c : Bool) → is_null k ≡ b → is_undefined k ≡ c → word_by b c ≡ Some t → Tail k t
+    of_word true c h g e = let same : codes "null" ≡ t = cc e in of_null (null_is k h) same
+    of_word false true h g e = let same : codes "undefined" ≡ t = cc e in of_undefined (undefined_is k g) same
+    of_word false false h g e = cc e
+
+    go : (c : Option (List ℕ)) (d : Option ℤ) → string k ≡ c → number k ≡ d → tail_by c d (word k) ≡ Some t → Tail k t
+    go (Some r) d h g e = let same : r ≡ t = cc e in of_text (string_is k r h ∙ ap text same)
+    go None (Some n) h g e = let same : signed_decimal n ≡ t = cc e in of_number n (number_is k n g) same
+    go None None h g e = of_word (is_null k) (is_undefined k) refl refl e
 
 -- shifts
 

@@ -9,7 +9,7 @@ use Rattle.mini_model.specs.declared.place.Position.{Position}
 use Rattle.mini_model.specs.declared.place.Position.TheVariants.{Expr}
 use Rattle.mini_model.specs.declared.seat.Seat.{Seat}
 use Rattle.mini_model.specs.declared.shape.Shape.TheVariants as shape
-use Rattle.mini_model.specs.Tree.{Tree, none, ◌▸◌, unary, logical, negation}
+use Rattle.mini_model.specs.Tree.{Tree, none, ◌▸◌, unary, logical, negation, identifier, unresolved}
 use Rattle.mini_node.specs.Children.{part as its_part}
 use Rattle.mini_accept.specs.WellShaped.{Slot, is_paired, fits}
 use Rattle.mini_kept.specs.KeepsNames.{is_rewritten_place}
@@ -31,7 +31,7 @@ use Rattle.mini_rows.proofs.ArrangedLawful.{kept_is_lawful}
 use Rattle.mini_rows.proofs.ConstantLawful.{plain_fields, binary_at}
 use Rattle.mini_rows.proofs.FoldLawful.{vanishes, first_dropped, operands, expression_slot, no_number}
 use Rattle.mini_rows.proofs.FoldWeights.{not_a_number}
-use Rattle.mini_rows.proofs.OperandForms.{Shifted, shifts, shifted_form, Tail, of_text, of_number, of_null, tail_form, Int32, inverts, operates, int32_form}
+use Rattle.mini_rows.proofs.OperandForms.{Shifted, shifts, shifted_form, Tail, of_text, of_number, of_null, of_undefined, tail_form, Int32, inverts, operates, int32_form}
 use Rattle.mini_rows.proofs.OperandMeaning.{operands_same}
 use Rattle.mini_rows.proofs.OperatorLawful.{operator_kept, operator_stood, operator_asked}
 use Rattle.mini_rows.proofs.Surrogates.{is_paired_joined, numeral_paired}
@@ -39,6 +39,10 @@ use Rattle.mini_rows.proofs.Surrogates.{is_paired_joined, numeral_paired}
 null_paired : is_paired (codes "null") ≡ true
 unfolding utf16_chars
 null_paired = refl
+
+undefined_paired : is_paired (codes "undefined") ≡ true
+unfolding utf16_chars
+undefined_paired = refl
 
 -- ---- the same parts
 
@@ -81,10 +85,16 @@ counted_kept o true false a q n w e f = expressions_arranged (record { trees = a
 counted_kept o false true a q n w e f = expressions_arranged (record { trees = a ▸ none; lists = [] }) (of_two o false (a_boolean true)) (of_two o false (a_digit true)) refl q n w e f
 counted_kept o false false a q n w e f = expressions_arranged (record { trees = a ▸ none; lists = [] }) (of_two o false (a_boolean false)) (of_two o false (a_digit false)) refl q n w e f
 
+abbrev undefined_name : Tree
+undefined_name = identifier (unresolved (codes "undefined"))
+
 joined_kept : (a : Tree) (s : List ℕ) (k : Tree) (t : List ℕ) → Tail k t → (q : Seat) (n w : Tree) → n ≡ binary Addition (binary Addition a (text s)) k → w ≡ binary Addition a (text (s ++ t)) → KeptAt (Expr q) n w
 joined_kept a s k t (of_text is) q n w e f = expressions_arranged (record { trees = a ▸ none; lists = [] }) (under (Binary Addition) (under (Binary Addition) (part 0 ▹ under (String s) end ▹ end) ▹ under (String t) end ▹ end)) (under (Binary Addition) (part 0 ▹ under (String (s ++ t)) end ▹ end)) refl q n w (e ∙ ap (binary Addition (binary Addition a (text s))) is) f
 joined_kept a s k t (of_number m is same) q n w e f = expressions_arranged (record { trees = a ▸ none; lists = [] }) (under (Binary Addition) (under (Binary Addition) (part 0 ▹ under (String s) end ▹ end) ▹ under (Number m) end ▹ end)) (under (Binary Addition) (part 0 ▹ under (String (s ++ t)) end ▹ end)) refl q n w (e ∙ ap (binary Addition (binary Addition a (text s))) is) f
 joined_kept a s k t (of_null is same) q n w e f = expressions_arranged (record { trees = a ▸ none; lists = [] }) (under (Binary Addition) (under (Binary Addition) (part 0 ▹ under (String s) end ▹ end) ▹ under Null end ▹ end)) (under (Binary Addition) (part 0 ▹ under (String (s ++ t)) end ▹ end)) refl q n w (e ∙ ap (binary Addition (binary Addition a (text s))) is) f
+
+joined_kept a s k t (of_undefined is same) q n w e f =
+    expressions_arranged_freely first_dropped (record { trees = undefined_name ▸ a ▸ none; lists = [] }) (tt, tt, (vanishes undefined_name refl, tt)) (under (Binary Addition) (under (Binary Addition) (part 1 ▹ under (String s) end ▹ end) ▹ part 0 ▹ end)) (under (Binary Addition) (part 1 ▹ under (String (s ++ t)) end ▹ end)) refl q n w (e ∙ ap (binary Addition (binary Addition a (text s))) is) f
 
 zero_kept : (equal : Bool) (a : Tree) (q : Seat) (n w : Tree) → n ≡ binary (loosely equal) a (digit false) → w ≡ zero_told equal a → KeptAt (Expr q) n w
 zero_kept true a q n w e f = expressions_arranged (record { trees = a ▸ none; lists = [] }) (of_two (loosely true) true (a_digit false)) (under (Unary LogicalNot) (part 0 ▹ end)) refl q n w e f
@@ -139,6 +149,7 @@ module _ (strict : Bool) (s : Slot) where
   tail_paired k t (of_text is) e = text_paired t (subst Fits is e)
   tail_paired k t (of_number m is same) e = subst (λ r. is_paired r ≡ true) same (numeral_paired m)
   tail_paired k t (of_null is same) e = subst (λ r. is_paired r ≡ true) same null_paired
+  tail_paired k t (of_undefined is same) e = subst (λ r. is_paired r ≡ true) same undefined_paired
 
   zero_fits : (equal : Bool) (a : Tree) → Fits a → Fits (zero_told equal a)
   zero_fits true a e = told_fits false a e

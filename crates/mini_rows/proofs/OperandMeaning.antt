@@ -10,7 +10,7 @@ use Rattle.mini_model.specs.declared.place.Position.{Position}
 use Rattle.mini_model.specs.declared.place.Position.TheVariants.{Expr}
 use Rattle.mini_model.specs.declared.seat.Seat.{Seat}
 use Rattle.mini_model.specs.declared.shape.Shape.TheVariants as shape
-use Rattle.mini_model.specs.Tree.{Tree, none, ◌▸◌, unary, logical, negation, null_literal}
+use Rattle.mini_model.specs.Tree.{Tree, none, ◌▸◌, unary, logical, negation, null_literal, identifier, unresolved}
 use Rattle.mini_model.specs.Position.{right_operand_seat, child_position}
 use Rattle.mini_node.specs.Children.{part}
 use Rattle.mini_model.specs.Rewriting.{Step, here, inside, first, later}
@@ -47,7 +47,7 @@ use Rattle.mini_rows.specs.Operands.{beside, told_by, is_bits, keeps_bits, zero_
 use Rattle.mini_rows.specs.Spellings.{binary, negated_digit, numeral, text}
 use Rattle.mini_rows.proofs.BooleanMeaning.{then_same, asked_truth}
 use Rattle.mini_rows.proofs.ChoiceMeaning.{rotated_same}
-use Rattle.mini_rows.proofs.ChoiceRuns.{value, null_value, binary_value, binary_names, sides, raise_free, primitive_free, bind_free, numeric_free, made_free}
+use Rattle.mini_rows.proofs.ChoiceRuns.{value, null_value, undefined_value, binary_value, binary_names, sides, raise_free, primitive_free, bind_free, numeric_free, made_free}
 use Rattle.mini_rows.proofs.BitNumbers.{whole, IsWhole, keeps_is, signed_whole, operated_whole}
 use Rattle.mini_rows.proofs.ConversionRuns.{after_boolean}
 use Rattle.mini_rows.proofs.FoldMeaning.{plain_of, value_of, plain_read, passed_same, passed_read}
@@ -332,6 +332,10 @@ tail_value a s k t (form.of_number m is same) e z =
 tail_value a s k t (form.of_null is same) e z =
     ap (λ x. value e (binary Addition (sum_of a s) x) z) is
     ∙ joined_value e a s (codes "null") null_literal Null (null_value e) (λ r y. refl) z
+    ∙ ap (λ r. value e (sum_of a (s ++ r)) z) same
+tail_value a s k t (form.of_undefined is same) e z =
+    ap (λ x. value e (binary Addition (sum_of a s) x) z) is
+    ∙ joined_value e a s (codes "undefined") (identifier (unresolved (codes "undefined"))) Undefined (undefined_value e (identifier (unresolved (codes "undefined"))) (inl refl)) (λ r y. refl) z
     ∙ ap (λ r. value e (sum_of a (s ++ r)) z) same
 
 joined_alike : (a : Tree) (s : List ℕ) (k : Tree) (t : List ℕ) → Tail k t → SameTree (binary Addition (sum_of a s) k) (sum_of a (s ++ t))

@@ -33,7 +33,7 @@ use Rattle.mini_rows.specs.Spellings.{binary, negated_digit, numeral, text}
 use Rattle.mini_rows.proofs.BooleanWeights.{digit_falls}
 use Rattle.mini_rows.proofs.FoldMeaning.{plain_of}
 use Rattle.mini_rows.proofs.FoldWeights.{two, moved, there, no_choice}
-use Rattle.mini_rows.proofs.OperandForms.{Shifted, shifts, shifted_form, shifted_plain, Tail, of_text, of_number, of_null, tail_form, Bits, inverted, masked, differing, joined, bits_form, bits_plain, Int32, inverts, operates, int32_form, int32_plain}
+use Rattle.mini_rows.proofs.OperandForms.{Shifted, shifts, shifted_form, shifted_plain, Tail, of_text, of_number, of_null, of_undefined, tail_form, Bits, inverted, masked, differing, joined, bits_form, bits_plain, Int32, inverts, operates, int32_form, int32_plain}
 use Rattle.mini_rows.proofs.BitNumbers.{same_is}
 use Rattle.mini_rows.proofs.OperatorWeights.{zero_mark, pair_at_most, pairs, rest_of, operator_lighter, operator_outline}
 use Rattle.mini_rows.proofs.SpellWeights.{falls_by, inside, mark_at_most}
@@ -99,11 +99,12 @@ counted_falls true c false s a = omega (arith, digit_falls (binary_operand_seat 
 counted_falls false c true s a = omega (arith, digit_falls (binary_operand_seat Inequality 1) c)
 counted_falls false c false s a = omega (arith, digit_falls (binary_operand_seat Inequality 0) c)
 
--- 4: an operator goes, and the quotes of a text, if it is one; `null` weighs as much as its text
+-- 4: an operator goes, and the quotes of a text, if it is one; `null` and `undefined` weigh as much as their texts
 
 joined_falls : (seat : Seat) (a : Tree) (s : List ℕ) (k : Tree) (t : List ℕ) → Tail k t → weight (Expr seat) (binary Addition a (text (s ++ t))) < weight (Expr seat) (binary Addition (binary Addition a (text s)) k)
 joined_falls seat a s k t (of_text is) = subst (λ x. weight (Expr seat) (binary Addition a (text (s ++ t))) < weight (Expr seat) (binary Addition (binary Addition a (text s)) x)) (sym is) (omega (arith, length-append s t))
 joined_falls seat a s k t (of_number m is same) = subst (λ x. weight (Expr seat) (binary Addition a (text (s ++ t))) < weight (Expr seat) (binary Addition (binary Addition a (text s)) x)) (sym is) (omega (arith, length-append s t, ap length same))
+joined_falls seat a s k t (of_undefined is same) = subst (λ x. weight (Expr seat) (binary Addition a (text (s ++ t))) < weight (Expr seat) (binary Addition (binary Addition a (text s)) x)) (sym is) (omega (arith, length-append s t, ap length same))
 joined_falls seat a s k t (of_null is same) = subst (λ x. weight (Expr seat) (binary Addition a (text (s ++ t))) < weight (Expr seat) (binary Addition (binary Addition a (text s)) x)) (sym is) (omega (arith, length-append s t, ap length same))
 
 -- 27: what is looked at has parentheses on the left of an equality where it has them under a `!`

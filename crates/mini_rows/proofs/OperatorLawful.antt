@@ -66,7 +66,7 @@ pub operator_kept : (q : Seat) (n w : Tree) → OperatorRow q n w → KeptAt (Ex
 operator_kept q n w (inl r) = deleted_kept r.operand q n w r.shape r.written
 operator_kept q n w (inr (inl r)) = types_kept r.operator r.name q n w r.shape r.written
 operator_kept q n w (inr (inr (inl r))) = type_kept q n w r
-operator_kept q n w (inr (inr (inr (inl r)))) = expressions_arranged (record { trees = r.operand ▸ none; lists = [] }) (under (Binary r.operator) (under (Unary UnaryPlus) (part 0 ▹ end) ▹ under (NumberHead r.number) end ▹ end)) (under (Binary r.operator) (part 0 ▹ under (NumberHead r.number) end ▹ end)) refl q n w r.shape r.written
+operator_kept q n w (inr (inr (inr (inl r)))) = expressions_arranged (record { trees = r.operand ▸ r.right ▸ none; lists = [] }) (under (Binary r.operator) (under (Unary UnaryPlus) (part 0 ▹ end) ▹ part 1 ▹ end)) (under (Binary r.operator) (part 0 ▹ part 1 ▹ end)) refl q n w r.shape r.written
 operator_kept q n w (inr (inr (inr (inr (inr r))))) = masked_kept r.operator r.on_right r.operand r.first r.second r.joined q n w r.shape r.written
 operator_kept q n w (inr (inr (inr (inr (inl r))))) = expressions_arranged (record { trees = r.left ▸ r.operand ▸ none; lists = [] }) (under (Binary r.operator) (part 0 ▹ under (Unary UnaryPlus) (part 1 ▹ end) ▹ end)) (under (Binary r.operator) (part 0 ▹ part 1 ▹ end)) refl q n w r.shape r.written
 
@@ -107,8 +107,8 @@ module _ (strict : Bool) (s : Slot) where
       let (takes, both) = binary_at strict r.operator (unary Typeof r.operand) r.right s (subst (λ t. fits strict s t ≡ true) r.shape e) in
       (takes, subst Fits (sym r.written) (boolean_fits (not (says_equal r.operator))))
   operator_stood q n w (inr (inr (inr (inl r)))) e =
-      let (takes, (first, second)) = binary_at strict r.operator (plus r.operand) (numeral r.number) s (subst (λ t. fits strict s t ≡ true) r.shape e) in
-      (takes, subst Fits (sym r.written) (two_fit strict r.operand (numeral r.number) (of_plus r.operand first) second))
+      let (takes, (first, second)) = binary_at strict r.operator (plus r.operand) r.right s (subst (λ t. fits strict s t ≡ true) r.shape e) in
+      (takes, subst Fits (sym r.written) (two_fit strict r.operand r.right (of_plus r.operand first) second))
   operator_stood q n w (inr (inr (inr (inr (inr r))))) e =
       let (takes, (first, second)) = binary_at strict r.operator (with_number r.operator r.on_right r.operand r.first) (numeral r.second) s (subst (λ t. fits strict s t ≡ true) r.shape e) in
       (takes, subst Fits (sym r.written) (two_fit strict r.operand (numeral r.joined) (of_number r.operator r.on_right r.operand r.first first) (lit_fits strict (Number r.joined) (numeral r.joined) refl (numbers_written r.operator r.first r.second (Number r.joined) r.known))))
@@ -174,6 +174,6 @@ pub operator_asked : (q : Seat) (n w : Tree) → OperatorRow q n w → AskedAlik
 operator_asked q n w (inl r) = asked_by q n w _ _ r.shape r.written (deleted_asked q r.operand r.operand)
 operator_asked q n w (inr (inl r)) = asked_by q n w _ _ r.shape r.written (told_asked q r.operator (unary Typeof (identifier r.name)) (unary Typeof (identifier r.name)) (says_equal r.operator))
 operator_asked q n w (inr (inr (inl r))) = asked_by q n w _ _ r.shape r.written (told_asked q r.operator (unary Typeof r.operand) r.right (not (says_equal r.operator)))
-operator_asked q n w (inr (inr (inr (inl r)))) = asked_by q n w _ _ r.shape r.written (binary_asked q r.operator (plus r.operand) (numeral r.number) r.operand (numeral r.number))
+operator_asked q n w (inr (inr (inr (inl r)))) = asked_by q n w _ _ r.shape r.written (binary_asked q r.operator (plus r.operand) r.right r.operand r.right)
 operator_asked q n w (inr (inr (inr (inr (inr r))))) = asked_by q n w _ _ r.shape r.written (binary_asked q r.operator (with_number r.operator r.on_right r.operand r.first) (numeral r.second) r.operand (numeral r.joined))
 operator_asked q n w (inr (inr (inr (inr (inl r))))) = asked_by q n w _ _ r.shape r.written (binary_asked q r.operator r.left (plus r.operand) r.left r.operand)

@@ -33,7 +33,10 @@ use Rattle.mini_laws.proofs.Truth.{coherent}
 use Rattle.mini_kept.proofs.SameScopes.{same_texts, text_itself}
 use Rattle.mini_terms.specs.declared.kinds.Kind.{Kind}
 use Rattle.mini_terms.specs.declared.kinds.Kind.TheVariants.{Undefined as IsUndefined, Null as IsNull, Boolean as IsBoolean, Number as IsNumber, BigInt as IsBigInt}
-use Rattle.mini_terms.specs.Calculated.{calculated_numbers}
+use Rattle.mini_terms.specs.Calculated.{calculated_numbers, operand_value}
+use Rattle.mini_rows.specs.ChainLinks.{is_lone}
+use Rattle.mini_rows.proofs.ConstantRuns.{operand_done}
+use Rattle.mini_rows.proofs.LoneReads.{deleted_alone}
 use Rattle.mini_terms.specs.Folds.{is_effect_free}
 use Rattle.mini_terms.specs.Kind.{kind, OfKind}
 use Rattle.mini_terms.specs.Parts.{leaves_nothing}
@@ -116,13 +119,13 @@ after_deleted e a (stop y z) = refl
 after_deleted e a (halt y z) = refl
 after_deleted e a out = refl
 
-delete_value : (a : Tree) → stands a ≡ true → (e : Environment) (s : State) → value e (unary Delete a) s ≡ after (value e a s) (λ v z. ok (Boolean true) z)
-delete_value a h e s = delete_opened e a s ∙ ap (λ y. either y (λ r z. delete_then e a r z) (λ y z. stop y z)) (read_by_value a h e Deleted tt s) ∙ after_deleted e a (value e a s)
+delete_value : (a : Tree) → is_lone a ≡ true → (e : Environment) (s : State) → value e (unary Delete a) s ≡ after (value e a s) (λ v z. ok (Boolean true) z)
+delete_value a h e s = delete_opened e a s ∙ ap (λ y. either y (λ r z. delete_then e a r z) (λ y z. stop y z)) (deleted_alone e a h s) ∙ after_deleted e a (value e a s)
 
 pair_true : (a : Tree) (e : Environment) (s : State) → value e (pair a (negated_digit true)) s ≡ after (value e a s) (λ v z. ok (Boolean true) z)
 pair_true a e s = pair_value e a (negated_digit true) s ∙ either_cong (value e a s) _ _ _ _ (λ v z. boolean_value true e z) (λ x z. refl)
 
-delete_pair : (a : Tree) → stands a ≡ true → SameTree (unary Delete a) (pair a (negated_digit true))
+delete_pair : (a : Tree) → is_lone a ≡ true → SameTree (unary Delete a) (pair a (negated_digit true))
 delete_pair a h = same_value _ _ refl refl refl (λ e s. delete_value a h e s ∙ sym (pair_true a e s))
 
 quiet_after : (s : State) (c : Value) (x : Completion Value) → Quiet s x → Quiet s (after x (λ v z. ok c z))
@@ -139,14 +142,14 @@ gives_after c (stop y z) = tt
 gives_after c (halt y z) = tt
 gives_after c out = tt
 
-delete_known : (a : Tree) → stands a ≡ true → is_effect_free a ≡ true → SameWanted (unary Delete a) (negated_digit true)
+delete_known : (a : Tree) → is_lone a ≡ true → is_effect_free a ≡ true → SameWanted (unary Delete a) (negated_digit true)
 delete_known a h free =
     known_same (unary Delete a) (negated_digit true) (Boolean true)
     (λ e s. subst (Quiet s) (sym (delete_value a h e s)) (quiet_after s (Boolean true) (value e a s) (quiet a free e s)))
     (λ e s. subst (Gives (λ u. u ≡ Boolean true)) (sym (delete_value a h e s)) (gives_after (Boolean true) (value e a s)))
     (boolean_value true)
 
-delete_same : (s : Seat) (a : Tree) → stands a ≡ true → SameAt (Expr s) (unary Delete a) (deleted a)
+delete_same : (s : Seat) (a : Tree) → is_lone a ≡ true → SameAt (Expr s) (unary Delete a) (deleted a)
 delete_same s a h = go (is_effect_free a && leaves_nothing a) refl
   where
     go : (b : Bool) → is_effect_free a && leaves_nothing a ≡ b → SameAt (Expr s) (unary Delete a) (if b then negated_digit true else pair a (negated_digit true))
@@ -439,18 +442,22 @@ module _ (e : Environment) (o : BinaryOperator) (h : makes_numbers o ≡ true) w
       ap (λ k. run {q = λ i. As Val} e (binary_names o a b) (sides e a b) k z) (operates o h (Number x) (Number y))
       ∙ made_free e (binary_names o a b) (binary_names o c d) (λ i. As Val) (λ i. As Val) (sides e a b) (sides e c d) (of_numbers o x y) z
 
-  -- of a value and a literal
-  literal_last : (a : Tree) (m : ℤ) (s : State) → value e (binary o a (numeral m)) s ≡ either (value e a s) (λ v z. ends_with e o a (numeral m) v (Number m) z) (λ x z. stop x z)
-  literal_last a m s =
-      binary_value e o a (numeral m) s
-      ∙ either_cong (value e a s) _ _ _ _ (λ v z. ap (λ c. either c (λ w y. ends_with e o a (numeral m) v w y) (λ x y. stop x y)) (number_value m e z) ∙ either_ok (Number m) z _ _) (λ x z. refl)
+  -- of a value and what does nothing but give a number
+  module _ (k : Tree) (m : ℤ) (known : (z : State) → value e k z ≡ ok (Number m) z) where
+    number_last : (a : Tree) (s : State) → value e (binary o a k) s ≡ either (value e a s) (λ v z. ends_with e o a k v (Number m) z) (λ x z. stop x z)
+    number_last a s =
+        binary_value e o a k s
+        ∙ either_cong (value e a s) _ _ _ _ (λ v z. ap (λ c. either c (λ w y. ends_with e o a k v w y) (λ x y. stop x y)) (known z) ∙ either_ok (Number m) z _ _) (λ x z. refl)
 
-  left_value : (a : Tree) (m : ℤ) (s : State) → value e (binary o (plus a) (numeral m)) s ≡ value e (binary o a (numeral m)) s
-  left_value a m s =
-      literal_last (plus a) m s
-      ∙ plus_once e a (binary_names o a (numeral m)) (sides e a (numeral m)) (λ x. of_numbers o x m) (λ v y. ends_with e o (plus a) (numeral m) v (Number m) y) (λ x y. of_two (plus a) (numeral m) a (numeral m) x m y) s
-      ∙ either_cong (value e a s) _ _ _ _ (λ v z. ap (λ k. run {q = λ i. As Val} e (binary_names o a (numeral m)) (sides e a (numeral m)) k z) (sym (operates o h v (Number m)))) (λ x z. refl)
-      ∙ sym (literal_last a m s)
+    left_value : (a : Tree) (s : State) → value e (binary o (plus a) k) s ≡ value e (binary o a k) s
+    left_value a s =
+        number_last (plus a) s
+        ∙ plus_once e a (binary_names o a k) (sides e a k) (λ x. of_numbers o x m) (λ v y. ends_with e o (plus a) k v (Number m) y) (λ x y. of_two (plus a) k a k x m y) s
+        ∙ either_cong (value e a s) _ _ _ _ (λ v z. ap (λ c. run {q = λ i. As Val} e (binary_names o a k) (sides e a k) c z) (sym (operates o h v (Number m)))) (λ x z. refl)
+        ∙ sym (number_last a s)
+
+  literal_last : (a : Tree) (m : ℤ) (s : State) → value e (binary o a (numeral m)) s ≡ either (value e a s) (λ v z. ends_with e o a (numeral m) v (Number m) z) (λ x z. stop x z)
+  literal_last a m s = number_last (numeral m) m (number_value m e) a s
 
   -- after a number the right side is made one
   after_number : (a b : Tree) (v : Value) → OfKind IsNumber v → (z : State) → either (value e (plus b) z) (λ u y. ends_with e o a (plus b) v u y) (λ x y. stop x y) ≡ either (value e b z) (λ u y. ends_with e o a b v u y) (λ x y. stop x y)
@@ -465,8 +472,8 @@ module _ (e : Environment) (o : BinaryOperator) (h : makes_numbers o ≡ true) w
       ∙ after_cong (OfKind IsNumber) (value e a s) _ (λ v z. either (value e b z) (λ u y. ends_with e o a b v u y) (λ x y. stop x y)) (subst (λ j. Gives (OfKind j) (value e a s)) k (kind_sound a e s)) (λ v p z. after_number a b v p z)
       ∙ sym (binary_value e o a b s)
 
-left_alike : (o : BinaryOperator) → makes_numbers o ≡ true → (a : Tree) (m : ℤ) → SameTree (binary o (plus a) (numeral m)) (binary o a (numeral m))
-left_alike o h a m = same_value _ _ refl refl refl (λ e s. left_value e o h a m s)
+left_alike : (o : BinaryOperator) → makes_numbers o ≡ true → (a k : Tree) (m : ℤ) → operand_value k ≡ Some (Number m) → SameTree (binary o (plus a) k) (binary o a k)
+left_alike o h a k m known = same_value _ _ refl refl refl (λ e s. left_value e o h k m (λ z. operand_done e k (Number m) known z) a s)
 
 right_alike : (o : BinaryOperator) → makes_numbers o ≡ true → (a b : Tree) → kind a ≡ IsNumber → SameTree (binary o a (plus b)) (binary o a b)
 right_alike o h a b k = same_value _ _ refl refl refl (λ e s. right_value e o h a b k s)
@@ -557,7 +564,7 @@ pub operator_same : (s : Seat) (n w : Tree) → OperatorRow s n w → SameAt (Ex
 operator_same s n w (inl r) = same_by_parts s n w _ _ r.shape r.written (delete_same s r.operand r.value)
 operator_same s n w (inr (inl r)) = same_by_parts s n w _ _ r.shape r.written (boolean_same s _ (says_equal r.operator) refl (types_same r.operator r.equality r.name))
 operator_same s n w (inr (inr (inl r))) = same_by_parts s n w _ _ r.shape r.written (boolean_same s _ (not (says_equal r.operator)) refl (type_differs r.operator r.equality r.operand r.right r.known r.effect_free))
-operator_same s n w (inr (inr (inr (inl r)))) = tree_same s n w (same_by n w _ _ r.shape r.written (left_alike r.operator r.numeric r.operand r.number))
+operator_same s n w (inr (inr (inr (inl r)))) = tree_same s n w (same_by n w _ _ r.shape r.written (left_alike r.operator r.numeric r.operand r.right r.number r.known))
 operator_same s n w (inr (inr (inr (inr (inl r))))) = tree_same s n w (same_by n w _ _ r.shape r.written (right_alike r.operator r.numeric r.left r.operand r.known))
 operator_same s n w (inr (inr (inr (inr (inr r))))) = tree_same s n w (same_by n w _ _ r.shape r.written (masked_alike r.operator r.bitwise r.on_right r.operand r.first r.second r.joined r.known))
 
@@ -565,6 +572,6 @@ pub operator_read : (s : Seat) (n w : Tree) → OperatorRow s n w → summary n 
 operator_read s n w (inl r) = ap summary r.shape ∙ delete_read r.operand ∙ sym (ap summary r.written)
 operator_read s n w (inr (inl r)) = ap summary r.shape ∙ sym (ap summary r.written ∙ plain_read (negated_digit (says_equal r.operator)) (boolean_read (says_equal r.operator)))
 operator_read s n w (inr (inr (inl r))) = ap summary r.shape ∙ sym (ap summary r.written ∙ plain_read (negated_digit (not (says_equal r.operator))) (boolean_read (not (says_equal r.operator))))
-operator_read s n w (inr (inr (inr (inl r)))) = ap summary r.shape ∙ (left_alike r.operator r.numeric r.operand r.number).read ∙ sym (ap summary r.written)
+operator_read s n w (inr (inr (inr (inl r)))) = ap summary r.shape ∙ (left_alike r.operator r.numeric r.operand r.right r.number r.known).read ∙ sym (ap summary r.written)
 operator_read s n w (inr (inr (inr (inr (inl r))))) = ap summary r.shape ∙ (right_alike r.operator r.numeric r.left r.operand r.known).read ∙ sym (ap summary r.written)
 operator_read s n w (inr (inr (inr (inr (inr r))))) = ap summary r.shape ∙ (masked_alike r.operator r.bitwise r.on_right r.operand r.first r.second r.joined r.known).read ∙ sym (ap summary r.written)

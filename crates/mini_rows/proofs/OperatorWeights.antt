@@ -152,7 +152,7 @@ pub operator_lighter : (s : Seat) (n w : Tree) → OperatorRow s n w → weight 
 operator_lighter s n w (inl r) = falls_by (Expr s) n w _ _ r.shape r.written (deleted_falls s r.operand (is_effect_free r.operand && leaves_nothing r.operand))
 operator_lighter s n w (inr (inl r)) = falls_by (Expr s) n w _ _ r.shape r.written (boolean_falls s r.operator r.equality (identifier r.name) (unary Typeof (identifier r.name)) (says_equal r.operator))
 operator_lighter s n w (inr (inr (inl r))) = falls_by (Expr s) n w _ _ r.shape r.written (boolean_falls s r.operator r.equality r.operand r.right (not (says_equal r.operator)))
-operator_lighter s n w (inr (inr (inr (inl r)))) = falls_by (Expr s) n w _ _ r.shape r.written (left_falls s r.operator r.numeric r.operand (numeral r.number))
+operator_lighter s n w (inr (inr (inr (inl r)))) = falls_by (Expr s) n w _ _ r.shape r.written (left_falls s r.operator r.numeric r.operand r.right)
 operator_lighter s n w (inr (inr (inr (inr (inl r))))) = falls_by (Expr s) n w _ _ r.shape r.written (right_falls s r.operator r.numeric r.left r.operand)
 operator_lighter s n w (inr (inr (inr (inr (inr r))))) = falls_by (Expr s) n w _ _ r.shape r.written (masked_falls s r.operator r.bitwise r.on_right r.operand r.first r.second r.joined r.short)
 

@@ -1,7 +1,8 @@
 -- Rows on operands whose value is known, as equations: each is a shape and what is written in its place, with the JavaScript before and
 -- after. No order of rewriting is meant.
-use Rattle.std.specs.Prelude.{◌≡◌, ℕ, ℤ, pos, ◌<◌, nat_le, nat_lt, ◌⊎◌, ◌&&◌, ◌||◌, Bool, true, false, List, [], ◌++◌, Option, Some, None, codes}
+use Rattle.std.specs.Prelude.{◌≡◌, ℕ, ℤ, pos, ◌<◌, nat_le, nat_lt, ◌⊎◌, ◌&&◌, ◌||◌, Bool, true, false, List, [], ◌∷◌, ◌++◌, Option, Some, None, codes, is_none}
 use Rattle.std.specs.Fmt.{signed_decimal}
+use Rattle.mini_model.specs.declared.name.Name.{Name}
 use Rattle.mini_model.specs.declared.operator.BinaryOperator.{BinaryOperator}
 use Rattle.mini_model.specs.declared.operator.BinaryOperator.TheVariants.{Addition, BitwiseAnd, BitwiseXor, BitwiseOr, ShiftLeft, ShiftRight, ShiftRightZeroFill}
 use Rattle.mini_model.specs.declared.operator.LogicalOperator.{LogicalOperator}
@@ -12,8 +13,9 @@ use Rattle.mini_model.specs.declared.place.Position.TheVariants.{Expr}
 use Rattle.mini_model.specs.declared.seat.Seat.{Seat}
 use Rattle.mini_model.specs.Tree.{Tree, logical, negation}
 use Rattle.mini_model.specs.Position.{is_and_or, right_operand_seat}
-use Rattle.mini_model.specs.Weight.{weight}
-use Rattle.mini_node.specs.Kinds.{unary_operator, binary_operator, number, string, is_null}
+use Rattle.mini_model.specs.Weight.{same_text, weight}
+use Rattle.mini_node.specs.Children.{names_of}
+use Rattle.mini_node.specs.Kinds.{unary_operator, binary_operator, number, string, is_null, is_identifier}
 use Rattle.mini_laws.specs.Operators.{same_boolean, same_number}
 use Rattle.mini_terms.specs.declared.kinds.Kind.TheVariants.{Boolean as IsBoolean, String as IsString}
 use Rattle.mini_terms.specs.Folds.{is_effect_free, goes_on}
@@ -36,15 +38,31 @@ abbrev pub told_by : Bool → Tree → Tree
 told_by true b = b
 told_by false b = negation b
 
--- the text that `+` makes of a literal beside a text
-abbrev pub tail_by : Option (List ℕ) → Option ℤ → Bool → Option (List ℕ)
-tail_by (Some t) n b = Some t
-tail_by None (Some n) b = Some (signed_decimal n)
-tail_by None None true = Some (codes "null")
-tail_by None None false = None
+-- the name `undefined`, which no scope declares
+abbrev pub is_undefined_name : List Name → Bool
+is_undefined_name (x ∷ []) = is_none x.symbol && same_text x.spelling (codes "undefined")
+is_undefined_name xs = false
+
+abbrev pub is_undefined : Tree → Bool
+is_undefined t = is_identifier t && is_undefined_name (names_of t)
+
+-- `null` and `undefined` weigh as much as their texts
+abbrev pub word_by : Bool → Bool → Option (List ℕ)
+word_by true b = Some (codes "null")
+word_by false true = Some (codes "undefined")
+word_by false false = None
+
+abbrev pub word : Tree → Option (List ℕ)
+word k = word_by (is_null k) (is_undefined k)
+
+-- the text that `+` makes of a literal, or of such a word, beside a text
+abbrev pub tail_by : Option (List ℕ) → Option ℤ → Option (List ℕ) → Option (List ℕ)
+tail_by (Some t) n c = Some t
+tail_by None (Some n) c = Some (signed_decimal n)
+tail_by None None c = c
 
 abbrev pub tail_text : Tree → Option (List ℕ)
-tail_text k = tail_by (string k) (number k) (is_null k)
+tail_text k = tail_by (string k) (number k) (word k)
 
 -- Int32, but for shifts: `~`, and `&`, `^` and `|` where one side is known to be a number
 abbrev pub makes_bits : Option UnaryOperator → Option BinaryOperator → Bool
@@ -141,7 +159,8 @@ pub record Row30 (n w : Tree) : Type 0 where
   pub shape : n ≡ beside (loosely equal) on_right operand (negated_digit truth)
   pub written : w ≡ beside (loosely equal) on_right operand (digit truth)
 
--- 4: `a + "s" + "t"` becomes `a + "st"`, `a + "s" + 1` becomes `a + "s1"`, and `a + "s" + null` becomes `a + "snull"`
+-- 4: `a + "s" + "t"` becomes `a + "st"`, `a + "s" + 1` becomes `a + "s1"`, and `a + "s" + null` becomes `a + "snull"`; so does
+-- `a + "s" + undefined`
 pub record Row4 (n w : Tree) : Type 0 where
   pub left : Tree
   pub before : List ℕ

@@ -12,14 +12,14 @@ use Rattle.mini_model.specs.Position.{is_equality}
 use Rattle.mini_model.specs.Weight.{same_text}
 use Rattle.mini_node.specs.Kinds.{string}
 use Rattle.mini_laws.specs.Value.{Number}
-use Rattle.mini_terms.specs.Calculated.{calculated_numbers}
+use Rattle.mini_terms.specs.Calculated.{calculated_numbers, operand_value}
 use Rattle.mini_terms.specs.declared.kinds.Kind.{Kind}
 use Rattle.mini_terms.specs.declared.kinds.Kind.TheVariants.{Undefined as IsUndefined, Null as IsNull, Boolean as IsBoolean, Number as IsNumber, BigInt as IsBigInt}
 use Rattle.mini_terms.specs.Folds.{is_effect_free}
 use Rattle.mini_terms.specs.Kind.{kind}
 use Rattle.mini_terms.specs.Parts.{leaves_nothing}
-use Rattle.mini_terms.specs.Reading.{stands}
 use Rattle.mini_rows.specs.Booleans.{plus}
+use Rattle.mini_rows.specs.ChainLinks.{is_lone}
 use Rattle.mini_rows.specs.Choices.{pair}
 use Rattle.mini_rows.specs.Spellings.{binary, negated_digit, numeral}
 
@@ -90,10 +90,11 @@ is_short r c d = nat_le (length (signed_decimal r) - length (signed_decimal c)) 
 
 -- ---- rows
 
--- 2: `delete a()` becomes `a(), !0`, and `delete (a + 1)` `!0` where that has no effect: what is no reference is not deleted
+-- 2: `delete a()` becomes `a(), !0`, `delete function () {}` `function () {}, !0`, and `delete (a + 1)` `!0` where that has no effect: what
+-- is no reference is not deleted
 pub record Row2 (n w : Tree) : Type 0 where
   pub operand : Tree
-  pub value : stands operand ≡ true
+  pub value : is_lone operand ≡ true
   pub shape : n ≡ unary Delete operand
   pub written : w ≡ deleted operand
 
@@ -117,14 +118,17 @@ pub record Row17 (n w : Tree) : Type 0 where
   pub shape : n ≡ binary operator (unary Typeof operand) right
   pub written : w ≡ negated_digit (not (says_equal operator))
 
--- 56, on the left: `+a * 2` becomes `a * 2`
+-- 56, on the left: `+a * 2` becomes `a * 2`, and `+a * (1 << 30)` `a * (1 << 30)`: the evaluation of the right side does nothing but give
+-- a number
 pub record Row56Left (n w : Tree) : Type 0 where
   pub operator : BinaryOperator
   pub operand : Tree
+  pub right : Tree
   pub number : ℤ
   pub numeric : makes_numbers operator ≡ true
-  pub shape : n ≡ binary operator (plus operand) (numeral number)
-  pub written : w ≡ binary operator operand (numeral number)
+  pub known : operand_value right ≡ Some (Number number)
+  pub shape : n ≡ binary operator (plus operand) right
+  pub written : w ≡ binary operator operand right
 
 -- 56, on the right: `2 * +a` becomes `2 * a`, where each value of the left side is a number
 pub record Row56Right (n w : Tree) : Type 0 where

@@ -5,13 +5,13 @@
 ghost use Rattle.std.specs.Prelude.{◌≡◌, true, is_some, unwrap_or, option_copied, OnOk, IfOk};
 ghost use Rattle.mini_model.specs.Tree.{children, count};
 ghost use Rattle.mini_model.specs.Position.{is_and_or as is_it_and_or};
-ghost use Rattle.mini_node.specs.Children.{part};
+ghost use Rattle.mini_node.specs.Children.{names, part};
 ghost use Rattle.mini_node.specs.Kinds.{logical_operator as its_logical_operator, binary_operator as its_binary_operator, string as string_of};
 ghost use Rattle.mini_laws.specs.Operators.{same_boolean as are_they_same};
 ghost use Rattle.mini_terms.specs.Parts.{suits as may_suit};
 ghost use Rattle.mini_rows.specs.Booleans.{digit as digit_of};
 ghost use Rattle.mini_rows.specs.Choices.{loosely as loose};
-ghost use Rattle.mini_rows.specs.Operands.{told_by, tail_text as tail_of, makes_bits as do_they_make_bits, is_bits as are_they_bits, makes_int32 as do_they_make_int32, is_int32 as is_it_int32, makes_shift as does_it_shift, is_shifted as is_it_shifted, keeps_bits as does_it_keep_bits, has_room as has_it_room, zero_told as zero_told_of};
+ghost use Rattle.mini_rows.specs.Operands.{told_by, is_undefined_name as is_it_undefined_name, is_undefined as is_it_undefined, word as word_of, tail_text as tail_of, makes_bits as do_they_make_bits, is_bits as are_they_bits, makes_int32 as do_they_make_int32, is_int32 as is_it_int32, makes_shift as does_it_shift, is_shifted as is_it_shifted, keeps_bits as does_it_keep_bits, has_room as has_it_room, zero_told as zero_told_of};
 ghost use Rattle.mini_terms.specs.Kind.{is_number as is_number_of};
 ghost use Rattle.mini_tree.specs.Rule.{Applied};
 ghost use Rattle.mini_fold.specs.FoldOperators.{without_plus, masks_written, mask_written};
@@ -20,14 +20,14 @@ ghost use Rattle.mini_fold.specs.FoldOperands.{Gives, Rests};
 ghost use Rattle.mini_fold.specs.Lighter.{operands_lighter};
 
 use crate::rewrites::fold_operators::{
-    drops_left, drops_right, fold_delete, holds_bitwise, masked, negated_digit, told_by_types,
+    UNDEFINED, drops_left, drops_right, fold_delete, holds_bitwise, masked, negated_digit, told_by_types,
 };
 use mini_model::{
-    BinaryOperator, LogicalOperator, OutOfMemory, Position, Seat, Shape, Text, UnaryOperator,
+    BinaryOperator, LogicalOperator, Name, OutOfMemory, Position, Seat, Shape, Text, UnaryOperator,
     decimal,
 };
 use mini_node::{
-    Node, binary, binary_operator, discard, is_logical, is_negation, is_null, logical,
+    Node, binary, binary_operator, discard, is_identifier, is_logical, is_negation, is_null, logical,
     logical_operator, negation, number, numeric_literal, one, string, string_literal, taken, two,
     unary_operator,
 };
@@ -147,7 +147,36 @@ fn sum_text(node: &Node) -> Option<&Text>
     }
 }
 
-// The text that `+` makes of a text, a number or `null`.
+// The name `undefined`, which no scope declares.
+fn is_undefined_name(name: &Option<Name>) -> bool
+    ensures { result ≡ is_it_undefined_name (names name.now) }
+{
+    match name {
+        Some(name) => { name.symbol.is_none() && name.spelling.as_slice() == UNDEFINED.as_slice() }
+        None => false,
+    }
+}
+
+fn is_undefined(node: &Node) -> bool
+    ensures { result ≡ is_it_undefined node.now }
+{
+    is_identifier(node) && is_undefined_name(node.name())
+}
+
+// `null`, or `undefined`, as a text.
+fn word(alloc: Global, node: &Node) -> Result<Option<Text>, OutOfMemory>
+    ensures { IfOk result (λ t. t ≡ word_of node.now) }
+{
+    if is_null(node) {
+        return Ok(Some(copied(alloc, &NULL)?));
+    }
+    if is_undefined(node) {
+        return Ok(Some(copied(alloc, &UNDEFINED)?));
+    }
+    Ok(None)
+}
+
+// The text that `+` makes of a text, a number, `null` or `undefined`.
 fn tail_text(alloc: Global, node: &Node) -> Result<Option<Text>, OutOfMemory>
     ensures { IfOk result (λ t. t ≡ tail_of node.now) }
 {
@@ -156,8 +185,7 @@ fn tail_text(alloc: Global, node: &Node) -> Result<Option<Text>, OutOfMemory>
     }
     match number(node) {
         Some(number) => Ok(Some(decimal(alloc, number)?)),
-        None if is_null(node) => Ok(Some(copied(alloc, &NULL)?)),
-        None => Ok(None),
+        None => word(alloc, node),
     }
 }
 
@@ -625,7 +653,7 @@ fn fold_plus(
     ensures tree { OnOk result (node.new ≡ unwrap_or (without_plus operator (part node.old 0) (part node.old 1) (mask_written operator (part node.old 0) (part node.old 1) (operand.operands_written seat operator node.old))) node.old) }
     ensures said { IfOk result (λ changed. changed ≡ is_some (without_plus operator (part node.old 0) (part node.old 1) (mask_written operator (part node.old 0) (part node.old 1) (operand.operands_written seat operator node.old)))) }
 {
-    if drops_left(operator, node.child(0), node.child(1)) {
+    if drops_left(alloc, operator, node.child(0), node.child(1))? {
         let (left, right) = two(taken(alloc, node));
         *node = binary(alloc, operator, one(left), right)?;
         return Ok(true);

@@ -9,24 +9,26 @@ ghost use Rattle.mini_model.specs.Position.{is_equality as is_it_equality};
 ghost use Rattle.mini_node.specs.Children.{part};
 ghost use Rattle.mini_node.specs.Kinds.{unary_operator as its_unary_operator, binary_operator as its_binary_operator};
 ghost use Rattle.mini_terms.specs.Kind.{is_number as is_number_of};
+ghost use Rattle.mini_rows.specs.ChainLinks.{is_lone as is_it_lone};
 ghost use Rattle.mini_rows.specs.Choices.{pair};
 ghost use Rattle.mini_rows.specs.Operators as row;
 ghost use Rattle.mini_rows.specs.Spellings.{negated_digit as negated_digit_of};
 ghost use Rattle.mini_fold.specs.FoldOperators as tree;
 ghost use Rattle.mini_terms.specs.Values.{value_in};
 
-use mini_model::{BinaryOperator, OutOfMemory, Text, UnaryOperator, decimal};
+use mini_model::{BinaryOperator, OutOfMemory, Shape, Text, UnaryOperator, decimal};
 use mini_node::{
     Node, binary_operator, discard, is_identifier, is_same_tree, negation, number, numeric_literal,
     of_two, one, sequence, string, taken, unary_operator,
 };
 use mini_terms::{
-    ConstantValue, Kind, calculated_numbers, has_no_effect, kind_of, leaves_nothing, stands,
+    ConstantValue, Kind, calculated_numbers, has_no_effect, kind_of, leaves_nothing, operand_value,
+    stands,
 };
 use std::alloc::Global;
 
 // The units of the texts that `typeof` gives, and of one that it gave of old.
-const UNDEFINED: [u16; 9] = [117, 110, 100, 101, 102, 105, 110, 101, 100];
+pub const UNDEFINED: [u16; 9] = [117, 110, 100, 101, 102, 105, 110, 101, 100];
 
 const OBJECT: [u16; 6] = [111, 98, 106, 101, 99, 116];
 
@@ -71,6 +73,16 @@ fn deleted(alloc: Global, operand: Node) -> Result<Node, OutOfMemory>
     then_true(alloc, operand)
 }
 
+// What has no reference: what is read by its value alone, a function, a class or a BigInt.
+fn is_lone(node: &Node) -> bool
+    ensures { result ≡ is_it_lone node.now }
+{
+    match node.shape() {
+        Shape::Function(false, _, _) | Shape::Class(false) | Shape::BigIntLiteral(_) => true,
+        _ => stands(node),
+    }
+}
+
 /// `delete a()` becomes `a(), !0`. The answer says whether it did; the only error is that memory runs out, and then the expression is
 /// fit only to be dropped.
 pub fn fold_delete(alloc: Global, node: &mut Node) -> Result<bool, OutOfMemory>
@@ -78,7 +90,7 @@ pub fn fold_delete(alloc: Global, node: &mut Node) -> Result<bool, OutOfMemory>
     ensures said { IfOk result (λ changed. changed ≡ is_some (tree.delete_written (its_unary_operator node.old) (part node.old 0))) }
 {
     match unary_operator(node) {
-        Some(UnaryOperator::Delete) if stands(node.child(0)) => {
+        Some(UnaryOperator::Delete) if is_lone(node.child(0)) => {
             *node = deleted(alloc, one(taken(alloc, node)))?;
             Ok(true)
         }
@@ -233,11 +245,29 @@ fn is_number_kind(kind: Kind) -> bool
     matches!(kind, Kind::Number)
 }
 
-/// Whether the plus of `+a * 2` goes.
-pub fn drops_left(operator: BinaryOperator, left: &Node, right: &Node) -> bool
-    ensures { result ≡ tree.drops_left operator left.now right.now }
+fn is_number_value(value: &Option<ConstantValue>) -> bool
+    ensures { result ≡ tree.is_number_value (value_in value.now) }
 {
-    is_plus(left) && makes_numbers(operator) && number(right).is_some()
+    matches!(value, Some(ConstantValue::Number(_)))
+}
+
+/// Whether the plus of `+a * 2` goes.
+///
+/// The only error is that memory runs out.
+pub fn drops_left(
+    alloc: Global,
+    operator: BinaryOperator,
+    left: &Node,
+    right: &Node,
+) -> Result<bool, OutOfMemory>
+    ensures { IfOk result (λ drops. drops ≡ tree.drops_left operator left.now right.now) }
+{
+    if is_plus(left) && makes_numbers(operator) {
+        let value = operand_value(alloc, right)?;
+        Ok(is_number_value(&value))
+    } else {
+        Ok(false)
+    }
 }
 
 /// Whether the plus of `2 * +a` goes.
