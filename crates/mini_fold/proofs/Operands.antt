@@ -25,7 +25,7 @@ use Rattle.mini_terms.specs.Parts.{takes_numbers, suits, leaves_nothing, weighs}
 use Rattle.mini_terms.specs.Reading.{is_unguarded, is_plain_part}
 use Rattle.mini_rows.specs.ChainLinks.{is_lone}
 use Rattle.mini_rows.specs.Choices.{loosely}
-use Rattle.mini_rows.specs.Operands.{beside, told_by, tail_text, is_bits, is_int32, is_shifted, keeps_bits, has_room, zero_told, Row14, Row7, Row4, Row27, Row27Asked, Row31, Row32, OperandRow}
+use Rattle.mini_rows.specs.Operands.{encloses, beside, told_by, tail_text, is_bits, is_int32, is_shifted, keeps_bits, has_room, zero_told, Row14, Row7, Row4, Row27, Row27Asked, Row27Enclosed, Row31, Row32, OperandRow}
 use Rattle.mini_rows.specs.Booleans.{digit, plus}
 use Rattle.mini_rows.specs.Operators.{is_bitwise, deleted, with_number, Row8, Row16, Row17, Row56Left, Row56Right, OperatorRow}
 use Rattle.mini_rows.specs.Spellings.{negated_digit, numeral, text}
@@ -34,7 +34,7 @@ use Rattle.mini_tree.specs.Rule.{Applied}
 use Rattle.mini_tree.proofs.Reaching.{moves_once}
 use Rattle.mini_fold.specs.FoldOperators.{operator_written}
 use Rattle.mini_fold.proofs.Operators.{operator_or, delete_row, same_there, never_there, left_there, right_there, later, masks_there}
-use Rattle.mini_fold.specs.FoldOperands.{is_redundant, logical_written, is_empty, is_string_kind, is_text, text_written, sum_text_by, joined_texts, with_text, joined_written, or_else, sum_written, is_zero, tests_bits, tests_shift, keeps_beside, kept_written, bits_written, whole_written, wholes_written, negated_truth, truth_in, is_boolean_kind, is_told, right_written, left_written, either_written, equal_written, operands_written, binary_written, written_by, written, Gives, Rests}
+use Rattle.mini_fold.specs.FoldOperands.{is_redundant, logical_written, is_empty, is_string_kind, is_text, text_written, sum_text_by, joined_texts, with_text, joined_written, or_else, sum_written, is_zero, tests_bits, tests_shift, tests_enclosed, keeps_beside, kept_written, bits_written, whole_written, wholes_written, negated_truth, truth_in, is_boolean_kind, is_told, right_written, left_written, either_written, equal_written, operands_written, binary_written, written_by, written, Gives, Rests}
 
 or_true : (b : Bool) → b || true ≡ true
 or_true true = refl
@@ -260,6 +260,13 @@ shift_row s n equal a b is e =
     not_true false h = refl
     not_true true h = absurd (true≢false (sym h))
 
+-- a shift whose comparison has parentheses
+enclosed_row : (s : Seat) (n : Tree) (equal : Bool) (a b : Tree) → n ≡ binary (loosely equal) a b → tests_enclosed s a b ≡ true → Row27Enclosed s n (zero_told equal a)
+enclosed_row s n equal a b is e =
+    let (nought, rest) = and_parts (is_zero (number b)) (encloses s && is_shifted a) e in
+    let (seated, known) = and_parts (encloses s) (is_shifted a) rest in
+    record { equal = equal; operand = a; known = known; seated = seated; shape = is ∙ ap (binary (loosely equal) a) (zero_is b nought); written = refl }
+
 there_or : (b : Bool) (t : Tree) (u : Option Tree) → b ≡ true → is_some (if b then Some t else u) ≡ true
 there_or true t u e = refl
 there_or false t u e = absurd (true≢false (sym e))
@@ -269,7 +276,14 @@ tested true t u e = refl
 tested false t u e = e
 
 zero_there : (equal : Bool) (a : Tree) → is_bits a ≡ true → (s : Seat) → is_some (equal_written s equal a (digit false)) ≡ true
-zero_there equal a e s = ap (λ b. is_some (if b then Some (zero_told equal a) else (if tests_shift s equal a (digit false) then Some a else either_written s equal (truth_in (digit false)) a (digit false)))) e
+zero_there equal a e s = ap (λ b. is_some (if b then Some (zero_told equal a) else (if tests_shift s equal a (digit false) then Some a else (if tests_enclosed s a (digit false) then Some (zero_told equal a) else either_written s equal (truth_in (digit false)) a (digit false))))) e
+
+enclosed_there : (s : Seat) (equal : Bool) (a : Tree) → is_shifted a ≡ true → encloses s ≡ true → is_some (equal_written s equal a (digit false)) ≡ true
+enclosed_there s equal a e h = tested (tests_bits a (digit false)) (zero_told equal a) _ (tested (tests_shift s equal a (digit false)) a _ (there_or (tests_enclosed s a (digit false)) (zero_told equal a) _ (both_true (encloses s) (is_shifted a) h e)))
+
+enclosed_passes : (s : Seat) (equal : Bool) (a : Tree) → is_shifted a ≡ true → encloses s ≡ true → is_some (written s (binary (loosely equal) a (digit false))) ≡ true
+enclosed_passes s true a e h = later Equality (binary Equality a (digit false)) (equal_written s true a (digit false)) (enclosed_there s true a e h)
+enclosed_passes s false a e h = later Inequality (binary Inequality a (digit false)) (equal_written s false a (digit false)) (enclosed_there s false a e h)
 
 shift_passes : (s : Seat) (a : Tree) → is_shifted a ≡ true → s.boolean ≡ true → is_some (written s (binary (loosely false) a (digit false))) ≡ true
 shift_passes s a e h = later Inequality (binary Inequality a (digit false)) (equal_written s false a (digit false)) (tested (tests_bits a (digit false)) (zero_told false a) _ (there_or (tests_shift s false a (digit false)) a _ (both_true s.boolean (is_shifted a) h e)))
@@ -317,11 +331,15 @@ others_row s n w equal a b is e = go (truth_in b) (truth_in a) refl refl e
 equal_row : (s : Seat) (n w : Tree) (equal : Bool) (a b : Tree) → n ≡ binary (loosely equal) a b → equal_written s equal a b ≡ Some w → Reads s n w
 equal_row s n w equal a b is e = go (tests_bits a b) refl e
   where
-    shift : (c : Bool) → tests_shift s equal a b ≡ c → (if c then Some a else either_written s equal (truth_in b) a b) ≡ Some w → Reads s n w
-    shift true h f = inr (inr (inr (inr (inr (inr (inr (inr (inr (subst (Row27Asked s n) (some_is a w f) (shift_row s n equal a b is h))))))))))
-    shift false h f = others_row s n w equal a b is f
+    enclosed : (c : Bool) → tests_enclosed s a b ≡ c → (if c then Some (zero_told equal a) else either_written s equal (truth_in b) a b) ≡ Some w → Reads s n w
+    enclosed true h f = inr (inr (inr (inr (inr (inr (inr (inr (inr (inr (subst (Row27Enclosed s n) (some_is (zero_told equal a) w f) (enclosed_row s n equal a b is h)))))))))))
+    enclosed false h f = others_row s n w equal a b is f
 
-    go : (c : Bool) → tests_bits a b ≡ c → (if c then Some (zero_told equal a) else (if tests_shift s equal a b then Some a else either_written s equal (truth_in b) a b)) ≡ Some w → Reads s n w
+    shift : (c : Bool) → tests_shift s equal a b ≡ c → (if c then Some a else (if tests_enclosed s a b then Some (zero_told equal a) else either_written s equal (truth_in b) a b)) ≡ Some w → Reads s n w
+    shift true h f = inr (inr (inr (inr (inr (inr (inr (inr (inr (inl (subst (Row27Asked s n) (some_is a w f) (shift_row s n equal a b is h)))))))))))
+    shift false h f = enclosed (tests_enclosed s a b) refl f
+
+    go : (c : Bool) → tests_bits a b ≡ c → (if c then Some (zero_told equal a) else (if tests_shift s equal a b then Some a else (if tests_enclosed s a b then Some (zero_told equal a) else either_written s equal (truth_in b) a b))) ≡ Some w → Reads s n w
     go true h f = inr (inr (inr (inr (inr (inl (subst (Row27 n) (some_is (zero_told equal a) w f) (zero_row n equal a b is h)))))))
     go false h f = shift (tests_shift s equal a b) refl f
 
@@ -338,8 +356,8 @@ either_passes s equal false a None = refl
 
 beside_passes : (s : Seat) (equal c b : Bool) (a : Tree) → is_some (written s (beside (loosely equal) b a (negated_digit c))) ≡ true
 beside_passes s equal c true a = right_passes s equal c a
-beside_passes s true c false a = later Equality (binary Equality (negated_digit c) a) (equal_written s true (negated_digit c) a) (tested (tests_bits (negated_digit c) a) _ _ (tested (tests_shift s true (negated_digit c) a) _ _ (either_passes s true c a (truth_in a))))
-beside_passes s false c false a = later Inequality (binary Inequality (negated_digit c) a) (equal_written s false (negated_digit c) a) (tested (tests_bits (negated_digit c) a) _ _ (tested (tests_shift s false (negated_digit c) a) _ _ (either_passes s false c a (truth_in a))))
+beside_passes s true c false a = later Equality (binary Equality (negated_digit c) a) (equal_written s true (negated_digit c) a) (tested (tests_bits (negated_digit c) a) _ _ (tested (tests_shift s true (negated_digit c) a) _ _ (tested (tests_enclosed s (negated_digit c) a) _ _ (either_passes s true c a (truth_in a)))))
+beside_passes s false c false a = later Inequality (binary Inequality (negated_digit c) a) (equal_written s false (negated_digit c) a) (tested (tests_bits (negated_digit c) a) _ _ (tested (tests_shift s false (negated_digit c) a) _ _ (tested (tests_enclosed s (negated_digit c) a) _ _ (either_passes s false c a (truth_in a)))))
 
 -- ---- 31 and 32
 
@@ -453,7 +471,8 @@ passes s n w (inr (inr (inr (inr (inr (inr (inl r))))))) = ap (λ t. is_some (wr
 passes s n w (inr (inr (inr (inr (inr (inr (inr (inl r)))))))) = ap (λ t. is_some (written s t)) r.shape ∙ whole_passes s r.on_right r.operand r.known
 passes s n w (inr (inr (inr (inr (inr (inr (inr (inr (inl (inl r)))))))))) = ap (λ t. is_some (written s t)) r.shape ∙ there (is_lone r.operand) (deleted r.operand) r.value
 passes s n w (inr (inr (inr (inr (inr (inr (inr (inr (inl (inr r)))))))))) = operator_passes s n w r
-passes s n w (inr (inr (inr (inr (inr (inr (inr (inr (inr r))))))))) = ap (λ t. is_some (written s t)) r.shape ∙ shift_passes s r.operand r.known r.asked
+passes s n w (inr (inr (inr (inr (inr (inr (inr (inr (inr (inl r)))))))))) = ap (λ t. is_some (written s t)) r.shape ∙ shift_passes s r.operand r.known r.asked
+passes s n w (inr (inr (inr (inr (inr (inr (inr (inr (inr (inr r)))))))))) = ap (λ t. is_some (written s t)) r.shape ∙ enclosed_passes s r.equal r.operand r.known r.seated
 
 unwritten_rests : (s : Seat) (n : Tree) → written s n ≡ None → Rests (Expr s) n
 unwritten_rests s n e w r = true≢false (sym (passes s n w r) ∙ ap is_some e)

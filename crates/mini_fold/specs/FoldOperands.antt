@@ -20,7 +20,7 @@ use Rattle.mini_terms.specs.Kind.{kind}
 use Rattle.mini_terms.specs.Parts.{suits, leaves_nothing, weighs}
 use Rattle.mini_rows.specs.Booleans.{digit}
 use Rattle.mini_rows.specs.Choices.{loosely}
-use Rattle.mini_rows.specs.Operands.{told_by, tail_text, is_bits, is_int32, is_shifted, keeps_bits, has_room, zero_told, OperandRow, OperandContracts}
+use Rattle.mini_rows.specs.Operands.{encloses, told_by, tail_text, is_bits, is_int32, is_shifted, keeps_bits, has_room, zero_told, OperandRow, OperandContracts}
 use Rattle.mini_rows.specs.Spellings.{binary, text}
 use Rattle.mini_fold.specs.FoldOperators.{delete_written, operator_written}
 
@@ -94,6 +94,10 @@ tests_bits a b = is_zero (number b) && is_bits a
 abbrev pub tests_shift : Seat → Bool → Tree → Tree → Bool
 tests_shift s equal a b = is_zero (number b) && (not equal && (s.boolean && is_shifted a))
 
+-- a shift beside 0, where the comparison has parentheses
+abbrev pub tests_enclosed : Seat → Tree → Tree → Bool
+tests_enclosed s a b = is_zero (number b) && (encloses s && is_shifted a)
+
 -- ---- 29 and 30
 
 abbrev pub negated_truth : Option ℤ → Option Bool
@@ -125,7 +129,7 @@ either_written s equal (Some c) a b = Some (right_written s equal c a)
 either_written s equal None a b = left_written equal (truth_in a) b
 
 abbrev pub equal_written : Seat → Bool → Tree → Tree → Option Tree
-equal_written s equal a b = if tests_bits a b then Some (zero_told equal a) else (if tests_shift s equal a b then Some a else either_written s equal (truth_in b) a b)
+equal_written s equal a b = if tests_bits a b then Some (zero_told equal a) else (if tests_shift s equal a b then Some a else (if tests_enclosed s a b then Some (zero_told equal a) else either_written s equal (truth_in b) a b))
 
 -- ---- 31 and 32
 

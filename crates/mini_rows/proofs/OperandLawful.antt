@@ -110,7 +110,8 @@ kept (Expr q) n w (inr (inr (inr (inr (inr (inl r)))))) = zero_kept r.equal r.op
 kept (Expr q) n w (inr (inr (inr (inr (inr (inr (inl r))))))) = kept_bits_kept r.operator r.on_right r.number r.operand q n w r.shape r.written
 kept (Expr q) n w (inr (inr (inr (inr (inr (inr (inr (inl r)))))))) = whole_kept r.on_right r.operand q n w r.shape r.written
 kept (Expr q) n w (inr (inr (inr (inr (inr (inr (inr (inr (inl r))))))))) = operator_kept q n w r
-kept (Expr q) n w (inr (inr (inr (inr (inr (inr (inr (inr (inr r))))))))) = expressions_arranged (record { trees = r.operand ▸ none; lists = [] }) (of_two (loosely false) true (a_digit false)) (part 0) refl q n w r.shape r.written
+kept (Expr q) n w (inr (inr (inr (inr (inr (inr (inr (inr (inr (inr r)))))))))) = zero_kept r.equal r.operand q n w r.shape r.written
+kept (Expr q) n w (inr (inr (inr (inr (inr (inr (inr (inr (inr (inl r)))))))))) = expressions_arranged (record { trees = r.operand ▸ none; lists = [] }) (of_two (loosely false) true (a_digit false)) (part 0) refl q n w r.shape r.written
 kept p n w r = absurd r
 
 places : (p : Position) (n w : Tree) → OperandRow p n w → is_rewritten_place p ≡ true
@@ -184,7 +185,10 @@ module _ (strict : Bool) (s : Slot) where
       let (takes, fit) = beside_at (loosely r.equal) true r.operand (digit false) (subst (λ t. fits strict s t ≡ true) r.shape e) in
       (takes, subst Fits (sym r.written) (zero_fits r.equal r.operand fit))
   stood (Expr q) n w (inr (inr (inr (inr (inr (inr (inr (inr (inl r))))))))) e = operator_stood strict s q n w r e
-  stood (Expr q) n w (inr (inr (inr (inr (inr (inr (inr (inr (inr r))))))))) e =
+  stood (Expr q) n w (inr (inr (inr (inr (inr (inr (inr (inr (inr (inr r)))))))))) e =
+      let (takes, fit) = beside_at (loosely r.equal) true r.operand (digit false) (subst (λ t. fits strict s t ≡ true) r.shape e) in
+      (takes, subst Fits (sym r.written) (zero_fits r.equal r.operand fit))
+  stood (Expr q) n w (inr (inr (inr (inr (inr (inr (inr (inr (inr (inl r)))))))))) e =
       let (takes, fit) = beside_at (loosely false) true r.operand (digit false) (subst (λ t. fits strict s t ≡ true) r.shape e) in
       (takes, subst Fits (sym r.written) fit)
   stood p n w r e = absurd r
@@ -313,7 +317,8 @@ row_asked (Expr q) n w (inr (inr (inr (inr (inr (inr (inl r))))))) = asked_by q 
 row_asked (Expr q) n w (inr (inr (inr (inr (inr (inr (inr (inl r)))))))) = asked_by q n w _ _ r.shape r.written (whole_asked q r.on_right r.operand (int32_form r.operand r.known))
 row_asked (Expr q) n w (inr (inr (inr (inr (inr (inl r)))))) = asked_by q n w _ _ r.shape r.written (zero_asked q (loosely r.equal) r.equal r.operand (digit false))
 row_asked (Expr q) n w (inr (inr (inr (inr (inr (inr (inr (inr (inl r))))))))) = operator_asked q n w r
-row_asked (Expr q) n w (inr (inr (inr (inr (inr (inr (inr (inr (inr r))))))))) = asked_by q n w _ _ r.shape r.written (shifted_asked q r.operand (digit false) (shifted_form r.operand r.known))
+row_asked (Expr q) n w (inr (inr (inr (inr (inr (inr (inr (inr (inr (inr r)))))))))) = asked_by q n w _ _ r.shape r.written (zero_asked q (loosely r.equal) r.equal r.operand (digit false))
+row_asked (Expr q) n w (inr (inr (inr (inr (inr (inr (inr (inr (inr (inl r)))))))))) = asked_by q n w _ _ r.shape r.written (shifted_asked q r.operand (digit false) (shifted_form r.operand r.known))
 row_asked p n w r = absurd r
 
 pub operands_lawful : Lawful OperandContracts

@@ -43,7 +43,7 @@ use Rattle.mini_terms.proofs.Reading.{same_in_seat}
 use Rattle.mini_rows.specs.Booleans.{digit}
 use Rattle.mini_rows.specs.Choices.{loosely}
 use Rattle.mini_rows.specs.Folding.{Row13}
-use Rattle.mini_rows.specs.Operands.{beside, told_by, is_bits, keeps_bits, zero_told, Row14, Row7, Row29, OperandRow, OperandContracts}
+use Rattle.mini_rows.specs.Operands.{is_shifted, beside, told_by, is_bits, keeps_bits, zero_told, Row14, Row7, Row29, OperandRow, OperandContracts}
 use Rattle.mini_rows.specs.Spellings.{binary, negated_digit, numeral, text}
 use Rattle.mini_rows.proofs.BooleanMeaning.{then_same, asked_truth}
 use Rattle.mini_rows.proofs.ChoiceMeaning.{rotated_same}
@@ -380,6 +380,9 @@ zero_stands false a = refl
 zero_alike : (equal : Bool) (a : Tree) → is_bits a ≡ true → SameTree (binary (loosely equal) a (digit false)) (zero_told equal a)
 zero_alike equal a h = same_value _ _ refl (zero_stands equal a) (zero_read equal a (bits_plain a h)) (zero_value equal a (bits_number a h))
 
+enclosed_alike : (equal : Bool) (a : Tree) → is_shifted a ≡ true → SameTree (binary (loosely equal) a (digit false)) (zero_told equal a)
+enclosed_alike equal a h = same_value _ _ refl (zero_stands equal a) (zero_read equal a (shifted_plain a (shifted_form a h))) (zero_value equal a (shifted_number a h))
+
 -- ---- 31
 
 module _ (e : Environment) (m n : Naming) (K L : Kids (λ i. As Val)) where
@@ -545,7 +548,8 @@ row_same (Expr s) n w (inr (inr (inr (inr (inr (inl r)))))) = tree_same s n w (s
 row_same (Expr s) n w (inr (inr (inr (inr (inr (inr (inl r))))))) = tree_same s n w (same_by n w _ _ r.shape r.written (kept_beside r.operator r.on_right r.sided r.number r.known r.operand))
 row_same (Expr s) n w (inr (inr (inr (inr (inr (inr (inr (inl r)))))))) = tree_same s n w (same_by n w _ _ r.shape r.written (int32_beside r.on_right r.operand (int32_form r.operand r.known)))
 row_same (Expr s) n w (inr (inr (inr (inr (inr (inr (inr (inr (inl r))))))))) = operator_same s n w r
-row_same (Expr s) n w (inr (inr (inr (inr (inr (inr (inr (inr (inr r))))))))) = same_by_shape s n w r.shape r.written (shift_same s r.operand (shifted_number r.operand r.known) r.asked)
+row_same (Expr s) n w (inr (inr (inr (inr (inr (inr (inr (inr (inr (inr r)))))))))) = tree_same s n w (same_by n w _ _ r.shape r.written (enclosed_alike r.equal r.operand r.known))
+row_same (Expr s) n w (inr (inr (inr (inr (inr (inr (inr (inr (inr (inl r)))))))))) = same_by_shape s n w r.shape r.written (shift_same s r.operand (shifted_number r.operand r.known) r.asked)
 row_same p n w r = absurd r
 
 beside_read : (o : BinaryOperator) (b : Bool) (a k t : Tree) → is_plain_part t ≡ true → summary (beside o b a k) ≡ summary t
@@ -562,7 +566,8 @@ row_read (Expr s) n w (inr (inr (inr (inr (inr (inl r)))))) = ap summary r.shape
 row_read (Expr s) n w (inr (inr (inr (inr (inr (inr (inl r))))))) = ap summary r.shape ∙ (kept_beside r.operator r.on_right r.sided r.number r.known r.operand).read ∙ sym (ap summary r.written)
 row_read (Expr s) n w (inr (inr (inr (inr (inr (inr (inr (inl r)))))))) = ap summary r.shape ∙ (int32_beside r.on_right r.operand (int32_form r.operand r.known)).read ∙ sym (ap summary r.written)
 row_read (Expr s) n w (inr (inr (inr (inr (inr (inr (inr (inr (inl r))))))))) = operator_read s n w r
-row_read (Expr s) n w (inr (inr (inr (inr (inr (inr (inr (inr (inr r))))))))) = ap summary r.shape ∙ beside_read (loosely false) true r.operand (digit false) r.operand (shifted_plain r.operand (shifted_form r.operand r.known)) ∙ sym (ap summary r.written)
+row_read (Expr s) n w (inr (inr (inr (inr (inr (inr (inr (inr (inr (inr r)))))))))) = ap summary r.shape ∙ (enclosed_alike r.equal r.operand r.known).read ∙ sym (ap summary r.written)
+row_read (Expr s) n w (inr (inr (inr (inr (inr (inr (inr (inr (inr (inl r)))))))))) = ap summary r.shape ∙ beside_read (loosely false) true r.operand (digit false) r.operand (shifted_plain r.operand (shifted_form r.operand r.known)) ∙ sym (ap summary r.written)
 row_read p n w r = absurd r
 
 pub operands_same : MeansSame OperandContracts

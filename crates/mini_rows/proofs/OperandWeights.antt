@@ -28,7 +28,7 @@ use Rattle.mini_terms.specs.Reading.{is_plain_part}
 use Rattle.mini_rows.specs.Booleans.{digit}
 use Rattle.mini_rows.specs.Choices.{loosely}
 use Rattle.mini_rows.specs.Operators.{is_bitwise}
-use Rattle.mini_rows.specs.Operands.{beside, told_by, keeps_bits, has_room, zero_told, OperandRow, OperandContracts, OperandsLighter}
+use Rattle.mini_rows.specs.Operands.{encloses, beside, told_by, keeps_bits, has_room, zero_told, OperandRow, OperandContracts, OperandsLighter}
 use Rattle.mini_rows.specs.Spellings.{binary, negated_digit, numeral, text}
 use Rattle.mini_rows.proofs.BooleanWeights.{digit_falls}
 use Rattle.mini_rows.proofs.FoldMeaning.{plain_of}
@@ -224,6 +224,48 @@ shifted_falls s t (shifts ShiftRight h is) = subst (λ x. weight (Expr s) x < we
 shifted_falls s t (shifts ShiftRightZeroFill h is) = subst (λ x. weight (Expr s) x < weight (Expr s) (binary (loosely false) x (digit false))) (sym is) (omega (arith, pairs 8 10 (omega arith) s.level (rest_of s), zero_mark s.eq_left s.cond_test s.lifted))
 shifted_falls s t (shifts o h is) = absurd (true≢false (sym h))
 
+-- 27: a shift gets parentheses under a `!`, where the comparison loses its own
+
+no_rest : (a b : Bool) → false || ((a && false) || (b && false)) ≡ false
+no_rest true true = refl
+no_rest true false = refl
+no_rest false true = refl
+no_rest false false = refl
+
+enclosed_pairs : (s : Seat) (r : Bool) → encloses s ≡ true → r ≡ false → (if nat_lt 14 s.level || r then 4 else 0) + 4 ≤ (if nat_lt 8 s.level || r then 4 else 0)
+enclosed_pairs s r h e = go (nat_lt 14 s.level) (nat_lt 8 s.level) r refl refl e h
+  where
+    go : (b c r : Bool) → nat_lt 14 s.level ≡ b → nat_lt 8 s.level ≡ c → r ≡ false → c && nat_le s.level 14 ≡ true → (if b || r then 4 else 0) + 4 ≤ (if c || r then 4 else 0)
+    go b c true p q e h = absurd (true≢false e)
+    go b false false p q e h = absurd (true≢false (sym h))
+    go false true false p q e h = omega arith
+    go true true false p q e h = absurd (omega (arith, ltb-true _ _ p, leb-true _ _ h))
+
+enclosed_marks : (equal : Bool) (s : Seat) → encloses s ≡ true → (os ps : List Outline) → place_weight (Expr s) (shape.UnaryExpression LogicalNot) os + 4 ≤ place_weight (Expr s) (shape.BinaryExpression (loosely equal)) ps
+enclosed_marks true s h os ps = omega (arith, zero_mark s.eq_left s.cond_test s.lifted, enclosed_pairs s (false || ((s.access && false) || (s.new_callee && false))) h (no_rest s.access s.new_callee))
+enclosed_marks false s h os ps = omega (arith, zero_mark s.eq_left s.cond_test s.lifted, enclosed_pairs s (false || ((s.access && false) || (s.new_callee && false))) h (no_rest s.access s.new_callee))
+
+shifted_moved : (equal : Bool) (t : Tree) → Shifted t → weight (Expr not_operand_seat) t ≤ weight (Expr (binary_operand_seat (loosely equal) 0)) t + 4
+shifted_moved true t (shifts ShiftLeft h is) = subst (λ x. weight (Expr not_operand_seat) x ≤ weight (Expr (binary_operand_seat Equality 0)) x + 4) (sym is) (omega arith)
+shifted_moved true t (shifts ShiftRight h is) = subst (λ x. weight (Expr not_operand_seat) x ≤ weight (Expr (binary_operand_seat Equality 0)) x + 4) (sym is) (omega arith)
+shifted_moved true t (shifts ShiftRightZeroFill h is) = subst (λ x. weight (Expr not_operand_seat) x ≤ weight (Expr (binary_operand_seat Equality 0)) x + 4) (sym is) (omega arith)
+shifted_moved false t (shifts ShiftLeft h is) = subst (λ x. weight (Expr not_operand_seat) x ≤ weight (Expr (binary_operand_seat Inequality 0)) x + 4) (sym is) (omega arith)
+shifted_moved false t (shifts ShiftRight h is) = subst (λ x. weight (Expr not_operand_seat) x ≤ weight (Expr (binary_operand_seat Inequality 0)) x + 4) (sym is) (omega arith)
+shifted_moved false t (shifts ShiftRightZeroFill h is) = subst (λ x. weight (Expr not_operand_seat) x ≤ weight (Expr (binary_operand_seat Inequality 0)) x + 4) (sym is) (omega arith)
+shifted_moved equal t (shifts o h is) = absurd (true≢false (sym h))
+
+enclosed_falls : (equal : Bool) (s : Seat) (a : Tree) → encloses s ≡ true → Shifted a → weight (Expr s) (zero_told equal a) < weight (Expr s) (binary (loosely equal) a (digit false))
+enclosed_falls true s a e h =
+    let here = shifted_moved true a h in
+    let marks = enclosed_marks true s e (outlines (a ▸ none)) (outlines (a ▸ digit false ▸ none)) in
+    let zero : length (signed_decimal (pos 0)) ≡ 1 = ap length (decimal_digit 0 (omega arith)) in
+    omega (arith, here, marks, zero)
+enclosed_falls false s a e h =
+    let here = shifted_moved false a h in
+    let marks = enclosed_marks false s e (outlines (negation a ▸ none)) (outlines (a ▸ digit false ▸ none)) in
+    let zero : length (signed_decimal (pos 0)) ≡ 1 = ap length (decimal_digit 0 (omega arith)) in
+    omega (arith, here, marks, zero)
+
 -- ---- all
 
 pub lighter : OperandsLighter
@@ -236,7 +278,8 @@ lighter (Expr s) n w (inr (inr (inr (inr (inr (inl r)))))) = falls_by (Expr s) n
 lighter (Expr s) n w (inr (inr (inr (inr (inr (inr (inl r))))))) = falls_by (Expr s) n w _ _ r.shape r.written (beside_falls r.operator r.on_right r.number r.known r.sided s r.seated r.operand)
 lighter (Expr s) n w (inr (inr (inr (inr (inr (inr (inr (inl r)))))))) = falls_by (Expr s) n w _ _ r.shape r.written (whole_falls r.on_right s r.operand (int32_form r.operand r.known))
 lighter (Expr s) n w (inr (inr (inr (inr (inr (inr (inr (inr (inl r))))))))) = operator_lighter s n w r
-lighter (Expr s) n w (inr (inr (inr (inr (inr (inr (inr (inr (inr r))))))))) = falls_by (Expr s) n w _ _ r.shape r.written (shifted_falls s r.operand (shifted_form r.operand r.known))
+lighter (Expr s) n w (inr (inr (inr (inr (inr (inr (inr (inr (inr (inr r)))))))))) = falls_by (Expr s) n w _ _ r.shape r.written (enclosed_falls r.equal s r.operand r.seated (shifted_form r.operand r.known))
+lighter (Expr s) n w (inr (inr (inr (inr (inr (inr (inr (inr (inr (inl r)))))))))) = falls_by (Expr s) n w _ _ r.shape r.written (shifted_falls s r.operand (shifted_form r.operand r.known))
 lighter p n w r = absurd r
 
 -- what a parent's weight reads of them
@@ -311,7 +354,8 @@ alike (Expr s) n w (inr (inr (inr (inr (inr (inl r)))))) = left_alike n w (loose
 alike (Expr s) n w (inr (inr (inr (inr (inr (inr (inl r))))))) = left_alike n w r.operator r.on_right r.operand (numeral r.number) (binary BitwiseOr r.operand (digit false)) r.shape r.written refl refl
 alike (Expr s) n w (inr (inr (inr (inr (inr (inr (inr (inl r)))))))) = let form = int32_form r.operand r.known in left_alike n w BitwiseOr r.on_right r.operand (digit false) r.operand r.shape r.written (int32_plain r.operand form) (int32_no_zero r.operand form)
 alike (Expr s) n w (inr (inr (inr (inr (inr (inr (inr (inr (inl r))))))))) = whole_alike n w (operator_outline s n w r)
-alike (Expr s) n w (inr (inr (inr (inr (inr (inr (inr (inr (inr r))))))))) = let form = shifted_form r.operand r.known in left_alike n w (loosely false) true r.operand (digit false) r.operand r.shape r.written (shifted_plain r.operand form) (shifted_no_zero r.operand form)
+alike (Expr s) n w (inr (inr (inr (inr (inr (inr (inr (inr (inr (inr r)))))))))) = left_alike n w (loosely r.equal) true r.operand (digit false) (zero_told r.equal r.operand) r.shape r.written (zero_plain r.equal r.operand (shifted_plain r.operand (shifted_form r.operand r.known))) (zero_is_none r.equal r.operand)
+alike (Expr s) n w (inr (inr (inr (inr (inr (inr (inr (inr (inr (inl r)))))))))) = let form = shifted_form r.operand r.known in left_alike n w (loosely false) true r.operand (digit false) r.operand r.shape r.written (shifted_plain r.operand form) (shifted_no_zero r.operand form)
 alike p n w r = absurd r
 
 no_items : (p : Position) (n w : Tree) → OperandRow p n w → counts_items p ≡ true → (outline n).items ≡ (outline w).items

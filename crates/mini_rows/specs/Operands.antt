@@ -206,9 +206,22 @@ pub record Row27Asked (s : Seat) (n w : Tree) : Type 0 where
   pub shape : n ≡ binary (loosely false) operand (digit false)
   pub written : w ≡ operand
 
+-- a `!` has no parentheses in the seat, where an equality has them
+abbrev pub encloses : Seat → Bool
+encloses s = nat_lt 8 s.level && nat_le s.level 14
+
+-- 27, of a shift whose comparison has parentheses: `a + (b << 1 == 0)` becomes `a + !(b << 1)`
+pub record Row27Enclosed (s : Seat) (n w : Tree) : Type 0 where
+  pub equal : Bool
+  pub operand : Tree
+  pub known : is_shifted operand ≡ true
+  pub seated : encloses s ≡ true
+  pub shape : n ≡ binary (loosely equal) operand (digit false)
+  pub written : w ≡ zero_told equal operand
+
 -- a row on operands, or on operators, reads n as w at this place
 abbrev pub OperandRow : Position → Tree → Tree → Type 0
-OperandRow (Expr s) n w = Row14 s n w ⊎ (Row7 s n w ⊎ (Row29 s n w ⊎ (Row30 n w ⊎ (Row4 n w ⊎ (Row27 n w ⊎ (Row31 s n w ⊎ (Row32 n w ⊎ (OperatorRow s n w ⊎ Row27Asked s n w))))))))
+OperandRow (Expr s) n w = Row14 s n w ⊎ (Row7 s n w ⊎ (Row29 s n w ⊎ (Row30 n w ⊎ (Row4 n w ⊎ (Row27 n w ⊎ (Row31 s n w ⊎ (Row32 n w ⊎ (OperatorRow s n w ⊎ (Row27Asked s n w ⊎ Row27Enclosed s n w)))))))))
 OperandRow _ n w = ⊥
 
 -- what it writes, where it weighs less

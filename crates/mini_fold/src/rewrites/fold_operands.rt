@@ -11,7 +11,7 @@ ghost use Rattle.mini_laws.specs.Operators.{same_boolean as are_they_same};
 ghost use Rattle.mini_terms.specs.Parts.{suits as may_suit};
 ghost use Rattle.mini_rows.specs.Booleans.{digit as digit_of};
 ghost use Rattle.mini_rows.specs.Choices.{loosely as loose};
-ghost use Rattle.mini_rows.specs.Operands.{told_by, is_undefined_name as is_it_undefined_name, is_undefined as is_it_undefined, word as word_of, tail_text as tail_of, makes_bits as do_they_make_bits, is_bits as are_they_bits, makes_int32 as do_they_make_int32, is_int32 as is_it_int32, makes_shift as does_it_shift, is_shifted as is_it_shifted, keeps_bits as does_it_keep_bits, has_room as has_it_room, zero_told as zero_told_of};
+ghost use Rattle.mini_rows.specs.Operands.{encloses as does_it_enclose, told_by, is_undefined_name as is_it_undefined_name, is_undefined as is_it_undefined, word as word_of, tail_text as tail_of, makes_bits as do_they_make_bits, is_bits as are_they_bits, makes_int32 as do_they_make_int32, is_int32 as is_it_int32, makes_shift as does_it_shift, is_shifted as is_it_shifted, keeps_bits as does_it_keep_bits, has_room as has_it_room, zero_told as zero_told_of};
 ghost use Rattle.mini_terms.specs.Kind.{is_number as is_number_of};
 ghost use Rattle.mini_tree.specs.Rule.{Applied};
 ghost use Rattle.mini_fold.specs.FoldOperators.{without_plus, masks_written, mask_written};
@@ -304,6 +304,20 @@ fn tests_shift(seat: Seat, equal: bool, left: &Node, right: &Node) -> bool
     is_zero(number(right)) && !equal && seat.boolean && is_shifted(left)
 }
 
+// Whether a `!` has no parentheses in the seat, where an equality has them.
+fn encloses(seat: Seat) -> bool
+    ensures { result ≡ does_it_enclose seat }
+{
+    8 < seat.level && seat.level <= 14
+}
+
+// Whether a shift is held against 0 in parentheses: `a + (b << 1 == 0)`
+fn tests_enclosed(seat: Seat, left: &Node, right: &Node) -> bool
+    ensures { result ≡ operand.tests_enclosed seat left.now right.now }
+{
+    is_zero(number(right)) && encloses(seat) && is_shifted(left)
+}
+
 // `!a`, or `!!a`
 fn zero_told(alloc: Global, equal: bool, bits: Node) -> Result<Node, OutOfMemory>
     ensures { IfOk result (λ w. w ≡ zero_told_of equal bits) }
@@ -427,6 +441,10 @@ fn fold_equality(
     }
     if tests_shift(seat, equal, node.child(0), node.child(1)) {
         *node = one(taken(alloc, node));
+        return Ok(true);
+    }
+    if tests_enclosed(seat, node.child(0), node.child(1)) {
+        *node = zero_told(alloc, equal, one(taken(alloc, node)))?;
         return Ok(true);
     }
     if let Some(truth) = truth_in(node.child(1)) {
