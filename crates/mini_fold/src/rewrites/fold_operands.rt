@@ -20,16 +20,17 @@ ghost use Rattle.mini_fold.specs.FoldOperands.{Gives, Rests};
 ghost use Rattle.mini_fold.specs.Lighter.{operands_lighter};
 
 use crate::rewrites::fold_operators::{
-    UNDEFINED, drops_left, drops_right, fold_delete, holds_bitwise, masked, negated_digit, told_by_types,
+    UNDEFINED, drops_left, drops_right, fold_delete, holds_bitwise, masked, negated_digit,
+    told_by_types,
 };
 use mini_model::{
     BinaryOperator, LogicalOperator, Name, OutOfMemory, Position, Seat, Shape, Text, UnaryOperator,
     decimal,
 };
 use mini_node::{
-    Node, binary, binary_operator, discard, is_identifier, is_logical, is_negation, is_null, logical,
-    logical_operator, negation, number, numeric_literal, one, string, string_literal, taken, two,
-    unary_operator,
+    Node, binary, binary_operator, discard, is_identifier, is_logical, is_negation, is_null,
+    logical, logical_operator, negation, number, numeric_literal, one, string, string_literal,
+    taken, two, unary_operator,
 };
 use mini_terms::{
     Kind, copied, goes_on, has_no_effect, is_plain_part, is_same, kind_of, leaves_nothing, suits,
