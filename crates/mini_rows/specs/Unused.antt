@@ -104,7 +104,7 @@ pub record Row72Idle (W : VariableSet) (n w : Tree) : Type 0 where
   pub shape : n ≡ block (append before (declared_among kind (resolved spelling symbol) first init last ▸ after))
   pub written : w ≡ block (append before (declared_left kind (append first last) ▸ after))
 
--- ---- a name that is read once, and that is the first thing that happens
+-- ---- a name that is read once, behind nothing but what may be evaluated after its initializer
 
 -- what evaluates its first part before all else, and asks for its value alone. A name that is called by itself isn't such a part:
 -- of a member in its place the object would be `this`
