@@ -3,7 +3,6 @@ use Rattle.std.proofs.Common.{◌≡◌, Bool, true, refl, inl}
 use Rattle.mini_model.specs.declared.kind.VariableDeclarationKind.TheVariants.{Let}
 use Rattle.mini_model.specs.declared.place.Position.{Position}
 use Rattle.mini_model.specs.declared.place.Position.TheVariants.{StatementList, BodyList}
-use Rattle.mini_model.specs.declared.shape.Shape.{Shape}
 use Rattle.mini_model.specs.Tree.{Tree, none}
 use Rattle.mini_accept.specs.WellShaped.{Slot, fits}
 use Rattle.mini_laws.specs.Value.{VariableSet}

@@ -4,11 +4,11 @@ use Rattle.std.proofs.lemmas.Bool.{eq-eqb}
 use Rattle.mini_model.specs.declared.kind.VariableDeclarationKind.TheVariants.{Let}
 use Rattle.mini_model.specs.declared.place.Position.{Position}
 use Rattle.mini_model.specs.declared.place.Position.TheVariants.{StatementList, BodyList}
-use Rattle.mini_model.specs.Tree.{Tree, Trees, none, ◌▸◌, absent, listed, expression_statement}
+use Rattle.mini_model.specs.Tree.{Tree, Trees, none, ◌▸◌, absent, expression_statement}
 use Rattle.mini_model.specs.Paths.{append}
 use Rattle.mini_laws.specs.Value.{Value, Undefined, Variable, VariableSet, Declared, Slot, Holds, choose, variable_eq, nothing}
 use Rattle.mini_laws.specs.State.{State, stop, ok, either, Environment, Writable, with_vars}
-use Rattle.mini_laws.specs.Demand.{Val, Unused, Demand, As, Stat, Declares, Binds, Request}
+use Rattle.mini_laws.specs.Demand.{Unused, Demand, As, Stat, Declares, Binds}
 use Rattle.mini_laws.specs.Command.{set_var, start, fresh_note, write_slot, at_variable, act}
 use Rattle.mini_laws.specs.Fits.{Fits}
 use Rattle.mini_laws.specs.Naming.{summary, summaries, lets_all}
@@ -19,7 +19,7 @@ use Rattle.mini_laws.proofs.Runs.{either_assoc, either_cong, either_eta, either_
 use Rattle.mini_laws.proofs.Stretching.{exec}
 use Rattle.mini_kept.specs.Loosely.{SameWith}
 use Rattle.mini_rows.specs.DeadCases.{Known, known, value_of}
-use Rattle.mini_rows.specs.Lists.{declaration, declarator, binding, resolved, assigned, Beginning, begun, begun_without, begins_well, InList}
+use Rattle.mini_rows.specs.Lists.{declaration, declarator, binding, resolved, assigned, begun, begun_without, InList}
 use Rattle.mini_rows.specs.Lets.{Row70Let, LetRow}
 use Rattle.mini_rows.proofs.DeadCaseMeaning.{known_means, known_declares}
 use Rattle.mini_rows.proofs.ListBegun.{put_is, assigned_is, initialised}

@@ -1,5 +1,5 @@
 -- What is written for a `let` and the assignment of a value after it is lighter.
-use Rattle.std.proofs.Common.{◌≡◌, ◌<◌, ◌≤◌, ◌+◌, Bool, true, refl, inl, true≢false, sym}
+use Rattle.std.proofs.Common.{◌≡◌, ◌≤◌, ◌+◌, true, refl, inl, true≢false, sym}
 use Rattle.std.specs.Prelude.{◌⊎◌}
 use Rattle.mini_model.specs.declared.kind.VariableDeclarationKind.TheVariants.{Let}
 use Rattle.mini_model.specs.declared.place.Position.{Position}
@@ -9,7 +9,6 @@ use Rattle.mini_model.specs.Weight.{outline, weight}
 use Rattle.mini_laws.specs.Value.{VariableSet}
 use Rattle.mini_laws.specs.Weights.{counts_items}
 use Rattle.mini_rows.specs.DeadCases.{known}
-use Rattle.mini_rows.specs.Lists.{InList}
 use Rattle.mini_rows.specs.Lets.{Row70Let, LetRow, LetsLighter, LetsLighten}
 use Rattle.mini_rows.proofs.ListWeights.{Falls, replaced, value_falls, list_lighter, body_lighter, list_chosen, body_chosen, same_outline}
 

@@ -1,9 +1,7 @@
 -- An assignment that begins the statement after a `var`, and becomes an initializer in it, is kept.
-use Rattle.std.specs.Prelude.{ℕ, ◌+◌, ◌≤◌, ◌≡◌, refl, not, ◌&&◌, ◌||◌, Bool, true, false, List, [], ◌∷◌, ◌++◌, Contains, Option, None}
-use Rattle.std.proofs.Common.{ap, ◌∙◌, sym, subst, arith, inl, inr, ◌⊎◌}
+use Rattle.std.specs.Prelude.{ℕ, ◌+◌, ◌≤◌, ◌≡◌, refl, not, ◌&&◌, ◌||◌, Bool, true, false, List, [], ◌∷◌, ◌++◌, Option}
+use Rattle.std.proofs.Common.{ap, ◌∙◌, sym, subst, arith}
 use Rattle.std.proofs.lemmas.Bool.{and_parts}
-use Rattle.std.proofs.lemmas.List.{append-nil}
-use Rattle.std.proofs.lemmas.List.Elements.{Contains-append_cases}
 use Rattle.mini_model.specs.declared.kind.VariableDeclarationKind.{VariableDeclarationKind}
 use Rattle.mini_model.specs.declared.kind.VariableDeclarationKind.TheVariants.{Var, Let}
 use Rattle.mini_model.specs.declared.name.Name.{Name}
@@ -13,27 +11,26 @@ use Rattle.mini_model.specs.declared.place.Position.TheVariants.{StatementList}
 use Rattle.mini_model.specs.declared.shape.Shape.TheVariants as shape
 use Rattle.mini_model.specs.Tree.{Tree, Trees, none, ◌▸◌, absent, listed, identifier, shape_of, expression_statement, if_else}
 use Rattle.mini_model.specs.Paths.{append}
-use Rattle.mini_accept.specs.WellShaped.{Depth, a_loop_left, a_declarator, a_statement, a_case, an_init, an_expression, one, one_or_absent, many, each, fits, fill, nested}
+use Rattle.mini_accept.specs.WellShaped.{Depth, a_loop_left, a_statement, a_case, an_init, an_expression, one, one_or_absent, many, each, fits, fill, nested}
 use Rattle.mini_laws.specs.declared.names.Use.{Use}
-use Rattle.mini_laws.specs.declared.names.Use.TheVariants.{Read, Hoisted}
+use Rattle.mini_laws.specs.declared.names.Use.TheVariants.{Read}
 use Rattle.mini_laws.specs.declared.names.Declared.{Declared}
 use Rattle.mini_laws.specs.declared.names.Declared.TheVariants as declared
 use Rattle.mini_laws.specs.declared.names.Targets.{Targets}
 use Rattle.mini_laws.specs.DeclaredNames.{lexical_names, has_inner, any_inner, names_of, all_names, body_names}
 use Rattle.mini_laws.specs.Scopes.{scopes_by, lexical_scope}
 use Rattle.mini_laws.specs.Resolved.{Environment}
-use Rattle.mini_laws.specs.Scoped.{Scoped}
 use Rattle.mini_laws.specs.Symbols.{declared as declared_in, symbols_in, times}
-use Rattle.mini_laws.specs.Early.{clashing, own_declarations, scope_declarations, early_names, targets_of, early_jumps}
+use Rattle.mini_laws.specs.Early.{clashing, own_declarations}
 use Rattle.mini_laws.proofs.Changes.{times_both}
 use Rattle.mini_laws.specs.Value.{Variable, VariableSet}
-use Rattle.mini_laws.specs.State.{Fixed, Writable, Constant, KeepsOld}
-use Rattle.mini_laws.specs.Fixity.{fixity_by, stricter, fixed_by, fixed_by_any}
-use Rattle.mini_laws.specs.Bodies.{Around, Body, bodies, bodies_from}
+use Rattle.mini_laws.specs.State.{Writable}
+use Rattle.mini_laws.specs.Fixity.{fixity_by, fixed_by, fixed_by_any}
+use Rattle.mini_laws.specs.Bodies.{Around, Body, bodies_from}
 use Rattle.mini_kept.specs.AlikeBodies.{BodiesKept}
 use Rattle.mini_kept.specs.Carried.{numbers, all_numbers}
-use Rattle.mini_kept.specs.Declaring.{declared as names_declared, declared_all}
-use Rattle.mini_kept.specs.Frames.{Frame, frames, FramesKept}
+use Rattle.mini_kept.specs.Declaring.{declared_all}
+use Rattle.mini_kept.specs.Frames.{Frame, FramesKept}
 use Rattle.mini_kept.specs.KeepsNames.{count_of}
 use Rattle.mini_kept.proofs.Anywhere.{once_anywhere, targets_anywhere}
 use Rattle.mini_kept.proofs.Below.{both_counts}
@@ -41,7 +38,7 @@ use Rattle.mini_kept.proofs.Bools.{left}
 use Rattle.mini_kept.proofs.Fixed.{of_children}
 use Rattle.mini_kept.proofs.Quiet.{no_names}
 use Rattle.mini_kept.proofs.Unplaced.{as_body}
-use Rattle.mini_rows.specs.Lists.{sequence, return_statement, throw_statement, of_parts, Return, Throw, If, Switch, For, resolved, binding, declarator, assigned, Holder, Statement, Heading, Going, Declaring, holding, holds_well, begins_well, are_parts, declaration, Each, EachIn, EachOf, each_loop, Beginning, Alone, Init, Before, begun, begun_without, InList, Row70}
+use Rattle.mini_rows.specs.Lists.{sequence, return_statement, throw_statement, of_parts, Return, Throw, If, Switch, For, resolved, declarator, assigned, Holder, Statement, Heading, Going, Declaring, holding, holds_well, begins_well, are_parts, declaration, Each, EachIn, EachOf, each_loop, Beginning, Alone, Init, Before, begun, begun_without, InList, Row70}
 use Rattle.mini_rows.specs.DeadCases.{known}
 use Rattle.mini_rows.specs.Lets.{Row70Let}
 use Rattle.mini_rows.specs.Arranged.{KeptAt}
@@ -55,7 +52,7 @@ use Rattle.mini_rows.proofs.ArrangedFolds.{port}
 use Rattle.mini_rows.proofs.ArrangedGather.{concat}
 use Rattle.mini_rows.proofs.ListShapes as shape_law
 use Rattle.mini_rows.proofs.ListShapes.{of_expression, of_return, of_throw, of_if, parts_fit, of_parts_fits, first_fits}
-use Rattle.mini_rows.proofs.ListKeptValues.{Opens, Names, stricter_alone, bare, given, inner_value, no_inner, fixed_value, fixed_bare, declared_value, frames_value, bodies_value, numbers_value, no_numbers, symbols_value, once_value, jumps_value, scoped_value, among_value}
+use Rattle.mini_rows.proofs.ListKeptValues.{Opens, Names, stricter_alone, bare, given, inner_value, no_inner, fixed_value, fixed_bare, frames_value, bodies_value, numbers_value, symbols_value, once_value, jumps_value, scoped_value, among_value}
 use Rattle.mini_rows.proofs.ListKeptSpots as spots
 use Rattle.mini_rows.proofs.ListKeptKeys.{left_lexical, left_scope}
 use Rattle.mini_rows.proofs.ListKeptStretch.{stretched, parted, sum_joined, NamesStretched, Stretched, stretch_kept}
@@ -577,7 +574,6 @@ held_sequence strict k (Heading (If u v)) ts f = (of_if strict k (sequence ts) u
 held_sequence strict k (Heading (Switch cases)) ts f = left (fits strict (one an_expression) (sequence ts)) (fits strict (many a_case) cases && true) f
 held_sequence strict k (Heading (For u v w)) ts f =
     left (fits strict (one_or_absent an_init) (sequence ts)) (fits strict (one_or_absent an_expression) u && (fits strict (one_or_absent an_expression) v && (fits strict (one (a_statement nested)) w && true))) f
-
 held_sequence strict k (Going EachIn l w) ts f =
     let r = (and_parts (fits strict (one (a_loop_left true)) l) (fits strict (one an_expression) (sequence ts) && (fits strict (one (a_statement nested)) w && true)) f).1 in
     left (fits strict (one an_expression) (sequence ts)) (fits strict (one (a_statement nested)) w && true) r

@@ -1,9 +1,8 @@
 -- Where an expression stands on the right of a `for..in` or `for..of`, or as the first initializer of a declaration: what holds of the
 -- statement holds of it and of what stands beside it.
-use Rattle.std.specs.Prelude.{ℕ, ◌+◌, ◌≤◌, ◌≡◌, refl, ◌||◌, not, Bool, true, false, List, [], ◌∷◌, ◌++◌, Contains, Option, None}
+use Rattle.std.specs.Prelude.{ℕ, ◌+◌, ◌≤◌, ◌≡◌, refl, ◌||◌, not, Bool, true, false, List, [], ◌∷◌, ◌++◌, Option, None}
 use Rattle.std.proofs.Common.{ap, ◌∙◌, sym, subst, arith}
 use Rattle.std.proofs.lemmas.List.{append-nil}
-use Rattle.std.proofs.lemmas.List.Elements.{Contains-append_left, Contains-append_right}
 use Rattle.mini_model.specs.declared.kind.VariableDeclarationKind.{VariableDeclarationKind}
 use Rattle.mini_model.specs.declared.name.Name.{Name}
 use Rattle.mini_model.specs.declared.name.SymbolId.{SymbolId}
@@ -15,7 +14,7 @@ use Rattle.mini_laws.specs.declared.names.Declared.{Declared}
 use Rattle.mini_laws.specs.declared.names.Declared.TheVariants as declared
 use Rattle.mini_laws.specs.declared.names.Targets.{Targets}
 use Rattle.mini_laws.specs.DeclaredNames.{has_inner, names_of, all_names, body_names}
-use Rattle.mini_laws.specs.Scopes.{scopes_by, lexical_scope}
+use Rattle.mini_laws.specs.Scopes.{scopes_by}
 use Rattle.mini_laws.specs.Resolved.{Environment}
 use Rattle.mini_laws.specs.Scoped.{Scoped}
 use Rattle.mini_laws.specs.Symbols.{declared as declared_in, symbols_in, times}
@@ -34,15 +33,15 @@ use Rattle.mini_kept.proofs.BodyLists.{both_of as both_bodies}
 use Rattle.mini_kept.proofs.Fixed.{of_children}
 use Rattle.mini_laws.proofs.Changes.{times_both}
 use Rattle.mini_kept.proofs.Unplaced.{as_body}
-use Rattle.mini_rows.specs.Lists.{declaration, binding, declarator, for_in, Each, EachIn, EachOf, each_loop}
+use Rattle.mini_rows.specs.Lists.{declaration, declarator, for_in, Each, EachIn, EachOf, each_loop}
 use Rattle.mini_rows.specs.Sketches.{AList, Asked, AsWholeList, AsWholeItem, AsValue, Leap}
-use Rattle.mini_rows.proofs.Arranging.{Any, Local, Summed}
+use Rattle.mini_rows.proofs.Arranging.{Any, Local}
 use Rattle.mini_rows.proofs.ArrangedNames.{ScopedAs, scoped_local, symbol_times, symbols_summed, number_times, numbers_summed, InnerIf, inner_local, Once, once_local, HasTarget, Aimed, aimed_local}
 use Rattle.mini_rows.proofs.ArrangedBodies.{quiet, HasBodies, bodies_local, HasFrames, frames_local, Among, Declares, declares_local, FixedBy, fixed_local, rank}
 use Rattle.mini_rows.proofs.ArrangedValues.{is_value}
 use Rattle.mini_rows.proofs.ArrangedFolds.{port}
 use Rattle.mini_rows.proofs.ListKeptStretch.{joined, parted, sum_joined}
-use Rattle.mini_rows.proofs.ListKeptDeclarations.{over, names_if, is_var, declares_as, scope_if, opens, used, own_fixed, split_rank, both_rank, names_are, body_are, declarations_are, scoped_down, scoped_up, symbols_are, inner_is, numbers_are, declared_are, frames_are, bodies_are, once_is, jumps_are, fixed_down, fixed_up}
+use Rattle.mini_rows.proofs.ListKeptDeclarations.{names_if, is_var, declares_as, scope_if, opens, used, own_fixed, split_rank, both_rank, names_are, body_are, declarations_are, scoped_down, scoped_up, symbols_are, inner_is, numbers_are, declared_are, frames_are, bodies_are, once_is, jumps_are, fixed_down, fixed_up}
 use Rattle.mini_rows.proofs.ListKeptValues.{Opens, Names, or_nothing, stricter_alone}
 use Rattle.mini_rows.proofs.ListKeptHeads.{or_both, both_or, split_bodies}
 use Rattle.mini_rows.proofs.ListKeptKeys as keys

@@ -1,61 +1,34 @@
 -- What holds of a declarator holds of its value, and of a statement of what stands in it.
-use Rattle.std.specs.Prelude.{ℕ, ◌+◌, ◌≤◌, ◌≡◌, refl, not, ◌&&◌, ◌||◌, Bool, true, false, List, [], ◌∷◌, ◌++◌, Contains, Option, None}
-use Rattle.std.proofs.Common.{ap, ◌∙◌, sym, subst, arith, inl, inr, ◌⊎◌}
+use Rattle.std.specs.Prelude.{◌≡◌, refl, ◌||◌, Bool, true, false, List, [], ◌∷◌, ◌++◌, Contains, None}
+use Rattle.std.proofs.Common.{ap, ◌∙◌, sym, subst, inl, inr, ◌⊎◌}
 use Rattle.std.proofs.lemmas.List.{append-nil}
 use Rattle.std.proofs.lemmas.List.Elements.{Contains-append_cases}
-use Rattle.mini_model.specs.declared.kind.VariableDeclarationKind.{VariableDeclarationKind}
-use Rattle.mini_model.specs.declared.kind.VariableDeclarationKind.TheVariants.{Var, Let}
 use Rattle.mini_model.specs.declared.name.Name.{Name}
-use Rattle.mini_model.specs.declared.name.SymbolId.{SymbolId}
-use Rattle.mini_model.specs.declared.operator.AssignmentOperator.TheVariants.{Assign}
-use Rattle.mini_model.specs.declared.place.Position.TheVariants.{StatementList}
 use Rattle.mini_model.specs.declared.shape.Shape.TheVariants as shape
-use Rattle.mini_model.specs.Tree.{Tree, Trees, none, ◌▸◌, absent, listed, identifier, shape_of, expression_statement, if_else}
-use Rattle.mini_model.specs.Paths.{append}
-use Rattle.mini_accept.specs.WellShaped.{Depth, a_statement, a_case, an_init, an_expression, one, one_or_absent, many, each, fits, fill, nested}
+use Rattle.mini_model.specs.Tree.{Tree, none, ◌▸◌, absent}
 use Rattle.mini_laws.specs.declared.names.Use.{Use}
-use Rattle.mini_laws.specs.declared.names.Use.TheVariants.{Read, Hoisted}
+use Rattle.mini_laws.specs.declared.names.Use.TheVariants.{Read}
 use Rattle.mini_laws.specs.declared.names.Declared.{Declared}
-use Rattle.mini_laws.specs.declared.names.Declared.TheVariants as declared
 use Rattle.mini_laws.specs.declared.names.Targets.{Targets}
-use Rattle.mini_laws.specs.DeclaredNames.{has_inner, any_inner, names_of, all_names, body_names}
-use Rattle.mini_laws.specs.Scopes.{scopes_by, lexical_scope}
+use Rattle.mini_laws.specs.DeclaredNames.{has_inner, names_of, body_names}
+use Rattle.mini_laws.specs.Scopes.{scopes_by}
 use Rattle.mini_laws.specs.Resolved.{Environment}
 use Rattle.mini_laws.specs.Scoped.{Scoped}
-use Rattle.mini_laws.specs.Symbols.{declared as declared_in, symbols_in, times}
-use Rattle.mini_laws.specs.Early.{clashing, own_declarations, scope_declarations, early_names, targets_of, early_jumps}
-use Rattle.mini_laws.proofs.Changes.{times_both}
-use Rattle.mini_laws.specs.Value.{Variable, VariableSet}
+use Rattle.mini_laws.specs.Symbols.{declared as declared_in}
+use Rattle.mini_laws.specs.Early.{scope_declarations, early_names, targets_of, early_jumps}
+use Rattle.mini_laws.specs.Value.{Variable}
 use Rattle.mini_laws.specs.State.{Fixed, Writable, Constant, KeepsOld}
-use Rattle.mini_laws.specs.Fixity.{fixity_by, stricter, fixed_by, fixed_by_any}
-use Rattle.mini_laws.specs.Bodies.{Around, Body, bodies, bodies_from}
-use Rattle.mini_kept.specs.AlikeBodies.{BodiesKept}
-use Rattle.mini_kept.specs.Carried.{numbers, all_numbers}
-use Rattle.mini_kept.specs.Declaring.{declared as names_declared, declared_all}
-use Rattle.mini_kept.specs.Frames.{Frame, frames, FramesKept}
-use Rattle.mini_kept.specs.KeepsNames.{count_of}
-use Rattle.mini_kept.proofs.Anywhere.{once_anywhere, targets_anywhere}
-use Rattle.mini_kept.proofs.Below.{both_counts}
-use Rattle.mini_kept.proofs.Bools.{left}
+use Rattle.mini_laws.specs.Fixity.{stricter, fixed_by}
+use Rattle.mini_laws.specs.Bodies.{Around, bodies}
+use Rattle.mini_kept.specs.Carried.{numbers}
+use Rattle.mini_kept.specs.Declaring.{declared as names_declared}
+use Rattle.mini_kept.specs.Frames.{frames}
 use Rattle.mini_kept.proofs.Fixed.{of_children}
-use Rattle.mini_kept.proofs.Quiet.{no_names}
 use Rattle.mini_kept.proofs.Unplaced.{as_body}
-use Rattle.mini_rows.specs.Lists.{sequence, return_statement, throw_statement, of_parts, Return, Throw, If, Switch, For, resolved, binding, declarator, assigned, Holder, Statement, Heading, holding, Beginning, Alone, Init, Before, begun, begun_without, InList, Row70}
-use Rattle.mini_rows.specs.DeadCases.{known}
-use Rattle.mini_rows.specs.Lets.{Row70Let}
-use Rattle.mini_rows.specs.Arranged.{KeptAt}
-use Rattle.mini_rows.specs.Sketches.{AList, Sequence, Assignment, OfExpression, part, Asked, AsWholeList, AsWholeItem, AsValue, AsValues, AsTarget, AsBranch, Leap, leaps}
-use Rattle.mini_rows.specs.Sketches as sketch
-use Rattle.mini_rows.proofs.Arranging.{All, Any, Leaping, Local, sum_all, Summed}
-use Rattle.mini_rows.proofs.ArrangedNames.{ScopedAs, scoped_local, symbol_times, symbols_summed, number_times, numbers_summed, InnerIf, inner_local, Once, once_local, HasTarget, Aimed, aimed_local}
-use Rattle.mini_rows.proofs.ArrangedBodies.{quiet, HasBodies, bodies_local, HasFrames, frames_local, Among, Declares, declares_local, FixedBy, fixed_local, rank}
-use Rattle.mini_rows.proofs.ArrangedValues.{is_value, Valued, sketch_valued}
+use Rattle.mini_rows.specs.Lists.{binding, declarator}
+use Rattle.mini_rows.specs.Sketches.{Asked, AsWholeItem, AsValue}
+use Rattle.mini_rows.proofs.ArrangedBodies.{quiet, Among}
 use Rattle.mini_rows.proofs.ArrangedFolds.{port}
-use Rattle.mini_rows.proofs.ArrangedGather.{concat}
-use Rattle.mini_rows.proofs.ListShapes.{of_expression, of_return, of_throw, of_if, parts_fit, of_parts_fits, first_fits}
-use Rattle.mini_rows.proofs.ListKeptStretch.{stretched, parted, sum_joined, NamesStretched, Stretched, stretch_kept}
-use Rattle.mini_rows.proofs.ListKeptDeclarations.{over, names_if, is_var, declares_as, scope_if, opens, used, names_are, body_are, declarations_are, all_both, scoped_down as var_scoped_down, scoped_up as var_scoped_up, symbols_are, inner_is, numbers_are, declared_are, frames_are, bodies_are, once_is, jumps_are}
-use Rattle.mini_rows.proofs.ListKeptHeads.{parts_of_it, it_of_parts, of_statement, statement_of, nothing_there, sum_parts, sum_statement, Seat, Loop, Choice, seated, rest, quiet_value, inner_down, inner_up, fixed_down, fixed_up, declares_down, declares_up, frames_beside, frames_down, frames_up, bodies_down, bodies_up, numbers_beside, jumps_beside, aimed_down, aimed_up, Unlexical, value_unlexical, declared_beside, names_beside, once_down, once_up, ScopedBeside, scoped_down, scoped_up, symbols_beside, seated_symbols, seated_hoists, seated_names, seated_body, seated_as_body, seated_port, seated_calm, statement_names, statement_body, statement_as_body, second_of}
 
 -- ---- what holds of a statement, and of an expression in it and what stands beside that
 

@@ -25,7 +25,7 @@ use Rattle.mini_laws.proofs.Truth.{coherent}
 use Rattle.mini_laws.proofs.Rows.{Equal, equal_same}
 use Rattle.mini_node.specs.Walks.{append_none}
 use Rattle.mini_rows.specs.Switches.{Switches}
-use Rattle.mini_rows.specs.Lists.{declares_nothing, is_one_part_shape, are_parts, of_parts, block, return_statement, throw_statement, switch, for_loop, for_in, declaration, or_void, Head, Return, Throw, If, Switch, For, with_head, Row66Empty, Row66Joined, Row67, Row67Absent, Row67In, Row68, Row68Free, Row68Init, Row73, Row73Bare, Row76, Row79, SequencesRow, LoopRow, JoinRow, StretchRow, InList, ListRow, Row74, NeighbourRow, Saying, AsStatement, AsReturn, AsThrow, says, Row77, Leap, Breaks, Continues, leap, Row77Leap, Row77Unreached, declared_bare, left_behind, is_unscoped, sequence, resolved, assigned, Statement, Heading, Beginning, Alone, Init, Before, begun, begun_without, begins_well, Row70, Each, EachIn, EachOf, Row69, is_plain_left, binding, declarator, Going, Declaring, each_loop}
+use Rattle.mini_rows.specs.Lists.{declares_nothing, is_one_part_shape, are_parts, of_parts, block, return_statement, throw_statement, switch, for_loop, for_in, declaration, or_void, Head, Return, Throw, If, Switch, For, with_head, Row66Empty, Row66Joined, Row67, Row67Absent, Row67In, Row68, Row68Free, Row68Init, Row73, Row73Bare, Row76, Row79, SequencesRow, LoopRow, JoinRow, StretchRow, InList, ListRow, Row74, NeighbourRow, Saying, AsStatement, AsReturn, AsThrow, says, Row77, Leap, Breaks, Continues, leap, Row77Leap, Row77Unreached, declared_bare, left_behind, is_unscoped, sequence, resolved, assigned, Statement, Heading, Beginning, Alone, Init, Before, begun, begun_without, begins_well, Row70, Each, EachIn, EachOf, Row69, is_plain_left, declarator, Going, Declaring, each_loop}
 use Rattle.mini_rows.specs.ListLaws.{ListsMeanSame}
 use Rattle.mini_rows.proofs.ListStretches.{ReadSame, SameStretch, exec_one, exec_two, exec_more, listed_is, in_list, list_does, list_reads, replaced, read_in_list}
 use Rattle.mini_rows.proofs.ListParts.{joined_is}

@@ -1,6 +1,6 @@
 -- 70: an assignment that begins the statement after a `var`.
 use Rattle.std.proofs.Common.{◌≡◌, ℕ, zero, suc, ◌+◌, ◌<◌, ◌≤◌, Bool, true, false, refl, sym, ap, ◌∙◌, subst, inl, inr, ⊎_elim, true≢false, arith}
-use Rattle.std.specs.Prelude.{◌⊎◌, is_some as is_there, not, ◌&&◌, ◌||◌, if◌then◌else◌, List, [], ◌∷◌, Option, Some, None, nat_eq, Result, Ok, Err, IfOk}
+use Rattle.std.specs.Prelude.{◌⊎◌, is_some as is_there, not, ◌&&◌, ◌||◌, if◌then◌else◌, List, [], ◌∷◌, Option, Some, None, Result, Ok, Err, IfOk}
 use Rattle.std.proofs.lemmas.Bool.{and_parts, eqb-true, eq-eqb}
 use Rattle.mini_model.specs.declared.kind.VariableDeclarationKind.{VariableDeclarationKind}
 use Rattle.mini_model.specs.declared.kind.VariableDeclarationKind.TheVariants.{Var}
@@ -17,7 +17,7 @@ use Rattle.mini_node.specs.Children.{part, with_part, with_child, without, is_ba
 use Rattle.mini_node.specs.Lends.{with_children}
 use Rattle.mini_node.specs.Kinds.{is_absent_part, is_identifier, is_named_leaf, is_listed, is_sequence, is_expression_statement, same_symbol, same_names}
 use Rattle.mini_node.specs.Made.{listed_is, absent_is, sequence_is, expression_statement_is, identifier_is}
-use Rattle.mini_node.specs.Walks.{from_first, next_child, no_rest, append_one, append_none}
+use Rattle.mini_node.specs.Walks.{from_first, next_child, no_rest, append_one}
 use Rattle.mini_rows.specs.Lists.{of_parts, are_parts, sequence, for_loop, declaration, declares_nothing, resolved, binding, declarator, assigned, is_declarator_shape, is_bare_declarator, are_bare_declarators, Head, Return, Throw, If, Switch, For, with_head, Holder, Statement, Heading, Going, Declaring, holding, holds_well, is_plain_left, Beginning, Alone, Init, Before, begun, begun_without, begins_well, Row70, Each, EachIn, EachOf, each_loop, bare_var, Row69, EntersRow, InList}
 use Rattle.mini_stmt.specs.JoinHeads.{is_for, is_for_in, has_head}
 use Rattle.mini_stmt.specs.JoinVars.{declared_kind, declares}
@@ -31,7 +31,7 @@ use Rattle.mini_stmt.proofs.Parts.{not_true, below}
 use Rattle.mini_stmt.proofs.Follows.{head_by, for_is, for_in_is, with_other, declared_is, declares_is}
 use Rattle.mini_stmt.proofs.Guards.{last_pushed, last_is, apart_rests, all_rest}
 use Rattle.mini_stmt.proofs.Quiet.{quiet_rests}
-use Rattle.mini_stmt.proofs.Stepping.{neighbours_in, steps_on, changes_on}
+use Rattle.mini_stmt.proofs.Stepping.{neighbours_in, steps_on}
 
 pub both : (a b : Bool) → a ≡ true → b ≡ true → a && b ≡ true
 both true b e f = f
@@ -246,8 +246,8 @@ first_held u e l g =
     let starts = sym (ap (λ b. b || (goes_over u || declares_first u)) l ∙ ap (λ b. b || declares_first u) g) ∙ there in
     let is = (starts_by u starts).is in
     let here : held u ≡ part (part (part u 0) 0) 1 =
-        ap (λ c. if c then part u 0 else (if goes_over u then part u 1 else (if declares_first u then part (part (part u 0) 0) 1 else u))) l ∙ ap (λ c. if c then part u 1 else (if declares_first u then part (part (part u 0) 0) 1 else u)) g
-        ∙ ap (λ c. if c then part (part (part u 0) 0) 1 else u) starts in
+    ap (λ c. if c then part u 0 else (if goes_over u then part u 1 else (if declares_first u then part (part (part u 0) 0) 1 else u))) l ∙ ap (λ c. if c then part u 1 else (if declares_first u then part (part (part u 0) 0) 1 else u)) g
+    ∙ ap (λ c. if c then part (part (part u 0) 0) 1 else u) starts in
     let children_is = ap (λ t. count (children t)) is in
     let declarator_is = ap (λ t. count (children (part (part t 0) 0))) is in
     record { some = omega (arith, children_is); declarator = omega (arith, declarator_is); parts = subst (λ t. 1 < count (children (part t 0))) here (sequence_held u e) }

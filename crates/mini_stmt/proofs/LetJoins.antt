@@ -1,10 +1,9 @@
 -- 70: the assignment of a value after a `let`.
-use Rattle.std.proofs.Common.{◌≡◌, ℕ, zero, suc, ◌+◌, ◌<◌, ◌≤◌, Bool, true, false, List, [], ◌∷◌, Option, Some, None, refl, sym, ap, ◌∙◌, subst, true≢false, arith}
+use Rattle.std.proofs.Common.{◌≡◌, ℕ, zero, suc, ◌+◌, ◌<◌, ◌≤◌, Bool, true, false, [], Option, Some, refl, sym, ap, ◌∙◌, subst, true≢false, arith}
 use Rattle.std.specs.Prelude.{ℤ, pos, not, ◌&&◌, ◌||◌, Result, Ok, Err, IfOk}
 use Rattle.std.proofs.lemmas.Bool.{and_parts, eq-eqb}
 use Rattle.mini_model.specs.declared.kind.VariableDeclarationKind.TheVariants.{Let}
 use Rattle.mini_model.specs.declared.memory.OutOfMemory.{OutOfMemory}
-use Rattle.mini_model.specs.declared.name.Name.{Name}
 use Rattle.mini_model.specs.declared.operator.AssignmentOperator.TheVariants.{Assign}
 use Rattle.mini_model.specs.declared.operator.UnaryOperator.{UnaryOperator}
 use Rattle.mini_model.specs.declared.operator.UnaryOperator.TheVariants.{Void, LogicalNot}
@@ -19,14 +18,14 @@ use Rattle.mini_node.specs.Children.{part, with_part, names_of, rest_children}
 use Rattle.mini_node.specs.Lends.{with_children}
 use Rattle.mini_node.specs.Kinds.{is_listed, number, unary_operator}
 use Rattle.mini_node.specs.Made.{listed_is, number_is, unary_is}
-use Rattle.mini_node.specs.Walks.{from_first, next_child, no_rest, append_one, append_none}
+use Rattle.mini_node.specs.Walks.{from_first, next_child, no_rest, append_one}
 use Rattle.mini_tree.specs.declared.options.CompressOptions.{CompressOptions}
 use Rattle.mini_tree.specs.Rule.{Applied}
 use Rattle.mini_tree.proofs.Reaching.{moves_once, moves_trans}
 use Rattle.mini_context.specs.declared.context.TraverseCtx.{TraverseCtx}
 use Rattle.mini_context.specs.Known.{Knows}
 use Rattle.mini_rows.specs.DeadCases.{Known, a_number, a_text, a_truth, a_null, undefined, known}
-use Rattle.mini_rows.specs.Lets.{Row70Let, LetRow, LetContracts}
+use Rattle.mini_rows.specs.Lets.{Row70Let, LetContracts}
 use Rattle.mini_rows.specs.Lists.{declaration, declarator, binding, resolved, assigned, begun, InList}
 use Rattle.mini_rows.proofs.DeadCaseMeaning.{known_declares}
 use Rattle.mini_rows.proofs.LetWeights.{lets_lighter}

@@ -1,5 +1,4 @@
 use Rattle.std.proofs.Common.{◌∙◌, ap, sym, subst, arith}
-use Rattle.mini_model.specs.Tree.{◌▸◌}
 use Rattle.mini_model.specs.Paths.{append}
 use Rattle.mini_node.specs.Walks.{append_none}
 use Rattle.mini_stmt.specs.MinimizeStatements.{reversed}

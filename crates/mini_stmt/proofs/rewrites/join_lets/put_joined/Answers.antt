@@ -1,4 +1,4 @@
-use Rattle.std.proofs.Common.{◌∙◌, sym}
+use Rattle.std.proofs.Common.{sym}
 use Rattle.mini_stmt.specs.JoinLets.{marked}
 use Rattle.mini_stmt.proofs.LetJoins.{put_apart, put_joined, last_may, some_last}
 use Rattle.mini_stmt.proofs.rewrites.join_lets.put_joined.Goals as goal

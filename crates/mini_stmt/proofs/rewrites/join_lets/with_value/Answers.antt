@@ -1,10 +1,5 @@
-use Rattle.std.proofs.Common.{◌∙◌, ap, sym, subst}
-use Rattle.mini_model.specs.declared.kind.VariableDeclarationKind.TheVariants.{Let}
-use Rattle.mini_model.specs.declared.shape.Shape.TheVariants as shape
-use Rattle.mini_model.specs.Tree.{node, none, ◌▸◌, children, count}
-use Rattle.mini_model.specs.Paths.{append}
-use Rattle.mini_rows.specs.Lists.{declaration}
-use Rattle.mini_stmt.specs.JoinGuards.{last_after}
+use Rattle.std.proofs.Common.{◌∙◌, ap, sym}
+use Rattle.mini_model.specs.Tree.{children}
 use Rattle.mini_stmt.proofs.LetJoins.{last_parts}
 use Rattle.mini_stmt.proofs.rewrites.join_lets.with_value.Goals as goal
 
