@@ -1,6 +1,6 @@
 -- What the rows of names that nothing mentions write of the head of a `for` is loosely lawful.
 use Rattle.std.specs.Prelude.{ℕ, ◌≡◌, ◌⊎◌, refl, ◌&&◌, Bool, true, false, [], Contains, Option, None, nat_le}
-use Rattle.std.proofs.Common.{ap, ◌∙◌, sym, subst, subst₂, inl, inr, true≢false}
+use Rattle.std.proofs.Common.{ap, ◌∙◌, sym, subst, inl, inr, true≢false}
 use Rattle.std.proofs.lemmas.Bool.{and_parts}
 use Rattle.mini_model.specs.declared.kind.VariableDeclarationKind.{VariableDeclarationKind}
 use Rattle.mini_model.specs.declared.name.Name.{Name}
@@ -14,7 +14,7 @@ use Rattle.mini_model.specs.Paths.{append}
 use Rattle.mini_accept.specs.WellShaped.{Depth, in_module, in_body, nested, Class, a_statement, a_declarator, a_key, a_private_or_key, an_inner_key, a_default_export, an_init, an_expression, Slot, one, one_or_absent, each, filling, filling_by, fits, fill}
 use Rattle.mini_laws.specs.Value.{Declared, VariableSet, nothing}
 use Rattle.mini_laws.specs.State.{Environment}
-use Rattle.mini_laws.specs.Demand.{Tail, Demand, Stat}
+use Rattle.mini_laws.specs.Demand.{Tail, Stat}
 use Rattle.mini_laws.specs.Naming.{summary}
 use Rattle.mini_laws.specs.Same.{Same}
 use Rattle.mini_laws.specs.Substitution.{alone}
@@ -44,7 +44,7 @@ use Rattle.mini_rows.proofs.ListShapes.{init_declares, append_fits, both_fit, fi
 use Rattle.mini_rows.proofs.UnusedKept.{LeavesThere, NamesThere}
 use Rattle.mini_rows.proofs.UnusedLawful.{Dropped, in_tails, idle_vanishes}
 use Rattle.mini_rows.proofs.UnusedMeaning.{for_same}
-use Rattle.mini_rows.proofs.UnusedNames.{or_parts, unmentioned, avoided, all_avoided}
+use Rattle.mini_rows.proofs.UnusedNames.{or_parts, unmentioned, all_avoided}
 
 -- ---- the declaration without the declarator fits where it stood
 

@@ -28,11 +28,11 @@ use Rattle.mini_laws.proofs.Drops.{dropped}
 use Rattle.mini_laws.specs.Value.{Variable, variable_eq, variable_of}
 use Rattle.mini_laws.specs.State.{Writable}
 use Rattle.mini_laws.specs.Fixity.{stricter, fixed_by}
-use Rattle.mini_laws.specs.Bodies.{Around, Body, below, bodies}
+use Rattle.mini_laws.specs.Bodies.{Around, below, bodies}
 use Rattle.mini_kept.specs.AlikeBodies.{BodiesKept}
 use Rattle.mini_kept.specs.Carried.{numbers}
 use Rattle.mini_kept.specs.Declaring.{declared as names_declared}
-use Rattle.mini_kept.specs.Frames.{Frame, property_below, frames, FramesKept}
+use Rattle.mini_kept.specs.Frames.{property_below, frames, FramesKept}
 use Rattle.mini_kept.specs.KeepsNames.{Keeps, count_of}
 use Rattle.mini_kept.specs.Loosely.{symbol}
 use Rattle.mini_kept.specs.SameNames.{NoMoreClash}

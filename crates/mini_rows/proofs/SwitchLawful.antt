@@ -1,5 +1,5 @@
 -- What the rows of names that nothing mentions write of a switch is loosely lawful.
-use Rattle.std.specs.Prelude.{ℕ, ◌≡◌, ◌⊎◌, refl, ◌&&◌, ◌||◌, Bool, true, false, List, [], Contains, Option, None}
+use Rattle.std.specs.Prelude.{ℕ, ◌≡◌, ◌⊎◌, refl, ◌&&◌, ◌||◌, Bool, true, false, [], Contains, Option, None}
 use Rattle.std.proofs.Common.{ap, ◌∙◌, sym, subst, inl, inr, true≢false}
 use Rattle.std.proofs.lemmas.Bool.{and_parts}
 use Rattle.mini_model.specs.declared.name.Name.{Name}
@@ -14,7 +14,7 @@ use Rattle.mini_accept.specs.WellShaped.{Depth, in_module, in_body, nested, Clas
 use Rattle.mini_laws.specs.declared.names.Declared.TheVariants.{Lexical}
 use Rattle.mini_laws.specs.Value.{Declared, VariableSet, nothing}
 use Rattle.mini_laws.specs.State.{Environment}
-use Rattle.mini_laws.specs.Demand.{Tail, Demand, Stat}
+use Rattle.mini_laws.specs.Demand.{Tail, Stat}
 use Rattle.mini_laws.specs.Naming.{summary}
 use Rattle.mini_laws.specs.Same.{Same}
 use Rattle.mini_laws.specs.Substitution.{alone}
@@ -34,11 +34,10 @@ use Rattle.mini_kept.proofs.Bools.{left, both}
 use Rattle.mini_kept.proofs.Expressions.{refused_here}
 use Rattle.mini_kept.proofs.InOrder.{in_order}
 use Rattle.mini_kept.proofs.ShownFrames.{kept_shown}
-use Rattle.mini_kept.proofs.WithoutLists.{nothing_part, from_kept}
-use Rattle.mini_node.specs.Kinds.{is_listed_shape}
+use Rattle.mini_kept.proofs.WithoutLists.{from_kept}
 use Rattle.mini_rows.specs.Cases.{switch_case}
-use Rattle.mini_rows.specs.Lists.{block, switch}
-use Rattle.mini_rows.specs.Unused.{resolved, names, any_names, switch_around, BlockRow, SwitchRow}
+use Rattle.mini_rows.specs.Lists.{switch}
+use Rattle.mini_rows.specs.Unused.{resolved, names, any_names, switch_around, SwitchRow}
 use Rattle.mini_rows.proofs.ArrowBodyLawful.{list_fits}
 use Rattle.mini_rows.proofs.ListShapes.{append_fits, both_fit, first_fits, more_fit}
 use Rattle.mini_rows.proofs.SwitchKept.{case_leaves, case_names, switch_less, switch_kept, switch_keeps, switch_fixed, switch_frames, switch_bodies, switch_declares}
