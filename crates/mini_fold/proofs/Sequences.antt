@@ -14,6 +14,8 @@ use Rattle.mini_model.specs.declared.shape.Shape.{Shape}
 use Rattle.mini_model.specs.declared.shape.Shape.TheVariants as shape
 use Rattle.mini_model.specs.Tree.{Tree, Trees, node, none, ◌▸◌, count, node_count, shape_of, children, child_or_absent, first_or_absent}
 use Rattle.mini_model.specs.Paths.{append}
+use Rattle.mini_model.specs.Position.{passed_part_seat}
+use Rattle.mini_model.specs.Weight.{Outline, outlines, place_weight, is_parenthesized, is_awkward}
 use Rattle.mini_node.specs.Children.{part, with_child, like, first_children, rest_children, with_inserted, without}
 use Rattle.mini_node.specs.Kinds.{logical_operator, binary_operator, unary_operator, is_conditional, is_negation, is_sequence_shape, is_sequence, sequence}
 use Rattle.mini_node.specs.Lends.{with_children}
@@ -21,11 +23,11 @@ use Rattle.mini_node.specs.Made.{unary_is, binary_is, logical_is, conditional_is
 use Rattle.mini_node.specs.Walks.{from_first, next_child, no_rest}
 use Rattle.mini_terms.specs.Folds.{is_effect_free}
 use Rattle.mini_terms.specs.Parts.{is_number, leaves_nothing, weighs}
-use Rattle.mini_rows.specs.Sequences.{Plus, Minus, Complement, Operation, Decides, Chooses, Negates, Operates, Converts, Yields, over, along, takes_last, takes_along, is_open_seat, takes_alone, stays_alone, Row20, Row21, Row21Idle, Row21Alone, SequenceRow}
+use Rattle.mini_rows.specs.Sequences.{Plus, Minus, Complement, Operation, Decides, Chooses, Negates, Operates, Converts, Yields, over, along, innermost, operation_shape, operand_seat, takes_last, takes_along, is_inner_shape, is_bare_at, lifts_out, takes_alone, stays_alone, Row20, Row21, Row21Idle, Row21Alone, SequenceRow}
 use Rattle.mini_rows.proofs.SequenceWeights.{lighter}
 use Rattle.mini_tree.specs.Rule.{Applied}
 use Rattle.mini_tree.proofs.Reaching.{moves_once}
-use Rattle.mini_fold.specs.FoldSequences.{has_several, is_several, last_of, but_last, converts, is_minus, is_operation, takes_last_of, is_yield, gives_parts, reaches_sequence, is_lifted, parts_before, left_of, lifted, any_of, is_nested, spread_at, is_idle, idle_before_last, is_left, loses_part, Gives, Rests}
+use Rattle.mini_fold.specs.FoldSequences.{has_several, is_several, last_of, but_last, converts, is_minus, is_operation, takes_last_of, is_yield, gives_parts, reaches_sequence, first_place, ends_bare, leaves_bare, has_room, is_lifted, parts_before, left_of, lifted, any_of, is_nested, spread_at, is_idle, idle_before_last, is_left, loses_part, Gives, Rests}
 
 pub several_by_count : (ts : Trees) → nat_le 2 (count ts) ≡ has_several ts
 several_by_count none = refl
@@ -118,6 +120,25 @@ over_no_sequence (Operates o b) q = refl
 over_no_sequence (Converts c) q = refl
 over_no_sequence (Yields d) q = refl
 
+over_shape : (o : Operation) (q : Tree) → shape_of (over o q) ≡ operation_shape o
+over_shape (Decides o b) q = refl
+over_shape (Chooses b c) q = refl
+over_shape Negates q = refl
+over_shape (Operates o b) q = refl
+over_shape (Converts c) q = refl
+over_shape (Yields d) q = refl
+
+-- its first operand stands in the seat of that
+over_place : (o : Operation) (q : Tree) → first_place (over o q) ≡ Expr (operand_seat o passed_part_seat)
+over_place (Decides o b) q = refl
+over_place (Chooses b c) q = refl
+over_place Negates q = refl
+over_place (Operates o b) q = refl
+over_place (Converts Plus) q = refl
+over_place (Converts Minus) q = refl
+over_place (Converts Complement) q = refl
+over_place (Yields d) q = refl
+
 -- a node from which a sequence is reached is built so, and the parts of the sequence are before the last, and that in its place
 record Reached (t : Tree) : Type 0 where
   operation : Operation
@@ -127,6 +148,8 @@ record Reached (t : Tree) : Type 0 where
   last : Tree
   takes : takes_along operation operations last ≡ true
   is : t ≡ over operation (along operations (sequence (first ▸ append others (last ▸ none))))
+  shape_is : shape_of t ≡ operation_shape operation
+  bare : leaves_bare t ≡ is_bare_at (Expr (operand_seat (innermost operation operations) passed_part_seat)) last
   before : parts_before t ≡ first ▸ others
   left : left_of t ≡ over operation (along operations last)
 
@@ -147,6 +170,12 @@ module _ (h : Shape) (xs : List Name) (n : ℕ) (a : Tree) (ts : Trees) (o : Ope
   left_is : left_of whole ≡ over o.operation (left_of a)
   left_is = ap (λ b. if b then last_of (children a) else node h xs n (left_of a ▸ ts)) plain ∙ sym (put_first h xs n ts a (left_of a)) ∙ o.other (left_of a)
 
+  place_is : first_place whole ≡ Expr (operand_seat o.operation passed_part_seat)
+  place_is = ap first_place o.is ∙ over_place o.operation a
+
+  shaped : h ≡ operation_shape o.operation
+  shaped = ap shape_of o.is ∙ over_shape o.operation a
+
   -- the operand is the sequence
   at_once : is_sequence a ≡ true → (us : Trees) → children (part a 0) ≡ us → has_several us ≡ true → takes_last_of whole us ≡ true → Reached whole
   at_once is none f e k = absurd (true≢false (sym e))
@@ -160,6 +189,8 @@ module _ (h : Shape) (xs : List Name) (n : ℕ) (a : Tree) (ts : Trees) (o : Ope
         last = last_of (d ▸ us);
         takes = o.takes (last_of (d ▸ us)) k;
         is = o.is ∙ ap (over o.operation) (same ∙ ap (λ vs. sequence (c ▸ vs)) (ended d us));
+        shape_is = shaped;
+        bare = ap (λ t. if is_sequence_shape (shape_of t) then ends_bare (first_place whole) (children (part t 0)) else leaves_bare t) same ∙ ap (λ p. is_bare_at p (last_of (d ▸ us))) place_is;
         before = before_is ∙ ap parts_before same;
         left = left_is ∙ ap (λ t. over o.operation (left_of t)) same;
       }
@@ -174,6 +205,8 @@ module _ (h : Shape) (xs : List Name) (n : ℕ) (a : Tree) (ts : Trees) (o : Ope
     last = r.last;
     takes = r.takes;
     is = o.is ∙ ap (over o.operation) r.is;
+    shape_is = shaped;
+    bare = ap (λ b. if b then ends_bare (first_place whole) (children (part a 0)) else leaves_bare a) (ap is_sequence_shape r.shape_is ∙ sym (ap is_sequence_shape (over_shape r.operation a)) ∙ over_no_sequence r.operation a) ∙ r.bare;
     before = before_is ∙ r.before;
     left = left_is ∙ ap (over o.operation) r.left;
   }
@@ -196,16 +229,33 @@ reached (node h xs n (a ▸ ts)) e =
     let (operates, rest) = and_parts (is_operation (node h xs n (a ▸ ts))) (gives_parts (node h xs n (a ▸ ts)) a || reaches_sequence a) e in
     by_operand h xs n a ts (operated (node h xs n (a ▸ ts)) operates) (λ k. reached a k) (gives_parts (node h xs n (a ▸ ts)) a) refl rest
 
+-- parentheses are 4, and the rest of what a place adds is 1 at most
+four_marks : (s : Seat) (r : Operation) (os : List Outline) → nat_le 4 (place_weight (Expr s) (operation_shape r) os) ≡ is_parenthesized (operation_shape r) s
+four_marks s r os = go (is_parenthesized (operation_shape r) s) (is_awkward s (operation_shape r) os)
+  where
+    go : (b c : Bool) → nat_le 4 ((if b then 4 else 0) + (if c then 1 else 0)) ≡ b
+    go true true = refl
+    go true false = refl
+    go false true = refl
+    go false false = refl
+
+room_is : (s : Seat) (t : Tree) (r : Reached t) → has_room s t ≡ (nat_eq s.level 0 || (is_parenthesized (operation_shape r.operation) s || is_bare_at (Expr (operand_seat (innermost r.operation r.operations) passed_part_seat)) r.last))
+room_is s t r =
+    ap (λ h. nat_eq s.level 0 || (nat_le 4 (place_weight (Expr s) h (outlines (children t))) || leaves_bare t)) r.shape_is
+    ∙ ap (λ b. nat_eq s.level 0 || (b || leaves_bare t)) (four_marks s r.operation (outlines (children t)))
+    ∙ ap (λ b. nat_eq s.level 0 || (is_parenthesized (operation_shape r.operation) s || b)) r.bare
+
 lifted_row : (s : Seat) (t : Tree) → is_lifted s t ≡ true → Row20 s t (lifted t)
 lifted_row s t e =
-    let (seated, reaches) = and_parts (is_open_seat s) (reaches_sequence t) e in
+    let (seated, rest) = and_parts (not s.lifted) (reaches_sequence t && has_room s t) e in
+    let (reaches, room) = and_parts (reaches_sequence t) (has_room s t) rest in
     let r = reached t reaches in record {
       operation = r.operation;
       operations = r.operations;
       first = r.first;
       others = r.others;
       last = r.last;
-      seated = seated;
+      seated = both_true (not s.lifted) _ seated (sym (room_is s t r) ∙ room);
       takes = r.takes;
       shape = r.is;
       written = ap (λ ts. sequence (append ts (left_of t ▸ none))) r.before ∙ ap (λ u. sequence (r.first ▸ append r.others (u ▸ none))) r.left;
@@ -302,10 +352,72 @@ reaches r (o ∷ rs) p ps l k =
     let inner = over o (along rs (sequence (p ▸ append ps (l ▸ none)))) in
     by_first r inner (or_true (gives_parts (over r inner) inner) (reaches_sequence inner) (reaches o rs p ps l k))
 
-lifts : (s : Seat) (r : Operation) (rs : List Operation) (p : Tree) (ps : Trees) (l : Tree) → is_open_seat s ≡ true → takes_along r rs l ≡ true → is_lifted s (over r (along rs (sequence (p ▸ append ps (l ▸ none))))) ≡ true
-lifts s r rs p ps l h k = both_true (is_open_seat s) (reaches_sequence (over r (along rs (sequence (p ▸ append ps (l ▸ none)))))) h (reaches r rs p ps l k)
+-- the last part in place of the sequence
+bare_over : (r : Operation) (q : Tree) → leaves_bare (over r q) ≡ (if is_sequence_shape (shape_of q) then ends_bare (Expr (operand_seat r passed_part_seat)) (children (part q 0)) else leaves_bare q)
+bare_over (Decides o b) q = refl
+bare_over (Chooses b c) q = refl
+bare_over Negates q = refl
+bare_over (Operates o b) q = refl
+bare_over (Converts Plus) q = refl
+bare_over (Converts Minus) q = refl
+bare_over (Converts Complement) q = refl
+bare_over (Yields d) q = refl
+
+bare_along : (r : Operation) (rs : List Operation) (p : Tree) (ps : Trees) (l : Tree) → leaves_bare (over r (along rs (sequence (p ▸ append ps (l ▸ none))))) ≡ is_bare_at (Expr (operand_seat (innermost r rs) passed_part_seat)) l
+bare_along r [] p ps l = bare_over r (sequence (p ▸ append ps (l ▸ none))) ∙ ap (is_bare_at (Expr (operand_seat r passed_part_seat))) (last_append (p ▸ ps) l)
+bare_along r (o ∷ rs) p ps l =
+    let inner = over o (along rs (sequence (p ▸ append ps (l ▸ none)))) in
+    bare_over r inner
+    ∙ ap (λ b. if b then ends_bare (Expr (operand_seat r passed_part_seat)) (children (part inner 0)) else leaves_bare inner) (over_no_sequence o (along rs (sequence (p ▸ append ps (l ▸ none)))))
+    ∙ bare_along o rs p ps l
+
+lifts : (s : Seat) (r : Operation) (rs : List Operation) (p : Tree) (ps : Trees) (l : Tree) → lifts_out s r rs l ≡ true → takes_along r rs l ≡ true → is_lifted s (over r (along rs (sequence (p ▸ append ps (l ▸ none))))) ≡ true
+lifts s r rs p ps l h k =
+    let t = over r (along rs (sequence (p ▸ append ps (l ▸ none)))) in
+    let (seated, room) = and_parts (not s.lifted) (nat_eq s.level 0 || (is_parenthesized (operation_shape r) s || is_bare_at (Expr (operand_seat (innermost r rs) passed_part_seat)) l)) h in
+    both_true (not s.lifted) (reaches_sequence t && has_room s t) seated
+    (both_true (reaches_sequence t) (has_room s t) (reaches r rs p ps l k)
+    (ap (λ h. nat_eq s.level 0 || (nat_le 4 (place_weight (Expr s) h (outlines (children t))) || leaves_bare t)) (over_shape r (along rs (sequence (p ▸ append ps (l ▸ none)))))
+    ∙ ap (λ b. nat_eq s.level 0 || (b || leaves_bare t)) (four_marks s r (outlines (children t)))
+    ∙ ap (λ b. nat_eq s.level 0 || (is_parenthesized (operation_shape r) s || b)) (bare_along r rs p ps l)
+    ∙ room))
 
 -- ---- a look along first operands, and what is taken out there
+
+pub no_marks : (p : Position) (t : Tree) → is_inner_shape (shape_of t) ≡ false → is_bare_at p t ≡ (place_weight p (shape_of t) (outlines (children t)) == 0)
+no_marks p t e = ap (λ b. not b && nat_eq (place_weight p (shape_of t) (outlines (children t))) 0) e ∙ zero_alike (place_weight p (shape_of t) (outlines (children t)))
+  where
+    zero_alike : (n : ℕ) → nat_eq n 0 ≡ (n == 0)
+    zero_alike n = refl
+
+pub no_last : (p : Position) (ts : Trees) → count ts == 0 ≡ true → ends_bare p ts ≡ false
+no_last p none e = refl
+no_last p (t ▸ ts) e = let is = eqb-true (suc (count ts)) 0 e in absurd (omega (arith, is))
+
+last_child : (t : Tree) (ts : Trees) (i : ℕ) → i ≡ count ts → child_or_absent (t ▸ ts) i ≡ last_of (t ▸ ts)
+last_child t none i e = ap (child_or_absent (t ▸ none)) e
+last_child t (u ▸ us) zero e = absurd (omega (arith, e))
+last_child t (u ▸ us) (suc i) e = last_child u us i (omega (arith, e))
+
+pub last_bare : (p : Position) (ts : Trees) (i : ℕ) → i + 1 ≡ count ts → is_bare_at p (child_or_absent ts i) ≡ ends_bare p ts
+last_bare p none i e = absurd (omega (arith, e))
+last_bare p (t ▸ ts) i e = ap (is_bare_at p) (last_child t ts i (omega (arith, e)))
+
+pub some_count : (ts : Trees) → count ts == 0 ≡ false → 0 < count ts
+some_count none e = absurd (true≢false e)
+some_count (t ▸ ts) e = omega arith
+
+pub no_parts : (p : Position) (t : Tree) → count (children t) == 0 ≡ true → ends_bare p (children (part t 0)) ≡ false
+no_parts p (node h xs n none) e = refl
+no_parts p (node h xs n (t ▸ ts)) e = let is = eqb-true (suc (count ts)) 0 e in absurd (omega (arith, is))
+
+pub no_bare : (t : Tree) → count (children t) == 0 ≡ true → leaves_bare t ≡ false
+no_bare (node h xs n none) e = refl
+no_bare (node h xs n (t ▸ ts)) e = let is = eqb-true (suc (count ts)) 0 e in absurd (omega (arith, is))
+
+pub bare_by : (t : Tree) → 0 < count (children t) → leaves_bare t ≡ (if is_sequence_shape (shape_of (part t 0)) then ends_bare (first_place t) (children (part (part t 0) 0)) else leaves_bare (part t 0))
+bare_by (node h xs n none) e = absurd (omega (arith, e))
+bare_by (node h xs n (t ▸ ts)) e = refl
 
 pub part_fewer : (t : Tree) → 0 < count (children t) → node_count (part t 0) < node_count t
 part_fewer (node h xs n none) e = absurd (omega (arith, e))

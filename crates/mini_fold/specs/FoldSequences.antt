@@ -4,16 +4,19 @@ use Rattle.std.specs.Prelude.{ℕ, Bool, true, false, not, ◌&&◌, ◌||◌, n
 use Rattle.mini_model.specs.declared.operator.UnaryOperator.{UnaryOperator}
 use Rattle.mini_model.specs.declared.operator.UnaryOperator.TheVariants.{UnaryPlus, UnaryNegation, BitwiseNot}
 use Rattle.mini_model.specs.declared.place.Position.{Position}
+use Rattle.mini_model.specs.declared.place.Position.TheVariants.{Expr}
 use Rattle.mini_model.specs.declared.seat.Seat.{Seat}
 use Rattle.mini_model.specs.declared.shape.Shape.{Shape}
 use Rattle.mini_model.specs.declared.shape.Shape.TheVariants as shape
 use Rattle.mini_model.specs.Tree.{Tree, Trees, node, none, ◌▸◌, absent, shape_of, children, count, child_or_absent, first_or_absent}
 use Rattle.mini_model.specs.Paths.{append}
+use Rattle.mini_model.specs.Position.{passed_part_seat, child_position}
+use Rattle.mini_model.specs.Weight.{outlines, place_weight}
 use Rattle.mini_node.specs.Children.{part, is_bare, first_children, rest_children, without}
 use Rattle.mini_node.specs.Kinds.{logical_operator, binary_operator, unary_operator, is_conditional, is_negation, is_sequence_shape, is_sequence, sequence}
 use Rattle.mini_terms.specs.Folds.{is_effect_free}
 use Rattle.mini_terms.specs.Parts.{is_number, leaves_nothing, weighs}
-use Rattle.mini_rows.specs.Sequences.{is_open_seat, takes_alone, stays_alone, SequenceRow, SequenceContracts}
+use Rattle.mini_rows.specs.Sequences.{is_bare_at, takes_alone, stays_alone, SequenceRow, SequenceContracts}
 
 -- two or more
 abbrev pub has_several : Trees → Bool
@@ -73,9 +76,27 @@ abbrev pub reaches_sequence : Tree → Bool
 reaches_sequence (node h xs n none) = false
 reaches_sequence (node h xs n (a ▸ ts)) = is_operation (node h xs n (a ▸ ts)) && (gives_parts (node h xs n (a ▸ ts)) a || reaches_sequence a)
 
--- which is to be lifted out here
+-- where the first operand of a node stands
+abbrev pub first_place : Tree → Position
+first_place t = child_position (shape_of t) (Expr passed_part_seat) (count (children t)) 0
+
+-- the last of these has neither parentheses there nor a form that a lighter one is wanted for
+abbrev pub ends_bare : Position → Trees → Bool
+ends_bare p none = false
+ends_bare p (t ▸ ts) = is_bare_at p (last_of (t ▸ ts))
+
+-- so is the last part of the sequence that is reached, in place of it
+abbrev pub leaves_bare : Tree → Bool
+leaves_bare (node h xs n none) = false
+leaves_bare (node h xs n (a ▸ ts)) = if is_sequence_shape (shape_of a) then ends_bare (first_place (node h xs n (a ▸ ts))) (children (part a 0)) else leaves_bare a
+
+-- what is lifted out here has no parentheses, or the node has had some, or the last part has none
+abbrev pub has_room : Seat → Tree → Bool
+has_room s t = nat_eq s.level 0 || (nat_le 4 (place_weight (Expr s) (shape_of t) (outlines (children t))) || leaves_bare t)
+
+-- it is to be lifted out here
 abbrev pub is_lifted : Seat → Tree → Bool
-is_lifted s t = is_open_seat s && reaches_sequence t
+is_lifted s t = not s.lifted && (reaches_sequence t && has_room s t)
 
 -- the parts but the last of the sequence that it is, or of the one that it reaches
 abbrev pub parts_before : Tree → Trees

@@ -14,16 +14,16 @@ use Rattle.mini_model.specs.declared.seat.Mix.TheVariants as mix
 use Rattle.mini_model.specs.declared.seat.Seat.{Seat}
 use Rattle.mini_model.specs.declared.shape.Shape.{Shape}
 use Rattle.mini_model.specs.declared.shape.Shape.TheVariants as shape
-use Rattle.mini_model.specs.Tree.{Tree, Trees, node, none, ◌▸◌, count, listed}
+use Rattle.mini_model.specs.Tree.{Tree, Trees, node, none, ◌▸◌, count, children, listed}
 use Rattle.mini_model.specs.Paths.{append}
-use Rattle.mini_model.specs.Position.{seat_of_level, left_level, unary_level, unary_operand_seat, binary_operand_seat, left_operand_seat, conditional_test_seat, passed_part_seat, not_operand_seat, yield_argument_seat}
+use Rattle.mini_model.specs.Position.{seat_of_level, left_level, unary_level, unary_operand_seat, binary_operand_seat, left_operand_seat, right_operand_seat, conditional_test_seat, branch_seat, passed_part_seat, not_operand_seat, yield_argument_seat}
 use Rattle.mini_model.specs.Weight.{Outline, outline, outlines, weight, place_weight, nth_items, first_is_zero, level_of, mixes, is_chain, is_call, is_parenthesized, is_awkward}
 use Rattle.mini_laws.specs.Weights.{Lightens, counts_items}
 use Rattle.mini_laws.proofs.Seats.{placed, placed_node}
 use Rattle.mini_terms.specs.Parts.{weighs}
 use Rattle.mini_terms.specs.Reading.{first_of, is_plain_part, are_plain_parts}
 use Rattle.mini_rows.specs.Lists.{sequence}
-use Rattle.mini_rows.specs.Sequences.{Conversion, Plus, Minus, Complement, conversion_operator, Operation, Decides, Chooses, Negates, Operates, Converts, Yields, over, along, is_open_seat, is_unmixed, takes_alone, Row21Alone, SequenceRow, SequenceContracts, SequencesLighter}
+use Rattle.mini_rows.specs.Sequences.{Conversion, Plus, Minus, Complement, conversion_operator, Operation, Decides, Chooses, Negates, Operates, Converts, Yields, over, along, innermost, operation_shape, operand_seat, is_open_seat, is_bare_at, lifts_out, is_unmixed, takes_alone, Row21Alone, SequenceRow, SequenceContracts, SequencesLighter}
 use Rattle.mini_rows.proofs.ListWeights.{parts_total, parts_weight, sequence_weighs}
 use Rattle.mini_rows.proofs.SequenceCalls.{left_plain}
 use Rattle.mini_rows.proofs.FoldWeights.{two, no_inner, there, no_choice}
@@ -142,15 +142,6 @@ left_moved Or s t = placed 4 (left_operand_seat Or s) passed_part_seat refl (lef
 left_moved And s t = placed 4 (left_operand_seat And s) passed_part_seat refl (left_marks And s) t
 left_moved Coalesce s t = placed 4 (left_operand_seat Coalesce s) passed_part_seat refl (left_marks Coalesce s) t
 
--- the seat of the first operand
-abbrev operand_seat : Operation → Seat → Seat
-operand_seat (Decides o b) s = left_operand_seat o s
-operand_seat (Chooses b c) s = conditional_test_seat
-operand_seat Negates s = not_operand_seat
-operand_seat (Operates o b) s = binary_operand_seat o 0
-operand_seat (Converts c) s = conversion_seat c
-operand_seat (Yields d) s = yield_argument_seat
-
 -- with another operand a node weighs what the operand weighs more or less
 exchanged : (s : Seat) (r : Operation) (x y : Tree) → weight (Expr s) (over r x) + weight (Expr (operand_seat r s)) y ≡ weight (Expr s) (over r y) + weight (Expr (operand_seat r s)) x
 exchanged s (Decides Or b) x y = omega arith
@@ -165,20 +156,31 @@ exchanged s (Converts Complement) x y = omega arith
 exchanged s (Yields d) x y = omega arith
 
 -- as a part of a sequence it has neither parentheses nor a mark
-part_marks : (s : Seat) (h : Shape) (os : List Outline) → place_weight (Expr passed_part_seat) h os ≡ 0 → place_weight (Expr passed_part_seat) h os ≤ place_weight (Expr s) h os + 0
-part_marks s h os e = omega (arith, e)
 
-as_part : (s : Seat) (r : Operation) (x : Tree) → weight (Expr passed_part_seat) (over r x) ≤ weight (Expr s) (over r x) + 0
-as_part s (Decides Or b) x = placed_node 0 passed_part_seat s (shape.LogicalExpression Or) refl [] 0 (x ▸ (b ▸ none)) (part_marks s (shape.LogicalExpression Or) (outlines (x ▸ (b ▸ none))) refl)
-as_part s (Decides And b) x = placed_node 0 passed_part_seat s (shape.LogicalExpression And) refl [] 0 (x ▸ (b ▸ none)) (part_marks s (shape.LogicalExpression And) (outlines (x ▸ (b ▸ none))) refl)
-as_part s (Decides Coalesce b) x = placed_node 0 passed_part_seat s (shape.LogicalExpression Coalesce) refl [] 0 (x ▸ (b ▸ none)) (part_marks s (shape.LogicalExpression Coalesce) (outlines (x ▸ (b ▸ none))) refl)
-as_part s (Chooses b c) x = placed_node 0 passed_part_seat s shape.ConditionalExpression refl [] 0 (x ▸ (b ▸ (c ▸ none))) (part_marks s shape.ConditionalExpression (outlines (x ▸ (b ▸ (c ▸ none)))) refl)
-as_part s Negates x = placed_node 0 passed_part_seat s (shape.UnaryExpression LogicalNot) refl [] 0 (x ▸ none) (part_marks s (shape.UnaryExpression LogicalNot) (outlines (x ▸ none)) refl)
-as_part s (Operates o b) x = placed_node 0 passed_part_seat s (shape.BinaryExpression o) refl [] 0 (x ▸ (b ▸ none)) (part_marks s (shape.BinaryExpression o) (outlines (x ▸ (b ▸ none))) (operator_marks o (outlines (x ▸ (b ▸ none)))))
-as_part s (Converts Plus) x = placed_node 0 passed_part_seat s (shape.UnaryExpression UnaryPlus) refl [] 0 (x ▸ none) (part_marks s (shape.UnaryExpression UnaryPlus) (outlines (x ▸ none)) refl)
-as_part s (Converts Minus) x = placed_node 0 passed_part_seat s (shape.UnaryExpression UnaryNegation) refl [] 0 (x ▸ none) (part_marks s (shape.UnaryExpression UnaryNegation) (outlines (x ▸ none)) refl)
-as_part s (Converts Complement) x = placed_node 0 passed_part_seat s (shape.UnaryExpression BitwiseNot) refl [] 0 (x ▸ none) (part_marks s (shape.UnaryExpression BitwiseNot) (outlines (x ▸ none)) refl)
-as_part s (Yields d) x = placed_node 0 passed_part_seat s (shape.YieldExpression d) refl [] 0 (x ▸ none) (part_marks s (shape.YieldExpression d) (outlines (x ▸ none)) refl)
+left_same : (o : LogicalOperator) (s : Seat) (t : Tree) → weight (Expr (left_operand_seat o passed_part_seat)) t ≤ weight (Expr (left_operand_seat o s)) t + 0
+left_same Or s t = placed 0 (left_operand_seat Or passed_part_seat) (left_operand_seat Or s) refl (λ h os. omega arith) t
+left_same And s t = placed 0 (left_operand_seat And passed_part_seat) (left_operand_seat And s) refl (λ h os. omega arith) t
+left_same Coalesce s t = placed 0 (left_operand_seat Coalesce passed_part_seat) (left_operand_seat Coalesce s) refl (λ h os. omega arith) t
+
+right_same : (o : LogicalOperator) (s : Seat) (t : Tree) → weight (Expr (right_operand_seat o passed_part_seat)) t ≤ weight (Expr (right_operand_seat o s)) t + 0
+right_same Or s t = placed 0 (right_operand_seat Or passed_part_seat) (right_operand_seat Or s) refl (λ h os. omega arith) t
+right_same And s t = placed 0 (right_operand_seat And passed_part_seat) (right_operand_seat And s) refl (λ h os. omega arith) t
+right_same Coalesce s t = placed 0 (right_operand_seat Coalesce passed_part_seat) (right_operand_seat Coalesce s) refl (λ h os. omega arith) t
+
+branch_same : (s : Seat) (t : Tree) → weight (Expr (branch_seat passed_part_seat)) t ≤ weight (Expr (branch_seat s)) t + 0
+branch_same s t = placed 0 (branch_seat passed_part_seat) (branch_seat s) refl (λ h os. omega arith) t
+
+as_part : (s : Seat) (r : Operation) (x : Tree) → weight (Expr passed_part_seat) (over r x) + place_weight (Expr s) (operation_shape r) (outlines (children (over r x))) ≤ weight (Expr s) (over r x)
+as_part s (Decides Or b) x = let first = left_same Or s x in let second = right_same Or s b in omega (arith, first, second)
+as_part s (Decides And b) x = let first = left_same And s x in let second = right_same And s b in omega (arith, first, second)
+as_part s (Decides Coalesce b) x = let first = left_same Coalesce s x in let second = right_same Coalesce s b in omega (arith, first, second)
+as_part s (Chooses b c) x = let second = branch_same s b in let third = branch_same s c in omega (arith, second, third)
+as_part s Negates x = omega arith
+as_part s (Operates o b) x = let own = operator_marks o (outlines (x ▸ b ▸ none)) in omega (arith, own)
+as_part s (Converts Plus) x = omega arith
+as_part s (Converts Minus) x = omega arith
+as_part s (Converts Complement) x = omega arith
+as_part s (Yields d) x = omega arith
 
 -- an operand has parentheses at most, where a sequence has 5, its parentheses and its mark
 operand_is : (r : Operation) (s : Seat) (t : Tree) → weight (Expr (operand_seat r s)) t ≤ weight (Expr passed_part_seat) t + 4
@@ -201,29 +203,73 @@ sequence_is (Converts Minus) s os = refl
 sequence_is (Converts Complement) s os = refl
 sequence_is (Yields d) s os = refl
 
+-- the last part has no parentheses in the place of the sequence, whatever is around
+same_marks : (r : Operation) (s : Seat) (h : Shape) (os : List Outline) → place_weight (Expr (operand_seat r s)) h os ≡ place_weight (Expr (operand_seat r passed_part_seat)) h os
+same_marks (Decides Or b) s h os = refl
+same_marks (Decides And b) s h os = refl
+same_marks (Decides Coalesce b) s h os = refl
+same_marks (Chooses b c) s h os = refl
+same_marks Negates s h os = refl
+same_marks (Operates o b) s h os = refl
+same_marks (Converts c) s h os = refl
+same_marks (Yields d) s h os = refl
+
+bare_moved : (r : Operation) (s : Seat) (q : Tree) → is_bare_at (Expr (operand_seat r passed_part_seat)) q ≡ true → weight (Expr (operand_seat r s)) q ≤ weight (Expr passed_part_seat) q + 0
+bare_moved r s (node shape.InnerExpression xs n ts) e = absurd (true≢false (sym e))
+bare_moved r s (node h xs n ts) e =
+    let marks = eqb-true (place_weight (Expr (operand_seat r passed_part_seat)) h (outlines ts)) 0 e in
+    let same = same_marks r s h (outlines ts) in
+    placed_node 0 (operand_seat r s) passed_part_seat h refl xs n ts (omega (arith, marks, same))
+
 module _ (p : Tree) (ps : Trees) (q : Tree) where
   abbrev parts : Trees
   parts = append ps (q ▸ none)
 
-  -- the last part in place of the sequence, however deep in first operands
-  operand_falls : (r : Operation) (s : Seat) (rs : List Operation) → weight (Expr (operand_seat r s)) (along rs q) + parts_weight p parts + 1 ≤ weight (Expr (operand_seat r s)) (along rs (sequence (p ▸ parts))) + weight (Expr passed_part_seat) q
-  operand_falls r s [] =
+  -- the last part in place of the sequence, however deep in first operands, where d of the parentheses and the mark are won
+  operand_falls : (d : ℕ) (r : Operation) (s : Seat) (rs : List Operation) → ((c : Seat) → weight (Expr (operand_seat (innermost r rs) c)) q + d ≤ weight (Expr passed_part_seat) q + 5) → weight (Expr (operand_seat r s)) (along rs q) + parts_weight p parts + d ≤ weight (Expr (operand_seat r s)) (along rs (sequence (p ▸ parts))) + weight (Expr passed_part_seat) q
+  operand_falls d r s [] h =
       let inner = sequence_weighs (operand_seat r s) p parts in
       let marks = sequence_is r s (outlines (listed (p ▸ parts) ▸ none)) in
-      let last = operand_is r s q in
+      let last = h s in
       omega (arith, inner, marks, last)
-  operand_falls r s (o ∷ rs) =
+  operand_falls d r s (o ∷ rs) h =
       let same = exchanged (operand_seat r s) o (along rs q) (along rs (sequence (p ▸ parts))) in
-      let inner = operand_falls o (operand_seat r s) rs in
+      let inner = operand_falls d o (operand_seat r s) rs h in
       omega (arith, same, inner)
 
   -- so the node over it as a part of a sequence
-  node_falls : (s : Seat) (r : Operation) (rs : List Operation) → weight (Expr passed_part_seat) (over r (along rs q)) + parts_weight p parts + 1 ≤ weight (Expr s) (over r (along rs (sequence (p ▸ parts)))) + weight (Expr passed_part_seat) q
-  node_falls s r rs =
+  node_falls : (d : ℕ) (s : Seat) (r : Operation) (rs : List Operation) → ((c : Seat) → weight (Expr (operand_seat (innermost r rs) c)) q + d ≤ weight (Expr passed_part_seat) q + 5) → weight (Expr passed_part_seat) (over r (along rs q)) + place_weight (Expr s) (operation_shape r) (outlines (children (over r (along rs q)))) + parts_weight p parts + d ≤ weight (Expr s) (over r (along rs (sequence (p ▸ parts)))) + weight (Expr passed_part_seat) q
+  node_falls d s r rs h =
       let moved = as_part s r (along rs q) in
       let same = exchanged s r (along rs q) (along rs (sequence (p ▸ parts))) in
-      let inner = operand_falls r s rs in
+      let inner = operand_falls d r s rs h in
       omega (arith, moved, same, inner)
+
+  -- parentheses at most go round it
+  one_is_won : (r : Operation) (rs : List Operation) (c : Seat) → weight (Expr (operand_seat (innermost r rs) c)) q + 1 ≤ weight (Expr passed_part_seat) q + 5
+  one_is_won r rs c = let last = operand_is (innermost r rs) c q in omega (arith, last)
+
+  -- or none
+  all_is_won : (r : Operation) (rs : List Operation) → is_bare_at (Expr (operand_seat (innermost r rs) passed_part_seat)) q ≡ true → (c : Seat) → weight (Expr (operand_seat (innermost r rs) c)) q + 5 ≤ weight (Expr passed_part_seat) q + 5
+  all_is_won r rs e c = let last = bare_moved (innermost r rs) c q e in omega (arith, last)
+
+-- a sequence has parentheses at most where it isn't to be lifted out again
+unlifted_marks : (s : Seat) → not s.lifted ≡ true → (os : List Outline) → place_weight (Expr s) shape.SequenceExpression os ≤ 4
+unlifted_marks s h os = go (is_parenthesized shape.SequenceExpression s) s.eq_left s.cond_test s.lifted h
+  where
+    no_mark : (e t : Bool) → ◌≡◌ {A = ℕ} (if (e && false) || ((t && false) || (false && true)) then 1 else 0) 0
+    no_mark true true = refl
+    no_mark true false = refl
+    no_mark false true = refl
+    no_mark false false = refl
+
+    go : (b e t f : Bool) → not f ≡ true → (if b then 4 else 0) + (if (e && false) || ((t && false) || (f && true)) then 1 else 0) ≤ 4
+    go b e t true p = absurd (true≢false (sym p))
+    go true e t false p = omega (arith, no_mark e t)
+    go false e t false p = omega (arith, no_mark e t)
+
+own_parentheses : (s : Seat) (h : Shape) (os : List Outline) → is_parenthesized h s ≡ true → 4 ≤ place_weight (Expr s) h os
+own_parentheses s h os e = let four = ap {B = ℕ} (λ b. if b then 4 else 0) e in omega (arith, four)
 
 -- the parts of a list, and a comma for each
 
@@ -234,15 +280,35 @@ all_append : (a b : Trees) → all_weigh (append a b) ≡ all_weigh a + all_weig
 all_append none b = omega arith
 all_append (t ▸ a) b = let rest = all_append a b in omega (arith, rest)
 
-lifted_falls : (s : Seat) → is_open_seat s ≡ true → (r : Operation) (rs : List Operation) (p : Tree) (ps : Trees) (q : Tree) → weight (Expr s) (sequence (p ▸ append ps (over r (along rs q) ▸ none))) < weight (Expr s) (over r (along rs (sequence (p ▸ append ps (q ▸ none)))))
-lifted_falls s h r rs p ps q =
-    let last = over r (along rs q) in
-    let whole = sequence_weighs s p (append ps (last ▸ none)) in
-    let plain = open_marks s h (outlines (listed (p ▸ append ps (last ▸ none)) ▸ none)) in
-    let inner = all_append ps (q ▸ none) in
-    let outer = all_append ps (last ▸ none) in
-    let falls = node_falls p ps q s r rs in
-    omega (arith, whole, plain, inner, outer, falls)
+both_true : (b c : Bool) → b ≡ true → c ≡ true → b && c ≡ true
+both_true true c e f = f
+both_true false c e f = e
+
+module _ (s : Seat) (r : Operation) (rs : List Operation) (p : Tree) (ps : Trees) (q : Tree) where
+  abbrev last : Tree
+  last = over r (along rs q)
+
+  abbrev Falls : Type 0
+  Falls = weight (Expr s) (sequence (p ▸ append ps (last ▸ none))) < weight (Expr s) (over r (along rs (sequence (p ▸ append ps (q ▸ none)))))
+
+  falls_from : (d : ℕ) → ((c : Seat) → weight (Expr (operand_seat (innermost r rs) c)) q + d ≤ weight (Expr passed_part_seat) q + 5) → place_weight (Expr s) shape.SequenceExpression (outlines (listed (p ▸ append ps (last ▸ none)) ▸ none)) + 1 ≤ place_weight (Expr s) (operation_shape r) (outlines (children last)) + d → Falls
+  falls_from d h marks =
+      let whole = sequence_weighs s p (append ps (last ▸ none)) in
+      let inner = all_append ps (q ▸ none) in
+      let outer = all_append ps (last ▸ none) in
+      let falls = node_falls p ps q d s r rs h in
+      omega (arith, whole, marks, inner, outer, falls)
+
+  lifted_falls : lifts_out s r rs q ≡ true → Falls
+  lifted_falls h = let (l, rest) = and_parts (not s.lifted) (nat_eq s.level 0 || (is_parenthesized (operation_shape r) s || is_bare_at (Expr (operand_seat (innermost r rs) passed_part_seat)) q)) h in go (nat_eq s.level 0) refl l rest
+    where
+      within : (b : Bool) → is_parenthesized (operation_shape r) s ≡ b → not s.lifted ≡ true → b || is_bare_at (Expr (operand_seat (innermost r rs) passed_part_seat)) q ≡ true → Falls
+      within true e l k = falls_from 1 (one_is_won p ps q r rs) (omega (arith, unlifted_marks s l (outlines (listed (p ▸ append ps (last ▸ none)) ▸ none)), own_parentheses s (operation_shape r) (outlines (children last)) e))
+      within false e l k = falls_from 5 (all_is_won p ps q r rs k) (omega (arith, unlifted_marks s l (outlines (listed (p ▸ append ps (last ▸ none)) ▸ none))))
+
+      go : (b : Bool) → nat_eq s.level 0 ≡ b → not s.lifted ≡ true → b || (is_parenthesized (operation_shape r) s || is_bare_at (Expr (operand_seat (innermost r rs) passed_part_seat)) q) ≡ true → Falls
+      go true e l k = falls_from 1 (one_is_won p ps q r rs) (omega (arith, open_marks s (both_true (nat_eq s.level 0) (not s.lifted) e l) (outlines (listed (p ▸ append ps (last ▸ none)) ▸ none))))
+      go false e l k = within (is_parenthesized (operation_shape r) s) refl l k
 
 -- ---- 21
 
@@ -346,7 +412,7 @@ module _ (s : Seat) (t : takes_alone s ≡ true) where
 -- ---- all
 
 pub lighter : SequencesLighter
-lighter (Expr s) n w (inl r) = falls_by (Expr s) n w _ _ r.shape r.written (lifted_falls s r.seated r.operation r.operations r.first r.others r.last)
+lighter (Expr s) n w (inl r) = falls_by (Expr s) n w _ _ r.shape r.written (lifted_falls s r.operation r.operations r.first r.others r.last r.seated)
 lighter (Expr s) n w (inr (inl r)) = falls_by (Expr s) n w _ _ r.shape r.written (spread_falls s r.before r.first r.second r.others r.after)
 lighter (Expr s) n w (inr (inr (inl r))) = falls_by (Expr s) n w _ _ r.shape r.written (idle_falls s r.before r.idle r.next r.after)
 lighter (Expr s) n w (inr (inr (inr r))) = let falls = alone_falls s r.seated r.idle r.last r.heavy (left_plain s r.last r.stays) in falls_by (Expr s) n w _ _ r.shape r.written (omega (arith, falls))

@@ -4,7 +4,7 @@ use Rattle.std.specs.Prelude.{◌≡◌, ◌<◌, ◌⊎◌, ◌&&◌, ◌||◌,
 use Rattle.mini_model.specs.declared.operator.BinaryOperator.{BinaryOperator}
 use Rattle.mini_model.specs.declared.operator.LogicalOperator.{LogicalOperator}
 use Rattle.mini_model.specs.declared.operator.UnaryOperator.{UnaryOperator}
-use Rattle.mini_model.specs.declared.operator.UnaryOperator.TheVariants.{UnaryPlus, UnaryNegation, BitwiseNot}
+use Rattle.mini_model.specs.declared.operator.UnaryOperator.TheVariants.{LogicalNot, UnaryPlus, UnaryNegation, BitwiseNot}
 use Rattle.mini_model.specs.declared.place.Position.{Position}
 use Rattle.mini_model.specs.declared.place.Position.TheVariants.{Expr}
 use Rattle.mini_model.specs.declared.seat.Guard.{Guard}
@@ -12,10 +12,12 @@ use Rattle.mini_model.specs.declared.seat.Guard.TheVariants as guard
 use Rattle.mini_model.specs.declared.seat.Seat.{Seat}
 use Rattle.mini_model.specs.declared.seat.Mix.{Mix}
 use Rattle.mini_model.specs.declared.seat.Mix.TheVariants as mix
+use Rattle.mini_model.specs.declared.shape.Shape.{Shape}
 use Rattle.mini_model.specs.declared.shape.Shape.TheVariants as shape
-use Rattle.mini_model.specs.Tree.{Tree, Trees, node, none, ◌▸◌, count, shape_of, unary, negation, logical, conditional}
+use Rattle.mini_model.specs.Tree.{Tree, Trees, node, none, ◌▸◌, count, children, shape_of, unary, negation, logical, conditional}
 use Rattle.mini_model.specs.Paths.{append}
-use Rattle.mini_model.specs.Weight.{weight}
+use Rattle.mini_model.specs.Position.{unary_operand_seat, binary_operand_seat, left_operand_seat, conditional_test_seat, passed_part_seat, not_operand_seat, yield_argument_seat}
+use Rattle.mini_model.specs.Weight.{outlines, weight, place_weight, is_parenthesized}
 use Rattle.mini_node.specs.Children.{names_of}
 use Rattle.mini_terms.specs.Folds.{is_effect_free}
 use Rattle.mini_terms.specs.Parts.{is_number, suits, leaves_nothing, weighs}
@@ -73,10 +75,45 @@ abbrev pub takes_along : Operation → List Operation → Tree → Bool
 takes_along r [] q = takes_last r q
 takes_along r (o ∷ rs) q = takes_along o rs q
 
+-- the innermost of them
+abbrev pub innermost : Operation → List Operation → Operation
+innermost r [] = r
+innermost r (o ∷ rs) = innermost o rs
+
+abbrev pub operation_shape : Operation → Shape
+operation_shape (Decides o b) = shape.LogicalExpression o
+operation_shape (Chooses b c) = shape.ConditionalExpression
+operation_shape Negates = shape.UnaryExpression LogicalNot
+operation_shape (Operates o b) = shape.BinaryExpression o
+operation_shape (Converts c) = shape.UnaryExpression (conversion_operator c)
+operation_shape (Yields is_delegate) = shape.YieldExpression is_delegate
+
+-- where its first operand stands
+abbrev pub operand_seat : Operation → Seat → Seat
+operand_seat (Decides o b) s = left_operand_seat o s
+operand_seat (Chooses b c) s = conditional_test_seat
+operand_seat Negates s = not_operand_seat
+operand_seat (Operates o b) s = binary_operand_seat o 0
+operand_seat (Converts c) s = unary_operand_seat (conversion_operator c)
+operand_seat (Yields is_delegate) s = yield_argument_seat
+
 -- a sequence stands there without parentheses, as the expression of a statement, a `return` or a test does, and is not to be
 -- lifted out of it again
 abbrev pub is_open_seat : Seat → Bool
 is_open_seat s = nat_eq s.level 0 && not s.lifted
+
+abbrev pub is_inner_shape : Shape → Bool
+is_inner_shape shape.InnerExpression = true
+is_inner_shape _ = false
+
+-- it has neither parentheses there nor a form that a lighter one is wanted for
+abbrev pub is_bare_at : Position → Tree → Bool
+is_bare_at p t = not (is_inner_shape (shape_of t)) && nat_eq (place_weight p (shape_of t) (outlines (children t))) 0
+
+-- there a sequence is lifted out: it has no parentheses there, or the node has had some, or the last part has none in the place of the
+-- sequence
+abbrev pub lifts_out : Seat → Operation → List Operation → Tree → Bool
+lifts_out s r rs q = not s.lifted && (nat_eq s.level 0 || (is_parenthesized (operation_shape r) s || is_bare_at (Expr (operand_seat (innermost r rs) passed_part_seat)) q))
 
 abbrev pub is_unmixed : Mix → Bool
 is_unmixed mix.None = true
@@ -103,14 +140,15 @@ stays_alone s t = suits s t || is_called_plainly s t
 
 -- 20: `(a, b) && c` becomes `a, b && c`, `(a, b) ? c : d` becomes `a, b ? c : d`, `!(a, b)` becomes `a, !b`, `(a, b) + c` becomes
 -- `a, b + c`, `-(a, b)` becomes `a, -b`, and `yield (a, b)` becomes `a, yield b`; so does a node over others over the sequence, whose first
--- operands each is evaluated before all else: `(a, b) + c < d` becomes `a, b + c < d`, and `!((a, b) == c)` becomes `a, !(b == c)`
+-- operands each is evaluated before all else: `(a, b) + c < d` becomes `a, b + c < d`, and `!((a, b) == c)` becomes `a, !(b == c)`. Where the
+-- sequence has parentheses again `f((a, b) + c)` becomes `f((a, b + c))`, and `d * ((a, b) + c)` `d * (a, b + c)`
 pub record Row20 (s : Seat) (n w : Tree) : Type 0 where
   pub operation : Operation
   pub operations : List Operation
   pub first : Tree
   pub others : Trees
   pub last : Tree
-  pub seated : is_open_seat s ≡ true
+  pub seated : lifts_out s operation operations last ≡ true
   pub takes : takes_along operation operations last ≡ true
   pub shape : n ≡ over operation (along operations (sequence (first ▸ append others (last ▸ none))))
   pub written : w ≡ sequence (first ▸ append others (over operation (along operations last) ▸ none))

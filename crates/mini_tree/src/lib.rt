@@ -58,6 +58,7 @@ pub use classes::VariableDeclarator;
 pub use made::conditional_weight;
 pub use made::logical_weight;
 pub use made::negation_weight;
+pub use marks::place_weight;
 pub use mini_model::AssignmentOperator;
 pub use mini_model::BinaryOperator;
 pub use mini_model::BoxedText;

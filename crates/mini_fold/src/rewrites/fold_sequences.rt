@@ -7,9 +7,9 @@ ghost use Rattle.mini_model.specs.Tree.{children, count, child_or_absent, shape_
 ghost use Rattle.mini_node.specs.Children.{part, without};
 ghost use Rattle.mini_node.specs.Kinds.{sequence as sequence_of, is_sequence as is_it_sequence, is_sequence_shape, unary_operator as unary_operator_of};
 ghost use Rattle.mini_terms.specs.Parts.{is_number as is_it_number};
-ghost use Rattle.mini_rows.specs.Sequences.{is_open_seat as is_it_open_seat, is_unmixed as is_it_unmixed, takes_alone as takes_it_alone, is_callee as is_it_callee, is_called_plainly as is_it_called_plainly, stays_alone as stays_it_alone};
+ghost use Rattle.mini_rows.specs.Sequences.{is_bare_at as is_it_bare_at, is_unmixed as is_it_unmixed, takes_alone as takes_it_alone, is_callee as is_it_callee, is_called_plainly as is_it_called_plainly, stays_alone as stays_it_alone};
 ghost use Rattle.mini_tree.specs.Rule.{Applied};
-ghost use Rattle.mini_fold.specs.FoldSequences.{has_several as has_it_several, is_several as is_it_several, converts as converts_by, is_minus as is_it_minus, is_yield as is_it_yield, is_operation as is_it_operation, takes_last_of, gives_parts as it_gives_parts, reaches_sequence as reaches_it_sequence, is_lifted as is_it_lifted, last_of, but_last, parts_before, left_of, lifted, any_of, spread_at, is_nested as is_it_nested, is_idle as is_it_idle, idle_before_last, is_left as is_it_left, Gives, Rests};
+ghost use Rattle.mini_fold.specs.FoldSequences.{has_several as has_it_several, is_several as is_it_several, converts as converts_by, is_minus as is_it_minus, is_yield as is_it_yield, is_operation as is_it_operation, takes_last_of, gives_parts as it_gives_parts, reaches_sequence as reaches_it_sequence, ends_bare as end_they_bare, leaves_bare as leaves_it_bare, has_room as has_it_room, is_lifted as is_it_lifted, last_of, but_last, parts_before, left_of, lifted, any_of, spread_at, is_nested as is_it_nested, is_idle as is_it_idle, idle_before_last, is_left as is_it_left, Gives, Rests};
 ghost use Rattle.mini_fold.specs.Lighter.{sequences_lighter};
 
 use crate::rewrites::decrement_counter::is_spelled_eval;
@@ -19,15 +19,8 @@ use mini_node::{
     logical_operator, one, sequence, take_first, taken, two, unary_operator,
 };
 use mini_terms::{has_no_effect, leaves_nothing, suits, weighs};
-use mini_tree::{Context, Rule};
+use mini_tree::{Context, Rule, child_place, place_weight, seats};
 use std::alloc::Global;
-
-// Whether a sequence stands here without parentheses, and is not to be lifted out again.
-fn is_open_seat(seat: Seat) -> bool
-    ensures { result ≡ is_it_open_seat seat }
-{
-    seat.level == 0 && !seat.lifted
-}
 
 // Whether there are two or more.
 #[tactic(auto, using(crate::proofs::Sequences::several_by_count))]
@@ -141,25 +134,6 @@ fn reaches_sequence(node: &Node) -> bool
     gives_parts(node, node.child(0)) || reaches_sequence(node.child(0))
 }
 
-// Whether it stands over a sequence that is to be lifted out.
-fn is_lifted(node: &Node, seat: Seat) -> bool
-    ensures { result ≡ is_it_lifted seat node.now }
-{
-    is_open_seat(seat) && reaches_sequence(node)
-}
-
-/// Takes the last node out; of none, an absent part.
-#[tactic(auto, using(crate::proofs::Sequences::last_is, crate::proofs::Sequences::others_are))]
-pub fn take_last(alloc: Global, nodes: &mut Nodes) -> Node
-    ensures value { result ≡ last_of nodes.old }
-    ensures rest { nodes.new ≡ but_last nodes.old }
-{
-    match nodes.pop() {
-        Some(last) => last,
-        None => absent(alloc),
-    }
-}
-
 // Whether it is a sequence, of how many parts ever.
 fn has_parts(node: &Node) -> bool
     ensures { result ≡ is_sequence_shape (shape_of node.now) }
@@ -172,6 +146,81 @@ fn is_leaf(node: &Node) -> bool
     ensures { result ≡ (count (children node.now) == 0) }
 {
     node.children().is_empty()
+}
+
+// Whether it has neither parentheses there nor a form that a lighter one is wanted for.
+#[tactic(auto, using(crate::proofs::Sequences::no_marks))]
+fn is_bare_at(node: &Node, place: Position) -> bool
+    ensures { result ≡ is_it_bare_at place node.now }
+{
+    !matches!(node.shape(), Shape::InnerExpression)
+        && place_weight(node.shape(), node.children(), place) == 0
+}
+
+// Whether the last of these is such.
+#[tactic(auto, using(crate::proofs::Sequences::no_last, crate::proofs::Sequences::last_bare))]
+fn ends_bare(nodes: &Nodes, place: Position) -> bool
+    ensures { result ≡ end_they_bare place nodes.now }
+{
+    if nodes.is_empty() {
+        return false;
+    }
+    is_bare_at(nodes.child(nodes.len() - 1), place)
+}
+
+// Whether the last part of a sequence is.
+#[tactic(auto, using(crate::proofs::Sequences::no_parts, crate::proofs::Sequences::some_children))]
+fn last_part_bare(sequence: &Node, place: Position) -> bool
+    ensures { result ≡ end_they_bare place (children (part sequence.now 0)) }
+{
+    if is_leaf(sequence) {
+        return false;
+    }
+    ends_bare(sequence.child(0).children(), place)
+}
+
+// Whether the last part of the sequence that is reached is such in place of it.
+#[tactic(auto, using(crate::proofs::Sequences::no_bare, crate::proofs::Sequences::bare_by, crate::proofs::Sequences::some_children, crate::proofs::Sequences::part_fewer))]
+fn leaves_bare(node: &Node) -> bool
+    ensures { result ≡ leaves_it_bare node.now }
+{
+    if is_leaf(node) {
+        return false;
+    }
+    if has_parts(node.child(0)) {
+        let beside = Position::Expr(seats::passed_part());
+        let place = child_place(node.shape(), beside, node.children().len(), 0);
+        return last_part_bare(node.child(0), place);
+    }
+    leaves_bare(node.child(0))
+}
+
+// Whether what is lifted out here has no parentheses, or the node has had some, or the last part has none.
+fn has_room(node: &Node, seat: Seat) -> bool
+    ensures { result ≡ has_it_room seat node.now }
+{
+    seat.level == 0
+        || place_weight(node.shape(), node.children(), Position::Expr(seat)) >= 4
+        || leaves_bare(node)
+}
+
+// Whether it stands over a sequence that is to be lifted out.
+fn is_lifted(node: &Node, seat: Seat) -> bool
+    ensures { result ≡ is_it_lifted seat node.now }
+{
+    !seat.lifted && reaches_sequence(node) && has_room(node, seat)
+}
+
+/// Takes the last node out; of none, an absent part.
+#[tactic(auto, using(crate::proofs::Sequences::last_is, crate::proofs::Sequences::others_are))]
+pub fn take_last(alloc: Global, nodes: &mut Nodes) -> Node
+    ensures value { result ≡ last_of nodes.old }
+    ensures rest { nodes.new ≡ but_last nodes.old }
+{
+    match nodes.pop() {
+        Some(last) => last,
+        None => absent(alloc),
+    }
 }
 
 // The parts of a sequence but the last, which is left in its place.
