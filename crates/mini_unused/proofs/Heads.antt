@@ -1,6 +1,6 @@
 -- The head of a `for`: its parts are read like the statements of a block, of which its declaration is the first.
-use Rattle.std.proofs.Common.{◌≡◌, ℕ, zero, suc, ◌+◌, ◌<◌, ◌≤◌, Bool, true, false, List, [], ◌∷◌, refl, sym, ap, ◌∙◌, subst, inl, inr, true≢false, arith}
-use Rattle.std.specs.Prelude.{not, ◌⊎◌, ◌&&◌, ◌||◌, nat_le, Option, Some, None}
+use Rattle.std.proofs.Common.{◌≡◌, ℕ, zero, suc, ◌<◌, ◌≤◌, Bool, true, false, List, [], ◌∷◌, refl, sym, ap, ◌∙◌, subst, inl, inr, true≢false, arith}
+use Rattle.std.specs.Prelude.{◌&&◌, ◌||◌, nat_le, Some, None}
 use Rattle.std.proofs.lemmas.Bool.{and_parts, le-leb, leb-true}
 use Rattle.mini_model.specs.declared.name.Name.{Name}
 use Rattle.mini_model.specs.declared.place.Position.TheVariants.{Stmt}
@@ -10,15 +10,15 @@ use Rattle.mini_model.specs.Tree.{Tree, Trees, node, none, ◌▸◌, listed, sh
 use Rattle.mini_model.specs.Paths.{append}
 use Rattle.mini_laws.specs.ScopeList.{has_eval, any_has_eval}
 use Rattle.mini_laws.specs.Value.{VariableSet, nothing}
-use Rattle.mini_node.specs.Children.{names_of, part, with_part, is_bare, without, first_children, rest_children}
+use Rattle.mini_node.specs.Children.{names_of, part, with_part, is_bare}
 use Rattle.mini_node.specs.Kinds.{is_block}
 use Rattle.mini_rows.specs.Declarations.{binding, declarator}
 use Rattle.mini_rows.specs.Lists.{block, declaration, declares_nothing, for_loop}
 use Rattle.mini_rows.specs.Unused.{resolved, declared_among, is_idle, UnusedRow, ForRow}
-use Rattle.mini_unused.specs.RemoveUnusedDeclaration.{declares_name, declares_list, is_lexical_shape, is_free_at, may_lose, may_go, is_alone, is_unused_declarator, list_at, is_unused, UnusedOf, let_left, open_in, is_function, is_switch, is_for_shape, has_head, Applied, AppliedInHead}
+use Rattle.mini_unused.specs.RemoveUnusedDeclaration.{declares_name, declares_list, is_lexical_shape, may_go, is_alone, is_unused_declarator, list_at, is_unused, UnusedOf, let_left, open_in, is_function, is_switch, is_for_shape, has_head, Applied, AppliedInHead}
 use Rattle.mini_unused.specs.Chains.{still}
 use Rattle.mini_unused.proofs.Chains.{several_moves}
-use Rattle.mini_unused.proofs.Unused.{no_outside, and_both, without_is, parts_of, statement, ds, d, init, first, last, tests, kind, let_there, one, x, unused, statement_is, list_is, Read, unused_there, declarator_within, no_block}
+use Rattle.mini_unused.proofs.Unused.{no_outside, and_both, without_is, parts_of, ds, d, init, first, last, tests, kind, let_there, one, x, unused, statement_is, list_is, Read, unused_there, declarator_within, no_block}
 use Rattle.mini_unused.proofs.Holders.{or_none, count_more, no_function, no_switch}
 
 -- ---- what is outside of it mentions nothing

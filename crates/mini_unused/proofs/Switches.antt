@@ -6,7 +6,7 @@ use Rattle.mini_model.specs.declared.name.Name.{Name}
 use Rattle.mini_model.specs.declared.place.Position.TheVariants.{Stmt}
 use Rattle.mini_model.specs.declared.seat.StmtSeat.{StmtSeat}
 use Rattle.mini_model.specs.declared.shape.Shape.TheVariants as shape
-use Rattle.mini_model.specs.Tree.{Tree, Trees, node, none, ◌▸◌, absent, listed, shape_of, children, count, child_or_absent}
+use Rattle.mini_model.specs.Tree.{Tree, Trees, node, none, ◌▸◌, absent, listed, shape_of, children, count}
 use Rattle.mini_model.specs.Paths.{append}
 use Rattle.mini_laws.specs.ScopeList.{has_eval, any_has_eval}
 use Rattle.mini_laws.specs.Value.{VariableSet, nothing}
@@ -14,8 +14,8 @@ use Rattle.mini_node.specs.Children.{part, with_child, with_part, is_bare, first
 use Rattle.mini_node.specs.Kinds.{is_block, is_listed}
 use Rattle.mini_rows.specs.Cases.{switch_case}
 use Rattle.mini_rows.specs.Lists.{block, switch}
-use Rattle.mini_rows.specs.Unused.{names, any_names, switch_around, SwitchRow, BlockRow, FunctionBodyRow, UnusedRow}
-use Rattle.mini_unused.specs.RemoveUnusedDeclaration.{is_function, is_switch_shape, is_switch, is_case_shape, is_case, case_at, with_statements, open_in, is_for_shape, Applied, AppliedInCase, AppliedInCases}
+use Rattle.mini_rows.specs.Unused.{names, any_names, switch_around, SwitchRow, BlockRow, UnusedRow}
+use Rattle.mini_unused.specs.RemoveUnusedDeclaration.{is_function, is_switch, is_case_shape, is_case, case_at, with_statements, open_in, is_for_shape, Applied, AppliedInCase, AppliedInCases}
 use Rattle.mini_unused.specs.SubstituteSingleUse.{Gone, Removed}
 use Rattle.mini_unused.specs.Chains.{Several}
 use Rattle.mini_unused.proofs.Chains.{several_moves}
