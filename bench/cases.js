@@ -93,7 +93,7 @@ jump("return as a consequent", "if (a) return;", "/body/0/consequent");
 jump("a label in itself", "q: q: ;", "/body/0/body");
 jump("a label in itself, further down", "a: { b: { a: ; } }", "/body/0/body/body/0/body/body/0");
 stays("a label twice, one behind the other", "a: ; a: ;");
-stays("two labels of one loop", "a: b: for (;;) { continue a; break b; }");
+becomes("two labels of one loop", "a: b: for (;;) { continue a; break b; }", "a: b: for (;;) continue a;");
 jump("continue to a label of no loop", "a: { while (b) continue a; }", "/body/0/body/body/0/body");
 jump("break to no label", "while (a) break b;", "/body/0/body");
 jump("break out of a function", "a: while (b) { c = function () { break a; }; }", "/body/0/body/body/body/0/expression/right/body/body/0");
