@@ -27,12 +27,12 @@ use Rattle.mini_kept.proofs.Rows.{statement, last_statement, TakesStatementIn, T
 use Rattle.mini_terms.specs.Parts.{leaves_nothing}
 use Rattle.mini_laws.specs.Rewritten.{MeansSame}
 use Rattle.mini_rows.specs.Arranged.{KeptAt, Vanishes}
-use Rattle.mini_rows.specs.Lists.{block, switch, return_statement, is_unscoped, are_unscoped}
+use Rattle.mini_rows.specs.Lists.{block, switch, return_statement, is_unscoped, are_unscoped, left_behind}
 use Rattle.mini_rows.specs.Sketches.{AbsentPart, Return, part, under, end, ◌▹◌}
 use Rattle.mini_rows.specs.Spellings.{IsUndefined, PlainForm, a_number, a_text, a_boolean, a_null, a_big_int, a_template, a_void, plain, binary}
 use Rattle.mini_rows.specs.Cases.{switch_case, one_case, ended, breaks_out, OneCaseRow}
 use Rattle.mini_rows.specs.Loops.{bare_break}
-use Rattle.mini_rows.specs.DeadCases.{known, Choices, no_choices, choice, cases_of, before_others, are_ended, running, DeadCaseRow}
+use Rattle.mini_rows.specs.DeadCases.{known, Choices, no_choices, choice, cases_of, before_others, left_all, left_cases, are_ended, running, DeadCaseRow}
 use Rattle.mini_rows.specs.Branches.{IsEmpty, IsIdleVoid, Row60, has_else, is_other_branch, as_consequent, Surrounding, Consequent, Alternate, WhileBody, DoBody, ForBody, InBody, OfBody, around, conjunct_seat, bare_continue, Row82Empty, after, with_not, without_not, Row82Ends, Row83, BodyRow, SwitchRow, BranchRow, BranchContracts}
 use Rattle.mini_rows.proofs.ArrangedLawful.{kept_is_lawful}
 use Rattle.mini_rows.proofs.ArrangedStatements.{statements_arranged}
@@ -43,7 +43,11 @@ use Rattle.mini_rows.proofs.BranchEnds.{ending_written, ends_kept}
 use Rattle.mini_rows.proofs.BranchParts.{Value, core_then, said_then, value_itself, said_itself, value_not, said_not, empty_is_idle, turned_core, turned_said, chosen_core, chosen_said, tested_core, tested_said, nested_core, nested_said}
 use Rattle.mini_rows.proofs.BranchSame.{branches_same}
 use Rattle.mini_rows.proofs.CaseKept.{case_is_kept, case_says, default_is_kept, default_says}
-use Rattle.mini_rows.proofs.DeadCaseKept.{AllQuiet, CasesKept, over_core, over_said, taken_kept, none_kept}
+use Rattle.mini_rows.proofs.DeadCaseKept.{AllQuiet, CasesKept, over_core, over_said, left_case, taken_kept, none_kept}
+use Rattle.mini_rows.proofs.ListShapes.{left_fits}
+use Rattle.mini_rows.proofs.UnreachedNames.{names_named}
+use Rattle.mini_laws.specs.declared.names.Declared.TheVariants as names_declared
+use Rattle.mini_laws.specs.DeclaredNames.{names_of as names_there}
 use Rattle.mini_rows.proofs.Vanishing.{vanishes, first_dropped}
 use Rattle.mini_rows.proofs.ListShapes.{both_fit}
 use Rattle.mini_rows.proofs.LoopKept.{row_84_fits, row_84_core, row_84_said}
@@ -584,12 +588,29 @@ fit_append : (strict : Bool) (a b : Trees) → fill strict (each statement) a �
 fit_append strict none b e f = f
 fit_append strict (t ▸ a) b e f = later_and (fits strict statement t) _ _ (λ g. fit_append strict a b g f) e
 
+fit_behind : (strict : Bool) (t : Tree) → fits strict statement t ≡ true → fill strict (each statement) (left_behind t) ≡ true
+fit_behind strict t e = left_fits strict nested (names_there names_declared.Hoisted t) (names_named names_declared.Hoisted strict statement t e)
+
+fit_left : (strict : Bool) (ss : Trees) → fill strict (each statement) ss ≡ true → fill strict (each statement) (left_all ss) ≡ true
+fit_left strict none e = refl
+fit_left strict (t ▸ ss) e =
+    let (own, rest) = and_parts (fits strict statement t) (fill strict (each statement) ss) e in
+    fit_append strict (left_behind t) (left_all ss) (fit_behind strict t own) (fit_left strict ss rest)
+
+fit_cases_left : (strict : Bool) (cs : Choices) → AllFit strict cs → fill strict (each statement) (left_cases cs) ≡ true
+fit_cases_left strict no_choices a = refl
+fit_cases_left strict (choice t ss cs) a = fit_append strict (left_all ss) (left_cases cs) (fit_left strict ss a.0.1) (fit_cases_left strict cs a.1)
+
+fit_earlier : (strict : Bool) (bs cs : Choices) → AllFit strict (before_others bs cs) → AllFit strict bs
+fit_earlier strict no_choices cs a = tt
+fit_earlier strict (choice t ss bs) cs a = (a.0, fit_earlier strict bs cs a.1)
+
 fit_running : (strict : Bool) (ss : Trees) (cs : Choices) → fill strict (each statement) ss ≡ true → AllFit strict cs → fill strict (each statement) (running ss cs) ≡ true
 fit_running strict ss no_choices e a = e
 fit_running strict ss (choice t us cs) e a = go (are_ended ss) (fit_running strict us cs a.0.1 a.1)
   where
-    go : (b : Bool) → fill strict (each statement) (running us cs) ≡ true → fill strict (each statement) (if b then ss else append ss (running us cs)) ≡ true
-    go true f = e
+    go : (b : Bool) → fill strict (each statement) (running us cs) ≡ true → fill strict (each statement) (if b then append ss (left_cases (choice t us cs)) else append ss (running us cs)) ≡ true
+    go true f = fit_append strict ss (left_cases (choice t us cs)) e (fit_cases_left strict (choice t us cs) a)
     go false f = fit_append strict ss (running us cs) e f
 
 test_quiet : (strict : Bool) (t : Tree) → fits strict (one_or_absent an_expression) t ≡ true → IsQuiet t
@@ -620,9 +641,9 @@ over_kind d cs ds k f = record {
 
 row_81 : (n w : Tree) → DeadCaseRow n w → Kind n w
 row_81 n w (inl r) = let cs = choice r.test r.statements r.after in
-    kind_along n _ w _ r.shape r.written (over_kind (known r.value) (before_others r.before cs) (choice r.test (running r.statements r.after) no_choices) (taken_kept r.before r.test r.statements r.after r.loose r.dropped r.rest_dropped)
-    (λ strict a. let b = fit_later strict r.before cs a in ((b.0.0, fit_running strict r.statements r.after b.0.1 b.1), tt)))
-row_81 n w (inr r) = kind_along n _ w _ r.shape r.written (over_kind (known r.value) (choice r.test r.statements r.after) (choice r.test none no_choices) (none_kept r.test r.statements r.after r.loose r.dropped) (λ strict a. ((a.0.0, refl), tt)))
+    kind_along n _ w _ r.shape r.written (over_kind (known r.value) (before_others r.before cs) (left_case r.before r.test r.statements r.after) (taken_kept r.before r.test r.statements r.after r.loose r.dropped r.rest_dropped)
+    (λ strict a. let b = fit_later strict r.before cs a in ((b.0.0, fit_append strict (left_cases r.before) (running r.statements r.after) (fit_cases_left strict r.before (fit_earlier strict r.before cs a)) (fit_running strict r.statements r.after b.0.1 b.1)), tt)))
+row_81 n w (inr r) = kind_along n _ w _ r.shape r.written (over_kind (known r.value) (choice r.test r.statements r.after) (choice r.test (left_cases (choice r.test r.statements r.after)) no_choices) (none_kept r.test r.statements r.after r.loose r.dropped) (λ strict a. ((a.0.0, fit_cases_left strict (choice r.test r.statements r.after) a), tt)))
 
 switch_kind : (n w : Tree) → SwitchRow n w → Kind n w
 switch_kind n w (inl r) = row_80 n w r

@@ -37,8 +37,8 @@ use Rattle.mini_kept.proofs.Fixed.{of_children}
 use Rattle.mini_kept.proofs.Quiet.{is_quiet, IsQuiet, no_names}
 use Rattle.mini_kept.proofs.Unplaced.{as_statement, as_body, all_as_body, body_same, free_same}
 use Rattle.mini_terms.specs.Parts.{leaves_nothing}
-use Rattle.mini_rows.specs.DeadCases.{Choices, no_choices, choice, cases_of, before_others, are_loose, hoists_nothing, hoist_nothing, cases_go, running, rest_goes}
-use Rattle.mini_rows.specs.Lists.{switch, is_var_shape, is_unscoped_shape, is_unscoped, are_unscoped}
+use Rattle.mini_rows.specs.DeadCases.{Choices, no_choices, choice, cases_of, before_others, are_loose, hoists_nothing, hoist_nothing, left_all, left_cases, cases_go, running, rest_goes}
+use Rattle.mini_rows.specs.Lists.{switch, is_var_shape, is_unscoped_shape, is_unscoped, are_unscoped, declared_bare, left_behind}
 use Rattle.mini_rows.specs.Loops.{is_body_shape}
 use Rattle.mini_rows.specs.Sketches.{Asked, AsValue}
 use Rattle.mini_rows.proofs.Arranging.{Below, sum_below}
@@ -48,8 +48,14 @@ use Rattle.mini_rows.proofs.ArrangedTrees.{both_same, itself}
 use Rattle.mini_rows.proofs.BranchAround.{Core, Said}
 use Rattle.mini_rows.proofs.BranchInside.{quiet, no_lexical}
 use Rattle.mini_rows.proofs.CaseKept.{no_lexicals}
-use Rattle.mini_rows.proofs.DeadCaseMeaning.{later_loose}
-use Rattle.mini_rows.proofs.DeadCaseParts.{AllQ, EachQ, Parted, cases_down, cases_up, run_all, later_each, gone_each, run_back, before_back, sum, each_sum, Summing, cases_sum, run_sum, later_sum, all_of, each_of, gone_each_of, run_of, before_of}
+use Rattle.mini_rows.proofs.DeadCaseMeaning.{left_loose, later_loose}
+use Rattle.mini_rows.proofs.ArrangedGather.{concat}
+use Rattle.mini_rows.proofs.DeadCaseParts.{AllQ, EachQ, Parted, cases_down, cases_up, append_all, second_all, left_each, run_all, earlier_each, later_each, gone_each, run_back, before_back, sum, each_sum, Summing, cases_sum, append_sum, left_sum, left_each_sum, run_sum, before_sum, all_of, each_of, append_of, left_each_of, run_of, before_of}
+use Rattle.mini_rows.proofs.ListKeptDeclarations.{names_if, names_are, declarations_are}
+use Rattle.mini_rows.proofs.ListKeptUnreached.{var, var_inner, var_fixed, var_declares, var_frames, var_bodies, var_once, var_targets, var_numbers, var_symbols, var_scoped, left_gives, loose}
+use Rattle.mini_rows.proofs.UnreachedNames.{hoisted_there}
+use Rattle.mini_kept.proofs.Hoisting.{hoisted_scoped}
+use Rattle.mini_model.specs.Paths.{append}
 use Rattle.mini_rows.proofs.FoldLawful.{vanishes}
 
 -- ---- what holds of a list and of a case, and of the `switch` round them
@@ -189,7 +195,7 @@ not_so false e = refl
 mutual
   unfolding names_of
 
-  hoists_none : (t : Tree) → hoists_nothing t ≡ true → names_of declared.Hoisted t ≡ []
+  pub hoists_none : (t : Tree) → hoists_nothing t ≡ true → names_of declared.Hoisted t ≡ []
   hoists_none (node h xs n ts) e = go (is_body_shape h) refl e (λ k. hoist_none ts k)
     where
       by : (p : Place) → hoisted_place h ≡ p → names_by p xs (first_names ts) (all_names declared.Bound ts) (all_names declared.Hoisted ts) ≡ [] → names_of declared.Hoisted (node h xs n ts) ≡ []
@@ -226,9 +232,6 @@ declares_by_names o h xs n ts e f g =
   where
     is_function : Shape → Bool
     is_function h = Rattle.mini_laws.specs.Early.is_function_shape h
-
-gone_declares : (t : Tree) → is_unscoped t ≡ true → hoists_nothing t ≡ true → as_body false t ≡ []
-gone_declares (node h xs n ts) u e = declares_by_names false h xs n ts (holds_none h u) (no_lexical (node h xs n ts) u) (hoists_none (node h xs n ts) e)
 
 quiet_declares : (t : Tree) → IsQuiet t → as_body false t ≡ []
 quiet_declares (node h xs n ts) q = declares_by_names false h xs n ts (quiet_holds h q) (no_names declared.Lexical (node h xs n ts) q) (no_names declared.Hoisted (node h xs n ts) q)
@@ -267,16 +270,36 @@ lexical_cases (choice t ss cs) (q, qs) u =
     let (own, rest) = and_parts (are_unscoped ss) (are_loose cs) u in
     λ k. (after_test (names_of declared.Lexical t) (no_names declared.Lexical t q) (all_names declared.Lexical ss) ∙ no_lexicals ss own) k ++ lexical_cases cs qs rest k
 
+-- ---- what is left of a statement
+
+left_holds : (Q : Tree → Type 0) (xs : List Name) → Q (var xs) → AllQ Q (declared_bare xs)
+left_holds Q [] q = tt
+left_holds Q (x ∷ xs) q = (q, tt)
+
+left_counts : (m : Tree → ℕ) → ((xs : List Name) → m (var xs) ≡ 0) → (xs : List Name) (k : ℕ) → sum m (declared_bare xs) ≤ k
+left_counts m z [] k = omega arith
+left_counts m z (x ∷ xs) k = omega (arith, z (x ∷ xs))
+
+same_list : {A : Type 0} (F : Tree → List A) (ts : Trees) → all_of F ts ≡ concat F ts
+same_list F none = refl
+same_list F (t ▸ ts) = ap (λ r. F t ++ r) (same_list F ts)
+
+left_hoists : (t : Tree) → is_unscoped t ≡ true → all_of (names_of declared.Hoisted) (left_behind t) ≡ names_of declared.Hoisted t
+left_hoists t u = same_list (names_of declared.Hoisted) (left_behind t) ∙ left_gives (names_of declared.Hoisted) (names_if true) refl (names_are declared.Hoisted Var) (names_of declared.Hoisted t)
+
+left_declares : (t : Tree) → is_unscoped t ≡ true → all_of (as_body false) (left_behind t) ≡ as_body false t
+left_declares t u = same_list (as_body false) (left_behind t) ∙ left_gives (as_body false) (own_declarations false []) refl (declarations_are false Var) (names_of declared.Hoisted t) ∙ sym ((loose t u).as_body false)
+
 -- ---- one list of cases for another
 
 pub record CasesKept (cs ds : Choices) : Type 1 where
-  pub forward : (Q : Tree → Type 0) → EachQ Q cs → EachQ Q ds
+  pub forward : (Q : Tree → Type 0) → ((t : Tree) → Q t → AllQ Q (left_behind t)) → EachQ Q cs → EachQ Q ds
   pub back : (Q : Tree → Type 0) → ((t : Tree) → leaves_nothing t ≡ true → Q t) → EachQ Q ds → EachQ Q cs
-  pub sums : (m : Tree → ℕ) → each_sum m ds ≤ each_sum m cs
+  pub sums : (m : Tree → ℕ) → ((t : Tree) → sum m (left_behind t) ≤ m t) → each_sum m ds ≤ each_sum m cs
   pub loose : are_loose cs ≡ true
   pub loose_later : are_loose ds ≡ true
   pub quiet_later : AllQuiet cs → AllQuiet ds
-  pub lists : {A : Type 0} → (F : Tree → List A) → ((t : Tree) → is_unscoped t ≡ true → hoists_nothing t ≡ true → F t ≡ []) → each_of F ds ≡ each_of F cs
+  pub lists : {A : Type 0} → (F : Tree → List A) → ((t : Tree) → is_unscoped t ≡ true → all_of F (left_behind t) ≡ F t) → each_of F ds ≡ each_of F cs
 
 module _ (d : Tree) (cs ds : Choices) (k : CasesKept cs ds) where
   abbrev old : Tree
@@ -291,14 +314,14 @@ module _ (d : Tree) (cs ds : Choices) (k : CasesKept cs ds) where
   abbrev w : Tree
   w = switch d new
 
-  onward : (Q : Tree → Type 0) → Parted Q → Q old → Q new
-  onward Q p q = cases_up Q p ds (k.forward Q (cases_down Q p cs q))
+  onward : (Q : Tree → Type 0) → Parted Q → ((t : Tree) → Q t → Q (var (names_of declared.Hoisted t))) → Q old → Q new
+  onward Q p f q = cases_up Q p ds (k.forward Q (λ t x. left_holds Q (names_of declared.Hoisted t) (f t x)) (cases_down Q p cs q))
 
   backward : (Q : Tree → Type 0) → Parted Q → ((t : Tree) → leaves_nothing t ≡ true → Q t) → Q new → Q old
   backward Q p f q = cases_up Q p cs (k.back Q f (cases_down Q p ds q))
 
-  fewer : (m : Tree → ℕ) → Summing m → m new ≤ m old
-  fewer m p = omega (arith, cases_sum m p cs, cases_sum m p ds, k.sums m)
+  fewer : (m : Tree → ℕ) → Summing m → ((xs : List Name) → m (var xs) ≡ 0) → m new ≤ m old
+  fewer m p z = omega (arith, cases_sum m p cs, cases_sum m p ds, k.sums m (λ t. left_counts m z (names_of declared.Hoisted t) (m t)))
 
   inner_if : (b : Bool) (c e : Tree) → (InnerIf b AsValue c → InnerIf b AsValue e) → InnerIf b AsValue (switch d c) → InnerIf b AsValue (switch d e)
   unfolding has_inner
@@ -309,7 +332,7 @@ module _ (d : Tree) (cs ds : Choices) (k : CasesKept cs ds) where
 
   kept_inner : has_inner w ≡ has_inner n
   kept_inner =
-      both_same (has_inner n) (has_inner w) (inner_if (has_inner n) old new (onward (InnerIf (has_inner n) AsValue) (inner_parted (has_inner n))) (itself (has_inner n)))
+      both_same (has_inner n) (has_inner w) (inner_if (has_inner n) old new (onward (InnerIf (has_inner n) AsValue) (inner_parted (has_inner n)) (λ t q. var_inner (names_of declared.Hoisted t) (has_inner n))) (itself (has_inner n)))
       (inner_if (has_inner w) new old (backward (InnerIf (has_inner w) AsValue) (inner_parted (has_inner w)) (free_inner (has_inner w))) (itself (has_inner w)))
 
   fixed_if : (x : Variable) (j : ℕ) (c e : Tree) → (FixedBy x j AsValue c → FixedBy x j AsValue e) → FixedBy x j AsValue (switch d c) → FixedBy x j AsValue (switch d e)
@@ -324,13 +347,13 @@ module _ (d : Tree) (cs ds : Choices) (k : CasesKept cs ds) where
   kept_fixed x =
       let i = rank (fixed_by n x) in
       let j = rank (fixed_by w x) in
-      by_rank (fixed_by n x) (fixed_by w x) (fixed_if x j new old (backward (FixedBy x j AsValue) (fixed_parted x j) (free_fixed x j)) (omega arith)) (fixed_if x i old new (onward (FixedBy x i AsValue) (fixed_parted x i)) (omega arith))
+      by_rank (fixed_by n x) (fixed_by w x) (fixed_if x j new old (backward (FixedBy x j AsValue) (fixed_parted x j) (free_fixed x j)) (omega arith)) (fixed_if x i old new (onward (FixedBy x i AsValue) (fixed_parted x i) (λ t q. var_fixed (names_of declared.Hoisted t) x i)) (omega arith))
 
   kept_declared : Declares (declared_names n) AsValue w
   kept_declared =
       let all = declared_names n in
       let a = declares_below all value 0 (d ▸ (old ▸ none)) (λ x c. c) in
-      below_declares all value 0 (d ▸ (new ▸ none)) (a.0, (onward (Declares all AsValue) (declares_parted all) a.1.0, tt))
+      below_declares all value 0 (d ▸ (new ▸ none)) (a.0, (onward (Declares all AsValue) (declares_parted all) (λ t q. var_declares (names_of declared.Hoisted t) all (λ y c. q y (hoisted_there t y c))) a.1.0, tt))
 
   pub over_said : Said n w
   over_said = record { fixed = kept_fixed; declared = kept_declared }
@@ -339,13 +362,13 @@ module _ (d : Tree) (cs ds : Choices) (k : CasesKept cs ds) where
   kept_frames =
       let all = frames None n in
       let a = frames_below all value (λ j. None) (λ j. refl) 0 (d ▸ (old ▸ none)) (λ f c. c) in
-      below_frames all value (λ j. None) (λ j. refl) 0 (d ▸ (new ▸ none)) (a.0, (onward (HasFrames all AsValue) (frames_parted all) a.1.0, tt))
+      below_frames all value (λ j. None) (λ j. refl) 0 (d ▸ (new ▸ none)) (a.0, (onward (HasFrames all AsValue) (frames_parted all) (λ t q. var_frames (names_of declared.Hoisted t) all) a.1.0, tt))
 
   kept_bodies : (a : Around) → BodiesKept (bodies a n) (bodies a w)
   kept_bodies a =
       let all = bodies a n in
       let b = bodies_below all a value (λ j. quiet a) (λ j. refl) 0 (d ▸ (old ▸ none)) (kept_itself all) in
-      below_bodies all a value (λ j. quiet a) (λ j. refl) 0 (d ▸ (new ▸ none)) (b.0, (onward (HasBodies all a AsValue) (bodies_parted all a) b.1.0, tt))
+      below_bodies all a value (λ j. quiet a) (λ j. refl) 0 (d ▸ (new ▸ none)) (b.0, (onward (HasBodies all a AsValue) (bodies_parted all a) (λ t q. var_bodies (names_of declared.Hoisted t) all a) b.1.0, tt))
 
   kept_targets : (a : Targets) (q : Path) → early_jumps a q n ≡ [] → early_jumps a q w ≡ []
   unfolding early_jumps targets_of
@@ -354,14 +377,14 @@ module _ (d : Tree) (cs ds : Choices) (k : CasesKept cs ds) where
       let (first, rest) = empty_both (early_jumps a (q ++ 0 ∷ []) d) (early_jumps inside (q ++ 1 ∷ []) old ++ []) e in
       let (second, last) = empty_both (early_jumps inside (q ++ 1 ∷ []) old) [] rest in
       both_empty (early_jumps a (q ++ 0 ∷ []) d) (early_jumps inside (q ++ 1 ∷ []) new ++ []) first
-      (both_empty (early_jumps inside (q ++ 1 ∷ []) new) [] (targets_anywhere inside [] (q ++ 1 ∷ []) new (onward (Aimed inside AsValue) (aimed_parted inside) (targets_anywhere inside (q ++ 1 ∷ []) [] old second))) refl)
+      (both_empty (early_jumps inside (q ++ 1 ∷ []) new) [] (targets_anywhere inside [] (q ++ 1 ∷ []) new (onward (Aimed inside AsValue) (aimed_parted inside) (λ t q. var_targets (names_of declared.Hoisted t) inside) (targets_anywhere inside (q ++ 1 ∷ []) [] old second))) refl)
 
   kept_numbers : (j : ℕ) → count_of j (numbers w) ≤ count_of j (numbers n)
   unfolding numbers
   kept_numbers j =
       let before = numbers_below j value 0 (d ▸ (old ▸ none)) in
       let after = numbers_below j value 0 (d ▸ (new ▸ none)) in
-      let less = fewer (number_times j AsValue) (numbers_summing j) in
+      let less = fewer (number_times j AsValue) (numbers_summing j) (λ xs. var_numbers xs j) in
       omega (arith, before, after, less)
 
   module _ (q : AllQuiet cs) where
@@ -379,21 +402,21 @@ module _ (d : Tree) (cs ds : Choices) (k : CasesKept cs ds) where
     unfolding Scoped
     kept_scoped u env r =
         let a = scoped_below Read env value (opened u shape.SwitchStatement (d ▸ (old ▸ none))) (no_scope cs q k.loose u) (use_of shape.SwitchStatement u) (uses u) 0 env refl (d ▸ (old ▸ none)) r.1 in
-        (tt, below_scoped Read env value (opened u shape.SwitchStatement (d ▸ (new ▸ none))) (no_scope ds (k.quiet_later q) k.loose_later u) (use_of shape.SwitchStatement u) (uses u) 0 env refl (d ▸ (new ▸ none)) (a.0, (onward (ScopedAs Read env AsValue) (read_scope env) a.1.0, tt)))
+        (tt, below_scoped Read env value (opened u shape.SwitchStatement (d ▸ (new ▸ none))) (no_scope ds (k.quiet_later q) k.loose_later u) (use_of shape.SwitchStatement u) (uses u) 0 env refl (d ▸ (new ▸ none)) (a.0, (onward (ScopedAs Read env AsValue) (read_scope env) (λ t q. var_scoped (names_of declared.Hoisted t) env (hoisted_scoped Read env t q)) a.1.0, tt)))
 
     kept_symbols : (u : Use) (x : Option SymbolId) → times x (declared_in u w) ≤ times x (declared_in u n)
     unfolding declared_in
     kept_symbols u x =
         let before = symbols_below Read x value (opened u shape.SwitchStatement (d ▸ (old ▸ none))) (no_scope cs q k.loose u) (use_of shape.SwitchStatement u) (uses u) 0 (d ▸ (old ▸ none)) in
         let after = symbols_below Read x value (opened u shape.SwitchStatement (d ▸ (new ▸ none))) (no_scope ds (k.quiet_later q) k.loose_later u) (use_of shape.SwitchStatement u) (uses u) 0 (d ▸ (new ▸ none)) in
-        let less = fewer (symbol_times Read x AsValue) (symbols_summing x) in
+        let less = fewer (symbol_times Read x AsValue) (symbols_summing x) (λ xs. var_symbols xs Read x) in
         omega (arith, before, after, less)
 
     same_hoisted : all_names declared.Hoisted (cases_of ds) ≡ all_names declared.Hoisted (cases_of cs)
-    same_hoisted = hoisted_cases ds (k.quiet_later q) ∙ k.lists (names_of declared.Hoisted) (λ t u h. hoists_none t h) ∙ sym (hoisted_cases cs q)
+    same_hoisted = hoisted_cases ds (k.quiet_later q) ∙ k.lists (names_of declared.Hoisted) left_hoists ∙ sym (hoisted_cases cs q)
 
     same_body : all_as_body false (cases_of ds) ≡ all_as_body false (cases_of cs)
-    same_body = body_cases ds (k.quiet_later q) ∙ k.lists (as_body false) gone_declares ∙ sym (body_cases cs q)
+    same_body = body_cases ds (k.quiet_later q) ∙ k.lists (as_body false) left_declares ∙ sym (body_cases cs q)
 
     kept_names : (o : Declared) → names_of o w ≡ names_of o n
     unfolding names_of
@@ -412,7 +435,7 @@ module _ (d : Tree) (cs ds : Choices) (k : CasesKept cs ds) where
         let a = once_below value p 0 (d ▸ (old ▸ none)) below in
         both_empty (clashing [] (in_body false p (d ▸ (new ▸ none)) 1)) (all_early_names p 0 (d ▸ (new ▸ none)))
         (free_same (in_body false p (d ▸ (old ▸ none)) 1) (in_body false p (d ▸ (new ▸ none)) 1) (body_same false (p ++ 1 ∷ []) (p ++ 1 ∷ []) old new same_body) own)
-        (below_once value p 0 (d ▸ (new ▸ none)) (a.0, (onward (Once AsValue) once_parted a.1.0, tt)))
+        (below_once value p 0 (d ▸ (new ▸ none)) (a.0, (onward (Once AsValue) once_parted (λ t q. var_once (names_of declared.Hoisted t)) a.1.0, tt)))
 
     pub over_core : Core n w
     over_core = record {
@@ -436,24 +459,39 @@ loose_later : (bs cs : Choices) → are_loose (before_others bs cs) ≡ true →
 loose_later no_choices cs h = h
 loose_later (choice t ss bs) cs h = loose_later bs cs (and_parts (are_unscoped ss) (are_loose (before_others bs cs)) h).1
 
-pub taken_kept : (bs : Choices) (t : Tree) (ss : Trees) (cs : Choices) → are_loose (before_others bs (choice t ss cs)) ≡ true → cases_go bs ≡ true → rest_goes ss cs ≡ true → CasesKept (before_others bs (choice t ss cs)) (choice t (running ss cs) no_choices)
+loose_before : (bs cs : Choices) → are_loose (before_others bs cs) ≡ true → are_loose bs ≡ true
+loose_before no_choices cs h = refl
+loose_before (choice t ss bs) cs h =
+    let (own, rest) = and_parts (are_unscoped ss) (are_loose (before_others bs cs)) h in
+    ap (λ c. c && are_loose bs) own ∙ loose_before bs cs rest
+
+abbrev pub left_case : Choices → Tree → Trees → Choices → Choices
+left_case bs t ss cs = choice t (append (left_cases bs) (running ss cs)) no_choices
+
+pub taken_kept : (bs : Choices) (t : Tree) (ss : Trees) (cs : Choices) → are_loose (before_others bs (choice t ss cs)) ≡ true → cases_go bs ≡ true → rest_goes ss cs ≡ true → CasesKept (before_others bs (choice t ss cs)) (left_case bs t ss cs)
 taken_kept bs t ss cs u h r = record {
-  forward = λ Q a. let b = later_each Q bs (choice t ss cs) a in ((b.0.0, run_all Q ss cs b.0.1 b.1), tt);
-  back = λ Q f a. let b = run_back Q f ss cs r a.0.1 in before_back Q f bs (choice t ss cs) h ((a.0.0, b.0), b.1);
-  sums = λ m. let rest = later_sum m bs (choice t ss cs) in let own = run_sum m ss cs in omega (arith, rest, own);
+  forward = λ Q l a.
+      let b = later_each Q bs (choice t ss cs) a in
+      ((b.0.0, append_all Q (left_cases bs) (running ss cs) (left_each Q l bs (earlier_each Q bs (choice t ss cs) a)) (run_all Q l ss cs b.0.1 b.1)), tt);
+  back = λ Q f a. let b = run_back Q f ss cs r (second_all Q (left_cases bs) (running ss cs) a.0.1) in before_back Q f bs (choice t ss cs) h ((a.0.0, b.0), b.1);
+  sums = λ m l. omega (arith, before_sum m bs (choice t ss cs), append_sum m (left_cases bs) (running ss cs), left_each_sum m l bs, run_sum m l ss cs);
   loose = u;
   loose_later = later_loose bs t ss cs u;
   quiet_later = λ q. ((quiet_later bs (choice t ss cs) q).0, tt);
-  lists = λ F free. run_of F free ss cs (and_parts (are_unscoped ss) (are_loose cs) (loose_later bs (choice t ss cs) u)).1 r ∙ sym (before_of F free bs (choice t ss cs) u h);
+  lists = λ F same.
+      let later = loose_later bs (choice t ss cs) u in
+      append-nil (all_of F (append (left_cases bs) (running ss cs))) ∙ append_of F (left_cases bs) (running ss cs)
+      ∙ (λ k. left_each_of F same bs (loose_before bs (choice t ss cs) u) k ++ run_of F same ss cs (and_parts (are_unscoped ss) (are_loose cs) later).1 k)
+      ∙ sym (before_of F bs (choice t ss cs));
 }
 
-pub none_kept : (t : Tree) (ss : Trees) (cs : Choices) → are_loose (choice t ss cs) ≡ true → cases_go (choice t ss cs) ≡ true → CasesKept (choice t ss cs) (choice t none no_choices)
+pub none_kept : (t : Tree) (ss : Trees) (cs : Choices) → are_loose (choice t ss cs) ≡ true → cases_go (choice t ss cs) ≡ true → CasesKept (choice t ss cs) (choice t (left_cases (choice t ss cs)) no_choices)
 none_kept t ss cs u h = record {
-  forward = λ Q a. ((a.0.0, tt), tt);
+  forward = λ Q l a. ((a.0.0, left_each Q l (choice t ss cs) a), tt);
   back = λ Q f a. gone_each Q f (choice t ss cs) h;
-  sums = λ m. omega arith;
+  sums = λ m l. omega (arith, append_sum m (left_all ss) (left_cases cs), left_sum m l ss, left_each_sum m l cs);
   loose = u;
-  loose_later = refl;
+  loose_later = ap (λ c. c && true) (left_loose (choice t ss cs));
   quiet_later = λ q. (q.0, tt);
-  lists = λ F free. sym (gone_each_of F free (choice t ss cs) u h);
+  lists = λ F same. append-nil (all_of F (left_cases (choice t ss cs))) ∙ left_each_of F same (choice t ss cs) u;
 }

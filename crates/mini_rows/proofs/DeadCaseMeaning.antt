@@ -1,5 +1,5 @@
 -- What a `switch` over a value that is written out does, and what the rows write for it.
-use Rattle.std.proofs.Common.{◌≡◌, ℕ, suc, ◌+◌, Bool, true, false, [], ◌++◌, length, Option, Some, None, refl, sym, ap, subst, ◌∙◌, inl, inr, arith, true≢false}
+use Rattle.std.proofs.Common.{◌≡◌, ℕ, suc, ◌+◌, Bool, true, false, [], ◌∷◌, ◌++◌, length, Option, Some, None, refl, sym, ap, subst, ◌∙◌, inl, inr, arith, true≢false}
 use Rattle.std.proofs.lemmas.Bool.{and_parts}
 use Rattle.std.specs.Prelude.{◌&&◌, ◌||◌, List, if◌then◌else◌}
 use Rattle.mini_model.specs.declared.shape.Shape.TheVariants as shape
@@ -16,15 +16,20 @@ use Rattle.mini_laws.proofs.Runs.{either_cong, either_eta, either_ok}
 use Rattle.mini_laws.proofs.Stretching.{exec}
 use Rattle.mini_terms.specs.Parts.{leaves_nothing}
 use Rattle.mini_terms.proofs.Truths.{lit_sound}
-use Rattle.mini_rows.specs.Lists.{are_unscoped, declares_nothing}
+use Rattle.mini_model.specs.declared.kind.VariableDeclarationKind.TheVariants.{Var}
+use Rattle.mini_model.specs.declared.name.Name.{Name}
+use Rattle.mini_laws.specs.declared.names.Declared.TheVariants as declared
+use Rattle.mini_laws.specs.DeclaredNames.{names_of}
+use Rattle.mini_rows.specs.Lists.{are_unscoped, declares_nothing, declaration, are_bare_declarators, bare_declarators, declared_bare, left_behind}
 use Rattle.mini_rows.specs.Cases.{switch_case}
-use Rattle.mini_rows.specs.DeadCases.{Known, a_number, a_text, a_truth, a_null, undefined, known, value_of, Choices, no_choices, choice, cases_of, before_others, switch_over, are_loose, all_go, test_goes, cases_go, are_ended, running, rest_goes, AllMissed, AllPassed, Taken, DeadCaseRow}
+use Rattle.mini_rows.specs.DeadCases.{Known, a_number, a_text, a_truth, a_null, undefined, known, value_of, Choices, no_choices, choice, cases_of, before_others, switch_over, are_loose, all_go, left_all, left_cases, test_goes, cases_go, are_ended, running, rest_goes, AllMissed, AllPassed, Taken, DeadCaseRow}
 use Rattle.mini_rows.proofs.BranchMeaning.{SameStatement, equal_statement, replaced}
 use Rattle.mini_rows.proofs.CaseMeaning.{caught, Idle, case_body, case_test, switch_caught}
+use Rattle.mini_rows.proofs.ListBegun.{bare_all}
 use Rattle.mini_rows.proofs.ListEnds.{Never, never_goes, ended_tree}
 use Rattle.mini_rows.proofs.ListHeads.{nothing_by}
-use Rattle.mini_rows.proofs.ListStatements.{read_nothing}
-use Rattle.mini_rows.proofs.ListStretches.{exec_append, listed_is}
+use Rattle.mini_rows.proofs.ListStatements.{read_nothing, declaration_is}
+use Rattle.mini_rows.proofs.ListStretches.{exec_append, exec_one, listed_is}
 
 -- ---- a value that is written out
 
@@ -169,6 +174,29 @@ missed_passed : (k : Known) (cs : Choices) → AllMissed k cs → AllPassed k cs
 missed_passed k no_choices p = tt
 missed_passed k (choice t ss cs) (m, p) = (inl m, missed_passed k cs p)
 
+-- ---- a `var` without initializers does nothing
+
+bare_are : (xs : List Name) → are_bare_declarators (bare_declarators xs) ≡ true
+bare_are [] = refl
+bare_are (x ∷ xs) = bare_are xs
+
+module _ (e : Environment) where
+  names_nothing : (xs : List Name) (z : State) → exec e (declared_bare xs) None z ≡ ok tt z
+  names_nothing [] z = refl
+  names_nothing (x ∷ xs) z = let ds = bare_declarators (x ∷ xs) in exec_one e (declaration Var ds) z ∙ declaration_is e Var ds [] z ∙ bare_all e ds (bare_are (x ∷ xs)) z
+
+  -- before other statements
+  nothing_before : (ts us : Trees) → ((z : State) → exec e ts None z ≡ ok tt z) → (z : State) → exec e (append ts us) None z ≡ exec e us None z
+  nothing_before ts us k z = exec_append e ts us z ∙ ap (λ x. either x (λ u y. exec e us None y) (λ x y. stop x y)) (k z) ∙ either_ok tt z _ _
+
+  all_nothing : (ss : Trees) (z : State) → exec e (left_all ss) None z ≡ ok tt z
+  all_nothing none z = refl
+  all_nothing (t ▸ ss) z = nothing_before (left_behind t) (left_all ss) (names_nothing (names_of declared.Hoisted t)) z ∙ all_nothing ss z
+
+  cases_nothing : (cs : Choices) (z : State) → exec e (left_cases cs) None z ≡ ok tt z
+  cases_nothing no_choices z = refl
+  cases_nothing (choice t ss cs) z = nothing_before (left_all ss) (left_cases cs) (all_nothing ss) z ∙ cases_nothing cs z
+
 -- ---- which case is entered
 
 module _ (e : Environment) (k : Known) where
@@ -215,8 +243,10 @@ module _ (e : Environment) (k : Known) where
   runs_on t ss no_choices z = either_eta (exec e ss None z)
   runs_on t ss (choice u us cs) z = go (are_ended ss) refl (λ y. runs_on u us cs y)
     where
-      go : (b : Bool) → are_ended ss ≡ b → ((y : State) → from (choice u us cs) y ≡ exec e (running us cs) None y) → from (choice t ss (choice u us cs)) z ≡ exec e (if b then ss else append ss (running us cs)) None z
-      go true h f = never_goes (exec e ss None z) (subst Never (listed_is e ss [] z) (ended_tree e (listed ss) h [] z)) _
+      go : (b : Bool) → are_ended ss ≡ b → ((y : State) → from (choice u us cs) y ≡ exec e (running us cs) None y) → from (choice t ss (choice u us cs)) z ≡ exec e (if b then append ss (left_cases (choice u us cs)) else append ss (running us cs)) None z
+      go true h f =
+          let never = subst Never (listed_is e ss [] z) (ended_tree e (listed ss) h [] z) in
+          never_goes (exec e ss None z) never _ ∙ sym (exec_append e ss (left_cases (choice u us cs)) z ∙ never_goes (exec e ss None z) never _)
       go false h f = either_cong (exec e ss None z) _ _ _ _ (λ v z. f z) (λ x z. refl) ∙ sym (exec_append e ss (running us cs) z)
 
 -- ---- the `switch` round the cases
@@ -290,39 +320,53 @@ unscoped_append (t ▸ a) b h k =
     let (own, rest) = and_parts _ (are_unscoped a) h in
     ap (λ c. c && are_unscoped (append a b)) own ∙ unscoped_append a b rest k
 
+names_unscoped : (xs : List Name) → are_unscoped (declared_bare xs) ≡ true
+names_unscoped [] = refl
+names_unscoped (x ∷ xs) = refl
+
+all_loose : (ss : Trees) → are_unscoped (left_all ss) ≡ true
+all_loose none = refl
+all_loose (t ▸ ss) = unscoped_append (left_behind t) (left_all ss) (names_unscoped (names_of declared.Hoisted t)) (all_loose ss)
+
+pub left_loose : (cs : Choices) → are_unscoped (left_cases cs) ≡ true
+left_loose no_choices = refl
+left_loose (choice t ss cs) = unscoped_append (left_all ss) (left_cases cs) (all_loose ss) (left_loose cs)
+
 pub running_loose : (t : Tree) (ss : Trees) (cs : Choices) → are_loose (choice t ss cs) ≡ true → are_unscoped (running ss cs) ≡ true
 running_loose t ss no_choices h = (and_parts (are_unscoped ss) true h).0
 running_loose t ss (choice u us cs) h =
     let (own, others) = and_parts (are_unscoped ss) (are_loose (choice u us cs)) h in
     go (are_ended ss) own (running_loose u us cs others)
   where
-    go : (b : Bool) → are_unscoped ss ≡ true → are_unscoped (running us cs) ≡ true → are_unscoped (if b then ss else append ss (running us cs)) ≡ true
-    go true x y = x
+    go : (b : Bool) → are_unscoped ss ≡ true → are_unscoped (running us cs) ≡ true → are_unscoped (if b then append ss (left_cases (choice u us cs)) else append ss (running us cs)) ≡ true
+    go true x y = unscoped_append ss (left_cases (choice u us cs)) x (left_loose (choice u us cs))
     go false x y = unscoped_append ss (running us cs) x y
 
 taken_alone : (k : Known) (bs : Choices) (t : Tree) (cs : Choices) → Taken k bs t cs → Taken k no_choices t no_choices
 taken_alone k bs t cs (inl h) = inl (record { value = h.value; is = h.is; equal = h.equal; passed = tt })
 taken_alone k bs t cs (inr h) = inr (record { is = h.is; missed = tt; missed_later = tt })
 
-pub later_loose : (bs : Choices) (t : Tree) (ss : Trees) (cs : Choices) → are_loose (before_others bs (choice t ss cs)) ≡ true → are_loose (choice t (running ss cs) no_choices) ≡ true
-later_loose bs t ss cs h = ap (λ c. c && true) (running_loose t ss cs (loose_later bs (choice t ss cs) h))
+pub later_loose : (bs : Choices) (t : Tree) (ss : Trees) (cs : Choices) → are_loose (before_others bs (choice t ss cs)) ≡ true → are_loose (choice t (append (left_cases bs) (running ss cs)) no_choices) ≡ true
+later_loose bs t ss cs h = ap (λ c. c && true) (unscoped_append (left_cases bs) (running ss cs) (left_loose bs) (running_loose t ss cs (loose_later bs (choice t ss cs) h)))
 
 taken_same : (k : Known) (bs : Choices) (t : Tree) (ss : Trees) (cs : Choices) → Taken k bs t cs → are_loose (before_others bs (choice t ss cs)) ≡ true → cases_go bs ≡ true → rest_goes ss cs ≡ true
-    → SameStatement (switch_over k (before_others bs (choice t ss cs))) (switch_over k (choice t (running ss cs) no_choices))
+    → SameStatement (switch_over k (before_others bs (choice t ss cs))) (switch_over k (choice t (append (left_cases bs) (running ss cs)) no_choices))
 taken_same k bs t ss cs h loose goes rest =
     let i = taken_idle k bs t cs h in
+    let left = append (left_cases bs) (running ss cs) in
     equal_statement _ _ (λ e r s.
     switch_does e k (before_others bs (choice t ss cs)) (idle_cases (before_others bs (choice t ss cs)) (idle_before bs (choice t ss cs) (idle_gone bs goes) (i, idle_rest ss cs rest)) loose) r s
-    ∙ ap caught (taken_runs e k bs t ss cs h s ∙ runs_on e k t ss cs s ∙ sym (taken_runs e k no_choices t (running ss cs) no_choices (taken_alone k bs t cs h) s ∙ runs_on e k t (running ss cs) no_choices s))
-    ∙ sym (switch_does e k (choice t (running ss cs) no_choices) (idle_cases (choice t (running ss cs) no_choices) (i, tt) (later_loose bs t ss cs loose)) r s)) refl
+    ∙ ap caught (taken_runs e k bs t ss cs h s ∙ runs_on e k t ss cs s ∙ sym (taken_runs e k no_choices t left no_choices (taken_alone k bs t cs h) s ∙ runs_on e k t left no_choices s ∙ nothing_before e (left_cases bs) (running ss cs) (cases_nothing e bs) s))
+    ∙ sym (switch_does e k (choice t left no_choices) (idle_cases (choice t left no_choices) (i, tt) (later_loose bs t ss cs loose)) r s)) refl
 
-none_same : (k : Known) (t : Tree) (ss : Trees) (cs : Choices) → AllMissed k (choice t ss cs) → are_loose (choice t ss cs) ≡ true → cases_go (choice t ss cs) ≡ true → SameStatement (switch_over k (choice t ss cs)) (switch_over k (choice t none no_choices))
+none_same : (k : Known) (t : Tree) (ss : Trees) (cs : Choices) → AllMissed k (choice t ss cs) → are_loose (choice t ss cs) ≡ true → cases_go (choice t ss cs) ≡ true → SameStatement (switch_over k (choice t ss cs)) (switch_over k (choice t (left_cases (choice t ss cs)) no_choices))
 none_same k t ss cs h loose goes =
     let i = idle_gone (choice t ss cs) goes in
+    let left = left_cases (choice t ss cs) in
     equal_statement _ _ (λ e r s.
     switch_does e k (choice t ss cs) (idle_cases (choice t ss cs) i loose) r s
-    ∙ ap caught (none_runs e k (choice t ss cs) h s ∙ sym (none_runs e k (choice t none no_choices) (h.0, tt) s))
-    ∙ sym (switch_does e k (choice t none no_choices) (idle_cases (choice t none no_choices) (i.0, tt) refl) r s)) refl
+    ∙ ap caught (none_runs e k (choice t ss cs) h s ∙ sym (none_runs e k (choice t left no_choices) (h.0, tt) s))
+    ∙ sym (switch_does e k (choice t left no_choices) (idle_cases (choice t left no_choices) (i.0, tt) (ap (λ c. c && true) (left_loose (choice t ss cs)))) r s)) refl
 
 pub dead_case_same : (n w : Tree) → DeadCaseRow n w → SameStatement n w
 dead_case_same n w (inl r) = replaced n _ w _ r.shape r.written (taken_same r.value r.before r.test r.statements r.after r.taken r.loose r.dropped r.rest_dropped)

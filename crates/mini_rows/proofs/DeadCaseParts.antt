@@ -2,12 +2,13 @@
 use Rattle.std.specs.Prelude.{ℕ, ◌+◌, ◌≤◌, ◌≡◌, refl, ◌&&◌, ◌||◌, Bool, true, false, List, [], ◌++◌, if◌then◌else◌}
 use Rattle.std.proofs.Common.{ap, ◌∙◌, sym, arith, append_assoc}
 use Rattle.std.proofs.lemmas.Bool.{and_parts}
+use Rattle.std.proofs.lemmas.List.{append-nil}
 use Rattle.mini_model.specs.Paths.{append}
 use Rattle.mini_model.specs.Tree.{Tree, Trees, none, ◌▸◌, listed, is_absent}
 use Rattle.mini_terms.specs.Parts.{leaves_nothing}
 use Rattle.mini_rows.specs.Cases.{switch_case}
-use Rattle.mini_rows.specs.DeadCases.{Choices, no_choices, choice, cases_of, before_others, are_loose, hoists_nothing, all_go, test_goes, cases_go, are_ended, running, rest_goes}
-use Rattle.mini_rows.specs.Lists.{is_unscoped, are_unscoped, declares_nothing}
+use Rattle.mini_rows.specs.DeadCases.{Choices, no_choices, choice, cases_of, before_others, are_loose, hoists_nothing, is_plain_var, all_go, left_all, left_cases, test_goes, cases_go, are_ended, running, rest_goes}
+use Rattle.mini_rows.specs.Lists.{is_unscoped, are_unscoped, declares_nothing, left_behind}
 
 -- ---- what is said of parts that go
 
@@ -60,25 +61,38 @@ module _ (Q : Tree → Type 0) where
 
   -- what runs, and what stays of the cases
 
-  append_all : (a b : Trees) → AllQ a → AllQ b → AllQ (append a b)
+  pub append_all : (a b : Trees) → AllQ a → AllQ b → AllQ (append a b)
   append_all none b x y = y
   append_all (t ▸ a) b x y = (x.0, append_all a b x.1 y)
 
-  first_all : (a b : Trees) → AllQ (append a b) → AllQ a
+  pub first_all : (a b : Trees) → AllQ (append a b) → AllQ a
   first_all none b x = tt
   first_all (t ▸ a) b x = (x.0, first_all a b x.1)
 
-  second_all : (a b : Trees) → AllQ (append a b) → AllQ b
+  pub second_all : (a b : Trees) → AllQ (append a b) → AllQ b
   second_all none b x = x
   second_all (t ▸ a) b x = second_all a b x.1
 
-  pub run_all : (ss : Trees) (cs : Choices) → AllQ ss → EachQ cs → AllQ (running ss cs)
-  run_all ss no_choices x y = x
-  run_all ss (choice t us cs) x y = go (are_ended ss) (run_all us cs y.0.1 y.1)
-    where
-      go : (b : Bool) → AllQ (running us cs) → AllQ (if b then ss else append ss (running us cs))
-      go true z = x
-      go false z = append_all ss (running us cs) x z
+  module _ (left : (t : Tree) → Q t → AllQ (left_behind t)) where
+    left_statements : (ss : Trees) → AllQ ss → AllQ (left_all ss)
+    left_statements none x = tt
+    left_statements (t ▸ ss) x = append_all (left_behind t) (left_all ss) (left t x.0) (left_statements ss x.1)
+
+    pub left_each : (cs : Choices) → EachQ cs → AllQ (left_cases cs)
+    left_each no_choices x = tt
+    left_each (choice t ss cs) x = append_all (left_all ss) (left_cases cs) (left_statements ss x.0.1) (left_each cs x.1)
+
+    pub run_all : (ss : Trees) (cs : Choices) → AllQ ss → EachQ cs → AllQ (running ss cs)
+    run_all ss no_choices x y = x
+    run_all ss (choice t us cs) x y = go (are_ended ss) (run_all us cs y.0.1 y.1)
+      where
+        go : (b : Bool) → AllQ (running us cs) → AllQ (if b then append ss (left_cases (choice t us cs)) else append ss (running us cs))
+        go true z = append_all ss (left_cases (choice t us cs)) x (left_each (choice t us cs) y)
+        go false z = append_all ss (running us cs) x z
+
+  pub earlier_each : (bs cs : Choices) → EachQ (before_others bs cs) → EachQ bs
+  earlier_each no_choices cs x = tt
+  earlier_each (choice t ss bs) cs x = (x.0, earlier_each bs cs x.1)
 
   pub later_each : (bs cs : Choices) → EachQ (before_others bs cs) → EachQ cs
   later_each no_choices cs x = x
@@ -89,8 +103,8 @@ module _ (Q : Tree → Type 0) where
     pub gone_all : (ss : Trees) → all_go ss ≡ true → AllQ ss
     gone_all none h = tt
     gone_all (t ▸ ss) h =
-        let (own, rest) = and_parts (leaves_nothing t && hoists_nothing t) (all_go ss) h in
-        (free t (and_parts (leaves_nothing t) (hoists_nothing t) own).0, gone_all ss rest)
+        let (own, rest) = and_parts (leaves_nothing t && (hoists_nothing t || is_plain_var t)) (all_go ss) h in
+        (free t (and_parts (leaves_nothing t) (hoists_nothing t || is_plain_var t) own).0, gone_all ss rest)
 
     pub gone_each : (cs : Choices) → cases_go cs ≡ true → EachQ cs
     gone_each no_choices h = tt
@@ -100,8 +114,8 @@ module _ (Q : Tree → Type 0) where
     run_back ss no_choices h x = (x, tt)
     run_back ss (choice t us cs) h x = go (are_ended ss) h x (λ k y. run_back us cs k y)
       where
-        go : (b : Bool) → (if b then cases_go (choice t us cs) else test_goes t && rest_goes us cs) ≡ true → AllQ (if b then ss else append ss (running us cs)) → (rest_goes us cs ≡ true → AllQ (running us cs) → AllQ us × EachQ cs) → AllQ ss × EachQ (choice t us cs)
-        go true h x f = (x, gone_each (choice t us cs) h)
+        go : (b : Bool) → (if b then cases_go (choice t us cs) else test_goes t && rest_goes us cs) ≡ true → AllQ (if b then append ss (left_cases (choice t us cs)) else append ss (running us cs)) → (rest_goes us cs ≡ true → AllQ (running us cs) → AllQ us × EachQ cs) → AllQ ss × EachQ (choice t us cs)
+        go true h x f = (first_all ss (left_cases (choice t us cs)) x, gone_each (choice t us cs) h)
         go false h x f =
             let (test, rest) = and_parts (test_goes t) (rest_goes us cs) h in
             let (own, others) = f rest (second_all ss (running us cs) x) in
@@ -133,21 +147,30 @@ module _ (m : Tree → ℕ) where
   pub cases_sum : Summing → (cs : Choices) → m (listed (cases_of cs)) ≡ each_sum cs
   cases_sum p cs = p.list (cases_of cs) ∙ cases_each p cs
 
-  append_sum : (a b : Trees) → sum (append a b) ≡ sum a + sum b
+  pub append_sum : (a b : Trees) → sum (append a b) ≡ sum a + sum b
   append_sum none b = omega arith
   append_sum (t ▸ a) b = let rest = append_sum a b in omega (arith, rest)
 
-  pub run_sum : (ss : Trees) (cs : Choices) → sum (running ss cs) ≤ sum ss + each_sum cs
-  run_sum ss no_choices = omega arith
-  run_sum ss (choice t us cs) = go (are_ended ss) (run_sum us cs)
-    where
-      go : (b : Bool) → sum (running us cs) ≤ sum us + each_sum cs → sum (if b then ss else append ss (running us cs)) ≤ sum ss + each_sum (choice t us cs)
-      go true e = omega arith
-      go false e = omega (arith, append_sum ss (running us cs), e)
+  module _ (left : (t : Tree) → sum (left_behind t) ≤ m t) where
+    pub left_sum : (ss : Trees) → sum (left_all ss) ≤ sum ss
+    left_sum none = omega arith
+    left_sum (t ▸ ss) = omega (arith, left t, left_sum ss, append_sum (left_behind t) (left_all ss))
 
-  pub later_sum : (bs cs : Choices) → each_sum cs ≤ each_sum (before_others bs cs)
-  later_sum no_choices cs = omega arith
-  later_sum (choice t ss bs) cs = let rest = later_sum bs cs in omega (arith, rest)
+    pub left_each_sum : (cs : Choices) → sum (left_cases cs) ≤ each_sum cs
+    left_each_sum no_choices = omega arith
+    left_each_sum (choice t ss cs) = omega (arith, left_sum ss, left_each_sum cs, append_sum (left_all ss) (left_cases cs))
+
+    pub run_sum : (ss : Trees) (cs : Choices) → sum (running ss cs) ≤ sum ss + each_sum cs
+    run_sum ss no_choices = omega arith
+    run_sum ss (choice t us cs) = go (are_ended ss) (run_sum us cs) (left_each_sum (choice t us cs))
+      where
+        go : (b : Bool) → sum (running us cs) ≤ sum us + each_sum cs → sum (left_cases (choice t us cs)) ≤ each_sum (choice t us cs) → sum (if b then append ss (left_cases (choice t us cs)) else append ss (running us cs)) ≤ sum ss + each_sum (choice t us cs)
+        go true e f = omega (arith, append_sum ss (left_cases (choice t us cs)), f)
+        go false e f = omega (arith, append_sum ss (running us cs), e)
+
+  pub before_sum : (bs cs : Choices) → each_sum (before_others bs cs) ≡ each_sum bs + each_sum cs
+  before_sum no_choices cs = omega arith
+  before_sum (choice t ss bs) cs = let rest = before_sum bs cs in omega (arith, rest)
 
 -- ---- lists of what statements have
 
@@ -160,42 +183,32 @@ module _ {A : Type 0} (F : Tree → List A) where
   each_of no_choices = []
   each_of (choice t ss cs) = all_of ss ++ each_of cs
 
-  append_of : (a b : Trees) → all_of (append a b) ≡ all_of a ++ all_of b
+  pub append_of : (a b : Trees) → all_of (append a b) ≡ all_of a ++ all_of b
   append_of none b = refl
   append_of (t ▸ a) b = ap (λ r. F t ++ r) (append_of a b) ∙ sym (append_assoc (F t) (all_of a) (all_of b))
 
-  -- statements that go have none of it
-  module _ (free : (t : Tree) → is_unscoped t ≡ true → hoists_nothing t ≡ true → F t ≡ []) where
-    pub gone_of : (ss : Trees) → are_unscoped ss ≡ true → all_go ss ≡ true → all_of ss ≡ []
-    gone_of none u h = refl
-    gone_of (t ▸ ss) u h =
-        let (own, rest) = and_parts (leaves_nothing t && hoists_nothing t) (all_go ss) h in
-        let (first, others) = and_parts (is_unscoped t) (are_unscoped ss) u in
-        λ k. free t first (and_parts (leaves_nothing t) (hoists_nothing t) own).1 k ++ gone_of ss others rest k
+  -- what is left of statements has it, too
+  module _ (same : (t : Tree) → is_unscoped t ≡ true → all_of (left_behind t) ≡ F t) where
+    left_of : (ss : Trees) → are_unscoped ss ≡ true → all_of (left_all ss) ≡ all_of ss
+    left_of none u = refl
+    left_of (t ▸ ss) u =
+        let (own, rest) = and_parts (is_unscoped t) (are_unscoped ss) u in
+        append_of (left_behind t) (left_all ss) ∙ (λ k. same t own k ++ left_of ss rest k)
 
-    pub gone_each_of : (cs : Choices) → are_loose cs ≡ true → cases_go cs ≡ true → each_of cs ≡ []
-    gone_each_of no_choices u h = refl
-    gone_each_of (choice t ss cs) u h =
-        let c = case_goes t ss cs h in
-        let (first, others) = and_parts (are_unscoped ss) (are_loose cs) u in
-        λ k. gone_of ss first c.statements k ++ gone_each_of cs others c.others k
+    pub left_each_of : (cs : Choices) → are_loose cs ≡ true → all_of (left_cases cs) ≡ each_of cs
+    left_each_of no_choices u = refl
+    left_each_of (choice t ss cs) u =
+        let (own, others) = and_parts (are_unscoped ss) (are_loose cs) u in
+        append_of (left_all ss) (left_cases cs) ∙ (λ k. left_of ss own k ++ left_each_of cs others k)
 
-    append_nothing : (xs ys : List A) → ys ≡ [] → xs ++ ys ≡ xs ++ []
-    append_nothing xs ys e = ap (λ r. xs ++ r) e
-
-    pub run_of : (ss : Trees) (cs : Choices) → are_loose cs ≡ true → rest_goes ss cs ≡ true → all_of (running ss cs) ++ [] ≡ all_of ss ++ each_of cs
-    run_of ss no_choices u h = refl
-    run_of ss (choice t us cs) u h = go (are_ended ss) h (λ k. run_of us cs (and_parts (are_unscoped us) (are_loose cs) u).1 k)
+    pub run_of : (ss : Trees) (cs : Choices) → are_loose cs ≡ true → all_of (running ss cs) ≡ all_of ss ++ each_of cs
+    run_of ss no_choices u = sym (append-nil (all_of ss))
+    run_of ss (choice t us cs) u = go (are_ended ss) (run_of us cs (and_parts (are_unscoped us) (are_loose cs) u).1) (left_each_of (choice t us cs) u)
       where
-        go : (b : Bool) → (if b then cases_go (choice t us cs) else test_goes t && rest_goes us cs) ≡ true → (rest_goes us cs ≡ true → all_of (running us cs) ++ [] ≡ all_of us ++ each_of cs) → all_of (if b then ss else append ss (running us cs)) ++ [] ≡ all_of ss ++ each_of (choice t us cs)
-        go true h f = sym (append_nothing (all_of ss) (each_of (choice t us cs)) (gone_each_of (choice t us cs) u h))
-        go false h f =
-            ap (λ r. r ++ []) (append_of ss (running us cs)) ∙ append_assoc (all_of ss) (all_of (running us cs)) []
-            ∙ ap (λ r. all_of ss ++ r) (f (and_parts (test_goes t) (rest_goes us cs) h).1)
+        go : (b : Bool) → all_of (running us cs) ≡ all_of us ++ each_of cs → all_of (left_cases (choice t us cs)) ≡ each_of (choice t us cs) → all_of (if b then append ss (left_cases (choice t us cs)) else append ss (running us cs)) ≡ all_of ss ++ each_of (choice t us cs)
+        go true f g = append_of ss (left_cases (choice t us cs)) ∙ ap (λ r. all_of ss ++ r) g
+        go false f g = append_of ss (running us cs) ∙ ap (λ r. all_of ss ++ r) f
 
-    pub before_of : (bs cs : Choices) → are_loose (before_others bs cs) ≡ true → cases_go bs ≡ true → each_of (before_others bs cs) ≡ each_of cs
-    before_of no_choices cs u h = refl
-    before_of (choice t ss bs) cs u h =
-        let c = case_goes t ss bs h in
-        let (first, others) = and_parts (are_unscoped ss) (are_loose (before_others bs cs)) u in
-        ap (λ r. r ++ each_of (before_others bs cs)) (gone_of ss first c.statements) ∙ before_of bs cs others c.others
+  pub before_of : (bs cs : Choices) → each_of (before_others bs cs) ≡ each_of bs ++ each_of cs
+  before_of no_choices cs = refl
+  before_of (choice t ss bs) cs = ap (λ r. all_of ss ++ r) (before_of bs cs) ∙ sym (append_assoc (all_of ss) (each_of bs) (each_of cs))

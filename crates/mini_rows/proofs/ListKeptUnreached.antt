@@ -121,39 +121,39 @@ all_scoped env (x ∷ xs) a = (bare_scoped env x a.0, all_scoped env xs a.1)
 -- ---- the `var`, or nothing
 
 module _ (xs : List Name) where
-  abbrev var : Tree
+  abbrev pub var : Tree
   var = over Var (listed (bare_declarators xs))
 
-  var_inner : (b : Bool) → InnerIf b AsWholeItem var
+  pub var_inner : (b : Bool) → InnerIf b AsWholeItem var
   var_inner b = subst (λ c. (c || b) ≡ b) (sym (inner_is Var (listed (bare_declarators xs)))) (bare_list Any (InnerIf b) (inner_local b) (λ x. ap (λ c. c || b) (bare_inner x)) xs)
 
-  var_fixed : (y : Variable) (k : ℕ) → FixedBy y k AsWholeItem var
+  pub var_fixed : (y : Variable) (k : ℕ) → FixedBy y k AsWholeItem var
   var_fixed y k =
       subst (λ f. rank f ≤ k) (sym (of_children (shape.VariableDeclaration Var) [] 0 (listed (bare_declarators xs) ▸ none) y refl ∙ stricter_alone (fixed_by (listed (bare_declarators xs)) y)))
       (bare_list Any (FixedBy y k) (fixed_local y k) (λ x. subst (λ f. rank f ≤ k) (sym (bare_fixed x y)) (omega arith)) xs)
 
-  var_declares : (all : List Name) → Among all xs → Declares all AsWholeItem var
+  pub var_declares : (all : List Name) → Among all xs → Declares all AsWholeItem var
   var_declares all k = subst (Among all) (sym (declared_are Var (listed (bare_declarators xs)) ∙ declares_given xs)) k
 
-  var_frames : (fs : List Frame) → HasFrames fs AsWholeItem var
+  pub var_frames : (fs : List Frame) → HasFrames fs AsWholeItem var
   var_frames fs = subst (FramesKept fs) (sym (frames_are Var (listed (bare_declarators xs)))) (bare_list Any (HasFrames fs) (frames_local fs) (λ x f c. absurd (none_in c)) xs)
 
-  var_bodies : (bs : List Body) (r : Around) → HasBodies bs r AsWholeItem var
+  pub var_bodies : (bs : List Body) (r : Around) → HasBodies bs r AsWholeItem var
   var_bodies bs r = subst (BodiesKept bs) (sym (bodies_are Var r (listed (bare_declarators xs)))) (bare_list Any (HasBodies bs r) (bodies_local bs r) (λ x. tt) xs)
 
-  var_once : Once AsWholeItem var
+  pub var_once : Once AsWholeItem var
   var_once = once_is Var (listed (bare_declarators xs)) ∙ once_anywhere [] (0 ∷ []) (listed (bare_declarators xs)) (bare_list Any Once once_local bare_once xs)
 
-  var_targets : (g : Targets) → Aimed g AsWholeItem var
+  pub var_targets : (g : Targets) → Aimed g AsWholeItem var
   var_targets g = jumps_are Var g (listed (bare_declarators xs)) ∙ targets_anywhere g [] (0 ∷ []) (listed (bare_declarators xs)) (bare_list (HasTarget g) (Aimed g) (aimed_local g) (bare_jumps g) xs)
 
-  var_numbers : (k : ℕ) → number_times k AsWholeItem var ≡ 0
+  pub var_numbers : (k : ℕ) → number_times k AsWholeItem var ≡ 0
   var_numbers k = ap (count_of k) (numbers_are Var (listed (bare_declarators xs))) ∙ bare_sum (number_times k) (numbers_summed k) (bare_numbers k) xs
 
-  var_symbols : (u : Use) (z : Option SymbolId) → symbol_times u z AsWholeItem var ≡ 0
+  pub var_symbols : (u : Use) (z : Option SymbolId) → symbol_times u z AsWholeItem var ≡ 0
   var_symbols u z = omega (arith, symbols_are u Var z (listed (bare_declarators xs)), bare_sum (symbol_times Hoisted z) (symbols_summed Hoisted z) (bare_symbols z) xs)
 
-  var_scoped : (env : Environment) → NamesScoped Hoisted env xs → ScopedAs Read env AsWholeItem var
+  pub var_scoped : (env : Environment) → NamesScoped Hoisted env xs → ScopedAs Read env AsWholeItem var
   var_scoped env a = var_scoped_up Var env (listed (bare_declarators xs)) (list_of Any (ScopedAs Hoisted env) (scoped_local Hoisted env) (bare_declarators xs) (all_scoped env xs a))
 
 -- whatever holds of a `var` of some names
@@ -165,7 +165,7 @@ left_sum : (m : Asked → Tree → ℕ) (xs : List Name) → m AsWholeItem (var 
 left_sum m [] e = refl
 left_sum m (x ∷ xs) e = omega (arith, e)
 
-left_gives : {A : Type 0} (g : Tree → List A) (f : List Name → List A) → f [] ≡ [] → ((ts : Trees) → g (over Var (listed ts)) ≡ f (all_names declared.Bound ts)) → (xs : List Name) → concat g (declared_bare xs) ≡ f xs
+pub left_gives : {A : Type 0} (g : Tree → List A) (f : List Name → List A) → f [] ≡ [] → ((ts : Trees) → g (over Var (listed ts)) ≡ f (all_names declared.Bound ts)) → (xs : List Name) → concat g (declared_bare xs) ≡ f xs
 left_gives g f z e [] = sym z
 left_gives g f z e (x ∷ xs) = append-nil (g (var (x ∷ xs))) ∙ e (bare_declarators (x ∷ xs)) ∙ ap f (names_given (x ∷ xs))
 
@@ -179,14 +179,14 @@ left_calm (x ∷ xs) = ((refl, refl), tt)
 
 -- ---- a statement that declares nothing in its list but `var` names
 
-record Loose (t : Tree) : Type 0 where
-  bound : names_of declared.Bound t ≡ []
-  lexical : names_of declared.Lexical t ≡ []
-  body : body_names t ≡ names_of declared.Hoisted t
-  as_body : (o : Bool) → as_body o t ≡ own_declarations false [] (names_of declared.Hoisted t)
-  ports : (m : Bool) → port m t ≡ []
+pub record Loose (t : Tree) : Type 0 where
+  pub bound : names_of declared.Bound t ≡ []
+  pub lexical : names_of declared.Lexical t ≡ []
+  pub body : body_names t ≡ names_of declared.Hoisted t
+  pub as_body : (o : Bool) → as_body o t ≡ own_declarations false [] (names_of declared.Hoisted t)
+  pub ports : (m : Bool) → port m t ≡ []
 
-loose : (t : Tree) → is_unscoped t ≡ true → Loose t
+pub loose : (t : Tree) → is_unscoped t ≡ true → Loose t
 unfolding names_of body_names
 loose (node shape.ExpressionStatement xs n ts) e = record { bound = refl; lexical = refl; body = refl; as_body = λ o. refl; ports = λ m. refl }
 loose (node shape.EmptyStatement xs n ts) e = record { bound = refl; lexical = refl; body = refl; as_body = λ o. refl; ports = λ m. refl }

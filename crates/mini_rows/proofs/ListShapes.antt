@@ -460,7 +460,7 @@ module _ (strict : Bool) where
   all_bare_fit [] a = refl
   all_bare_fit (x ∷ xs) a = more_fit (one a_declarator) (declarator (binding x) absent) (bare_declarators xs) (bare_fits x a.0) (all_bare_fit xs a.1)
 
-  left_fits : (d : Depth) (xs : List Name) → AllNamed xs → AllFit (statement d) (declared_bare xs)
+  pub left_fits : (d : Depth) (xs : List Name) → AllNamed xs → AllFit (statement d) (declared_bare xs)
   left_fits d [] a = refl
   left_fits d (x ∷ xs) a =
       let ds = bare_declarators (x ∷ xs) in

@@ -1,5 +1,6 @@
 -- The rows of a `switch` over a value that is written out: of its cases one is left, which has the statements that run.
-use Rattle.std.specs.Prelude.{◌≡◌, ◌⊎◌, ◌&&◌, ◌||◌, not, ℤ, pos, ℕ, Bool, true, false, List, if◌then◌else◌}
+use Rattle.std.specs.Prelude.{◌≡◌, ◌⊎◌, ◌&&◌, ◌||◌, not, ℤ, pos, ℕ, zero, Bool, true, false, List, [], ◌∷◌, if◌then◌else◌}
+use Rattle.mini_model.specs.declared.kind.VariableDeclarationKind.TheVariants.{Var}
 use Rattle.mini_model.specs.declared.shape.Shape.TheVariants as shape
 use Rattle.mini_model.specs.Paths.{append}
 use Rattle.mini_model.specs.Tree.{Tree, Trees, node, none, ◌▸◌, leaf, absent, listed, is_absent, negation}
@@ -7,7 +8,7 @@ use Rattle.mini_laws.specs.Value.{Value, Undefined, Null, Boolean, Number, Strin
 use Rattle.mini_laws.specs.Operators.{strictly_equal}
 use Rattle.mini_terms.specs.Parts.{leaves_nothing}
 use Rattle.mini_rows.specs.Cases.{switch_case}
-use Rattle.mini_rows.specs.Lists.{switch, void_zero, is_var_shape, are_unscoped, declares_nothing, any, are_terminated}
+use Rattle.mini_rows.specs.Lists.{switch, void_zero, is_var_shape, are_unscoped, declares_nothing, any, are_terminated, left_behind}
 use Rattle.mini_rows.specs.Loops.{is_body_shape}
 
 -- ---- values that are written out
@@ -75,10 +76,33 @@ abbrev mutual
   hoist_nothing none = true
   hoist_nothing (t ▸ ts) = hoists_nothing t && hoist_nothing ts
 
--- statements of which nothing is left behind
+-- `x`, or `x = a`, of a `var`
+abbrev pub is_plain_declarator : Tree → Bool
+is_plain_declarator (node shape.VariableDeclarator [] zero (node shape.BindingIdentifier (x ∷ []) zero none ▸ (init ▸ none))) = true
+is_plain_declarator _ = false
+
+abbrev pub are_plain_declarators : Trees → Bool
+are_plain_declarators none = true
+are_plain_declarators (d ▸ ds) = is_plain_declarator d && are_plain_declarators ds
+
+-- `var x = a, y;`
+abbrev pub is_plain_var : Tree → Bool
+is_plain_var (node (shape.VariableDeclaration Var) [] zero (node shape.Listed [] zero (d ▸ ds) ▸ none)) = are_plain_declarators (d ▸ ds)
+is_plain_var _ = false
+
+-- statements of which nothing is left behind but the names of `var`s among them
 abbrev pub all_go : Trees → Bool
 all_go none = true
-all_go (t ▸ ts) = (leaves_nothing t && hoists_nothing t) && all_go ts
+all_go (t ▸ ts) = (leaves_nothing t && (hoists_nothing t || is_plain_var t)) && all_go ts
+
+-- those names, each statement's in a `var` without initializers
+abbrev pub left_all : Trees → Trees
+left_all none = none
+left_all (t ▸ ts) = append (left_behind t) (left_all ts)
+
+abbrev pub left_cases : Choices → Trees
+left_cases no_choices = none
+left_cases (choice test statements cs) = append (left_all statements) (left_cases cs)
 
 -- a test of which nothing is
 abbrev pub test_goes : Tree → Bool
@@ -94,10 +118,10 @@ cases_go (choice test statements cs) = test_goes test && (all_go statements && c
 abbrev pub are_ended : Trees → Bool
 are_ended ts = any (are_terminated ts)
 
--- the statements of a case and of those after it, up to the first that end in a jump
+-- the statements of a case and of those after it, up to the first that end in a jump; of others after these the names
 abbrev pub running : Trees → Choices → Trees
 running statements no_choices = statements
-running statements (choice test others cs) = if are_ended statements then statements else append statements (running others cs)
+running statements (choice test others cs) = if are_ended statements then append statements (left_cases (choice test others cs)) else append statements (running others cs)
 
 -- of those after it nothing is left behind but statements that run
 abbrev pub rest_goes : Trees → Choices → Bool
@@ -145,7 +169,9 @@ are_several before after = true
 -- ---- 81
 
 -- `switch (2) { case 1: a(); case 2: b(); case 3: c(); break; case d: e(); }` becomes `switch (2) { case 2: b(); c(); break; }`, and
--- `switch (2) { case 1: a(); default: b(); case 3: c(); }` becomes `switch (2) { default: b(); c(); }`
+-- `switch (2) { case 1: a(); default: b(); case 3: c(); }` becomes `switch (2) { default: b(); c(); }`. The names that a `var` declares in what
+-- goes are declared in the case that is left, before what runs or after it: `switch (2) { case 1: var x = a(); case 2: b(x); }` becomes
+-- `switch (2) { case 2: var x; b(x); }`
 pub record Row81 (n w : Tree) : Type 0 where
   pub value : Known
   pub before : Choices
@@ -158,9 +184,9 @@ pub record Row81 (n w : Tree) : Type 0 where
   pub dropped : cases_go before ≡ true
   pub rest_dropped : rest_goes statements after ≡ true
   pub shape : n ≡ switch_over value (before_others before (choice test statements after))
-  pub written : w ≡ switch_over value (choice test (running statements after) no_choices)
+  pub written : w ≡ switch_over value (choice test (append (left_cases before) (running statements after)) no_choices)
 
--- `switch (2) { case 1: a(); case 3: b(); }` becomes `switch (2) { case 1: }`
+-- `switch (2) { case 1: a(); case 3: var x = b(); }` becomes `switch (2) { case 1: var x; }`
 pub record Row81None (n w : Tree) : Type 0 where
   pub value : Known
   pub test : Tree
@@ -171,7 +197,7 @@ pub record Row81None (n w : Tree) : Type 0 where
   pub loose : are_loose (choice test statements after) ≡ true
   pub dropped : cases_go (choice test statements after) ≡ true
   pub shape : n ≡ switch_over value (choice test statements after)
-  pub written : w ≡ switch_over value (choice test none no_choices)
+  pub written : w ≡ switch_over value (choice test (left_cases (choice test statements after)) no_choices)
 
 abbrev pub DeadCaseRow : Tree → Tree → Type 0
 DeadCaseRow n w = Row81 n w ⊎ Row81None n w

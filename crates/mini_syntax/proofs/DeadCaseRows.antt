@@ -19,7 +19,8 @@ use Rattle.mini_node.proofs.Equality.{tree_same as same_is_equal, tree_itself as
 use Rattle.mini_terms.specs.Const.{const}
 use Rattle.mini_rows.specs.Branches.{SwitchRow}
 use Rattle.mini_rows.specs.Cases.{switch_case}
-use Rattle.mini_rows.specs.DeadCases.{Known, a_number, a_text, a_truth, a_null, undefined, known, value_of, selects, Choices, no_choices, choice, cases_of, before_others, switch_over, are_loose, cases_go, running, rest_goes, Missed, AllMissed, AllPassed, Taken, are_several, DeadCaseRow}
+use Rattle.mini_model.specs.Paths.{append}
+use Rattle.mini_rows.specs.DeadCases.{Known, a_number, a_text, a_truth, a_null, undefined, known, value_of, selects, Choices, no_choices, choice, cases_of, before_others, switch_over, are_loose, left_cases, cases_go, running, rest_goes, Missed, AllMissed, AllPassed, Taken, are_several, DeadCaseRow}
 use Rattle.mini_rows.specs.Lists.{switch}
 use Rattle.mini_rows.specs.Spellings.{numeral, PlainForm, a_boolean, a_big_int, a_template, a_void, plain}
 use Rattle.mini_rows.specs.Spellings as form
@@ -368,7 +369,7 @@ module _ (t : Tree) (k : Known) (value : part t 0 ≡ known k) (is : t ≡ switc
         dropped = sym (ap cases_go earlier) ∙ gone;
         rest_dropped = sym (ap later_go later) ∙ rest;
         shape = shape_is (before_others s.before (choice s.test s.statements s.after)) s.is;
-        written = made_is (count ts - r) (switch_case s.test (running s.statements s.after)) (ap (left_by (choices_of ts)) later);
+        written = made_is (count ts - r) (switch_case s.test (append (left_cases s.before) (running s.statements s.after))) (λ i. left_by (choices_of ts) (earlier i) (later i));
       })
 
   none_row : AllMissed k (choices_of ts) → others_go (count ts - 0) ts ≡ true → DeadCaseRow t (dropped_at t (count ts - 0))
@@ -378,9 +379,9 @@ module _ (t : Tree) (k : Known) (value : part t 0 ≡ known k) (is : t ≡ switc
       let (gone, rest) = and_parts (cases_go (choices_of (first_children (count ts - 0) ts))) (later_go (choices_of (rest_children (count ts - 0) ts))) go in
       let earlier : choices_of (first_children (count ts - 0) ts) ≡ choices_of ts = first_taken (count ts - 0) ts ∙ ap (λ i. take i (choices_of ts)) at ∙ take_all (choices_of ts) in
       let later : choices_of (rest_children (count ts - 0) ts) ≡ no_choices = rest_dropped (count ts - 0) ts ∙ ap (λ i. drop i (choices_of ts)) at ∙ drop_all (choices_of ts) in
-      by (choices_of ts) refl missed (sym (ap cases_go earlier) ∙ gone) (ap (left_by (choices_of ts)) later) (omega (arith, several, size_is ts)) loose
+      by (choices_of ts) refl missed (sym (ap cases_go earlier) ∙ gone) (ap (left_by (choices_of ts) (choices_of (first_children (count ts - 0) ts))) later) (omega (arith, several, size_is ts)) loose
     where
-      by : (cs : Choices) → choices_of ts ≡ cs → AllMissed k cs → cases_go cs ≡ true → left_at (count ts - 0) ts ≡ left_by (choices_of ts) no_choices → 1 < size cs → are_loose cs ≡ true → DeadCaseRow t (dropped_at t (count ts - 0))
+      by : (cs : Choices) → choices_of ts ≡ cs → AllMissed k cs → cases_go cs ≡ true → left_at (count ts - 0) ts ≡ left_by (choices_of ts) (choices_of (first_children (count ts - 0) ts)) no_choices → 1 < size cs → are_loose cs ≡ true → DeadCaseRow t (dropped_at t (count ts - 0))
       by no_choices e m g l h u = absurd (omega (arith, h))
       by (choice x ss cs) e m g l h u = inr (record {
         value = k;
@@ -392,7 +393,7 @@ module _ (t : Tree) (k : Known) (value : part t 0 ≡ known k) (is : t ≡ switc
         loose = u;
         dropped = g;
         shape = shape_is (choice x ss cs) e;
-        written = made_is (count ts - 0) (switch_case x none) (l ∙ ap (λ c. left_by c no_choices) e);
+        written = made_is (count ts - 0) (switch_case x (left_cases (choice x ss cs))) (l ∙ ap (λ c. left_by c (choices_of (first_children (count ts - 0) ts)) no_choices) e);
       })
 
   entered_row : (i : ℕ) → place_by ts (entry (known k) ts) ≡ Some i → DeadCaseRow t (dropped_at t i)

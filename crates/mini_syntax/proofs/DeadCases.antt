@@ -5,15 +5,18 @@ use Rattle.std.proofs.lemmas.Bool.{and_parts, false≢true}
 use Rattle.mini_model.specs.Paths.{append}
 use Rattle.mini_model.specs.Tree.{Tree, Trees, node, none, ◌▸◌, shape_of, children, child_or_absent, count, node_count}
 use Rattle.mini_node.specs.Children.{part, trees_of, first_children, rest_children, without}
+use Rattle.mini_node.specs.Kinds.{is_listed, is_named_leaf}
 use Rattle.mini_node.specs.Walks.{from_first, all_first, next_child, no_rest}
 use Rattle.mini_rows.specs.Cases.{switch_case}
-use Rattle.mini_rows.specs.DeadCases.{no_choices, hoists_nothing, hoist_nothing, running}
+use Rattle.mini_model.specs.declared.kind.VariableDeclarationKind.TheVariants.{Var}
+use Rattle.mini_model.specs.declared.shape.Shape.TheVariants as shape
+use Rattle.mini_rows.specs.DeadCases.{no_choices, hoists_nothing, hoist_nothing, is_plain_declarator, are_plain_declarators, is_plain_var, left_all, left_cases, running}
 use Rattle.mini_rows.specs.Lists.{is_var_shape, any, are_terminated}
 use Rattle.mini_rows.specs.Loops.{is_body_shape}
 use Rattle.mini_syntax.specs.MinimizeSwitchStatements.{is_case}
 use Rattle.mini_syntax.specs.MinimizeSwitchStatements as inlining
 use Rattle.mini_syntax.specs.Forms.{first_of}
-use Rattle.mini_syntax.specs.DropUnreachableSwitchCases.{are_cases, choices_of, left_by, left_at, written, either_written}
+use Rattle.mini_syntax.specs.DropUnreachableSwitchCases.{are_cases, choices_of, is_binding_shape, binds_name, some_plain, declares_names, left_by, left_at, written, either_written}
 use Rattle.mini_syntax.proofs.Switches.{case_is}
 
 pub two_parts : (c : Tree) (cs : Trees) → are_cases (c ▸ cs) ≡ true → count (children c) ≡ 2
@@ -78,13 +81,13 @@ pub runs_alone : (ss cs : Trees) → count cs ≡ 0 → ss ≡ running ss (choic
 runs_alone ss none e = refl
 runs_alone ss (c ▸ cs) e = absurd (omega (arith, e))
 
-pub runs_ended : (ss cs : Trees) → any (are_terminated ss) ≡ true → ss ≡ running ss (choices_of cs)
-runs_ended ss none e = refl
-runs_ended ss (c ▸ cs) e = sym (ap (λ b. if b then ss else append ss (running (children (part c 1)) (choices_of cs))) e)
+pub runs_ended : (ss cs : Trees) → (count cs ≡ 0 → ⊥) → any (are_terminated ss) ≡ true → append ss (left_cases (choices_of cs)) ≡ running ss (choices_of cs)
+runs_ended ss none h e = absurd (h refl)
+runs_ended ss (c ▸ cs) h e = sym (ap (λ b. if b then append ss (left_cases (choices_of (c ▸ cs))) else append ss (running (children (part c 1)) (choices_of cs))) e)
 
 pub runs_on : (ss cs : Trees) → (count cs ≡ 0 → ⊥) → any (are_terminated ss) ≡ false → append ss (running (children (part (child_or_absent cs 0) 1)) (choices_of (without cs 0))) ≡ running ss (choices_of cs)
 runs_on ss none h e = absurd (h refl)
-runs_on ss (c ▸ cs) h e = sym (ap (λ b. if b then ss else append ss (running (children (part c 1)) (choices_of cs))) e)
+runs_on ss (c ▸ cs) h e = sym (ap (λ b. if b then append ss (left_cases (choices_of (c ▸ cs))) else append ss (running (children (part c 1)) (choices_of cs))) e)
 
 -- what is left
 
@@ -92,9 +95,17 @@ no_more : (cs : Trees) → choices_of (rest_children (count cs) cs) ≡ no_choic
 no_more none = refl
 no_more (c ▸ cs) = no_more cs
 
-pub emptied_is : (cs : Trees) → 0 < count cs → switch_case (part (child_or_absent cs 0) 0) none ≡ left_at (count cs) cs
+pub names_none : (cs : Trees) → count cs ≡ 0 → cs ≡ left_cases (choices_of cs)
+names_none none e = refl
+names_none (c ▸ cs) e = absurd (omega (arith, e))
+
+pub names_more : (cs : Trees) → (count cs ≡ 0 → ⊥) → append (left_all (children (part (child_or_absent cs 0) 1))) (left_cases (choices_of (without cs 0))) ≡ left_cases (choices_of cs)
+names_more none h = absurd (h refl)
+names_more (c ▸ cs) h = refl
+
+pub emptied_is : (cs : Trees) → 0 < count cs → switch_case (part (child_or_absent cs 0) 0) (append (left_all (children (part (child_or_absent cs 0) 1))) (left_cases (choices_of (without cs 0)))) ≡ left_at (count cs) cs
 emptied_is none h = absurd (omega (arith, h))
-emptied_is (c ▸ cs) h = sym (ap (left_by (choices_of (c ▸ cs))) (no_more cs))
+emptied_is (c ▸ cs) h = sym (ap (left_by (choices_of (c ▸ cs)) (choices_of (first_children (count (c ▸ cs)) (c ▸ cs)))) (no_more cs))
 
 some_rest : (i : ℕ) (cs : Trees) → i < count cs → 0 < count (rest_children i cs)
 some_rest i cs h = let same = rest_count i cs in omega (arith, same, h)
@@ -103,12 +114,53 @@ pub rest_there : (i : ℕ) (cs : Trees) → i < count cs → 0 < count (rest_chi
 rest_there i cs h = some_rest i cs h
 
 pub entered_is : (i : ℕ) (cs : Trees) → i < count cs
-    → switch_case (part (child_or_absent (rest_children i cs) 0) 0) (running (children (part (child_or_absent (rest_children i cs) 0) 1)) (choices_of (without (rest_children i cs) 0))) ≡ left_at i cs
+    → switch_case (part (child_or_absent (rest_children i cs) 0) 0) (append (left_cases (choices_of (first_children i cs))) (running (children (part (child_or_absent (rest_children i cs) 0) 1)) (choices_of (without (rest_children i cs) 0)))) ≡ left_at i cs
 entered_is i cs h = go (rest_children i cs) (some_rest i cs h)
   where
-    go : (later : Trees) → 0 < count later → switch_case (part (child_or_absent later 0) 0) (running (children (part (child_or_absent later 0) 1)) (choices_of (without later 0))) ≡ left_by (choices_of cs) (choices_of later)
+    go : (later : Trees) → 0 < count later → switch_case (part (child_or_absent later 0) 0) (append (left_cases (choices_of (first_children i cs))) (running (children (part (child_or_absent later 0) 1)) (choices_of (without later 0)))) ≡ left_by (choices_of cs) (choices_of (first_children i cs)) (choices_of later)
     go none k = absurd (omega (arith, k))
     go (c ▸ later) k = refl
+
+-- a `var` of names
+
+alike : (a b : Bool) → (a ≡ true → b ≡ true) → (b ≡ true → a ≡ true) → a ≡ b
+alike true b f g = sym (f refl)
+alike false true f g = g refl
+alike false false f g = refl
+
+binding_plain : (c init : Tree) → is_binding_shape (shape_of c) && is_named_leaf c ≡ true → is_plain_declarator (node shape.VariableDeclarator [] 0 (c ▸ (init ▸ none))) ≡ true
+binding_plain (node shape.BindingIdentifier (x ∷ []) zero none) init e = refl
+binding_plain c init e = absurd (false≢true e)
+
+binds_plain : (d : Tree) → binds_name d ≡ true → is_plain_declarator d ≡ true
+binds_plain (node shape.VariableDeclarator [] zero (c ▸ (init ▸ none))) e = binding_plain c init e
+binds_plain d e = absurd (false≢true e)
+
+plain_binds : (d : Tree) → is_plain_declarator d ≡ true → binds_name d ≡ true
+plain_binds (node shape.VariableDeclarator [] zero (node shape.BindingIdentifier (x ∷ []) zero none ▸ (init ▸ none))) e = refl
+plain_binds d e = absurd (false≢true e)
+
+pub plain_is : (d : Tree) → is_plain_declarator d ≡ binds_name d
+plain_is d = alike (is_plain_declarator d) (binds_name d) (plain_binds d) (binds_plain d)
+
+list_plain : (c : Tree) → is_listed c && some_plain (children c) ≡ true → is_plain_var (node (shape.VariableDeclaration Var) [] 0 (c ▸ none)) ≡ true
+list_plain (node shape.Listed [] zero (d ▸ ds)) e = e
+list_plain c e = absurd (false≢true e)
+
+names_plain : (t : Tree) → declares_names t ≡ true → is_plain_var t ≡ true
+names_plain (node (shape.VariableDeclaration Var) [] zero (c ▸ none)) e = list_plain c e
+names_plain t e = absurd (false≢true e)
+
+plain_names : (t : Tree) → is_plain_var t ≡ true → declares_names t ≡ true
+plain_names (node (shape.VariableDeclaration Var) [] zero (node shape.Listed [] zero (d ▸ ds) ▸ none)) e = e
+plain_names t e = absurd (false≢true e)
+
+pub names_are : (t : Tree) → is_plain_var t ≡ declares_names t
+names_are t = alike (is_plain_var t) (declares_names t) (plain_names t) (names_plain t)
+
+pub some_is : (xs : List Tree) → 1 ≤ length xs → are_plain_declarators (trees_of xs) ≡ some_plain (trees_of xs)
+some_is [] h = absurd (omega (arith, h))
+some_is (x ∷ xs) h = refl
 
 -- the first rewrite of a `switch`, and where it makes nothing the second
 

@@ -9,8 +9,10 @@ use Rattle.mini_node.specs.Children.{part, is_bare, first_children, rest_childre
 use Rattle.mini_node.specs.Equal.{same_tree}
 use Rattle.mini_node.specs.Kinds.{number, unary_operator, is_absent_part, is_listed}
 use Rattle.mini_rows.specs.Cases.{switch_case}
-use Rattle.mini_rows.specs.DeadCases.{Choices, no_choices, choice, are_loose, cases_go, running, rest_goes}
-use Rattle.mini_rows.specs.Lists.{switch}
+use Rattle.mini_model.specs.Paths.{append}
+use Rattle.mini_node.specs.Kinds.{is_named_leaf}
+use Rattle.mini_rows.specs.DeadCases.{Choices, no_choices, choice, are_loose, are_plain_declarators, left_cases, cases_go, running, rest_goes}
+use Rattle.mini_rows.specs.Lists.{switch, is_var_shape, is_declarator_shape}
 use Rattle.mini_syntax.specs.Forms.{first_of, is_plain}
 use Rattle.mini_syntax.specs.MinimizeSwitchStatements as inlining
 use Rattle.mini_syntax.specs.MinimizeSwitchStatements.{is_switch_shape, is_case}
@@ -90,6 +92,22 @@ entry d cs = or_default cs (selected d cs)
 
 -- ---- what goes
 
+-- `x`, or `x = a`, by its parts
+abbrev pub is_binding_shape : Shape → Bool
+is_binding_shape shape.BindingIdentifier = true
+is_binding_shape _ = false
+
+abbrev pub binds_name : Tree → Bool
+binds_name d = is_declarator_shape (shape_of d) && (is_bare d 2 && (is_binding_shape (shape_of (part d 0)) && is_named_leaf (part d 0)))
+
+abbrev pub some_plain : Trees → Bool
+some_plain none = false
+some_plain (d ▸ ds) = are_plain_declarators (d ▸ ds)
+
+-- `var x = a, y;`
+abbrev pub declares_names : Tree → Bool
+declares_names t = is_var_shape (shape_of t) && (is_bare t 1 && (is_listed (part t 0) && some_plain (children (part t 0))))
+
 -- from the case on that is taken
 abbrev pub later_go : Choices → Bool
 later_go no_choices = true
@@ -117,14 +135,14 @@ place t = if is_read t then place_by (children (part t 1)) (entry (part t 0) (ch
 
 -- ---- what is written
 
--- the case that is taken, or the first one without its statements
-abbrev pub left_by : Choices → Choices → Tree
-left_by all (choice test statements cs) = switch_case test (running statements cs)
-left_by (choice test statements cs) no_choices = switch_case test none
-left_by no_choices no_choices = absent
+-- the case that is taken, behind the names of those before it, or the first one with the names of all
+abbrev pub left_by : Choices → Choices → Choices → Tree
+left_by all before (choice test statements cs) = switch_case test (append (left_cases before) (running statements cs))
+left_by (choice test statements cs) before no_choices = switch_case test (left_cases (choice test statements cs))
+left_by no_choices before no_choices = absent
 
 abbrev pub left_at : ℕ → Trees → Tree
-left_at i cs = left_by (choices_of cs) (choices_of (rest_children i cs))
+left_at i cs = left_by (choices_of cs) (choices_of (first_children i cs)) (choices_of (rest_children i cs))
 
 abbrev pub dropped_at : Tree → ℕ → Tree
 dropped_at t i = switch (part t 0) (listed (left_at i (children (part t 1)) ▸ none))

@@ -104,8 +104,8 @@ fn declared_bare(alloc: Global, declarators: Nodes) -> Result<Node, OutOfMemory>
     ))
 }
 
-// What is left of a statement that goes.
-fn left_behind(alloc: Global, node: &Node) -> Result<Nodes, OutOfMemory>
+/// What is left of a statement that goes: its `var` names, in a `var` without initializers. The only error is that memory runs out.
+pub fn left_behind(alloc: Global, node: &Node) -> Result<Nodes, OutOfMemory>
     ensures { IfOk result (λ left. left ≡ list.left_behind node.now) }
 {
     let declarators = bare_declarators(alloc, hoisted_names(alloc, node)?)?;

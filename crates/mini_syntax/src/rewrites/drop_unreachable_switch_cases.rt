@@ -20,6 +20,7 @@ use mini_node::{
     Node, Nodes, discard, is_absent_part, is_listed, is_same_tree, listed, number, of_one, of_two,
     taken, two, unary_operator,
 };
+use mini_stmt::left_behind;
 use mini_terms::leaves_nothing;
 use std::alloc::Global;
 
@@ -214,13 +215,60 @@ fn hoist_nothing(nodes: &Nodes) -> bool
     true
 }
 
-// Whether nothing is left behind of the statements.
+// `x`, or `x = a`, of a `var`.
+fn binds_name(node: &Node) -> bool
+    ensures { result ≡ row.binds_name node.now }
+{
+    matches!(node.shape(), Shape::VariableDeclarator)
+        && node.is_bare(2)
+        && matches!(node.child(0).shape(), Shape::BindingIdentifier)
+        && node.child(0).is_named_leaf()
+}
+
+#[tactic(auto, using(crate::proofs::DeadCases::plain_is))]
+fn are_plain_declarators(nodes: &[Node]) -> bool
+    ensures { result ≡ dead.are_plain_declarators (trees_of nodes.now) }
+{
+    match nodes {
+        [] => true,
+        [first, rest @ ..] => binds_name(first) && are_plain_declarators(rest),
+    }
+}
+
+fn some_plain(nodes: &[Node]) -> bool
+    ensures { result ≡ row.some_plain (trees_of nodes.now) }
+{
+    match nodes {
+        [] => false,
+        [_, ..] => are_plain_declarators(nodes),
+    }
+}
+
+// `var x = a, y;`
+fn declares_names(node: &Node) -> bool
+    ensures { result ≡ row.declares_names node.now }
+{
+    is_var(node.shape())
+        && node.is_bare(1)
+        && is_listed(node.child(0))
+        && some_plain(node.child(0).parts())
+}
+
+// Whether no name is left behind of the statement, or those of a plain `var`.
+#[tactic(auto, using(crate::proofs::DeadCases::names_are))]
+fn leaves_names(node: &Node) -> bool
+    ensures { result ≡ (dead.hoists_nothing node.now || dead.is_plain_var node.now) }
+{
+    hoists_nothing(node) || declares_names(node)
+}
+
+// Whether nothing is left behind of the statements but such names.
 fn all_go(statements: &[Node]) -> bool
     ensures { result ≡ dead.all_go (trees_of statements.now) }
 {
     match statements {
         [] => true,
-        [first, rest @ ..] => leaves_nothing(first) && hoists_nothing(first) && all_go(rest),
+        [first, rest @ ..] => leaves_nothing(first) && leaves_names(first) && all_go(rest),
     }
 }
 
@@ -346,36 +394,74 @@ fn case_of(alloc: Global, test: Node, statements: Nodes) -> Result<Node, OutOfMe
     Ok(Node::new(Shape::SwitchCase, parts))
 }
 
-// The statements that run: these, and those of the cases after them, up to the first list that ends in a jump.
+// The `var` names of the statements, each statement's in a `var` without initializers.
+fn left_all(alloc: Global, statements: &[Node]) -> Result<Nodes, OutOfMemory>
+    ensures { IfOk result (λ left. left ≡ dead.left_all (trees_of statements.now)) }
+{
+    match statements {
+        [] => Ok(Nodes::new(alloc)),
+        [first, rest @ ..] => {
+            let mut left = left_behind(alloc, first)?;
+            let mut others = left_all(alloc, rest)?;
+            left.append(&mut others)?;
+            Ok(left)
+        }
+    }
+}
+
+// Those of the cases.
+#[tactic(auto, using(crate::proofs::DeadCases::names_none, crate::proofs::DeadCases::names_more, crate::proofs::DeadCases::some_node))]
+fn left_cases(alloc: Global, mut cases: Nodes) -> Result<Nodes, OutOfMemory>
+    ensures { IfOk result (λ left. left ≡ dead.left_cases (choices_of cases)) }
+{
+    if cases.is_empty() {
+        return Ok(cases);
+    }
+    let (test, body) = two(cases.remove(0));
+    discard(test);
+    let mut left = left_all(alloc, body.parts())?;
+    discard(body);
+    let mut others = left_cases(alloc, cases)?;
+    left.append(&mut others)?;
+    Ok(left)
+}
+
+// The statements that run: these, and those of the cases after them, up to the first list that ends in a jump; of the cases after that
+// the names.
 #[tactic(auto, using(crate::proofs::DeadCases::runs_alone, crate::proofs::DeadCases::runs_ended, crate::proofs::DeadCases::runs_on, crate::proofs::DeadCases::some_node))]
-fn running(mut statements: Nodes, mut cases: Nodes) -> Result<Nodes, OutOfMemory>
+fn running(alloc: Global, mut statements: Nodes, mut cases: Nodes) -> Result<Nodes, OutOfMemory>
     ensures { IfOk result (λ r. r ≡ dead.running statements (choices_of cases)) }
 {
     if cases.is_empty() {
         return Ok(statements);
     }
     if are_ended(&statements) {
+        let mut left = left_cases(alloc, cases)?;
+        statements.append(&mut left)?;
         return Ok(statements);
     }
     let (test, body) = two(cases.remove(0));
     discard(test);
-    let mut others = running(body.into_children(), cases)?;
+    let mut others = running(alloc, body.into_children(), cases)?;
     statements.append(&mut others)?;
     Ok(statements)
 }
 
-// The first case, without its statements.
+// The first case, with the names of all in the place of its statements.
 #[tactic(auto, using(crate::proofs::DeadCases::emptied_is))]
 fn emptied(alloc: Global, mut cases: Nodes) -> Result<Node, OutOfMemory>
     requires { 0 < count cases }
     ensures { IfOk result (λ w. w ≡ row.left_at (count cases) cases) }
 {
     let (test, body) = two(cases.remove(0));
+    let mut left = left_all(alloc, body.parts())?;
     discard(body);
-    case_of(alloc, test, Nodes::new(alloc))
+    let mut others = left_cases(alloc, cases)?;
+    left.append(&mut others)?;
+    case_of(alloc, test, left)
 }
 
-// The case at a place, with the statements that run.
+// The case at a place, with the statements that run, behind the names of the cases before it.
 #[tactic(auto, using(crate::proofs::DeadCases::entered_is, crate::proofs::DeadCases::rest_there))]
 fn entered(alloc: Global, mut cases: Nodes, at: usize) -> Result<Node, OutOfMemory>
     requires { at < count cases }
@@ -383,8 +469,10 @@ fn entered(alloc: Global, mut cases: Nodes, at: usize) -> Result<Node, OutOfMemo
 {
     let mut later = cases.split_off(at)?;
     let (test, body) = two(later.remove(0));
-    let statements = running(body.into_children(), later)?;
-    case_of(alloc, test, statements)
+    let mut statements = running(alloc, body.into_children(), later)?;
+    let mut left = left_cases(alloc, cases)?;
+    left.append(&mut statements)?;
+    case_of(alloc, test, left)
 }
 
 fn left_at(alloc: Global, cases: Nodes, at: usize) -> Result<Node, OutOfMemory>
