@@ -31,10 +31,10 @@ use Rattle.mini_kept.specs.Placed.{fits_place}
 use Rattle.mini_kept.specs.Standing.{is_asked_whole, is_unseated, Stands}
 use Rattle.mini_kept.specs.Lifted.{is_piece}
 use Rattle.mini_kept.specs.KeepsBodies.{KeepsBodies}
-use Rattle.mini_kept.specs.Without.{Permits, BodiesWith, KeepsBodiesWith, StepKeepsWith}
+use Rattle.mini_kept.specs.Without.{BodySets, none_steady, Permits, BodiesUnder, KeepsBodiesUnder, StepKeepsUnder}
 use Rattle.mini_kept.specs.BodyLaws.{StepKeepsBodies, ReachesKeepsBodies}
 use Rattle.mini_kept.proofs.BodyLists.{kept_itself as bodies_themselves, kept_on as bodies_on}
-use Rattle.mini_kept.proofs.WithoutLists.{each_of, kept_itself, from_kept, to_kept}
+use Rattle.mini_kept.proofs.WithoutLists.{each_under, itself_under, from_kept, to_kept}
 use Rattle.mini_kept.proofs.Placed.{Placed, placed_below}
 use Rattle.mini_kept.proofs.BodyPlaces.{ChildrenStand, children_stand, inner_stands}
 
@@ -98,17 +98,17 @@ some_slot strict s r t (inr e) = (strict, r, e)
 -- ---- steps
 
 -- the bodies in a tree that fills a slot are those in another, and so are those of some children
-record Keeps (W D : VariableSet) (p : Position) (t u : Tree) : Type 0 where
-  kept : (strict : Bool) (s : Slot) → fits_place p s ≡ true → fits strict s t ≡ true → (a : Around) → Stands s p a → BodiesWith W D (bodies a t) (bodies a u)
+record Keeps (W : VariableSet) (S : BodySets) (D : VariableSet) (p : Position) (t u : Tree) : Type 0 where
+  kept : (strict : Bool) (s : Slot) → fits_place p s ≡ true → fits strict s t ≡ true → (a : Around) → Stands s p a → BodiesUnder W S D (bodies a t) (bodies a u)
 
-record AllKeep (W D : VariableSet) (π : ℕ → Position) (ts us : Trees) : Type 0 where
-  kept : (strict : Bool) (g : Filling) → Placed π g → fill strict g ts ≡ true → (α : ℕ → Around) (i : ℕ) → ChildrenStand π α i g → BodiesWith W D (bodies_from α i ts) (bodies_from α i us)
+record AllKeep (W : VariableSet) (S : BodySets) (D : VariableSet) (π : ℕ → Position) (ts us : Trees) : Type 0 where
+  kept : (strict : Bool) (g : Filling) → Placed π g → fill strict g ts ≡ true → (α : ℕ → Around) (i : ℕ) → ChildrenStand π α i g → BodiesUnder W S D (bodies_from α i ts) (bodies_from α i us)
 
-first_kept : (W D : VariableSet) (α : ℕ → Around) (i : ℕ) (t u : Tree) (ts : Trees) → BodiesWith W D (bodies (α i) t) (bodies (α i) u) → BodiesWith W D (bodies_from α i (t ▸ ts)) (bodies_from α i (u ▸ ts))
-first_kept W D α i t u ts k = each_of W D (bodies (α i) t) (bodies_from α (suc i) ts) (bodies (α i) u) (bodies_from α (suc i) ts) k (kept_itself W D (bodies_from α (suc i) ts))
+first_kept : (W : VariableSet) (S : BodySets) (D : VariableSet) (α : ℕ → Around) (i : ℕ) (t u : Tree) (ts : Trees) → BodiesUnder W S D (bodies (α i) t) (bodies (α i) u) → BodiesUnder W S D (bodies_from α i (t ▸ ts)) (bodies_from α i (u ▸ ts))
+first_kept W S D α i t u ts k = each_under W S D (bodies (α i) t) (bodies_from α (suc i) ts) (bodies (α i) u) (bodies_from α (suc i) ts) k (itself_under W S D (bodies_from α (suc i) ts))
 
-others_kept : (W D : VariableSet) (α : ℕ → Around) (i : ℕ) (t : Tree) (ts us : Trees) → BodiesWith W D (bodies_from α (suc i) ts) (bodies_from α (suc i) us) → BodiesWith W D (bodies_from α i (t ▸ ts)) (bodies_from α i (t ▸ us))
-others_kept W D α i t ts us k = each_of W D (bodies (α i) t) (bodies_from α (suc i) ts) (bodies (α i) t) (bodies_from α (suc i) us) (kept_itself W D (bodies (α i) t)) k
+others_kept : (W : VariableSet) (S : BodySets) (D : VariableSet) (α : ℕ → Around) (i : ℕ) (t : Tree) (ts us : Trees) → BodiesUnder W S D (bodies_from α (suc i) ts) (bodies_from α (suc i) us) → BodiesUnder W S D (bodies_from α i (t ▸ ts)) (bodies_from α i (t ▸ us))
+others_kept W S D α i t ts us k = each_under W S D (bodies (α i) t) (bodies_from α (suc i) ts) (bodies (α i) t) (bodies_from α (suc i) us) (itself_under W S D (bodies (α i) t)) k
 
 -- a part of what mentions no such variable
 child_avoids : (D : VariableSet) (ts : Trees) → AllAvoid D ts → (i : ℕ) → Avoids D (child_or_absent ts i)
@@ -116,7 +116,7 @@ child_avoids D none v i = (tt, tt)
 child_avoids D (t ▸ ts) v zero = v.0
 child_avoids D (t ▸ ts) v (suc i) = child_avoids D ts v.1 i
 
-module _ (R : Position → Tree → Tree → Type 0) (W D : VariableSet) (l : KeepsBodiesWith W D R) where
+module _ (R : Position → Tree → Tree → Type 0) (W : VariableSet) (S : BodySets) (D : VariableSet) (l : KeepsBodiesUnder W S D R) where
   -- no step is made in the text of a template
   no_step : {p : Position} {t u : Tree} (g : Tagging) (last : Bool) → Step R p t u → is_quasi g last t ≡ true → ⊥
   no_step g last (here p (node h xs n ts) u r) e = cc (sym (piece_by g last h xs n ts e).0 ∙ no_piece g last h (l.pieces p (node h xs n ts) u r))
@@ -195,20 +195,20 @@ module _ (R : Position → Tree → Tree → Type 0) (W D : VariableSet) (l : Ke
 
   -- the body of the node itself
   own_kept : (a : Around) (p : Position) (h : Shape) (xs : List Name) (n : ℕ) (ts us : Trees) → StepIn R (child_position h p (count ts)) ts us → ((i : ℕ) → Moved (child_position h p (count ts) i) (child_or_absent ts i) (child_or_absent us i)) → (h ≡ shape.InnerExpression → is_asked_whole p ≡ true) → (a.is_assigned ≡ true → is_unseated p ≡ true) → Avoids D (node h xs n us)
-      → BodiesWith W D (body_of a h n (node h xs n ts) ts) (body_of a h n (node h xs n us) us)
+      → BodiesUnder W S D (body_of a h n (node h xs n ts) ts) (body_of a h n (node h xs n us) us)
   own_kept a p (shape.Program m ds) xs n ts us st mv w y v =
-      (inl (record { number = refl; kind = inl refl; strict = refl; asks_this = refl; same = λ e z X. as_runs e Program X _ _ (stepped_body Elsewhere _ _ (inside Elsewhere (shape.Program m ds) xs n ts us st) v Program tt e z X) }), tt)
+      (inl (record { number = refl; kind = inl refl; strict = refl; asks_this = refl; same = λ e z r X. as_runs e Program X _ _ (stepped_body Elsewhere _ _ (inside Elsewhere (shape.Program m ds) xs n ts us st) v Program tt e z X) }), tt)
   own_kept a p (shape.Function d g ds) xs n ts us st mv w y v =
-      (inl (record { number = refl; kind = inl refl; strict = refl; asks_this = refl; same = λ e z X. as_runs e FunctionStatements X _ _ (moved_body Elsewhere _ _ (mv 2) (child_avoids D us v.1 2) FunctionStatements tt e z X) }), tt)
+      (inl (record { number = refl; kind = inl refl; strict = refl; asks_this = refl; same = λ e z r X. as_runs e FunctionStatements X _ _ (moved_body Elsewhere _ _ (mv 2) (child_avoids D us v.1 2) FunctionStatements tt e z X) }), tt)
   own_kept a p (shape.ArrowFunctionExpression ds) xs n ts us st mv w y v =
-      (inl (record { number = refl; kind = inl (moved_kind (mv 1)); strict = refl; asks_this = refl; same = λ e z X. subst (λ l. RunsAs e (arrow_kind (shape_of (child_or_absent ts 1))) l X (child_or_absent ts 1) (child_or_absent us 1)) (moved_kind (mv 1)) (as_runs e (arrow_kind (shape_of (child_or_absent ts 1))) X _ _ (moved_body (Expr argument_seat) _ _ (mv 1) (child_avoids D us v.1 1) (arrow_kind (shape_of (child_or_absent ts 1))) (arrow_fits (shape_of (child_or_absent ts 1)) argument_seat refl refl) e z X)) }), tt)
+      (inl (record { number = refl; kind = inl (moved_kind (mv 1)); strict = refl; asks_this = refl; same = λ e z r X. subst (λ l. RunsAs e (arrow_kind (shape_of (child_or_absent ts 1))) l X (child_or_absent ts 1) (child_or_absent us 1)) (moved_kind (mv 1)) (as_runs e (arrow_kind (shape_of (child_or_absent ts 1))) X _ _ (moved_body (Expr argument_seat) _ _ (mv 1) (child_avoids D us v.1 1) (arrow_kind (shape_of (child_or_absent ts 1))) (arrow_fits (shape_of (child_or_absent ts 1)) argument_seat refl refl) e z X)) }), tt)
   own_kept a p shape.StaticBlock xs n ts us st mv w y v =
-      (inl (record { number = refl; kind = inl refl; strict = refl; asks_this = refl; same = λ e z X. as_runs e FunctionStatements X _ _ (stepped_body Elsewhere _ _ (inside Elsewhere shape.StaticBlock xs n ts us st) v FunctionStatements tt e z X) }), tt)
+      (inl (record { number = refl; kind = inl refl; strict = refl; asks_this = refl; same = λ e z r X. as_runs e FunctionStatements X _ _ (stepped_body Elsewhere _ _ (inside Elsewhere shape.StaticBlock xs n ts us st) v FunctionStatements tt e z X) }), tt)
   own_kept a p shape.InnerExpression xs n ts us st mv w y v = inner a.is_assigned refl
     where
-      inner : (b : Bool) → a.is_assigned ≡ b → BodiesWith W D (record { number = n; kind = choose b InnerTarget InnerValue; root = node shape.InnerExpression xs n ts; strict = a.strict; asks_this = a.asks_this } ∷ []) (record { number = n; kind = choose b InnerTarget InnerValue; root = node shape.InnerExpression xs n us; strict = a.strict; asks_this = a.asks_this } ∷ [])
-      inner true k = (inl (record { number = refl; kind = inl refl; strict = refl; asks_this = refl; same = λ e z X. as_runs e InnerTarget X _ _ (stepped_body p _ _ (inside p shape.InnerExpression xs n ts us st) v InnerTarget (target_fits p (w refl) (y k)) e z X) }), tt)
-      inner false k = (inl (record { number = refl; kind = inl refl; strict = refl; asks_this = refl; same = λ e z X. as_runs e InnerValue X _ _ (stepped_body p _ _ (inside p shape.InnerExpression xs n ts us st) v InnerValue (value_fits p (w refl)) e z X) }), tt)
+      inner : (b : Bool) → a.is_assigned ≡ b → BodiesUnder W S D (record { number = n; kind = choose b InnerTarget InnerValue; root = node shape.InnerExpression xs n ts; strict = a.strict; asks_this = a.asks_this } ∷ []) (record { number = n; kind = choose b InnerTarget InnerValue; root = node shape.InnerExpression xs n us; strict = a.strict; asks_this = a.asks_this } ∷ [])
+      inner true k = (inl (record { number = refl; kind = inl refl; strict = refl; asks_this = refl; same = λ e z r X. as_runs e InnerTarget X _ _ (stepped_body p _ _ (inside p shape.InnerExpression xs n ts us st) v InnerTarget (target_fits p (w refl) (y k)) e z X) }), tt)
+      inner false k = (inl (record { number = refl; kind = inl refl; strict = refl; asks_this = refl; same = λ e z r X. as_runs e InnerValue X _ _ (stepped_body p _ _ (inside p shape.InnerExpression xs n ts us st) v InnerValue (value_fits p (w refl)) e z X) }), tt)
   own_kept a p h xs n ts us st mv w y v = tt
 
   parts_fill : (strict : Bool) (s : Slot) (h : Shape) (xs : List Name) (n : ℕ) (ts : Trees) → fits strict s (node h xs n ts) ≡ true → fill (is_strict_in strict h) (filling strict s h) ts ≡ true
@@ -217,23 +217,23 @@ module _ (R : Position → Tree → Tree → Type 0) (W D : VariableSet) (l : Ke
   abbrev around_by : Around → Shape → Bool → ℕ → Around
   around_by a h x i = record { strict = fixity.is_strict_in a.strict h; asks_this = asks_below a h i; extends = x; constructs = constructs_below a h i; is_assigned = is_assigned_below a h i }
 
-  same_around : (a : Around) (h : Shape) {π : ℕ → Position} (ts us : Trees) → StepIn R π ts us → BodiesWith W D (bodies_from (below a h ts) 0 ts) (bodies_from (below a h ts) 0 us) → BodiesWith W D (bodies_from (below a h ts) 0 ts) (bodies_from (below a h us) 0 us)
-  same_around a h ts us st k = subst (λ x. BodiesWith W D (bodies_from (below a h ts) 0 ts) (bodies_from (around_by a h x) 0 us)) (extends_read a h st) k
+  same_around : (a : Around) (h : Shape) {π : ℕ → Position} (ts us : Trees) → StepIn R π ts us → BodiesUnder W S D (bodies_from (below a h ts) 0 ts) (bodies_from (below a h ts) 0 us) → BodiesUnder W S D (bodies_from (below a h ts) 0 ts) (bodies_from (below a h us) 0 us)
+  same_around a h ts us st k = subst (λ x. BodiesUnder W S D (bodies_from (below a h ts) 0 ts) (bodies_from (around_by a h x) 0 us)) (extends_read a h st) k
 
   -- of the same node over other children
-  inside_kept : (p : Position) (h : Shape) (xs : List Name) (n : ℕ) (ts us : Trees) → StepIn R (child_position h p (count ts)) ts us → Avoids D (node h xs n us) → AllKeep W D (child_position h p (count ts)) ts us → Keeps W D p (node h xs n ts) (node h xs n us)
+  inside_kept : (p : Position) (h : Shape) (xs : List Name) (n : ℕ) (ts us : Trees) → StepIn R (child_position h p (count ts)) ts us → Avoids D (node h xs n us) → AllKeep W S D (child_position h p (count ts)) ts us → Keeps W S D p (node h xs n ts) (node h xs n us)
   inside_kept p h xs n ts us st v k = record {
     kept = λ strict s q e a z.
-        each_of W D (body_of a h n (node h xs n ts) ts) (bodies_from (below a h ts) 0 ts) (body_of a h n (node h xs n us) us) (bodies_from (below a h us) 0 us)
+        each_under W S D (body_of a h n (node h xs n ts) ts) (bodies_from (below a h ts) 0 ts) (body_of a h n (node h xs n us) us) (bodies_from (below a h us) 0 us)
         (own_kept a p h xs n ts us st (moved (is_strict_in strict h) (filling strict s h) st (parts_fill strict s h xs n ts e)) (λ q. inner_stands strict s h xs n ts q e p z.whole) z.assigned v)
         (same_around a h ts us st (k.kept (is_strict_in strict h) (filling strict s h) (placed_below strict s h p (count ts) q) (parts_fill strict s h xs n ts e) (below a h ts) 0 (children_stand strict s h p (count ts) a ts z)));
   }
 
-  item_kept : (p : Position) (t u : Tree) → Keeps W D p t u → (strict : Bool) (s r : Slot) → fits_place p s ≡ true → fits_place p r ≡ true → (a : Around) → Stands s p a → Stands r p a → (fits strict s t ≡ true) ⊎ (fits strict r t ≡ true) → BodiesWith W D (bodies a t) (bodies a u)
+  item_kept : (p : Position) (t u : Tree) → Keeps W S D p t u → (strict : Bool) (s r : Slot) → fits_place p s ≡ true → fits_place p r ≡ true → (a : Around) → Stands s p a → Stands r p a → (fits strict s t ≡ true) ⊎ (fits strict r t ≡ true) → BodiesUnder W S D (bodies a t) (bodies a u)
   item_kept p t u k strict s r v w a x y (inl e) = k.kept strict s v e a x
   item_kept p t u k strict s r v w a x y (inr e) = k.kept strict r w e a y
 
-  first_child : (π : ℕ → Position) (t u : Tree) (ts : Trees) → StepIn R π (t ▸ ts) (u ▸ ts) → Keeps W D (π 0) t u → (strict : Bool) (g : Filling) → Placed π g → fill strict g (t ▸ ts) ≡ true → (α : ℕ → Around) (i : ℕ) → ChildrenStand π α i g → BodiesWith W D (bodies (α i) t) (bodies (α i) u)
+  first_child : (π : ℕ → Position) (t u : Tree) (ts : Trees) → StepIn R π (t ▸ ts) (u ▸ ts) → Keeps W S D (π 0) t u → (strict : Bool) (g : Filling) → Placed π g → fill strict g (t ▸ ts) ≡ true → (α : ℕ → Around) (i : ℕ) → ChildrenStand π α i g → BodiesUnder W S D (bodies (α i) t) (bodies (α i) u)
   first_child π t u ts st k strict refused v e α i c = absurd (cc e)
   first_child π t u ts st k strict (these []) v e α i c = absurd (cc e)
   first_child π t u ts st k strict (these (s ∷ ss)) v e α i c = k.kept strict s v.0 (left (fits strict s t) (fill strict (these ss) ts) e) (α i) c.0
@@ -243,7 +243,7 @@ module _ (R : Position → Tree → Tree → Type 0) (W D : VariableSet) (l : Ke
       item_kept (π 0) t u k strict s r (v 0).0 (v 0).1 (α i) (c 0 i).0 (c 0 i).1 (one_of strict s r (is_last ts) t parts)
   first_child π t u ts st k strict (pieces g) v e α i c = absurd (no_steps g st e)
 
-  other_children : (π : ℕ → Position) (t : Tree) (ts us : Trees) → StepIn R π (t ▸ ts) (t ▸ us) → AllKeep W D (λ j. π (suc j)) ts us → (strict : Bool) (g : Filling) → Placed π g → fill strict g (t ▸ ts) ≡ true → (α : ℕ → Around) (i : ℕ) → ChildrenStand π α i g → BodiesWith W D (bodies_from α (suc i) ts) (bodies_from α (suc i) us)
+  other_children : (π : ℕ → Position) (t : Tree) (ts us : Trees) → StepIn R π (t ▸ ts) (t ▸ us) → AllKeep W S D (λ j. π (suc j)) ts us → (strict : Bool) (g : Filling) → Placed π g → fill strict g (t ▸ ts) ≡ true → (α : ℕ → Around) (i : ℕ) → ChildrenStand π α i g → BodiesUnder W S D (bodies_from α (suc i) ts) (bodies_from α (suc i) us)
   other_children π t ts us st k strict refused v e α i c = absurd (cc e)
   other_children π t ts us st k strict (these []) v e α i c = absurd (cc e)
   other_children π t ts us st k strict (these (s ∷ ss)) v e α i c = k.kept strict (these ss) v.1 (right (fits strict s t) (fill strict (these ss) ts) e) α (suc i) c.1
@@ -253,16 +253,16 @@ module _ (R : Position → Tree → Tree → Type 0) (W D : VariableSet) (l : Ke
   other_children π t ts us st k strict (pieces g) v e α i c = absurd (no_steps g st e)
 
   mutual
-    step_kept : {p : Position} {t u : Tree} → Step R p t u → Avoids D u → Keeps W D p t u
+    step_kept : {p : Position} {t u : Tree} → Step R p t u → Avoids D u → Keeps W S D p t u
     step_kept (here p t u r) v = record { kept = λ strict s q e a z. l.bodies p t u r strict s q e a z }
     step_kept (inside p h xs n ts us st) v = inside_kept p h xs n ts us st v (steps_kept st v.1)
 
-    steps_kept : {π : ℕ → Position} {ts us : Trees} → StepIn R π ts us → AllAvoid D us → AllKeep W D π ts us
-    steps_kept (first π t u ts st) av = record { kept = λ strict g v e α i c. first_kept W D α i t u ts (first_child π t u ts (first π t u ts st) (step_kept st av.0) strict g v e α i c) }
-    steps_kept (later π t ts us st) av = record { kept = λ strict g v e α i c. others_kept W D α i t ts us (other_children π t ts us (later π t ts us st) (steps_kept st av.1) strict g v e α i c) }
+    steps_kept : {π : ℕ → Position} {ts us : Trees} → StepIn R π ts us → AllAvoid D us → AllKeep W S D π ts us
+    steps_kept (first π t u ts st) av = record { kept = λ strict g v e α i c. first_kept W S D α i t u ts (first_child π t u ts (first π t u ts st) (step_kept st av.0) strict g v e α i c) }
+    steps_kept (later π t ts us st) av = record { kept = λ strict g v e α i c. others_kept W S D α i t ts us (other_children π t ts us (later π t ts us st) (steps_kept st av.1) strict g v e α i c) }
 
-pub step_with : (R : Position → Tree → Tree → Type 0) (W D : VariableSet) → StepKeepsWith W D R
-step_with R W D l p t u st v strict s k e a z = (step_kept R W D l st v).kept strict s k e a z
+pub step_under : (R : Position → Tree → Tree → Type 0) (W : VariableSet) (S : BodySets) (D : VariableSet) → StepKeepsUnder W S D R
+step_under R W S D l p t u st v strict s k e a z = (step_kept R W S D l st v).kept strict s k e a z
 
 -- ---- where no variable is gone, whichever can be written
 
@@ -272,7 +272,7 @@ meaning_of R m e = record {
   reads = λ p n w c. subst (ReadAlike nothing e (summary n)) (m.reads p n w c) (alike_self nothing e (summary n));
 }
 
-pub without_nothing : (R : Position → Tree → Tree → Type 0) → KeepsBodies R → KeepsBodiesWith nothing nothing R
+pub without_nothing : (R : Position → Tree → Tree → Type 0) → KeepsBodies R → KeepsBodiesUnder nothing none_steady nothing R
 without_nothing R l = record {
   means = λ e z. meaning_of R l.means e;
   reads = l.means.reads;
@@ -282,7 +282,7 @@ without_nothing R l = record {
 }
 
 pub step_keeps_bodies : (R : Position → Tree → Tree → Type 0) → StepKeepsBodies R
-step_keeps_bodies R l p t u st strict s k e a z = to_kept (bodies a t) (bodies a u) (step_with R nothing nothing (without_nothing R l) p t u st (avoids_nothing u) strict s k e a z)
+step_keeps_bodies R l p t u st strict s k e a z = to_kept (bodies a t) (bodies a u) (step_under R nothing none_steady nothing (without_nothing R l) p t u st (avoids_nothing u) strict s k e a z)
 
 -- ---- any number of steps
 

@@ -21,23 +21,23 @@ use Rattle.mini_laws.specs.Bodies.{outermost, bodies, bodies_in}
 use Rattle.mini_laws.proofs.Congruent.{avoids_nothing}
 use Rattle.mini_laws.proofs.Dead.{alike_self}
 use Rattle.mini_kept.specs.Lifted.{KeepsNames, ProgramKeeps}
-use Rattle.mini_kept.specs.Loosely.{symbol, SameWith, StaysWith, DropsWith, LawfulWith, undeclared, ProgramIsKeptLoosely, LawfulIsLoose, LooseWider, LooseJoin, LooseNarrowed}
-use Rattle.mini_kept.specs.Without.{BodiesWith, KeepsBodiesWith}
-use Rattle.mini_kept.proofs.BodySteps.{step_with, whole_stands}
+use Rattle.mini_kept.specs.Loosely.{symbol, SameWith, StaysWith, SteadiesWith, DropsWith, LawfulBy, LawfulUnder, undeclared, ProgramIsKeptUnder, LooselyKeeps, LawfulIsLoose, LooseWider, LooseIsSteady, SteadyWider, LooseJoin, LooseNarrowed, SteadyJoin, SteadyNarrowed}
+use Rattle.mini_kept.specs.Without.{BodySets, none_steady, BodiesUnder, KeepsBodiesUnder}
+use Rattle.mini_kept.proofs.BodySteps.{step_under, whole_stands}
 use Rattle.mini_kept.proofs.Declared.{reaches_declared}
 use Rattle.mini_laws.specs.Fixity.{fixed_by, written_in}
 use Rattle.mini_kept.proofs.Fixed.{step_fixed}
 use Rattle.mini_kept.specs.Frames.{frames, frames_in}
 use Rattle.mini_kept.specs.KeepsFrames.{KeepsPlaces, KeepsFramesBut}
 use Rattle.mini_kept.specs.Fixities.{KeepsFixitiesBut}
-use Rattle.mini_kept.specs.ShownFrames.{KeyGivenWith, KeyGiven, no_key, none_gone, gone_from, FramesShown}
+use Rattle.mini_kept.specs.ShownFrames.{KeyGivenUnder, KeyGiven, no_key, none_gone, gone_from, FramesShown}
 use Rattle.mini_kept.proofs.FrameSteps.{places_of, step_frames_but}
-use Rattle.mini_kept.proofs.ShownFrames.{all_frames_more, frames_more, gone_more, kept_shown, shown_on, shown_themselves, given_seldom, given_before}
+use Rattle.mini_kept.proofs.ShownFrames.{all_frames_more, frames_more, gone_more, shown_on, shown_themselves, given_seldom, given_before}
 use Rattle.mini_kept.proofs.Gone.{step_less, avoids}
 use Rattle.mini_kept.proofs.Lawful.{reaches_root, keyless_program}
 use Rattle.mini_kept.proofs.Steps.{any_step_fits}
 use Rattle.mini_kept.proofs.Whole.{any_reaches_keep}
-use Rattle.mini_kept.proofs.WithoutLists.{Part, permits_part, nothing_part, part_itself, all_more, from_kept, kept_itself, kept_on}
+use Rattle.mini_kept.proofs.WithoutLists.{Part, PartEach, permits_part, nothing_part, part_itself, none_part, each_itself, more_under, all_more, from_kept, itself_under, kept_on}
 
 -- ---- variables that are gone
 
@@ -54,7 +54,7 @@ still_gone t u w (Global s) h = absurd (true≢false (sym h))
 
 -- ---- steps
 
-module _ (R : Position → Tree → Tree → Type 0) (K : Shape → Bool) (W : VariableSet) (l : LawfulWith K W R) where
+module _ (R : Position → Tree → Tree → Type 0) (K : Shape → Bool) (W : VariableSet) (S : BodySets) (l : LawfulUnder K W S R) where
   names : KeepsNames R
   names = l.places.names
 
@@ -63,7 +63,7 @@ module _ (R : Position → Tree → Tree → Type 0) (K : Shape → Bool) (W : V
 
   -- those that stay, and those that drop a symbol
   abbrev Staying : Position → Tree → Tree → Type 0
-  Staying p n w = R p n w × StaysWith W p n w
+  Staying p n w = R p n w × SteadiesWith W S p n w
 
   abbrev Dropping : ℕ → Position → Tree → Tree → Type 0
   Dropping k p n w = R p n w × DropsWith K W k p n w
@@ -72,7 +72,7 @@ module _ (R : Position → Tree → Tree → Type 0) (K : Shape → Bool) (W : V
     told : {p : Position} {t u : Tree} → Step R p t u → Step Staying p t u ⊎ ((k : ℕ) × Step (Dropping k) p t u)
     told (here p n w r) = by (l.instances p n w r)
       where
-        by : StaysWith W p n w ⊎ ((k : ℕ) × DropsWith K W k p n w) → Step Staying p n w ⊎ ((k : ℕ) × Step (Dropping k) p n w)
+        by : SteadiesWith W S p n w ⊎ ((k : ℕ) × DropsWith K W k p n w) → Step Staying p n w ⊎ ((k : ℕ) × Step (Dropping k) p n w)
         by (inl d) = inl (here p n w (r, d))
         by (inr d) = inr (d.0, here p n w (r, d.1))
     told (inside p h xs n ts us s) = by (all_told s)
@@ -96,22 +96,22 @@ module _ (R : Position → Tree → Tree → Type 0) (K : Shape → Bool) (W : V
   read_alike : (e : Environment) (D : VariableSet) (n w : Tree) → summary n ≡ summary w → ReadAlike D e (summary n) (summary w)
   read_alike e D n w q = subst (ReadAlike D e (summary n)) q (alike_self D e (summary n))
 
-  staying : KeepsBodiesWith W nothing Staying
+  staying : KeepsBodiesUnder W S nothing Staying
   staying = record {
     means = λ e z. record { same = λ p n w r q f. r.1.same.by e z q f; reads = λ p n w r. read_alike e nothing n w (l.reads p n w r.0) };
     reads = λ p n w r. l.reads p n w r.0;
     pieces = λ p n w r. names.pieces p n w r.0;
     kind = λ p n w r. l.kind p n w r.0;
-    bodies = λ p n w r strict s q e a z. all_more nothing W nothing nothing (nothing_part W) (part_itself nothing) (bodies a n) (bodies a w) (from_kept nothing (bodies a n) (bodies a w) (r.1.bodies strict s q e a z));
+    bodies = λ p n w r. r.1.bodies;
   }
 
-  dropping : (k : ℕ) → KeepsBodiesWith W (alone (Declared k)) (Dropping k)
+  dropping : (k : ℕ) → KeepsBodiesUnder W S (alone (Declared k)) (Dropping k)
   dropping k = record {
     means = λ e z. record { same = λ p n w r q f. r.1.same e z q f; reads = λ p n w r. read_alike e (alone (Declared k)) n w (l.reads p n w r.0) };
     reads = λ p n w r. l.reads p n w r.0;
     pieces = λ p n w r. names.pieces p n w r.0;
     kind = λ p n w r. l.kind p n w r.0;
-    bodies = λ p n w r. r.1.bodies;
+    bodies = λ p n w r strict s q e a z. more_under W W none_steady S (alone (Declared k)) (alone (Declared k)) (part_itself W) (none_part S) (part_itself (alone (Declared k))) (bodies a n) (bodies a w) (r.1.bodies strict s q e a z);
   }
 
   -- a dropped symbol was declared once, and is declared no more
@@ -121,17 +121,17 @@ module _ (R : Position → Tree → Tree → Type 0) (K : Shape → Bool) (W : V
       let once : times (symbol k) (declared_symbols t) ≤ 1 = d (symbol k) in
       omega (arith, less, once)
 
-  step_bodies : (t u : Tree) → Step R Elsewhere t u → IsWellShaped t → Scoped Read [] u → Distinct (declared_symbols t) → BodiesWith W (undeclared u) (bodies_in t) (bodies_in u)
+  step_bodies : (t u : Tree) → Step R Elsewhere t u → IsWellShaped t → Scoped Read [] u → Distinct (declared_symbols t) → BodiesUnder W S (undeclared u) (bodies_in t) (bodies_in u)
   step_bodies t u s e v d = by (told s)
     where
-      by : Step Staying Elsewhere t u ⊎ ((k : ℕ) × Step (Dropping k) Elsewhere t u) → BodiesWith W (undeclared u) (bodies_in t) (bodies_in u)
-      by (inl x) = all_more W W nothing (undeclared u) (part_itself W) (nothing_part (undeclared u)) (bodies_in t) (bodies_in u) (step_with Staying W nothing staying Elsewhere t u x (avoids_nothing u) false (one a_program) refl e outermost whole_stands)
+      by : Step Staying Elsewhere t u ⊎ ((k : ℕ) × Step (Dropping k) Elsewhere t u) → BodiesUnder W S (undeclared u) (bodies_in t) (bodies_in u)
+      by (inl x) = more_under W W S S nothing (undeclared u) (part_itself W) (each_itself S) (nothing_part (undeclared u)) (bodies_in t) (bodies_in u) (step_under Staying W S nothing staying Elsewhere t u x (avoids_nothing u) false (one a_program) refl e outermost whole_stands)
       by (inr (k, x)) =
           let none = dropped k t u x d in
-          all_more W W (alone (Declared k)) (undeclared u) (part_itself W) (one_gone k u none) (bodies_in t) (bodies_in u) (step_with (Dropping k) W (alone (Declared k)) (dropping k) Elsewhere t u x (avoids k Read [] u v refl none) false (one a_program) refl e outermost whole_stands)
+          more_under W W S S (alone (Declared k)) (undeclared u) (part_itself W) (each_itself S) (one_gone k u none) (bodies_in t) (bodies_in u) (step_under (Dropping k) W S (alone (Declared k)) (dropping k) Elsewhere t u x (avoids k Read [] u v refl none) false (one a_program) refl e outermost whole_stands)
 
-  reaches_bodies : (p : Position) (t u : Tree) → Reaches R p t u → p ≡ Elsewhere → IsWellShaped t → Scoped Read [] t → Distinct (declared_symbols t) → BodiesWith W (undeclared u) (bodies_in t) (bodies_in u)
-  reaches_bodies _ _ _ (done p t) q e v d = kept_itself W (undeclared t) (bodies_in t)
+  reaches_bodies : (p : Position) (t u : Tree) → Reaches R p t u → p ≡ Elsewhere → IsWellShaped t → Scoped Read [] t → Distinct (declared_symbols t) → BodiesUnder W S (undeclared u) (bodies_in t) (bodies_in u)
+  reaches_bodies _ _ _ (done p t) q e v d = itself_under W S (undeclared t) (bodies_in t)
   reaches_bodies _ _ _ (more p t u w s r) q e v d =
       let st : Step R Elsewhere t u = subst (λ x. Step R x t u) q s in
       let rest : Reaches R Elsewhere u w = subst (λ x. Reaches R x u w) q r in
@@ -139,12 +139,12 @@ module _ (R : Position → Tree → Tree → Type 0) (K : Shape → Bool) (W : V
       let others : ProgramKeeps u w = any_reaches_keep R names l.shapes u w rest in
       let f = program_fits t u st e in
       let scoped = one_step.scoped e v in
-      kept_on W (undeclared w) (bodies_in t) (bodies_in u) (bodies_in w) (all_more W W (undeclared u) (undeclared w) (part_itself W) (still_gone u w (others.symbols f scoped)) (bodies_in t) (bodies_in u) (step_bodies t u st e scoped d)) (reaches_bodies p u w r q f scoped (one_step.distinct e v d))
+      kept_on W S (undeclared w) (bodies_in t) (bodies_in u) (bodies_in w) (more_under W W S S (undeclared u) (undeclared w) (part_itself W) (each_itself S) (still_gone u w (others.symbols f scoped)) (bodies_in t) (bodies_in u) (step_bodies t u st e scoped d)) (reaches_bodies p u w r q f scoped (one_step.distinct e v d))
 
   -- ---- frames
 
-  narrowed_places : (S : Position → Tree → Tree → Type 0) → ((p : Position) (n w : Tree) → S p n w → R p n w) → KeepsPlaces S
-  narrowed_places S f = record {
+  narrowed_places : (Q : Position → Tree → Tree → Type 0) → ((p : Position) (n w : Tree) → Q p n w → R p n w) → KeepsPlaces Q
+  narrowed_places Q f = record {
     names = record { places = λ p n w r. names.places p n w (f p n w r); pieces = λ p n w r. names.pieces p n w (f p n w r); keeps = λ p n w r. names.keeps p n w (f p n w r) };
     slots = λ p n w r. l.places.slots p n w (f p n w r);
     ports = λ p n w r. l.places.ports p n w (f p n w r);
@@ -171,8 +171,8 @@ module _ (R : Position → Tree → Tree → Type 0) (K : Shape → Bool) (W : V
           (step_frames_but (gone_from K (alone (Declared k))) (Dropping k) (dropping_frames k) t u x e)
 
   -- a key that only gives a property does so before, too, where nobody else sees what is gone
-  reaches_frames : (p : Position) (t u : Tree) → Reaches R p t u → p ≡ Elsewhere → IsWellShaped t → Scoped Read [] t → Distinct (declared_symbols t) → FramesShown (gone_from K (undeclared u)) (KeyGivenWith W (undeclared u) (bodies_in t)) (frames_in t) (frames_in u)
-  reaches_frames _ _ _ (done p t) q e v d = shown_themselves (gone_from K (undeclared t)) (KeyGivenWith W (undeclared t) (bodies_in t)) (frames_in t)
+  reaches_frames : (p : Position) (t u : Tree) → Reaches R p t u → p ≡ Elsewhere → IsWellShaped t → Scoped Read [] t → Distinct (declared_symbols t) → FramesShown (gone_from K (undeclared u)) (KeyGivenUnder W S (undeclared u) (bodies_in t)) (frames_in t) (frames_in u)
+  reaches_frames _ _ _ (done p t) q e v d = shown_themselves (gone_from K (undeclared t)) (KeyGivenUnder W S (undeclared t) (bodies_in t)) (frames_in t)
   reaches_frames _ _ _ (more p t u w s r) q e v d =
       let st : Step R Elsewhere t u = subst (λ x. Step R x t u) q s in
       let rest : Reaches R Elsewhere u w = subst (λ x. Reaches R x u w) q r in
@@ -181,11 +181,11 @@ module _ (R : Position → Tree → Tree → Type 0) (K : Shape → Bool) (W : V
       let f = program_fits t u st e in
       let scoped = one_step.scoped e v in
       let gone = still_gone u w (others.symbols f scoped) in
-      let kept = all_more W W (undeclared u) (undeclared w) (part_itself W) gone (bodies_in t) (bodies_in u) (step_bodies t u st e scoped d) in
+      let kept = more_under W W S S (undeclared u) (undeclared w) (part_itself W) (each_itself S) gone (bodies_in t) (bodies_in u) (step_bodies t u st e scoped d) in
       let M = gone_from K (undeclared w) in
-      shown_on M (KeyGivenWith W (undeclared w) (bodies_in t)) (frames_in t) (frames_in u) (frames_in w)
-      (all_frames_more (gone_from K (undeclared u)) M (KeyGiven nothing (bodies_in t)) (KeyGivenWith W (undeclared w) (bodies_in t)) (gone_more K (undeclared u) (undeclared w) gone) (given_seldom W (undeclared w) (bodies_in t)) (frames_in t) (frames_in u) (step_frames t u st e d))
-      (frames_more M (KeyGivenWith W (undeclared w) (bodies_in u)) (KeyGivenWith W (undeclared w) (bodies_in t)) (given_before W (undeclared w) (bodies_in t) (bodies_in u) kept) (frames_in u) (frames_in w) (reaches_frames p u w r q f scoped (one_step.distinct e v d)))
+      shown_on M (KeyGivenUnder W S (undeclared w) (bodies_in t)) (frames_in t) (frames_in u) (frames_in w)
+      (all_frames_more (gone_from K (undeclared u)) M (KeyGiven nothing (bodies_in t)) (KeyGivenUnder W S (undeclared w) (bodies_in t)) (gone_more K (undeclared u) (undeclared w) gone) (given_seldom W S (undeclared w) (bodies_in t)) (frames_in t) (frames_in u) (step_frames t u st e d))
+      (frames_more M (KeyGivenUnder W S (undeclared w) (bodies_in u)) (KeyGivenUnder W S (undeclared w) (bodies_in t)) (given_before W S (undeclared w) (bodies_in t) (bodies_in u) kept) (frames_in u) (frames_in w) (reaches_frames p u w r q f scoped (one_step.distinct e v d)))
 
   -- ---- what a write of a variable does that is still declared
 
@@ -221,8 +221,8 @@ module _ (R : Position → Tree → Tree → Type 0) (K : Shape → Bool) (W : V
       let still = not_part (undeclared u) (undeclared w) (still_gone u w (others.symbols f scoped)) x h in
       step_fixities t u st d x still ∙ reaches_fixities p u w r q f scoped (one_step.distinct e v d) x h
 
-  pub loosely_keeps : (t u : Tree) → Reaches R Elsewhere t u → IsWellShaped t → ProgramIsKeptLoosely K W t u
-  loosely_keeps t u r e = record {
+  pub steadily_keeps : (t u : Tree) → Reaches R Elsewhere t u → IsWellShaped t → ProgramIsKeptUnder K W S t u
+  steadily_keeps t u r e = record {
     names = any_reaches_keep R names l.shapes t u r;
     bodies = reaches_bodies Elsewhere t u r refl e;
     frames = reaches_frames Elsewhere t u r refl e;
@@ -234,6 +234,10 @@ module _ (R : Position → Tree → Tree → Type 0) (K : Shape → Bool) (W : V
 -- ---- lawful relations
 
 module _ (R : Position → Tree → Tree → Type 0) where
+  -- what is said of each instance may be said otherwise
+  lawful_by : (I J : Position → Tree → Tree → Type 0) → ((p : Position) (n w : Tree) → I p n w → J p n w) → LawfulBy I R → LawfulBy J R
+  lawful_by I J f l = record { shapes = l.shapes; places = l.places; reads = l.reads; kind = l.kind; declared = l.declared; instances = λ p n w r. f p n w (l.instances p n w r) }
+
   pub lawful_is_loose : LawfulIsLoose R
   lawful_is_loose K W l = record {
     shapes = l.shapes;
@@ -244,8 +248,11 @@ module _ (R : Position → Tree → Tree → Type 0) where
     instances = λ p n w r. inl (record { same = record { by = λ e z. (l.bodies.means.same p n w r).by e nothing nothing }; fixed = l.fixed p n w r; frames = l.frames.frames p n w r; bodies = λ strict s q e a z. l.bodies.bodies p n w r strict s q e a z });
   }
 
+  same_wider : (V W : VariableSet) → Part V W → (p : Position) (n w : Tree) → SameWith V p n w → SameWith W p n w
+  same_wider V W f p n w d = record { by = λ e z. d.by e (permits_part V W nothing nothing f (part_itself nothing) e z) }
+
   stays_wider : (V W : VariableSet) → Part V W → (p : Position) (n w : Tree) → StaysWith V p n w → StaysWith W p n w
-  stays_wider V W f p n w d = record { same = record { by = λ e z. d.same.by e (permits_part V W nothing nothing f (part_itself nothing) e z) }; fixed = d.fixed; frames = d.frames; bodies = d.bodies }
+  stays_wider V W f p n w d = record { same = same_wider V W f p n w d.same; fixed = d.fixed; frames = d.frames; bodies = d.bodies }
 
   drops_wider : (K : Shape → Bool) (V W : VariableSet) → Part V W → (k : ℕ) (p : Position) (n w : Tree) → DropsWith K V k p n w → DropsWith K W k p n w
   drops_wider K V W f k p n w d =
@@ -260,18 +267,45 @@ module _ (R : Position → Tree → Tree → Type 0) where
       }
 
   pub loose_wider : LooseWider R
-  loose_wider K V W f l = record {
-    shapes = l.shapes;
-    places = l.places;
-    reads = l.reads;
-    kind = l.kind;
-    declared = l.declared;
-    instances = λ p n w r. by p n w (l.instances p n w r);
-  }
+  loose_wider K V W f = lawful_by (λ p n w. StaysWith V p n w ⊎ ((k : ℕ) × DropsWith K V k p n w)) (λ p n w. StaysWith W p n w ⊎ ((k : ℕ) × DropsWith K W k p n w)) by
     where
       by : (p : Position) (n w : Tree) → StaysWith V p n w ⊎ ((k : ℕ) × DropsWith K V k p n w) → StaysWith W p n w ⊎ ((k : ℕ) × DropsWith K W k p n w)
       by p n w (inl d) = inl (stays_wider V W f p n w d)
       by p n w (inr d) = inr (d.0, drops_wider K V W f d.0 p n w d.1)
+
+  -- what stays does so whichever variables are steady
+  steady_anyway : (W : VariableSet) (S : BodySets) (p : Position) (n w : Tree) → StaysWith W p n w → SteadiesWith W S p n w
+  steady_anyway W S p n w d = record {
+    same = d.same;
+    fixed = d.fixed;
+    frames = d.frames;
+    bodies = λ strict s q e a z. more_under nothing W none_steady S nothing nothing (nothing_part W) (none_part S) (part_itself nothing) (bodies a n) (bodies a w) (from_kept nothing (bodies a n) (bodies a w) (d.bodies strict s q e a z));
+  }
+
+  pub loose_is_steady : LooseIsSteady R
+  loose_is_steady K W S = lawful_by (λ p n w. StaysWith W p n w ⊎ ((k : ℕ) × DropsWith K W k p n w)) (λ p n w. SteadiesWith W S p n w ⊎ ((k : ℕ) × DropsWith K W k p n w)) by
+    where
+      by : (p : Position) (n w : Tree) → StaysWith W p n w ⊎ ((k : ℕ) × DropsWith K W k p n w) → SteadiesWith W S p n w ⊎ ((k : ℕ) × DropsWith K W k p n w)
+      by p n w (inl d) = inl (steady_anyway W S p n w d)
+      by p n w (inr d) = inr d
+
+  steadies_wider : (V W : VariableSet) (Q S : BodySets) → Part V W → PartEach Q S → (p : Position) (n w : Tree) → SteadiesWith V Q p n w → SteadiesWith W S p n w
+  steadies_wider V W Q S f g p n w d = record {
+    same = same_wider V W f p n w d.same;
+    fixed = d.fixed;
+    frames = d.frames;
+    bodies = λ strict s q e a z. more_under V W Q S nothing nothing f g (part_itself nothing) (bodies a n) (bodies a w) (d.bodies strict s q e a z);
+  }
+
+  pub steady_wider : SteadyWider R
+  steady_wider K V W Q S f g = lawful_by (λ p n w. SteadiesWith V Q p n w ⊎ ((k : ℕ) × DropsWith K V k p n w)) (λ p n w. SteadiesWith W S p n w ⊎ ((k : ℕ) × DropsWith K W k p n w)) by
+    where
+      by : (p : Position) (n w : Tree) → SteadiesWith V Q p n w ⊎ ((k : ℕ) × DropsWith K V k p n w) → SteadiesWith W S p n w ⊎ ((k : ℕ) × DropsWith K W k p n w)
+      by p n w (inl d) = inl (steadies_wider V W Q S f g p n w d)
+      by p n w (inr d) = inr (d.0, drops_wider K V W f d.0 p n w d.1)
+
+  pub loosely_keeps : LooselyKeeps R
+  loosely_keeps K W l = steadily_keeps R K W none_steady (loose_is_steady K W none_steady l)
 
 module _ (R S : Position → Tree → Tree → Type 0) where
   one_or_other : {X : Position → Tree → Tree → Type 0} → ((p : Position) (n w : Tree) → R p n w → X p n w) → ((p : Position) (n w : Tree) → S p n w → X p n w) → (p : Position) (n w : Tree) → R p n w ⊎ S p n w → X p n w
@@ -282,8 +316,9 @@ module _ (R S : Position → Tree → Tree → Type 0) where
   either_row p n w f g (inl r) = f r
   either_row p n w f g (inr s) = g s
 
-  pub loose_join : LooseJoin R S
-  loose_join K W l m = record {
+  -- what is said of each instance being the same
+  join_by : (I : Position → Tree → Tree → Type 0) → LawfulBy I R → LawfulBy I S → LawfulBy I (λ p t u. R p t u ⊎ S p t u)
+  join_by I l m = record {
     shapes = record { fitting = one_or_other l.shapes.fitting m.shapes.fitting; asked = one_or_other l.shapes.asked m.shapes.asked };
     places = record {
       names = record { places = one_or_other l.places.names.places m.places.names.places; pieces = one_or_other l.places.names.pieces m.places.names.pieces; keeps = one_or_other l.places.names.keeps m.places.names.keeps };
@@ -301,8 +336,8 @@ module _ (R S : Position → Tree → Tree → Type 0) where
   narrowed : {X : Position → Tree → Tree → Type 0} → ((p : Position) (n w : Tree) → R p n w → S p n w) → ((p : Position) (n w : Tree) → S p n w → X p n w) → (p : Position) (n w : Tree) → R p n w → X p n w
   narrowed f g p n w r = g p n w (f p n w r)
 
-  pub loose_narrowed : LooseNarrowed R S
-  loose_narrowed K W f l = record {
+  narrowed_by : (I : Position → Tree → Tree → Type 0) → ((p : Position) (t u : Tree) → R p t u → S p t u) → LawfulBy I S → LawfulBy I R
+  narrowed_by I f l = record {
     shapes = record { fitting = narrowed f l.shapes.fitting; asked = narrowed f l.shapes.asked };
     places = record {
       names = record { places = narrowed f l.places.names.places; pieces = narrowed f l.places.names.pieces; keeps = narrowed f l.places.names.keeps };
@@ -316,3 +351,15 @@ module _ (R S : Position → Tree → Tree → Type 0) where
     declared = narrowed f l.declared;
     instances = narrowed f l.instances;
   }
+
+  pub loose_join : LooseJoin R S
+  loose_join K W = join_by (λ p n w. StaysWith W p n w ⊎ ((k : ℕ) × DropsWith K W k p n w))
+
+  pub loose_narrowed : LooseNarrowed R S
+  loose_narrowed K W = narrowed_by (λ p n w. StaysWith W p n w ⊎ ((k : ℕ) × DropsWith K W k p n w))
+
+  pub steady_join : SteadyJoin R S
+  steady_join K W Q = join_by (λ p n w. SteadiesWith W Q p n w ⊎ ((k : ℕ) × DropsWith K W k p n w))
+
+  pub steady_narrowed : SteadyNarrowed R S
+  steady_narrowed K W Q = narrowed_by (λ p n w. SteadiesWith W Q p n w ⊎ ((k : ℕ) × DropsWith K W k p n w))

@@ -14,11 +14,11 @@ use Rattle.mini_laws.specs.Body.{BodyKind, InnerValue, Ran, Run, start_of}
 use Rattle.mini_laws.specs.Bodies.{Body}
 use Rattle.mini_laws.proofs.Congruent.{no_init}
 use Rattle.mini_kept.specs.AlikeBodies.{KindKept, BodiesKept}
-use Rattle.mini_kept.specs.Without.{Permits, AlikeWith, BodiesWith}
+use Rattle.mini_kept.specs.Without.{BodySets, none_steady, Steadies, Permits, AlikeUnder, BodiesUnder}
 use Rattle.mini_kept.specs.Frames.{property_key, has_key, unbracketed, first_as_key, keyed, Frame, FramesKept}
 use Rattle.mini_kept.specs.Carried.{number_of}
-use Rattle.mini_kept.specs.ShownFrames.{OnlyGives, KeyGivenWith, KeyGiven, ShowsKey, Shows, ShowsBare, AllShow, no_key, Gone, none_gone, is_named_expression, gone_from, AllGone, LosesName, FrameShown, FramesShown}
-use Rattle.mini_kept.proofs.WithoutLists.{Part, from_kept, permits_part, nothing_part, kept_stands}
+use Rattle.mini_kept.specs.ShownFrames.{OnlyGives, KeyGivenUnder, KeyGiven, ShowsKey, Shows, ShowsBare, AllShow, no_key, Gone, none_gone, is_named_expression, gone_from, AllGone, LosesName, FrameShown, FramesShown}
+use Rattle.mini_kept.proofs.WithoutLists.{Part, from_kept, permits_part, nothing_part, steady_nothing, kept_stands}
 
 abbrev Keys : Type 1
 Keys = ℕ → List ℕ → Type 0
@@ -352,31 +352,31 @@ pub given_among : (D : VariableSet) (bs cs : List Body) → ((b : Body) → Cont
 given_among D bs cs f n s k = record { body = k.body; there = f k.body k.there; number = k.number; kind = k.kind; gives = k.gives }
 
 -- in fewer environments
-pub given_seldom : (W D : VariableSet) (bs : List Body) (n : ℕ) (s : List ℕ) → KeyGiven nothing bs n s → KeyGivenWith W D bs n s
-given_seldom W D bs n s k = record { body = k.body; there = k.there; number = k.number; kind = k.kind; gives = record { by = λ e u. k.gives.by e (permits_part nothing W nothing D (nothing_part W) (nothing_part D) e u) } }
+pub given_seldom : (W : VariableSet) (S : BodySets) (D : VariableSet) (bs : List Body) (n : ℕ) (s : List ℕ) → KeyGiven nothing bs n s → KeyGivenUnder W S D bs n s
+given_seldom W S D bs n s k = record { body = k.body; there = k.there; number = k.number; kind = k.kind; gives = record { by = λ e u v. k.gives.by e (permits_part nothing W nothing D (nothing_part W) (nothing_part D) e u) (steady_nothing e) } }
 
 value_kind : (k l : BodyKind) → KindKept k l → l ≡ InnerValue → k ≡ InnerValue
 value_kind k l (inl e) f = e ∙ f
 value_kind k l (inr e) f = absurd (cc (sym e.1 ∙ f))
 
 -- of the bodies that others stand for
-pub given_before : (W D : VariableSet) (bs cs : List Body) → BodiesWith W D bs cs → (n : ℕ) (s : List ℕ) → KeyGivenWith W D cs n s → KeyGivenWith W D bs n s
-given_before W D bs cs kept n s k = from (kept_stands W D bs cs kept k.body k.there)
+pub given_before : (W : VariableSet) (S : BodySets) (D : VariableSet) (bs cs : List Body) → BodiesUnder W S D bs cs → (n : ℕ) (s : List ℕ) → KeyGivenUnder W S D cs n s → KeyGivenUnder W S D bs n s
+given_before W S D bs cs kept n s k = from (kept_stands W S D bs cs kept k.body k.there)
   where
-    from : (b : Body) × Contains bs b × AlikeWith W D b k.body → KeyGivenWith W D bs n s
+    from : (b : Body) × Contains bs b × AlikeUnder W S D b k.body → KeyGivenUnder W S D bs n s
     from (b, there, a) = record {
       body = b;
       there = there;
       number = a.number ∙ k.number;
       kind = value_kind b.kind k.body.kind a.kind k.kind;
-      gives = record { by = λ e u vars this answers turns. gives e u vars this answers turns };
+      gives = record { by = λ e u v vars this answers turns. gives e u v vars this answers turns };
     }
       where
-        gives : (e : Environment) → Permits W D e → (vars : Variable → Slot) (this : Value) (answers : List Answer) (turns : ℕ) → (Run e InnerValue b.root vars this answers turns ≡ None) ⊎ ((r : Ran) × (Run e InnerValue b.root vars this answers turns ≡ Some r) × OnlyGives e vars s r)
-        gives e u vars this answers turns =
+        gives : (e : Environment) → Permits W D e → Steadies (S b.number) e → (vars : Variable → Slot) (this : Value) (answers : List Answer) (turns : ℕ) → (Run e InnerValue b.root vars this answers turns ≡ None) ⊎ ((r : Ran) × (Run e InnerValue b.root vars this answers turns ≡ Some r) × OnlyGives e vars s r)
+        gives e u v vars this answers turns =
             let same = subst (λ q. (Run e q b.root vars this answers turns ≡ None) ⊎ (Run e q b.root vars this answers turns ≡ Run e k.body.kind k.body.root vars this answers turns)) (value_kind b.kind k.body.kind a.kind k.kind)
-            ((a.same e u nothing).by vars this answers turns (no_init (start_of vars this answers turns))) in
-            joined (subst (λ q. (Run e InnerValue b.root vars this answers turns ≡ None) ⊎ (Run e InnerValue b.root vars this answers turns ≡ Run e q k.body.root vars this answers turns)) k.kind same) (k.gives.by e u vars this answers turns)
+            ((a.same e u v nothing).by vars this answers turns (no_init (start_of vars this answers turns))) in
+            joined (subst (λ q. (Run e InnerValue b.root vars this answers turns ≡ None) ⊎ (Run e InnerValue b.root vars this answers turns ≡ Run e q k.body.root vars this answers turns)) k.kind same) (k.gives.by e u (subst (λ m. Steadies (S m) e) a.number v) vars this answers turns)
           where
             joined : (Run e InnerValue b.root vars this answers turns ≡ None) ⊎ (Run e InnerValue b.root vars this answers turns ≡ Run e InnerValue k.body.root vars this answers turns)
                 → (Run e InnerValue k.body.root vars this answers turns ≡ None) ⊎ ((r : Ran) × (Run e InnerValue k.body.root vars this answers turns ≡ Some r) × OnlyGives e vars s r)
@@ -386,4 +386,4 @@ given_before W D bs cs kept n s k = from (kept_stands W D bs cs kept k.body k.th
             joined (inr x) (inr (r, y, z)) = inr (r, x ∙ y, z)
 
 pub given_kept : (bs cs : List Body) → BodiesKept bs cs → (n : ℕ) (s : List ℕ) → KeyGiven nothing cs n s → KeyGiven nothing bs n s
-given_kept bs cs kept = given_before nothing nothing bs cs (from_kept nothing bs cs kept)
+given_kept bs cs kept = given_before nothing none_steady nothing bs cs (from_kept nothing bs cs kept)

@@ -1,5 +1,5 @@
 -- A relation of rewriting that keeps all that a program has to keep but names that nothing mentions, where some variables can be
--- written, and what any number of its steps keep.
+-- written, and some are steady in some bodies, and what any number of its steps keep.
 use Rattle.std.specs.Prelude.{ℕ, ◌≡◌, ◌+◌, ◌≤◌, ◌⊎◌, nat_eq, Bool, true, false, Contains, [], Option, None, Some}
 use Rattle.mini_model.specs.declared.name.Name.{Name}
 use Rattle.mini_model.specs.declared.name.SymbolId.{SymbolId}
@@ -25,8 +25,8 @@ use Rattle.mini_laws.specs.Substitution.{alone}
 use Rattle.mini_laws.specs.Bodies.{Around, bodies, bodies_in, arrow_kind}
 use Rattle.mini_kept.specs.AlikeBodies.{BodiesKept}
 use Rattle.mini_kept.specs.Declaring.{declared}
-use Rattle.mini_kept.specs.Frames.{frames, frames_in, FramesKept}
-use Rattle.mini_kept.specs.ShownFrames.{KeyGivenWith, KeyGiven, no_key, none_gone, gone_from, FramesShown}
+use Rattle.mini_kept.specs.Frames.{frames, frames_in}
+use Rattle.mini_kept.specs.ShownFrames.{KeyGivenUnder, KeyGiven, no_key, none_gone, gone_from, FramesShown}
 use Rattle.mini_kept.specs.Kept.{over}
 use Rattle.mini_kept.specs.KeepsFrames.{KeepsPlaces}
 use Rattle.mini_kept.specs.KeepsShapes.{KeepsShapes}
@@ -34,7 +34,7 @@ use Rattle.mini_kept.specs.Lawful.{Lawful}
 use Rattle.mini_kept.specs.Lifted.{ProgramKeeps}
 use Rattle.mini_kept.specs.Placed.{fits_place}
 use Rattle.mini_kept.specs.Standing.{Stands}
-use Rattle.mini_kept.specs.Without.{Permits, BodiesWith}
+use Rattle.mini_kept.specs.Without.{BodySets, none_steady, Permits, BodiesUnder, BodiesWith}
 
 abbrev pub symbol : ℕ → Option SymbolId
 symbol k = Some (record { 0 = k })
@@ -72,15 +72,30 @@ pub record DropsWith (K : Shape → Bool) (W : VariableSet) (k : ℕ) (p : Posit
 abbrev pub Drops : (Shape → Bool) → ℕ → Position → Tree → Tree → Type 0
 Drops K = DropsWith K nothing
 
--- It keeps shapes, names and places, a parent reads alike what it writes, and that declares no other name; each instance
--- stays or drops one name, where the variables W can be written. K says which functions and classes may lose their own name
-pub record LawfulWith (K : Shape → Bool) (W : VariableSet) (R : Position → Tree → Tree → Type 0) : Type 0 where
+-- One node in the place of another that means the same there, of which bodies may rest on it that no answer changes some variables while
+-- they run: S has those of a body with a number
+pub record SteadiesWith (W : VariableSet) (S : BodySets) (p : Position) (n w : Tree) : Type 0 where
+  pub same : SameWith W p n w
+  pub fixed : (x : Variable) → fixed_by n x ≡ fixed_by w x
+  pub frames : (strict : Bool) (s : Slot) → fits_place p s ≡ true → fits strict s n ≡ true → (a : Around) → FramesShown none_gone (KeyGiven nothing (bodies a n)) (frames None n) (frames None w)
+  pub bodies : (strict : Bool) (s : Slot) → fits_place p s ≡ true → fits strict s n ≡ true → (a : Around) → Stands s p a → BodiesUnder W S nothing (bodies a n) (bodies a w)
+
+-- It keeps shapes, names and places, a parent reads alike what it writes, and that declares no other name; and each instance is one of I
+pub record LawfulBy (I : Position → Tree → Tree → Type 0) (R : Position → Tree → Tree → Type 0) : Type 0 where
   pub shapes : KeepsShapes R
   pub places : KeepsPlaces R
   pub reads : (p : Position) (n w : Tree) → R p n w → summary n ≡ summary w
   pub kind : (p : Position) (n w : Tree) → R p n w → (strict : Bool) (s : Slot) → fits strict s n ≡ true → arrow_kind (shape_of n) ≡ arrow_kind (shape_of w)
   pub declared : (p : Position) (n w : Tree) → R p n w → (x : Name) → Contains (declared w) x → Contains (declared n) x
-  pub instances : (p : Position) (n w : Tree) → R p n w → StaysWith W p n w ⊎ ((k : ℕ) × DropsWith K W k p n w)
+  pub instances : (p : Position) (n w : Tree) → R p n w → I p n w
+
+-- each instance stays or drops one name, where the variables W can be written. K says which functions and classes may lose their own name
+abbrev pub LawfulWith : (Shape → Bool) → VariableSet → (Position → Tree → Tree → Type 0) → Type 0
+LawfulWith K W = LawfulBy (λ p n w. StaysWith W p n w ⊎ ((k : ℕ) × DropsWith K W k p n w))
+
+-- and where those of S are steady
+abbrev pub LawfulUnder : (Shape → Bool) → VariableSet → BodySets → (Position → Tree → Tree → Type 0) → Type 0
+LawfulUnder K W S = LawfulBy (λ p n w. SteadiesWith W S p n w ⊎ ((k : ℕ) × DropsWith K W k p n w))
 
 -- whichever variables can be written
 abbrev pub LawfulLoosely : (Shape → Bool) → (Position → Tree → Tree → Type 0) → Type 0
@@ -92,15 +107,22 @@ undeclared u (Declared k) = nat_eq (times (symbol k) (declared_symbols u)) 0
 undeclared u (Global s) = false
 
 -- what any number of steps keep of a program whose names are resolved: each body runs as before where nobody else sees a
--- variable that the later program doesn't declare, and those of W can be written; what a write of each variable that it does declare
--- does stays
-pub record ProgramIsKeptLoosely (K : Shape → Bool) (W : VariableSet) (t u : Tree) : Type 0 where
+-- variable that the later program doesn't declare, those of W can be written, and no answer changes those of S; what a write of each
+-- variable that it does declare does stays
+pub record ProgramIsKeptUnder (K : Shape → Bool) (W : VariableSet) (S : BodySets) (t u : Tree) : Type 0 where
   pub names : ProgramKeeps t u
-  pub bodies : Scoped Read [] t → Distinct (declared_symbols t) → BodiesWith W (undeclared u) (bodies_in t) (bodies_in u)
-  pub frames : Scoped Read [] t → Distinct (declared_symbols t) → FramesShown (gone_from K (undeclared u)) (KeyGivenWith W (undeclared u) (bodies_in t)) (frames_in t) (frames_in u)
+  pub bodies : Scoped Read [] t → Distinct (declared_symbols t) → BodiesUnder W S (undeclared u) (bodies_in t) (bodies_in u)
+  pub frames : Scoped Read [] t → Distinct (declared_symbols t) → FramesShown (gone_from K (undeclared u)) (KeyGivenUnder W S (undeclared u) (bodies_in t)) (frames_in t) (frames_in u)
   pub fixities : Scoped Read [] t → Distinct (declared_symbols t) → (strict : Bool) (x : Variable) → undeclared u x ≡ false → fixed_in strict t x ≡ fixed_in strict u x
   pub declared : (x : Name) → Contains (declared u) x → Contains (declared t) x
   pub root : u ≡ over t (children u)
+
+-- whichever are steady
+abbrev pub ProgramIsKeptLoosely : (Shape → Bool) → VariableSet → Tree → Tree → Type 0
+ProgramIsKeptLoosely K W = ProgramIsKeptUnder K W none_steady
+
+abbrev pub SteadilyKeeps : (Position → Tree → Tree → Type 0) → Type 0
+SteadilyKeeps R = (K : Shape → Bool) (W : VariableSet) (S : BodySets) → LawfulUnder K W S R → (t u : Tree) → Reaches R Elsewhere t u → IsWellShaped t → ProgramIsKeptUnder K W S t u
 
 abbrev pub LooselyKeeps : (Position → Tree → Tree → Type 0) → Type 0
 LooselyKeeps R = (K : Shape → Bool) (W : VariableSet) → LawfulWith K W R → (t u : Tree) → Reaches R Elsewhere t u → IsWellShaped t → ProgramIsKeptLoosely K W t u
@@ -113,10 +135,25 @@ LawfulIsLoose R = (K : Shape → Bool) (W : VariableSet) → Lawful R → Lawful
 abbrev pub LooseWider : (Position → Tree → Tree → Type 0) → Type 0
 LooseWider R = (K : Shape → Bool) (V W : VariableSet) → ((x : Variable) → V x ≡ true → W x ≡ true) → LawfulWith K V R → LawfulWith K W R
 
+-- and whichever are steady
+abbrev pub LooseIsSteady : (Position → Tree → Tree → Type 0) → Type 0
+LooseIsSteady R = (K : Shape → Bool) (W : VariableSet) (S : BodySets) → LawfulWith K W R → LawfulUnder K W S R
+
+-- what is lawful where some are steady is so where more are
+abbrev pub SteadyWider : (Position → Tree → Tree → Type 0) → Type 0
+SteadyWider R =
+    (K : Shape → Bool) (V W : VariableSet) (Q S : BodySets) → ((x : Variable) → V x ≡ true → W x ≡ true) → ((b : ℕ) (x : Variable) → Q b x ≡ true → S b x ≡ true) → LawfulUnder K V Q R → LawfulUnder K W S R
+
 -- two loosely lawful relations make one
 abbrev pub LooseJoin : (Position → Tree → Tree → Type 0) → (Position → Tree → Tree → Type 0) → Type 0
 LooseJoin R S = (K : Shape → Bool) (W : VariableSet) → LawfulWith K W R → LawfulWith K W S → LawfulWith K W (λ p t u. R p t u ⊎ S p t u)
 
+abbrev pub SteadyJoin : (Position → Tree → Tree → Type 0) → (Position → Tree → Tree → Type 0) → Type 0
+SteadyJoin R Q = (K : Shape → Bool) (W : VariableSet) (S : BodySets) → LawfulUnder K W S R → LawfulUnder K W S Q → LawfulUnder K W S (λ p t u. R p t u ⊎ Q p t u)
+
 -- and so is what makes no more than a loosely lawful one
 abbrev pub LooseNarrowed : (Position → Tree → Tree → Type 0) → (Position → Tree → Tree → Type 0) → Type 0
 LooseNarrowed R S = (K : Shape → Bool) (W : VariableSet) → ((p : Position) (t u : Tree) → R p t u → S p t u) → LawfulWith K W S → LawfulWith K W R
+
+abbrev pub SteadyNarrowed : (Position → Tree → Tree → Type 0) → (Position → Tree → Tree → Type 0) → Type 0
+SteadyNarrowed R Q = (K : Shape → Bool) (W : VariableSet) (S : BodySets) → ((p : Position) (t u : Tree) → R p t u → Q p t u) → LawfulUnder K W S Q → LawfulUnder K W S R

@@ -6,7 +6,7 @@
 ghost use Rattle.mini_kept.specs.Kept.{EachBelowKept, EachKept, ReachesWellShaped, StepFits};
 ghost use Rattle.mini_kept.specs.KeepsShapes.{AnyStepFits, AnyReachesWellShaped};
 ghost use Rattle.mini_kept.specs.Lawful.{LawfulKeeps, LawfulJoin, LawfulNarrowed, RowsAreLawful};
-ghost use Rattle.mini_kept.specs.Loosely.{LooselyKeeps, LawfulIsLoose, LooseJoin, LooseNarrowed, LooseWider};
+ghost use Rattle.mini_kept.specs.Loosely.{LooselyKeeps, LawfulIsLoose, LooseIsSteady, LooseJoin, LooseNarrowed, LooseWider, SteadilyKeeps, SteadyJoin, SteadyNarrowed, SteadyWider};
 ghost use Rattle.mini_kept.specs.Swaps.{BranchesSwapped, NegationLeft};
 ghost use Rattle.mini_kept.specs.Lifted.{RowsKeepNames, ReachesKeepsNames};
 ghost use Rattle.mini_kept.specs.NameLaws.{ResolvedRenumbered, NumbersCarried, ProgramCarried};
@@ -136,6 +136,20 @@ pub fn loose_rules_join<R: Rewrites, S: Rewrites>()
     ensures joined { LooseJoin R.gives S.gives }
     ensures narrowed { LooseNarrowed R.gives S.gives }
     ensures wider { LooseWider R.gives }
+{}
+
+/// So do those of a relation that rests on it that some names are steady in some bodies, that is, that no answer changes them while such a
+/// body runs: then each body of the later program runs as before where these are. What is loosely lawful is so, whichever are steady.
+pub fn steady_rewriting_keeps<R: Rewrites>()
+    ensures keeps { SteadilyKeeps R.gives }
+    ensures loose { LooseIsSteady R.gives }
+{}
+
+/// What one such relation makes, or another, is one, what makes no more than one is, and what rests on some steady names may rest on more.
+pub fn steady_rules_join<R: Rewrites, S: Rewrites>()
+    ensures joined { SteadyJoin R.gives S.gives }
+    ensures narrowed { SteadyNarrowed R.gives S.gives }
+    ensures wider { SteadyWider R.gives }
 {}
 
 /// What the rows make is lawful.

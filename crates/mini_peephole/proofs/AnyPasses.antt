@@ -1,7 +1,7 @@
 -- Passes of a lawful relation give a faithful answer.
 use Rattle.std.proofs.Common.{◌≡◌, ◌⊎◌, Bool, suc, ◌+◌, ◌≤◌, max, true, false, [], ◌∷◌, refl, sym, ap, ◌∙◌, subst, arith, true≢false}
 use Rattle.std.proofs.lemmas.Bool.{eqb-true}
-use Rattle.std.specs.Prelude.{Contains, None, length}
+use Rattle.std.specs.Prelude.{Contains, None, not, length}
 use Rattle.serde_json.specs.Data.{Data}
 use Rattle.serde_json.specs.View.{view}
 use Rattle.mini_model.specs.declared.place.Position.{Position}
@@ -27,28 +27,29 @@ use Rattle.mini_accept.specs.WellShaped.{IsWellShaped}
 use Rattle.mini_kept.specs.Carried.{numbers, symbol_numbers, carried}
 use Rattle.mini_kept.specs.Declaring.{declared}
 use Rattle.mini_kept.specs.Frames.{frames_in}
-use Rattle.mini_kept.specs.ShownFrames.{KeyGivenWith, gone_from, FramesShown}
+use Rattle.mini_kept.specs.ShownFrames.{KeyGivenUnder, gone_from, FramesShown}
 use Rattle.mini_laws.specs.Writable.{writable_by, writable_in}
-use Rattle.mini_kept.specs.Loosely.{symbol, LawfulWith, undeclared, ProgramIsKeptLoosely}
-use Rattle.mini_kept.specs.Without.{Unseen, AlikeWith}
+use Rattle.mini_kept.specs.Loosely.{symbol, LawfulWith, LawfulUnder, undeclared, ProgramIsKeptUnder}
+use Rattle.mini_kept.specs.Without.{BodySets, none_steady, Steadies, Unseen, AlikeUnder}
 use Rattle.mini_kept.proofs.Gone.{avoids}
-use Rattle.mini_kept.proofs.Loosely.{loosely_keeps}
+use Rattle.mini_kept.proofs.Loosely.{steadily_keeps, loose_is_steady}
 use Rattle.mini_kept.proofs.ReadBack.{IsRead, IsReadBack, read_back}
 use Rattle.mini_kept.proofs.Refixed.{avoids_all, roots_avoid, refixed}
 use Rattle.mini_kept.proofs.SameShape.{shaped_resolved}
 use Rattle.mini_kept.proofs.Texts.{text}
 use Rattle.mini_kept.proofs.Undeclared.{unshared, native}
-use Rattle.mini_kept.proofs.WithoutLists.{kept_stands}
+use Rattle.mini_kept.proofs.WithoutLists.{PartEach, none_part, each_itself, kept_stands}
 use Rattle.mini_writer.specs.Written.{program_data}
 use Rattle.mini_tree.specs.Passes.{MakesPasses}
-use Rattle.mini_peephole.specs.Environments.{shared_by, foreign_to, initialised_for, environment_with}
-use Rattle.mini_peephole.specs.AnyPasses.{NothingLeft}
+use Rattle.mini_peephole.specs.Environments.{name_of, shared_by, foreign_to, initialised_for, steady_in, environment_with}
+use Rattle.mini_laws.specs.Foreign.{is_foreign}
+use Rattle.mini_peephole.specs.AnyPasses.{EachBegins, SteadyPassesFaithful, NothingLeft}
 use Rattle.mini_peephole.specs.Minified.{IsWritten}
 use Rattle.mini_rows.specs.Switches.{let_go}
 use Rattle.mini_peephole.specs.Faithful as faith
-use Rattle.mini_peephole.specs.Faithful.{earlier, switches, symbols_of, HasNoRepeat, BeginsWithProgram, AreNamed, IsSameBody, BodiesAreSame, IsFaithfulWith, FaithfulWith}
+use Rattle.mini_peephole.specs.Faithful.{earlier, switches, symbols_of, HasNoRepeat, BeginsWithProgram, AreNamed, IsSameBody, BodiesAreSame, IsFaithfulUnder, FaithfulWith}
 use Rattle.mini_peephole.specs.declared.minify.Minified.{Minified}
-use Rattle.mini_peephole.proofs.Chains.{Any, any_lawful, any_reach, open_in}
+use Rattle.mini_peephole.proofs.Chains.{Any, any_lawful, any_reach, each_begins, open_in}
 use Rattle.mini_peephole.proofs.Repeats.{no_repeat}
 use Rattle.mini_peephole.proofs.Written.{is_read, free_of, read_again}
 
@@ -74,9 +75,18 @@ unseen u v c = record { shared = shown; foreign = changed }
     changed (Declared k) h = native k u (avoids k Read [] u v refl (eqb-true (times (symbol k) (declared_symbols u)) 0 h)) c.number
     changed (Global s) h = absurd (true≢false (sym h))
 
-module _ (K : Shape → Bool) where
-  same_body : (t u : Tree) → ProgramIsKeptLoosely K (writable_by t) t u → Scoped Read [] t → Distinct (declared_symbols t) → Scoped Read [] u → (b c : Body) → Contains (bodies_in u) c → AlikeWith (writable_by t) (undeclared u) b c → IsSameBody t u b c
-  same_body t u kept vt d v b c there a =
+-- no answer changes a name that is steady in a body of it
+steadies : (u : Tree) (S : BodySets) → PartEach S (steady_in u) → (b c : Body) → b.number ≡ c.number → Steadies (S b.number) (environment_with u (shared_by u c) (foreign_to u c) c)
+steadies u S f b c e (Declared k) h = told (is_foreign u c.number (name_of (Declared k))) (sym (ap (λ n. steady_in u n (Declared k)) e) ∙ f b.number (Declared k) h)
+  where
+    told : (g : Bool) → not g ≡ true → g ≡ false
+    told true h = absurd (true≢false (sym h))
+    told false h = refl
+steadies u S f b c e (Global s) h = absurd (true≢false (sym (f b.number (Global s) h)))
+
+module _ (K : Shape → Bool) (S : BodySets) where
+  same_body : (t u : Tree) → ProgramIsKeptUnder K (writable_by t) S t u → PartEach S (steady_in u) → Scoped Read [] t → Distinct (declared_symbols t) → Scoped Read [] u → (b c : Body) → Contains (bodies_in u) c → AlikeUnder (writable_by t) S (undeclared u) b c → IsSameBody t u b c
+  same_body t u kept part vt d v b c there a =
       let e = environment_with t (shared_by u c) (foreign_to u c) b in
       let f = environment_with u (shared_by u c) (foreign_to u c) c in
       let X = initialised_for u c in
@@ -89,25 +99,26 @@ module _ (K : Shape → Bool) where
         same = record {
           by = λ vars this answers turns i.
               let again = refixed e f.fixed (undeclared u) (λ x h. (λ k. fixed_in (a.strict k) t x) ∙ kept.fixities vt d c.strict x h) c.kind c.root root vars this answers turns ∙ (λ k. Run (modes k) c.kind c.root vars this answers turns) in
-              subst (λ r. (Run e b.kind b.root vars this answers turns ≡ None) ⊎ (Run e b.kind b.root vars this answers turns ≡ r)) again ((a.same e (record { unseen = record { shared = seen.shared; foreign = seen.foreign }; writable = λ x h. open_in b.strict t x h }) X).by vars this answers turns i);
+              subst (λ r. (Run e b.kind b.root vars this answers turns ≡ None) ⊎ (Run e b.kind b.root vars this answers turns ≡ r)) again ((a.same e (record { unseen = record { shared = seen.shared; foreign = seen.foreign }; writable = λ x h. open_in b.strict t x h }) (steadies u S part b c a.number) X).by vars this answers turns i);
         };
       }
 
-  bodies_same : (t u : Tree) → ProgramIsKeptLoosely K (writable_by t) t u → IsWellShaped t → Scoped Read [] t → Distinct (declared_symbols t) → BodiesAreSame t u
-  bodies_same t u kept e v d c there =
-      let (b, stands, alike) = kept_stands (writable_by t) (undeclared u) (bodies_in t) (bodies_in u) (kept.bodies v d) c there in
-      (b, stands, same_body t u kept v d (kept.names.scoped e v) b c there alike)
+  bodies_same : (t u : Tree) → ProgramIsKeptUnder K (writable_by t) S t u → PartEach S (steady_in u) → IsWellShaped t → Scoped Read [] t → Distinct (declared_symbols t) → BodiesAreSame t u
+  bodies_same t u kept part e v d c there =
+      let (b, stands, alike) = kept_stands (writable_by t) S (undeclared u) (bodies_in t) (bodies_in u) (kept.bodies v d) c there in
+      (b, stands, same_body t u kept part v d (kept.names.scoped e v) b c there alike)
 
 -- ---- the whole
 
--- t is read, its resolved form becomes v, and u is v read again
-pub record Made (G : Tree → Position → Tree → Tree → Type 0) (D : Tree → Position → Tree → Type 0) (o : CompressOptions) (m : Minified) (t v u : Tree) : Type 0 where
+-- t is read, its resolved form becomes v, and u is v read again; S has names that are steady in v
+pub record Made (S : BodySets) (G : Tree → Position → Tree → Tree → Type 0) (D : Tree → Position → Tree → Type 0) (o : CompressOptions) (m : Minified) (t v u : Tree) : Type 0 where
   pub passes : MakesPasses G D (resolved_program t) v o.passes m.passes m.settled
   pub kept : m.kept ≡ 0 ∷ numbers v
   pub symbols : m.symbols ≡ symbol_numbers (declared_symbols v)
   pub back : IsReadBack t v u
   pub shaped : IsWellShaped (resolved_program t)
-  pub rewritten : ProgramIsKeptLoosely (let_go (switches o)) (writable_by (resolved_program t)) (resolved_program t) v
+  pub rewritten : ProgramIsKeptUnder (let_go (switches o)) (writable_by (resolved_program t)) S (resolved_program t) v
+  pub steady : PartEach S (steady_in v)
 
 named : (m : Minified) (t v u : Tree) → IsReadBack t v u → m.kept ≡ 0 ∷ numbers v → m.symbols ≡ symbol_numbers (declared_symbols v) → AreNamed m.kept m.symbols t u
 named m t v u r kept symbols = record {
@@ -119,12 +130,12 @@ named m t v u r kept symbols = record {
   symbols_once = subst HasNoRepeat (sym symbols) (no_repeat (symbol_numbers (declared_symbols v)) r.symbols_once);
 }
 
-module _ (G : Tree → Position → Tree → Tree → Type 0) (D : Tree → Position → Tree → Type 0) where
+module _ (S : BodySets) (G : Tree → Position → Tree → Tree → Type 0) (D : Tree → Position → Tree → Type 0) where
   -- the later program, in the earlier one's numbers and symbols, is what rewriting gave
-  pub later_is : (o : CompressOptions) (m : Minified) (t v u : Tree) → Made G D o m t v u → faith.later m u ≡ v
+  pub later_is : (o : CompressOptions) (m : Minified) (t v u : Tree) → Made S G D o m t v u → faith.later m u ≡ v
   later_is o m t v u made = (λ k. carried (made.kept k) (symbols_of (made.symbols k)) (resolved_program u)) ∙ made.back.later
 
-  pub faithful_trees : (o : CompressOptions) (m : Minified) (t v u : Tree) → early_fault t ≡ None → Made G D o m t v u → IsFaithfulWith (NothingLeft D) o m t u
+  pub faithful_trees : (o : CompressOptions) (m : Minified) (t v u : Tree) → early_fault t ≡ None → Made S G D o m t v u → IsFaithfulUnder S (NothingLeft D) o m t u
   faithful_trees o m t v u free made =
       let kept = made.rewritten in
       let whole = later_is o m t v u made in
@@ -135,8 +146,8 @@ module _ (G : Tree → Position → Tree → Tree → Type 0) (D : Tree → Posi
         jumps = made.back.jumps (free_of t free).1;
         named = named m t v u made.back made.kept made.symbols;
         spelled = λ x c. kept.declared x (subst (λ w. Contains (declared w) x) whole c);
-        frames = subst (λ w. FramesShown (gone_from (let_go (switches o)) (undeclared w)) (KeyGivenWith (writable_by (resolved_program t)) (undeclared w) (bodies_in (resolved_program t))) (frames_in (resolved_program t)) (frames_in w)) (sym whole) (kept.frames (scoped Read [] 0 t) (resolved_distinct t));
-        bodies = subst (BodiesAreSame (resolved_program t)) (sym whole) (bodies_same (let_go (switches o)) (resolved_program t) v kept made.shaped (scoped Read [] 0 t) (resolved_distinct t));
+        frames = subst (λ w. FramesShown (gone_from (let_go (switches o)) (undeclared w)) (KeyGivenUnder (writable_by (resolved_program t)) S (undeclared w) (bodies_in (resolved_program t))) (frames_in (resolved_program t)) (frames_in w)) (sym whole) (kept.frames (scoped Read [] 0 t) (resolved_distinct t));
+        bodies = subst (BodiesAreSame (resolved_program t)) (sym whole) (bodies_same (let_go (switches o)) S (resolved_program t) v kept made.steady made.shaped (scoped Read [] 0 t) (resolved_distinct t));
         weight = subst (λ w. program_weight w ≤ program_weight (resolved_program t)) (sym whole) (omega (arith, some, less));
         some_pass = some;
         within = made.passes.within;
@@ -144,30 +155,78 @@ module _ (G : Tree → Position → Tree → Tree → Type 0) (D : Tree → Posi
         unsettled = λ e. let (same, fell) = made.passes.stopped e in subst (λ w. program_weight w + max o.passes 1 ≤ program_weight (resolved_program t)) (sym whole) (omega (arith, same, fell));
       }
 
-  module _ (o : CompressOptions) (l : (q : Tree) → LawfulWith (let_go (switches o)) (writable_in q) (G q)) (d : Data) (m : Minified) (t : Tree) (read : Accepts d t) (r : IsWritten G D (resolved_program t) o.passes m) where
-    pub start : IsRead t read.1
-    start = is_read d read.0 read.1 t read.2
+-- what is lawful where T says of each program which names are steady in it, and S has all of those
+module _ (G : Tree → Position → Tree → Tree → Type 0) (D : Tree → Position → Tree → Type 0) (o : CompressOptions) (T : Tree → BodySets) (S : BodySets) (l : (q : Tree) → LawfulUnder (let_go (switches o)) (writable_in q) (T q) (G q)) (d : Data) (m : Minified) (t : Tree) (read : Accepts d t) (r : IsWritten G D (resolved_program t) o.passes m) (begins : EachBegins (λ q. PartEach (T q) S) r.passes.reached) (part : PartEach S (steady_in r.output)) where
+  pub start : IsRead t read.1
+  start = is_read d read.0 read.1 t read.2
 
-    shaped : IsWellShaped (resolved_program t)
-    shaped = shaped_resolved t start.shaped
+  shaped : IsWellShaped (resolved_program t)
+  shaped = shaped_resolved t start.shaped
 
-    kept : ProgramIsKeptLoosely (let_go (switches o)) (writable_by (resolved_program t)) (resolved_program t) r.output
-    kept =
-        let K = let_go (switches o) in
-        let v = resolved_program t in
-        loosely_keeps (Any G K l v) K (writable_by v) (any_lawful G K l v) v r.output (any_reach G K l v shaped (scoped Read [] 0 t) (resolved_distinct t) r.passes.reached refl) shaped
+  kept : ProgramIsKeptUnder (let_go (switches o)) (writable_by (resolved_program t)) S (resolved_program t) r.output
+  kept =
+      let K = let_go (switches o) in
+      let v = resolved_program t in
+      steadily_keeps (Any G K T S l v) K (writable_by v) S (any_lawful G K T S l v) v r.output (any_reach G K T S l v shaped (scoped Read [] 0 t) (resolved_distinct t) r.passes.reached begins refl) shaped
 
-    pub again : (u : Tree) × Accepts (program_data r.output) u × (text u ≡ text r.output)
-    again = read_again r.output (kept.names.shaped shaped)
+  pub again : (u : Tree) × Accepts (program_data r.output) u × (text u ≡ text r.output)
+  again = read_again r.output (kept.names.shaped shaped)
 
-    pub answer_read : IsRead again.0 again.1.1
-    answer_read = is_read (program_data r.output) again.1.0 again.1.1 again.0 again.1.2
+  pub answer_read : IsRead again.0 again.1.1
+  answer_read = is_read (program_data r.output) again.1.0 again.1.1 again.0 again.1.2
 
-    pub written : Accepts (view m.program) again.0
-    written = subst (λ w. Accepts w again.0) (sym r.written) again.1
+  pub written : Accepts (view m.program) again.0
+  written = subst (λ w. Accepts w again.0) (sym r.written) again.1
 
-    pub made : Made G D o m t r.output again.0
-    made = record { passes = r.passes; kept = r.kept; symbols = r.symbols; back = read_back t r.output again.0 read.1 again.1.1 start answer_read kept.names kept.root again.2; shaped = shaped; rewritten = kept }
+  pub made : Made S G D o m t r.output again.0
+  made = record { passes = r.passes; kept = r.kept; symbols = r.symbols; back = read_back t r.output again.0 read.1 again.1.1 start answer_read kept.names kept.root again.2; shaped = shaped; rewritten = kept; steady = part }
 
-    pub passes_faithful : early_fault t ≡ None → FaithfulWith (NothingLeft D) d o m
-    passes_faithful free = record { input = t; output = again.0; accepted = read; answered = written; faithful = faithful_trees o m t r.output again.0 free made }
+  pub whole_is : faith.later m again.0 ≡ r.output
+  whole_is = later_is S G D o m t r.output again.0 made
+
+  pub faithful_there : early_fault t ≡ None → IsFaithfulUnder S (NothingLeft D) o m t again.0
+  faithful_there free = faithful_trees S G D o m t r.output again.0 free made
+
+-- ---- where nothing rests on steady names
+
+pub none_in : (u : Tree) → PartEach none_steady (steady_in u)
+none_in u = none_part (steady_in u)
+
+module _ (G : Tree → Position → Tree → Tree → Type 0) (D : Tree → Position → Tree → Type 0) (o : CompressOptions) (l : (q : Tree) → LawfulWith (let_go (switches o)) (writable_in q) (G q)) (d : Data) (m : Minified) (t : Tree) (read : Accepts d t) (r : IsWritten G D (resolved_program t) o.passes m) where
+  pub anyway : (q : Tree) → LawfulUnder (let_go (switches o)) (writable_in q) none_steady (G q)
+  anyway q = loose_is_steady (G q) (let_go (switches o)) (writable_in q) none_steady (l q)
+
+  pub nothing_asked : EachBegins (λ q. PartEach none_steady none_steady) r.passes.reached
+  nothing_asked = each_begins (λ q. PartEach none_steady none_steady) (λ q. each_itself none_steady) r.passes.reached
+
+  pub start_of : IsRead t read.1
+  start_of = start G D o (λ q. none_steady) none_steady anyway d m t read r nothing_asked (none_in r.output)
+
+  abbrev pub again_of : (u : Tree) × Accepts (program_data r.output) u × (text u ≡ text r.output)
+  again_of = again G D o (λ q. none_steady) none_steady anyway d m t read r nothing_asked (none_in r.output)
+
+  pub answer_read_of : IsRead again_of.0 again_of.1.1
+  answer_read_of = answer_read G D o (λ q. none_steady) none_steady anyway d m t read r nothing_asked (none_in r.output)
+
+  pub written_of : Accepts (view m.program) again_of.0
+  written_of = written G D o (λ q. none_steady) none_steady anyway d m t read r nothing_asked (none_in r.output)
+
+  pub made_of : Made none_steady G D o m t r.output again_of.0
+  made_of = made G D o (λ q. none_steady) none_steady anyway d m t read r nothing_asked (none_in r.output)
+
+  pub passes_faithful : early_fault t ≡ None → FaithfulWith (NothingLeft D) d o m
+  passes_faithful free = record { input = t; output = again_of.0; accepted = read; answered = written_of; faithful = faithful_there G D o (λ q. none_steady) none_steady anyway d m t read r nothing_asked (none_in r.output) free }
+
+-- ---- and where something does
+
+pub steady_passes_faithful : (G : CompressOptions → Tree → Position → Tree → Tree → Type 0) (D : CompressOptions → Tree → Position → Tree → Type 0) → SteadyPassesFaithful G D
+steady_passes_faithful G D l d o m t read free r begins =
+    let S = steady_in r.output in
+    let there = again (G o) (D o) o steady_in S (l o) d m t read r begins (each_itself S) in
+    record {
+      input = t;
+      output = there.0;
+      accepted = read;
+      answered = written (G o) (D o) o steady_in S (l o) d m t read r begins (each_itself S);
+      faithful = subst (λ w. IsFaithfulUnder (steady_in w) (NothingLeft (D o)) o m t there.0) (sym (whole_is (G o) (D o) o steady_in S (l o) d m t read r begins (each_itself S))) (faithful_there (G o) (D o) o steady_in S (l o) d m t read r begins (each_itself S) free);
+    }

@@ -20,10 +20,12 @@ use Rattle.mini_tree.specs.Passes.{PassesReach, no_pass, one_more}
 use Rattle.mini_tree.specs.Wider.{reaches_of}
 use Rattle.mini_tree.proofs.Reaching.{reaches_trans}
 use Rattle.mini_laws.specs.Writable.{is_open, writable_by, writable_in, mentions, any_mentions}
-use Rattle.mini_kept.specs.Loosely.{symbol, LawfulWith, undeclared, ProgramIsKeptLoosely}
+use Rattle.mini_kept.specs.Loosely.{symbol, LawfulUnder, undeclared, ProgramIsKeptUnder}
+use Rattle.mini_kept.specs.Without.{BodySets}
 use Rattle.mini_kept.proofs.Gone.{avoids}
-use Rattle.mini_kept.proofs.Loosely.{loosely_keeps, loose_wider}
-use Rattle.mini_kept.proofs.WithoutLists.{Part}
+use Rattle.mini_kept.proofs.Loosely.{steadily_keeps, steady_wider}
+use Rattle.mini_kept.proofs.WithoutLists.{Part, PartEach}
+use Rattle.mini_peephole.specs.AnyPasses.{EachBegins}
 
 -- ---- what a program that has its names' symbols mentions it declares
 
@@ -69,32 +71,32 @@ open_written false = refl
 pub open_in : (strict : Bool) (t : Tree) (x : Variable) → writable_by t x ≡ true → fixed_in strict t x ≡ Writable
 open_in strict t x e = ap (written_in strict) (open_is _ e) ∙ open_written strict
 
-module _ (G : Tree → Position → Tree → Tree → Type 0) (K : Shape → Bool) (l : (q : Tree) → LawfulWith K (writable_in q) (G q)) (t : Tree) where
-  -- what is made of a tree over some program in which nothing can be written that the first forbids to write
+module _ (G : Tree → Position → Tree → Tree → Type 0) (K : Shape → Bool) (T : Tree → BodySets) (S : BodySets) (l : (q : Tree) → LawfulUnder K (writable_in q) (T q) (G q)) (t : Tree) where
+  -- what is made of a tree over some program in which nothing can be written that the first forbids to write, and nothing is steady but S
   abbrev pub Any : Position → Tree → Tree → Type 0
-  Any p n w = (q : Tree) × Part (writable_in q) (writable_by t) × G q p n w
+  Any p n w = (q : Tree) × Part (writable_in q) (writable_by t) × PartEach (T q) S × G q p n w
 
-  at_first : (q : Tree) → Part (writable_in q) (writable_by t) → LawfulWith K (writable_by t) (G q)
-  at_first q f = loose_wider (G q) K (writable_in q) (writable_by t) f (l q)
+  at_first : (q : Tree) → Part (writable_in q) (writable_by t) → PartEach (T q) S → LawfulUnder K (writable_by t) S (G q)
+  at_first q f g = steady_wider (G q) K (writable_in q) (writable_by t) (T q) S f g (l q)
 
   each : {X : Position → Tree → Tree → Type 0} → ((q : Tree) (p : Position) (n w : Tree) → G q p n w → X p n w) → (p : Position) (n w : Tree) → Any p n w → X p n w
-  each f p n w r = f r.0 p n w r.2
+  each f p n w r = f r.0 p n w r.3
 
   -- what is lawful over every program is lawful over all together
-  pub any_lawful : LawfulWith K (writable_by t) Any
+  pub any_lawful : LawfulUnder K (writable_by t) S Any
   any_lawful = record {
     shapes = record { fitting = each (λ q. (l q).shapes.fitting); asked = each (λ q. (l q).shapes.asked) };
     places = record {
       names = record { places = each (λ q. (l q).places.names.places); pieces = each (λ q. (l q).places.names.pieces); keeps = each (λ q. (l q).places.names.keeps) };
       slots = each (λ q. (l q).places.slots);
       ports = each (λ q. (l q).places.ports);
-      listed = λ p n w e r. (l r.0).places.listed p n w e r.2;
+      listed = λ p n w e r. (l r.0).places.listed p n w e r.3;
       exported = each (λ q. (l q).places.exported);
     };
     reads = each (λ q. (l q).reads);
     kind = each (λ q. (l q).kind);
     declared = each (λ q. (l q).declared);
-    instances = λ p n w r. (at_first r.0 r.1).instances p n w r.2;
+    instances = λ p n w r. (at_first r.0 r.1 r.2).instances p n w r.3;
   }
 
   module _ (shaped : IsWellShaped t) (scoped : Scoped Read [] t) (distinct : Distinct (declared_symbols t)) where
@@ -102,8 +104,8 @@ module _ (G : Tree → Position → Tree → Tree → Type 0) (K : Shape → Boo
     writable_still : (u : Tree) → Reaches Any Elsewhere t u → Part (writable_in u) (writable_by t)
     writable_still u r = by
       where
-        kept : ProgramIsKeptLoosely K (writable_by t) t u
-        kept = loosely_keeps Any K (writable_by t) any_lawful t u r shaped
+        kept : ProgramIsKeptUnder K (writable_by t) S t u
+        kept = steadily_keeps Any K (writable_by t) S any_lawful t u r shaped
 
         by : Part (writable_in u) (writable_by t)
         by (Declared k) h =
@@ -111,8 +113,13 @@ module _ (G : Tree → Position → Tree → Tree → Type 0) (K : Shape → Boo
             ap is_open (kept.fixities scoped distinct false (Declared k) (mentioned_is_declared u (kept.names.scoped shaped scoped) k m)) ∙ f
         by (Global s) h = absurd (true≢false (sym h))
 
-    pub any_reach : {k : ℕ} {s u : Tree} → PassesReach G k s u → s ≡ t → Reaches Any Elsewhere t u
-    any_reach (no_pass s) e = subst (Reaches Any Elsewhere t) (sym e) (done Elsewhere t)
-    any_reach (one_more k s u v r others) e =
-        let before = any_reach r e in
-        reaches_trans Any before (reaches_of (G u) Any (λ p n w g. (u, writable_still u before, g)) Elsewhere u v others)
+    pub any_reach : {k : ℕ} {s u : Tree} (r : PassesReach G k s u) → EachBegins (λ q. PartEach (T q) S) r → s ≡ t → Reaches Any Elsewhere t u
+    any_reach (no_pass s) f e = subst (Reaches Any Elsewhere t) (sym e) (done Elsewhere t)
+    any_reach (one_more k s u v r others) f e =
+        let before = any_reach r f.0 e in
+        reaches_trans Any before (reaches_of (G u) Any (λ p n w g. (u, writable_still u before, f.1, g)) Elsewhere u v others)
+
+-- where nothing is asked of the programs at which passes begin
+pub each_begins : (P : Tree → Type 0) → ((q : Tree) → P q) → {G : Tree → Position → Tree → Tree → Type 0} {k : ℕ} {s u : Tree} (r : PassesReach G k s u) → EachBegins P r
+each_begins P f (no_pass s) = tt
+each_begins P f (one_more k s u v r others) = (each_begins P f r, f u)

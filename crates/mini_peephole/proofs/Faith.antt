@@ -17,6 +17,7 @@ use Rattle.mini_tree.specs.Passes.{PassesReach, no_pass, one_more}
 use Rattle.mini_tree.specs.Wider.{reaches_of}
 use Rattle.mini_accept.specs.Accept.{Accepts}
 use Rattle.mini_accept.proofs.Depths.{one_tree}
+use Rattle.mini_kept.specs.Without.{none_steady}
 use Rattle.mini_kept.proofs.InPreorder.{preorder_same}
 use Rattle.mini_kept.proofs.ReadBack.{IsRead}
 use Rattle.mini_kept.proofs.Texts.{text, text_resolved}
@@ -77,19 +78,19 @@ no_redex o m t u light f = record {
 
 module _ (d : Data) (o : CompressOptions) (m : Minified) (t : Tree) (read : Accepts d t) (r : IsRewriting (resolved_program t) o m) where
   abbrev again : (u : Tree) × Accepts (program_data r.output) u × (text u ≡ text r.output)
-  again = any.again (AllGives o) (AllRests o) o (gives_lawful o) d m t read r
+  again = any.again_of (AllGives o) (AllRests o) o (gives_lawful o) d m t read r
 
   start : IsRead t read.1
-  start = any.start (AllGives o) (AllRests o) o (gives_lawful o) d m t read r
+  start = any.start_of (AllGives o) (AllRests o) o (gives_lawful o) d m t read r
 
   answer_read : IsRead again.0 again.1.1
-  answer_read = any.answer_read (AllGives o) (AllRests o) o (gives_lawful o) d m t read r
+  answer_read = any.answer_read_of (AllGives o) (AllRests o) o (gives_lawful o) d m t read r
 
   written : Accepts (view m.program) again.0
-  written = any.written (AllGives o) (AllRests o) o (gives_lawful o) d m t read r
+  written = any.written_of (AllGives o) (AllRests o) o (gives_lawful o) d m t read r
 
-  made : any.Made (AllGives o) (AllRests o) o m t r.output again.0
-  made = any.made (AllGives o) (AllRests o) o (gives_lawful o) d m t read r
+  made : any.Made none_steady (AllGives o) (AllRests o) o m t r.output again.0
+  made = any.made_of (AllGives o) (AllRests o) o (gives_lawful o) d m t read r
 
   pub faithful : early_fault t ≡ None → weight Elsewhere t < 2 ^ 32 → Faithful d o m
   faithful free light =
@@ -106,7 +107,7 @@ module _ (d : Data) (o : CompressOptions) (m : Minified) (t : Tree) (read : Acce
   bounded : (v w : Tree) → Accepts d v → Accepts (view m.program) w → program_weight (faith.later m w) + m.passes ≤ program_weight (earlier v) + 1
   bounded v w a b =
       let x = input_weight v a in
-      let y = ap (weight Elsewhere) (ap (faith.later m) (one_tree (view m.program) w again.0 b written) ∙ any.later_is (AllGives o) (AllRests o) o m t r.output again.0 made) in
+      let y = ap (weight Elsewhere) (ap (faith.later m) (one_tree (view m.program) w again.0 b written) ∙ any.later_is none_steady (AllGives o) (AllRests o) o m t r.output again.0 made) in
       let h = r.passes.lighter in
       omega (arith, x, y, h)
 
@@ -145,5 +146,5 @@ module _ (d : Data) (o : CompressOptions) (m : Minified) (t : Tree) (read : Acce
       let less = resolved_lighter t start.unresolved in
       let some = r.passes.some_pass in
       let fell = r.passes.lighter in
-      let y = ap (weight Elsewhere) (ap (faith.later m) (one_tree (view m.program) w again.0 b written) ∙ any.later_is (AllGives o) (AllRests o) o m t r.output again.0 made) in
+      let y = ap (weight Elsewhere) (ap (faith.later m) (one_tree (view m.program) w again.0 b written) ∙ any.later_is none_steady (AllGives o) (AllRests o) o m t r.output again.0 made) in
       plain_number n (program_weight r.output) e (omega (arith, some, fell, less, light)) ∙ sym y

@@ -10,6 +10,7 @@ use Rattle.mini_laws.specs.Value.{Variable, Declared, Global, VariableSet}
 use Rattle.mini_laws.specs.State.{Environment}
 use Rattle.mini_laws.specs.Body.{environment_in}
 use Rattle.mini_laws.specs.Bodies.{Body}
+use Rattle.mini_kept.specs.Without.{BodySets}
 
 -- a name of this variable: a declared one is told by its symbol
 abbrev pub name_of : Variable → Name
@@ -35,6 +36,11 @@ is_declared (Global s) = false
 -- a start leaves no declared name uninitialised, but foreign ones and lexical names of the body
 abbrev pub initialised_for : Tree → Body → VariableSet
 initialised_for t b x = is_declared x && (not (foreign_to t b x) && not (is_lexical_in t b.number (name_of x)))
+
+-- of the body with a number the declared variables that no answer changes: they aren't foreign to it
+abbrev pub steady_in : Tree → BodySets
+steady_in t b (Declared n) = not (is_foreign t b (name_of (Declared n)))
+steady_in t b (Global s) = false
 
 -- of a body in this program, with the variables that its events show and those that an answer may change
 abbrev pub environment_with : Tree → VariableSet → VariableSet → Body → Environment

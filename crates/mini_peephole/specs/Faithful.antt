@@ -26,10 +26,11 @@ use Rattle.mini_kept.specs.Carried.{numbers, carried}
 use Rattle.mini_kept.specs.Declaring.{declared}
 use Rattle.mini_kept.specs.Frames.{frames_in}
 use Rattle.mini_kept.specs.Loosely.{undeclared}
-use Rattle.mini_kept.specs.ShownFrames.{KeyGivenWith, gone_from, FramesShown}
+use Rattle.mini_kept.specs.ShownFrames.{KeyGivenUnder, gone_from, FramesShown}
+use Rattle.mini_kept.specs.Without.{BodySets, none_steady}
 use Rattle.mini_rows.specs.Switches.{Switches, let_go}
 use Rattle.mini_rows.specs.Redex.{HasNoRedex}
-use Rattle.mini_peephole.specs.Environments.{shared_by, foreign_to, initialised_for, environment_with}
+use Rattle.mini_peephole.specs.Environments.{shared_by, foreign_to, initialised_for, steady_in, environment_with}
 use Rattle.mini_peephole.specs.declared.minify.Minified.{Minified}
 
 -- the earlier program: each name has its symbol
@@ -92,8 +93,8 @@ pass_bound o = max o.passes 1
 abbrev pub switches : CompressOptions → Switches
 switches o = record { sequences = o.sequences; join_vars = o.join_vars; keep_function_names = o.keep_names.function; keep_class_names = o.keep_names.class }
 
--- what is said of the two trees, where Rests says of the later one that nothing is left to do
-pub record IsFaithfulWith (Rests : Tree → Type 0) (o : CompressOptions) (m : Minified) (t u : Tree) : Type 0 where
+-- what is said of the two trees, where Rests says of the later one that nothing is left to do, and S has the names that are steady in a body
+pub record IsFaithfulUnder (S : BodySets) (Rests : Tree → Type 0) (o : CompressOptions) (m : Minified) (t u : Tree) : Type 0 where
   -- the answer has no early error
   pub names : early_names [] u ≡ []
   pub jumps : early_jumps no_targets [] u ≡ []
@@ -103,9 +104,9 @@ pub record IsFaithfulWith (Rests : Tree → Type 0) (o : CompressOptions) (m : M
   pub spelled : (x : Name) → Contains (declared (later m u)) x → Contains (declared (earlier t)) x
   -- what stands outside bodies is kept: each of its nodes with a number has the frame that the one had which it was, but for the
   -- brackets of keys which give one property and do nothing else, where the variables can be written that the earlier program lets be
-  -- written, and for the name of a function or a class expression that the later
+  -- written, and those of S are steady, and for the name of a function or a class expression that the later
   -- program doesn't declare, so that nothing in it refers to that, where the options let it go
-  pub frames : FramesShown (gone_from (let_go (switches o)) (undeclared (later m u))) (KeyGivenWith (writable_by (earlier t)) (undeclared (later m u)) (bodies_in (earlier t))) (frames_in (earlier t)) (frames_in (later m u))
+  pub frames : FramesShown (gone_from (let_go (switches o)) (undeclared (later m u))) (KeyGivenUnder (writable_by (earlier t)) S (undeclared (later m u)) (bodies_in (earlier t))) (frames_in (earlier t)) (frames_in (later m u))
   -- each body does what the one does that it was
   pub bodies : BodiesAreSame (earlier t) (later m u)
   -- it is no heavier
@@ -116,6 +117,10 @@ pub record IsFaithfulWith (Rests : Tree → Type 0) (o : CompressOptions) (m : M
   pub settled : m.settled ≡ true → Rests (later m u)
   pub unsettled : m.settled ≡ false → program_weight (later m u) + pass_bound o ≤ program_weight (earlier t)
 
+-- whichever names are steady
+abbrev pub IsFaithfulWith : (Tree → Type 0) → CompressOptions → Minified → Tree → Tree → Type 0
+IsFaithfulWith = IsFaithfulUnder none_steady
+
 -- the value is a program, the answer's value is one, and the later one is faithful to the earlier
 pub record FaithfulWith (Rests : Tree → Type 0) (d : Data) (o : CompressOptions) (m : Minified) : Type 0 where
   pub input : Tree
@@ -123,6 +128,14 @@ pub record FaithfulWith (Rests : Tree → Type 0) (d : Data) (o : CompressOption
   pub accepted : Accepts d input
   pub answered : Accepts (view m.program) output
   pub faithful : IsFaithfulWith Rests o m input output
+
+-- the same, with the names that are steady in the later one
+pub record FaithfulSteadily (Rests : Tree → Type 0) (d : Data) (o : CompressOptions) (m : Minified) : Type 0 where
+  pub input : Tree
+  pub output : Tree
+  pub accepted : Accepts d input
+  pub answered : Accepts (view m.program) output
+  pub faithful : IsFaithfulUnder (steady_in (later m output)) Rests o m input output
 
 -- nothing is left to rewrite in a program, with the variables that it mentions and lets be written
 abbrev pub IsRewritten : CompressOptions → Tree → Type 0

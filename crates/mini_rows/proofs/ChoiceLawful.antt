@@ -65,7 +65,7 @@ name_reads : (x : Name) → Reads (identifier x)
 unfolding declared_in
 name_reads x = record { declares = refl; scoped = name_scoped x }
 
-member_reads : (x : Name) (k : Key) → Reads (member_of x k)
+pub member_reads : (x : Name) (k : Key) → Reads (member_of x k)
 unfolding declared_in Scoped
 member_reads x (Named s) = record { declares = refl; scoped = λ env a. a }
 member_reads x (Spelled s) = record { declares = refl; scoped = λ env a. a }
@@ -125,7 +125,7 @@ pub name_vanishes : (x : Name) → Vanishes (identifier x)
 unfolding has_inner
 name_vanishes x = record { inner = refl; fixed = λ y. refl }
 
-member_vanishes : (x : Name) (k : Key) → Vanishes (member_of x k)
+pub member_vanishes : (x : Name) (k : Key) → Vanishes (member_of x k)
 unfolding has_inner
 member_vanishes x (Named s) = record { inner = refl; fixed = λ y. refl }
 member_vanishes x (Spelled s) = record { inner = refl; fixed = λ y. refl }

@@ -30,7 +30,7 @@ use Rattle.mini_rows.proofs.SpellAlike.{SameTree}
 use Rattle.mini_rows.proofs.SpellMeaning.{same_by}
 
 -- the property key
-abbrev key_text : Key → Value
+abbrev pub key_text : Key → Value
 key_text (Named s) = String s
 key_text (Spelled s) = String s
 key_text (Numbered k) = key_value (Number k)
@@ -45,29 +45,29 @@ module _ (e : Environment) (m n : Naming) (σ τ : ℕ → Demand) (K : Kids σ)
   fetched_by false None es z = refl
 
 module _ (e : Environment) (x : Name) where
-  abbrev at : Key → Value → Reference
+  abbrev pub at : Key → Value → Reference
   at k v = AMember v (key_text k)
 
-  prepared : (k : Key) (s : State) → means e (member_of x k) Target Prepare s ≡ next (value e (identifier x) s) (λ v z. ok (at k v) z)
+  pub prepared : (k : Key) (s : State) → means e (member_of x k) Target Prepare s ≡ next (value e (identifier x) s) (λ v z. ok (at k v) z)
   unfolding means meaning step either
   prepared (Named t) s = refl
   prepared (Spelled t) s = refl
   prepared (Numbered j) s = refl
 
-  abbrev fetch : Key → Value → State → Completion Value
+  abbrev pub fetch : Key → Value → State → Completion Value
   fetch k v z = means e (member_of x k) Target (Fetch (at k v)) z
 
-  abbrev put : Key → Value → Value → State → Completion Value
+  abbrev pub put : Key → Value → Value → State → Completion Value
   put k v u z = next (means e (member_of x k) Target (Put (at k v) u) z) (λ t j. ok u j)
 
-  member_value : (k : Key) (s : State) → value e (member_of x k) s ≡ next (value e (identifier x) s) (λ v z. fetch k v z)
+  pub member_value : (k : Key) (s : State) → value e (member_of x k) s ≡ next (value e (identifier x) s) (λ v z. fetch k v z)
   unfolding means meaning step either
   member_value (Named t) s = either_cong (value e (identifier x) s) _ _ _ _ (λ v z. fetched_by e _ _ (λ i. As Val) (λ i. As Val) _ _ (is_nullish v) (known_member v (String t)) (Item v ∷ Item (String t) ∷ []) z) (λ y z. refl)
   member_value (Spelled t) s = either_cong (value e (identifier x) s) _ _ _ _ (λ v z. fetched_by e _ _ (λ i. As Val) (λ i. As Val) _ _ (is_nullish v) (known_member v (String t)) (Item v ∷ Item (String t) ∷ []) z) (λ y z. refl)
   member_value (Numbered j) s = either_cong (value e (identifier x) s) _ _ _ _ (λ v z. fetched_by e _ _ (λ i. As Val) (λ i. As Val) _ _ (is_nullish v) (known_member v (key_value (Number j))) (Item v ∷ Item (key_value (Number j)) ∷ []) z) (λ y z. refl)
 
   -- its key is a text, so that it is converted no more
-  put_again : (k : Key) (v u : Value) (z : State) → means e (member_of x k) Target (Put (AFetched v (key_text k)) u) z ≡ means e (member_of x k) Target (Put (at k v) u) z
+  pub put_again : (k : Key) (v u : Value) (z : State) → means e (member_of x k) Target (Put (AFetched v (key_text k)) u) z ≡ means e (member_of x k) Target (Put (at k v) u) z
   unfolding means step
   put_again (Named t) v u z = refl
   put_again (Spelled t) v u z = refl
@@ -75,16 +75,16 @@ module _ (e : Environment) (x : Name) where
 
   -- ---- assignments
 
-  assigned_value : (k : Key) (b : Tree) (s : State) → value e (assignment assigning.Assign (member_of x k) b) s ≡ next (value e (identifier x) s) (λ v z. next (value e b z) (λ u y. put k v u y))
+  pub assigned_value : (k : Key) (b : Tree) (s : State) → value e (assignment assigning.Assign (member_of x k) b) s ≡ next (value e (identifier x) s) (λ v z. next (value e b z) (λ u y. put k v u y))
   unfolding means meaning step either
   assigned_value k b s =
       ap (λ p. next p (λ r z. next (value e b z) (λ u y. next (means e (member_of x k) Target (Put r u) y) (λ t j. ok u j)))) (prepared k s)
       ∙ either_assoc (value e (identifier x) s) (λ v z. ok (at k v) z) (λ y z. stop y z) _ _
 
-  abbrev names : AssignmentOperator → Key → Tree → Naming
+  abbrev pub names : AssignmentOperator → Key → Tree → Naming
   names c k b = naming (shape.AssignmentExpression c) (As Val) [] 0 (summaries (member_of x k ▸ b ▸ none))
 
-  abbrev kids : Key → Tree → Kids AssignDemand
+  abbrev pub kids : Key → Tree → Kids AssignDemand
   kids k b i r z = meaning e (member_of x k ▸ b ▸ none) i (AssignDemand i) r z
 
   -- what a computed value is put to

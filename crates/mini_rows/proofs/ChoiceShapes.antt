@@ -105,7 +105,7 @@ module _ (strict : Bool) where
   of_assignment c x b e = let (y, z) = and_parts (fits strict (one a_simple_target) (identifier x)) (fits strict expression b && true) e in (y, left (fits strict expression b) true z)
 
   -- and so a member of a name
-  of_member_assignment : (x : Name) (k : Key) (b : Tree) → Fits (assignment Assign (member_of x k) b) → (fits strict (one a_target) (member_of x k) ≡ true) × Fits b
+  pub of_member_assignment : (x : Name) (k : Key) (b : Tree) → Fits (assignment Assign (member_of x k) b) → (fits strict (one a_target) (member_of x k) ≡ true) × Fits b
   of_member_assignment x k b e = let (y, z) = and_parts (fits strict (one a_target) (member_of x k)) (fits strict expression b && true) e in (y, left (fits strict expression b) true z)
 
   simply_assigned : (x : Name) (k : Key) → fits strict (one a_target) (member_of x k) ≡ true → fits strict (one a_simple_target) (member_of x k) ≡ true
@@ -113,7 +113,7 @@ module _ (strict : Bool) where
   simply_assigned x (Spelled s) e = e
   simply_assigned x (Numbered n) e = e
 
-  member_assignment_fits : (c : AssignmentOperator) (x : Name) (k : Key) (b : Tree) → fits strict (one a_target) (member_of x k) ≡ true → Fits b → Fits (assignment c (member_of x k) b)
+  pub member_assignment_fits : (c : AssignmentOperator) (x : Name) (k : Key) (b : Tree) → fits strict (one a_target) (member_of x k) ≡ true → Fits b → Fits (assignment c (member_of x k) b)
   member_assignment_fits Assign x k b e f = both (fits strict (one a_target) (member_of x k)) (fits strict expression b && true) e (both (fits strict expression b) true f refl)
   member_assignment_fits c x k b e f = both (fits strict (one a_simple_target) (member_of x k)) (fits strict expression b && true) (simply_assigned x k e) (both (fits strict expression b) true f refl)
 

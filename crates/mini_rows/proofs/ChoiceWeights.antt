@@ -45,7 +45,7 @@ pub pair_of : (b : Bool) → (if b then 4 else 0) ≤ 4
 pair_of true = omega arith
 pair_of false = omega arith
 
-assignment_marks : (s : Seat) (c : AssignmentOperator) (os : List Outline) → place_weight (Expr s) (shape.AssignmentExpression c) os ≤ 4
+pub assignment_marks : (s : Seat) (c : AssignmentOperator) (os : List Outline) → place_weight (Expr s) (shape.AssignmentExpression c) os ≤ 4
 assignment_marks s c os = let plain = no_awkward s.eq_left s.cond_test s.lifted in omega (arith, plain, pair_of (is_parenthesized (shape.AssignmentExpression c) s))
 
 pub same_marks : (s : Seat) (c d : AssignmentOperator) (os ps : List Outline) → place_weight (Expr s) (shape.AssignmentExpression c) os ≡ place_weight (Expr s) (shape.AssignmentExpression d) ps
@@ -167,7 +167,7 @@ computing_falls o c h s x b = absurd (cc h)
 
 -- 35: a member of a name goes
 
-member_heavy : (s : Seat) (x : Name) (k : Key) → 1 ≤ weight (Expr s) (member_of x k)
+pub member_heavy : (s : Seat) (x : Name) (k : Key) → 1 ≤ weight (Expr s) (member_of x k)
 member_heavy s x (Named t) = omega arith
 member_heavy s x (Spelled t) = omega arith
 member_heavy s x (Numbered n) = omega arith

@@ -120,6 +120,9 @@ pub mod ChoiceLast
 pub mod ChoiceShapes
 mod ChoiceSpines
 pub mod ChoiceLawful
+mod SteadyMeaning
+pub mod SteadyKept
+pub mod SteadyLawful
 pub mod FoldEqualities
 mod FoldBranches
 pub mod FoldMeaning

@@ -65,7 +65,7 @@ declared_plain s = by (same_text s (codes "eval"))
     by true = refl
     by false = refl
 
-holds_read : (k : Slot) (v : Value) (s : State) → read_slot k s ≡ ok v s → k ≡ Holds v
+pub holds_read : (k : Slot) (v : Value) (s : State) → read_slot k s ≡ ok v s → k ≡ Holds v
 unfolding read_slot
 holds_read (Holds w) v s e = cc e
 holds_read Missing v s e = absurd (cc e)
@@ -83,7 +83,7 @@ module _ (e : Environment) (spelling : List ℕ) (k : ℕ) where
   read_by NumberName h s = absurd (true≢false (sym h))
 
   -- a read of it gives what it holds
-  read_value : (s : State) → value e (identifier x) s ≡ read_slot (s.vars (Declared k)) s
+  pub read_value : (s : State) → value e (identifier x) s ≡ read_slot (s.vars (Declared k)) s
   unfolding means step
   read_value s = read_by (kind_of x) (declared_plain spelling) s ∙ either_eta (read_slot (s.vars (Declared k)) s)
 

@@ -30,6 +30,7 @@ pub mod Templates
 pub mod Names
 pub mod Catches
 pub mod Writes
+pub mod Steady
 pub mod Cases
 pub mod LoopGuards
 pub mod DeadCases

@@ -21,6 +21,7 @@ mod operands;
 mod redexes;
 mod sequences;
 mod spellings;
+mod steady;
 mod templates;
 mod turns;
 mod unused;
@@ -41,6 +42,7 @@ pub use negations::{negations_are_lawful, negations_lighten, negations_mean_the_
 pub use operands::{operands_are_lawful, operands_are_lighter, operands_mean_the_same};
 pub use redexes::rows_are_lawful;
 pub use sequences::{sequences_are_lawful, sequences_are_lighter, sequences_mean_the_same};
+pub use steady::{steady_functions_are_lawful, steady_names_lighten, steady_names_mean_the_same};
 pub use templates::{templates_are_lawful, templates_lighten, templates_mean_the_same};
 pub use unused::{unused_are_lawful, unused_lighten};
 pub use writes::{writes_are_lawful, writes_lighten};
