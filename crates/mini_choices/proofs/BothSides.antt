@@ -30,7 +30,7 @@ both_row s n w = tried s n w (both.evaluates_both s n) (both.both_sides n) None 
     made : both.evaluates_both s n ≡ true → ChoiceContracts (Expr s) n (both.both_sides n)
     made h =
         let (known, less) = and_parts (both.goes_on_in (logical_operator n) (part n 0)) (is_lighter s (both.both_sides n) n) h in
-        record { row = inr (inr (inr (inr (inr (inr (inr (known_row n known))))))); lighter = omega (arith, ltb-true _ _ less) }
+        record { row = inr (inr (inr (inr (inr (inr (inr (inl (known_row n known)))))))); lighter = omega (arith, ltb-true _ _ less) }
 
 there : (b : Bool) (t : Tree) → b ≡ true → is_some (if b then Some t else None) ≡ true
 there true t e = refl

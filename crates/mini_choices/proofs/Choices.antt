@@ -19,13 +19,14 @@ use Rattle.mini_model.specs.Paths.{append}
 use Rattle.mini_model.specs.Weight.{weight}
 use Rattle.mini_node.specs.Children.{part}
 use Rattle.mini_node.specs.Equal.{same_tree}
-use Rattle.mini_node.specs.Kinds.{binary, assignment, is_logical, is_conditional, is_null, logical_operator, binary_operator, assignment_operator}
+use Rattle.mini_node.specs.Kinds.{binary, assignment, computed_member, is_logical, is_conditional, is_null, logical_operator, binary_operator, assignment_operator}
 use Rattle.mini_node.specs.Made.{assignment_is, logical_is, binary_is, conditional_is, null_is}
 use Rattle.mini_node.proofs.Equality.{tree_same, tree_itself}
 use Rattle.mini_terms.specs.Folds.{is_effect_free}
 use Rattle.mini_rows.specs.Lists.{sequence}
-use Rattle.mini_rows.specs.Choices.{argument, assign, is_grouped, joined, strictly, joining, asks_object, null_compared, ended, deciding, may_choose, Row39, Row38, Row35, Row35Member, Row45, Row45Member, Row38Last, Key, member_of, Row46Equal, Row46Unequal, Row44, Row13Both, LighterRow, OwnRow, ChoiceRow, ChoiceContracts}
+use Rattle.mini_rows.specs.Choices.{argument, assign, is_grouped, joined, strictly, joining, asks_object, null_compared, ended, deciding, may_choose, Row39, Row38, Row35, Row35Member, Row45, Row45Member, Row38Last, Key, member_of, Row46Equal, Row46Unequal, Row44, Row13Both, Row45Indexed, LighterRow, OwnRow, ChoiceRow, ChoiceContracts}
 use Rattle.mini_rows.proofs.ChoiceCalls.{calls_lighter}
+use Rattle.mini_rows.proofs.ChoiceIndexed.{indexed_lighter}
 use Rattle.mini_rows.proofs.ChoiceWeights as choice_weights
 use Rattle.mini_tree.specs.Rule.{Applied}
 use Rattle.mini_tree.proofs.Reaching.{moves_once}
@@ -57,6 +58,7 @@ use Rattle.mini_choices.proofs.ObjectTest.{object_row, object_passes, before_pas
 use Rattle.mini_choices.proofs.Spines.{logical_kind_is, spine_of, leftmost_joined}
 use Rattle.mini_choices.proofs.HeldBranches.{held_row, held_passes}
 use Rattle.mini_choices.proofs.Calls.{called_row, called_passes}
+use Rattle.mini_choices.proofs.AssignedIndexed.{indexed_row, indexed_passes}
 use Rattle.mini_choices.specs.Choices.{first_of, operands_written, written, Gives, Rests, WrittenIsRow, UnwrittenRests}
 
 -- ---- 39
@@ -289,6 +291,9 @@ sure s n w r = record { row = inl r; lighter = choice_weights.lighter s n w r }
 called_lighter : (s : Seat) (n w : Tree) → Row44 n w → ChoiceContracts (Expr s) n w
 called_lighter s n w r = record { row = inr (inr (inr (inr (inl r)))); lighter = calls_lighter s n w r }
 
+index_lighter : (s : Seat) (n w : Tree) → Row45Indexed s n w → ChoiceContracts (Expr s) n w
+index_lighter s n w r = record { row = inr (inr (inr (inr (inr (inr (inr (inr r))))))); lighter = indexed_lighter s n w r }
+
 module _ (s : Seat) (n w : Tree) where
   assigned_lighter : Row45 s n (branches.assigned n) ⊎ Row45Member s n (branches.assigned n) → ChoiceContracts (Expr s) n (branches.assigned n)
   assigned_lighter (inl r) = sure s n (branches.assigned n) (inr (inr (inr (inr (inr (inl r))))))
@@ -300,8 +305,9 @@ module _ (s : Seat) (n w : Tree) where
       (tried s n w (branches.is_own_if_unequal n) (logical Coalesce (part n 1) (part n 2)) (branches.consequent_written s n) (λ h. sure s n (logical Coalesce (part n 1) (part n 2)) (inr (inr (inr (inr (inl (unequal_row n h)))))))
       (tried s n w (branches.is_own_consequent s n) (logical Or (part n 0) (part n 2)) (branches.alternate_written s n) (own_or_row s n)
       (tried s n w (branches.is_own_alternate s n) (logical And (part n 0) (part n 1)) (branches.assignment_written s n) (own_and_row s n)
-      (tried s n w (branches.is_seated s && branches.assigns_either n) (branches.assigned n) (branches.called_written n) (λ h. assigned_lighter (chosen_row s n h))
-      (tried s n w (calls_either n) (called n) None (λ h. called_lighter s n (called n) (called_row n h)) (λ e. absurd (cc e)))))))
+      (tried s n w (branches.is_seated s && branches.assigns_either n) (branches.assigned n) (branches.indexed_written s n) (λ h. assigned_lighter (chosen_row s n h))
+      (tried s n w (branches.is_seated s && branches.indexes_either n) (branches.assigned n) (branches.called_written n) (λ h. index_lighter s n (branches.assigned n) (indexed_row s n h))
+      (tried s n w (calls_either n) (called n) None (λ h. called_lighter s n (called n) (called_row n h)) (λ e. absurd (cc e))))))))
 
 module _ (s : Seat) (t : Tree) where
   by_equal : branches.is_own_if_equal t ≡ true → is_some (branches.written s t) ≡ true
@@ -326,10 +332,16 @@ module _ (s : Seat) (t : Tree) where
   by_alternate h = after_consequent (first_true (branches.is_own_alternate s t) (logical And (part t 0) (part t 1)) (branches.assignment_written s t) h)
 
   by_assignment : branches.is_seated s && branches.assigns_either t ≡ true → is_some (branches.written s t) ≡ true
-  by_assignment h = after_consequent (later_true (branches.is_own_alternate s t) (logical And (part t 0) (part t 1)) (branches.assignment_written s t) (first_true (branches.is_seated s && branches.assigns_either t) (branches.assigned t) (branches.called_written t) h))
+  by_assignment h = after_consequent (later_true (branches.is_own_alternate s t) (logical And (part t 0) (part t 1)) (branches.assignment_written s t) (first_true (branches.is_seated s && branches.assigns_either t) (branches.assigned t) (branches.indexed_written s t) h))
+
+  after_assignment : is_some (branches.indexed_written s t) ≡ true → is_some (branches.written s t) ≡ true
+  after_assignment h = after_consequent (later_true (branches.is_own_alternate s t) (logical And (part t 0) (part t 1)) (branches.assignment_written s t) (later_true (branches.is_seated s && branches.assigns_either t) (branches.assigned t) (branches.indexed_written s t) h))
+
+  by_indexed : branches.is_seated s && branches.indexes_either t ≡ true → is_some (branches.written s t) ≡ true
+  by_indexed h = after_assignment (first_true (branches.is_seated s && branches.indexes_either t) (branches.assigned t) (branches.called_written t) h)
 
   by_called : calls_either t ≡ true → is_some (branches.written s t) ≡ true
-  by_called h = after_consequent (later_true (branches.is_own_alternate s t) (logical And (part t 0) (part t 1)) (branches.assignment_written s t) (later_true (branches.is_seated s && branches.assigns_either t) (branches.assigned t) (branches.called_written t) (first_true (calls_either t) (called t) None h)))
+  by_called h = after_assignment (later_true (branches.is_seated s && branches.indexes_either t) (branches.assigned t) (branches.called_written t) (first_true (calls_either t) (called t) None h))
 
 or_true : (a b : Bool) → b ≡ true → (a || b) ≡ true
 or_true true b e = refl
@@ -505,7 +517,11 @@ passes s n w (inr (inr (inl r))) small less = held_there s n (held_passes s n w 
 passes s n w (inr (inr (inr (inl r)))) small less = chain_there s n (chain_passes s n w r)
 passes s n w (inr (inr (inr (inr (inr (inl r)))))) small less = folded_there s n (folded_passes s n w r)
 passes s n w (inr (inr (inr (inr (inr (inr (inl r))))))) small less = folded_there s n (end_passes s n w r small less)
-passes s n w (inr (inr (inr (inr (inr (inr (inr r))))))) small less = both_there s n w r (both_passes s n w r small less)
+passes s n w (inr (inr (inr (inr (inr (inr (inr (inl r)))))))) small less = both_there s n w r (both_passes s n w r small less)
+passes s n w (inr (inr (inr (inr (inr (inr (inr (inr r)))))))) small less =
+    let t : Tree = computed_member (identifier r.name) r.key in
+    let u : Tree = conditional r.a (assignment Assign t r.b) (assignment Assign t r.c) in
+    ap (λ t. is_some (written s t)) r.shape ∙ in_branches s u (by_indexed s u (indexed_passes s n w r))
 passes s n w (inr (inr (inr (inr (inl r))))) small less =
     let t : Tree = conditional r.a (call false (identifier r.name) (argument r.is_spread r.p ▸ r.others)) (call false (identifier r.name) (argument r.is_spread r.q ▸ r.others)) in
     ap (λ t. is_some (written s t)) r.shape ∙ in_branches s t (by_called s t (called_passes n w r))

@@ -8,6 +8,7 @@ pub mod BothSides
 pub mod CombinedAssignment
 pub mod LogicalSequence
 pub mod Calls
+pub mod AssignedIndexed
 pub mod OptionalChains
 pub mod ChainLinks
 pub mod NullishComparison

@@ -16,7 +16,7 @@ use Rattle.mini_node.specs.Children.{part}
 use Rattle.mini_node.specs.Kinds.{assignment, assignment_operator, is_conditional, is_null, binary_operator}
 use Rattle.mini_terms.specs.Folds.{is_effect_free}
 use Rattle.mini_rows.specs.Choices.{may_choose}
-use Rattle.mini_choices.specs.Assigning.{is_plain, is_operator, is_same_name, is_same_member, is_declared}
+use Rattle.mini_choices.specs.Assigning.{is_plain, is_operator, is_same_name, is_same_member, is_same_indexed, is_declared}
 use Rattle.mini_choices.specs.Calling.{calls_either, called}
 
 -- ---- 45
@@ -34,6 +34,14 @@ assigns_alike None a t u = false
 -- `a ? x = b : x = c`, `a ? x += b : x += c`, or `a ? x.k = b : x.k = c`
 abbrev pub assigns_either : Tree → Bool
 assigns_either t = is_conditional t && assigns_alike (assignment_operator (part t 1)) (part t 0) (part t 1) (part t 2)
+
+-- both are assignments to one member of a name by `=`, whose key in brackets has no effect
+abbrev pub assigns_indexed : Tree → Tree → Bool
+assigns_indexed t u = is_plain (assignment_operator t) && (is_plain (assignment_operator u) && is_same_indexed (part t 0) (part u 0))
+
+-- `a ? x[k] = b : x[k] = c`, where evaluating a has no effect
+abbrev pub indexes_either : Tree → Bool
+indexes_either t = is_conditional t && (assigns_indexed (part t 1) (part t 2) && is_effect_free (part t 0))
 
 -- an assignment stands there as a conditional does
 abbrev pub is_seated : Seat → Bool
@@ -84,8 +92,11 @@ is_own_alternate s t = is_conditional t && (is_same_name (part t 0) (part t 2) &
 abbrev pub called_written : Tree → Option Tree
 called_written t = if calls_either t then Some (called t) else None
 
+abbrev pub indexed_written : Seat → Tree → Option Tree
+indexed_written s t = if is_seated s && indexes_either t then Some (assigned t) else called_written t
+
 abbrev pub assignment_written : Seat → Tree → Option Tree
-assignment_written s t = if is_seated s && assigns_either t then Some (assigned t) else called_written t
+assignment_written s t = if is_seated s && assigns_either t then Some (assigned t) else indexed_written s t
 
 abbrev pub alternate_written : Seat → Tree → Option Tree
 alternate_written s t = if is_own_alternate s t then Some (logical And (part t 0) (part t 1)) else assignment_written s t

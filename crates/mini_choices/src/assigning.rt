@@ -5,7 +5,7 @@ ghost use Rattle.std.specs.Prelude.{◌≡◌, true};
 ghost use Rattle.mini_model.specs.Tree.{children, count};
 ghost use Rattle.mini_node.specs.Children.{names};
 ghost use Rattle.mini_node.specs.Kinds.{assignment_operator as its_operator};
-ghost use Rattle.mini_choices.specs.Assigning.{is_plain, is_property as is_it_property, is_written_key as is_it_written_key, has_written_key as has_it_written_key, is_member_of_name as is_it_member_of_name, is_same_target as is_it_same_target, is_same_member as is_it_same_member, assigns_name as it_assigns_name, is_same_operator as is_it_same_operator, is_operator, is_same_name as is_it_same_name, is_declared_in as is_it_declared_in, is_declared as is_it_declared};
+ghost use Rattle.mini_choices.specs.Assigning.{is_plain, is_property as is_it_property, is_written_key as is_it_written_key, has_written_key as has_it_written_key, is_member_of_name as is_it_member_of_name, is_same_target as is_it_same_target, is_same_member as is_it_same_member, assigns_name as it_assigns_name, is_same_operator as is_it_same_operator, is_operator, is_same_name as is_it_same_name, is_indexed_name as is_it_indexed_name, is_same_indexed as is_it_same_indexed, is_declared_in as is_it_declared_in, is_declared as is_it_declared};
 ghost use Rattle.mini_choices.specs.MinimizeNormalAssignmentToCombinedLogicalAssignment.{marked, may_write_in, writes_name as it_writes_name};
 
 use mini_context::Scopes;
@@ -14,6 +14,7 @@ use mini_node::{
     Node, assignment_operator, is_computed_member, is_identifier, is_same_tree, is_static_member,
     number, string,
 };
+use mini_terms::has_no_effect;
 
 /// `x = b`
 pub fn assigns_name(node: &Node) -> bool
@@ -92,6 +93,23 @@ pub fn is_same_member(first: &Node, second: &Node) -> bool
     ensures { result ≡ is_it_same_member first.now second.now }
 {
     is_member_of_name(first) && is_same_tree(first, second)
+}
+
+// `x[k]`, where a scope declares x and k has no effect.
+fn is_indexed_name(node: &Node) -> bool
+    ensures { result ≡ is_it_indexed_name node.now }
+{
+    is_computed_member(node)
+        && has_no_effect(node.child(1))
+        && is_identifier(node.child(0))
+        && is_declared(node.child(0))
+}
+
+/// Whether they are two members of names with keys in brackets that have no effect, and one.
+pub fn is_same_indexed(first: &Node, second: &Node) -> bool
+    ensures { result ≡ is_it_same_indexed first.now second.now }
+{
+    is_indexed_name(first) && is_same_tree(first, second)
 }
 
 /// Whether they are two names, or members of names with keys that are written out, and one.

@@ -42,6 +42,7 @@ use Rattle.mini_rows.proofs.ArrangedExpressions.{expressions_arranged, expressio
 use Rattle.mini_rows.proofs.ArrangedLawful.{kept_is_lawful}
 use Rattle.mini_rows.proofs.ChainLawful.{chain_row_kept}
 use Rattle.mini_rows.proofs.ChoiceCalls.{calls_kept}
+use Rattle.mini_rows.proofs.ChoiceIndexed.{indexed_kept}
 use Rattle.mini_rows.proofs.ChoiceSpines.{Stand, behind, themselves, filled_spine, spine, apart, first_two, spines_rearranged}
 use Rattle.mini_rows.proofs.ChoiceMeaning.{choices_same}
 use Rattle.mini_rows.proofs.ChoiceShapes.{row_fits, row_asked, row_slot}
@@ -351,7 +352,8 @@ expression_kept q n w (inr (inr (inr (inl r)))) = chain_row_kept q n w r (undefi
 expression_kept q n w (inr (inr (inr (inr (inl r))))) = calls_kept q n w r
 expression_kept q n w (inr (inr (inr (inr (inr (inl r)))))) = chains_kept q n w r
 expression_kept q n w (inr (inr (inr (inr (inr (inr (inl r))))))) = end_kept q n w r
-expression_kept q n w (inr (inr (inr (inr (inr (inr (inr r))))))) = both_sides_kept q n w r
+expression_kept q n w (inr (inr (inr (inr (inr (inr (inr (inl r)))))))) = both_sides_kept q n w r
+expression_kept q n w (inr (inr (inr (inr (inr (inr (inr (inr r)))))))) = indexed_kept q n w r
 
 kept : (p : Position) (n w : Tree) → ChoiceRow p n w → KeptAt p n w
 kept (Expr q) n w r = expression_kept q n w r

@@ -42,6 +42,7 @@ use Rattle.mini_rows.proofs.ChainRuns.{next, no_names, no_kids}
 use Rattle.mini_rows.proofs.ChoiceCalls.{calls_same}
 use Rattle.mini_rows.proofs.ChoiceLast.{last_same}
 use Rattle.mini_rows.proofs.ChoiceMembers.{member_same, member_chosen_same}
+use Rattle.mini_rows.proofs.ChoiceIndexed.{indexed_same}
 use Rattle.mini_rows.proofs.ChoiceFree.{free_told, goes_on_chosen, begins_alike}
 use Rattle.mini_rows.proofs.SpellAlike.{SameTree}
 use Rattle.mini_rows.proofs.SpellMeaning.{tree_same, same_by}
@@ -628,7 +629,8 @@ means_same (Expr s) n w (inr (inr (inr (inl r)))) = chain_row_same s n w r
 means_same (Expr s) n w (inr (inr (inr (inr (inl r))))) = tree_same s n w (calls_same n w r)
 means_same (Expr s) n w (inr (inr (inr (inr (inr (inl r)))))) = chains_same s n w r
 means_same (Expr s) n w (inr (inr (inr (inr (inr (inr (inl r))))))) = end_same s n w r
-means_same (Expr s) n w (inr (inr (inr (inr (inr (inr (inr r))))))) = tree_same s n w (both_sides_same n w r)
+means_same (Expr s) n w (inr (inr (inr (inr (inr (inr (inr (inl r)))))))) = tree_same s n w (both_sides_same n w r)
+means_same (Expr s) n w (inr (inr (inr (inr (inr (inr (inr (inr r)))))))) = tree_same s n w (indexed_same s n w r)
 means_same p n w r = absurd r
 
 reads : (p : Position) (n w : Tree) → ChoiceRow p n w → summary n ≡ summary w
@@ -639,7 +641,8 @@ reads (Expr s) n w (inr (inr (inr (inl r)))) = chain_row_read s n w r
 reads (Expr s) n w (inr (inr (inr (inr (inl r))))) = (calls_same n w r).read
 reads (Expr s) n w (inr (inr (inr (inr (inr (inl r)))))) = chains_read s n w r
 reads (Expr s) n w (inr (inr (inr (inr (inr (inr (inl r))))))) = end_read s n w r
-reads (Expr s) n w (inr (inr (inr (inr (inr (inr (inr r))))))) = (both_sides_same n w r).read
+reads (Expr s) n w (inr (inr (inr (inr (inr (inr (inr (inl r)))))))) = (both_sides_same n w r).read
+reads (Expr s) n w (inr (inr (inr (inr (inr (inr (inr (inr r)))))))) = (indexed_same s n w r).read
 reads p n w r = absurd r
 
 pub choices_same : MeansSame ChoiceContracts

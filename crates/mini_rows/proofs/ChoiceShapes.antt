@@ -19,12 +19,14 @@ use Rattle.mini_kept.proofs.Bools.{left, both}
 use Rattle.mini_kept.proofs.Expressions.{expression, ThreeFit, of_conditional, TakesExpressionIn, TakesExpression, expression_taken, three_fit, two_fit}
 use Rattle.mini_model.specs.Paths.{append}
 use Rattle.mini_rows.specs.Lists.{sequence}
+use Rattle.mini_node.specs.Kinds.{computed_member}
 use Rattle.mini_rows.specs.Spellings.{binary, assignment}
-use Rattle.mini_rows.specs.Choices.{Key, Named, Spelled, Numbered, member_of, assign, joined, strictly, loosely, joining, asks_object, null_compared, held, ended, deciding, ChoiceRow, pair, argument, Row44, Row13Both, LighterRow, OwnRow, HeldRow}
+use Rattle.mini_rows.specs.Choices.{Key, Named, Spelled, Numbered, member_of, assign, joined, strictly, loosely, joining, asks_object, null_compared, held, ended, deciding, ChoiceRow, pair, argument, Row44, Row13Both, Row45Indexed, LighterRow, OwnRow, HeldRow}
 use Rattle.mini_rows.proofs.ChainLinkLawful.{chains_fit, chains_asked, chains_slot}
 use Rattle.mini_rows.proofs.ChainEnds.{end_fits, end_asked, end_slot}
 use Rattle.mini_rows.proofs.ChainLawful.{chain_row_fits, chain_row_asked, chain_row_slot}
 use Rattle.mini_rows.proofs.ChoiceCalls.{calls_fit}
+use Rattle.mini_rows.proofs.ChoiceIndexed.{indexed_fit}
 use Rattle.mini_rows.proofs.SequenceEnds.{last_fits}
 use Rattle.mini_rows.proofs.SpellShapes.{Form, a_binary, an_assignment, a_logical, a_conditional, shaped, Kind, Alone, Linked, Ending, Assigned, Nowhere, kind_of, kind_in, filled, fits_is, Formed, formed_asked, formed_slot}
 
@@ -261,7 +263,15 @@ module _ (strict : Bool) where
     called_fits : (n w : Tree) → Row44 n w → Here n → Here w
     called_fits n w r = for_choice n w _ _ _ r.shape (λ x y z. subst Fits (sym r.written) (calls_fit strict r.name r.is_spread r.a r.p r.q r.others r.first r.second x y z))
 
+    member_fits : (q : Seat) (n w : Tree) → Row45Indexed q n w → Here n → Here w
+    member_fits q n w r = for_choice n w _ _ _ r.shape (λ x y z. subst Fits (sym r.written) (indexed_fit strict (computed_member (identifier r.name) r.key) r.a r.b r.c x y z))
+
 -- ---- what a parent asks
+
+member_formed : (q : Seat) (n w : Tree) → Row45Indexed q n w → Formed n w
+member_formed q n w r =
+    let t : Tree = computed_member (identifier r.name) r.key in
+    record { first = a_conditional; second = an_assignment Assign; parts = r.a ▸ assignment Assign t r.b ▸ assignment Assign t r.c ▸ none; others = t ▸ conditional r.a r.b r.c ▸ none; read = r.shape; made = r.written; optional = λ x. absurd (cc x) }
 
 row_formed : (q : Seat) (n w : Tree) → LighterRow q n w → Formed n w
 row_formed q n w (inl r) = record { first = a_logical r.operator; second = a_logical r.operator; parts = r.a ▸ joined r.operator r.b (r.last ▸ r.others) ▸ none; others = joined r.operator (logical r.operator r.a r.b) r.others ▸ r.last ▸ none; read = r.shape; made = r.written; optional = λ x. absurd (cc x) }
@@ -339,7 +349,8 @@ row_fits (Expr q) n w (inr (inr (inr (inl r)))) strict s e = chain_row_fits q n 
 row_fits (Expr q) n w (inr (inr (inr (inr (inl r))))) strict s e = called_fits strict s n w r e
 row_fits (Expr q) n w (inr (inr (inr (inr (inr (inl r)))))) strict s e = chains_fit q n w r strict s e
 row_fits (Expr q) n w (inr (inr (inr (inr (inr (inr (inl r))))))) strict s e = end_fits q n w r strict s e
-row_fits (Expr q) n w (inr (inr (inr (inr (inr (inr (inr r))))))) strict s e = both_sides_fit strict s n w r e
+row_fits (Expr q) n w (inr (inr (inr (inr (inr (inr (inr (inl r)))))))) strict s e = both_sides_fit strict s n w r e
+row_fits (Expr q) n w (inr (inr (inr (inr (inr (inr (inr (inr r)))))))) strict s e = member_fits strict s q n w r e
 row_fits p n w r strict s e = absurd r
 
 pub row_asked : (p : Position) (n w : Tree) → ChoiceRow p n w → AskedAlike p n w
@@ -350,7 +361,8 @@ row_asked (Expr q) n w (inr (inr (inr (inl r)))) = chain_row_asked q n w r
 row_asked (Expr q) n w (inr (inr (inr (inr (inl r))))) = choosing_asked (Expr q) n w (called_choosing n w r)
 row_asked (Expr q) n w (inr (inr (inr (inr (inr (inl r)))))) = chains_asked q n w r
 row_asked (Expr q) n w (inr (inr (inr (inr (inr (inr (inl r))))))) = end_asked q n w r
-row_asked (Expr q) n w (inr (inr (inr (inr (inr (inr (inr r))))))) = both_sides_asked (Expr q) n w r
+row_asked (Expr q) n w (inr (inr (inr (inr (inr (inr (inr (inl r)))))))) = both_sides_asked (Expr q) n w r
+row_asked (Expr q) n w (inr (inr (inr (inr (inr (inr (inr (inr r)))))))) = formed_asked (Expr q) n w (member_formed q n w r)
 row_asked p n w r = absurd r
 
 pub row_slot : (p : Position) (n w : Tree) → ChoiceRow p n w → (strict : Bool) (s : Slot) → fits strict s n ≡ true → is_body_slot p s ≡ true
@@ -361,5 +373,6 @@ row_slot (Expr q) n w (inr (inr (inr (inl r)))) = chain_row_slot q n w r
 row_slot (Expr q) n w (inr (inr (inr (inr (inl r))))) = formed_slot (Expr q) n n (chosen_formed n w (called_choosing n w r))
 row_slot (Expr q) n w (inr (inr (inr (inr (inr (inl r)))))) = chains_slot q n w r
 row_slot (Expr q) n w (inr (inr (inr (inr (inr (inr (inl r))))))) = end_slot q n w r
-row_slot (Expr q) n w (inr (inr (inr (inr (inr (inr (inr r))))))) = formed_slot (Expr q) n n (both_sides_formed n w r)
+row_slot (Expr q) n w (inr (inr (inr (inr (inr (inr (inr (inl r)))))))) = formed_slot (Expr q) n n (both_sides_formed n w r)
+row_slot (Expr q) n w (inr (inr (inr (inr (inr (inr (inr (inr r)))))))) = formed_slot (Expr q) n w (member_formed q n w r)
 row_slot p n w r = absurd r

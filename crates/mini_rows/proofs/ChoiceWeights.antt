@@ -192,7 +192,7 @@ computing_member_falls o c h s x k b = absurd (cc h)
 
 -- 45: a name and its `=` go
 
-loose_marks : (s : Seat) (o : AssignmentOperator) (os ps : List Outline) → nat_eq s.level conditional_level ≡ false → place_weight (Expr s) (shape.AssignmentExpression o) os ≤ place_weight (Expr s) shape.ConditionalExpression ps
+pub loose_marks : (s : Seat) (o : AssignmentOperator) (os ps : List Outline) → nat_eq s.level conditional_level ≡ false → place_weight (Expr s) (shape.AssignmentExpression o) os ≤ place_weight (Expr s) shape.ConditionalExpression ps
 loose_marks s o os ps e = let plain = no_awkward s.eq_left s.cond_test s.lifted in let less = parens (nat_lt 1 s.level) (nat_lt 2 s.level) refl refl in omega (arith, plain, less)
   where
     parens : (b c : Bool) → nat_lt 1 s.level ≡ b → nat_lt 2 s.level ≡ c → (if b || (false || ((s.access && false) || (s.new_callee && false))) then 4 else 0) ≤ (if c || (false || ((s.access && false) || (s.new_callee && false))) then 4 else 0)
@@ -433,7 +433,8 @@ outline_by_row (Expr s) n w (inr (inr (inl r))) = held_outline n w r
 outline_by_row (Expr s) n w (inr (inr (inr (inr (inl r))))) = ap outline r.shape ∙ sym (ap outline r.written)
 outline_by_row (Expr s) n w (inr (inr (inr (inr (inr (inl r)))))) = chains_outline s n w r
 outline_by_row (Expr s) n w (inr (inr (inr (inr (inr (inr (inl r))))))) = end_outline s n w r
-outline_by_row (Expr s) n w (inr (inr (inr (inr (inr (inr (inr r))))))) = ap outline r.shape ∙ sym (ap outline r.written)
+outline_by_row (Expr s) n w (inr (inr (inr (inr (inr (inr (inr (inl r)))))))) = ap outline r.shape ∙ sym (ap outline r.written)
+outline_by_row (Expr s) n w (inr (inr (inr (inr (inr (inr (inr (inr r)))))))) = ap outline r.shape ∙ sym (ap outline r.written)
 outline_by_row (Expr s) n w (inr (inr (inr (inl r)))) = chain_outline r.equal r.name r.missing (spine false (identifier r.name) r.last r.others) (spine true (identifier r.name) r.last r.others) n w r.shape r.written
 outline_by_row p n w r = absurd r
 

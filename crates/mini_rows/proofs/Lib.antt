@@ -114,6 +114,7 @@ mod ChoiceItems
 mod ChoiceFree
 pub mod ChoiceWeights
 pub mod ChoiceCalls
+pub mod ChoiceIndexed
 pub mod ChoiceMeaning
 pub mod ChoiceMembers
 pub mod ChoiceLast

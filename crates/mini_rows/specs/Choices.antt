@@ -383,6 +383,21 @@ pub record Row13Both (n w : Tree) : Type 0 where
   pub shape : n ≡ logical operator left right
   pub written : w ≡ pair left right
 
+-- 45: `a ? x[k] = b : x[k] = c` becomes `x[k] = a ? b : c`, where a scope declares x, and neither a nor k has an effect: what is assigned to
+-- is known before the test as after it
+pub record Row45Indexed (s : Seat) (n w : Tree) : Type 0 where
+  pub a : Tree
+  pub name : Name
+  pub key : Tree
+  pub b : Tree
+  pub c : Tree
+  pub declared : is_none name.symbol ≡ false
+  pub effect_free : is_effect_free a ≡ true
+  pub idle : is_effect_free key ≡ true
+  pub seated : nat_eq s.level conditional_level ≡ false
+  pub shape : n ≡ conditional a (assignment assigning.Assign (computed_member (identifier name) key) b) (assignment assigning.Assign (computed_member (identifier name) key) c)
+  pub written : w ≡ assignment assigning.Assign (computed_member (identifier name) key) (conditional a b c)
+
 -- rows of what is lighter in every seat
 abbrev pub LighterRow : Seat → Tree → Tree → Type 0
 LighterRow s n w = Row39 n w ⊎ (Row38 n w ⊎ (Row35 n w ⊎ (Row46Equal n w ⊎ (Row46Unequal n w ⊎ (Row45 s n w ⊎ (Row37 n w ⊎ (Row37After n w ⊎ (Row57 n w ⊎ (Row57Null n w ⊎ (Row35Member n w ⊎ (Row45Member s n w ⊎ Row38Last s n w)))))))))))
@@ -397,7 +412,7 @@ HeldRow n w = Row42And n w ⊎ (Row42Or n w ⊎ (Row43Or n w ⊎ (Row43And n w �
 
 -- a row of choices reads n as w at this place
 abbrev pub ChoiceRow : Position → Tree → Tree → Type 0
-ChoiceRow (Expr s) n w = LighterRow s n w ⊎ (OwnRow n w ⊎ (HeldRow n w ⊎ (Row46Chain s n w ⊎ (Row44 n w ⊎ (ChainRow s n w ⊎ (Row10 n w ⊎ Row13Both n w))))))
+ChoiceRow (Expr s) n w = LighterRow s n w ⊎ (OwnRow n w ⊎ (HeldRow n w ⊎ (Row46Chain s n w ⊎ (Row44 n w ⊎ (ChainRow s n w ⊎ (Row10 n w ⊎ (Row13Both n w ⊎ Row45Indexed s n w)))))))
 ChoiceRow _ n w = ⊥
 
 -- what it writes, where it weighs less
@@ -411,3 +426,6 @@ ChoicesLighter = (s : Seat) (n w : Tree) → LighterRow s n w → weight (Expr s
 
 abbrev pub CallsLighter : Type 0
 CallsLighter = (s : Seat) (n w : Tree) → Row44 n w → weight (Expr s) w < weight (Expr s) n
+
+abbrev pub IndexedLighter : Type 0
+IndexedLighter = (s : Seat) (n w : Tree) → Row45Indexed s n w → weight (Expr s) w < weight (Expr s) n

@@ -3,7 +3,7 @@
 ghost use Rattle.mini_kept.specs.Lawful.{Lawful};
 ghost use Rattle.mini_laws.specs.Rewritten.{MeansSame};
 ghost use Rattle.mini_laws.specs.Weights.{Lightens};
-ghost use Rattle.mini_rows.specs.Choices.{ChoiceContracts, ChoicesLighter, CallsLighter};
+ghost use Rattle.mini_rows.specs.Choices.{ChoiceContracts, ChoicesLighter, CallsLighter, IndexedLighter};
 
 /// What a row of choices writes means the same wherever the expression stands, and a parent reads it alike.
 pub fn choices_mean_the_same()
@@ -15,6 +15,7 @@ pub fn choices_mean_the_same()
 pub fn choices_are_lighter()
     ensures row { ChoicesLighter }
     ensures called { CallsLighter }
+    ensures indexed { IndexedLighter }
     ensures step { Lightens ChoiceContracts }
 {}
 

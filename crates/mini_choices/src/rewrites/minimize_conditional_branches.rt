@@ -10,9 +10,9 @@ ghost use Rattle.mini_node.specs.Children.{part};
 ghost use Rattle.mini_node.specs.Kinds.{assignment_operator as operator_of, binary_operator as its_operator};
 ghost use Rattle.mini_rows.specs.Choices.{may_choose as may_it_choose};
 ghost use Rattle.mini_choices.specs.Assigning.{is_plain};
-ghost use Rattle.mini_choices.specs.MinimizeConditionalBranches.{may_take as may_it_take, assigns_alike as they_assign_alike, assigns_either as it_assigns_either, is_seated as is_it_seated, assigned as assigned_of, is_equal_in, is_unequal_in, is_beside_null as is_it_beside_null, is_own_if_equal as is_it_own_if_equal, is_own_if_unequal as is_it_own_if_unequal, is_own_consequent as is_it_own_consequent, is_own_alternate as is_it_own_alternate, written};
+ghost use Rattle.mini_choices.specs.MinimizeConditionalBranches.{may_take as may_it_take, assigns_alike as they_assign_alike, assigns_either as it_assigns_either, assigns_indexed as they_assign_indexed, indexes_either as it_indexes_either, is_seated as is_it_seated, assigned as assigned_of, is_equal_in, is_unequal_in, is_beside_null as is_it_beside_null, is_own_if_equal as is_it_own_if_equal, is_own_if_unequal as is_it_own_if_unequal, is_own_consequent as is_it_own_consequent, is_own_alternate as is_it_own_alternate, written};
 
-use crate::assigning::{assigns_by, is_declared, is_same_member, is_same_name};
+use crate::assigning::{assigns_by, is_declared, is_same_indexed, is_same_member, is_same_name};
 use crate::calling::{called, calls_either};
 use mini_model::{AssignmentOperator, BinaryOperator, LogicalOperator, OutOfMemory, Seat};
 use mini_node::{
@@ -72,6 +72,35 @@ fn assigns_either(node: &Node) -> bool
     ensures { result ≡ it_assigns_either node.now }
 {
     is_conditional(node) && assigns_alike(node.child(0), node.child(1), node.child(2))
+}
+
+// Whether it is an assignment by `=`.
+fn assigns_plainly(node: &Node) -> bool
+    ensures kind { result ≡ is_plain (operator_of node.now) }
+    ensures parts { result ≡ true → count (children node.now) ≡ 2 }
+{
+    match assignment_operator(node) {
+        Some(AssignmentOperator::Assign) => true,
+        _ => false,
+    }
+}
+
+// Whether both are assignments to one member of a name by `=`, whose key in brackets has no effect.
+fn assigns_indexed(first: &Node, second: &Node) -> bool
+    ensures { result ≡ they_assign_indexed first.now second.now }
+{
+    assigns_plainly(first)
+        && assigns_plainly(second)
+        && is_same_indexed(first.child(0), second.child(0))
+}
+
+// `a ? x[k] = b : x[k] = c`, where evaluating a has no effect
+fn indexes_either(node: &Node) -> bool
+    ensures { result ≡ it_indexes_either node.now }
+{
+    is_conditional(node)
+        && assigns_indexed(node.child(1), node.child(2))
+        && has_no_effect(node.child(0))
 }
 
 // Whether an assignment stands there as a conditional does.
@@ -216,6 +245,8 @@ pub fn minimize_conditional_branches(
     } else if is_own_alternate(node, seat) {
         and_consequent(alloc, taken(alloc, node))?
     } else if is_seated(seat) && assigns_either(node) {
+        assigned(alloc, taken(alloc, node))?
+    } else if is_seated(seat) && indexes_either(node) {
         assigned(alloc, taken(alloc, node))?
     } else if calls_either(node) {
         called(alloc, taken(alloc, node))?
