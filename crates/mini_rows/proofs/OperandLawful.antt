@@ -92,7 +92,6 @@ joined_kept : (a : Tree) (s : List ℕ) (k : Tree) (t : List ℕ) → Tail k t �
 joined_kept a s k t (of_text is) q n w e f = expressions_arranged (record { trees = a ▸ none; lists = [] }) (under (Binary Addition) (under (Binary Addition) (part 0 ▹ under (String s) end ▹ end) ▹ under (String t) end ▹ end)) (under (Binary Addition) (part 0 ▹ under (String (s ++ t)) end ▹ end)) refl q n w (e ∙ ap (binary Addition (binary Addition a (text s))) is) f
 joined_kept a s k t (of_number m is same) q n w e f = expressions_arranged (record { trees = a ▸ none; lists = [] }) (under (Binary Addition) (under (Binary Addition) (part 0 ▹ under (String s) end ▹ end) ▹ under (Number m) end ▹ end)) (under (Binary Addition) (part 0 ▹ under (String (s ++ t)) end ▹ end)) refl q n w (e ∙ ap (binary Addition (binary Addition a (text s))) is) f
 joined_kept a s k t (of_null is same) q n w e f = expressions_arranged (record { trees = a ▸ none; lists = [] }) (under (Binary Addition) (under (Binary Addition) (part 0 ▹ under (String s) end ▹ end) ▹ under Null end ▹ end)) (under (Binary Addition) (part 0 ▹ under (String (s ++ t)) end ▹ end)) refl q n w (e ∙ ap (binary Addition (binary Addition a (text s))) is) f
-
 joined_kept a s k t (of_undefined is same) q n w e f =
     expressions_arranged_freely first_dropped (record { trees = undefined_name ▸ a ▸ none; lists = [] }) (tt, tt, (vanishes undefined_name refl, tt)) (under (Binary Addition) (under (Binary Addition) (part 1 ▹ under (String s) end ▹ end) ▹ part 0 ▹ end)) (under (Binary Addition) (part 1 ▹ under (String (s ++ t)) end ▹ end)) refl q n w (e ∙ ap (binary Addition (binary Addition a (text s))) is) f
 
