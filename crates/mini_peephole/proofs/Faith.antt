@@ -94,7 +94,7 @@ module _ (d : Data) (o : CompressOptions) (m : Minified) (t : Tree) (read : Acce
 
   pub faithful : early_fault t ≡ None → weight Elsewhere t < 2 ^ 32 → Faithful d o m
   faithful free light =
-      record { input = t; output = again.0; accepted = read; answered = written; faithful = no_redex o m t again.0 (let a = resolved_lighter t start.unresolved in omega (arith, a, light)) (any.faithful_trees (AllGives o) (AllRests o) o m t r.output again.0 free made) }
+      record { input = t; output = again.0; accepted = read; answered = written; faithful = no_redex o m t again.0 (let a = resolved_lighter t start.unresolved in omega (arith, a, light)) (any.faithful_trees none_steady (AllGives o) (AllRests o) o m t r.output again.0 free made) }
 
   settles : (b : Bool) → (b ≡ false → ⊥) → b ≡ true
   settles true f = refl
