@@ -36,9 +36,8 @@ use Rattle.mini_kept.proofs.BodyLists.{kept_itself}
 use Rattle.mini_kept.proofs.Fixed.{of_children}
 use Rattle.mini_kept.proofs.Quiet.{is_quiet, IsQuiet, no_names}
 use Rattle.mini_kept.proofs.Unplaced.{as_statement, as_body, all_as_body, body_same, free_same}
-use Rattle.mini_terms.specs.Parts.{leaves_nothing}
 use Rattle.mini_rows.specs.DeadCases.{Choices, no_choices, choice, cases_of, before_others, are_loose, hoists_nothing, hoist_nothing, left_all, left_cases, cases_go, running, rest_goes}
-use Rattle.mini_rows.specs.Lists.{switch, is_var_shape, is_unscoped_shape, is_unscoped, are_unscoped, declared_bare, left_behind}
+use Rattle.mini_rows.specs.Lists.{switch, is_var_shape, is_unscoped_shape, is_unscoped, are_unscoped, keeps_no_name, declared_bare, left_behind}
 use Rattle.mini_rows.specs.Loops.{is_body_shape}
 use Rattle.mini_rows.specs.Sketches.{Asked, AsValue}
 use Rattle.mini_rows.proofs.Arranging.{Below, sum_below}
@@ -53,10 +52,9 @@ use Rattle.mini_rows.proofs.ArrangedGather.{concat}
 use Rattle.mini_rows.proofs.DeadCaseParts.{AllQ, EachQ, Parted, cases_down, cases_up, append_all, second_all, left_each, run_all, earlier_each, later_each, gone_each, run_back, before_back, sum, each_sum, Summing, cases_sum, append_sum, left_sum, left_each_sum, run_sum, before_sum, all_of, each_of, append_of, left_each_of, run_of, before_of}
 use Rattle.mini_rows.proofs.ListKeptDeclarations.{names_if, names_are, declarations_are}
 use Rattle.mini_rows.proofs.ListKeptUnreached.{var, var_inner, var_fixed, var_declares, var_frames, var_bodies, var_once, var_targets, var_numbers, var_symbols, var_scoped, left_gives, loose}
-use Rattle.mini_rows.proofs.UnreachedNames.{hoisted_there}
+use Rattle.mini_rows.proofs.UnreachedNames.{nameless_vanishes, hoisted_there}
 use Rattle.mini_kept.proofs.Hoisting.{hoisted_scoped}
 use Rattle.mini_model.specs.Paths.{append}
-use Rattle.mini_rows.proofs.FoldLawful.{vanishes}
 
 -- ---- what holds of a list and of a case, and of the `switch` round them
 
@@ -294,7 +292,7 @@ left_declares t u = same_list (as_body false) (left_behind t) ∙ left_gives (as
 
 pub record CasesKept (cs ds : Choices) : Type 1 where
   pub forward : (Q : Tree → Type 0) → ((t : Tree) → Q t → AllQ Q (left_behind t)) → EachQ Q cs → EachQ Q ds
-  pub back : (Q : Tree → Type 0) → ((t : Tree) → leaves_nothing t ≡ true → Q t) → EachQ Q ds → EachQ Q cs
+  pub back : (Q : Tree → Type 0) → ((t : Tree) → keeps_no_name t ≡ true → Q t) → EachQ Q ds → EachQ Q cs
   pub sums : (m : Tree → ℕ) → ((t : Tree) → sum m (left_behind t) ≤ m t) → each_sum m ds ≤ each_sum m cs
   pub loose : are_loose cs ≡ true
   pub loose_later : are_loose ds ≡ true
@@ -317,7 +315,7 @@ module _ (d : Tree) (cs ds : Choices) (k : CasesKept cs ds) where
   onward : (Q : Tree → Type 0) → Parted Q → ((t : Tree) → Q t → Q (var (names_of declared.Hoisted t))) → Q old → Q new
   onward Q p f q = cases_up Q p ds (k.forward Q (λ t x. left_holds Q (names_of declared.Hoisted t) (f t x)) (cases_down Q p cs q))
 
-  backward : (Q : Tree → Type 0) → Parted Q → ((t : Tree) → leaves_nothing t ≡ true → Q t) → Q new → Q old
+  backward : (Q : Tree → Type 0) → Parted Q → ((t : Tree) → keeps_no_name t ≡ true → Q t) → Q new → Q old
   backward Q p f q = cases_up Q p cs (k.back Q f (cases_down Q p ds q))
 
   fewer : (m : Tree → ℕ) → Summing m → ((xs : List Name) → m (var xs) ≡ 0) → m new ≤ m old
@@ -327,8 +325,8 @@ module _ (d : Tree) (cs ds : Choices) (k : CasesKept cs ds) where
   unfolding has_inner
   inner_if b c e f q = let a = inner_below b value 0 (d ▸ (c ▸ none)) q in below_inner b value 0 (d ▸ (e ▸ none)) (a.0, (f a.1.0, tt))
 
-  free_inner : (b : Bool) (t : Tree) → leaves_nothing t ≡ true → InnerIf b AsValue t
-  free_inner b t h = ap (λ c. c || b) (vanishes t h).inner
+  free_inner : (b : Bool) (t : Tree) → keeps_no_name t ≡ true → InnerIf b AsValue t
+  free_inner b t h = ap (λ c. c || b) (nameless_vanishes t h).inner
 
   kept_inner : has_inner w ≡ has_inner n
   kept_inner =
@@ -340,8 +338,8 @@ module _ (d : Tree) (cs ds : Choices) (k : CasesKept cs ds) where
       let a = fixed_below x j value 0 (d ▸ (c ▸ none)) (subst (λ g. rank g ≤ j) (of_children shape.SwitchStatement [] 0 (d ▸ (c ▸ none)) x refl) q) in
       subst (λ g. rank g ≤ j) (sym (of_children shape.SwitchStatement [] 0 (d ▸ (e ▸ none)) x refl)) (below_fixed x j value 0 (d ▸ (e ▸ none)) (a.0, (f a.1.0, tt)))
 
-  free_fixed : (x : Variable) (j : ℕ) (t : Tree) → leaves_nothing t ≡ true → FixedBy x j AsValue t
-  free_fixed x j t h = subst (λ g. rank g ≤ j) (sym ((vanishes t h).fixed x)) (omega arith)
+  free_fixed : (x : Variable) (j : ℕ) (t : Tree) → keeps_no_name t ≡ true → FixedBy x j AsValue t
+  free_fixed x j t h = subst (λ g. rank g ≤ j) (sym ((nameless_vanishes t h).fixed x)) (omega arith)
 
   kept_fixed : (x : Variable) → fixed_by n x ≡ fixed_by w x
   kept_fixed x =

@@ -5,18 +5,17 @@ use Rattle.std.proofs.lemmas.Bool.{and_parts}
 use Rattle.std.proofs.lemmas.List.{append-nil}
 use Rattle.mini_model.specs.Paths.{append}
 use Rattle.mini_model.specs.Tree.{Tree, Trees, none, ◌▸◌, listed, is_absent}
-use Rattle.mini_terms.specs.Parts.{leaves_nothing}
 use Rattle.mini_rows.specs.Cases.{switch_case}
-use Rattle.mini_rows.specs.DeadCases.{Choices, no_choices, choice, cases_of, before_others, are_loose, hoists_nothing, is_plain_var, all_go, left_all, left_cases, test_goes, cases_go, are_ended, running, rest_goes}
-use Rattle.mini_rows.specs.Lists.{is_unscoped, are_unscoped, declares_nothing, left_behind}
+use Rattle.mini_rows.specs.DeadCases.{Choices, no_choices, choice, cases_of, before_others, are_loose, leaves_little, all_go, left_all, left_cases, test_goes, cases_go, are_ended, running, rest_goes}
+use Rattle.mini_rows.specs.Lists.{is_unscoped, are_unscoped, declares_nothing, keeps_no_name, left_behind}
 
 -- ---- what is said of parts that go
 
-pub test_left : (t : Tree) → test_goes t ≡ true → leaves_nothing t ≡ true
-test_left t h = (and_parts (leaves_nothing t) (is_absent t || declares_nothing t) h).0
+pub test_left : (t : Tree) → test_goes t ≡ true → keeps_no_name t ≡ true
+test_left t h = (and_parts (keeps_no_name t) (is_absent t || declares_nothing t) h).0
 
 pub record CaseGoes (t : Tree) (ss : Trees) (cs : Choices) : Type 0 where
-  pub test : leaves_nothing t ≡ true
+  pub test : keeps_no_name t ≡ true
   pub statements : all_go ss ≡ true
   pub others : cases_go cs ≡ true
 
@@ -98,13 +97,13 @@ module _ (Q : Tree → Type 0) where
   later_each no_choices cs x = x
   later_each (choice t ss bs) cs x = later_each bs cs x.1
 
-  -- and back, where it holds of all that leaves nothing behind
-  module _ (free : (t : Tree) → leaves_nothing t ≡ true → Q t) where
+  -- and back, where it holds of all that gives no name that can't be written
+  module _ (free : (t : Tree) → keeps_no_name t ≡ true → Q t) where
     pub gone_all : (ss : Trees) → all_go ss ≡ true → AllQ ss
     gone_all none h = tt
     gone_all (t ▸ ss) h =
-        let (own, rest) = and_parts (leaves_nothing t && (hoists_nothing t || is_plain_var t)) (all_go ss) h in
-        (free t (and_parts (leaves_nothing t) (hoists_nothing t || is_plain_var t) own).0, gone_all ss rest)
+        let (own, rest) = and_parts (keeps_no_name t && leaves_little t) (all_go ss) h in
+        (free t (and_parts (keeps_no_name t) (leaves_little t) own).0, gone_all ss rest)
 
     pub gone_each : (cs : Choices) → cases_go cs ≡ true → EachQ cs
     gone_each no_choices h = tt

@@ -6,19 +6,18 @@ use Rattle.std.proofs.lemmas.List.{append-nil}
 use Rattle.mini_model.specs.declared.kind.VariableDeclarationKind.TheVariants.{Var}
 use Rattle.mini_model.specs.declared.seat.StmtSeat.TheVariants as stmt_seat
 use Rattle.mini_model.specs.declared.shape.Shape.TheVariants as shape
-use Rattle.mini_model.specs.declared.place.Position.TheVariants.{Expr, Stmt, CommaList, Elsewhere}
+use Rattle.mini_model.specs.declared.place.Position.TheVariants.{Expr, Stmt, StatementList, CommaList, Elsewhere}
 use Rattle.mini_model.specs.declared.seat.StmtSeat.{StmtSeat}
 use Rattle.mini_model.specs.Paths.{append}
-use Rattle.mini_model.specs.Tree.{Tree, Trees, node, none, ◌▸◌, count}
+use Rattle.mini_model.specs.Tree.{Tree, Trees, node, none, ◌▸◌, count, listed}
 use Rattle.mini_model.specs.Position.{whole_seat, item_position}
 use Rattle.mini_model.specs.Weight.{outline, outlines, commas_weight, weight, weights}
 use Rattle.mini_laws.specs.declared.names.Declared.TheVariants as declared
 use Rattle.mini_laws.specs.DeclaredNames.{names_of, all_names}
-use Rattle.mini_terms.specs.Parts.{leaves_nothing}
-use Rattle.mini_rows.specs.DeadCases.{Known, known, Choices, no_choices, choice, cases_of, before_others, switch_over, hoists_nothing, are_plain_declarators, is_plain_var, all_go, left_all, left_cases, test_goes, cases_go, are_ended, running, rest_goes, are_several, DeadCaseRow}
-use Rattle.mini_rows.specs.Lists.{declaration, bare_declarators, declared_bare, left_behind}
+use Rattle.mini_rows.specs.DeadCases.{Known, known, Choices, no_choices, choice, cases_of, before_others, switch_over, hoists_nothing, are_plain_declarators, is_plain_var, leaves_little, all_go, left_all, left_cases, test_goes, cases_go, are_ended, running, rest_goes, are_several, DeadCaseRow}
+use Rattle.mini_rows.specs.Lists.{declaration, keeps_no_name, bare_declarators, declared_bare, left_behind, is_lighter_left}
 use Rattle.mini_rows.proofs.DeadCaseKept.{hoists_none}
-use Rattle.mini_rows.proofs.ListWeights.{total, list_is, total_append}
+use Rattle.mini_rows.proofs.ListWeights.{total, list_is, total_append, capped_lighter}
 
 -- `case` and `default`
 abbrev head : Tree → ℕ
@@ -75,15 +74,22 @@ plain_falls : (t : Tree) → is_plain_var t ≡ true → total (left_behind t) �
 plain_falls (node (shape.VariableDeclaration Var) [] zero (node shape.Listed [] zero (d ▸ ds) ▸ none)) e = var_falls d ds e
 plain_falls t e = absurd (true≢false (sym e))
 
-left_falls : (t : Tree) (b : Bool) → hoists_nothing t ≡ b → (b || is_plain_var t) ≡ true → total (left_behind t) ≤ weight (Stmt stmt_seat.List) t
-left_falls t true h e = let none_left = ap (λ xs. total (declared_bare xs)) (hoists_none t h) in omega (arith, none_left)
-left_falls t false h e = plain_falls t e
+lighter_falls : (t : Tree) → is_lighter_left t ≡ true → total (left_behind t) ≤ weight (Stmt stmt_seat.List) t
+lighter_falls t e =
+    let less = capped_lighter (weight StatementList (listed (left_behind t))) (weight (Stmt stmt_seat.List) t) e in
+    let made = list_is (left_behind t) in
+    omega (arith, less, made)
+
+left_falls : (t : Tree) (b c : Bool) → hoists_nothing t ≡ b → is_plain_var t ≡ c → ((b || c) || is_lighter_left t) ≡ true → total (left_behind t) ≤ weight (Stmt stmt_seat.List) t
+left_falls t true c h p e = let none_left = ap (λ xs. total (declared_bare xs)) (hoists_none t h) in omega (arith, none_left)
+left_falls t false true h p e = plain_falls t p
+left_falls t false false h p e = lighter_falls t e
 
 all_fall : (ss : Trees) → all_go ss ≡ true → total (left_all ss) ≤ total ss
 all_fall none e = omega arith
 all_fall (t ▸ ss) e =
-    let (own, rest) = and_parts (leaves_nothing t && (hoists_nothing t || is_plain_var t)) (all_go ss) e in
-    let first = left_falls t (hoists_nothing t) refl (and_parts (leaves_nothing t) (hoists_nothing t || is_plain_var t) own).1 in
+    let (own, rest) = and_parts (keeps_no_name t && leaves_little t) (all_go ss) e in
+    let first = left_falls t (hoists_nothing t) (is_plain_var t) refl refl (and_parts (keeps_no_name t) (leaves_little t) own).1 in
     omega (arith, total_append (left_behind t) (left_all ss), first, all_fall ss rest)
 
 -- what runs weighs no more than the cases from there on, and if there are several 12 less

@@ -322,7 +322,7 @@ several_choose : (t : Tree) (between : Trees) (u : Tree) → chooses (t ▸ appe
 several_choose t none u = refl
 several_choose t (c ▸ between) u = refl
 
-capped_lighter : (a b : ℕ) → nat_lt (capped a) (capped b) ≡ true → a < b
+pub capped_lighter : (a b : ℕ) → nat_lt (capped a) (capped b) ≡ true → a < b
 capped_lighter a b e = omega (arith, ltb-true (capped a) (capped b) e)
 
 row_77_unreached : (a b : Trees) → Row77Unreached a b → Falls a b

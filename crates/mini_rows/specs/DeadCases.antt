@@ -6,9 +6,8 @@ use Rattle.mini_model.specs.Paths.{append}
 use Rattle.mini_model.specs.Tree.{Tree, Trees, node, none, ◌▸◌, leaf, absent, listed, is_absent, negation}
 use Rattle.mini_laws.specs.Value.{Value, Undefined, Null, Boolean, Number, String}
 use Rattle.mini_laws.specs.Operators.{strictly_equal}
-use Rattle.mini_terms.specs.Parts.{leaves_nothing}
 use Rattle.mini_rows.specs.Cases.{switch_case}
-use Rattle.mini_rows.specs.Lists.{switch, void_zero, is_var_shape, are_unscoped, declares_nothing, any, are_terminated, left_behind}
+use Rattle.mini_rows.specs.Lists.{switch, void_zero, is_var_shape, are_unscoped, declares_nothing, any, are_terminated, keeps_no_name, left_behind, is_lighter_left}
 use Rattle.mini_rows.specs.Loops.{is_body_shape}
 
 -- ---- values that are written out
@@ -90,10 +89,14 @@ abbrev pub is_plain_var : Tree → Bool
 is_plain_var (node (shape.VariableDeclaration Var) [] zero (node shape.Listed [] zero (d ▸ ds) ▸ none)) = are_plain_declarators (d ▸ ds)
 is_plain_var _ = false
 
--- statements of which nothing is left behind but the names of `var`s among them
+-- the names of `var`s in it weigh no more alone: there is none, it declares them itself, or they are lighter
+abbrev pub leaves_little : Tree → Bool
+leaves_little t = (hoists_nothing t || is_plain_var t) || is_lighter_left t
+
+-- statements that give no name that can't be written, and of which nothing is left behind but such names
 abbrev pub all_go : Trees → Bool
 all_go none = true
-all_go (t ▸ ts) = (leaves_nothing t && (hoists_nothing t || is_plain_var t)) && all_go ts
+all_go (t ▸ ts) = (keeps_no_name t && leaves_little t) && all_go ts
 
 -- those names, each statement's in a `var` without initializers
 abbrev pub left_all : Trees → Trees
@@ -106,7 +109,7 @@ left_cases (choice test statements cs) = append (left_all statements) (left_case
 
 -- a test of which nothing is
 abbrev pub test_goes : Tree → Bool
-test_goes t = leaves_nothing t && (is_absent t || declares_nothing t)
+test_goes t = keeps_no_name t && (is_absent t || declares_nothing t)
 
 abbrev pub cases_go : Choices → Bool
 cases_go no_choices = true
@@ -171,7 +174,7 @@ are_several before after = true
 -- `switch (2) { case 1: a(); case 2: b(); case 3: c(); break; case d: e(); }` becomes `switch (2) { case 2: b(); c(); break; }`, and
 -- `switch (2) { case 1: a(); default: b(); case 3: c(); }` becomes `switch (2) { default: b(); c(); }`. The names that a `var` declares in what
 -- goes are declared in the case that is left, before what runs or after it: `switch (2) { case 1: var x = a(); case 2: b(x); }` becomes
--- `switch (2) { case 2: var x; b(x); }`
+-- `switch (2) { case 2: var x; b(x); }`, and so of `for (var x of a) b();` and of `var { x } = a();`
 pub record Row81 (n w : Tree) : Type 0 where
   pub value : Known
   pub before : Choices

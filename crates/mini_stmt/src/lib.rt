@@ -8,7 +8,7 @@ mod terminated;
 mod terms;
 
 pub use lead::{Lead, lead_of};
-pub use rewrites::drop_unreached::left_behind;
+pub use rewrites::drop_unreached::{is_left_lighter, keeps_no_name, left_behind};
 pub use rewrites::join_lets::{JoinLets, join_lets};
 pub use rewrites::turn_loop_guards::{TurnLoopGuards, turn_loop_guard};
 pub use statements::{MinimizeStatements, minimize_statements, no_row_reads_a_quiet_list};

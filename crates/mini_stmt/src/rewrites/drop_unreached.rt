@@ -54,10 +54,10 @@ fn keep_no_name(nodes: &Nodes) -> bool
     true
 }
 
-// Whether no node in it gives such a name.
+/// Whether nothing in the node gives a name that can't be written, and it holds no inner expression.
 #[cycle(keeping)]
 #[tactic(auto, using(crate::proofs::Unreached::keeping_is, crate::proofs::Parts::below))]
-fn keeps_no_name(node: &Node) -> bool
+pub fn keeps_no_name(node: &Node) -> bool
     ensures { result ≡ list.keeps_no_name node.now }
 {
     keeps_no_name_itself(node) && keep_no_name(node.children())
@@ -122,6 +122,16 @@ fn is_lighter(left: &Node, node: &Node) -> bool
     ensures { result ≡ list.is_lighter_left node.now }
 {
     weight(left, Position::StatementList) < stmt_weight(node, StmtSeat::List)
+}
+
+/// Whether what is left of a statement that goes is lighter than it. The only error is that memory runs out.
+pub fn is_left_lighter(alloc: Global, node: &Node) -> Result<bool, OutOfMemory>
+    ensures { IfOk result (λ lighter. lighter ≡ list.is_lighter_left node.now) }
+{
+    let left = listed(left_behind(alloc, node)?);
+    let lighter = is_lighter(&left, node);
+    discard(left);
+    Ok(lighter)
 }
 
 // Whether the statement declares nothing else in its list, and nothing in it gives a name that can't be written.

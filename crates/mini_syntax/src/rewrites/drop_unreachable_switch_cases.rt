@@ -20,8 +20,7 @@ use mini_node::{
     Node, Nodes, discard, is_absent_part, is_listed, is_same_tree, listed, number, of_one, of_two,
     taken, two, unary_operator,
 };
-use mini_stmt::left_behind;
-use mini_terms::leaves_nothing;
+use mini_stmt::{is_left_lighter, keeps_no_name, left_behind};
 use std::alloc::Global;
 
 // `0` or `1`.
@@ -262,13 +261,39 @@ fn leaves_names(node: &Node) -> bool
     hoists_nothing(node) || declares_names(node)
 }
 
+// Whether the names of `var`s in the statement weigh no more alone.
+fn leaves_little(alloc: Global, node: &Node) -> Result<bool, OutOfMemory>
+    ensures { IfOk result (λ little. little ≡ dead.leaves_little node.now) }
+{
+    if leaves_names(node) {
+        Ok(true)
+    } else {
+        is_left_lighter(alloc, node)
+    }
+}
+
+// Whether nothing is left behind of the statement but such names.
+fn goes(alloc: Global, statement: &Node) -> Result<bool, OutOfMemory>
+    ensures { IfOk result (λ gone. gone ≡ (list.keeps_no_name statement.now && dead.leaves_little statement.now)) }
+{
+    if keeps_no_name(statement) {
+        leaves_little(alloc, statement)
+    } else {
+        Ok(false)
+    }
+}
+
 // Whether nothing is left behind of the statements but such names.
-fn all_go(statements: &[Node]) -> bool
-    ensures { result ≡ dead.all_go (trees_of statements.now) }
+fn all_go(alloc: Global, statements: &[Node]) -> Result<bool, OutOfMemory>
+    ensures { IfOk result (λ gone. gone ≡ dead.all_go (trees_of statements.now)) }
 {
     match statements {
-        [] => true,
-        [first, rest @ ..] => leaves_nothing(first) && leaves_names(first) && all_go(rest),
+        [] => Ok(true),
+        [first, rest @ ..] => if goes(alloc, first)? {
+            all_go(alloc, rest)
+        } else {
+            Ok(false)
+        },
     }
 }
 
@@ -282,72 +307,93 @@ fn is_absent(node: &Node) -> bool
 fn test_goes(test: &Node) -> bool
     ensures { result ≡ dead.test_goes test.now }
 {
-    leaves_nothing(test) && (is_absent(test) || declares_nothing(test))
+    keeps_no_name(test) && (is_absent(test) || declares_nothing(test))
+}
+
+// Whether nothing is left behind of a case.
+fn case_goes(alloc: Global, case: &Node) -> Result<bool, OutOfMemory>
+    requires { count (children case.now) ≡ 2 }
+    ensures { IfOk result (λ gone. gone ≡ (dead.test_goes (part case.now 0) && dead.all_go (children (part case.now 1)))) }
+{
+    if test_goes(case.child(0)) {
+        all_go(alloc, case.child(1).parts())
+    } else {
+        Ok(false)
+    }
 }
 
 // Whether nothing is left behind of the cases.
 #[tactic(auto, using(crate::proofs::DeadCases::two_parts, crate::proofs::DeadCases::rest_cases))]
-fn cases_go(cases: &[Node]) -> bool
+fn cases_go(alloc: Global, cases: &[Node]) -> Result<bool, OutOfMemory>
     requires { row.are_cases (trees_of cases.now) ≡ true }
-    ensures { result ≡ dead.cases_go (choices_of (trees_of cases.now)) }
+    ensures { IfOk result (λ gone. gone ≡ dead.cases_go (choices_of (trees_of cases.now))) }
 {
     match cases {
-        [] => true,
-        [first, rest @ ..] => {
-            test_goes(first.child(0)) && all_go(first.child(1).parts()) && cases_go(rest)
-        }
+        [] => Ok(true),
+        [first, rest @ ..] => if case_goes(alloc, first)? {
+            cases_go(alloc, rest)
+        } else {
+            Ok(false)
+        },
     }
 }
 
 // Whether nothing is left behind of the cases after some statements but statements that run after these.
 #[tactic(auto, using(crate::proofs::DeadCases::two_parts, crate::proofs::DeadCases::rest_cases))]
-fn rest_goes(statements: &Nodes, cases: &[Node]) -> bool
+fn rest_goes(alloc: Global, statements: &Nodes, cases: &[Node]) -> Result<bool, OutOfMemory>
     requires { row.are_cases (trees_of cases.now) ≡ true }
-    ensures { result ≡ dead.rest_goes statements.now (choices_of (trees_of cases.now)) }
+    ensures { IfOk result (λ gone. gone ≡ dead.rest_goes statements.now (choices_of (trees_of cases.now))) }
 {
     match cases {
-        [] => true,
+        [] => Ok(true),
         [first, rest @ ..] => if are_ended(statements) {
-            cases_go(cases)
+            cases_go(alloc, cases)
+        } else if test_goes(first.child(0)) {
+            rest_goes(alloc, first.child(1).children(), rest)
         } else {
-            test_goes(first.child(0)) && rest_goes(first.child(1).children(), rest)
+            Ok(false)
         },
     }
 }
 
 #[tactic(auto, using(crate::proofs::DeadCases::two_parts, crate::proofs::DeadCases::rest_cases))]
-fn later_go(cases: &[Node]) -> bool
+fn later_go(alloc: Global, cases: &[Node]) -> Result<bool, OutOfMemory>
     requires { row.are_cases (trees_of cases.now) ≡ true }
-    ensures { result ≡ row.later_go (choices_of (trees_of cases.now)) }
+    ensures { IfOk result (λ gone. gone ≡ row.later_go (choices_of (trees_of cases.now))) }
 {
     match cases {
-        [] => true,
-        [first, rest @ ..] => rest_goes(first.child(1).children(), rest),
+        [] => Ok(true),
+        [first, rest @ ..] => rest_goes(alloc, first.child(1).children(), rest),
     }
 }
 
 // Whether nothing is left behind of the cases around the one at a place but statements that run after its own.
 #[tactic(auto, using(crate::proofs::DeadCases::first_window, crate::proofs::DeadCases::last_window, crate::proofs::DeadCases::first_cases, crate::proofs::DeadCases::last_cases))]
-fn others_go(cases: &Nodes, at: usize) -> bool
+fn others_go(alloc: Global, cases: &Nodes, at: usize) -> Result<bool, OutOfMemory>
     requires shaped { row.are_cases cases.now ≡ true }
     requires within { at ≤ count cases.now }
-    ensures { result ≡ row.others_go at cases.now }
+    ensures { IfOk result (λ gone. gone ≡ row.others_go at cases.now) }
 {
-    cases_go(cases.window(0, at)) && later_go(cases.window(at, cases.len() - at))
+    if cases_go(alloc, cases.window(0, at))? {
+        later_go(alloc, cases.window(at, cases.len() - at))
+    } else {
+        Ok(false)
+    }
 }
 
 // The place of the case that is left of some cases.
-fn place_in(value: &Node, cases: &Nodes) -> Option<usize>
+fn place_in(alloc: Global, value: &Node, cases: &Nodes) -> Result<Option<usize>, OutOfMemory>
     requires { row.are_cases cases.now ≡ true }
-    ensures kind { result ≡ row.place_by cases.now (row.entry value.now cases.now) }
-    ensures within { IfSome result (λ at. at ≤ count cases.now) }
+    ensures kind { IfOk result (λ place. place ≡ row.place_by cases.now (row.entry value.now cases.now)) }
+    ensures within { IfOk result (λ place. IfSome place (λ at. at ≤ count cases.now)) }
 {
     match entry(value, cases.as_slice()) {
         Some(left) => {
             let at = cases.len() - left;
-            if others_go(cases, at) { Some(at) } else { None }
+            let gone = others_go(alloc, cases, at)?;
+            Ok(if gone { Some(at) } else { None })
         }
-        None => None,
+        None => Ok(None),
     }
 }
 
@@ -376,14 +422,14 @@ fn is_read(node: &Node) -> bool
 }
 
 // The place of the case that is left, or how many there are where none is taken.
-fn place(node: &Node) -> Option<usize>
-    ensures kind { result ≡ row.place node.now }
-    ensures within { IfSome result (λ at. at ≤ count (children (part node.now 1))) }
+fn place(alloc: Global, node: &Node) -> Result<Option<usize>, OutOfMemory>
+    ensures kind { IfOk result (λ place. place ≡ row.place node.now) }
+    ensures within { IfOk result (λ place. IfSome place (λ at. at ≤ count (children (part node.now 1)))) }
 {
     if !is_read(node) {
-        return None;
+        return Ok(None);
     }
-    place_in(node.child(0), node.child(1).children())
+    place_in(alloc, node.child(0), node.child(1).children())
 }
 
 // `case test: statements`
@@ -505,7 +551,7 @@ pub fn drop_unreachable_switch_cases(alloc: Global, node: &mut Node) -> Result<b
     ensures tree { OnOk result (node.new ≡ unwrap_or (written node.old) node.old) }
     ensures said { IfOk result (λ changed. changed ≡ is_some (written node.old)) }
 {
-    match place(node) {
+    match place(alloc, node)? {
         Some(at) => {
             *node = dropped_at(alloc, taken(alloc, node), at)?;
             Ok(true)
