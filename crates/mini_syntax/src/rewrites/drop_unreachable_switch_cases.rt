@@ -310,18 +310,6 @@ fn test_goes(test: &Node) -> bool
     keeps_no_name(test) && (is_absent(test) || declares_nothing(test))
 }
 
-// Whether nothing is left behind of a case.
-fn case_goes(alloc: Global, case: &Node) -> Result<bool, OutOfMemory>
-    requires { count (children case.now) ≡ 2 }
-    ensures { IfOk result (λ gone. gone ≡ (dead.test_goes (part case.now 0) && dead.all_go (children (part case.now 1)))) }
-{
-    if test_goes(case.child(0)) {
-        all_go(alloc, case.child(1).parts())
-    } else {
-        Ok(false)
-    }
-}
-
 // Whether nothing is left behind of the cases.
 #[tactic(auto, using(crate::proofs::DeadCases::two_parts, crate::proofs::DeadCases::rest_cases))]
 fn cases_go(alloc: Global, cases: &[Node]) -> Result<bool, OutOfMemory>
@@ -330,7 +318,9 @@ fn cases_go(alloc: Global, cases: &[Node]) -> Result<bool, OutOfMemory>
 {
     match cases {
         [] => Ok(true),
-        [first, rest @ ..] => if case_goes(alloc, first)? {
+        [first, rest @ ..] => if !test_goes(first.child(0)) {
+            Ok(false)
+        } else if all_go(alloc, first.child(1).parts())? {
             cases_go(alloc, rest)
         } else {
             Ok(false)
