@@ -1,7 +1,6 @@
 -- What a walk finds of the variables that a tree mentions, and of those that it declares and that can't be written.
 use Rattle.std.specs.Prelude.{ℕ, zero, suc, ◌≡◌, ◌≤◌, refl, nat_eq, ◌&&◌, ◌||◌, not, Bool, true, false, List, [], ◌∷◌, ◌++◌, Option, Some, None, if◌then◌else◌}
 use Rattle.std.proofs.Common.{ap, ◌∙◌, sym, subst, arith}
-use Rattle.mini_model.specs.declared.kind.VariableDeclarationKind.{VariableDeclarationKind}
 use Rattle.mini_model.specs.declared.kind.VariableDeclarationKind.TheVariants.{Const, Var}
 use Rattle.mini_model.specs.declared.name.Name.{Name}
 use Rattle.mini_model.specs.declared.name.SymbolId.{SymbolId}
@@ -21,7 +20,7 @@ use Rattle.mini_context.specs.declared.writable.ClassPlace.{ClassPlace}
 use Rattle.mini_context.specs.declared.writable.ClassPlace.TheVariants as class
 use Rattle.mini_context.specs.declared.writable.Holder.{Holder}
 use Rattle.mini_context.specs.Tables.{mark_at}
-use Rattle.mini_laws.specs.Writable.{is_open, mentions, any_mentions, writable_in}
+use Rattle.mini_laws.specs.Writable.{is_open, mentions, any_mentions}
 use Rattle.mini_context.proofs.Gathering.{Adds, Gathers}
 use Rattle.mini_context.proofs.Marking.{or_false, or_assoc}
 

@@ -20,3 +20,4 @@ mod Values
 mod Foreigns
 mod Uses
 mod Holding
+mod Stays

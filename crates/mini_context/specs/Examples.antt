@@ -1,10 +1,13 @@
--- Counts of `function f(p) { p = p + p }` when `p + p` is dropped, and in how many steps, worked out by hand.
-use Rattle.std.specs.Prelude.{◌≡◌, refl, [], ◌∷◌, length}
+-- What is steady, and counts of `function f(p) { p = p + p }` when `p + p` is dropped, and in how many steps, worked out by hand.
+use Rattle.std.specs.Prelude.{◌≡◌, refl, [], ◌∷◌, length, true, false}
 use Rattle.mini_laws.specs.declared.names.Use.TheVariants.{Read}
 use Rattle.mini_laws.specs.References.{reads, writes, references}
 use Rattle.mini_laws.specs.Programs.{reference_of, sum, p}
 use Rattle.mini_context.specs.declared.count.Tally.TheVariants.{Out}
 use Rattle.mini_context.specs.Tallies.{tallied}
+use Rattle.mini_context.specs.declared.mentions.Mentioned.TheVariants.{In}
+use Rattle.mini_context.specs.Facts.{Facts}
+use Rattle.mini_context.specs.Steady.{is_steady, stays_bound, symbol_stays}
 
 steps_of_a_sum : length (references Read (sum (reference_of 1 p) (reference_of 1 p))) ≡ 2
 unfolding references
@@ -17,3 +20,45 @@ reads_without_a_sum = refl
 writes_without_a_sum : tallied Out writes (references Read (sum (reference_of 1 p) (reference_of 1 p))) (0 ∷ 1 ∷ []) ≡ 0 ∷ 1 ∷ []
 unfolding references tallied
 writes_without_a_sum = refl
+
+-- ---- tables of one symbol
+
+abbrev untold : Facts
+untold = record { reads = 0 ∷ []; writes = 0 ∷ []; fixed = []; tops = []; owners = []; now_top = []; seen = []; exchanged = []; imported = []; reached = []; patterns = []; lexical = []; switched = []; params = []; caught = []; mentioned = []; written = []; given = []; homes = []; early = []; functions = []; writable = []; strict = []; evals = []; this_events = []; arguments = []; enclosed = [] }
+
+-- a parameter of the function with the body 1
+abbrev parameter : Facts
+parameter = record untold { homes = (1 ∷ []) ∷ []; functions = (0 ∷ []) ∷ []; enclosed = (0 ∷ []) ∷ [] }
+
+-- a `let` of that body
+abbrev binding : Facts
+binding = record untold { lexical = true ∷ []; homes = (1 ∷ []) ∷ [] }
+
+a_parameter_in_other_bodies : is_steady parameter 0 2 ≡ true
+a_parameter_in_other_bodies = refl
+
+a_binding_at_home : is_steady binding 0 1 ≡ true
+a_binding_at_home = refl
+
+a_binding_in_other_bodies : is_steady binding 0 2 ≡ false
+a_binding_in_other_bodies = refl
+
+a_binding_that_is_written : is_steady (record binding { written = In 1 ∷ [] }) 0 1 ≡ false
+a_binding_that_is_written = refl
+
+a_write_more : symbol_stays parameter (record parameter { written = In 1 ∷ [] }) 0 ≡ false
+a_write_more = refl
+
+a_write_less : symbol_stays (record parameter { written = In 1 ∷ [] }) parameter 0 ≡ true
+a_write_less = refl
+
+-- `{ let z; f(z); }` that becomes `{ f(z); let z; }`
+an_early_read : symbol_stays binding (record binding { early = (1 ∷ []) ∷ [] }) 0 ≡ false
+an_early_read = refl
+
+-- a function before it is gone
+another_number : symbol_stays (record parameter { functions = (1 ∷ []) ∷ [] }) parameter 0 ≡ true
+another_number = refl
+
+a_parameter_more : stays_bound [] (0 ∷ []) ≡ false
+a_parameter_more = refl

@@ -14,3 +14,4 @@ pub mod Early
 pub mod Enclosing
 pub mod Examples
 pub mod Holders
+pub mod Steady

@@ -1,12 +1,14 @@
 //! What the context of rewrites knows of a program, and how it looks at one anew.
 
-ghost use Rattle.std.specs.Prelude.{◌≡◌, OnOk};
+ghost use Rattle.std.specs.Prelude.{◌≡◌, IfOk, OnOk};
 ghost use Rattle.mini_model.specs.Weight.{capped};
 ghost use Rattle.mini_node.specs.Children.{names};
+ghost use Rattle.mini_tree.specs.Context.{KnowsAnew};
+ghost use Rattle.mini_context.specs.Steady.{Renewed};
 ghost use Rattle.mini_context.specs.Known.{reference_count as count_of_references, own_reference_count as count_of_own};
 
 use crate::context::TraverseCtx;
-use crate::refreshing::refresh;
+use crate::refreshing::{refresh, renew};
 use mini_model::{Name, OutOfMemory, Shape};
 use mini_node::Node;
 use mini_tree::{CompressOptions, Context};
@@ -34,6 +36,23 @@ fn reference_count(node: &Node) -> u64
         total = total.saturating_add(reference_count(child));
     }
     total
+}
+
+impl TraverseCtx {
+    ghost use Rattle.mini_context.specs.Known.{Knows};
+
+    /// Looks at a program as `refresh` does, and tells whether each symbol that was steady in a body is steady there in this
+    /// program: nothing writes it, and it isn't foreign to the body. The only error is that memory runs out, and then the context
+    /// is fit only to be dropped.
+    pub fn renew(&mut self, alloc: Global, program: &Node) -> Result<bool, OutOfMemory>
+        ensures knows { OnOk result (KnowsAnew Knows self.old self.new program.now) }
+        ensures renewed { IfOk result (λ answer. Renewed answer self.old.scopes self.new.scopes program.now) }
+    {
+        if reference_count(program) > 4_294_967_294 {
+            return Err(OutOfMemory);
+        }
+        renew(alloc, program, self)
+    }
 }
 
 impl Context for TraverseCtx {

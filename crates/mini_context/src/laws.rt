@@ -1,5 +1,6 @@
 //! Laws of counts. Each is the contract of a function that does nothing.
 
+ghost use Rattle.mini_context.specs.Steady.{StayingTells, SteadyTells};
 ghost use Rattle.mini_context.specs.Laws.{CountsTell, DeclaratorsTell, ForeignTells, NamesTell, RefreshTells, SharesTell, TablesTell, UsesTell};
 
 /// The counts by symbol of a tree are how often each symbol is read, and how often it is written.
@@ -25,6 +26,16 @@ pub fn tables_tell()
 /// They tell what is foreign to a body.
 pub fn foreign_tells()
     ensures { ForeignTells }
+{}
+
+/// They tell what is steady in a body.
+pub fn steady_tells()
+    ensures { SteadyTells }
+{}
+
+/// What stays from one look to the next is steady where it was.
+pub fn staying_tells()
+    ensures { StayingTells }
 {}
 
 /// After a refresh the tables tell both of the program that was looked at.

@@ -22,6 +22,8 @@ mod refreshing;
 mod resolution;
 mod scopes;
 mod standing;
+mod staying;
+mod steady;
 mod steps;
 mod strictness;
 mod survey;
@@ -31,7 +33,7 @@ pub use context::{Parent, TraverseCtx};
 pub use count::{Counts, Tally, fresh_counts, tally_node};
 pub use laws::{
     counts_tell, declarators_tell, foreign_tells, names_tell, refresh_tells, shares_tell,
-    tables_tell, uses_tell,
+    staying_tells, steady_tells, tables_tell, uses_tell,
 };
 pub use refreshing::refresh;
 pub use resolution::resolve;

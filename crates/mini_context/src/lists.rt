@@ -21,7 +21,8 @@ pub fn no_lists(alloc: Global, length: u32) -> Result<Vec<OwnedList<u32>>, OutOf
     Ok(lists)
 }
 
-fn has_number(list: &OwnedList<u32>, number: u32) -> bool
+/// Whether a number stands in a list.
+pub fn has_number(list: &OwnedList<u32>, number: u32) -> bool
     ensures { result ≡ list_any (nat_eq number) list.now }
 {
     for other in list.as_slice() {

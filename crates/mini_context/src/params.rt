@@ -59,7 +59,8 @@ fn reach_list(alloc: Global, lists: &mut Vec<OwnedList<u32>>, at: usize) -> Resu
     Ok(())
 }
 
-fn put_own(
+/// Puts a function into the list of a number.
+pub fn put_own(
     alloc: Global,
     lists: &mut Vec<OwnedList<u32>>,
     number: u32,

@@ -1,9 +1,10 @@
-//! The numbers of the names of a program, anew.
+//! What is known of the names of a program, anew.
 
-ghost use Rattle.std.specs.Prelude.{◌≡◌, ◌+◌, ◌<◌, ◌^◌, length, OnOk};
+ghost use Rattle.std.specs.Prelude.{◌≡◌, ◌+◌, ◌<◌, ◌^◌, length, OnOk, IfOk};
 ghost use Rattle.mini_laws.specs.declared.names.Use.TheVariants as variant;
 ghost use Rattle.mini_laws.specs.References.{references};
 ghost use Rattle.mini_context.specs.Facts.{Refreshed};
+ghost use Rattle.mini_context.specs.Steady.{Renewed};
 
 use crate::context::TraverseCtx;
 use mini_model::OutOfMemory;
@@ -20,4 +21,16 @@ pub fn refresh(alloc: Global, program: &Node, context: &mut TraverseCtx) -> Resu
     ensures changes { OnOk result (context.new.changes ≡ context.old.changes) }
 {
     context.scopes.refresh(alloc, program)
+}
+
+/// Does so, and tells whether each symbol that was steady in a body is steady there in this
+/// program.
+pub fn renew(alloc: Global, program: &Node, context: &mut TraverseCtx) -> Result<bool, OutOfMemory>
+    requires { length (references variant.Read program.now) + 1 < 2 ^ 32 }
+    ensures renewed { IfOk result (λ answer. Renewed answer context.old.scopes context.new.scopes program.now) }
+    ensures options { OnOk result (context.new.options ≡ context.old.options) }
+    ensures parent { OnOk result (context.new.parent ≡ context.old.parent) }
+    ensures changes { OnOk result (context.new.changes ≡ context.old.changes) }
+{
+    context.scopes.renew(alloc, program)
 }

@@ -6,11 +6,12 @@ ghost use Rattle.mini_laws.specs.References.{references, reads as is_read, write
 ghost use Rattle.mini_laws.specs.Shared.{script_tops as script_tops_of};
 ghost use Rattle.mini_context.specs.Mentioned.{is_outside as is_outside_of, mentioned_at as entry_at};
 ghost use Rattle.mini_context.specs.Own.{is_script_shape};
-ghost use Rattle.mini_context.specs.Facts.{Refreshed, Tells, Told, facts_of, foreign, foreign_always, is_changed, is_changed_outside, may_be_unset, shares, written_in_catch};
+ghost use Rattle.mini_context.specs.Facts.{Refreshed, Tells, Told, facts_of, foreign, foreign_always, is_changed as changes, is_changed_outside, may_be_unset, shares, written_in_catch};
 ghost use Rattle.mini_context.specs.Found.{Found, FoundScopes};
 ghost use Rattle.mini_laws.specs.Foreign.{is_read_early, moments as moments_of};
 ghost use Rattle.mini_laws.specs.Mentions.{outermost};
 ghost use Rattle.mini_context.specs.Lists.{holds};
+ghost use Rattle.mini_context.specs.Steady.{is_steady as steady, Renewed};
 ghost use Rattle.mini_context.specs.Tables.{mark_at, named, Marked};
 ghost use Rattle.mini_laws.specs.Counts.{Contained, FellBy};
 
@@ -19,9 +20,10 @@ use crate::early::{Moments, empty_moments, open_moments, pass_node};
 use crate::listing::{ScopeTables, empty_scopes, has_eval, list_scopes, open_scopes};
 use crate::lists::holds_number;
 use crate::marks::{is_marked, mark_bindings, no_marks};
-use crate::mentions::{Mentioned, is_outside, is_somewhere, mentioned_at, no_mentions};
+use crate::mentions::{Mentioned, is_outside, mentioned_at, no_mentions};
 use crate::params::is_around;
 use crate::standing::{at_top, first_reading};
+use crate::steady::{is_changed, is_foreign_always, is_written_in_catch, look_stays};
 use crate::steps::Steps;
 use crate::survey::{Tables, empty_tables, open_tables, survey_node};
 use crate::writable::mark_writable;
@@ -209,6 +211,42 @@ impl Scopes {
         }
     }
 
+    /// Does so, and tells whether each symbol that was steady in a body is steady there in this program.
+    pub fn renew(&mut self, alloc: Global, program: &Node) -> Result<bool, OutOfMemory>
+        requires { length (references variant.Read program.now) + 1 < 2 ^ 32 }
+        ensures { IfOk result (λ answer. Renewed answer self.old self.new program.now) }
+    {
+        match u32::try_from(self.look.counts.reads.len()) {
+            Ok(symbols) => self.look_again(alloc, program, symbols),
+            Err(_) => Err(OutOfMemory),
+        }
+    }
+
+    // The same, with how many symbols there are.
+    fn look_again(
+        &mut self,
+        alloc: Global,
+        program: &Node,
+        symbols: u32,
+    ) -> Result<bool, OutOfMemory>
+        requires references { length (references variant.Read program.now) + 1 < 2 ^ 32 }
+        requires symbols { symbols ≡ length self.old.reads }
+        ensures { IfOk result (λ answer. Renewed answer self.old self.new program.now) }
+    {
+        let mut look = no_look(alloc);
+        look_at(&mut look, alloc, program, symbols)?;
+        let answer = look_stays(alloc, &self.look, &look, symbols);
+        self.look = look;
+        answer
+    }
+
+    /// Whether the symbol is steady in the body with this number: nothing writes it, and it isn't foreign to the body.
+    pub fn is_steady(&self, symbol: SymbolId, body: u32) -> bool
+        ensures { result ≡ steady self.now symbol.0 body }
+    {
+        !self.is_changed(symbol.0) && !self.is_foreign(symbol, body)
+    }
+
     /// How often the symbol is read: export specifiers, compound targets and updates are among that.
     pub fn reads(&self, symbol: SymbolId) -> u32
         ensures { result ≡ slice_index self.now.reads symbol.0 }
@@ -301,7 +339,7 @@ impl Scopes {
             || is_marked(self.look.scopes.seen.as_slice(), symbol)
             || is_marked(self.look.tables.reached.as_slice(), symbol)
             || is_marked(self.look.tables.caught.as_slice(), symbol)
-            || self.is_written_in_catch(symbol)
+            || is_written_in_catch(&self.look, symbol)
     }
 
     /// Whether the symbol is foreign to the body with this number: others may change it while the body runs, or it may be
@@ -318,20 +356,14 @@ impl Scopes {
     fn is_foreign_always(&self, symbol: u32) -> bool
         ensures { result ≡ foreign_always self.now symbol }
     {
-        is_marked(self.look.tables.imported.as_slice(), symbol)
-            || is_marked(self.look.tops.as_slice(), symbol)
-            || is_marked(self.look.scopes.seen.as_slice(), symbol)
-            || is_marked(self.look.tables.reached.as_slice(), symbol)
-            || is_marked(self.look.tables.patterns.as_slice(), symbol)
-            || self.is_written_in_catch(symbol)
+        is_foreign_always(&self.look, symbol)
     }
 
     // Whether something writes the symbol.
     fn is_changed(&self, symbol: u32) -> bool
-        ensures { result ≡ is_changed self.now symbol }
+        ensures { result ≡ changes self.now symbol }
     {
-        is_somewhere(mentioned_at(self.look.given.as_slice(), symbol))
-            || is_somewhere(mentioned_at(self.look.tables.written.as_slice(), symbol))
+        is_changed(&self.look, symbol)
     }
 
     // Whether another body than this or a carried node does.
@@ -361,14 +393,6 @@ impl Scopes {
                 || is_marked(self.look.tables.switched.as_slice(), symbol)
                 || holds_number(self.look.moments.early.as_slice(), symbol, body)))
             || is_around(&self.look.tables.enclosing, symbol, body)
-    }
-
-    // Whether a `var` writes the symbol, which is a parameter of `catch`.
-    fn is_written_in_catch(&self, symbol: u32) -> bool
-        ensures { result ≡ written_in_catch self.now symbol }
-    {
-        is_marked(self.look.tables.params.as_slice(), symbol)
-            && is_somewhere(mentioned_at(self.look.given.as_slice(), symbol))
     }
 
     /// Whether the scope's code is strict. (ECMA-262, "Strict Mode Code".)

@@ -1,4 +1,4 @@
-use Rattle.std.proofs.Common.{◌∙◌, sym, arith}
+use Rattle.std.proofs.Common.{◌∙◌, arith}
 use Rattle.mini_context.proofs.Holding.{class_told, class_below}
 use Rattle.mini_context.proofs.Marking.{got_falls}
 use Rattle.mini_context.proofs.writable.+declares_class.Goals as goal

@@ -1,0 +1,5 @@
+use Rattle.mini_context.proofs.Stays.{steady_told}
+use Rattle.mini_context.proofs.laws.steady_tells.Goals as goal
+
+pub returns : goal.returns
+returns c = steady_told
