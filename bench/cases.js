@@ -282,7 +282,7 @@ becomes("import() and import.meta change places", 'if (import.meta.a) import("b"
 becomes("chains", "if (a?.b) c?.(); if (!d?.[e].f) g?.h(i?.j); x = (!k?.l)?.m;", "a?.b && c?.(), d?.[e].f || g?.h(i?.j), x = (!k?.l).m;");
 becomes(
   "new, spreads and sequences",
-  "new (!a ? B : C)(...!d ? e : f); g(!h ? 1 : 2, ...i), !!j, k || l(); !!(m, n) && o();",
+  "new (!a ? B : C)(...!d ? e : f); g(!h ? 1 : 2, ...i), !!(j, k) || l(); !!(m, n) && o();",
   "new (a ? C : B)(...d ? f : e), g(h ? 2 : 1, ...i), j, k || l(), m, n && o();",
   { passes: 3 },
 );
