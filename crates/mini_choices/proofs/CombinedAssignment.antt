@@ -18,7 +18,7 @@ use Rattle.mini_choices.specs.Assigning.{is_plain, is_declared, is_property, is_
 use Rattle.mini_choices.specs.MinimizeNormalAssignmentToCombinedAssignment as combine
 use Rattle.mini_choices.proofs.Trials.{some_is, not_true}
 
-plainly_is : (t : Tree) → is_plain (assignment_operator t) ≡ true → t ≡ assignment Assign (part t 0) (part t 1)
+pub plainly_is : (t : Tree) → is_plain (assignment_operator t) ≡ true → t ≡ assignment Assign (part t 0) (part t 1)
 plainly_is t e = go (assignment_operator t) refl e
   where
     go : (o : Option AssignmentOperator) → assignment_operator t ≡ o → is_plain o ≡ true → t ≡ assignment Assign (part t 0) (part t 1)

@@ -1,0 +1,3 @@
+pub mod MemberRows
+pub mod Owning
+pub mod FunctionSteps

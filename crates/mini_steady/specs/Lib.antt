@@ -1,0 +1,5 @@
+pub mod Chains
+pub mod MinimizeSteadyLogicalExpression
+pub mod Own
+pub mod Functions
+pub mod Lighter

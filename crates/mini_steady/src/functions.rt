@@ -1,0 +1,50 @@
+//! The own code of a function.
+
+ghost use Rattle.std.specs.Prelude.{◌≡◌, true, IfOk};
+ghost use Rattle.mini_model.specs.Tree.{children, count};
+ghost use Rattle.mini_node.specs.Children.{names};
+ghost use Rattle.mini_steady.specs.Functions as row;
+ghost use Rattle.mini_steady.specs.Functions.{AppliedInFunction};
+
+use crate::own::minimize_own_code;
+use crate::steady::SteadyNames;
+use mini_model::{Name, OutOfMemory, Position, Shape};
+use mini_node::Node;
+use std::alloc::Global;
+
+fn has_no_name(name: &Option<Name>) -> bool
+    ensures { result ≡ row.are_no_names (names name.now) }
+{
+    match name {
+        Some(_) => false,
+        None => true,
+    }
+}
+
+// A function that is no arrow function.
+fn is_function(node: &Node) -> bool
+    ensures kind { result ≡ row.is_function node.now }
+    ensures parts { result ≡ true → count (children node.now) ≡ 3 }
+{
+    matches!(node.shape(), Shape::Function(_, _, _))
+        && has_no_name(node.name())
+        && node.children().len() == 3
+}
+
+/// Of a function that is no arrow function, as `function f(x) { x.k || (x.k = b); }`, which becomes `function f(x) { x.k ||= b; }`, its own
+/// code, wherever it stands. The answer says whether anything changed, and where nothing did no row reads the function; the only error is
+/// that memory runs out, and then the function is fit only to be dropped.
+pub fn minimize_steady_function<S: SteadyNames>(
+    alloc: Global,
+    node: &mut Node,
+    steady: &S,
+) -> Result<bool, OutOfMemory>
+    ensures { IfOk result (λ changed. AppliedInFunction (S.sets steady.now) node.old node.new changed) }
+{
+    if !is_function(node) {
+        return Ok(false);
+    }
+    let number = node.number();
+    let body = node.children_mut().child_mut(2);
+    Ok(minimize_own_code(alloc, body, Position::Elsewhere, number, steady)?)
+}
