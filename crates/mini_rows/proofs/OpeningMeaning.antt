@@ -26,7 +26,7 @@ use Rattle.mini_rows.specs.Sketches.{shape_by, AsValue, asked_below}
 use Rattle.mini_rows.specs.Unused.{any_names, resolved}
 use Rattle.mini_rows.proofs.ListHeads.{Nothing, for_rest, for_is, for_absent_is}
 use Rattle.mini_rows.proofs.ListKeptHeads.{Seat, Loop, Choice, seated, rest}
-use Rattle.mini_rows.proofs.SingleUse.{Lead, Not, Plus, Tilde, Beside, Deciding, Choosing, Passing, Called, Making, Waiting, Member, Keyed, Holding, Against, Given, Filling, Keying, head_of, before, place, Step, led, is_end, Stands, Well, Spared, Passed, summary_led}
+use Rattle.mini_rows.proofs.SingleUse.{Lead, Not, Plus, Minus, Tilde, Emptying, Beside, Deciding, Choosing, Passing, Called, Making, Waiting, Member, Keyed, Holding, Against, Given, Filling, Keying, head_of, before, place, Step, led, is_end, Stands, Well, Spared, Passed, summary_led}
 use Rattle.mini_rows.proofs.ConstantUse.{moves_there}
 use Rattle.mini_rows.proofs.SingleMeaning.{Before, Later, later_bind, later_attempt, Reaches, reach_statement, one, next, by_summaries, node_is, stopped, reach_goes}
 use Rattle.mini_rows.proofs.UnusedNames.{all_avoided}
@@ -70,7 +70,9 @@ nothing_led (s ∷ ss) w t n = by s.lead w.0 (λ q. nothing_led ss (subst (λ c.
     by : (l : Lead) → Stands AsValue l (is_end ss) → (asked_below (head_of l) AsValue (place 0 (before l)) ≡ AsValue → Nothing (led ss t)) → Nothing (node (shape_by (head_of l)) [] 0 (append (before l) (led ss t ▸ s.rest)))
     by Not s m = let inner = m refl in record { lets = inner.lets; functions = inner.functions; facts = inner.facts; declared = inner.declared }
     by Plus s m = record { lets = refl; functions = refl; facts = refl; declared = refl }
+    by Minus s m = record { lets = refl; functions = refl; facts = refl; declared = refl }
     by Tilde s m = record { lets = refl; functions = refl; facts = refl; declared = refl }
+    by Emptying s m = record { lets = refl; functions = refl; facts = refl; declared = refl }
     by (Beside o) s m = record { lets = refl; functions = refl; facts = refl; declared = refl }
     by (Deciding o) s m = record { lets = refl; functions = refl; facts = refl; declared = refl }
     by Choosing s m = record { lets = refl; functions = refl; facts = refl; declared = refl }

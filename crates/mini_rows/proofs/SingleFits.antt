@@ -6,12 +6,12 @@ use Rattle.mini_model.specs.declared.name.Name.{Name}
 use Rattle.mini_model.specs.declared.shape.Shape.TheVariants as shape
 use Rattle.mini_model.specs.Tree.{Tree, Trees, node, none, ◌▸◌, count, children, identifier}
 use Rattle.mini_model.specs.Paths.{append}
-use Rattle.mini_accept.specs.WellShaped.{nested, a_statement, an_init, an_expression, an_argument, Slot, one, one_or_absent, many, many_or_holes, these, each, fits, fill}
+use Rattle.mini_accept.specs.WellShaped.{nested, a_statement, an_init, an_expression, an_argument, Slot, one, one_or_absent, many, many_or_holes, these, each, fits, fill, is_not_positive_number}
 use Rattle.mini_kept.proofs.Bools.{both}
 use Rattle.mini_kept.proofs.Expressions.{refused_here}
 use Rattle.mini_rows.specs.Sketches.{shape_by, Asked, AsWholeItem, AsValue, AsValues, asked_below}
 use Rattle.mini_rows.specs.Unused.{is_first, put_first, reads_first}
-use Rattle.mini_rows.proofs.SingleUse.{Lead, Not, Plus, Tilde, Beside, Deciding, Choosing, Passing, Called, Making, Waiting, Member, Keyed, Holding, Against, Given, Filling, Keying, Listing, Doing, Giving, Raising, Testing, head_of, before, place, Step, led, is_end, Stands, Well, path, statement}
+use Rattle.mini_rows.proofs.SingleUse.{Lead, Not, Plus, Minus, Tilde, Emptying, Beside, Deciding, Choosing, Passing, Called, Making, Waiting, Member, Keyed, Holding, Against, Given, Filling, Keying, Listing, Doing, Giving, Raising, Testing, head_of, before, place, Step, led, is_end, Stands, Well, path, statement}
 
 pub first_of : (a b c : Bool) → (a ≡ true → b ≡ true) → a && c ≡ true → b && c ≡ true
 first_of true b c f e = ap (λ d. d && c) (f refl) ∙ e
@@ -92,29 +92,33 @@ module _ (strict : Bool) where
   abbrev FitsAs : Asked → Tree → Tree → Type 0
   FitsAs c t u = (s : Slot) → Takes c s → fits strict s t ≡ true → fits strict s u ≡ true
 
-  value_step : (l : Lead) (b : Bool) → Stands AsValue l b → (t u : Tree) (ts : Trees) → (asked_below (head_of l) AsValue (place 0 (before l)) ≡ AsValues → count (children t) ≡ count (children u)) → FitsAs (asked_below (head_of l) AsValue (place 0 (before l))) t u
+  value_step : (l : Lead) (b : Bool) → Stands AsValue l b → (t u : Tree) (ts : Trees) → (asked_below (head_of l) AsValue (place 0 (before l)) ≡ AsValues → count (children t) ≡ count (children u)) → (b ≡ false → is_not_positive_number u ≡ true) → FitsAs (asked_below (head_of l) AsValue (place 0 (before l))) t u
       → fits strict (one an_expression) (node (shape_by (head_of l)) [] 0 (append (before l) (t ▸ ts))) ≡ true → fits strict (one an_expression) (node (shape_by (head_of l)) [] 0 (append (before l) (u ▸ ts))) ≡ true
-  value_step Not b s t u ts c f e = first_of (fits strict (one an_expression) t) (fits strict (one an_expression) u) _ (f (one an_expression) tt) e
-  value_step Plus b s t u ts c f e = first_of (fits strict (one an_expression) t) (fits strict (one an_expression) u) _ (f (one an_expression) tt) e
-  value_step Tilde b s t u ts c f e = first_of (fits strict (one an_expression) t) (fits strict (one an_expression) u) _ (f (one an_expression) tt) e
-  value_step (Beside o) b s t u ts c f e = first_of (fits strict (one an_expression) t) (fits strict (one an_expression) u) _ (f (one an_expression) tt) e
-  value_step (Deciding o) b s t u ts c f e = first_of (fits strict (one an_expression) t) (fits strict (one an_expression) u) _ (f (one an_expression) tt) e
-  value_step Choosing b s t u ts c f e = first_of (fits strict (one an_expression) t) (fits strict (one an_expression) u) _ (f (one an_expression) tt) e
-  value_step Passing b s t u ts c f e =
+  value_step Not b s t u ts c n f e = first_of (fits strict (one an_expression) t) (fits strict (one an_expression) u) _ (f (one an_expression) tt) e
+  value_step Plus b s t u ts c n f e = first_of (fits strict (one an_expression) t) (fits strict (one an_expression) u) _ (f (one an_expression) tt) e
+  value_step Minus b s t u ts c n f e =
+      let (x, y) = and_parts (is_not_positive_number t) (fits strict (one an_expression) t && fill strict (these []) ts) e in
+      both (is_not_positive_number u) (fits strict (one an_expression) u && fill strict (these []) ts) (n s) (first_of (fits strict (one an_expression) t) (fits strict (one an_expression) u) (fill strict (these []) ts) (f (one an_expression) tt) y)
+  value_step Tilde b s t u ts c n f e = first_of (fits strict (one an_expression) t) (fits strict (one an_expression) u) _ (f (one an_expression) tt) e
+  value_step Emptying b s t u ts c n f e = first_of (fits strict (one an_expression) t) (fits strict (one an_expression) u) _ (f (one an_expression) tt) e
+  value_step (Beside o) b s t u ts c n f e = first_of (fits strict (one an_expression) t) (fits strict (one an_expression) u) _ (f (one an_expression) tt) e
+  value_step (Deciding o) b s t u ts c n f e = first_of (fits strict (one an_expression) t) (fits strict (one an_expression) u) _ (f (one an_expression) tt) e
+  value_step Choosing b s t u ts c n f e = first_of (fits strict (one an_expression) t) (fits strict (one an_expression) u) _ (f (one an_expression) tt) e
+  value_step Passing b s t u ts c n f e =
       let (x, y) = and_parts (nat_le 2 (count (children t))) (fits strict (many an_expression) t && fill strict (these []) ts) e in
       both (nat_le 2 (count (children u))) (fits strict (many an_expression) u && fill strict (these []) ts) (ap (nat_le 2) (sym (c refl)) ∙ x) (first_of (fits strict (many an_expression) t) (fits strict (many an_expression) u) (fill strict (these []) ts) (f (many an_expression) tt) y)
-  value_step Called b s t u ts c f e = first_of (fits strict (one an_expression) t) (fits strict (one an_expression) u) _ (f (one an_expression) tt) e
-  value_step Making b s t u ts c f e = first_of (fits strict (one an_expression) t) (fits strict (one an_expression) u) _ (f (one an_expression) tt) e
-  value_step (Waiting true) b s t u ts c f e = first_of (fits strict (one an_expression) t) (fits strict (one an_expression) u) _ (f (one an_expression) tt) e
-  value_step (Waiting false) b s t u ts c f e = first_of (fits strict (one_or_absent an_expression) t) (fits strict (one_or_absent an_expression) u) _ (f (one_or_absent an_expression) tt) e
-  value_step Member b s t u ts c f e = first_of (fits strict (one an_expression) t) (fits strict (one an_expression) u) _ (f (one an_expression) tt) e
-  value_step Keyed b s t u ts c f e = first_of (fits strict (one an_expression) t) (fits strict (one an_expression) u) _ (f (one an_expression) tt) e
-  value_step Holding b s t u ts c f e = first_of (fits strict (many_or_holes an_argument) t) (fits strict (many_or_holes an_argument) u) _ (f (many_or_holes an_argument) tt) e
-  value_step (Against o a) b s t u ts c f e = second_of (fits strict (one an_expression) a) (fits strict (one an_expression) t) (fits strict (one an_expression) u) _ (f (one an_expression) tt) e
-  value_step (Given a) b s t u ts c f e = second_of (fits strict (one an_expression) a) (fits strict (many an_argument) t) (fits strict (many an_argument) u) _ (f (many an_argument) tt) e
-  value_step (Filling a) b s t u ts c f e = second_of (fits strict (one an_expression) a) (fits strict (many an_argument) t) (fits strict (many an_argument) u) _ (f (many an_argument) tt) e
-  value_step (Keying a) b s t u ts c f e = second_of (fits strict (one an_expression) a) (fits strict (one an_expression) t) (fits strict (one an_expression) u) _ (f (one an_expression) tt) e
-  value_step l b s t u ts c f e = absurd s
+  value_step Called b s t u ts c n f e = first_of (fits strict (one an_expression) t) (fits strict (one an_expression) u) _ (f (one an_expression) tt) e
+  value_step Making b s t u ts c n f e = first_of (fits strict (one an_expression) t) (fits strict (one an_expression) u) _ (f (one an_expression) tt) e
+  value_step (Waiting true) b s t u ts c n f e = first_of (fits strict (one an_expression) t) (fits strict (one an_expression) u) _ (f (one an_expression) tt) e
+  value_step (Waiting false) b s t u ts c n f e = first_of (fits strict (one_or_absent an_expression) t) (fits strict (one_or_absent an_expression) u) _ (f (one_or_absent an_expression) tt) e
+  value_step Member b s t u ts c n f e = first_of (fits strict (one an_expression) t) (fits strict (one an_expression) u) _ (f (one an_expression) tt) e
+  value_step Keyed b s t u ts c n f e = first_of (fits strict (one an_expression) t) (fits strict (one an_expression) u) _ (f (one an_expression) tt) e
+  value_step Holding b s t u ts c n f e = first_of (fits strict (many_or_holes an_argument) t) (fits strict (many_or_holes an_argument) u) _ (f (many_or_holes an_argument) tt) e
+  value_step (Against o a) b s t u ts c n f e = second_of (fits strict (one an_expression) a) (fits strict (one an_expression) t) (fits strict (one an_expression) u) _ (f (one an_expression) tt) e
+  value_step (Given a) b s t u ts c n f e = second_of (fits strict (one an_expression) a) (fits strict (many an_argument) t) (fits strict (many an_argument) u) _ (f (many an_argument) tt) e
+  value_step (Filling a) b s t u ts c n f e = second_of (fits strict (one an_expression) a) (fits strict (many an_argument) t) (fits strict (many an_argument) u) _ (f (many an_argument) tt) e
+  value_step (Keying a) b s t u ts c n f e = second_of (fits strict (one an_expression) a) (fits strict (one an_expression) t) (fits strict (one an_expression) u) _ (f (one an_expression) tt) e
+  value_step l b s t u ts c n f e = absurd s
 
   each_put : (s : Slot) (ps : Trees) (t u : Tree) (ts : Trees) → (fits strict s t ≡ true → fits strict s u ≡ true) → fill strict (each s) (append ps (t ▸ ts)) ≡ true → fill strict (each s) (append ps (u ▸ ts)) ≡ true
   each_put s none t u ts f e = first_of (fits strict s t) (fits strict s u) (fill strict (each s) ts) f e
@@ -137,7 +141,9 @@ module _ (strict : Bool) where
   below_value : (l : Lead) (b : Bool) → Stands AsValue l b → asked_below (head_of l) AsValue (place 0 (before l)) ≡ AsWholeItem → ⊥
   below_value Not b s e = cc e
   below_value Plus b s e = cc e
+  below_value Minus b s e = cc e
   below_value Tilde b s e = cc e
+  below_value Emptying b s e = cc e
   below_value (Beside o) b s e = cc e
   below_value (Deciding o) b s e = cc e
   below_value Choosing b s e = cc e
@@ -158,12 +164,20 @@ module _ (strict : Bool) where
   below_list (Listing ts) b s e = cc e
   below_list l b s e = absurd s
 
+  number_of : (l : Lead) (ts : Trees) → is_not_positive_number (node (shape_by (head_of l)) [] 0 ts) ≡ true
+  number_of (Listing us) ts = refl
+  number_of l ts = refl
+
+  no_number : (ss : List Step) (t : Tree) → is_end ss ≡ false → is_not_positive_number (led ss t) ≡ true
+  no_number [] t e = absurd (true≢false e)
+  no_number (s ∷ ss) t e = number_of s.lead (append (before s.lead) (led ss t ▸ s.rest))
+
   put_value : (c : Asked) (ss : List Step) → Well c ss → (c ≡ AsWholeItem → ⊥) → (y : Name) (r : Tree) → ((s : Slot) → Takes AsValue s → fits strict s r ≡ true) → FitsAs c (led ss (identifier y)) (led ss r)
   put_value AsValue [] w n y r f s k e = f s k
   put_value AsValue (q ∷ ss) w n y r f s k e =
       let inner = put_value (asked_below (head_of q.lead) AsValue (place 0 (before q.lead))) ss w.1 (below_value q.lead (is_end ss) w.0) y r f in
       let kids = λ (u : Tree). append (before q.lead) (led ss u ▸ q.rest) in
-      room q.lead (is_end ss) w.0 s k (kids r) ∙ value_step q.lead (is_end ss) w.0 (led ss (identifier y)) (led ss r) q.rest (same_count (asked_below (head_of q.lead) AsValue (place 0 (before q.lead))) ss w.1 (identifier y) r) inner (sym (room q.lead (is_end ss) w.0 s k (kids (identifier y))) ∙ e)
+      room q.lead (is_end ss) w.0 s k (kids r) ∙ value_step q.lead (is_end ss) w.0 (led ss (identifier y)) (led ss r) q.rest (same_count (asked_below (head_of q.lead) AsValue (place 0 (before q.lead))) ss w.1 (identifier y) r) (no_number ss r) inner (sym (room q.lead (is_end ss) w.0 s k (kids (identifier y))) ∙ e)
   put_value AsValues (q ∷ ss) w n y r f s k e = list_step q.lead (is_end ss) w.0 (led ss (identifier y)) (led ss r) q.rest (put_value (asked_below (head_of q.lead) AsValues (place 0 (before q.lead))) ss w.1 (below_list q.lead (is_end ss) w.0) y r f) s k e
   put_value AsWholeItem ss w n y r f s k e = absurd (n refl)
   put_value c [] w n y r f s k e = absurd w
@@ -217,7 +231,9 @@ begun_there strict (s ∷ ss) w y e = by s.lead w.0 (append (before s.lead) (led
     by : (l : Lead) → Stands AsValue l (is_end ss) → (ts : Trees) → fits strict (one_or_absent an_init) (node (shape_by (head_of l)) [] 0 ts) ≡ true → fits strict (one an_expression) (node (shape_by (head_of l)) [] 0 ts) ≡ true
     by Not s ts e = e
     by Plus s ts e = e
+    by Minus s ts e = e
     by Tilde s ts e = e
+    by Emptying s ts e = e
     by (Beside o) s ts e = e
     by (Deciding o) s ts e = e
     by Choosing s ts e = e

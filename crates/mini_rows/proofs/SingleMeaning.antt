@@ -9,7 +9,7 @@ use Rattle.mini_model.specs.declared.operator.BinaryOperator.TheVariants as bina
 use Rattle.mini_model.specs.declared.operator.LogicalOperator.{LogicalOperator}
 use Rattle.mini_model.specs.declared.operator.LogicalOperator.TheVariants.{Or, And, Coalesce}
 use Rattle.mini_model.specs.declared.operator.UnaryOperator.{UnaryOperator}
-use Rattle.mini_model.specs.declared.operator.UnaryOperator.TheVariants.{UnaryPlus, BitwiseNot}
+use Rattle.mini_model.specs.declared.operator.UnaryOperator.TheVariants.{UnaryPlus, UnaryNegation, BitwiseNot}
 use Rattle.mini_model.specs.declared.shape.Shape.{Shape}
 use Rattle.mini_model.specs.declared.shape.Shape.TheVariants as shape
 use Rattle.mini_model.specs.Tree.{Tree, Trees, node, none, ◌▸◌, count, identifier}
@@ -24,7 +24,7 @@ use Rattle.mini_laws.specs.Command.{set_var, Command, ret, fails, stuck, op, kid
 use Rattle.mini_laws.specs.Naming.{EvalName, PlainName, Facts, Summary, summary, summaries, facts_all, naming}
 use Rattle.mini_laws.specs.Asking.{pass, demand, first_demand, parts_demand, logical_demand}
 use Rattle.mini_laws.specs.Replies.{reply, valued, passed, passing, merged, raise, of_made, of_option, primitive, hint_of, numeric, is_of_primitives, operate, loosely, or_event, get_member}
-use Rattle.mini_laws.specs.Expressions.{get_identifier, operate_by, binary_step, logical_step, conditional_step, sequence_step, not_step, number_step, call_event, call_step, new_step, array_step, yield_step, member_step, got, called_member}
+use Rattle.mini_laws.specs.Expressions.{get_identifier, operate_by, binary_step, logical_step, conditional_step, sequence_step, not_step, number_step, void_step, call_event, call_step, new_step, array_step, yield_step, member_step, got, called_member}
 use Rattle.mini_laws.specs.Lists.{entries, parts}
 use Rattle.mini_laws.specs.Targets.{as_member}
 use Rattle.mini_laws.specs.Statements.{if_step, return_step, throw_step}
@@ -47,7 +47,7 @@ use Rattle.mini_rows.specs.Sketches.{shape_by, Asked, AsWholeItem, AsValue, AsVa
 use Rattle.mini_rows.specs.Unused.{any_names, resolved, is_constant}
 use Rattle.mini_rows.proofs.ItemReads.{item_read}
 use Rattle.mini_rows.proofs.Passing.{Replies, Does, Replying, Quietly, constant_replies, quiet_there, quietly, passes_by}
-use Rattle.mini_rows.proofs.SingleUse.{Lead, Not, Plus, Tilde, Beside, Deciding, Choosing, Passing, Called as CalledLead, Making, Waiting, Member, Keyed, Holding, Against, Given as GivenLead, Filling, Keying, Listing, Doing, Giving, Raising, Testing, head_of, before, place, Step, led, is_end, Stands, Well, Spared, AllPass, Passed, summaries_led}
+use Rattle.mini_rows.proofs.SingleUse.{Lead, Not, Plus, Minus, Tilde, Emptying, Beside, Deciding, Choosing, Passing, Called as CalledLead, Making, Waiting, Member, Keyed, Holding, Against, Given as GivenLead, Filling, Keying, Listing, Doing, Giving, Raising, Testing, head_of, before, place, Step, led, is_end, Stands, Well, Spared, AllPass, Passed, summaries_led}
 use Rattle.mini_rows.proofs.UnusedNames.{all_avoided}
 
 -- ---- a command that doesn't ask a child any more
@@ -302,7 +302,9 @@ value_asks : (l : Lead) (b : Bool) → Stands AsValue l b → (fs : List Facts) 
 unfolding step
 value_asks Not b s fs q u r = record { reaches = reach_valued 0 (λ i. As Test) q u r not_step (one 0 (λ i. As Test) Value tt _ (λ v. tt)); below = tt; first = tt }
 value_asks Plus b s fs q u r = record { reaches = reach_valued 0 (λ i. As Val) q u r (number_step UnaryPlus) (number_begins UnaryPlus); below = tt; first = tt }
+value_asks Minus b s fs q u r = record { reaches = reach_valued 0 (λ i. As Val) q u r (number_step UnaryNegation) (number_begins UnaryNegation); below = tt; first = tt }
 value_asks Tilde b s fs q u r = record { reaches = reach_valued 0 (λ i. As Val) q u r (number_step BitwiseNot) (number_begins BitwiseNot); below = tt; first = tt }
+value_asks Emptying b s fs q u r = record { reaches = reach_valued 0 (λ i. As Val) q u r void_step (one 0 (λ i. As Val) Value tt _ (λ v. tt)); below = tt; first = tt }
 value_asks (Beside o) b s fs q u r = record { reaches = reach_valued 0 (λ i. As Val) q u r (binary_step o) (binary_begins o); below = tt; first = tt }
 value_asks (Deciding o) b s fs q u r = record { reaches = reach_passing 0 (logical_demand o (pass q)) q u r (logical_step o (pass q)) (logical_begins o (pass q)); below = left o (pass q); first = tt }
   where

@@ -6,7 +6,7 @@ use Rattle.mini_model.specs.declared.kind.VariableDeclarationKind.{VariableDecla
 use Rattle.mini_model.specs.declared.name.Name.{Name}
 use Rattle.mini_model.specs.declared.operator.BinaryOperator.{BinaryOperator}
 use Rattle.mini_model.specs.declared.operator.LogicalOperator.{LogicalOperator}
-use Rattle.mini_model.specs.declared.operator.UnaryOperator.TheVariants.{LogicalNot, UnaryPlus, BitwiseNot}
+use Rattle.mini_model.specs.declared.operator.UnaryOperator.TheVariants.{LogicalNot, UnaryPlus, UnaryNegation, BitwiseNot, Void}
 use Rattle.mini_model.specs.declared.shape.Shape.{Shape}
 use Rattle.mini_model.specs.declared.shape.Shape.TheVariants as shape
 use Rattle.mini_model.specs.Tree.{Tree, Trees, node, none, ◌▸◌, listed, children, identifier}
@@ -28,7 +28,9 @@ use Rattle.mini_rows.proofs.ListKeptHeads.{Seat, Loop, Choice, seated, rest}
 pub data Lead : Type 0 where
   Not : Lead
   Plus : Lead
+  Minus : Lead
   Tilde : Lead
+  Emptying : Lead
   Beside : BinaryOperator → Lead
   Deciding : LogicalOperator → Lead
   Choosing : Lead
@@ -55,7 +57,9 @@ pub data Lead : Type 0 where
 abbrev pub head_of : Lead → Head
 head_of Not = Unary LogicalNot
 head_of Plus = Unary UnaryPlus
+head_of Minus = Unary UnaryNegation
 head_of Tilde = Unary BitwiseNot
+head_of Emptying = Unary Void
 head_of (Beside o) = Binary o
 head_of (Deciding o) = Logical o
 head_of Choosing = Conditional
@@ -111,7 +115,9 @@ Stands AsWholeItem Testing at_end = Unit {0}
 Stands AsValues (Listing ts) at_end = Unit {0}
 Stands AsValue Not at_end = Unit {0}
 Stands AsValue Plus at_end = Unit {0}
+Stands AsValue Minus at_end = at_end ≡ false
 Stands AsValue Tilde at_end = Unit {0}
+Stands AsValue Emptying at_end = at_end ≡ false
 Stands AsValue (Beside o) at_end = Unit {0}
 Stands AsValue (Deciding o) at_end = Unit {0}
 Stands AsValue Choosing at_end = Unit {0}
@@ -177,7 +183,9 @@ not_leaf false e = refl
 begun_by : (c : Bool) (h : Shape) → begins h c ≡ true → Leads false c h none
 begun_by c (shape.UnaryExpression LogicalNot) e = record { lead = Not; is = refl; front = refl; stands = tt; below = refl }
 begun_by c (shape.UnaryExpression UnaryPlus) e = record { lead = Plus; is = refl; front = refl; stands = tt; below = refl }
+begun_by c (shape.UnaryExpression UnaryNegation) e = record { lead = Minus; is = refl; front = refl; stands = not_leaf c e; below = refl }
 begun_by c (shape.UnaryExpression BitwiseNot) e = record { lead = Tilde; is = refl; front = refl; stands = tt; below = refl }
+begun_by c (shape.UnaryExpression Void) e = record { lead = Emptying; is = refl; front = refl; stands = not_leaf c e; below = refl }
 begun_by c (shape.BinaryExpression o) e = record { lead = Beside o; is = refl; front = refl; stands = tt; below = refl }
 begun_by c (shape.LogicalExpression o) e = record { lead = Deciding o; is = refl; front = refl; stands = tt; below = refl }
 begun_by c shape.ConditionalExpression e = record { lead = Choosing; is = refl; front = refl; stands = tt; below = refl }

@@ -5,6 +5,7 @@ use Rattle.mini_model.specs.declared.kind.VariableDeclarationKind.{VariableDecla
 use Rattle.mini_model.specs.declared.kind.VariableDeclarationKind.TheVariants.{Var, Let, Const}
 use Rattle.mini_model.specs.declared.name.Name.{Name}
 use Rattle.mini_model.specs.declared.name.SymbolId.{SymbolId}
+use Rattle.mini_model.specs.declared.operator.UnaryOperator.TheVariants.{Void}
 use Rattle.mini_model.specs.declared.place.Position.{Position}
 use Rattle.mini_model.specs.declared.place.Position.TheVariants.{Expr, Stmt, ArgumentList, SequenceList, Elsewhere}
 use Rattle.mini_model.specs.declared.seat.Seat.{Seat}
@@ -25,7 +26,7 @@ use Rattle.mini_rows.proofs.BooleanWeights.{moved}
 use Rattle.mini_rows.proofs.ListWeights.{total, in_list, comma_list, declarators_append}
 use Rattle.mini_rows.proofs.ListKeptHeads as opening
 use Rattle.mini_rows.proofs.ListKeptHeads.{Loop, Choice, seated}
-use Rattle.mini_rows.proofs.SingleUse.{Lead, Not, Plus, Tilde, Beside, Deciding, Choosing, Passing, Called, Making, Waiting, Member, Keyed, Holding, Against, Given, Filling, Keying, Listing, Doing, Giving, Raising, Testing, head_of, before, place, Step, led, is_end, Stands, Well, Initial, heads, path, statement, Outside, Heads, Path}
+use Rattle.mini_rows.proofs.SingleUse.{Lead, Not, Plus, Minus, Tilde, Emptying, Beside, Deciding, Choosing, Passing, Called, Making, Waiting, Member, Keyed, Holding, Against, Given, Filling, Keying, Listing, Doing, Giving, Raising, Testing, head_of, before, place, Step, led, is_end, Stands, Well, Initial, heads, path, statement, Outside, Heads, Path}
 
 -- ---- where the steps stand
 
@@ -50,7 +51,9 @@ placed_statement l b s p n = absurd s
 placed_value : (l : Lead) (b : Bool) → Stands AsValue l b → (p : Position) (n : ℕ) → PlacedBelow AsValue l p n
 placed_value Not b s p n = tt
 placed_value Plus b s p n = tt
+placed_value Minus b s p n = tt
 placed_value Tilde b s p n = tt
+placed_value Emptying b s p n = tt
 placed_value (Beside o) b s p n = tt
 placed_value (Deciding o) b s p n = tt
 placed_value Choosing b s p n = tt
@@ -92,25 +95,31 @@ same_statement Raising b s q t u ts = refl
 same_statement Testing b s q t u ts = refl
 same_statement l b s q t u ts = absurd s
 
-same_value : (l : Lead) (b : Bool) → Stands AsValue l b → (q : Seat) (t u : Tree) (ts : Trees) → SameOwn (Expr q) l t u ts
-same_value Not b s q t u ts = refl
-same_value Plus b s q t u ts = refl
-same_value Tilde b s q t u ts = refl
-same_value (Beside p) b s q t u ts = refl
-same_value (Deciding p) b s q t u ts = refl
-same_value Choosing b s q t u ts = refl
-same_value Passing b s q t u ts = refl
-same_value Called b s q t u ts = refl
-same_value Making b s q t u ts = refl
-same_value (Waiting d) b s q t u ts = refl
-same_value Member b s q t u ts = refl
-same_value Keyed b s q t u ts = refl
-same_value Holding b s q t u ts = refl
-same_value (Against o a) b s q t u ts = refl
-same_value (Given a) b s q t u ts = refl
-same_value (Filling a) b s q t u ts = refl
-same_value (Keying a) b s q t u ts = refl
-same_value l b s q t u ts = absurd s
+-- both are a zero, or neither is, where a further step leads
+abbrev SameZero : Bool → Tree → Tree → Type 0
+SameZero b t u = b ≡ false → (outline t).is_zero ≡ (outline u).is_zero
+
+same_value : (l : Lead) (b : Bool) → Stands AsValue l b → (q : Seat) (t u : Tree) (ts : Trees) → SameZero b t u → SameOwn (Expr q) l t u ts
+same_value Not b s q t u ts z = refl
+same_value Plus b s q t u ts z = refl
+same_value Minus b s q t u ts z = refl
+same_value Tilde b s q t u ts z = refl
+same_value Emptying b s q t u ts z = ap (λ c. own_weight (Expr q) (shape.UnaryExpression Void) [] (record (outline t) { is_zero = c } ∷ outlines ts)) (z s)
+same_value (Beside p) b s q t u ts z = refl
+same_value (Deciding p) b s q t u ts z = refl
+same_value Choosing b s q t u ts z = refl
+same_value Passing b s q t u ts z = refl
+same_value Called b s q t u ts z = refl
+same_value Making b s q t u ts z = refl
+same_value (Waiting d) b s q t u ts z = refl
+same_value Member b s q t u ts z = refl
+same_value Keyed b s q t u ts z = refl
+same_value Holding b s q t u ts z = refl
+same_value (Against o a) b s q t u ts z = refl
+same_value (Given a) b s q t u ts z = refl
+same_value (Filling a) b s q t u ts z = refl
+same_value (Keying a) b s q t u ts z = refl
+same_value l b s q t u ts z = absurd s
 
 commas_put : (ps : Trees) (t u : Tree) (ts : Trees) → commas_weight (outlines (append ps (t ▸ ts))) ≡ commas_weight (outlines (append ps (u ▸ ts)))
 commas_put none t u none = refl
@@ -126,12 +135,12 @@ same_items : (l : Lead) (b : Bool) → Stands AsValues l b → (t u : Tree) (ts 
 same_items (Listing ps) b s t u ts = ap (λ k. k + 0) (commas_put ps t u ts)
 same_items l b s t u ts = absurd s
 
-same_own : (c : Asked) (l : Lead) (b : Bool) → Stands c l b → (p : Position) → Placed c p → (t u : Tree) (ts : Trees) → SameOwn p l t u ts
-same_own AsWholeItem l b s (Stmt q) a t u ts = same_statement l b s q t u ts
-same_own AsValue l b s (Expr q) a t u ts = same_value l b s q t u ts
-same_own AsValues l b s (SequenceList q) a t u ts = same_parts l b s q t u ts
-same_own AsValues l b s ArgumentList a t u ts = same_items l b s t u ts
-same_own c l b s p a t u ts = absurd a
+same_own : (c : Asked) (l : Lead) (b : Bool) → Stands c l b → (p : Position) → Placed c p → (t u : Tree) (ts : Trees) → SameZero b t u → SameOwn p l t u ts
+same_own AsWholeItem l b s (Stmt q) a t u ts z = same_statement l b s q t u ts
+same_own AsValue l b s (Expr q) a t u ts z = same_value l b s q t u ts z
+same_own AsValues l b s (SequenceList q) a t u ts z = same_parts l b s q t u ts
+same_own AsValues l b s ArgumentList a t u ts z = same_items l b s t u ts
+same_own c l b s p a t u ts z = absurd a
 
 -- among neighbours
 
@@ -158,12 +167,20 @@ node_falls p l t u ts k own h =
 name_weighs : (s : Seat) (y : Name) → is_none y.symbol ≡ false → 2 ≤ weight (Expr s) (identifier y)
 name_weighs s y e = let own = ap (λ b. if b then spelled_weight y.spelling else 2) e in omega (arith, own)
 
+no_zero : (l : Lead) (ts : Trees) → (outline (node (shape_by (head_of l)) [] 0 ts)).is_zero ≡ false
+no_zero (Listing us) ts = refl
+no_zero l ts = refl
+
+same_zero : (ss : List Step) (t u : Tree) → SameZero (is_end ss) (led ss t) (led ss u)
+same_zero [] t u e = absurd (true≢false e)
+same_zero (s ∷ ss) t u e = no_zero s.lead (append (before s.lead) (led ss t ▸ s.rest)) ∙ sym (no_zero s.lead (append (before s.lead) (led ss u ▸ s.rest)))
+
 led_falls : (c : Asked) (ss : List Step) → Well c ss → (p : Position) → Placed c p → (r : Tree) → is_plain_part r ≡ true → (y : Name) → is_none y.symbol ≡ false → weight p (led ss r) ≤ weight p (led ss (identifier y)) + (weight (Expr argument_seat) r + 3)
 led_falls AsValue [] w (Expr s) a r f y e = let here = moved s argument_seat r f in let name = name_weighs s y e in omega (arith, here, name)
 led_falls AsValue [] w p a r f y e = absurd a
 led_falls c [] w p a r f y e = absurd w
 led_falls c (s ∷ ss) w p a r f y e =
-    node_falls p s.lead (led ss (identifier y)) (led ss r) s.rest (weight (Expr argument_seat) r + 3) (same_own c s.lead (is_end ss) w.0 p a (led ss (identifier y)) (led ss r) s.rest)
+    node_falls p s.lead (led ss (identifier y)) (led ss r) s.rest (weight (Expr argument_seat) r + 3) (same_own c s.lead (is_end ss) w.0 p a (led ss (identifier y)) (led ss r) s.rest (same_zero ss (identifier y) r))
     (λ n. led_falls (asked_below (head_of s.lead) c (place 0 (before s.lead))) ss w.1 (child_position (shape_by (head_of s.lead)) p n (count (before s.lead))) (placed_below c s.lead (is_end ss) w.0 p a n) r f y e)
 
 some_symbol : (k : ℕ) (y : Option SymbolId) → is_same (Some (record { 0 = k })) y ≡ true → is_none y ≡ false

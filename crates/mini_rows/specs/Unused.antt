@@ -3,7 +3,7 @@
 use Rattle.std.specs.Prelude.{◌≡◌, ◌<◌, ◌⊎◌, ◌||◌, ◌&&◌, not, ℕ, nat_le, zero, suc, Bool, true, false, List, [], ◌∷◌, if◌then◌else◌}
 use Rattle.mini_model.specs.declared.kind.VariableDeclarationKind.{VariableDeclarationKind}
 use Rattle.mini_model.specs.declared.name.Name.{Name}
-use Rattle.mini_model.specs.declared.operator.UnaryOperator.TheVariants.{LogicalNot, UnaryPlus, BitwiseNot, Void}
+use Rattle.mini_model.specs.declared.operator.UnaryOperator.TheVariants.{LogicalNot, UnaryPlus, UnaryNegation, BitwiseNot, Void}
 use Rattle.mini_model.specs.declared.place.Position.{Position}
 use Rattle.mini_model.specs.declared.place.Position.TheVariants.{Expr, Stmt, Method, Elsewhere}
 use Rattle.mini_model.specs.declared.shape.Shape.{Shape}
@@ -107,11 +107,14 @@ pub record Row72Idle (W : VariableSet) (n w : Tree) : Type 0 where
 -- ---- a name that is read once, behind nothing but what may be evaluated after its initializer
 
 -- what evaluates its first part before all else, and asks for its value alone. A name that is called by itself isn't such a part:
--- of a member in its place the object would be `this`
+-- of a member in its place the object would be `this`. Nor is one right under `-`, where with a number in its place it would be another
+-- literal, or under `void`, whose 0 is a literal of its own
 abbrev pub begins : Shape → Bool → Bool
 begins (shape.UnaryExpression LogicalNot) is_leaf = true
 begins (shape.UnaryExpression UnaryPlus) is_leaf = true
+begins (shape.UnaryExpression UnaryNegation) is_leaf = not is_leaf
 begins (shape.UnaryExpression BitwiseNot) is_leaf = true
+begins (shape.UnaryExpression Void) is_leaf = not is_leaf
 begins (shape.BinaryExpression o) is_leaf = true
 begins (shape.LogicalExpression o) is_leaf = true
 begins shape.ConditionalExpression is_leaf = true

@@ -43,7 +43,8 @@ fn begins(shape: &Shape, is_leaf: bool) -> bool
         | Shape::YieldExpression(_)
         | Shape::StaticMemberExpression(false)
         | Shape::ComputedMemberExpression(false) => true,
-        Shape::CallExpression(false) => !is_leaf,
+        Shape::UnaryExpression(UnaryOperator::UnaryNegation | UnaryOperator::Void)
+        | Shape::CallExpression(false) => !is_leaf,
         _ => false,
     }
 }
