@@ -24,7 +24,7 @@ use Rattle.mini_kept.specs.SameNames.{NoMoreClash}
 use Rattle.mini_kept.proofs.Clashes.{no_more_same, no_more_both}
 use Rattle.mini_kept.proofs.Unplaced.{as_body}
 use Rattle.mini_terms.specs.Reading.{is_plain_part}
-use Rattle.mini_rows.specs.Lists.{declaration}
+use Rattle.mini_rows.specs.Lists.{declaration, each_loop}
 use Rattle.mini_rows.specs.Declarations.{binding, declarator}
 use Rattle.mini_rows.specs.Sketches.{Asked, AsWholeItem, AsValue, AsWholeList, Leap}
 use Rattle.mini_rows.specs.Unused.{names, any_names, declared_among, declared_left, put_first, reads_first, reads_head, evaluated}
@@ -37,7 +37,8 @@ use Rattle.mini_rows.proofs.ListKeptStretch.{items_of, stretched, sum_list}
 use Rattle.mini_rows.proofs.NextKept.{given, next_unnamed, inner_value, fixed_value, among_value, frames_value, bodies_value, scoped_value, once_value, aimed_value, inner_other, fixed_other, among_other, frames_other, bodies_other, scoped_other, once_other, aimed_other, number_sum, symbol_sum}
 use Rattle.mini_rows.proofs.ListKeptHeads.{seated}
 use Rattle.mini_rows.proofs.OpeningKept.{opening_leaves, opening_names, opening_declares}
-use Rattle.mini_rows.proofs.SingleUse.{Step, led, Well, Spared, Path, path, Initial, Outside, Heads, heads, swapped, taken, swapped_sum}
+use Rattle.mini_rows.proofs.OverKept.{over_leaves, over_names, over_declares}
+use Rattle.mini_rows.proofs.SingleUse.{Step, led, Well, Spared, Path, path, Initial, Outside, Over, Heads, heads, swapped, taken, swapped_sum}
 use Rattle.mini_rows.proofs.UnusedKept.{LeavesThere, NamesThere, DeclaresThere}
 use Rattle.mini_rows.proofs.UnusedNames.{Other, all_other}
 
@@ -185,26 +186,36 @@ module _ (K : VariableDeclarationKind) (x : Name) (k : ℕ) (e : x.symbol ≡ sy
       let p : Path x AsValue t.value = path x false t.value t.once in
       subst₂ (Written P) (sym (t.is ∙ ap (seated t.seat) p.is)) (sym (t.puts init ∙ ap (seated t.seat) (p.puts init))) (h p.steps p.well p.spared p.read)
 
-  -- of a statement, of a declaration, or of what opens a scope
-  by_head : (P : Trees → Trees → Type 0) → (reads_first x head ≡ true → Written P head (put_first x init head)) → ((t : Initial x head) → Written P head (put_first x init head)) → ((t : Outside x head) → Written P head (put_first x init head)) → Written P head (put_first x init head)
-  by_head P g h o = by (heads x head once)
+  over_along : (t : Over x head) (P : Trees → Trees → Type 0) → ((ss : List Step) → Well AsValue ss → Spared x ss → (r : Name) → Written P (each_loop t.kind t.left (led ss (identifier r)) t.body) (each_loop t.kind t.left (led ss init) t.body)) → Written P head (put_first x init head)
+  over_along t P h =
+      let p : Path x AsValue t.value = path x false t.value t.once in
+      let loops = λ (u : Tree). each_loop t.kind t.left u t.body in
+      subst₂ (Written P) (sym (t.is ∙ ap loops p.is)) (sym (t.puts init ∙ ap loops (p.puts init))) (h p.steps p.well p.spared p.read)
+
+  -- of a statement, of a declaration, of what opens a scope, or of a loop over keys or values
+  by_head : (P : Trees → Trees → Type 0) → (reads_first x head ≡ true → Written P head (put_first x init head)) → ((t : Initial x head) → Written P head (put_first x init head)) → ((t : Outside x head) → Written P head (put_first x init head)) → ((t : Over x head) → Written P head (put_first x init head)) → Written P head (put_first x init head)
+  by_head P g h o v = by (heads x head once)
     where
       by : Heads x head → Written P head (put_first x init head)
       by (inl (z, p)) = g z
       by (inr (inl t)) = h t
-      by (inr (inr t)) = o t
+      by (inr (inr (inl t))) = o t
+      by (inr (inr (inr t))) = v t
 
   pub head_leaves : Written (LeavesThere x) head (put_first x init head)
   head_leaves =
       by_head (LeavesThere x) (λ o. single_leaves K x k e first init head plain o i f) (λ t. initial_along t (LeavesThere x) (λ ss w r g. initial_there K x k e first init f t.kind t.binds t.last ss w r g))
       (λ t. outside_along t (LeavesThere x) (λ ss w g r. opening_leaves K x k e first init plain f i t.seat t.beside ss w g r))
+      (λ t. over_along t (LeavesThere x) (λ ss w g r. over_leaves K x k e first init plain f i t.kind t.left t.body t.plain t.other t.later ss w g r))
 
   pub head_names : is_lexical K ≡ true → Written (NamesThere x) head (put_first x init head)
   head_names l =
       by_head (NamesThere x) (λ o. single_names K x k e first init head plain o i f l) (λ t. initial_along t (NamesThere x) (λ ss w r g. initial_names_there K x k e first init f t.kind t.binds t.last ss w r g l))
       (λ t. outside_along t (NamesThere x) (λ ss w g r. opening_names K x k e first init plain f i t.seat t.beside ss w g r l))
+      (λ t. over_along t (NamesThere x) (λ ss w g r. over_names K x k e first init plain f i t.kind t.left t.body t.plain t.other t.later ss w g r l))
 
   pub head_declares : Written (DeclaresThere x) head (put_first x init head)
   head_declares =
       by_head (DeclaresThere x) (λ o. single_declares K x k e first init head plain o i f) (λ t. initial_along t (DeclaresThere x) (λ ss w r g. initial_declares_there K x k e first init f t.kind t.binds t.last ss w r g))
       (λ t. outside_along t (DeclaresThere x) (λ ss w g r. opening_declares K x k e first init plain f i t.seat t.beside ss w g r))
+      (λ t. over_along t (DeclaresThere x) (λ ss w g r. over_declares K x k e first init plain f i t.kind t.left t.body t.plain t.other t.later ss w g r))

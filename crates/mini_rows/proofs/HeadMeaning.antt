@@ -10,16 +10,17 @@ use Rattle.mini_laws.specs.Naming.{summary}
 use Rattle.mini_laws.specs.Same.{Same}
 use Rattle.mini_laws.specs.Substitution.{alone}
 use Rattle.mini_kept.specs.Without.{Unseen}
-use Rattle.mini_rows.specs.Lists.{declaration}
+use Rattle.mini_rows.specs.Lists.{declaration, Each, EachIn, EachOf, each_loop}
 use Rattle.mini_rows.specs.Declarations.{declarator}
 use Rattle.mini_rows.specs.Sketches.{shape_by, AsWholeItem}
 use Rattle.mini_rows.specs.Unused.{resolved, names, any_names, declared_among, declared_left, may_move, put_first, are_passed, reads_first, reads_head, evaluated, Row71}
 use Rattle.mini_rows.proofs.FoldMeaning.{plain_read}
 use Rattle.mini_rows.proofs.NextKept.{next_unnamed}
 use Rattle.mini_rows.proofs.NextMeaning.{initial_goes}
-use Rattle.mini_rows.proofs.SingleUse.{Lead, Doing, Giving, Raising, Testing, head_of, Step, led, is_end, Stands, Well, AllPass, Initial, heads, statement, unnamed, Outside, Heads, path}
+use Rattle.mini_rows.proofs.SingleUse.{Lead, Doing, Giving, Raising, Testing, head_of, Step, led, is_end, Stands, Well, AllPass, Initial, heads, statement, unnamed, Outside, Over, Heads, path}
 use Rattle.mini_rows.proofs.ListKeptHeads.{Seat, Loop, Choice, seated, rest}
 use Rattle.mini_rows.proofs.OpeningMeaning.{outside_goes}
+use Rattle.mini_rows.proofs.OverMeaning.{each_goes}
 use Rattle.mini_rows.proofs.ItemReads.{plain_item}
 use Rattle.mini_rows.proofs.ConstantUse.{moves_there}
 use Rattle.mini_rows.proofs.UnusedMeaning.{SameRead, GoesWith, single_read, single_same, first_avoids, same_symbol, movable, block_same, lexical_alone, never_written}
@@ -47,13 +48,18 @@ outside_read : (c : Seat) (a b : Tree) → SameRead (seated c a) (seated c b)
 outside_read (Choice cases) a b = record { lets = refl; functions = refl; facts = refl; texts = refl }
 outside_read (Loop u v w) a b = record { lets = refl; functions = refl; facts = refl; texts = refl }
 
+over_read : (c : Each) (l w a b : Tree) → SameRead (each_loop c l a w) (each_loop c l b w)
+over_read EachIn l w a b = record { lets = refl; functions = refl; facts = refl; texts = refl }
+over_read EachOf l w a b = record { lets = refl; functions = refl; facts = refl; texts = refl }
+
 pub head_read : (x : Name) (head : Tree) → reads_head x head ≡ true → (init : Tree) → SameRead head (put_first x init head)
 head_read x head e init = by (heads x head e)
   where
     by : Heads x head → SameRead head (put_first x init head)
     by (inl (f, p)) = statement_read x head f init
     by (inr (inl t)) = subst₂ SameRead (sym t.is) (sym (t.puts init)) (initial_read x head t init)
-    by (inr (inr t)) = subst₂ SameRead (sym t.is) (sym (t.puts init)) (outside_read t.seat t.value (put_first x init t.value))
+    by (inr (inr (inl t))) = subst₂ SameRead (sym t.is) (sym (t.puts init)) (outside_read t.seat t.value (put_first x init t.value))
+    by (inr (inr (inr t))) = subst₂ SameRead (sym t.is) (sym (t.puts init)) (over_read t.kind t.left t.body t.value (put_first x init t.value))
 
 -- ---- what it does
 
@@ -82,12 +88,21 @@ module _ (e : Environment) (spelling : List ℕ) (k : ℕ) (z : Unseen (alone (D
       subst₂ (λ h w. GoesWith e k init h w s) (sym (t.is ∙ ap (seated t.seat) (p.is ∙ ap (led p.steps) read_as))) (sym (t.puts init ∙ ap (seated t.seat) (p.puts init)))
       (outside_goes e k z x refl p.read.spelling init (sym (plain_read init (movable init moves))) (plain_item init (movable init moves)) p.steps p.well p.spared (p.passed init (t.passed init passed)) t.seat t.beside s)
 
+  loop_goes : (t : Over x head) → are_passed x init t.value ≡ true → (s : State) → GoesWith e k init head (put_first x init head) s
+  loop_goes t passed s =
+      let p = path x false t.value t.once in
+      let read_as : identifier p.read ≡ identifier (resolved p.read.spelling k) = ap (λ y. identifier (record { spelling = p.read.spelling; symbol = y })) (same_symbol k p.read.symbol p.same) in
+      let loops = λ (u : Tree). each_loop t.kind t.left u t.body in
+      subst₂ (λ h w. GoesWith e k init h w s) (sym (t.is ∙ ap loops (p.is ∙ ap (led p.steps) read_as))) (sym (t.puts init ∙ ap loops (p.puts init)))
+      (each_goes e k z x refl p.read.spelling init (sym (plain_read init (movable init moves))) (plain_item init (movable init moves)) p.steps p.well p.spared (p.passed init passed) t.kind t.left t.body t.plain t.other t.later s)
+
   pub head_goes : reads_head x head ≡ true → are_passed x init (evaluated head) ≡ true → (s : State) → GoesWith e k init head (put_first x init head) s
   head_goes once passed s = by (heads x head once)
     where
       by : Heads x head → GoesWith e k init head (put_first x init head) s
       by (inl (f, p)) = statement_goes f (sym (ap (are_passed x init) p) ∙ passed) s
-      by (inr (inr t)) = scope_goes t (sym (ap (are_passed x init) t.evaluates) ∙ passed) s
+      by (inr (inr (inl t))) = scope_goes t (sym (ap (are_passed x init) t.evaluates) ∙ passed) s
+      by (inr (inr (inr t))) = loop_goes t (sym (ap (are_passed x init) t.evaluates) ∙ passed) s
       by (inr (inl t)) = subst₂ (λ h w. GoesWith e k init h w s) (sym t.is) (sym (t.puts init)) (initial_goes e spelling k z t.kind init t.binds t.value t.last moves t.once (sym (ap (are_passed x init) t.evaluates) ∙ passed) (avoided x k refl t.binds t.other) (all_avoided x k refl t.last t.later) s)
 
 -- ---- nothing that is written mentions the name
@@ -104,12 +119,17 @@ seated_unnamed : (x : Name) (c : Seat) (t : Tree) → names x t ≡ false → an
 seated_unnamed x (Choice cases) t f g = ap (λ b. b || any_names x (cases ▸ none)) f ∙ g
 seated_unnamed x (Loop u v w) t f g = ap (λ b. b || any_names x (u ▸ (v ▸ (w ▸ none)))) f ∙ g
 
+over_unnamed : (x : Name) (c : Each) (l w t : Tree) → names x l ≡ false → names x t ≡ false → any_names x (w ▸ none) ≡ false → names x (each_loop c l t w) ≡ false
+over_unnamed x EachIn l w t f g h = λ i. f i || (g i || h i)
+over_unnamed x EachOf l w t f g h = λ i. f i || (g i || h i)
+
 pub head_unnamed : (x : Name) (head : Tree) → reads_head x head ≡ true → (init : Tree) → names x init ≡ false → names x (put_first x init head) ≡ false
 head_unnamed x head e init f = by (heads x head e)
   where
     by : Heads x head → names x (put_first x init head) ≡ false
     by (inl (g, p)) = statement_unnamed x head g init f
-    by (inr (inr t)) = let p = path x false t.value t.once in ap (names x) (t.puts init) ∙ seated_unnamed x t.seat (put_first x init t.value) (ap (names x) (p.puts init) ∙ unnamed x p.steps p.spared init f) t.beside
+    by (inr (inr (inr t))) = let p = path x false t.value t.once in ap (names x) (t.puts init) ∙ over_unnamed x t.kind t.left t.body (put_first x init t.value) t.other (ap (names x) (p.puts init) ∙ unnamed x p.steps p.spared init f) t.later
+    by (inr (inr (inl t))) = let p = path x false t.value t.once in ap (names x) (t.puts init) ∙ seated_unnamed x t.seat (put_first x init t.value) (ap (names x) (p.puts init) ∙ unnamed x p.steps p.spared init f) t.beside
     by (inr (inl t)) = ap (names x) (t.puts init) ∙ or_none (any_names x (declarator t.binds (put_first x init t.value) ▸ t.last)) (next_unnamed x t.binds t.value t.once init f t.other t.last t.later)
 
 -- ---- the row

@@ -198,8 +198,10 @@ pub mod NameWeights
 pub mod NextKept
 pub mod NextMeaning
 pub mod OpeningKept
+pub mod OverKept
 pub mod HeadKept
 pub mod OpeningMeaning
+pub mod OverMeaning
 pub mod HeadMeaning
 pub mod NameLawful
 pub mod CatchWeights

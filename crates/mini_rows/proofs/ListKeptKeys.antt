@@ -344,7 +344,7 @@ target_lexical strict o (node shape.SwitchCase xs n ts) e f = absurd (true≢fal
 target_lexical strict o (node shape.Listed xs n ts) e f = absurd (true≢false (sym e))
 target_lexical strict o (node h xs n ts) e f = refl
 
-var_lexical : (t : Tree) → is_var_shape (shape_of t) ≡ true → lexical_names t ≡ []
+pub var_lexical : (t : Tree) → is_var_shape (shape_of t) ≡ true → lexical_names t ≡ []
 unfolding names_of
 var_lexical (node (shape.VariableDeclaration Var) xs n ts) e = refl
 var_lexical t e = absurd (true≢false (sym e))

@@ -165,7 +165,7 @@ give_keyed e left body labels (Some AClass) x y v z = refl
 give_keyed e left body labels None x y v z = refl
 
 module _ (e : Environment) (left body : Tree) (labels : LabelSet) where
-  pub in_rest : Value → State → Completion (Unit {0})
+  unfoldable pub in_rest : Value → State → Completion (Unit {0})
   in_rest v z = run {q = each_demand (summary left).facts.declared} e (for_names []) (in_kids e left body labels (summary left).facts.declared absent) (keys_in (summary left).facts.declared labels v) z
 
   pub in_is : (summary left).lets ≡ [] → (x : Tree) (s : State) → means e (for_in left x body) (Stat None) labels s ≡ either (means e x (As Val) tt s) (λ v z. in_rest v z) (λ x z. stop x z)
@@ -178,7 +178,7 @@ module _ (e : Environment) (left body : Tree) (labels : LabelSet) where
       ∙ leaving_nothing (for_names []) refl _
       ∙ either_cong (means e x (As Val) tt s) _ _ _ _ (λ v z. keys_keyed e left body labels d x absent (give_keyed e left body labels d x absent) v z) (λ y z. refl)
 
-  pub of_rest : Value → State → Completion (Unit {0})
+  unfoldable pub of_rest : Value → State → Completion (Unit {0})
   of_rest v z = run {q = each_demand (summary left).facts.declared} e (for_names []) (in_kids e left body labels (summary left).facts.declared absent) (values_of (summary left).facts.declared labels v) z
 
   pub of_is : (summary left).lets ≡ [] → (x : Tree) (s : State) → means e (each_loop EachOf left x body) (Stat None) labels s ≡ either (means e x (As Val) tt s) (λ v z. of_rest v z) (λ x z. stop x z)
@@ -197,7 +197,7 @@ or_split : (a b : Bool) → a || b ≡ true → (a ≡ true) ⊎ (b ≡ true)
 or_split true b h = inl refl
 or_split false b h = inr h
 
-var_lets : (t : Tree) → is_var_shape (shape_of t) ≡ true → (summary t).lets ≡ []
+pub var_lets : (t : Tree) → is_var_shape (shape_of t) ≡ true → (summary t).lets ≡ []
 var_lets (node (shape.VariableDeclaration Var) xs n ts) h = refl
 var_lets t h = absurd (true≢false (sym h))
 

@@ -81,10 +81,10 @@ value_by (shape.Function false g ds) b e = refl
 value_by (shape.Class false) b e = refl
 value_by h b e = refl
 
-plain_value : (t : Tree) → is_plain_part t ≡ true → is_value (shape_of t) ≡ true
+pub plain_value : (t : Tree) → is_plain_part t ≡ true → is_value (shape_of t) ≡ true
 plain_value (node h xs n ts) e = value_by h (first_of (are_plain_parts ts)) e
 
-led_value : (ss : List Step) → Well AsValue ss → (t : Tree) → is_value (shape_of t) ≡ true → is_value (shape_of (led ss t)) ≡ true
+pub led_value : (ss : List Step) → Well AsValue ss → (t : Tree) → is_value (shape_of t) ≡ true → is_value (shape_of (led ss t)) ≡ true
 led_value [] w t e = e
 led_value (s ∷ ss) w t e = by s.lead (is_end ss) w.0
   where

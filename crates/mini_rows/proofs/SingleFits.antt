@@ -17,7 +17,7 @@ pub first_of : (a b c : Bool) → (a ≡ true → b ≡ true) → a && c ≡ tru
 first_of true b c f e = ap (λ d. d && c) (f refl) ∙ e
 first_of false b c f e = absurd (true≢false (sym e))
 
-second_of : (d a b c : Bool) → (a ≡ true → b ≡ true) → d && (a && c) ≡ true → d && (b && c) ≡ true
+pub second_of : (d a b c : Bool) → (a ≡ true → b ≡ true) → d && (a && c) ≡ true → d && (b && c) ≡ true
 second_of true a b c f e = first_of a b c f e
 second_of false a b c f e = absurd (true≢false (sym e))
 

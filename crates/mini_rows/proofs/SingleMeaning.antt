@@ -92,7 +92,7 @@ later_shifted i q stuck t = tt
 later_shifted i q (op o k) t = (λ a. later_shifted i q (k (done a)) (t.0 a), λ y. later_shifted i q (k (ended y)) (t.1 y))
 later_shifted i q (kid j r k) t = (t.0, (λ a. later_shifted i q (k (done a)) (t.1.0 a), λ y. later_shifted i q (k (ended y)) (t.1.1 y)))
 
-later_choose : (i : ℕ) {σ : ℕ → Demand} {A : Type 0} (b : Bool) (x y : Command σ A) → Later i x → Later i y → Later i (choose b x y)
+pub later_choose : (i : ℕ) {σ : ℕ → Demand} {A : Type 0} (b : Bool) (x y : Command σ A) → Later i x → Later i y → Later i (choose b x y)
 later_choose i true x y t u = t
 later_choose i false x y t u = u
 
@@ -409,7 +409,7 @@ module _ (e : Environment) (k : ℕ) (z : Unseen (alone (Declared k)) e) where
   others_go (v ▸ ps) t u ts a b zero p q r s y g = insensitive e D z.shared v a.0 q r s y g
   others_go (v ▸ ps) t u ts a b (suc j) p q r s y g = others_go ps t u ts a.1 b j p q r s y g
 
-  later_goes : {σ : ℕ → Demand} {A : Type 0} (h : Shape) (q : Demand) (is : List Summary) (ps : Trees) (t u : Tree) (ts : Trees) → AllAvoid D ps → AllAvoid D ts → (c : Command σ A) → Later (count ps) c → (x y : State) → Agree D x y → Go (run e (naming h q [] 0 is) (λ i r w. meaning e (append ps (t ▸ ts)) i (σ i) r w) c x) (run e (naming h q [] 0 is) (λ i r w. meaning e (append ps (u ▸ ts)) i (σ i) r w) c y)
+  pub later_goes : {σ : ℕ → Demand} {A : Type 0} (h : Shape) (q : Demand) (is : List Summary) (ps : Trees) (t u : Tree) (ts : Trees) → AllAvoid D ps → AllAvoid D ts → (c : Command σ A) → Later (count ps) c → (x y : State) → Agree D x y → Go (run e (naming h q [] 0 is) (λ i r w. meaning e (append ps (t ▸ ts)) i (σ i) r w) c x) (run e (naming h q [] 0 is) (λ i r w. meaning e (append ps (u ▸ ts)) i (σ i) r w) c y)
   unfolding Goes
   later_goes h q is ps t u ts a b (ret v) l x y g = (refl, g)
   later_goes h q is ps t u ts a b (fails v) l x y g = (refl, g)

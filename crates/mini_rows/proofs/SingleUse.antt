@@ -17,9 +17,9 @@ use Rattle.mini_laws.specs.Symbols.{is_same}
 use Rattle.mini_node.specs.Children.{part, is_nameless, rest_children}
 use Rattle.mini_node.specs.Kinds.{is_identifier}
 use Rattle.mini_rows.specs.Sketches.{Head, AList, Array, Unary, Binary, Logical, Conditional, Sequence, Call, New, StaticMember, ComputedMember, Yield, OfExpression, Throw, Return, If, shape_by, Asked, AsWholeItem, AsValue, AsValues, asked_below, Leap}
-use Rattle.mini_rows.specs.Lists.{declaration}
+use Rattle.mini_rows.specs.Lists.{declaration, Each, EachIn, EachOf, each_loop}
 use Rattle.mini_rows.specs.Declarations.{declarator}
-use Rattle.mini_rows.specs.Unused.{is_like_one, names, any_names, begins, goes_on, leads, holds_list, is_childless, reads, is_first, leads_to, put_first, put_among, passes, are_passed, all_passed, reads_first, is_declarator, declares_list, reads_declarator, reads_declarators, reads_initially, reads_outside, reads_head, evaluated}
+use Rattle.mini_rows.specs.Unused.{is_like_one, names, any_names, begins, goes_on, leads, holds_list, is_childless, reads, is_first, leads_to, put_first, put_among, passes, are_passed, all_passed, reads_first, is_declarator, declares_list, reads_declarator, reads_declarators, reads_initially, reads_outside, is_open_left, goes_over, reads_over, reads_head, evaluated}
 use Rattle.mini_rows.proofs.Arranging.{Plain, Below, sum_below, Local, Summed}
 use Rattle.mini_rows.proofs.ListKeptHeads.{Seat, Loop, Choice, seated, rest}
 
@@ -480,17 +480,65 @@ outside x (node shape.SwitchStatement [] zero (value ▸ (cases ▸ none))) e = 
 outside x (node shape.ForStatement [] zero (value ▸ (u ▸ (v ▸ (w ▸ none))))) e = outside_of x (Loop u v w) shape.ForStatement value (u ▸ (v ▸ (w ▸ none))) (λ u. refl) refl refl e
 outside x t e = absurd (true≢false (sym e))
 
--- a head is a statement, a declaration, or opens a scope
+-- a loop over keys or values, and reads it in its right side
+pub record Over (x : Name) (t : Tree) : Type 0 where
+  pub kind : Each
+  pub left : Tree
+  pub value : Tree
+  pub body : Tree
+  pub once : is_first x false value ≡ true
+  pub plain : is_open_left left ≡ true
+  pub other : names x left ≡ false
+  pub later : any_names x (body ▸ none) ≡ false
+  pub is : t ≡ each_loop kind left value body
+  pub puts : (r : Tree) → put_first x r t ≡ each_loop kind left (put_first x r value) body
+  pub evaluates : evaluated t ≡ value
+
+put_over : (x : Name) (k : Each) (left value body : Tree) → names x left ≡ false → names x value ≡ true → (r : Tree) → put_first x r (each_loop k left value body) ≡ each_loop k left (put_first x r value) body
+put_over x EachIn left value body f n r = λ i. node shape.ForInStatement [] 0 (if f i then put_first x r left ▸ (value ▸ (body ▸ none)) else left ▸ (if n i then put_first x r value ▸ (body ▸ none) else value ▸ put_among x r (body ▸ none)))
+put_over x EachOf left value body f n r = λ i. node shape.ForOfStatement [] 0 (if f i then put_first x r left ▸ (value ▸ (body ▸ none)) else left ▸ (if n i then put_first x r value ▸ (body ▸ none) else value ▸ put_among x r (body ▸ none)))
+
+goes : (k : Each) (left value body : Tree) → is_open_left left ≡ true → evaluated (each_loop k left value body) ≡ value
+goes EachIn left value body p = ap (λ c. if c then value else each_loop EachIn left value body) p
+goes EachOf left value body p = ap (λ c. if c then value else each_loop EachOf left value body) p
+
+over_of : (x : Name) (k : Each) (left value body : Tree) → is_open_left left && (is_first x false value && (not (names x left) && not (any_names x (body ▸ none)))) ≡ true → Over x (each_loop k left value body)
+over_of x k left value body e =
+    let (p, q) = and_parts (is_open_left left) (is_first x false value && (not (names x left) && not (any_names x (body ▸ none)))) e in
+    let (a, b) = and_parts (is_first x false value) (not (names x left) && not (any_names x (body ▸ none))) q in
+    let (c, d) = and_parts (not (names x left)) (not (any_names x (body ▸ none))) b in
+    let other = not_true (names x left) c in
+    record {
+      kind = k;
+      left = left;
+      value = value;
+      body = body;
+      once = a;
+      plain = p;
+      other = other;
+      later = not_true (any_names x (body ▸ none)) d;
+      is = refl;
+      puts = put_over x k left value body other (mentioned x false value a);
+      evaluates = goes k left value body p;
+    }
+
+over : (x : Name) (t : Tree) → reads_over x t ≡ true → Over x t
+over x (node shape.ForInStatement [] zero (left ▸ (value ▸ (body ▸ none)))) e = over_of x EachIn left value body e
+over x (node shape.ForOfStatement [] zero (left ▸ (value ▸ (body ▸ none)))) e = over_of x EachOf left value body e
+over x t e = absurd (true≢false (sym e))
+
+-- a head is a statement, a declaration, opens a scope, or is such a loop
 abbrev pub Heads : Name → Tree → Type 0
-Heads x t = ((reads_first x t ≡ true) × (evaluated t ≡ t)) ⊎ (Initial x t ⊎ Outside x t)
+Heads x t = ((reads_first x t ≡ true) × (evaluated t ≡ t)) ⊎ (Initial x t ⊎ (Outside x t ⊎ Over x t))
 
 pub heads : (x : Name) (t : Tree) → reads_head x t ≡ true → Heads x t
-heads x t e = by (reads_first x t) (reads_initially x t) refl refl
+heads x t e = by (reads_first x t) (reads_initially x t) (reads_outside x t) refl refl refl
   where
-    by : (a b : Bool) → reads_first x t ≡ a → reads_initially x t ≡ b → Heads x t
-    by true b f g = inl (f, stays x t f)
-    by false true f g = inr (inl (initially x t g))
-    by false false f g = inr (inr (outside x t (sym (λ i. f i || (g i || reads_outside x t)) ∙ e)))
+    by : (a b c : Bool) → reads_first x t ≡ a → reads_initially x t ≡ b → reads_outside x t ≡ c → Heads x t
+    by true b c f g h = inl (f, stays x t f)
+    by false true c f g h = inr (inl (initially x t g))
+    by false false true f g h = inr (inr (inl (outside x t h)))
+    by false false false f g h = inr (inr (inr (over x t (sym (λ i. f i || (g i || (h i || reads_over x t))) ∙ e))))
 
 -- ---- what holds of it
 

@@ -19,14 +19,14 @@ use Rattle.mini_model.specs.Weight.{Outline, commas_weight, outline, outlines, o
 use Rattle.mini_laws.specs.Symbols.{is_same}
 use Rattle.mini_terms.specs.Reading.{is_plain_part}
 use Rattle.mini_rows.specs.Declarations.{binding, declarator}
-use Rattle.mini_rows.specs.Lists.{block, declaration}
+use Rattle.mini_rows.specs.Lists.{block, declaration, Each, EachIn, EachOf, each_loop}
 use Rattle.mini_rows.specs.Sketches.{shape_by, Asked, AsWholeItem, AsValue, AsValues, asked_below}
 use Rattle.mini_rows.specs.Unused.{resolved, declared_among, declared_left, is_first, put_first, reads_first, reads_head, evaluated}
 use Rattle.mini_rows.proofs.BooleanWeights.{moved}
 use Rattle.mini_rows.proofs.ListWeights.{total, in_list, comma_list, declarators_append}
 use Rattle.mini_rows.proofs.ListKeptHeads as opening
 use Rattle.mini_rows.proofs.ListKeptHeads.{Loop, Choice, seated}
-use Rattle.mini_rows.proofs.SingleUse.{Lead, Not, Plus, Minus, Tilde, Emptying, Beside, Deciding, Choosing, Passing, Called, Making, Waiting, Member, Keyed, Holding, Against, Given, Filling, Keying, Listing, Doing, Giving, Raising, Testing, head_of, before, place, Step, led, is_end, Stands, Well, Initial, heads, path, statement, Outside, Heads, Path}
+use Rattle.mini_rows.proofs.SingleUse.{Lead, Not, Plus, Minus, Tilde, Emptying, Beside, Deciding, Choosing, Passing, Called, Making, Waiting, Member, Keyed, Holding, Against, Given, Filling, Keying, Listing, Doing, Giving, Raising, Testing, head_of, before, place, Step, led, is_end, Stands, Well, Initial, heads, path, statement, Outside, Over, Heads, Path}
 
 -- ---- where the steps stand
 
@@ -293,13 +293,30 @@ outside_falls s k head t r f =
     by (Choice cases) = omega (arith, value_falls whole_seat)
     by (Loop u v w) = omega (arith, value_falls statement_expression_seat)
 
+-- a loop over keys or values weighs what it goes over
+over_falls : (s : List ℕ) (k : ℕ) (head : Tree) (t : Over (resolved s k) head) (r : Tree) → is_plain_part r ≡ true → total (put_first (resolved s k) r head ▸ none) ≤ total (head ▸ none) + (weight (Expr argument_seat) r + 3)
+over_falls s k head t r f =
+    let there = by t.kind in
+    omega (arith, there, ap (λ u. total (u ▸ none)) t.is, ap (λ u. total (u ▸ none)) (t.puts r))
+  where
+    value_falls : (place : Seat) → weight (Expr place) (put_first (resolved s k) r t.value) ≤ weight (Expr place) t.value + (weight (Expr argument_seat) r + 3)
+    value_falls place =
+        let p = path (resolved s k) false t.value t.once in
+        let falls = led_falls AsValue p.steps p.well (Expr place) tt r f p.read (some_symbol k p.read.symbol p.same) in
+        omega (arith, falls, ap (weight (Expr place)) p.is, ap (weight (Expr place)) (p.puts r))
+
+    by : (c : Each) → total (each_loop c t.left (put_first (resolved s k) r t.value) t.body ▸ none) ≤ total (each_loop c t.left t.value t.body ▸ none) + (weight (Expr argument_seat) r + 3)
+    by EachIn = omega (arith, value_falls whole_seat)
+    by EachOf = omega (arith, value_falls argument_seat)
+
 either_falls : (s : List ℕ) (k : ℕ) (head : Tree) → reads_head (resolved s k) head ≡ true → (r : Tree) → is_plain_part r ≡ true → total (put_first (resolved s k) r head ▸ none) ≤ total (head ▸ none) + (weight (Expr argument_seat) r + 3)
 either_falls s k head e r f = by (heads (resolved s k) head e)
   where
     by : Heads (resolved s k) head → total (put_first (resolved s k) r head ▸ none) ≤ total (head ▸ none) + (weight (Expr argument_seat) r + 3)
     by (inl (o, p)) = let falls = head_falls s k head o stmt_seat.List r f in omega (arith, falls)
     by (inr (inl t)) = initial_falls s k head t r f
-    by (inr (inr t)) = outside_falls s k head t r f
+    by (inr (inr (inl t))) = outside_falls s k head t r f
+    by (inr (inr (inr t))) = over_falls s k head t r f
 
 -- ---- the block
 

@@ -13,7 +13,7 @@ use Rattle.mini_model.specs.declared.shape.Shape.TheVariants as shape
 use Rattle.mini_model.specs.Tree.{Tree, Trees, node, none, ◌▸◌, absent, listed, shape_of, empty_statement, expression_statement, count}
 use Rattle.mini_model.specs.Paths.{append}
 use Rattle.mini_accept.specs.WellShaped as well
-use Rattle.mini_accept.specs.WellShaped.{Depth, in_module, in_body, nested, Class, a_statement, a_block, a_key, a_private_or_key, an_inner_key, a_declarator, a_pattern, an_init, an_expression, a_default_export, Slot, one, one_or_absent, many, many_or_holes, many_and_rest, many_or_holes_and_rest, quasis, each, filling, fits, fill}
+use Rattle.mini_accept.specs.WellShaped.{Depth, in_module, in_body, nested, Class, a_statement, a_block, a_key, a_private_or_key, an_inner_key, a_declarator, a_pattern, an_init, an_expression, a_loop_left, a_default_export, Slot, one, one_or_absent, many, many_or_holes, many_and_rest, many_or_holes_and_rest, quasis, each, filling, fits, fill}
 use Rattle.mini_laws.specs.declared.names.Binding.{Binding}
 use Rattle.mini_laws.specs.DeclaredNames.{has_inner}
 use Rattle.mini_laws.specs.declared.names.Declared.TheVariants.{Lexical}
@@ -51,7 +51,7 @@ use Rattle.mini_terms.specs.Folds.{is_effect_free}
 use Rattle.mini_terms.specs.Parts.{leaves_nothing}
 use Rattle.mini_terms.specs.Reading.{is_plain_part}
 use Rattle.mini_rows.specs.Arranged.{Vanishes}
-use Rattle.mini_rows.specs.Lists.{block, declares_nothing, declaration}
+use Rattle.mini_rows.specs.Lists.{block, declares_nothing, declaration, Each, EachIn, EachOf, each_loop}
 use Rattle.mini_rows.specs.Declarations.{binding, declarator}
 use Rattle.mini_rows.specs.Unused.{resolved, declared_one, any_names, is_idle, may_move, is_first, reads_first, reads_head, BlockRow, declared_among, declared_left, put_first, evaluated}
 use Rattle.mini_rows.proofs.ArrangedBodies.{quiet}
@@ -62,8 +62,8 @@ use Rattle.mini_rows.proofs.DeclaredKept.{value_leaves, value_names, idle_leaves
 use Rattle.mini_rows.proofs.HeadKept.{head_leaves, head_names}
 use Rattle.mini_rows.proofs.HeadMeaning.{row_71}
 use Rattle.mini_rows.proofs.ListKeptHeads.{Seat, Loop, Choice, seated}
-use Rattle.mini_rows.proofs.SingleUse.{Initial, Outside, Heads, heads}
-use Rattle.mini_rows.proofs.SingleFits.{first_of, put_fits, put_initial, put_asked, put_begun}
+use Rattle.mini_rows.proofs.SingleUse.{Initial, Outside, Over, Heads, heads}
+use Rattle.mini_rows.proofs.SingleFits.{first_of, second_of, put_fits, put_initial, put_asked, put_begun}
 use Rattle.mini_rows.proofs.UnusedMeaning.{movable, lexical_alone, row_72, row_72_idle}
 use Rattle.mini_rows.proofs.NextKept.{next_leaves, next_names}
 use Rattle.mini_rows.proofs.NextMeaning.{row_71_next}
@@ -197,13 +197,24 @@ outside_fits strict x head t r f e = ap (fits strict item) (t.puts r) ∙ by t.s
     by (Choice cases) g = switch_fits strict cases t.value (put_first x r t.value) (put_asked strict x t.value t.once r f) g
     by (Loop u v w) g = for_fits strict u v w t.value (put_first x r t.value) (put_begun strict x t.value t.once r f) g
 
+-- and a loop over keys or values
+each_fits : (strict : Bool) (c : Each) (l w a b : Tree) → (fits strict (one an_expression) a ≡ true → fits strict (one an_expression) b ≡ true) → fits strict item (each_loop c l a w) ≡ true → fits strict item (each_loop c l b w) ≡ true
+each_fits true EachIn l w a b h e = second_of (fits true (one (a_loop_left true)) l) (fits true (one an_expression) a) (fits true (one an_expression) b) _ h e
+each_fits false EachIn l w a b h e = second_of (fits false (one (a_loop_left true)) l) (fits false (one an_expression) a) (fits false (one an_expression) b) _ h e
+each_fits true EachOf l w a b h e = second_of (fits true (one (a_loop_left false)) l) (fits true (one an_expression) a) (fits true (one an_expression) b) _ h e
+each_fits false EachOf l w a b h e = second_of (fits false (one (a_loop_left false)) l) (fits false (one an_expression) a) (fits false (one an_expression) b) _ h e
+
+over_fits : (strict : Bool) (x : Name) (head : Tree) (t : Over x head) (r : Tree) → fits strict (one an_expression) r ≡ true → fits strict item head ≡ true → fits strict item (put_first x r head) ≡ true
+over_fits strict x head t r f e = ap (fits strict item) (t.puts r) ∙ each_fits strict t.kind t.left t.body t.value (put_first x r t.value) (put_asked strict x t.value t.once r f) (sym (ap (fits strict item) t.is) ∙ e)
+
 head_fits : (strict : Bool) (x : Name) (head : Tree) → reads_head x head ≡ true → (r : Tree) → fits strict (one an_expression) r ≡ true → fits strict item head ≡ true → fits strict item (put_first x r head) ≡ true
 head_fits strict x head once r f e = by (heads x head once)
   where
     by : Heads x head → fits strict item (put_first x r head) ≡ true
     by (inl (o, p)) = put_fits strict x head o r f e
     by (inr (inl t)) = initial_fits strict x head t r f e
-    by (inr (inr t)) = outside_fits strict x head t r f e
+    by (inr (inr (inl t))) = outside_fits strict x head t r f e
+    by (inr (inr (inr t))) = over_fits strict x head t r f e
 
 pub single_fits : (strict : Bool) (k : VariableDeclarationKind) (x : Name) (first : Trees) (init head : Tree) → may_move init ≡ true → reads_head x head ≡ true → fits strict item (declared_among k x first init none) ≡ true → fits strict item head ≡ true → (fits strict item (declared_left k first) ≡ true) × (fits strict item (put_first x init head) ≡ true)
 single_fits strict k x first init head m r e f =

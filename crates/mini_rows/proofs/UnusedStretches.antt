@@ -16,7 +16,7 @@ use Rattle.mini_laws.specs.Congruence.{AllAvoid}
 use Rattle.mini_kept.specs.Frames.{ports}
 use Rattle.mini_kept.specs.Without.{Permits}
 use Rattle.mini_node.specs.Kinds.{is_listed_shape}
-use Rattle.mini_rows.specs.Lists.{block, declares_nothing, declaration}
+use Rattle.mini_rows.specs.Lists.{block, declares_nothing, declaration, Each, EachIn, EachOf, each_loop}
 use Rattle.mini_rows.specs.Declarations.{binding, declarator}
 use Rattle.mini_rows.specs.Sketches.{shape_by, AsWholeItem}
 use Rattle.mini_rows.specs.Unused.{resolved, names, any_names, declared_one, declared_among, declared_left, is_idle, may_move, is_first, reads_first, put_first, are_passed, reads_head, evaluated, lets_go, BlockRow}
@@ -166,13 +166,18 @@ outside_there : (c : Seat) (a b : Tree) → StandsThere (seated c a) (seated c b
 outside_there (Choice cases) a b = record { head_in = λ o strict. refl; put_in = λ o strict. refl; head_ported = λ rest. refl; put_ported = λ rest. refl }
 outside_there (Loop u v w) a b = record { head_in = λ o strict. refl; put_in = λ o strict. refl; head_ported = λ rest. refl; put_ported = λ rest. refl }
 
+over_there : (c : Each) (l w a b : Tree) → StandsThere (each_loop c l a w) (each_loop c l b w)
+over_there EachIn l w a b = record { head_in = λ o strict. refl; put_in = λ o strict. refl; head_ported = λ rest. refl; put_ported = λ rest. refl }
+over_there EachOf l w a b = record { head_in = λ o strict. refl; put_in = λ o strict. refl; head_ported = λ rest. refl; put_ported = λ rest. refl }
+
 stands_there : (x : Name) (head : Tree) → reads_head x head ≡ true → (init : Tree) → StandsThere head (put_first x init head)
 stands_there x head once init = by (heads x head once)
   where
     by : Heads x head → StandsThere head (put_first x init head)
     by (inl (f, p)) = statement_there x head f init
     by (inr (inl t)) = subst₂ StandsThere (sym t.is) (sym (t.puts init)) (initial_there t.kind (declarator t.binds t.value ▸ t.last) (declarator t.binds (put_first x init t.value) ▸ t.last))
-    by (inr (inr t)) = subst₂ StandsThere (sym t.is) (sym (t.puts init)) (outside_there t.seat t.value (put_first x init t.value))
+    by (inr (inr (inl t))) = subst₂ StandsThere (sym t.is) (sym (t.puts init)) (outside_there t.seat t.value (put_first x init t.value))
+    by (inr (inr (inr t))) = subst₂ StandsThere (sym t.is) (sym (t.puts init)) (over_there t.kind t.left t.body t.value (put_first x init t.value))
 
 -- ---- the rows
 

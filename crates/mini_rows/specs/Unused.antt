@@ -23,7 +23,7 @@ use Rattle.mini_terms.specs.Folds.{is_effect_free}
 use Rattle.mini_terms.specs.Parts.{leaves_nothing}
 use Rattle.mini_terms.specs.Reading.{is_item, is_plain_part}
 use Rattle.mini_rows.specs.Cases.{switch_case}
-use Rattle.mini_rows.specs.Lists.{block, switch, for_loop, declaration, declares_nothing}
+use Rattle.mini_rows.specs.Lists.{block, switch, for_loop, declaration, declares_nothing, is_bare_var}
 pub use Rattle.mini_rows.specs.Lists.{resolved}
 use Rattle.mini_rows.specs.Declarations.{binding, declarator}
 
@@ -285,17 +285,44 @@ opens_scope t = (is_switch_shape (shape_of t) && is_bare t 2) || (is_for_shape (
 abbrev pub reads_outside : Name → Tree → Bool
 reads_outside x t = opens_scope t && (is_first x false (part t 0) && not (any_names x (rest_children 1 (children t))))
 
+-- what a loop over keys or values assigns to: a name, a member or a pattern
+abbrev pub is_target_shape : Shape → Bool
+is_target_shape shape.Identifier = true
+is_target_shape (shape.StaticMemberExpression is_optional) = true
+is_target_shape (shape.ComputedMemberExpression is_optional) = true
+is_target_shape shape.ObjectAssignmentTarget = true
+is_target_shape shape.ArrayAssignmentTarget = true
+is_target_shape _ = false
+
+-- or a `var` without an initializer: its left side declares no lexical name
+abbrev pub is_open_left : Tree → Bool
+is_open_left t = is_target_shape (shape_of t) || is_bare_var t
+
+abbrev pub is_over_shape : Shape → Bool
+is_over_shape shape.ForInStatement = true
+is_over_shape shape.ForOfStatement = true
+is_over_shape _ = false
+
+-- `for (l in e) ..` and `for (l of e) ..` with such a left side: no name is in scope where e is evaluated, before all else
+-- (ECMA-262, "ForIn/OfHeadEvaluation")
+abbrev pub goes_over : Tree → Bool
+goes_over t = is_over_shape (shape_of t) && (is_bare t 3 && is_open_left (part t 0))
+
+-- it does so in its right side
+abbrev pub reads_over : Name → Tree → Bool
+reads_over x t = goes_over t && (is_first x false (part t 1) && (not (names x (part t 0)) && not (any_names x (rest_children 2 (children t)))))
+
 -- a head: what may stand right after the declaration
 abbrev pub reads_head : Name → Tree → Bool
-reads_head x t = reads_first x t || (reads_initially x t || reads_outside x t)
+reads_head x t = reads_first x t || (reads_initially x t || (reads_outside x t || reads_over x t))
 
 -- a declaration with a first declarator
 abbrev pub has_declarator : Tree → Bool
 has_declarator t = declares_list t && (not (is_childless (part t 0)) && is_declarator (part (part t 0) 0))
 
--- what a head evaluates: of a declaration the first initializer
+-- what a head evaluates: of a declaration the first initializer, and of a loop over keys or values its right side
 abbrev pub evaluated : Tree → Tree
-evaluated t = if has_declarator t then part (part (part t 0) 0) 1 else t
+evaluated t = if has_declarator t then part (part (part t 0) 0) 1 else (if goes_over t then part t 1 else t)
 
 -- a function or a class without a name of its own gets the variable's (ECMA-262, "NamedEvaluation"): none of them moves
 abbrev pub is_definition : Shape → Bool
@@ -308,7 +335,8 @@ abbrev pub may_move : Tree → Bool
 may_move t = is_plain_part t && not (is_definition (shape_of t))
 
 -- 71: `{ let a, x = b(); return x + c; }` becomes `{ let a; return b() + c; }`, `{ const x = b(); return x; }` `{ ; return b(); }`,
--- `{ let x = a(); const y = x.b; c(y); }` `{ ; const y = a().b; c(y); }`, and `{ let x = a(); switch (x.b) { } }` `{ ; switch (a().b) { } }`
+-- `{ let x = a(); const y = x.b; c(y); }` `{ ; const y = a().b; c(y); }`, `{ let x = a(); switch (x.b) { } }` `{ ; switch (a().b) { } }`, and
+-- `{ let x = a(); for (c of x.b) d(); }` `{ ; for (c of a().b) d(); }`
 pub record Row71 (W : VariableSet) (n w : Tree) : Type 0 where
   pub before : Trees
   pub kind : VariableDeclarationKind

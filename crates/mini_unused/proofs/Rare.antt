@@ -15,8 +15,9 @@ use Rattle.mini_node.specs.Kinds.{is_identifier}
 use Rattle.mini_node.specs.Walks.{next_child}
 use Rattle.mini_kept.proofs.SameScopes.{same_texts}
 use Rattle.mini_rows.specs.Declarations.{declarator}
-use Rattle.mini_rows.specs.Unused.{resolved, is_like_one, names, any_names, is_idle, leads, holds_list, is_childless, reads, is_first, leads_to, put_first, put_among, are_passed, is_head_shape, reads_first, reads_head, has_declarator, evaluated}
+use Rattle.mini_rows.specs.Unused.{resolved, is_like_one, names, any_names, is_idle, leads, holds_list, is_childless, reads, is_first, leads_to, put_first, put_among, are_passed, is_head_shape, reads_first, reads_head, has_declarator, goes_over, evaluated}
 use Rattle.mini_rows.proofs.ListKeptHeads.{Seat, Loop, Choice, seated}
+use Rattle.mini_rows.specs.Lists.{Each, EachIn, EachOf, each_loop}
 use Rattle.mini_rows.proofs.SingleUse.{Heads, heads}
 use Rattle.mini_unused.specs.declared.tallies.Tallies.{Tallies}
 use Rattle.mini_unused.specs.RemoveUnusedDeclaration.{declares_list, is_alone, list_at, let_left, statement_left, list_left}
@@ -234,10 +235,15 @@ head_counted n x t e = by (heads x t e)
     seated_counted (Loop u v w) t k = omega (arith, k)
     seated_counted (Choice cases) t k = omega (arith, k)
 
+    over_counted : (c : Each) (l w v : Tree) → 1 ≤ tally (bucket true n) (bucket true n x) v → 1 ≤ tally (bucket true n) (bucket true n x) (each_loop c l v w)
+    over_counted EachIn l w v k = omega (arith, k)
+    over_counted EachOf l w v k = omega (arith, k)
+
     by : Heads x t → 1 ≤ tally (bucket true n) (bucket true n x) t
     by (inl (f, p)) = statement_counted n x t f
     by (inr (inl i)) = let read = first_counted n x false i.value i.once in let whole = ap (tally (bucket true n) (bucket true n x)) i.is in omega (arith, read, whole)
-    by (inr (inr i)) = let read = seated_counted i.seat i.value (first_counted n x false i.value i.once) in let whole = ap (tally (bucket true n) (bucket true n x)) i.is in omega (arith, read, whole)
+    by (inr (inr (inr i))) = let read = over_counted i.kind i.left i.body i.value (first_counted n x false i.value i.once) in let whole = ap (tally (bucket true n) (bucket true n x)) i.is in omega (arith, read, whole)
+    by (inr (inr (inl i))) = let read = seated_counted i.seat i.value (first_counted n x false i.value i.once) in let whole = ap (tally (bucket true n) (bucket true n x)) i.is in omega (arith, read, whole)
 
 -- in the buckets of x, of tables so large
 module _ (x : Name) (n r : ℕ) where
@@ -440,15 +446,16 @@ part_spelled x t u b e f h r =
 
 -- what a head evaluates
 pub head_spelled : (x : Name) (t u : Tree) (b : Bool) → u ≡ evaluated t → (b ≡ true → (r : ℕ) → 1 ≤ tally (bucket false r) (bucket false r x) u) → b ≡ true → (r : ℕ) → 1 ≤ tally (bucket false r) (bucket false r x) t
-head_spelled x t u b e f h r = by (has_declarator t) (let one = f h r in let same = ap (tally (bucket false r) (bucket false r x)) e in omega (arith, one, same))
+head_spelled x t u b e f h r = by (has_declarator t) (goes_over t) (let one = f h r in let same = ap (tally (bucket false r) (bucket false r x)) e in omega (arith, one, same))
   where
-    by : (c : Bool) → 1 ≤ tally (bucket false r) (bucket false r x) (if c then part (part (part t 0) 0) 1 else t) → 1 ≤ tally (bucket false r) (bucket false r x) t
-    by true one =
+    by : (c d : Bool) → 1 ≤ tally (bucket false r) (bucket false r x) (if c then part (part (part t 0) 0) 1 else (if d then part t 1 else t)) → 1 ≤ tally (bucket false r) (bucket false r x) t
+    by true d one =
         let inner = part_of (bucket false r) (bucket false r x) (part (part t 0) 0) 1 in
         let list = part_of (bucket false r) (bucket false r x) (part t 0) 0 in
         let whole = part_of (bucket false r) (bucket false r x) t 0 in
         omega (arith, one, inner, list, whole)
-    by false one = one
+    by false true one = let whole = part_of (bucket false r) (bucket false r x) t 1 in omega (arith, one, whole)
+    by false false one = one
 
 pub text_counted : (r : ℕ) (x y : Name) → same_text x.spelling y.spelling ≡ true → 1 ≤ own_tally (bucket false r) (bucket false r x) (y ∷ [])
 text_counted r x y e = let one = counted_there (bucket false r) (bucket false r x) y (sym (bucket_alike r x y (same_texts x.spelling y.spelling e))) in omega (arith, one)

@@ -11,7 +11,7 @@ use Rattle.mini_laws.specs.ScopeList.{has_eval, any_has_eval, is_eval_call, is_e
 use Rattle.mini_laws.specs.Value.{VariableSet}
 use Rattle.mini_node.specs.Children.{names_of, part, with_child, with_part, without, is_bare, is_nameless}
 use Rattle.mini_node.specs.Kinds.{is_listed}
-use Rattle.mini_rows.specs.Lists.{declaration}
+use Rattle.mini_rows.specs.Lists.{declaration, Each, EachIn, EachOf, each_loop}
 use Rattle.mini_rows.specs.Unused.{is_idle, any_names, names, begins, goes_on, leads, holds_list, is_childless, is_first, leads_to, put_first, put_among, are_passed, is_head_shape, reads_first, reads_head, evaluated, may_move}
 use Rattle.mini_unused.specs.RemoveUnusedDeclaration.{declares_list, declares_name, may_lose, is_free_at, is_unused_declarator, list_at, statement_left, let_left}
 use Rattle.mini_rows.specs.Declarations.{declarator}
@@ -221,13 +221,25 @@ put_outside : (c : Seat) (a b : Tree) → (has_eval a ≡ false → has_eval b �
 put_outside (Choice cases) a b h g = let (x, y) = first_and_others a (cases ▸ none) (below (seated (Choice cases) a) g) in over (seated (Choice cases) b) refl (all_of b (cases ▸ none) (h x) y)
 put_outside (Loop u v w) a b h g = let (x, y) = first_and_others a (u ▸ (v ▸ (w ▸ none))) (below (seated (Loop u v w) a) g) in over (seated (Loop u v w) b) refl (all_of b (u ▸ (v ▸ (w ▸ none))) (h x) y)
 
+-- in what a loop over keys or values goes over
+over_others : (l a b : Tree) (ts : Trees) → (has_eval a ≡ false → has_eval b ≡ false) → any_has_eval (l ▸ (a ▸ ts)) ≡ false → any_has_eval (l ▸ (b ▸ ts)) ≡ false
+over_others l a b ts h g =
+    let (x, y) = first_and_others l (a ▸ ts) g in
+    let (z, u) = first_and_others a ts y in
+    all_of l (b ▸ ts) x (all_of b ts (h z) u)
+
+put_over : (c : Each) (l w a b : Tree) → (has_eval a ≡ false → has_eval b ≡ false) → has_eval (each_loop c l a w) ≡ false → has_eval (each_loop c l b w) ≡ false
+put_over EachIn l w a b h g = over (each_loop EachIn l b w) refl (over_others l a b (w ▸ none) h (below (each_loop EachIn l a w) g))
+put_over EachOf l w a b h g = over (each_loop EachOf l b w) refl (over_others l a b (w ▸ none) h (below (each_loop EachOf l a w) g))
+
 put_there_head : (x : Name) (r t : Tree) → reads_head x t ≡ true → has_eval r ≡ false → has_eval t ≡ false → has_eval (put_first x r t) ≡ false
 put_there_head x r t f e g = by (heads x t f)
   where
     by : Heads x t → has_eval (put_first x r t) ≡ false
     by (inl (o, p)) = put_in_head x r t o e g
     by (inr (inl i)) = put_in_initial x r t i e g
-    by (inr (inr i)) = ap has_eval (i.puts r) ∙ put_outside i.seat i.value (put_first x r i.value) (put_there x false r i.value i.once e) (sym (ap has_eval i.is) ∙ g)
+    by (inr (inr (inr i))) = ap has_eval (i.puts r) ∙ put_over i.kind i.left i.body i.value (put_first x r i.value) (put_there x false r i.value i.once e) (sym (ap has_eval i.is) ∙ g)
+    by (inr (inr (inl i))) = ap has_eval (i.puts r) ∙ put_outside i.seat i.value (put_first x r i.value) (put_there x false r i.value i.once e) (sym (ap has_eval i.is) ∙ g)
 
 -- ---- a declaration whose declarator has another tree in what it reads first
 

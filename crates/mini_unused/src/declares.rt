@@ -3,7 +3,7 @@
 ghost use Rattle.std.specs.Prelude.{◌≡◌};
 ghost use Rattle.mini_rows.specs.Lists as list;
 
-use mini_model::{Shape, UnaryOperator};
+use mini_model::{Shape, UnaryOperator, VariableDeclarationKind};
 use mini_node::Node;
 
 /// Whether nothing is declared there, as by an expression.
@@ -32,4 +32,29 @@ pub fn declares_nothing(node: &Node) -> bool
         | Shape::ExportDefaultDeclaration => false,
         _ => true,
     }
+}
+
+// Whether a declarator has no initializer.
+fn lacks_initializer(node: &Node) -> bool
+    ensures { result ≡ list.lacks_initializer node.now }
+{
+    node.children().len() == 2 && matches!(node.child(1).shape(), Shape::Absent)
+}
+
+// Whether there is one declarator, without an initializer.
+fn are_bare(node: &Node) -> bool
+    ensures { result ≡ list.are_bare node.now }
+{
+    node.children().len() == 1 && lacks_initializer(node.child(0))
+}
+
+/// `var x`, without an initializer.
+pub fn is_bare_var(node: &Node) -> bool
+    ensures { result ≡ list.is_bare_var node.now }
+{
+    matches!(
+        node.shape(),
+        Shape::VariableDeclaration(VariableDeclarationKind::Var)
+    ) && node.children().len() == 1
+        && are_bare(node.child(0))
 }

@@ -16,6 +16,7 @@ ghost use Rattle.mini_unused.specs.SubstituteSingleUse.{declaration_left, Single
 use crate::declarations::{
     declares_list, declares_name, is_lexical, may_lose, put_child, take_child, take_declarator,
 };
+use crate::declares::is_bare_var;
 use crate::evals::either_has_eval;
 use crate::mentions::{is_mentioned, is_mentioned_before, is_mentioned_from, is_same_symbol};
 use crate::next_uses::{is_declarator, substitute_next_uses};
@@ -333,11 +334,55 @@ fn reads_outside(name: &Name, node: &Node) -> bool
         && !is_mentioned_from(name, node.children(), 1)
 }
 
+// A name, a member or a pattern, as a loop over keys or values assigns to it.
+fn is_target(shape: &Shape) -> bool
+    ensures { result ≡ reading.is_target_shape shape.now }
+{
+    matches!(
+        shape,
+        Shape::Identifier
+            | Shape::StaticMemberExpression(_)
+            | Shape::ComputedMemberExpression(_)
+            | Shape::ObjectAssignmentTarget
+            | Shape::ArrayAssignmentTarget
+    )
+}
+
+// The left side of such a loop that declares no lexical name.
+fn is_open_left(node: &Node) -> bool
+    ensures { result ≡ reading.is_open_left node.now }
+{
+    is_target(node.shape()) || is_bare_var(node)
+}
+
+// `for (l in e) ..` and `for (l of e) ..` with such a left side.
+fn goes_over(node: &Node) -> bool
+    ensures value { result ≡ reading.goes_over node.now }
+    ensures parts { result ≡ true → count (children node.now) ≡ 3 }
+{
+    matches!(node.shape(), Shape::ForInStatement | Shape::ForOfStatement)
+        && node.is_bare(3)
+        && is_open_left(node.child(0))
+}
+
+// It reads the variable in its right side.
+fn reads_over(name: &Name, node: &Node) -> bool
+    ensures { result ≡ reading.reads_over name.now node.now }
+{
+    goes_over(node)
+        && is_first(name, false, node.child(1))
+        && !is_mentioned(name, node.child(0))
+        && !is_mentioned_from(name, node.children(), 2)
+}
+
 // What may stand right after the declaration.
 fn reads_head(name: &Name, node: &Node) -> bool
     ensures { result ≡ reading.reads_head name.now node.now }
 {
-    reads_first(name, node) || reads_initially(name, node) || reads_outside(name, node)
+    reads_first(name, node)
+        || reads_initially(name, node)
+        || reads_outside(name, node)
+        || reads_over(name, node)
 }
 
 // A function or a class, which may get the variable's name.
@@ -384,12 +429,14 @@ fn has_declarator(node: &Node) -> bool
     declares_list(node) && !is_childless(node.child(0)) && is_declarator(node.child(0).child(0))
 }
 
-/// What a head evaluates: of a declaration the first initializer.
+/// What a head evaluates: of a declaration the first initializer, and of a loop over keys or values its right side.
 pub fn evaluated(node: &Node) -> &Node
     ensures { result.now ≡ reading.evaluated node.now }
 {
     if has_declarator(node) {
         node.child(0).child(0).child(1)
+    } else if goes_over(node) {
+        node.child(1)
     } else {
         node
     }
