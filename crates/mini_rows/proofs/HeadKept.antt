@@ -1,6 +1,6 @@
 -- The declaration of a name that goes, with what stands right after it and reads that name before all else, and what is written for
 -- them: what they have.
-use Rattle.std.specs.Prelude.{ℕ, ◌+◌, ◌≤◌, ◌≡◌, ◌⊎◌, refl, Bool, true, false, List, [], ◌∷◌, ◌++◌}
+use Rattle.std.specs.Prelude.{ℕ, ◌+◌, ◌≡◌, refl, Bool, true, false, List, [], ◌∷◌, ◌++◌}
 use Rattle.std.proofs.Common.{ap, ◌∙◌, sym, subst, subst₂, arith, inl, inr, append_assoc}
 use Rattle.std.proofs.lemmas.List.{append-nil}
 use Rattle.mini_model.specs.declared.kind.VariableDeclarationKind.{VariableDeclarationKind}
@@ -27,7 +27,7 @@ use Rattle.mini_terms.specs.Reading.{is_plain_part}
 use Rattle.mini_rows.specs.Lists.{declaration, each_loop}
 use Rattle.mini_rows.specs.Declarations.{binding, declarator}
 use Rattle.mini_rows.specs.Sketches.{Asked, AsWholeItem, AsValue, AsWholeList, Leap}
-use Rattle.mini_rows.specs.Unused.{names, any_names, declared_among, declared_left, put_first, reads_first, reads_head, evaluated}
+use Rattle.mini_rows.specs.Unused.{names, any_names, declared_among, declared_left, put_first, reads_first, reads_head}
 use Rattle.mini_rows.proofs.Arranging.{Any, Local, Summed}
 use Rattle.mini_rows.proofs.ArrangedNames.{ScopedAs, scoped_local, symbol_times, symbols_summed, number_times, numbers_summed, InnerIf, inner_local, Once, once_local, HasTarget, Aimed, aimed_local}
 use Rattle.mini_rows.proofs.ArrangedBodies.{HasBodies, bodies_local, HasFrames, frames_local, Among, Declares, declares_local, FixedBy, fixed_local}

@@ -1,9 +1,9 @@
 -- A name that what stands right after its declaration reads before all else: the initializer may stand there, and the name goes.
-use Rattle.std.specs.Prelude.{◌⊎◌, ◌||◌, Bool, Option}
+use Rattle.std.specs.Prelude.{◌||◌, Bool, Option}
 use Rattle.std.proofs.Common.{◌≡◌, ℕ, true, false, List, [], ◌∷◌, None, refl, sym, ap, ◌∙◌, subst, subst₂, inl, inr}
 use Rattle.mini_model.specs.declared.name.Name.{Name}
-use Rattle.mini_model.specs.Tree.{Tree, Trees, node, none, ◌▸◌, listed, identifier, empty_statement}
-use Rattle.mini_laws.specs.Value.{Declared, VariableSet, nothing}
+use Rattle.mini_model.specs.Tree.{Tree, Trees, node, none, ◌▸◌, identifier, empty_statement}
+use Rattle.mini_laws.specs.Value.{Declared, nothing}
 use Rattle.mini_laws.specs.State.{State, Environment}
 use Rattle.mini_laws.specs.Demand.{Tail, Stat}
 use Rattle.mini_laws.specs.Naming.{summary}
@@ -24,7 +24,7 @@ use Rattle.mini_rows.proofs.OverMeaning.{each_goes}
 use Rattle.mini_rows.proofs.ItemReads.{plain_item}
 use Rattle.mini_rows.proofs.ConstantUse.{moves_there}
 use Rattle.mini_rows.proofs.UnusedMeaning.{SameRead, GoesWith, single_read, single_same, first_avoids, same_symbol, movable, block_same, lexical_alone, never_written}
-use Rattle.mini_rows.proofs.UnusedNames.{or_parts, avoided, all_avoided}
+use Rattle.mini_rows.proofs.UnusedNames.{avoided, all_avoided}
 
 -- ---- what is read of it
 

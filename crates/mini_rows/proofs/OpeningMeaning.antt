@@ -1,21 +1,19 @@
 -- What a `switch` or a `for` reads before all else may be put there: it is outside of the scope that the statement opens.
-use Rattle.std.specs.Prelude.{Option}
 use Rattle.std.proofs.Common.{◌≡◌, ℕ, zero, suc, true, false, List, [], ◌∷◌, None, Some, refl, sym, ap, ◌∙◌, subst, subst₂}
 use Rattle.mini_model.specs.declared.name.Name.{Name}
 use Rattle.mini_model.specs.declared.shape.Shape.TheVariants as shape
 use Rattle.mini_model.specs.Tree.{Tree, Trees, node, none, ◌▸◌, absent, identifier}
 use Rattle.mini_model.specs.Paths.{append}
 use Rattle.mini_laws.specs.Value.{Value, Declared, VariableSet, Holds}
-use Rattle.mini_laws.specs.State.{Stop, Broken, State, Completion, stop, either, done, ended, Environment, with_vars}
-use Rattle.mini_laws.specs.Demand.{Val, Unused, Demand, As, Cases, Stat, LabelSet, Request, Reply}
-use Rattle.mini_laws.specs.Command.{set_var, Command, kid, bind, run}
-use Rattle.mini_laws.specs.Naming.{Facts, FunctionFact, Named, NamedDefault, BareDefault, function_facts, summary, summaries, facts_all, naming}
+use Rattle.mini_laws.specs.State.{Stop, Broken, State, Completion, ended, Environment, with_vars}
+use Rattle.mini_laws.specs.Demand.{Val, Unused, As, Cases, Stat}
+use Rattle.mini_laws.specs.Command.{set_var, kid, bind}
+use Rattle.mini_laws.specs.Naming.{Facts, FunctionFact, Named, NamedDefault, BareDefault, function_facts, summary, summaries, facts_all}
 use Rattle.mini_laws.specs.Asking.{demand, first_demand}
 use Rattle.mini_laws.specs.Statements.{scoped, create_function, create_functions, switch_step, unbroken}
-use Rattle.mini_laws.specs.Step.{step, means, meaning}
+use Rattle.mini_laws.specs.Step.{step, means}
 use Rattle.mini_laws.specs.Same.{Goes, Agree}
 use Rattle.mini_laws.specs.Substitution.{alone}
-use Rattle.mini_laws.specs.Congruence.{AllAvoid}
 use Rattle.mini_laws.proofs.Congruent.{insensitive}
 use Rattle.mini_laws.proofs.Runs.{either_cong, either_assoc, either_stop}
 use Rattle.mini_laws.proofs.Simulation.{goes_either}

@@ -1,7 +1,7 @@
 -- The declaration of a name that goes, with a loop over keys or values after it whose right side reads that name, and what is written for
 -- them: what they have.
-use Rattle.std.specs.Prelude.{ℕ, ◌+◌, ◌≤◌, ◌≡◌, refl, ◌||◌, Bool, true, false, List, []}
-use Rattle.std.proofs.Common.{◌∙◌, sym, arith, true≢false}
+use Rattle.std.specs.Prelude.{ℕ, ◌≡◌, refl, ◌||◌, Bool, true, false, List, []}
+use Rattle.std.proofs.Common.{sym, arith, true≢false}
 use Rattle.std.proofs.lemmas.Bool.{and_parts}
 use Rattle.mini_model.specs.declared.kind.VariableDeclarationKind.{VariableDeclarationKind}
 use Rattle.mini_model.specs.declared.name.Name.{Name}

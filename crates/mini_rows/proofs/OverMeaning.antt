@@ -4,10 +4,10 @@ use Rattle.std.proofs.Common.{◌≡◌, ℕ, zero, suc, true, false, List, [], 
 use Rattle.std.proofs.lemmas.Bool.{and_parts}
 use Rattle.mini_model.specs.declared.name.Name.{Name}
 use Rattle.mini_model.specs.declared.shape.Shape.TheVariants as shape
-use Rattle.mini_model.specs.Tree.{Tree, Trees, node, none, ◌▸◌, absent, identifier, shape_of}
+use Rattle.mini_model.specs.Tree.{Tree, node, none, ◌▸◌, absent, identifier, shape_of}
 use Rattle.mini_laws.specs.Value.{Value, Declared, VariableSet, Holds, is_nullish}
-use Rattle.mini_laws.specs.State.{NextOf, KeysOf, IteratorOf, Item, Stop, Thrown, Returned, Broken, Continued, Short, State, Completion, stop, either, Ends, done, ended, Environment, with_vars}
-use Rattle.mini_laws.specs.Demand.{Val, Demand, As, Stat, LabelSet}
+use Rattle.mini_laws.specs.State.{NextOf, KeysOf, IteratorOf, Item, Thrown, Returned, Broken, Continued, Short, State, Completion, Ends, done, ended, Environment, with_vars}
+use Rattle.mini_laws.specs.Demand.{Val, As, Stat, LabelSet}
 use Rattle.mini_laws.specs.Command.{set_var, turn, Command, ret, fails, op, kid, then, attempt, bind, repeat, loop, emit}
 use Rattle.mini_laws.specs.Naming.{Declared as DeclaredKind, Variables, AClass, summary}
 use Rattle.mini_laws.specs.Asking.{each_demand}

@@ -19,7 +19,7 @@ use Rattle.mini_node.specs.Kinds.{is_identifier}
 use Rattle.mini_rows.specs.Sketches.{Head, AList, Array, Unary, Binary, Logical, Conditional, Sequence, Call, New, StaticMember, ComputedMember, Yield, OfExpression, Throw, Return, If, shape_by, Asked, AsWholeItem, AsValue, AsValues, asked_below, Leap}
 use Rattle.mini_rows.specs.Lists.{declaration, Each, EachIn, EachOf, each_loop}
 use Rattle.mini_rows.specs.Declarations.{declarator}
-use Rattle.mini_rows.specs.Unused.{is_like_one, names, any_names, begins, goes_on, leads, holds_list, is_childless, reads, is_first, leads_to, put_first, put_among, passes, are_passed, all_passed, reads_first, is_declarator, declares_list, reads_declarator, reads_declarators, reads_initially, reads_outside, is_open_left, goes_over, reads_over, reads_head, evaluated}
+use Rattle.mini_rows.specs.Unused.{is_like_one, names, any_names, begins, goes_on, leads, holds_list, is_childless, reads, is_first, leads_to, put_first, put_among, passes, are_passed, all_passed, reads_first, is_declarator, declares_list, reads_declarator, reads_declarators, reads_initially, reads_outside, is_open_left, reads_over, reads_head, evaluated}
 use Rattle.mini_rows.proofs.Arranging.{Plain, Below, sum_below, Local, Summed}
 use Rattle.mini_rows.proofs.ListKeptHeads.{Seat, Loop, Choice, seated, rest}
 

@@ -1,10 +1,10 @@
 -- What the rows of blocks do to the statements that stand after the first child of a list: the parameters of an arrow function, with
 -- its statements after them, are read as such a list.
 use Rattle.mini_model.specs.declared.name.Name.{Name}
-use Rattle.std.specs.Prelude.{ℕ, ◌≡◌, ◌⊎◌, refl, Bool, true, false, List, [], None}
-use Rattle.std.proofs.Common.{ap, ◌∙◌, sym, subst, subst₂, inl, inr, true≢false}
+use Rattle.std.specs.Prelude.{ℕ, ◌≡◌, refl, Bool, true, false, List, [], None}
+use Rattle.std.proofs.Common.{ap, ◌∙◌, sym, subst₂, inl, inr, true≢false}
 use Rattle.mini_model.specs.declared.kind.VariableDeclarationKind.{VariableDeclarationKind}
-use Rattle.mini_model.specs.Tree.{Tree, Trees, node, none, ◌▸◌, listed, shape_of, children, child_or_absent, empty_statement, expression_statement}
+use Rattle.mini_model.specs.Tree.{Tree, Trees, node, none, ◌▸◌, listed, shape_of, children, child_or_absent, expression_statement}
 use Rattle.mini_model.specs.Paths.{append}
 use Rattle.mini_accept.specs.WellShaped.{Depth, in_body, nested, a_statement, Slot, one, each, fits, fill}
 use Rattle.mini_laws.specs.Value.{Declared, VariableSet, nothing}
