@@ -3,10 +3,13 @@
 ghost use Rattle.mini_model.specs.declared.place.Position.TheVariants.{Elsewhere, Expr, Stmt};
 ghost use Rattle.mini_model.specs.declared.seat.Seat.{Seat};
 ghost use Rattle.mini_model.specs.declared.seat.StmtSeat.{StmtSeat};
-ghost use Rattle.mini_unused.specs.RemoveUnusedDeclaration.{Applied, AppliedInFunction, marked};
+ghost use Rattle.mini_model.specs.Tree.{children};
+ghost use Rattle.mini_node.specs.Kinds.{is_listed as is_it_listed};
+ghost use Rattle.mini_unused.specs.RemoveUnusedDeclaration.{Applied, AppliedInFunction, UnusedAt, marked, open_in};
 ghost use Rattle.mini_unused.specs.RemoveUnusedName.{Applied as AppliedOfRemoveUnusedName, switches_of};
+ghost use Rattle.mini_unused.specs.SubstituteSingleUse.{Removed};
 ghost use Rattle.mini_unused.specs.SubstituteCatchClause.{Applied as AppliedOfSubstituteCatchClause};
-ghost use Rattle.std.specs.Prelude.{IfOk};
+ghost use Rattle.std.specs.Prelude.{IfOk, None, true, ◌≡◌};
 
 use crate::PeepholeOptimizations;
 use mini_context::Scopes;
@@ -65,6 +68,23 @@ impl PeepholeOptimizations {
         ensures { IfOk result (λ changed. Applied (marked scopes.now) Elsewhere node.old node.new changed) }
     {
         mini_unused::remove_unused_in_module(alloc, node, scopes)
+    }
+
+    /// Of a list of statements in which no name is unused, with what stands outside of them, `let x = a(); return x + b;` becomes
+    /// `; return a() + b;`, and `let a, x = b(); return x;` becomes `let a; return b();`, as often as there is one. The answer says whether
+    /// there was; the only error is that memory runs out.
+    pub fn substitute_single_use(
+        &self,
+        alloc: Global,
+        outside: &Node,
+        list: &mut Node,
+        scopes: &Scopes,
+    ) -> Result<bool, OutOfMemory>
+        requires list { is_it_listed list.old ≡ true }
+        requires used { UnusedAt (open_in outside.now (marked scopes.now)) outside.now (children list.old) None }
+        ensures { IfOk result (λ changed. Removed (open_in outside.now (marked scopes.now)) outside.now list.old list.new changed) }
+    {
+        mini_unused::substitute_single_uses(alloc, outside, list, scopes)
     }
 
     /// A function or class expression loses its name where nothing in it mentions that and the options let it go. The answer says whether it

@@ -20,3 +20,4 @@ pub use declarations::{
 pub use evals::has_eval;
 pub use mentions::{is_mentioned, is_mentioned_before, is_mentioned_from};
 pub use names::{RemoveUnusedNames, remove_unused_name};
+pub use single_uses::substitute_single_uses;
