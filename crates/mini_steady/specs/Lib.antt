@@ -3,3 +3,4 @@ pub mod MinimizeSteadyLogicalExpression
 pub mod Own
 pub mod Functions
 pub mod Lighter
+pub mod Told

@@ -4,6 +4,7 @@ ghost use Rattle.std.specs.Prelude.{◌≡◌};
 ghost use Rattle.mini_laws.specs.Value.{Declared};
 ghost use Rattle.mini_kept.specs.Without.{BodySets};
 
+use mini_context::Scopes;
 use mini_model::SymbolId;
 
 /// What tells in which body which names are steady: no answer of the world changes them while it runs.
@@ -14,4 +15,14 @@ pub trait SteadyNames {
     /// Whether the symbol is among those of the body with this number.
     fn is_steady(&self, symbol: SymbolId, body: u32) -> bool
         ensures { result ≡ sets self.now body (Declared symbol.0) };
+}
+
+impl SteadyNames for Scopes {
+    ghost use Rattle.mini_steady.specs.Told.{steady_told};
+
+    ghost sets = { steady_told };
+
+    fn is_steady(&self, symbol: SymbolId, body: u32) -> bool {
+        Scopes::is_steady(self, symbol, body)
+    }
 }
