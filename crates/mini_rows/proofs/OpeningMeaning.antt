@@ -24,7 +24,7 @@ use Rattle.mini_rows.specs.Sketches.{shape_by, AsValue, asked_below}
 use Rattle.mini_rows.specs.Unused.{any_names, resolved}
 use Rattle.mini_rows.proofs.ListHeads.{Nothing, for_rest, for_is, for_absent_is}
 use Rattle.mini_rows.proofs.ListKeptHeads.{Seat, Loop, Choice, seated, rest}
-use Rattle.mini_rows.proofs.SingleUse.{Lead, Not, Plus, Minus, Tilde, Emptying, Beside, Deciding, Choosing, Passing, Called, Making, Waiting, Member, Keyed, Holding, Against, Given, Filling, Keying, head_of, before, place, Step, led, is_end, Stands, Well, Spared, Passed, summary_led}
+use Rattle.mini_rows.proofs.SingleUse.{Lead, Not, Plus, Minus, Tilde, Emptying, Beside, Deciding, Choosing, Passing, Called, Making, Waiting, Member, Keyed, Holding, Against, Given, Filling, Keying, Following, Branching, Failing, Storing, Gathering, Fielding, head_of, before, place, Step, led, is_end, Stands, Well, Spared, Passed, summary_led}
 use Rattle.mini_rows.proofs.ConstantUse.{moves_there}
 use Rattle.mini_rows.proofs.SingleMeaning.{Before, Later, later_bind, later_attempt, Reaches, reach_statement, one, next, by_summaries, node_is, stopped, reach_goes}
 use Rattle.mini_rows.proofs.UnusedNames.{all_avoided}
@@ -81,10 +81,16 @@ nothing_led (s ∷ ss) w t n = by s.lead w.0 (λ q. nothing_led ss (subst (λ c.
     by Member s m = record { lets = refl; functions = refl; facts = refl; declared = refl }
     by Keyed s m = record { lets = refl; functions = refl; facts = refl; declared = refl }
     by Holding s m = record { lets = refl; functions = refl; facts = refl; declared = refl }
+    by Gathering s m = record { lets = refl; functions = refl; facts = refl; declared = refl }
     by (Against o a) s m = record { lets = refl; functions = refl; facts = refl; declared = refl }
     by (Given a) s m = record { lets = refl; functions = refl; facts = refl; declared = refl }
     by (Filling a) s m = record { lets = refl; functions = refl; facts = refl; declared = refl }
     by (Keying a) s m = record { lets = refl; functions = refl; facts = refl; declared = refl }
+    by (Following o a) s m = record { lets = refl; functions = refl; facts = refl; declared = refl }
+    by (Branching a) s m = record { lets = refl; functions = refl; facts = refl; declared = refl }
+    by (Failing a d) s m = record { lets = refl; functions = refl; facts = refl; declared = refl }
+    by (Storing o a) s m = record { lets = refl; functions = refl; facts = refl; declared = refl }
+    by (Fielding g a) s m = record { lets = refl; functions = refl; facts = refl; declared = refl }
     by l s m = absurd s
 
 -- ---- the statements

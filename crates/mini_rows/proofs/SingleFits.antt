@@ -3,15 +3,17 @@ use Rattle.std.specs.Prelude.{ℕ, ◌≡◌, refl, ◌&&◌, suc, Bool, true, f
 use Rattle.std.proofs.Common.{ap, ◌∙◌, sym, subst₂, true≢false}
 use Rattle.std.proofs.lemmas.Bool.{and_parts}
 use Rattle.mini_model.specs.declared.name.Name.{Name}
+use Rattle.mini_model.specs.declared.kind.PropertyKind.TheVariants.{Init}
+use Rattle.mini_model.specs.declared.operator.AssignmentOperator.TheVariants.{Assign}
 use Rattle.mini_model.specs.declared.shape.Shape.TheVariants as shape
 use Rattle.mini_model.specs.Tree.{Tree, Trees, node, none, ◌▸◌, count, children, identifier}
 use Rattle.mini_model.specs.Paths.{append}
-use Rattle.mini_accept.specs.WellShaped.{nested, a_statement, an_init, an_expression, an_argument, Slot, one, one_or_absent, many, many_or_holes, these, each, fits, fill, is_not_positive_number}
+use Rattle.mini_accept.specs.WellShaped.{nested, a_statement, an_init, an_expression, an_argument, an_object_property, a_key, a_target, a_simple_target, Slot, one, one_or_absent, many, many_or_holes, these, each, fits, fill, is_not_positive_number}
 use Rattle.mini_kept.proofs.Bools.{both}
 use Rattle.mini_kept.proofs.Expressions.{refused_here}
 use Rattle.mini_rows.specs.Sketches.{shape_by, Asked, AsWholeItem, AsValue, AsValues, asked_below}
 use Rattle.mini_rows.specs.Unused.{is_first, put_first, reads_first}
-use Rattle.mini_rows.proofs.SingleUse.{Lead, Not, Plus, Minus, Tilde, Emptying, Beside, Deciding, Choosing, Passing, Called, Making, Waiting, Member, Keyed, Holding, Against, Given, Filling, Keying, Listing, Doing, Giving, Raising, Testing, head_of, before, place, Step, led, is_end, Stands, Well, path, statement}
+use Rattle.mini_rows.proofs.SingleUse.{Lead, Not, Plus, Minus, Tilde, Emptying, Beside, Deciding, Choosing, Passing, Called, Making, Waiting, Member, Keyed, Holding, Against, Given, Filling, Keying, Following, Branching, Failing, Storing, Gathering, Fielding, Listing, Doing, Giving, Raising, Testing, head_of, before, place, Step, led, is_end, Stands, Well, path, statement}
 
 pub first_of : (a b c : Bool) → (a ≡ true → b ≡ true) → a && c ≡ true → b && c ≡ true
 first_of true b c f e = ap (λ d. d && c) (f refl) ∙ e
@@ -20,6 +22,10 @@ first_of false b c f e = absurd (true≢false (sym e))
 pub second_of : (d a b c : Bool) → (a ≡ true → b ≡ true) → d && (a && c) ≡ true → d && (b && c) ≡ true
 second_of true a b c f e = first_of a b c f e
 second_of false a b c f e = absurd (true≢false (sym e))
+
+third_of : (d g a b c : Bool) → (a ≡ true → b ≡ true) → d && (g && (a && c)) ≡ true → d && (g && (b && c)) ≡ true
+third_of true g a b c f e = second_of g a b c f e
+third_of false g a b c f e = absurd (true≢false (sym e))
 
 counted : (a b : Bool) (m n : ℕ) → m ≡ n → (a ≡ true → b ≡ true) → nat_le 2 m && (a && true) ≡ true → nat_le 2 n && (b && true) ≡ true
 counted a b m n e f h =
@@ -33,8 +39,10 @@ Takes AsValue (one an_expression) = Unit {0}
 Takes AsValue (one_or_absent an_expression) = Unit {0}
 Takes AsValue (one an_argument) = Unit {0}
 Takes AsValue (one_or_absent an_argument) = Unit {0}
+Takes AsValue (one an_object_property) = Unit {0}
 Takes AsValues (many an_expression) = Unit {0}
 Takes AsValues (many an_argument) = Unit {0}
+Takes AsValues (many an_object_property) = Unit {0}
 Takes AsValues (many_or_holes an_argument) = Unit {0}
 Takes c s = ⊥
 
@@ -51,12 +59,14 @@ as_element strict (node shape.SpreadElement xs n ts) e = absurd (refused_here st
 as_element strict (node shape.Absent xs n ts) e = absurd (refused_here strict (one an_expression) shape.Absent xs n ts refl e)
 as_element strict (node h xs n ts) e = e
 
-taken_by : (strict : Bool) (t : Tree) → fits strict (one an_expression) t ≡ true → (s : Slot) → Takes AsValue s → fits strict s t ≡ true
-taken_by strict t e (one an_expression) k = e
-taken_by strict t e (one_or_absent an_expression) k = or_absent strict t e
-taken_by strict t e (one an_argument) k = as_argument strict t e
-taken_by strict t e (one_or_absent an_argument) k = as_element strict t e
-taken_by strict t e s k = absurd k
+-- a name is no property
+taken_by : (strict : Bool) (y : Name) (t : Tree) → fits strict (one an_expression) t ≡ true → (s : Slot) → Takes AsValue s → fits strict s (identifier y) ≡ true → fits strict s t ≡ true
+taken_by strict y t e (one an_expression) k f = e
+taken_by strict y t e (one_or_absent an_expression) k f = or_absent strict t e
+taken_by strict y t e (one an_argument) k f = as_argument strict t e
+taken_by strict y t e (one_or_absent an_argument) k f = as_element strict t e
+taken_by strict y t e (one an_object_property) k f = absurd (refused_here strict (one an_object_property) shape.Identifier (y ∷ []) 0 none refl f)
+taken_by strict y t e s k f = absurd k
 
 count_put : (ps : Trees) (t u : Tree) (ts : Trees) → count (append ps (t ▸ ts)) ≡ count (append ps (u ▸ ts))
 count_put none t u ts = refl
@@ -81,16 +91,23 @@ module _ (strict : Bool) where
   element_room (Waiting false) b s ts = refl
   element_room l b s ts = refl
 
-  room : (l : Lead) (b : Bool) → Stands AsValue l b → (s : Slot) → Takes AsValue s → AsExpression l s
-  room l b s (one an_expression) k ts = refl
-  room l b s (one_or_absent an_expression) k ts = maybe_room l b s ts
-  room l b s (one an_argument) k ts = argument_room l b s ts
-  room l b s (one_or_absent an_argument) k ts = element_room l b s ts
-  room l b s r k ts = absurd k
-
   -- what fits wherever the other does
   abbrev FitsAs : Asked → Tree → Tree → Type 0
   FitsAs c t u = (s : Slot) → Takes c s → fits strict s t ≡ true → fits strict s u ≡ true
+
+  -- no other expression is a property
+  no_property : (l : Lead) (b : Bool) → Stands AsValue l b → (t u : Tree) (ts : Trees) → FitsAs (asked_below (head_of l) AsValue (place 0 (before l))) t u → fits strict (one an_object_property) (node (shape_by (head_of l)) [] 0 (append (before l) (t ▸ ts))) ≡ true → fits strict (one an_object_property) (node (shape_by (head_of l)) [] 0 (append (before l) (u ▸ ts))) ≡ true
+  no_property (Fielding g a) b s t u ts f e = second_of (fits strict (one (a_key g)) a) (fits strict (one an_expression) t) (fits strict (one an_expression) u) _ (f (one an_expression) tt) e
+  no_property l b s t u ts f e = absurd (refused_here strict (one an_object_property) (shape_by (head_of l)) [] 0 (append (before l) (t ▸ ts)) refl e)
+
+  room : (l : Lead) (b : Bool) → Stands AsValue l b → (s : Slot) → Takes AsValue s → (t u : Tree) (ts : Trees) → FitsAs (asked_below (head_of l) AsValue (place 0 (before l))) t u
+      → (fits strict (one an_expression) (node (shape_by (head_of l)) [] 0 (append (before l) (t ▸ ts))) ≡ true → fits strict (one an_expression) (node (shape_by (head_of l)) [] 0 (append (before l) (u ▸ ts))) ≡ true) → fits strict s (node (shape_by (head_of l)) [] 0 (append (before l) (t ▸ ts))) ≡ true → fits strict s (node (shape_by (head_of l)) [] 0 (append (before l) (u ▸ ts))) ≡ true
+  room l b s (one an_expression) k t u ts f g e = g e
+  room l b s (one_or_absent an_expression) k t u ts f g e = maybe_room l b s (append (before l) (u ▸ ts)) ∙ g (sym (maybe_room l b s (append (before l) (t ▸ ts))) ∙ e)
+  room l b s (one an_argument) k t u ts f g e = argument_room l b s (append (before l) (u ▸ ts)) ∙ g (sym (argument_room l b s (append (before l) (t ▸ ts))) ∙ e)
+  room l b s (one_or_absent an_argument) k t u ts f g e = element_room l b s (append (before l) (u ▸ ts)) ∙ g (sym (element_room l b s (append (before l) (t ▸ ts))) ∙ e)
+  room l b s (one an_object_property) k t u ts f g e = no_property l b s t u ts f e
+  room l b s r k t u ts f g e = absurd k
 
   value_step : (l : Lead) (b : Bool) → Stands AsValue l b → (t u : Tree) (ts : Trees) → (asked_below (head_of l) AsValue (place 0 (before l)) ≡ AsValues → count (children t) ≡ count (children u)) → (b ≡ false → is_not_positive_number u ≡ true) → FitsAs (asked_below (head_of l) AsValue (place 0 (before l))) t u
       → fits strict (one an_expression) (node (shape_by (head_of l)) [] 0 (append (before l) (t ▸ ts))) ≡ true → fits strict (one an_expression) (node (shape_by (head_of l)) [] 0 (append (before l) (u ▸ ts))) ≡ true
@@ -118,6 +135,13 @@ module _ (strict : Bool) where
   value_step (Given a) b s t u ts c n f e = second_of (fits strict (one an_expression) a) (fits strict (many an_argument) t) (fits strict (many an_argument) u) _ (f (many an_argument) tt) e
   value_step (Filling a) b s t u ts c n f e = second_of (fits strict (one an_expression) a) (fits strict (many an_argument) t) (fits strict (many an_argument) u) _ (f (many an_argument) tt) e
   value_step (Keying a) b s t u ts c n f e = second_of (fits strict (one an_expression) a) (fits strict (one an_expression) t) (fits strict (one an_expression) u) _ (f (one an_expression) tt) e
+  value_step (Following o a) b s t u ts c n f e = second_of (fits strict (one an_expression) a) (fits strict (one an_expression) t) (fits strict (one an_expression) u) _ (f (one an_expression) tt) e
+  value_step (Branching a) b s t u ts c n f e = second_of (fits strict (one an_expression) a) (fits strict (one an_expression) t) (fits strict (one an_expression) u) _ (f (one an_expression) tt) e
+  value_step (Failing a d) b s t u ts c n f e = third_of (fits strict (one an_expression) a) (fits strict (one an_expression) d) (fits strict (one an_expression) t) (fits strict (one an_expression) u) _ (f (one an_expression) tt) e
+  value_step (Storing Assign a) b s t u ts c n f e = second_of (fits strict (one a_target) a) (fits strict (one an_expression) t) (fits strict (one an_expression) u) _ (f (one an_expression) tt) e
+  value_step (Storing o a) b s t u ts c n f e = second_of (fits strict (one a_simple_target) a) (fits strict (one an_expression) t) (fits strict (one an_expression) u) _ (f (one an_expression) tt) e
+  value_step Gathering b s t u ts c n f e = first_of (fits strict (many an_object_property) t) (fits strict (many an_object_property) u) _ (f (many an_object_property) tt) e
+  value_step (Fielding g a) b s t u ts c n f e = absurd (refused_here strict (one an_expression) (shape.ObjectProperty Init false false g) [] 0 (a ▸ (t ▸ ts)) refl e)
   value_step l b s t u ts c n f e = absurd s
 
   each_put : (s : Slot) (ps : Trees) (t u : Tree) (ts : Trees) → (fits strict s t ≡ true → fits strict s u ≡ true) → fill strict (each s) (append ps (t ▸ ts)) ≡ true → fill strict (each s) (append ps (u ▸ ts)) ≡ true
@@ -130,6 +154,7 @@ module _ (strict : Bool) where
   list_step (Listing ps) b s t u ts f (many an_expression) k e = each_put (one an_expression) ps t u ts (f (one an_expression) tt) e
   list_step (Listing ps) b s t u ts f (many an_argument) k e = each_put (one an_argument) ps t u ts (f (one an_argument) tt) e
   list_step (Listing ps) b s t u ts f (many_or_holes an_argument) k e = each_put (one_or_absent an_argument) ps t u ts (f (one_or_absent an_argument) tt) e
+  list_step (Listing ps) b s t u ts f (many an_object_property) k e = each_put (one an_object_property) ps t u ts (f (one an_object_property) tt) e
   list_step (Listing ps) b s t u ts f r k e = absurd k
   list_step l b s t u ts f r k e = absurd s
 
@@ -154,10 +179,16 @@ module _ (strict : Bool) where
   below_value Member b s e = cc e
   below_value Keyed b s e = cc e
   below_value Holding b s e = cc e
+  below_value Gathering b s e = cc e
   below_value (Against o a) b s e = cc e
   below_value (Given a) b s e = cc e
   below_value (Filling a) b s e = cc e
   below_value (Keying a) b s e = cc e
+  below_value (Following o a) b s e = cc e
+  below_value (Branching a) b s e = cc e
+  below_value (Failing a d) b s e = cc e
+  below_value (Storing o a) b s e = cc e
+  below_value (Fielding g a) b s e = cc e
   below_value l b s e = absurd s
 
   below_list : (l : Lead) (b : Bool) → Stands AsValues l b → asked_below (head_of l) AsValues (place 0 (before l)) ≡ AsWholeItem → ⊥
@@ -172,12 +203,11 @@ module _ (strict : Bool) where
   no_number [] t e = absurd (true≢false e)
   no_number (s ∷ ss) t e = number_of s.lead (append (before s.lead) (led ss t ▸ s.rest))
 
-  put_value : (c : Asked) (ss : List Step) → Well c ss → (c ≡ AsWholeItem → ⊥) → (y : Name) (r : Tree) → ((s : Slot) → Takes AsValue s → fits strict s r ≡ true) → FitsAs c (led ss (identifier y)) (led ss r)
-  put_value AsValue [] w n y r f s k e = f s k
+  put_value : (c : Asked) (ss : List Step) → Well c ss → (c ≡ AsWholeItem → ⊥) → (y : Name) (r : Tree) → ((s : Slot) → Takes AsValue s → fits strict s (identifier y) ≡ true → fits strict s r ≡ true) → FitsAs c (led ss (identifier y)) (led ss r)
+  put_value AsValue [] w n y r f s k e = f s k e
   put_value AsValue (q ∷ ss) w n y r f s k e =
       let inner = put_value (asked_below (head_of q.lead) AsValue (place 0 (before q.lead))) ss w.1 (below_value q.lead (is_end ss) w.0) y r f in
-      let kids = λ (u : Tree). append (before q.lead) (led ss u ▸ q.rest) in
-      room q.lead (is_end ss) w.0 s k (kids r) ∙ value_step q.lead (is_end ss) w.0 (led ss (identifier y)) (led ss r) q.rest (same_count (asked_below (head_of q.lead) AsValue (place 0 (before q.lead))) ss w.1 (identifier y) r) (no_number ss r) inner (sym (room q.lead (is_end ss) w.0 s k (kids (identifier y))) ∙ e)
+      room q.lead (is_end ss) w.0 s k (led ss (identifier y)) (led ss r) q.rest inner (value_step q.lead (is_end ss) w.0 (led ss (identifier y)) (led ss r) q.rest (same_count (asked_below (head_of q.lead) AsValue (place 0 (before q.lead))) ss w.1 (identifier y) r) (no_number ss r) inner) e
   put_value AsValues (q ∷ ss) w n y r f s k e = list_step q.lead (is_end ss) w.0 (led ss (identifier y)) (led ss r) q.rest (put_value (asked_below (head_of q.lead) AsValues (place 0 (before q.lead))) ss w.1 (below_list q.lead (is_end ss) w.0) y r f) s k e
   put_value AsWholeItem ss w n y r f s k e = absurd (n refl)
   put_value c [] w n y r f s k e = absurd w
@@ -185,7 +215,7 @@ module _ (strict : Bool) where
 
   -- an expression along a path
   put_along : (ss : List Step) → Well AsValue ss → (y : Name) (r : Tree) → fits strict (one an_expression) r ≡ true → FitsAs AsValue (led ss (identifier y)) (led ss r)
-  put_along ss w y r f = put_value AsValue ss w (λ e. cc e) y r (taken_by strict r f)
+  put_along ss w y r f = put_value AsValue ss w (λ e. cc e) y r (taken_by strict y r f)
 
 stated : (l : Lead) → Stands AsWholeItem l true → (strict : Bool) (t u : Tree) (ts : Trees) → FitsAs strict AsValue t u → fits strict (one (a_statement nested)) (node (shape_by (head_of l)) [] 0 (t ▸ ts)) ≡ true → fits strict (one (a_statement nested)) (node (shape_by (head_of l)) [] 0 (u ▸ ts)) ≡ true
 stated Doing s true t u ts f e = first_of (fits true (one an_expression) t) (fits true (one an_expression) u) _ (f (one an_expression) tt) e
@@ -245,10 +275,16 @@ begun_there strict (s ∷ ss) w y e = by s.lead w.0 (append (before s.lead) (led
     by Member s ts e = e
     by Keyed s ts e = e
     by Holding s ts e = e
+    by Gathering s ts e = e
     by (Against o a) s ts e = e
     by (Given a) s ts e = e
     by (Filling a) s ts e = e
     by (Keying a) s ts e = e
+    by (Following o a) s ts e = e
+    by (Branching a) s ts e = e
+    by (Failing a d) s ts e = e
+    by (Storing o a) s ts e = e
+    by (Fielding g a) s ts e = e
     by l s ts e = absurd s
 
 pub put_begun : (strict : Bool) (x : Name) (value : Tree) → is_first x false value ≡ true → (r : Tree) → fits strict (one an_expression) r ≡ true → fits strict (one_or_absent an_init) value ≡ true → fits strict (one_or_absent an_init) (put_first x r value) ≡ true

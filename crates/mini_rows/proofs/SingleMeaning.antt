@@ -1,6 +1,6 @@
 -- What a tree reads may be put there: a variable that holds a value, or the expression that gives the value, where the parts that are
 -- evaluated before pass it.
-use Rattle.std.specs.Prelude.{◌&&◌, not, Bool, Option, length, codes, if◌then◌else◌, ◌⊎◌}
+use Rattle.std.specs.Prelude.{◌&&◌, ◌||◌, not, Bool, Option, length, codes, if◌then◌else◌, ◌⊎◌}
 use Rattle.std.proofs.lemmas.Bool.{eq-eqb}
 use Rattle.std.proofs.Common.{◌≡◌, ℕ, zero, suc, true, false, List, [], ◌∷◌, None, Some, refl, sym, ap, ◌∙◌, subst, subst₂, true≢false, inl, inr}
 use Rattle.mini_model.specs.declared.name.Name.{Name}
@@ -24,7 +24,7 @@ use Rattle.mini_laws.specs.Command.{set_var, Command, ret, fails, stuck, op, kid
 use Rattle.mini_laws.specs.Naming.{EvalName, PlainName, Facts, Summary, summary, summaries, facts_all, naming}
 use Rattle.mini_laws.specs.Asking.{pass, demand, first_demand, parts_demand, logical_demand}
 use Rattle.mini_laws.specs.Replies.{reply, valued, passed, passing, merged, raise, of_made, of_option, primitive, hint_of, numeric, is_of_primitives, operate, loosely, or_event, get_member}
-use Rattle.mini_laws.specs.Expressions.{get_identifier, operate_by, binary_step, logical_step, conditional_step, sequence_step, not_step, number_step, void_step, call_event, call_step, new_step, array_step, yield_step, member_step, got, called_member}
+use Rattle.mini_laws.specs.Expressions.{get_identifier, operate_by, binary_step, logical_step, conditional_step, sequence_step, not_step, number_step, void_step, call_event, call_step, new_step, array_step, object_step, yield_step, member_step, got, called_member}
 use Rattle.mini_laws.specs.Lists.{entries, parts}
 use Rattle.mini_laws.specs.Targets.{as_member}
 use Rattle.mini_laws.specs.Statements.{if_step, return_step, throw_step}
@@ -47,7 +47,7 @@ use Rattle.mini_rows.specs.Sketches.{shape_by, Asked, AsWholeItem, AsValue, AsVa
 use Rattle.mini_rows.specs.Unused.{any_names, resolved, is_constant}
 use Rattle.mini_rows.proofs.ItemReads.{item_read}
 use Rattle.mini_rows.proofs.Passing.{Replies, Does, Replying, Quietly, constant_replies, quiet_there, quietly, passes_by}
-use Rattle.mini_rows.proofs.SingleUse.{Lead, Not, Plus, Minus, Tilde, Emptying, Beside, Deciding, Choosing, Passing, Called as CalledLead, Making, Waiting, Member, Keyed, Holding, Against, Given as GivenLead, Filling, Keying, Listing, Doing, Giving, Raising, Testing, head_of, before, place, Step, led, is_end, Stands, Well, Spared, AllPass, Passed, summaries_led}
+use Rattle.mini_rows.proofs.SingleUse.{Lead, Not, Plus, Minus, Tilde, Emptying, Beside, Deciding, Choosing, Passing, Called as CalledLead, Making, Waiting, Member, Keyed, Holding, Against, Given as GivenLead, Filling, Keying, Following, Branching, Failing, Storing, Gathering, Fielding, Listing, Doing, Giving, Raising, Testing, head_of, before, place, Step, led, is_end, is_steady, Stands, Well, Spared, AllPass, Passed, summaries_led}
 use Rattle.mini_rows.proofs.UnusedNames.{all_avoided}
 
 -- ---- a command that doesn't ask a child any more
@@ -294,19 +294,19 @@ AllReply σ none = Unit {0}
 AllReply σ (t ▸ ts) = Replies (σ 0) × AllReply (λ i. σ (suc i)) ts
 
 record Asks (c : Asked) (l : Lead) (fs : List Facts) (q : Demand) (r : Request q) (at_end : Bool) : Type 0 where
-  reaches : Reaches (count (before l)) (step (shape_by (head_of l)) [] fs q r)
+  reaches : is_steady l ≡ true → Reaches (count (before l)) (step (shape_by (head_of l)) [] fs q r)
   below : Suits (asked_below (head_of l) c (place 0 (before l))) (demand (shape_by (head_of l)) fs q (count (before l))) at_end
-  first : AllReply (demand (shape_by (head_of l)) fs q) (before l)
+  first : is_steady l ≡ true → AllReply (demand (shape_by (head_of l)) fs q) (before l)
 
 value_asks : (l : Lead) (b : Bool) → Stands AsValue l b → (fs : List Facts) (q : Demand) → Replies q → (r : Request q) → Asks AsValue l fs q r b
 unfolding step
-value_asks Not b s fs q u r = record { reaches = reach_valued 0 (λ i. As Test) q u r not_step (one 0 (λ i. As Test) Value tt _ (λ v. tt)); below = tt; first = tt }
-value_asks Plus b s fs q u r = record { reaches = reach_valued 0 (λ i. As Val) q u r (number_step UnaryPlus) (number_begins UnaryPlus); below = tt; first = tt }
-value_asks Minus b s fs q u r = record { reaches = reach_valued 0 (λ i. As Val) q u r (number_step UnaryNegation) (number_begins UnaryNegation); below = tt; first = tt }
-value_asks Tilde b s fs q u r = record { reaches = reach_valued 0 (λ i. As Val) q u r (number_step BitwiseNot) (number_begins BitwiseNot); below = tt; first = tt }
-value_asks Emptying b s fs q u r = record { reaches = reach_valued 0 (λ i. As Val) q u r void_step (one 0 (λ i. As Val) Value tt _ (λ v. tt)); below = tt; first = tt }
-value_asks (Beside o) b s fs q u r = record { reaches = reach_valued 0 (λ i. As Val) q u r (binary_step o) (binary_begins o); below = tt; first = tt }
-value_asks (Deciding o) b s fs q u r = record { reaches = reach_passing 0 (logical_demand o (pass q)) q u r (logical_step o (pass q)) (logical_begins o (pass q)); below = left o (pass q); first = tt }
+value_asks Not b s fs q u r = record { reaches = λ y. reach_valued 0 (λ i. As Test) q u r not_step (one 0 (λ i. As Test) Value tt _ (λ v. tt)); below = tt; first = λ y. tt }
+value_asks Plus b s fs q u r = record { reaches = λ y. reach_valued 0 (λ i. As Val) q u r (number_step UnaryPlus) (number_begins UnaryPlus); below = tt; first = λ y. tt }
+value_asks Minus b s fs q u r = record { reaches = λ y. reach_valued 0 (λ i. As Val) q u r (number_step UnaryNegation) (number_begins UnaryNegation); below = tt; first = λ y. tt }
+value_asks Tilde b s fs q u r = record { reaches = λ y. reach_valued 0 (λ i. As Val) q u r (number_step BitwiseNot) (number_begins BitwiseNot); below = tt; first = λ y. tt }
+value_asks Emptying b s fs q u r = record { reaches = λ y. reach_valued 0 (λ i. As Val) q u r void_step (one 0 (λ i. As Val) Value tt _ (λ v. tt)); below = tt; first = λ y. tt }
+value_asks (Beside o) b s fs q u r = record { reaches = λ y. reach_valued 0 (λ i. As Val) q u r (binary_step o) (binary_begins o); below = tt; first = λ y. tt }
+value_asks (Deciding o) b s fs q u r = record { reaches = λ y. reach_passing 0 (logical_demand o (pass q)) q u r (logical_step o (pass q)) (logical_begins o (pass q)); below = left o (pass q); first = λ y. tt }
   where
     left : (o : LogicalOperator) (w : Want) → Suits AsValue (logical_demand o w 0) b
     left And Val = tt
@@ -316,26 +316,41 @@ value_asks (Deciding o) b s fs q u r = record { reaches = reach_passing 0 (logic
     left Or Test = tt
     left Or Unused = tt
     left Coalesce w = tt
-value_asks Choosing b s fs q u r = record { reaches = reach_passing 0 (first_demand (As Test) (As (pass q))) q u r (conditional_step (pass q)) (conditional_begins (pass q)); below = tt; first = tt }
-value_asks Passing b s fs q u r = record { reaches = reach_passing 0 (λ i. Parts (pass q)) q u r (sequence_step (pass q)) (one 0 (λ i. Parts (pass q)) (Says (pass q)) tt _ (λ v. tt)); below = tt; first = tt }
-value_asks CalledLead b s fs q u r = record { reaches = reach_valued 0 (first_demand Callee Items) q u r (call_step false) (one 0 (first_demand Callee Items) Value tt _ (λ f. (tt, (λ vs. call_later 0 (first_demand Callee Items) false f vs, λ y. tt)))); below = s; first = tt }
-value_asks Making b s fs q u r = record { reaches = reach_valued 0 (first_demand (As Val) Items) q u r new_step (one 0 (first_demand (As Val) Items) Value tt _ (λ f. (tt, (λ vs. (λ v. tt, λ y. tt), λ y. tt)))); below = tt; first = tt }
-value_asks (Waiting d) b s fs q u r = record { reaches = reach_valued 0 (λ i. As Val) q u r (yield_step d) (one 0 (λ i. As Val) Value tt _ (λ v. (λ a. tt, λ y. tt))); below = tt; first = tt }
-value_asks Member b s fs q u r = record { reaches = as_member_reaches 0 member_begins q u r; below = tt; first = tt }
-value_asks Keyed b s fs q u r = record { reaches = as_member_reaches 0 member_begins q u r; below = tt; first = tt }
-value_asks Holding b s fs q u r = record { reaches = reach_valued 0 (λ i. Items) q u r array_step (one 0 (λ i. Items) Value tt _ (λ vs. (λ v. tt, λ y. tt))); below = tt; first = tt }
-value_asks (Against o a) b s fs q u r = record { reaches = reach_valued 1 (λ i. As Val) q u r (binary_step o) (binary_goes_on o); below = tt; first = (tt, tt) }
-value_asks (GivenLead a) b s fs q u r = record { reaches = reach_valued 1 (first_demand Callee Items) q u r (call_step false) call_goes_on; below = tt; first = (tt, tt) }
-value_asks (Filling a) b s fs q u r = record { reaches = reach_valued 1 (first_demand (As Val) Items) q u r new_step new_goes_on; below = tt; first = (tt, tt) }
-value_asks (Keying a) b s fs q u r = record { reaches = as_member_reaches 1 member_goes_on q u r; below = tt; first = (tt, tt) }
+value_asks Choosing b s fs q u r = record { reaches = λ y. reach_passing 0 (first_demand (As Test) (As (pass q))) q u r (conditional_step (pass q)) (conditional_begins (pass q)); below = tt; first = λ y. tt }
+value_asks Passing b s fs q u r = record { reaches = λ y. reach_passing 0 (λ i. Parts (pass q)) q u r (sequence_step (pass q)) (one 0 (λ i. Parts (pass q)) (Says (pass q)) tt _ (λ v. tt)); below = tt; first = λ y. tt }
+value_asks CalledLead b s fs q u r = record { reaches = λ y. reach_valued 0 (first_demand Callee Items) q u r (call_step false) (one 0 (first_demand Callee Items) Value tt _ (λ f. (tt, (λ vs. call_later 0 (first_demand Callee Items) false f vs, λ y. tt)))); below = s; first = λ y. tt }
+value_asks Making b s fs q u r = record { reaches = λ y. reach_valued 0 (first_demand (As Val) Items) q u r new_step (one 0 (first_demand (As Val) Items) Value tt _ (λ f. (tt, (λ vs. (λ v. tt, λ y. tt), λ y. tt)))); below = tt; first = λ y. tt }
+value_asks (Waiting d) b s fs q u r = record { reaches = λ y. reach_valued 0 (λ i. As Val) q u r (yield_step d) (one 0 (λ i. As Val) Value tt _ (λ v. (λ a. tt, λ y. tt))); below = tt; first = λ y. tt }
+value_asks Member b s fs q u r = record { reaches = λ y. as_member_reaches 0 member_begins q u r; below = tt; first = λ y. tt }
+value_asks Keyed b s fs q u r = record { reaches = λ y. as_member_reaches 0 member_begins q u r; below = tt; first = λ y. tt }
+value_asks Holding b s fs q u r = record { reaches = λ y. reach_valued 0 (λ i. Items) q u r array_step (one 0 (λ i. Items) Value tt _ (λ vs. (λ v. tt, λ y. tt))); below = tt; first = λ y. tt }
+value_asks Gathering b s fs q u r = record { reaches = λ y. reach_valued 0 (λ i. Items) q u r object_step (one 0 (λ i. Items) Value tt _ (λ vs. (λ v. tt, λ y. tt))); below = tt; first = λ y. tt }
+value_asks (Against o a) b s fs q u r = record { reaches = λ y. reach_valued 1 (λ i. As Val) q u r (binary_step o) (binary_goes_on o); below = tt; first = λ y. (tt, tt) }
+value_asks (GivenLead a) b s fs q u r = record { reaches = λ y. reach_valued 1 (first_demand Callee Items) q u r (call_step false) call_goes_on; below = tt; first = λ y. (tt, tt) }
+value_asks (Filling a) b s fs q u r = record { reaches = λ y. reach_valued 1 (first_demand (As Val) Items) q u r new_step new_goes_on; below = tt; first = λ y. (tt, tt) }
+value_asks (Keying a) b s fs q u r = record { reaches = λ y. as_member_reaches 1 member_goes_on q u r; below = tt; first = λ y. (tt, tt) }
+value_asks (Following o a) b s fs q u r = record { reaches = λ y. absurd (true≢false (sym y)); below = behind o (pass q); first = λ y. absurd (true≢false (sym y)) }
+  where
+    behind : (o : LogicalOperator) (w : Want) → Suits AsValue (logical_demand o w 1) b
+    behind And Val = tt
+    behind And Test = tt
+    behind And Unused = tt
+    behind Or Val = tt
+    behind Or Test = tt
+    behind Or Unused = tt
+    behind Coalesce w = tt
+value_asks (Branching a) b s fs q u r = record { reaches = λ y. absurd (true≢false (sym y)); below = tt; first = λ y. absurd (true≢false (sym y)) }
+value_asks (Failing a d) b s fs q u r = record { reaches = λ y. absurd (true≢false (sym y)); below = tt; first = λ y. absurd (true≢false (sym y)) }
+value_asks (Storing o a) b s fs q u r = record { reaches = λ y. absurd (true≢false (sym y)); below = tt; first = λ y. absurd (true≢false (sym y)) }
+value_asks (Fielding g a) b s fs q u r = record { reaches = λ y. absurd (true≢false (sym y)); below = tt; first = λ y. absurd (true≢false (sym y)) }
 value_asks l b s fs q u r = absurd s
 
 statement_asks : (l : Lead) (b : Bool) → Stands AsWholeItem l b → (fs : List Facts) (r : Request (Stat None)) → Asks AsWholeItem l fs (Stat None) r b
 unfolding step
-statement_asks Doing b s fs r = record { reaches = reach_statement 0 {σ = λ i. As Unused} (kid 0 tt ((then) ret)) (one 0 (λ i. As Unused) (Unit {0}) tt ret (λ v. tt)); below = tt; first = tt }
-statement_asks Giving b s fs r = record { reaches = reach_statement 0 return_step (one 0 (λ i. As Val) (Unit {0}) tt _ (λ v. tt)); below = tt; first = tt }
-statement_asks Raising b s fs r = record { reaches = reach_statement 0 throw_step (one 0 (λ i. As Val) (Unit {0}) tt _ (λ v. tt)); below = tt; first = tt }
-statement_asks Testing b s fs r = record { reaches = reach_statement 0 (if_step None) (one 0 (first_demand (As Test) (Stat None)) (Unit {0}) tt _ (λ c. later_choose 0 {σ = first_demand (As Test) (Stat None)} c (kid 1 [] ((then) ret)) (kid 2 [] ((then) ret)) (tt, (λ u. tt, λ y. tt)) (tt, (λ u. tt, λ y. tt)))); below = tt; first = tt }
+statement_asks Doing b s fs r = record { reaches = λ y. reach_statement 0 {σ = λ i. As Unused} (kid 0 tt ((then) ret)) (one 0 (λ i. As Unused) (Unit {0}) tt ret (λ v. tt)); below = tt; first = λ y. tt }
+statement_asks Giving b s fs r = record { reaches = λ y. reach_statement 0 return_step (one 0 (λ i. As Val) (Unit {0}) tt _ (λ v. tt)); below = tt; first = λ y. tt }
+statement_asks Raising b s fs r = record { reaches = λ y. reach_statement 0 throw_step (one 0 (λ i. As Val) (Unit {0}) tt _ (λ v. tt)); below = tt; first = λ y. tt }
+statement_asks Testing b s fs r = record { reaches = λ y. reach_statement 0 (if_step None) (one 0 (first_demand (As Test) (Stat None)) (Unit {0}) tt _ (λ c. later_choose 0 {σ = first_demand (As Test) (Stat None)} c (kid 1 [] ((then) ret)) (kid 2 [] ((then) ret)) (tt, (λ u. tt, λ y. tt)) (tt, (λ u. tt, λ y. tt)))); below = tt; first = λ y. tt }
 statement_asks l b s fs r = absurd s
 
 -- the parts of a sequence are asked nothing but the last, and items each for the item
@@ -365,8 +380,8 @@ list_asks (Listing ts) b s [] h q u r = absurd (none_less (count ts) h)
     none_less : (i : ℕ) → Before i 0 → ⊥
     none_less zero h = h
     none_less (suc i) h = h
-list_asks (Listing ts) b s (f ∷ fs) h (Parts w) u r = record { reaches = parts_reach (count ts) (length fs) w h; below = parts_asked (count ts) (length fs) w b h; first = parts_reply (length fs) w ts }
-list_asks (Listing ts) b s (f ∷ fs) h Items u r = record { reaches = entries_reach (count ts) (suc (length fs)) h; below = tt; first = entries_reply ts }
+list_asks (Listing ts) b s (f ∷ fs) h (Parts w) u r = record { reaches = λ y. parts_reach (count ts) (length fs) w h; below = parts_asked (count ts) (length fs) w b h; first = λ y. parts_reply (length fs) w ts }
+list_asks (Listing ts) b s (f ∷ fs) h Items u r = record { reaches = λ y. entries_reach (count ts) (suc (length fs)) h; below = tt; first = λ y. entries_reply ts }
 list_asks (Listing ts) b s (f ∷ fs) h q u r = absurd u
 list_asks l b s fs h q u r = absurd s
 
@@ -626,10 +641,11 @@ module _ (e : Environment) (k : ℕ) (z : Unseen (alone (Declared k)) e) where
         let is = summaries (kids read) in
         let σ = demand h (facts_all is) q in
         let a = asks c s.lead (is_end ss) w.0 (facts_all is) (there_before ps (led ss read) s.rest) q u r in
+        let steady = sym (ap (λ b. b || is_steady s.lead) varies) ∙ p.0.1 in
         let first = all_spared x named ps f.0.0 in
         let last = all_spared x named s.rest f.0.1 in
         let there = λ (y : State). node_is h q r (kids read) y in
         let put : means e (led (s ∷ ss) init) q r z ≡ by_summaries h q r is (kids init) z = node_is h q r (kids init) z ∙ ap (λ i. by_summaries h q r i (kids init) z) (sym (summaries_led s ss read init plain)) in
         subst₂ Go (sym (either_cong (means e init (As Val) tt z) _ _ _ _ (λ v y. there (after v y)) (λ y p. refl))) (sym put)
-        (reach_goes h q is σ ps (led ss read) (led ss init) s.rest init first last (calm_front init varies ps p.0 first σ a.first)
-        (λ r' s'. first_goes (asked_below (head_of s.lead) c (place 0 ps)) ss w.1 f.1 p.1 (σ (count ps)) a.below r' s') (step h [] (facts_all is) q r) a.reaches z)
+        (reach_goes h q is σ ps (led ss read) (led ss init) s.rest init first last (calm_front init varies ps p.0.0 first σ (a.first steady))
+        (λ r' s'. first_goes (asked_below (head_of s.lead) c (place 0 ps)) ss w.1 f.1 p.1 (σ (count ps)) a.below r' s') (step h [] (facts_all is) q r) (a.reaches steady) z)

@@ -2,8 +2,10 @@
 use Rattle.std.specs.Prelude.{ℕ, zero, suc, ◌+◌, ◌≡◌, ◌⊎◌, refl, not, ◌&&◌, ◌||◌, Bool, true, false, List, [], ◌∷◌, if◌then◌else◌}
 use Rattle.std.proofs.Common.{ap, ◌∙◌, sym, subst, arith, inl, inr, true≢false}
 use Rattle.std.proofs.lemmas.Bool.{and_parts}
+use Rattle.mini_model.specs.declared.kind.PropertyKind.TheVariants.{Init}
 use Rattle.mini_model.specs.declared.kind.VariableDeclarationKind.{VariableDeclarationKind}
 use Rattle.mini_model.specs.declared.name.Name.{Name}
+use Rattle.mini_model.specs.declared.operator.AssignmentOperator.{AssignmentOperator}
 use Rattle.mini_model.specs.declared.operator.BinaryOperator.{BinaryOperator}
 use Rattle.mini_model.specs.declared.operator.LogicalOperator.{LogicalOperator}
 use Rattle.mini_model.specs.declared.operator.UnaryOperator.TheVariants.{LogicalNot, UnaryPlus, UnaryNegation, BitwiseNot, Void}
@@ -16,10 +18,10 @@ use Rattle.mini_laws.specs.Naming.{summary, summaries, summary_of}
 use Rattle.mini_laws.specs.Symbols.{is_same}
 use Rattle.mini_node.specs.Children.{part, is_nameless, rest_children}
 use Rattle.mini_node.specs.Kinds.{is_identifier}
-use Rattle.mini_rows.specs.Sketches.{Head, AList, Array, Unary, Binary, Logical, Conditional, Sequence, Call, New, StaticMember, ComputedMember, Yield, OfExpression, Throw, Return, If, shape_by, Asked, AsWholeItem, AsValue, AsValues, asked_below, Leap}
+use Rattle.mini_rows.specs.Sketches.{Head, AList, Array, Unary, Binary, Logical, Conditional, Sequence, Call, New, StaticMember, ComputedMember, Yield, Object, Property, Assignment, OfExpression, Throw, Return, If, shape_by, Asked, AsWholeItem, AsValue, AsValues, asked_below, Leap}
 use Rattle.mini_rows.specs.Lists.{declaration, Each, EachIn, EachOf, each_loop}
 use Rattle.mini_rows.specs.Declarations.{declarator}
-use Rattle.mini_rows.specs.Unused.{is_like_one, names, any_names, begins, goes_on, leads, holds_list, is_childless, reads, is_first, leads_to, put_first, put_among, passes, are_passed, all_passed, reads_first, is_declarator, declares_list, reads_declarator, reads_declarators, reads_initially, reads_outside, is_open_left, reads_over, reads_head, evaluated}
+use Rattle.mini_rows.specs.Unused.{is_like_one, names, any_names, begins, goes_on, may_go_on, has_branches, leads, holds_list, is_childless, reads, is_first, leads_to, put_first, put_among, is_constant, passes, begins_with, is_reached, are_passed, all_passed, reads_first, is_declarator, declares_list, reads_declarator, reads_declarators, reads_initially, reads_outside, is_open_left, reads_over, reads_head, evaluated}
 use Rattle.mini_rows.proofs.Arranging.{Plain, Below, sum_below, Local, Summed}
 use Rattle.mini_rows.proofs.ListKeptHeads.{Seat, Loop, Choice, seated, rest}
 
@@ -41,11 +43,20 @@ pub data Lead : Type 0 where
   Member : Lead
   Keyed : Lead
   Holding : Lead
+  Gathering : Lead
   -- after the first part
   Against : BinaryOperator → Tree → Lead
   Given : Tree → Lead
   Filling : Tree → Lead
   Keying : Tree → Lead
+  -- after the parts before, or not at all
+  Following : LogicalOperator → Tree → Lead
+  Branching : Tree → Lead
+  Failing : Tree → Tree → Lead
+  -- after what is assigned to
+  Storing : AssignmentOperator → Tree → Lead
+  -- after a key, which stands in brackets or doesn't
+  Fielding : Bool → Tree → Lead
   -- a list, after these parts
   Listing : Trees → Lead
   -- statements
@@ -70,10 +81,16 @@ head_of (Waiting d) = Yield d
 head_of Member = StaticMember false
 head_of Keyed = ComputedMember false
 head_of Holding = Array
+head_of Gathering = Object
 head_of (Against o a) = Binary o
 head_of (Given a) = Call false
 head_of (Filling a) = New
 head_of (Keying a) = ComputedMember false
+head_of (Following o a) = Logical o
+head_of (Branching a) = Conditional
+head_of (Failing a b) = Conditional
+head_of (Storing o a) = Assignment o
+head_of (Fielding c a) = Property false c
 head_of (Listing ts) = AList
 head_of Doing = OfExpression
 head_of Giving = Return
@@ -86,8 +103,22 @@ before (Against o a) = a ▸ none
 before (Given a) = a ▸ none
 before (Filling a) = a ▸ none
 before (Keying a) = a ▸ none
+before (Following o a) = a ▸ none
+before (Branching a) = a ▸ none
+before (Failing a b) = a ▸ (b ▸ none)
+before (Storing o a) = a ▸ none
+before (Fielding c a) = a ▸ none
 before (Listing ts) = ts
 before l = none
+
+-- it is evaluated whatever the parts before are, each of which is asked for a value
+abbrev pub is_steady : Lead → Bool
+is_steady (Following o a) = false
+is_steady (Branching a) = false
+is_steady (Failing a b) = false
+is_steady (Storing o a) = false
+is_steady (Fielding c a) = false
+is_steady l = true
 
 -- the place after some parts
 abbrev pub place : ℕ → Trees → ℕ
@@ -128,10 +159,16 @@ Stands AsValue (Waiting d) at_end = Unit {0}
 Stands AsValue Member at_end = Unit {0}
 Stands AsValue Keyed at_end = Unit {0}
 Stands AsValue Holding at_end = Unit {0}
+Stands AsValue Gathering at_end = Unit {0}
 Stands AsValue (Against o a) at_end = Unit {0}
 Stands AsValue (Given a) at_end = Unit {0}
 Stands AsValue (Filling a) at_end = Unit {0}
 Stands AsValue (Keying a) at_end = Unit {0}
+Stands AsValue (Following o a) at_end = Unit {0}
+Stands AsValue (Branching a) at_end = Unit {0}
+Stands AsValue (Failing a b) at_end = Unit {0}
+Stands AsValue (Storing o a) at_end = Unit {0}
+Stands AsValue (Fielding c a) at_end = Unit {0}
 Stands c l at_end = ⊥
 
 abbrev pub Well : Asked → List Step → Type 0
@@ -148,9 +185,13 @@ abbrev pub AllPass : Tree → Trees → Type 0
 AllPass r none = Unit {0}
 AllPass r (t ▸ ts) = (passes r t ≡ true) × AllPass r ts
 
+-- it is evaluated whatever they are, or r is a constant
+abbrev pub Sure : Tree → Lead → Type 0
+Sure r l = (is_constant r || is_steady l) ≡ true
+
 abbrev pub Passed : Tree → List Step → Type 0
 Passed r [] = Unit {0}
-Passed r (s ∷ ss) = AllPass r (before s.lead) × Passed r ss
+Passed r (s ∷ ss) = (AllPass r (before s.lead) × Sure r s.lead) × Passed r ss
 
 -- ---- a tree as such a path
 
@@ -169,47 +210,61 @@ abbrev asked : Bool → Asked
 asked true = AsValues
 asked false = AsValue
 
+abbrev is_empty : Trees → Bool
+is_empty none = true
+is_empty (t ▸ ts) = false
+
 record Leads (b c : Bool) (h : Shape) (ts : Trees) : Type 0 where
   lead : Lead
   is : shape_by (head_of lead) ≡ h
   front : before lead ≡ ts
   stands : Stands (asked b) lead c
   below : asked_below (head_of lead) (asked b) (place 0 (before lead)) ≡ asked (holds_list h (place 0 ts))
+  sure : (not (may_go_on h) || is_empty ts) ≡ true → is_steady lead ≡ true
 
 not_leaf : (c : Bool) → not c ≡ true → c ≡ false
 not_leaf true e = absurd (true≢false (sym e))
 not_leaf false e = refl
 
 begun_by : (c : Bool) (h : Shape) → begins h c ≡ true → Leads false c h none
-begun_by c (shape.UnaryExpression LogicalNot) e = record { lead = Not; is = refl; front = refl; stands = tt; below = refl }
-begun_by c (shape.UnaryExpression UnaryPlus) e = record { lead = Plus; is = refl; front = refl; stands = tt; below = refl }
-begun_by c (shape.UnaryExpression UnaryNegation) e = record { lead = Minus; is = refl; front = refl; stands = not_leaf c e; below = refl }
-begun_by c (shape.UnaryExpression BitwiseNot) e = record { lead = Tilde; is = refl; front = refl; stands = tt; below = refl }
-begun_by c (shape.UnaryExpression Void) e = record { lead = Emptying; is = refl; front = refl; stands = not_leaf c e; below = refl }
-begun_by c (shape.BinaryExpression o) e = record { lead = Beside o; is = refl; front = refl; stands = tt; below = refl }
-begun_by c (shape.LogicalExpression o) e = record { lead = Deciding o; is = refl; front = refl; stands = tt; below = refl }
-begun_by c shape.ConditionalExpression e = record { lead = Choosing; is = refl; front = refl; stands = tt; below = refl }
-begun_by c shape.SequenceExpression e = record { lead = Passing; is = refl; front = refl; stands = tt; below = refl }
-begun_by c (shape.CallExpression false) e = record { lead = Called; is = refl; front = refl; stands = not_leaf c e; below = refl }
-begun_by c shape.NewExpression e = record { lead = Making; is = refl; front = refl; stands = tt; below = refl }
-begun_by c shape.ArrayExpression e = record { lead = Holding; is = refl; front = refl; stands = tt; below = refl }
-begun_by c (shape.YieldExpression d) e = record { lead = Waiting d; is = refl; front = refl; stands = tt; below = refl }
-begun_by c (shape.StaticMemberExpression false) e = record { lead = Member; is = refl; front = refl; stands = tt; below = refl }
-begun_by c (shape.ComputedMemberExpression false) e = record { lead = Keyed; is = refl; front = refl; stands = tt; below = refl }
+begun_by c (shape.UnaryExpression LogicalNot) e = record { lead = Not; is = refl; front = refl; stands = tt; below = refl; sure = λ q. refl }
+begun_by c (shape.UnaryExpression UnaryPlus) e = record { lead = Plus; is = refl; front = refl; stands = tt; below = refl; sure = λ q. refl }
+begun_by c (shape.UnaryExpression UnaryNegation) e = record { lead = Minus; is = refl; front = refl; stands = not_leaf c e; below = refl; sure = λ q. refl }
+begun_by c (shape.UnaryExpression BitwiseNot) e = record { lead = Tilde; is = refl; front = refl; stands = tt; below = refl; sure = λ q. refl }
+begun_by c (shape.UnaryExpression Void) e = record { lead = Emptying; is = refl; front = refl; stands = not_leaf c e; below = refl; sure = λ q. refl }
+begun_by c (shape.BinaryExpression o) e = record { lead = Beside o; is = refl; front = refl; stands = tt; below = refl; sure = λ q. refl }
+begun_by c (shape.LogicalExpression o) e = record { lead = Deciding o; is = refl; front = refl; stands = tt; below = refl; sure = λ q. refl }
+begun_by c shape.ConditionalExpression e = record { lead = Choosing; is = refl; front = refl; stands = tt; below = refl; sure = λ q. refl }
+begun_by c shape.SequenceExpression e = record { lead = Passing; is = refl; front = refl; stands = tt; below = refl; sure = λ q. refl }
+begun_by c (shape.CallExpression false) e = record { lead = Called; is = refl; front = refl; stands = not_leaf c e; below = refl; sure = λ q. refl }
+begun_by c shape.NewExpression e = record { lead = Making; is = refl; front = refl; stands = tt; below = refl; sure = λ q. refl }
+begun_by c shape.ArrayExpression e = record { lead = Holding; is = refl; front = refl; stands = tt; below = refl; sure = λ q. refl }
+begun_by c shape.ObjectExpression e = record { lead = Gathering; is = refl; front = refl; stands = tt; below = refl; sure = λ q. refl }
+begun_by c (shape.YieldExpression d) e = record { lead = Waiting d; is = refl; front = refl; stands = tt; below = refl; sure = λ q. refl }
+begun_by c (shape.StaticMemberExpression false) e = record { lead = Member; is = refl; front = refl; stands = tt; below = refl; sure = λ q. refl }
+begun_by c (shape.ComputedMemberExpression false) e = record { lead = Keyed; is = refl; front = refl; stands = tt; below = refl; sure = λ q. refl }
 begun_by c h e = absurd (true≢false (sym e))
 
-gone_on_by : (c : Bool) (h : Shape) (a : Tree) → goes_on h ≡ true → Leads false c h (a ▸ none)
-gone_on_by c (shape.BinaryExpression o) a e = record { lead = Against o a; is = refl; front = refl; stands = tt; below = refl }
-gone_on_by c (shape.CallExpression false) a e = record { lead = Given a; is = refl; front = refl; stands = tt; below = refl }
-gone_on_by c shape.NewExpression a e = record { lead = Filling a; is = refl; front = refl; stands = tt; below = refl }
-gone_on_by c (shape.ComputedMemberExpression false) a e = record { lead = Keying a; is = refl; front = refl; stands = tt; below = refl }
+gone_on_by : (c : Bool) (h : Shape) (a : Tree) → (goes_on h || may_go_on h) ≡ true → Leads false c h (a ▸ none)
+gone_on_by c (shape.BinaryExpression o) a e = record { lead = Against o a; is = refl; front = refl; stands = tt; below = refl; sure = λ q. refl }
+gone_on_by c (shape.CallExpression false) a e = record { lead = Given a; is = refl; front = refl; stands = tt; below = refl; sure = λ q. refl }
+gone_on_by c shape.NewExpression a e = record { lead = Filling a; is = refl; front = refl; stands = tt; below = refl; sure = λ q. refl }
+gone_on_by c (shape.ComputedMemberExpression false) a e = record { lead = Keying a; is = refl; front = refl; stands = tt; below = refl; sure = λ q. refl }
+gone_on_by c (shape.LogicalExpression o) a e = record { lead = Following o a; is = refl; front = refl; stands = tt; below = refl; sure = λ q. absurd (true≢false (sym q)) }
+gone_on_by c shape.ConditionalExpression a e = record { lead = Branching a; is = refl; front = refl; stands = tt; below = refl; sure = λ q. absurd (true≢false (sym q)) }
+gone_on_by c (shape.AssignmentExpression o) a e = record { lead = Storing o a; is = refl; front = refl; stands = tt; below = refl; sure = λ q. absurd (true≢false (sym q)) }
+gone_on_by c (shape.ObjectProperty Init false false d) a e = record { lead = Fielding d a; is = refl; front = refl; stands = tt; below = refl; sure = λ q. absurd (true≢false (sym q)) }
 gone_on_by c h a e = absurd (true≢false (sym e))
+
+branched_by : (c : Bool) (h : Shape) (a b : Tree) → has_branches h ≡ true → Leads false c h (a ▸ (b ▸ none))
+branched_by c shape.ConditionalExpression a b e = record { lead = Failing a b; is = refl; front = refl; stands = tt; below = refl; sure = λ q. absurd (true≢false (sym q)) }
+branched_by c h a b e = absurd (true≢false (sym e))
 
 place_next : (i : ℕ) (ts : Trees) → place (suc i) ts ≡ suc (place i ts)
 place_next i none = refl
 place_next i (t ▸ ts) = place_next (suc i) ts
 
-no_later : (h : Shape) (c : Bool) (i : ℕ) → leads false h (suc (suc i)) c ≡ true → ⊥
+no_later : (h : Shape) (c : Bool) (i : ℕ) → leads false h (suc (suc (suc i))) c ≡ true → ⊥
 no_later h c i e = true≢false (sym e)
 
 no_list_of : (i : ℕ) → holds_list shape.Listed i ≡ false
@@ -217,11 +272,12 @@ no_list_of zero = refl
 no_list_of (suc i) = refl
 
 lead_by : (b c : Bool) (h : Shape) (ts : Trees) → leads b h (place 0 ts) c ≡ true → Leads b c h ts
-lead_by true c shape.Listed ts e = record { lead = Listing ts; is = refl; front = refl; stands = tt; below = ap asked (sym (no_list_of (place 0 ts))) }
+lead_by true c shape.Listed ts e = record { lead = Listing ts; is = refl; front = refl; stands = tt; below = ap asked (sym (no_list_of (place 0 ts))); sure = λ q. refl }
 lead_by true c h ts e = absurd (true≢false (sym e))
 lead_by false c h none e = begun_by c h e
 lead_by false c h (a ▸ none) e = gone_on_by c h a e
-lead_by false c h (a ▸ (d ▸ ts)) e = absurd (no_later h c (place 0 ts) (sym (ap (λ i. leads false h i c) (place_next 1 ts ∙ ap suc (place_next 0 ts))) ∙ e))
+lead_by false c h (a ▸ (b ▸ none)) e = branched_by c h a b e
+lead_by false c h (a ▸ (b ▸ (d ▸ ts))) e = absurd (no_later h c (place 0 ts) (sym (ap (λ i. leads false h i c) (place_next 2 ts ∙ ap suc (place_next 1 ts ∙ ap suc (place_next 0 ts)))) ∙ e))
 
 not_true : (b : Bool) → not b ≡ true → b ≡ false
 not_true true e = absurd (true≢false (sym e))
@@ -275,6 +331,27 @@ later_one x b h i t ts n a = record {
       ((p, f), g);
 }
 
+pub or_true : (a b : Bool) → b ≡ true → (a || b) ≡ true
+or_true true b e = refl
+or_true false b e = e
+
+first_true : (a b : Bool) → a ≡ true → (a || b) ≡ true
+first_true true b e = refl
+first_true false b e = absurd (true≢false (sym e))
+
+-- where the first part is it, nothing stands before
+at_front : (x : Name) (a : Bool) (first : Trees) (one : Tree) (rest : Trees) → any_names x first ≡ false → (a || begins_with x (append first (one ▸ rest))) ≡ true → (a || is_empty first) ≡ true
+at_front x true first one rest n e = refl
+at_front x false none one rest n e = refl
+at_front x false (p ▸ ps) one rest n e = absurd (true≢false (sym (first_true (names x p) (any_names x ps) e) ∙ n))
+
+sure_by : (x : Name) (r : Tree) (h : Shape) (first : Trees) (one : Tree) (rest : Trees) (s : Bool) → any_names x first ≡ false → ((not (may_go_on h) || is_empty first) ≡ true → s ≡ true) → is_reached x r h (append first (one ▸ rest)) ≡ true → (is_constant r || s) ≡ true
+sure_by x r h first one rest s n f e = by (is_constant r) e
+  where
+    by : (c : Bool) → (c || (not (may_go_on h) || begins_with x (append first (one ▸ rest)))) ≡ true → (c || s) ≡ true
+    by true e = refl
+    by false e = f (at_front x (not (may_go_on h)) first one rest n e)
+
 one_step : (x : Name) (b : Bool) (h : Shape) (t : Tree) (ts : Trees) → Among x b h 0 (t ▸ ts) → Path x (asked b) (node h [] 0 (t ▸ ts))
 one_step x b h t ts a =
     let l = lead_by b (is_childless a.one) h a.first a.leads in
@@ -290,7 +367,11 @@ one_step x b h t ts a =
       is = ap (node h [] 0) a.is ∙ along (identifier p.read) a.one p.is;
       puts = λ r. ap (node h [] 0) (a.puts r) ∙ along r (put_first x r a.one) (p.puts r);
       ends = refl;
-      passed = λ r e. let (f, g) = a.passed r e in (subst (AllPass r) (sym l.front) f, p.passed r g);
+      passed = λ r e.
+          let (d, q) = and_parts (is_reached x r h (t ▸ ts)) (all_passed x r (t ▸ ts)) e in
+          let (f, g) = a.passed r q in
+          let sure = sure_by x r h a.first a.one a.rest (is_steady l.lead) a.earlier l.sure (subst (λ us. is_reached x r h us ≡ true) a.is d) in
+          ((subst (AllPass r) (sym l.front) f, sure), p.passed r g);
     }
 
 mutual
@@ -315,14 +396,6 @@ mutual
       by false n e f g = later_one x b h i t ts n (g e)
 
 -- what it reads it mentions
-or_true : (a b : Bool) → b ≡ true → (a || b) ≡ true
-or_true true b e = refl
-or_true false b e = e
-
-first_true : (a b : Bool) → a ≡ true → (a || b) ≡ true
-first_true true b e = refl
-first_true false b e = absurd (true≢false (sym e))
-
 mutual
   pub mentioned : (x : Name) (b : Bool) (t : Tree) → is_first x b t ≡ true → names x t ≡ true
   mentioned x b (node h [] n none) e = absurd (true≢false (sym (and_parts (is_identifier (node h [] n none)) false (and_parts (not b) (reads x (node h [] n none)) e).1).1))
@@ -344,6 +417,7 @@ pub record Statement (x : Name) (t : Tree) : Type 0 where
   pub lead : Lead
   pub stands : (b : Bool) → Stands AsWholeItem lead b
   pub front : before lead ≡ none
+  pub steady : is_steady lead ≡ true
   pub below : (c : Asked) → asked_below (head_of lead) c (place 0 (before lead)) ≡ AsValue
   pub inner : Tree
   pub rest : Trees
@@ -355,14 +429,15 @@ pub record Statement (x : Name) (t : Tree) : Type 0 where
   pub passed : (r : Tree) → are_passed x r t ≡ true → are_passed x r inner ≡ true
 
 -- of this lead
-stated : (x : Name) (l : Lead) (t : Tree) (ts : Trees) → ((b : Bool) → Stands AsWholeItem l b) → before l ≡ none → ((c : Asked) → asked_below (head_of l) c (place 0 (before l)) ≡ AsValue) → is_first x false t && not (any_names x ts) ≡ true → Statement x (node (shape_by (head_of l)) [] 0 (t ▸ ts))
-stated x l t ts s o b e =
+stated : (x : Name) (l : Lead) (t : Tree) (ts : Trees) → ((b : Bool) → Stands AsWholeItem l b) → before l ≡ none → is_steady l ≡ true → ((c : Asked) → asked_below (head_of l) c (place 0 (before l)) ≡ AsValue) → is_first x false t && not (any_names x ts) ≡ true → Statement x (node (shape_by (head_of l)) [] 0 (t ▸ ts))
+stated x l t ts s o d b e =
     let (q, f) = and_parts (is_first x false t) (not (any_names x ts)) e in
     let n = mentioned x false t q in
     record {
       lead = l;
       stands = s;
       front = o;
+      steady = d;
       below = b;
       inner = t;
       rest = ts;
@@ -371,15 +446,15 @@ stated x l t ts s o b e =
       is = refl;
       puts = λ r. ap (λ c. node (shape_by (head_of l)) [] 0 (if c then put_first x r t ▸ ts else t ▸ put_among x r ts)) n;
       along = λ u. ap (λ us. node (shape_by (head_of l)) [] 0 (append us (u ▸ ts))) (sym o);
-      passed = λ r e. sym (ap (λ c. if c then are_passed x r t else (passes r t && all_passed x r ts)) n) ∙ e;
+      passed = λ r e. sym (ap (λ c. if c then are_passed x r t else (passes r t && all_passed x r ts)) n) ∙ (and_parts (is_reached x r (shape_by (head_of l)) (t ▸ ts)) (all_passed x r (t ▸ ts)) e).1;
     }
 
 pub statement : (x : Name) (t : Tree) → reads_first x t ≡ true → Statement x t
 statement x (node h ys n none) e = absurd (true≢false (sym e))
-statement x (node shape.ExpressionStatement [] zero (t ▸ ts)) e = stated x Doing t ts (λ b. tt) refl (λ c. refl) e
-statement x (node shape.ReturnStatement [] zero (t ▸ ts)) e = stated x Giving t ts (λ b. tt) refl (λ c. refl) e
-statement x (node shape.ThrowStatement [] zero (t ▸ ts)) e = stated x Raising t ts (λ b. tt) refl (λ c. refl) e
-statement x (node shape.IfStatement [] zero (t ▸ ts)) e = stated x Testing t ts (λ b. tt) refl (λ c. refl) e
+statement x (node shape.ExpressionStatement [] zero (t ▸ ts)) e = stated x Doing t ts (λ b. tt) refl refl (λ c. refl) e
+statement x (node shape.ReturnStatement [] zero (t ▸ ts)) e = stated x Giving t ts (λ b. tt) refl refl (λ c. refl) e
+statement x (node shape.ThrowStatement [] zero (t ▸ ts)) e = stated x Raising t ts (λ b. tt) refl refl (λ c. refl) e
+statement x (node shape.IfStatement [] zero (t ▸ ts)) e = stated x Testing t ts (λ b. tt) refl refl (λ c. refl) e
 statement x t e = absurd (true≢false (sym e))
 
 -- a declaration does in its first initializer
@@ -472,7 +547,7 @@ outside_of x s h value ts there same evaluates e =
       is = refl;
       puts = λ r. ap (put_first x r) (there value) ∙ ap (λ c. node h [] 0 (if c then put_first x r value ▸ ts else value ▸ put_among x r ts)) n ∙ sym (there (put_first x r value));
       evaluates = evaluates;
-      passed = λ r e. sym (ap (λ c. if c then are_passed x r value else (passes r value && all_passed x r ts)) n) ∙ (sym (ap (are_passed x r) (there value)) ∙ e);
+      passed = λ r e. sym (ap (λ c. if c then are_passed x r value else (passes r value && all_passed x r ts)) n) ∙ (and_parts (is_reached x r h (value ▸ ts)) (all_passed x r (value ▸ ts)) (sym (ap (are_passed x r) (there value)) ∙ e)).1;
     }
 
 outside : (x : Name) (t : Tree) → reads_outside x t ≡ true → Outside x t

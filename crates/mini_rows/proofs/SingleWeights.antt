@@ -7,15 +7,15 @@ use Rattle.mini_model.specs.declared.name.Name.{Name}
 use Rattle.mini_model.specs.declared.name.SymbolId.{SymbolId}
 use Rattle.mini_model.specs.declared.operator.UnaryOperator.TheVariants.{Void}
 use Rattle.mini_model.specs.declared.place.Position.{Position}
-use Rattle.mini_model.specs.declared.place.Position.TheVariants.{Expr, Stmt, ArgumentList, SequenceList, Elsewhere}
+use Rattle.mini_model.specs.declared.place.Position.TheVariants.{Expr, Stmt, ArgumentList, SequenceList, CommaList, Elsewhere}
 use Rattle.mini_model.specs.declared.seat.Seat.{Seat}
 use Rattle.mini_model.specs.declared.seat.StmtSeat.{StmtSeat}
 use Rattle.mini_model.specs.declared.seat.StmtSeat.TheVariants as stmt_seat
 use Rattle.mini_model.specs.declared.shape.Shape.TheVariants as shape
 use Rattle.mini_model.specs.Tree.{Tree, Trees, node, none, ◌▸◌, count, identifier}
 use Rattle.mini_model.specs.Paths.{append}
-use Rattle.mini_model.specs.Position.{argument_seat, statement_expression_seat, whole_seat, child_position}
-use Rattle.mini_model.specs.Weight.{commas_weight, outline, outlines, one_chooses, braces_weight, own_weight, spelled_weight, weight, weights}
+use Rattle.mini_model.specs.Position.{argument_seat, statement_expression_seat, whole_seat, seat_of_level, child_position}
+use Rattle.mini_model.specs.Weight.{commas_weight, outline, outlines, one_chooses, braces_weight, own_weight, text_weight, place_weight, spelled_weight, weight, weights}
 use Rattle.mini_laws.specs.Symbols.{is_same}
 use Rattle.mini_terms.specs.Reading.{is_plain_part}
 use Rattle.mini_rows.specs.Declarations.{binding, declarator}
@@ -26,15 +26,17 @@ use Rattle.mini_rows.proofs.BooleanWeights.{moved}
 use Rattle.mini_rows.proofs.ListWeights.{total, in_list, comma_list, declarators_append}
 use Rattle.mini_rows.proofs.ListKeptHeads as opening
 use Rattle.mini_rows.proofs.ListKeptHeads.{Loop, Choice, seated}
-use Rattle.mini_rows.proofs.SingleUse.{Lead, Not, Plus, Minus, Tilde, Emptying, Beside, Deciding, Choosing, Passing, Called, Making, Waiting, Member, Keyed, Holding, Against, Given, Filling, Keying, Listing, Doing, Giving, Raising, Testing, head_of, before, place, Step, led, is_end, Stands, Well, Initial, heads, path, statement, Outside, Over, Heads, Path}
+use Rattle.mini_rows.proofs.SingleUse.{Lead, Not, Plus, Minus, Tilde, Emptying, Beside, Deciding, Choosing, Passing, Called, Making, Waiting, Member, Keyed, Holding, Against, Given, Filling, Keying, Following, Branching, Failing, Storing, Gathering, Fielding, Listing, Doing, Giving, Raising, Testing, head_of, before, place, Step, led, is_end, Stands, Well, Initial, heads, path, statement, Outside, Over, Heads, Path}
 
 -- ---- where the steps stand
 
 abbrev Placed : Asked → Position → Type 0
 Placed AsWholeItem (Stmt q) = Unit {0}
 Placed AsValue (Expr s) = Unit {0}
+Placed AsValue Elsewhere = Unit {0}
 Placed AsValues (SequenceList s) = Unit {0}
 Placed AsValues ArgumentList = Unit {0}
+Placed AsValues CommaList = Unit {0}
 Placed c p = ⊥
 
 -- at its place below a step
@@ -64,15 +66,22 @@ placed_value (Waiting d) b s p n = tt
 placed_value Member b s p n = tt
 placed_value Keyed b s p n = tt
 placed_value Holding b s p n = tt
+placed_value Gathering b s p n = tt
 placed_value (Against o a) b s p n = tt
 placed_value (Given a) b s p n = tt
 placed_value (Filling a) b s p n = tt
 placed_value (Keying a) b s p n = tt
+placed_value (Following o a) b s p n = tt
+placed_value (Branching a) b s p n = tt
+placed_value (Failing a d) b s p n = tt
+placed_value (Storing o a) b s p n = tt
+placed_value (Fielding g a) b s p n = tt
 placed_value l b s p n = absurd s
 
 placed_part : (l : Lead) (b : Bool) → Stands AsValues l b → (p : Position) → Placed AsValues p → (n : ℕ) → PlacedBelow AsValues l p n
 placed_part (Listing ts) b s (SequenceList t) q n = tt
 placed_part (Listing ts) b s ArgumentList q n = tt
+placed_part (Listing ts) b s CommaList q n = tt
 placed_part (Listing ts) b s p q n = absurd q
 placed_part l b s p q n = absurd s
 
@@ -115,11 +124,45 @@ same_value (Waiting d) b s q t u ts z = refl
 same_value Member b s q t u ts z = refl
 same_value Keyed b s q t u ts z = refl
 same_value Holding b s q t u ts z = refl
+same_value Gathering b s q t u ts z = refl
 same_value (Against o a) b s q t u ts z = refl
 same_value (Given a) b s q t u ts z = refl
 same_value (Filling a) b s q t u ts z = refl
 same_value (Keying a) b s q t u ts z = refl
+same_value (Following o a) b s q t u ts z = refl
+same_value (Branching a) b s q t u ts z = refl
+same_value (Failing a d) b s q t u ts z = refl
+same_value (Storing o a) b s q t u ts z = refl
+same_value (Fielding g a) b s q t u ts z = refl
 same_value l b s q t u ts z = absurd s
+
+same_there : (l : Lead) (b : Bool) → Stands AsValue l b → (t u : Tree) (ts : Trees) → SameZero b t u → SameOwn Elsewhere l t u ts
+same_there Not b s t u ts z = refl
+same_there Plus b s t u ts z = refl
+same_there Minus b s t u ts z = refl
+same_there Tilde b s t u ts z = refl
+same_there Emptying b s t u ts z = ap (λ c. own_weight Elsewhere (shape.UnaryExpression Void) [] (record (outline t) { is_zero = c } ∷ outlines ts)) (z s)
+same_there (Beside p) b s t u ts z = refl
+same_there (Deciding p) b s t u ts z = refl
+same_there Choosing b s t u ts z = refl
+same_there Passing b s t u ts z = refl
+same_there Called b s t u ts z = refl
+same_there Making b s t u ts z = refl
+same_there (Waiting d) b s t u ts z = refl
+same_there Member b s t u ts z = refl
+same_there Keyed b s t u ts z = refl
+same_there Holding b s t u ts z = refl
+same_there Gathering b s t u ts z = refl
+same_there (Against o a) b s t u ts z = refl
+same_there (Given a) b s t u ts z = refl
+same_there (Filling a) b s t u ts z = refl
+same_there (Keying a) b s t u ts z = refl
+same_there (Following o a) b s t u ts z = refl
+same_there (Branching a) b s t u ts z = refl
+same_there (Failing a d) b s t u ts z = refl
+same_there (Storing o a) b s t u ts z = refl
+same_there (Fielding g a) b s t u ts z = refl
+same_there l b s t u ts z = absurd s
 
 commas_put : (ps : Trees) (t u : Tree) (ts : Trees) → commas_weight (outlines (append ps (t ▸ ts))) ≡ commas_weight (outlines (append ps (u ▸ ts)))
 commas_put none t u none = refl
@@ -135,11 +178,17 @@ same_items : (l : Lead) (b : Bool) → Stands AsValues l b → (t u : Tree) (ts 
 same_items (Listing ps) b s t u ts = ap (λ k. k + 0) (commas_put ps t u ts)
 same_items l b s t u ts = absurd s
 
+same_fields : (l : Lead) (b : Bool) → Stands AsValues l b → (t u : Tree) (ts : Trees) → SameOwn CommaList l t u ts
+same_fields (Listing ps) b s t u ts = ap (λ k. k + 0) (commas_put ps t u ts)
+same_fields l b s t u ts = absurd s
+
 same_own : (c : Asked) (l : Lead) (b : Bool) → Stands c l b → (p : Position) → Placed c p → (t u : Tree) (ts : Trees) → SameZero b t u → SameOwn p l t u ts
 same_own AsWholeItem l b s (Stmt q) a t u ts z = same_statement l b s q t u ts
 same_own AsValue l b s (Expr q) a t u ts z = same_value l b s q t u ts z
+same_own AsValue l b s Elsewhere a t u ts z = same_there l b s t u ts z
 same_own AsValues l b s (SequenceList q) a t u ts z = same_parts l b s q t u ts
 same_own AsValues l b s ArgumentList a t u ts z = same_items l b s t u ts
+same_own AsValues l b s CommaList a t u ts z = same_fields l b s t u ts
 same_own c l b s p a t u ts z = absurd a
 
 -- among neighbours
@@ -175,8 +224,21 @@ same_zero : (ss : List Step) (t u : Tree) → SameZero (is_end ss) (led ss t) (l
 same_zero [] t u e = absurd (true≢false e)
 same_zero (s ∷ ss) t u e = no_zero s.lead (append (before s.lead) (led ss t ▸ s.rest)) ∙ sym (no_zero s.lead (append (before s.lead) (led ss u ▸ s.rest)))
 
+-- where no expression stands there are no parentheses
+no_marks : (a b w : ℕ) → (a + 0) + w ≤ (a + b) + w
+no_marks a b w = omega arith
+
+bare_falls : (t : Tree) → is_plain_part t ≡ true → weight Elsewhere t ≤ weight (Expr (seat_of_level 0)) t
+bare_falls (node (shape.VariableDeclaration k) xs n ts) e = absurd (true≢false (sym e))
+bare_falls (node shape.InnerExpression xs n ts) e = absurd (true≢false (sym e))
+bare_falls (node h xs n ts) e = no_marks (text_weight h xs Elsewhere (outlines ts)) (place_weight (Expr (seat_of_level 0)) h (outlines ts)) (weights (child_position h Elsewhere (count ts)) ts)
+
+name_there : (y : Name) → is_none y.symbol ≡ false → 2 ≤ weight Elsewhere (identifier y)
+name_there y e = let own = ap (λ b. if b then spelled_weight y.spelling else 2) e in omega (arith, own)
+
 led_falls : (c : Asked) (ss : List Step) → Well c ss → (p : Position) → Placed c p → (r : Tree) → is_plain_part r ≡ true → (y : Name) → is_none y.symbol ≡ false → weight p (led ss r) ≤ weight p (led ss (identifier y)) + (weight (Expr argument_seat) r + 3)
 led_falls AsValue [] w (Expr s) a r f y e = let here = moved s argument_seat r f in let name = name_weighs s y e in omega (arith, here, name)
+led_falls AsValue [] w Elsewhere a r f y e = let bare = bare_falls r f in let here = moved (seat_of_level 0) argument_seat r f in let name = name_there y e in omega (arith, bare, here, name)
 led_falls AsValue [] w p a r f y e = absurd a
 led_falls c [] w p a r f y e = absurd w
 led_falls c (s ∷ ss) w p a r f y e =

@@ -1,6 +1,7 @@
 -- Rows of names that nothing mentions: each is a shape and what is written in its place, with the JavaScript before and after. W has
 -- the variables that the program mentions and that can be written in it.
 use Rattle.std.specs.Prelude.{◌≡◌, ◌<◌, ◌⊎◌, ◌||◌, ◌&&◌, not, ℕ, nat_le, zero, suc, Bool, true, false, List, [], ◌∷◌, if◌then◌else◌}
+use Rattle.mini_model.specs.declared.kind.PropertyKind.TheVariants.{Init}
 use Rattle.mini_model.specs.declared.kind.VariableDeclarationKind.{VariableDeclarationKind}
 use Rattle.mini_model.specs.declared.name.Name.{Name}
 use Rattle.mini_model.specs.declared.operator.UnaryOperator.TheVariants.{LogicalNot, UnaryPlus, UnaryNegation, BitwiseNot, Void}
@@ -122,6 +123,7 @@ begins shape.SequenceExpression is_leaf = true
 begins (shape.CallExpression false) is_leaf = not is_leaf
 begins shape.NewExpression is_leaf = true
 begins shape.ArrayExpression is_leaf = true
+begins shape.ObjectExpression is_leaf = true
 begins (shape.YieldExpression is_delegate) is_leaf = true
 begins (shape.StaticMemberExpression false) is_leaf = true
 begins (shape.ComputedMemberExpression false) is_leaf = true
@@ -135,21 +137,37 @@ goes_on shape.NewExpression = true
 goes_on (shape.ComputedMemberExpression false) = true
 goes_on h = false
 
+-- what evaluates its first part, or what is assigned to, or a key, and then, if at all, this one, and asks for the value of this one
+-- alone. A property that is shorthand isn't such a part: its value repeats its key
+abbrev pub may_go_on : Shape → Bool
+may_go_on (shape.LogicalExpression o) = true
+may_go_on shape.ConditionalExpression = true
+may_go_on (shape.AssignmentExpression o) = true
+may_go_on (shape.ObjectProperty Init false false is_computed) = true
+may_go_on h = false
+
+-- or it evaluates the third part
+abbrev pub has_branches : Shape → Bool
+has_branches shape.ConditionalExpression = true
+has_branches h = false
+
 -- so does it the one at the place
 abbrev pub continues : ℕ → Shape → Bool
-continues (suc zero) h = goes_on h
+continues (suc zero) h = goes_on h || may_go_on h
+continues (suc (suc zero)) h = has_branches h
 continues i h = false
 
--- an expression, which evaluates the part at the place after those before it, or a list of parts
+-- an expression, which evaluates the part at the place after those before it, if at all, or a list of parts
 abbrev pub leads : Bool → Shape → ℕ → Bool → Bool
 leads true h i is_leaf = is_listed_shape h
 leads false h zero is_leaf = begins h is_leaf
 leads false h (suc i) is_leaf = continues (suc i) h
 
--- its first part is a list: the parts of a sequence, or the elements of an array
+-- its first part is a list: the parts of a sequence, the elements of an array, or the properties of an object
 abbrev pub begins_list : Shape → Bool
 begins_list shape.SequenceExpression = true
 begins_list shape.ArrayExpression = true
+begins_list shape.ObjectExpression = true
 begins_list h = false
 
 -- its second part is a list, of arguments
@@ -219,10 +237,19 @@ is_constant (node h ys n ts) = is_written_value h
 abbrev pub passes : Tree → Tree → Bool
 passes r t = is_constant r || (is_constant t || (is_effect_free r && (is_effect_free t && is_item t)))
 
--- each part that is evaluated before the variable is read may be evaluated before r
+-- the first of some parts mentions the name, or there is none
+abbrev pub begins_with : Name → Trees → Bool
+begins_with x none = true
+begins_with x (t ▸ ts) = names x t
+
+-- the part that mentions the name is evaluated whatever those before it are; or it needn't be, since r is a constant
+abbrev pub is_reached : Name → Tree → Shape → Trees → Bool
+is_reached x r h ts = is_constant r || (not (may_go_on h) || begins_with x ts)
+
+-- each part that is evaluated before the variable is read may be evaluated before r, and the read is reached whatever they are
 abbrev mutual
   pub are_passed : Name → Tree → Tree → Bool
-  are_passed x r (node h ys n ts) = all_passed x r ts
+  are_passed x r (node h ys n ts) = is_reached x r h ts && all_passed x r ts
 
   pub all_passed : Name → Tree → Trees → Bool
   all_passed x r none = true

@@ -17,10 +17,10 @@ use Rattle.mini_node.specs.Made.{block_is}
 use Rattle.mini_node.specs.Walks.{next_child}
 use Rattle.mini_rows.specs.Lists.{block, declaration}
 use Rattle.mini_rows.specs.Declarations.{binding, declarator}
-use Rattle.mini_rows.specs.Unused.{resolved, declared_among, declared_left, names, any_names, leads, has_arguments, holds_list, is_childless, is_written_value, is_value_operator, is_constant, reads, is_first, leads_to, put_first, put_among, passes, are_passed, all_passed, is_head_shape, reads_first, reads_head, evaluated, may_move, lets_go, Row71}
+use Rattle.mini_rows.specs.Unused.{resolved, declared_among, declared_left, names, any_names, may_go_on, is_reached, leads, has_arguments, holds_list, is_childless, is_written_value, is_value_operator, is_constant, reads, is_first, leads_to, put_first, put_among, passes, are_passed, all_passed, is_head_shape, reads_first, reads_head, evaluated, may_move, lets_go, Row71}
 use Rattle.mini_unused.specs.RemoveUnusedDeclaration.{declares_name, is_lexical_shape, declares_list, may_lose, is_free_at, list_at}
 use Rattle.mini_unused.specs.SubstituteNext.{put_named}
-use Rattle.mini_unused.specs.SubstituteSingleUse.{mention_place, may_lead, all_pass, is_head, reads_here, last_place, is_declared_over, is_mentioned_around, reads_next, is_read_once, is_single_declarator, is_single, declaration_left, list_single}
+use Rattle.mini_unused.specs.SubstituteSingleUse.{mention_place, may_lead, all_pass, is_reached_at, may_reach, is_head, reads_here, last_place, is_declared_over, is_mentioned_around, reads_next, is_read_once, is_single_declarator, is_single, declaration_left, list_single}
 use Rattle.mini_unused.proofs.Unused.{no_outside, parts_of, there_child, there_first, and_both, Declares, declares, a_declaration, left_is}
 
 -- ---- the part that reads
@@ -38,14 +38,19 @@ no_first none = refl
 no_first (t ▸ ts) = refl
 
 -- where a part leads at all
-pub leads_further : (h : Shape) (i : ℕ) (c : Bool) → (i ≡ 0 → ⊥) → (i ≡ 1 → ⊥) → leads false h i c ≡ false
-leads_further h zero c f g = absurd (f refl)
-leads_further h (suc zero) c f g = absurd (g refl)
-leads_further h (suc (suc i)) c f g = refl
+pub leads_further : (h : Shape) (i : ℕ) (c : Bool) → (i ≡ 0 → ⊥) → (i ≡ 1 → ⊥) → (i ≡ 2 → ⊥) → leads false h i c ≡ false
+leads_further h zero c f g k = absurd (f refl)
+leads_further h (suc zero) c f g k = absurd (g refl)
+leads_further h (suc (suc zero)) c f g k = absurd (k refl)
+leads_further h (suc (suc (suc i))) c f g k = refl
 
 pub lists_further : (h : Shape) (i : ℕ) → (i ≡ 0 → ⊥) → holds_list h i ≡ has_arguments h
 lists_further h zero f = absurd (f refl)
 lists_further h (suc i) f = refl
+
+pub reached_further : (r : Tree) (h : Shape) (i : ℕ) → (i ≡ 0 → ⊥) → is_reached_at r h i ≡ (is_constant r || not (may_go_on h))
+reached_further r h zero f = absurd (f refl)
+reached_further r h (suc i) f = refl
 
 -- constants
 pub constant_literal : (t : Tree) → is_written_value (shape_of t) ≡ true → is_constant t ≡ true
@@ -222,8 +227,30 @@ passed_nowhere x r (t ▸ ts) l = by (names x t) refl l (passed_nowhere x r ts)
     by true e l f = let here = place_here x t ts e in absurd (omega (arith, l, here))
     by false e l f = let later = place_later x t ts e in ap (λ c. if c then are_passed x r t else (passes r t && all_passed x r ts)) e ∙ ap (λ c. passes r t && c) (f (omega (arith, l, later)))
 
-pub passed_none : (x : Name) (r t : Tree) (p : ℕ) → p ≡ mention_place x (children t) → all_pass r (first_children p (children t)) ≡ false → are_passed x r t ≡ false
-passed_none x r (node h xs n ts) p e f = by (ltb p (count ts)) refl
+-- the part that mentions the name, by its place
+or_all : (a b : Bool) → (a || (b || true)) ≡ true
+or_all true b = refl
+or_all false true = refl
+or_all false false = refl
+
+or_none : (a b : Bool) → (a || (b || false)) ≡ (a || b)
+or_none true b = refl
+or_none false true = refl
+or_none false false = refl
+
+reached_place : (x : Name) (r : Tree) (h : Shape) (ts : Trees) → is_reached x r h ts ≡ is_reached_at r h (mention_place x ts)
+reached_place x r h none = or_all (is_constant r) (not (may_go_on h))
+reached_place x r h (t ▸ ts) = by (names x t) refl
+  where
+    by : (c : Bool) → names x t ≡ c → is_reached x r h (t ▸ ts) ≡ is_reached_at r h (mention_place x (t ▸ ts))
+    by true e = ap (λ c. is_constant r || (not (may_go_on h) || c)) e ∙ or_all (is_constant r) (not (may_go_on h)) ∙ sym (ap (is_reached_at r h) (place_here x t ts e))
+    by false e = ap (λ c. is_constant r || (not (may_go_on h) || c)) e ∙ or_none (is_constant r) (not (may_go_on h)) ∙ sym (ap (is_reached_at r h) (place_later x t ts e))
+
+reached_by : (x : Name) (r : Tree) (h : Shape) (ts : Trees) (p : ℕ) → p ≡ mention_place x ts → is_reached x r h ts ≡ is_reached_at r h p
+reached_by x r h ts p e = reached_place x r h ts ∙ sym (ap (is_reached_at r h) e)
+
+none_passed : (x : Name) (r : Tree) (ts : Trees) (p : ℕ) → p ≡ mention_place x ts → all_pass r (first_children p ts) ≡ false → all_passed x r ts ≡ false
+none_passed x r ts p e f = by (ltb p (count ts)) refl
   where
     by : (b : Bool) → ltb p (count ts) ≡ b → all_passed x r ts ≡ false
     by true k =
@@ -235,15 +262,24 @@ passed_none x r (node h xs n ts) p e f = by (ltb p (count ts)) refl
         let same : count ts ≡ p = omega (arith, e, more, within) in
         passed_nowhere x r ts (omega (arith, e, more)) ∙ ap (λ j. all_pass r (first_children j ts)) same ∙ f
 
-pub passed_all : (x : Name) (r t : Tree) (p : ℕ) → p ≡ mention_place x (children t) → count (children t) ≤ p → all_pass r (first_children p (children t)) ≡ true → are_passed x r t ≡ true
+pub passed_none : (x : Name) (r t : Tree) (p : ℕ) → p ≡ mention_place x (children t) → may_reach r t p ≡ false → are_passed x r t ≡ false
+passed_none x r (node h xs n ts) p e f = by (is_reached_at r h p) refl f
+  where
+    by : (b : Bool) → is_reached_at r h p ≡ b → (b && all_pass r (first_children p ts)) ≡ false → (is_reached x r h ts && all_passed x r ts) ≡ false
+    by true k f = ap (λ c. c && all_passed x r ts) (reached_by x r h ts p e ∙ k) ∙ none_passed x r ts p e f
+    by false k f = ap (λ c. c && all_passed x r ts) (reached_by x r h ts p e ∙ k)
+
+pub passed_all : (x : Name) (r t : Tree) (p : ℕ) → p ≡ mention_place x (children t) → count (children t) ≤ p → may_reach r t p ≡ true → are_passed x r t ≡ true
 passed_all x r (node h xs n ts) p e l f =
+    let (k, g) = and_parts (is_reached_at r h p) (all_pass r (first_children p ts)) f in
     let within = place_within x ts in
     let same : count ts ≡ p = omega (arith, e, l, within) in
-    passed_nowhere x r ts (omega (arith, e, l)) ∙ ap (λ j. all_pass r (first_children j ts)) same ∙ f
+    ap (λ c. c && all_passed x r ts) (reached_by x r h ts p e ∙ k) ∙ passed_nowhere x r ts (omega (arith, e, l)) ∙ ap (λ j. all_pass r (first_children j ts)) same ∙ g
 
-pub passed_below : (x : Name) (r t : Tree) (p : ℕ) → p ≡ mention_place x (children t) → p < count (children t) → all_pass r (first_children p (children t)) ≡ true → are_passed x r t ≡ are_passed x r (part t p)
+pub passed_below : (x : Name) (r t : Tree) (p : ℕ) → p ≡ mention_place x (children t) → p < count (children t) → may_reach r t p ≡ true → are_passed x r t ≡ are_passed x r (part t p)
 passed_below x r (node h xs n ts) p e l f =
-    passed_at x r ts (omega (arith, e, l)) ∙ sym (ap (passed_there x r ts) e) ∙ ap (λ c. c && are_passed x r (child_or_absent ts p)) f
+    let (k, g) = and_parts (is_reached_at r h p) (all_pass r (first_children p ts)) f in
+    ap (λ c. c && all_passed x r ts) (reached_by x r h ts p e ∙ k) ∙ passed_at x r ts (omega (arith, e, l)) ∙ sym (ap (passed_there x r ts) e) ∙ ap (λ c. c && are_passed x r (child_or_absent ts p)) g
 
 -- of a statement
 

@@ -12,7 +12,7 @@ use Rattle.mini_laws.specs.Value.{VariableSet}
 use Rattle.mini_node.specs.Children.{names_of, part, with_child, with_part, without, is_bare, is_nameless}
 use Rattle.mini_node.specs.Kinds.{is_listed}
 use Rattle.mini_rows.specs.Lists.{declaration, Each, EachIn, EachOf, each_loop}
-use Rattle.mini_rows.specs.Unused.{is_idle, any_names, names, begins, goes_on, leads, holds_list, is_childless, is_first, leads_to, put_first, put_among, are_passed, is_head_shape, reads_first, reads_head, evaluated, may_move}
+use Rattle.mini_rows.specs.Unused.{is_idle, any_names, names, begins, goes_on, may_go_on, has_branches, leads, holds_list, is_childless, is_first, leads_to, put_first, put_among, are_passed, is_head_shape, reads_first, reads_head, evaluated, may_move}
 use Rattle.mini_unused.specs.RemoveUnusedDeclaration.{declares_list, declares_name, may_lose, is_free_at, is_unused_declarator, list_at, statement_left, let_left}
 use Rattle.mini_rows.specs.Declarations.{declarator}
 use Rattle.mini_unused.specs.SubstituteNext.{reads_then, put_named, is_declarator, is_mentioned_beside, is_mentioned_elsewhere, is_read_then, declarators_next, NextGone}
@@ -117,14 +117,19 @@ begun : (h : Shape) (c : Bool) → begins h c ≡ true → (xs : List Name) (n :
 begun shape.Identifier c e xs n ts = absurd (true≢false (sym e))
 begun h c e xs n ts = refl
 
-gone_on : (h : Shape) → goes_on h ≡ true → (xs : List Name) (n : ℕ) (ts : Trees) → is_eval_callee (node h xs n ts) ≡ false
+gone_on : (h : Shape) → (goes_on h || may_go_on h) ≡ true → (xs : List Name) (n : ℕ) (ts : Trees) → is_eval_callee (node h xs n ts) ≡ false
 gone_on shape.Identifier e xs n ts = absurd (true≢false (sym e))
 gone_on h e xs n ts = refl
+
+branched : (h : Shape) → has_branches h ≡ true → (xs : List Name) (n : ℕ) (ts : Trees) → is_eval_callee (node h xs n ts) ≡ false
+branched shape.Identifier e xs n ts = absurd (true≢false (sym e))
+branched h e xs n ts = refl
 
 led_by : (h : Shape) (i : ℕ) (c : Bool) → leads false h i c ≡ true → (xs : List Name) (n : ℕ) (ts : Trees) → is_eval_callee (node h xs n ts) ≡ false
 led_by h zero c e = begun h c e
 led_by h (suc zero) c e = gone_on h e
-led_by h (suc (suc i)) c e = absurd (true≢false (sym e))
+led_by h (suc (suc zero)) c e = branched h e
+led_by h (suc (suc (suc i))) c e = absurd (true≢false (sym e))
 
 -- of some parts from a place on, the one that leads there
 record Leading (x : Name) (h : Shape) (i : ℕ) (ts : Trees) : Type 0 where

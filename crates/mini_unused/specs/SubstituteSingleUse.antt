@@ -1,13 +1,14 @@
 -- 71, `substitute_single_use`: `{ let x = a(); return x + b; }` becomes `{ ; return a() + b; }`, `{ const a = b(), x = c(); return x; }`
 -- `{ const a = b(); return c(); }`, and `{ let x = a(); const y = x.b; c(y); }` `{ ; const y = a().b; c(y); }`; so do the statements of a
 -- function, and there each `var`, too.
-use Rattle.std.specs.Prelude.{◌≡◌, ◌<◌, ◌^◌, ◌⊎◌, ℕ, suc, Bool, true, false, not, ◌&&◌, ◌||◌, List, [], ◌∷◌, Option, Some, None, if◌then◌else◌}
+use Rattle.std.specs.Prelude.{◌≡◌, ◌<◌, ◌^◌, ◌⊎◌, ℕ, suc, Bool, true, false, not, ◌&&◌, ◌||◌, zero, List, [], ◌∷◌, Option, Some, None, if◌then◌else◌}
 use Rattle.mini_model.specs.declared.name.Name.{Name}
+use Rattle.mini_model.specs.declared.shape.Shape.{Shape}
 use Rattle.mini_model.specs.Tree.{Tree, Trees, none, ◌▸◌, count, child_or_absent, empty_statement, shape_of, children}
 use Rattle.mini_laws.specs.ScopeList.{has_eval}
 use Rattle.mini_laws.specs.Value.{VariableSet}
 use Rattle.mini_node.specs.Children.{names_of, part, with_part, is_bare, is_nameless, first_children, rest_children}
-use Rattle.mini_rows.specs.Unused.{names, any_names, leads, is_childless, is_head_shape, may_move, passes, are_passed, reads_head, evaluated}
+use Rattle.mini_rows.specs.Unused.{names, any_names, leads, is_childless, is_constant, may_go_on, is_head_shape, may_move, passes, are_passed, reads_head, evaluated}
 use Rattle.mini_unused.specs.Chains.{Several}
 use Rattle.mini_unused.specs.SubstituteNext.{put_named, NextAt, NextGone}
 use Rattle.mini_unused.specs.RemoveUnusedDeclaration.{declares_name, declares_list, may_lose, is_free_at, list_at, let_left, list_left, UnusedAt}
@@ -25,6 +26,15 @@ may_lead in_list t i = leads in_list (shape_of t) i (is_childless (part t i)) &&
 abbrev pub all_pass : Tree → Trees → Bool
 all_pass r none = true
 all_pass r (t ▸ ts) = passes r t && all_pass r ts
+
+-- the part at the place is evaluated whatever those before it are, or r is a constant
+abbrev pub is_reached_at : Tree → Shape → ℕ → Bool
+is_reached_at r h zero = true
+is_reached_at r h (suc i) = is_constant r || not (may_go_on h)
+
+-- so it is, and those before it may be evaluated before r
+abbrev pub may_reach : Tree → Tree → ℕ → Bool
+may_reach r t i = is_reached_at r (shape_of t) i && all_pass r (first_children i (children t))
 
 -- a statement that evaluates its first part before all else
 abbrev pub is_head : Tree → Bool

@@ -22,7 +22,7 @@ use crate::mentions::{is_mentioned, is_mentioned_before, is_mentioned_from, is_s
 use crate::next_uses::{is_declarator, substitute_next_uses};
 use crate::sweeping::sweep;
 use mini_context::Scopes;
-use mini_model::{Name, OutOfMemory, Shape, UnaryOperator};
+use mini_model::{Name, OutOfMemory, PropertyKind, Shape, UnaryOperator};
 use mini_node::{Node, Nodes, discard, empty_statement, is_identifier, two};
 use mini_terms::{is_effect_free, is_item, is_plain_part};
 use std::alloc::Global;
@@ -41,6 +41,7 @@ fn begins(shape: &Shape, is_leaf: bool) -> bool
         | Shape::SequenceExpression
         | Shape::NewExpression
         | Shape::ArrayExpression
+        | Shape::ObjectExpression
         | Shape::YieldExpression(_)
         | Shape::StaticMemberExpression(false)
         | Shape::ComputedMemberExpression(false) => true,
@@ -63,13 +64,34 @@ fn goes_on(shape: &Shape) -> bool
     )
 }
 
+// What evaluates its first part, or what is assigned to, or a key, and then, if at all, the second, and asks for the second's value
+// alone. A property that is shorthand isn't such a part.
+fn may_go_on(shape: &Shape) -> bool
+    ensures { result ≡ reading.may_go_on shape.now }
+{
+    matches!(
+        shape,
+        Shape::LogicalExpression(_)
+            | Shape::ConditionalExpression
+            | Shape::AssignmentExpression(_)
+            | Shape::ObjectProperty(PropertyKind::Init, false, false, _)
+    )
+}
+
+// Or it evaluates the third.
+fn has_branches(shape: &Shape) -> bool
+    ensures { result ≡ reading.has_branches shape.now }
+{
+    matches!(shape, Shape::ConditionalExpression)
+}
+
 fn is_listed_shape(shape: &Shape) -> bool
     ensures { result ≡ is_it_listed_shape shape.now }
 {
     matches!(shape, Shape::Listed)
 }
 
-// An expression, which evaluates the part at the place after those before it, or a list of parts.
+// An expression, which evaluates the part at the place after those before it, if at all, or a list of parts.
 #[tactic(auto, using(crate::proofs::SingleUses::leads_further))]
 fn leads(in_list: bool, shape: &Shape, at: usize, is_leaf: bool) -> bool
     ensures { result ≡ reading.leads in_list shape.now at is_leaf }
@@ -81,7 +103,10 @@ fn leads(in_list: bool, shape: &Shape, at: usize, is_leaf: bool) -> bool
         return begins(shape, is_leaf);
     }
     if at == 1 {
-        return goes_on(shape);
+        return goes_on(shape) || may_go_on(shape);
+    }
+    if at == 2 {
+        return has_branches(shape);
     }
     false
 }
@@ -90,7 +115,10 @@ fn leads(in_list: bool, shape: &Shape, at: usize, is_leaf: bool) -> bool
 fn begins_list(shape: &Shape) -> bool
     ensures { result ≡ reading.begins_list shape.now }
 {
-    matches!(shape, Shape::SequenceExpression | Shape::ArrayExpression)
+    matches!(
+        shape,
+        Shape::SequenceExpression | Shape::ArrayExpression | Shape::ObjectExpression
+    )
 }
 
 // Its second part is one.
@@ -238,13 +266,33 @@ fn all_pass(init: &Node, nodes: &Nodes, end: usize) -> bool
     true
 }
 
-/// Each part that is evaluated before the variable is read may be evaluated before the initializer.
+// The part at the place is evaluated whatever those before it are, or the initializer is a constant.
+#[tactic(auto, using(crate::proofs::SingleUses::reached_further))]
+fn is_reached(init: &Node, shape: &Shape, at: usize) -> bool
+    ensures { result ≡ row.is_reached_at init.now shape.now at }
+{
+    if at == 0 {
+        return true;
+    }
+    is_constant(init) || !may_go_on(shape)
+}
+
+// So it is, and those before it may be evaluated before the initializer.
+fn may_reach(init: &Node, node: &Node, at: usize) -> bool
+    requires { at ≤ count (children node.now) }
+    ensures { result ≡ row.may_reach init.now node.now at }
+{
+    is_reached(init, node.shape(), at) && all_pass(init, node.children(), at)
+}
+
+/// Each part that is evaluated before the variable is read may be evaluated before the initializer, and the read is reached whatever they
+/// are, or the initializer is a constant.
 #[tactic(auto, using(crate::proofs::SingleUses::smaller_at))]
 pub fn are_passed(name: &Name, init: &Node, node: &Node) -> bool
     ensures { result ≡ reading.are_passed name.now init.now node.now }
 {
     let at = mention_place(name, node.children());
-    if !all_pass(init, node.children(), at) {
+    if !may_reach(init, node, at) {
         return false;
     }
     if at >= node.children().len() {
