@@ -21,7 +21,7 @@ use Rattle.mini_laws.specs.Bodies.{outermost, bodies, bodies_in}
 use Rattle.mini_laws.proofs.Congruent.{avoids_nothing}
 use Rattle.mini_laws.proofs.Dead.{alike_self}
 use Rattle.mini_kept.specs.Lifted.{KeepsNames, ProgramKeeps}
-use Rattle.mini_kept.specs.Loosely.{symbol, SameWith, StaysWith, SteadiesWith, DropsWith, LawfulBy, LawfulUnder, undeclared, ProgramIsKeptUnder, LooselyKeeps, LawfulIsLoose, LooseWider, LooseIsSteady, SteadyWider, LooseJoin, LooseNarrowed, SteadyJoin, SteadyNarrowed}
+use Rattle.mini_kept.specs.Loosely.{symbol, SameWith, StaysWith, SteadiesWith, DropsWith, DropsUnder, LawfulBy, LawfulUnder, undeclared, ProgramIsKeptUnder, LooselyKeeps, LawfulIsLoose, LooseWider, LooseIsSteady, SteadyWider, LooseJoin, LooseNarrowed, SteadyJoin, SteadyNarrowed}
 use Rattle.mini_kept.specs.Without.{BodySets, none_steady, BodiesUnder, KeepsBodiesUnder}
 use Rattle.mini_kept.proofs.BodySteps.{step_under, whole_stands}
 use Rattle.mini_kept.proofs.Declared.{reaches_declared}
@@ -37,7 +37,7 @@ use Rattle.mini_kept.proofs.Gone.{step_less, avoids}
 use Rattle.mini_kept.proofs.Lawful.{reaches_root, keyless_program}
 use Rattle.mini_kept.proofs.Steps.{any_step_fits}
 use Rattle.mini_kept.proofs.Whole.{any_reaches_keep}
-use Rattle.mini_kept.proofs.WithoutLists.{Part, PartEach, permits_part, nothing_part, part_itself, none_part, each_itself, more_under, all_more, from_kept, itself_under, kept_on}
+use Rattle.mini_kept.proofs.WithoutLists.{Part, PartEach, permits_part, nothing_part, part_itself, none_part, each_itself, more_under, from_kept, itself_under, kept_on}
 
 -- ---- variables that are gone
 
@@ -66,13 +66,13 @@ module _ (R : Position → Tree → Tree → Type 0) (K : Shape → Bool) (W : V
   Staying p n w = R p n w × SteadiesWith W S p n w
 
   abbrev Dropping : ℕ → Position → Tree → Tree → Type 0
-  Dropping k p n w = R p n w × DropsWith K W k p n w
+  Dropping k p n w = R p n w × DropsUnder K W S k p n w
 
   mutual
     told : {p : Position} {t u : Tree} → Step R p t u → Step Staying p t u ⊎ ((k : ℕ) × Step (Dropping k) p t u)
     told (here p n w r) = by (l.instances p n w r)
       where
-        by : SteadiesWith W S p n w ⊎ ((k : ℕ) × DropsWith K W k p n w) → Step Staying p n w ⊎ ((k : ℕ) × Step (Dropping k) p n w)
+        by : SteadiesWith W S p n w ⊎ ((k : ℕ) × DropsUnder K W S k p n w) → Step Staying p n w ⊎ ((k : ℕ) × Step (Dropping k) p n w)
         by (inl d) = inl (here p n w (r, d))
         by (inr d) = inr (d.0, here p n w (r, d.1))
     told (inside p h xs n ts us s) = by (all_told s)
@@ -111,7 +111,7 @@ module _ (R : Position → Tree → Tree → Type 0) (K : Shape → Bool) (W : V
     reads = λ p n w r. l.reads p n w r.0;
     pieces = λ p n w r. names.pieces p n w r.0;
     kind = λ p n w r. l.kind p n w r.0;
-    bodies = λ p n w r strict s q e a z. more_under W W none_steady S (alone (Declared k)) (alone (Declared k)) (part_itself W) (none_part S) (part_itself (alone (Declared k))) (bodies a n) (bodies a w) (r.1.bodies strict s q e a z);
+    bodies = λ p n w r. r.1.bodies;
   }
 
   -- a dropped symbol was declared once, and is declared no more
@@ -254,8 +254,8 @@ module _ (R : Position → Tree → Tree → Type 0) where
   stays_wider : (V W : VariableSet) → Part V W → (p : Position) (n w : Tree) → StaysWith V p n w → StaysWith W p n w
   stays_wider V W f p n w d = record { same = same_wider V W f p n w d.same; fixed = d.fixed; frames = d.frames; bodies = d.bodies }
 
-  drops_wider : (K : Shape → Bool) (V W : VariableSet) → Part V W → (k : ℕ) (p : Position) (n w : Tree) → DropsWith K V k p n w → DropsWith K W k p n w
-  drops_wider K V W f k p n w d =
+  drops_under : (K : Shape → Bool) (V W : VariableSet) (Q S : BodySets) → Part V W → PartEach Q S → (k : ℕ) (p : Position) (n w : Tree) → DropsUnder K V Q k p n w → DropsUnder K W S k p n w
+  drops_under K V W Q S f g k p n w d =
       let D = alone (Declared k) in
       record {
         kept = d.kept;
@@ -263,8 +263,11 @@ module _ (R : Position → Tree → Tree → Type 0) where
         same = λ e z. d.same e (permits_part V W D D f (part_itself D) e z);
         fixed = d.fixed;
         frames = d.frames;
-        bodies = λ strict s q e a z. all_more V W D D f (part_itself D) (bodies a n) (bodies a w) (d.bodies strict s q e a z);
+        bodies = λ strict s q e a z. more_under V W Q S D D f g (part_itself D) (bodies a n) (bodies a w) (d.bodies strict s q e a z);
       }
+
+  drops_wider : (K : Shape → Bool) (V W : VariableSet) → Part V W → (k : ℕ) (p : Position) (n w : Tree) → DropsWith K V k p n w → DropsWith K W k p n w
+  drops_wider K V W f = drops_under K V W none_steady none_steady f (each_itself none_steady)
 
   pub loose_wider : LooseWider R
   loose_wider K V W f = lawful_by (λ p n w. StaysWith V p n w ⊎ ((k : ℕ) × DropsWith K V k p n w)) (λ p n w. StaysWith W p n w ⊎ ((k : ℕ) × DropsWith K W k p n w)) by
@@ -273,7 +276,7 @@ module _ (R : Position → Tree → Tree → Type 0) where
       by p n w (inl d) = inl (stays_wider V W f p n w d)
       by p n w (inr d) = inr (d.0, drops_wider K V W f d.0 p n w d.1)
 
-  -- what stays does so whichever variables are steady
+  -- what stays does so whatever is known of the bodies
   steady_anyway : (W : VariableSet) (S : BodySets) (p : Position) (n w : Tree) → StaysWith W p n w → SteadiesWith W S p n w
   steady_anyway W S p n w d = record {
     same = d.same;
@@ -283,11 +286,11 @@ module _ (R : Position → Tree → Tree → Type 0) where
   }
 
   pub loose_is_steady : LooseIsSteady R
-  loose_is_steady K W S = lawful_by (λ p n w. StaysWith W p n w ⊎ ((k : ℕ) × DropsWith K W k p n w)) (λ p n w. SteadiesWith W S p n w ⊎ ((k : ℕ) × DropsWith K W k p n w)) by
+  loose_is_steady K W S = lawful_by (λ p n w. StaysWith W p n w ⊎ ((k : ℕ) × DropsWith K W k p n w)) (λ p n w. SteadiesWith W S p n w ⊎ ((k : ℕ) × DropsUnder K W S k p n w)) by
     where
-      by : (p : Position) (n w : Tree) → StaysWith W p n w ⊎ ((k : ℕ) × DropsWith K W k p n w) → SteadiesWith W S p n w ⊎ ((k : ℕ) × DropsWith K W k p n w)
+      by : (p : Position) (n w : Tree) → StaysWith W p n w ⊎ ((k : ℕ) × DropsWith K W k p n w) → SteadiesWith W S p n w ⊎ ((k : ℕ) × DropsUnder K W S k p n w)
       by p n w (inl d) = inl (steady_anyway W S p n w d)
-      by p n w (inr d) = inr d
+      by p n w (inr d) = inr (d.0, drops_under K W W none_steady S (part_itself W) (none_part S) d.0 p n w d.1)
 
   steadies_wider : (V W : VariableSet) (Q S : BodySets) → Part V W → PartEach Q S → (p : Position) (n w : Tree) → SteadiesWith V Q p n w → SteadiesWith W S p n w
   steadies_wider V W Q S f g p n w d = record {
@@ -298,11 +301,11 @@ module _ (R : Position → Tree → Tree → Type 0) where
   }
 
   pub steady_wider : SteadyWider R
-  steady_wider K V W Q S f g = lawful_by (λ p n w. SteadiesWith V Q p n w ⊎ ((k : ℕ) × DropsWith K V k p n w)) (λ p n w. SteadiesWith W S p n w ⊎ ((k : ℕ) × DropsWith K W k p n w)) by
+  steady_wider K V W Q S f g = lawful_by (λ p n w. SteadiesWith V Q p n w ⊎ ((k : ℕ) × DropsUnder K V Q k p n w)) (λ p n w. SteadiesWith W S p n w ⊎ ((k : ℕ) × DropsUnder K W S k p n w)) by
     where
-      by : (p : Position) (n w : Tree) → SteadiesWith V Q p n w ⊎ ((k : ℕ) × DropsWith K V k p n w) → SteadiesWith W S p n w ⊎ ((k : ℕ) × DropsWith K W k p n w)
+      by : (p : Position) (n w : Tree) → SteadiesWith V Q p n w ⊎ ((k : ℕ) × DropsUnder K V Q k p n w) → SteadiesWith W S p n w ⊎ ((k : ℕ) × DropsUnder K W S k p n w)
       by p n w (inl d) = inl (steadies_wider V W Q S f g p n w d)
-      by p n w (inr d) = inr (d.0, drops_wider K V W f d.0 p n w d.1)
+      by p n w (inr d) = inr (d.0, drops_under K V W Q S f g d.0 p n w d.1)
 
   pub loosely_keeps : LooselyKeeps R
   loosely_keeps K W l = steadily_keeps R K W none_steady (loose_is_steady K W none_steady l)
@@ -359,7 +362,7 @@ module _ (R S : Position → Tree → Tree → Type 0) where
   loose_narrowed K W = narrowed_by (λ p n w. StaysWith W p n w ⊎ ((k : ℕ) × DropsWith K W k p n w))
 
   pub steady_join : SteadyJoin R S
-  steady_join K W Q = join_by (λ p n w. SteadiesWith W Q p n w ⊎ ((k : ℕ) × DropsWith K W k p n w))
+  steady_join K W Q = join_by (λ p n w. SteadiesWith W Q p n w ⊎ ((k : ℕ) × DropsUnder K W Q k p n w))
 
   pub steady_narrowed : SteadyNarrowed R S
-  steady_narrowed K W Q = narrowed_by (λ p n w. SteadiesWith W Q p n w ⊎ ((k : ℕ) × DropsWith K W k p n w))
+  steady_narrowed K W Q = narrowed_by (λ p n w. SteadiesWith W Q p n w ⊎ ((k : ℕ) × DropsUnder K W Q k p n w))

@@ -10,6 +10,7 @@ use Rattle.mini_model.specs.Tree.{Tree, Trees, node, none, ◌▸◌, absent, sh
 use Rattle.mini_laws.specs.DeclaredNames.{own_names}
 use Rattle.mini_laws.specs.Value.{Value, Variable, VariableSet, Slot, nothing, variables}
 use Rattle.mini_laws.specs.State.{Answer, Environment}
+use Rattle.mini_laws.specs.Same.{Initialised}
 use Rattle.mini_laws.specs.Body.{BodyKind, InnerValue, Ran, Run, start_of}
 use Rattle.mini_laws.specs.Bodies.{Body}
 use Rattle.mini_laws.proofs.Congruent.{no_init}
@@ -353,7 +354,7 @@ given_among D bs cs f n s k = record { body = k.body; there = f k.body k.there; 
 
 -- in fewer environments
 pub given_seldom : (W : VariableSet) (S : BodySets) (D : VariableSet) (bs : List Body) (n : ℕ) (s : List ℕ) → KeyGiven nothing bs n s → KeyGivenUnder W S D bs n s
-given_seldom W S D bs n s k = record { body = k.body; there = k.there; number = k.number; kind = k.kind; gives = record { by = λ e u v. k.gives.by e (permits_part nothing W nothing D (nothing_part W) (nothing_part D) e u) (steady_nothing e) } }
+given_seldom W S D bs n s k = record { body = k.body; there = k.there; number = k.number; kind = k.kind; gives = record { by = λ e u v vars this answers turns i. k.gives.by e (permits_part nothing W nothing D (nothing_part W) (nothing_part D) e u) (steady_nothing e) vars this answers turns (no_init (start_of vars this answers turns)) } }
 
 value_kind : (k l : BodyKind) → KindKept k l → l ≡ InnerValue → k ≡ InnerValue
 value_kind k l (inl e) f = e ∙ f
@@ -369,14 +370,14 @@ given_before W S D bs cs kept n s k = from (kept_stands W S D bs cs kept k.body 
       there = there;
       number = a.number ∙ k.number;
       kind = value_kind b.kind k.body.kind a.kind k.kind;
-      gives = record { by = λ e u v vars this answers turns. gives e u v vars this answers turns };
+      gives = record { by = λ e u v vars this answers turns i. gives e u v vars this answers turns i };
     }
       where
-        gives : (e : Environment) → Permits W D e → Steadies (S b.number) e → (vars : Variable → Slot) (this : Value) (answers : List Answer) (turns : ℕ) → (Run e InnerValue b.root vars this answers turns ≡ None) ⊎ ((r : Ran) × (Run e InnerValue b.root vars this answers turns ≡ Some r) × OnlyGives e vars s r)
-        gives e u v vars this answers turns =
+        gives : (e : Environment) → Permits W D e → Steadies (S b.number) e → (vars : Variable → Slot) (this : Value) (answers : List Answer) (turns : ℕ) → Initialised (S b.number).initial (start_of vars this answers turns) → (Run e InnerValue b.root vars this answers turns ≡ None) ⊎ ((r : Ran) × (Run e InnerValue b.root vars this answers turns ≡ Some r) × OnlyGives e vars s r)
+        gives e u v vars this answers turns i =
             let same = subst (λ q. (Run e q b.root vars this answers turns ≡ None) ⊎ (Run e q b.root vars this answers turns ≡ Run e k.body.kind k.body.root vars this answers turns)) (value_kind b.kind k.body.kind a.kind k.kind)
-            ((a.same e u v nothing).by vars this answers turns (no_init (start_of vars this answers turns))) in
-            joined (subst (λ q. (Run e InnerValue b.root vars this answers turns ≡ None) ⊎ (Run e InnerValue b.root vars this answers turns ≡ Run e q k.body.root vars this answers turns)) k.kind same) (k.gives.by e u (subst (λ m. Steadies (S m) e) a.number v) vars this answers turns)
+            ((a.same e u v (S b.number).initial (λ x h. h)).by vars this answers turns i) in
+            joined (subst (λ q. (Run e InnerValue b.root vars this answers turns ≡ None) ⊎ (Run e InnerValue b.root vars this answers turns ≡ Run e q k.body.root vars this answers turns)) k.kind same) (k.gives.by e u (subst (λ m. Steadies (S m) e) a.number v) vars this answers turns (subst (λ m. Initialised (S m).initial (start_of vars this answers turns)) a.number i))
           where
             joined : (Run e InnerValue b.root vars this answers turns ≡ None) ⊎ (Run e InnerValue b.root vars this answers turns ≡ Run e InnerValue k.body.root vars this answers turns)
                 → (Run e InnerValue k.body.root vars this answers turns ≡ None) ⊎ ((r : Ran) × (Run e InnerValue k.body.root vars this answers turns ≡ Some r) × OnlyGives e vars s r)

@@ -6,7 +6,7 @@ use Rattle.mini_laws.specs.State.{Environment}
 use Rattle.mini_laws.specs.Body.{Run}
 use Rattle.mini_laws.specs.Bodies.{Body}
 use Rattle.mini_kept.specs.AlikeBodies.{IsOneOf, BodiesKept}
-use Rattle.mini_kept.specs.Without.{BodySets, none_steady, Steadies, Unseen, Permits, AlikeUnder, IsOneUnder, BodiesUnder, BodiesWith, BodiesWithout}
+use Rattle.mini_kept.specs.Without.{Assured, nothing_assured, BodySets, none_steady, Within, Steadies, Begins, Unseen, Permits, AlikeUnder, IsOneUnder, BodiesUnder, BodiesWith, BodiesWithout}
 use Rattle.mini_kept.proofs.BodyLists.{kind_on, either_way}
 
 -- one set of variables is part of another
@@ -37,24 +37,36 @@ part_itself D x h = h
 
 -- of each body
 abbrev pub PartEach : BodySets → BodySets → Type 0
-PartEach Q S = (b : ℕ) → Part (Q b) (S b)
+PartEach Q S = (b : ℕ) → Within (Q b) (S b)
+
+pub nothing_within : (V : Assured) → Within nothing_assured V
+nothing_within V = record { steady = nothing_part V.steady; unshared = nothing_part V.unshared; initial = nothing_part V.initial; has_this = λ h. absurd (true≢false (sym h)) }
+
+pub within_itself : (V : Assured) → Within V V
+within_itself V = record { steady = part_itself V.steady; unshared = part_itself V.unshared; initial = part_itself V.initial; has_this = λ h. h }
 
 pub none_part : (S : BodySets) → PartEach none_steady S
-none_part S b = nothing_part (S b)
+none_part S b = nothing_within (S b)
 
 pub each_itself : (S : BodySets) → PartEach S S
-each_itself S b = part_itself (S b)
+each_itself S b = within_itself (S b)
 
-pub steady_part : (V W : VariableSet) → Part V W → (e : Environment) → Steadies W e → Steadies V e
-steady_part V W p e u x h = u x (p x h)
+pub steady_part : (V W : Assured) → Within V W → (e : Environment) → Steadies W e → Steadies V e
+steady_part V W p e u = record { steady = λ x h. u.steady x (p.steady x h); unshared = λ x h. u.unshared x (p.unshared x h); has_this = λ h. u.has_this (p.has_this h) }
 
-pub steady_nothing : (e : Environment) → Steadies nothing e
-steady_nothing e x h = absurd (true≢false (sym h))
+pub begins_part : (V W : Assured) → Within V W → (X : VariableSet) → Begins W X → Begins V X
+begins_part V W p X g x h = g x (p.initial x h)
+
+pub steady_nothing : (e : Environment) → Steadies nothing_assured e
+steady_nothing e = record { steady = λ x h. absurd (true≢false (sym h)); unshared = λ x h. absurd (true≢false (sym h)); has_this = λ h. absurd (true≢false (sym h)) }
+
+pub begins_nothing : (X : VariableSet) → Begins nothing_assured X
+begins_nothing X x h = absurd (true≢false (sym h))
 
 -- ---- more variables may be gone, more can be written, and more are steady
 
 alike_more : (V W : VariableSet) (Q S : BodySets) (C D : VariableSet) → Part V W → PartEach Q S → Part C D → (b c : Body) → AlikeUnder V Q C b c → AlikeUnder W S D b c
-alike_more V W Q S C D q r p b c a = record { number = a.number; kind = a.kind; strict = a.strict; asks_this = a.asks_this; same = λ e u v X. a.same e (permits_part V W C D q p e u) (steady_part (Q b.number) (S b.number) (r b.number) e v) X }
+alike_more V W Q S C D q r p b c a = record { number = a.number; kind = a.kind; strict = a.strict; asks_this = a.asks_this; same = λ e u v X g. a.same e (permits_part V W C D q p e u) (steady_part (Q b.number) (S b.number) (r b.number) e v) X (begins_part (Q b.number) (S b.number) (r b.number) X g) }
 
 one_more : (V W : VariableSet) (Q S : BodySets) (C D : VariableSet) → Part V W → PartEach Q S → Part C D → (bs : List Body) (c : Body) → IsOneUnder V Q C bs c → IsOneUnder W S D bs c
 one_more V W Q S C D q r p [] c k = absurd k
@@ -72,7 +84,7 @@ all_more V W C D q p = more_under V W none_steady none_steady C D q (each_itself
 
 from_one : (D : VariableSet) (bs : List Body) (c : Body) → IsOneOf bs c → IsOneUnder nothing none_steady D bs c
 from_one D [] c k = absurd k
-from_one D (b ∷ bs) c (inl a) = inl (record { number = a.number; kind = a.kind; strict = a.strict; asks_this = a.asks_this; same = λ e u v X. a.same e X })
+from_one D (b ∷ bs) c (inl a) = inl (record { number = a.number; kind = a.kind; strict = a.strict; asks_this = a.asks_this; same = λ e u v X g. a.same e X })
 from_one D (b ∷ bs) c (inr k) = inr (from_one D bs c k)
 
 pub from_kept : (D : VariableSet) (bs cs : List Body) → BodiesKept bs cs → BodiesWithout D bs cs
@@ -81,7 +93,7 @@ from_kept D bs (c ∷ cs) k = (from_one D bs c k.0, from_kept D bs cs k.1)
 
 to_one : (bs : List Body) (c : Body) → IsOneUnder nothing none_steady nothing bs c → IsOneOf bs c
 to_one [] c k = absurd k
-to_one (b ∷ bs) c (inl a) = inl (record { number = a.number; kind = a.kind; strict = a.strict; asks_this = a.asks_this; same = λ e X. a.same e (permits_nothing e) (steady_nothing e) X })
+to_one (b ∷ bs) c (inl a) = inl (record { number = a.number; kind = a.kind; strict = a.strict; asks_this = a.asks_this; same = λ e X. a.same e (permits_nothing e) (steady_nothing e) X (begins_nothing X) })
 to_one (b ∷ bs) c (inr k) = inr (to_one bs c k)
 
 pub to_kept : (bs cs : List Body) → BodiesWithout nothing bs cs → BodiesKept bs cs
@@ -92,7 +104,7 @@ to_kept bs (c ∷ cs) k = (to_one bs c k.0, to_kept bs cs k.1)
 
 module _ (W : VariableSet) (S : BodySets) (D : VariableSet) where
   alike_itself : (b : Body) → AlikeUnder W S D b b
-  alike_itself b = record { number = refl; kind = inl refl; strict = refl; asks_this = refl; same = λ e u y X. record { by = λ vars this answers turns i. inr refl } }
+  alike_itself b = record { number = refl; kind = inl refl; strict = refl; asks_this = refl; same = λ e u y X g. record { by = λ vars this answers turns i. inr refl } }
 
   alike_on : (b c d : Body) → AlikeUnder W S D b c → AlikeUnder W S D c d → AlikeUnder W S D b d
   alike_on b c d x y = record {
@@ -100,8 +112,8 @@ module _ (W : VariableSet) (S : BodySets) (D : VariableSet) where
     kind = kind_on b.kind c.kind d.kind x.kind y.kind;
     strict = x.strict ∙ y.strict;
     asks_this = x.asks_this ∙ y.asks_this;
-    same = λ e u v X. record {
-      by = λ vars this answers turns i. either_way (Run e b.kind b.root vars this answers turns) (Run e c.kind c.root vars this answers turns) (Run e d.kind d.root vars this answers turns) None ((x.same e u v X).by vars this answers turns i) ((y.same e u (subst (λ n. Steadies (S n) e) x.number v) X).by vars this answers turns i);
+    same = λ e u v X g. record {
+      by = λ vars this answers turns i. either_way (Run e b.kind b.root vars this answers turns) (Run e c.kind c.root vars this answers turns) (Run e d.kind d.root vars this answers turns) None ((x.same e u v X g).by vars this answers turns i) ((y.same e u (subst (λ n. Steadies (S n) e) x.number v) X (subst (λ n. Begins (S n) X) x.number g)).by vars this answers turns i);
     };
   }
 

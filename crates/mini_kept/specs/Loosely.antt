@@ -1,5 +1,5 @@
 -- A relation of rewriting that keeps all that a program has to keep but names that nothing mentions, where some variables can be
--- written, and some are steady in some bodies, and what any number of its steps keep.
+-- written, and something is known of some bodies, and what any number of its steps keep.
 use Rattle.std.specs.Prelude.{ℕ, ◌≡◌, ◌+◌, ◌≤◌, ◌⊎◌, nat_eq, Bool, true, false, Contains, [], Option, None, Some}
 use Rattle.mini_model.specs.declared.name.Name.{Name}
 use Rattle.mini_model.specs.declared.name.SymbolId.{SymbolId}
@@ -34,7 +34,7 @@ use Rattle.mini_kept.specs.Lawful.{Lawful}
 use Rattle.mini_kept.specs.Lifted.{ProgramKeeps}
 use Rattle.mini_kept.specs.Placed.{fits_place}
 use Rattle.mini_kept.specs.Standing.{Stands}
-use Rattle.mini_kept.specs.Without.{BodySets, none_steady, Permits, BodiesUnder, BodiesWith}
+use Rattle.mini_kept.specs.Without.{BodySets, none_steady, Within, Permits, BodiesUnder}
 
 abbrev pub symbol : ℕ → Option SymbolId
 symbol k = Some (record { 0 = k })
@@ -57,23 +57,26 @@ Stays = StaysWith nothing
 -- One without a name that a scope in the other declares: the names that are seen around it are those, in order, and the
 -- symbol is declared in it once less. Where nobody else sees that variable it means the same but for what the variable
 -- holds afterwards, and it has the bodies, and the frames but for that name, where it is the own one of a function or class that
--- K lets lose it, where the variables W can be written. What a write of any other variable does stays. That nothing in the later
--- program mentions the symbol follows, where each name of the program has the symbol that the scopes around it give and no symbol
--- is declared twice
-pub record DropsWith (K : Shape → Bool) (W : VariableSet) (k : ℕ) (p : Position) (n w : Tree) : Type 0 where
+-- K lets lose it, where the variables W can be written and S says what is known of each body. What a write of any other variable does stays.
+-- That nothing in the later program mentions the symbol follows, where each name of the program has the symbol that the scopes around it
+-- give and no symbol is declared twice
+pub record DropsUnder (K : Shape → Bool) (W : VariableSet) (S : BodySets) (k : ℕ) (p : Position) (n w : Tree) : Type 0 where
   pub kept : Kept n w
   pub less : (v : Use) → times (symbol k) (declared_in v w) + 1 ≤ times (symbol k) (declared_in v n)
   pub same : (e : Environment) → Permits W (alone (Declared k)) e → (q : Demand) → Fits p q → Same e (alone (Declared k)) nothing q n w
   pub fixed : (x : Variable) → alone (Declared k) x ≡ false → fixed_by n x ≡ fixed_by w x
   pub frames : (strict : Bool) (s : Slot) → fits_place p s ≡ true → fits strict s n ≡ true → FramesShown (gone_from K (alone (Declared k))) no_key (frames None n) (frames None w)
-  pub bodies : (strict : Bool) (s : Slot) → fits_place p s ≡ true → fits strict s n ≡ true → (a : Around) → Stands s p a → BodiesWith W (alone (Declared k)) (bodies a n) (bodies a w)
+  pub bodies : (strict : Bool) (s : Slot) → fits_place p s ≡ true → fits strict s n ≡ true → (a : Around) → Stands s p a → BodiesUnder W S (alone (Declared k)) (bodies a n) (bodies a w)
 
--- whichever variables can be written
+-- whatever is known of the bodies
+abbrev pub DropsWith : (Shape → Bool) → VariableSet → ℕ → Position → Tree → Tree → Type 0
+DropsWith K W = DropsUnder K W none_steady
+
+-- and whichever variables can be written
 abbrev pub Drops : (Shape → Bool) → ℕ → Position → Tree → Tree → Type 0
 Drops K = DropsWith K nothing
 
--- One node in the place of another that means the same there, of which bodies may rest on it that no answer changes some variables while
--- they run: S has those of a body with a number
+-- One node in the place of another that means the same there, of which bodies may rest on what S says of a body with a number
 pub record SteadiesWith (W : VariableSet) (S : BodySets) (p : Position) (n w : Tree) : Type 0 where
   pub same : SameWith W p n w
   pub fixed : (x : Variable) → fixed_by n x ≡ fixed_by w x
@@ -93,9 +96,9 @@ pub record LawfulBy (I : Position → Tree → Tree → Type 0) (R : Position �
 abbrev pub LawfulWith : (Shape → Bool) → VariableSet → (Position → Tree → Tree → Type 0) → Type 0
 LawfulWith K W = LawfulBy (λ p n w. StaysWith W p n w ⊎ ((k : ℕ) × DropsWith K W k p n w))
 
--- and where those of S are steady
+-- and where S says what is known of each body
 abbrev pub LawfulUnder : (Shape → Bool) → VariableSet → BodySets → (Position → Tree → Tree → Type 0) → Type 0
-LawfulUnder K W S = LawfulBy (λ p n w. SteadiesWith W S p n w ⊎ ((k : ℕ) × DropsWith K W k p n w))
+LawfulUnder K W S = LawfulBy (λ p n w. SteadiesWith W S p n w ⊎ ((k : ℕ) × DropsUnder K W S k p n w))
 
 -- whichever variables can be written
 abbrev pub LawfulLoosely : (Shape → Bool) → (Position → Tree → Tree → Type 0) → Type 0
@@ -107,7 +110,7 @@ undeclared u (Declared k) = nat_eq (times (symbol k) (declared_symbols u)) 0
 undeclared u (Global s) = false
 
 -- what any number of steps keep of a program whose names are resolved: each body runs as before where nobody else sees a
--- variable that the later program doesn't declare, those of W can be written, and no answer changes those of S; what a write of each
+-- variable that the later program doesn't declare, those of W can be written, and that is so which S says of it; what a write of each
 -- variable that it does declare does stays
 pub record ProgramIsKeptUnder (K : Shape → Bool) (W : VariableSet) (S : BodySets) (t u : Tree) : Type 0 where
   pub names : ProgramKeeps t u
@@ -117,7 +120,7 @@ pub record ProgramIsKeptUnder (K : Shape → Bool) (W : VariableSet) (S : BodySe
   pub declared : (x : Name) → Contains (declared u) x → Contains (declared t) x
   pub root : u ≡ over t (children u)
 
--- whichever are steady
+-- whatever is known of the bodies
 abbrev pub ProgramIsKeptLoosely : (Shape → Bool) → VariableSet → Tree → Tree → Type 0
 ProgramIsKeptLoosely K W = ProgramIsKeptUnder K W none_steady
 
@@ -135,14 +138,14 @@ LawfulIsLoose R = (K : Shape → Bool) (W : VariableSet) → Lawful R → Lawful
 abbrev pub LooseWider : (Position → Tree → Tree → Type 0) → Type 0
 LooseWider R = (K : Shape → Bool) (V W : VariableSet) → ((x : Variable) → V x ≡ true → W x ≡ true) → LawfulWith K V R → LawfulWith K W R
 
--- and whichever are steady
+-- and whatever is known of the bodies
 abbrev pub LooseIsSteady : (Position → Tree → Tree → Type 0) → Type 0
 LooseIsSteady R = (K : Shape → Bool) (W : VariableSet) (S : BodySets) → LawfulWith K W R → LawfulUnder K W S R
 
--- what is lawful where some are steady is so where more are
+-- what is lawful where something is known is so where more is
 abbrev pub SteadyWider : (Position → Tree → Tree → Type 0) → Type 0
 SteadyWider R =
-    (K : Shape → Bool) (V W : VariableSet) (Q S : BodySets) → ((x : Variable) → V x ≡ true → W x ≡ true) → ((b : ℕ) (x : Variable) → Q b x ≡ true → S b x ≡ true) → LawfulUnder K V Q R → LawfulUnder K W S R
+    (K : Shape → Bool) (V W : VariableSet) (Q S : BodySets) → ((x : Variable) → V x ≡ true → W x ≡ true) → ((b : ℕ) → Within (Q b) (S b)) → LawfulUnder K V Q R → LawfulUnder K W S R
 
 -- two loosely lawful relations make one
 abbrev pub LooseJoin : (Position → Tree → Tree → Type 0) → (Position → Tree → Tree → Type 0) → Type 0

@@ -12,9 +12,10 @@ use Rattle.mini_laws.specs.DeclaredNames.{own_names}
 use Rattle.mini_laws.specs.Value.{Value, Variable, VariableSet, Slot, nothing, variables}
 use Rattle.mini_laws.specs.State.{Answer, Environment, seen}
 use Rattle.mini_laws.specs.Conversion.{makes, to_text}
-use Rattle.mini_laws.specs.Body.{InnerValue, NormalOf, Ran, Run}
+use Rattle.mini_laws.specs.Same.{Initialised}
+use Rattle.mini_laws.specs.Body.{InnerValue, NormalOf, Ran, Run, start_of}
 use Rattle.mini_laws.specs.Bodies.{Body}
-use Rattle.mini_kept.specs.Without.{BodySets, none_steady, Steadies, Permits}
+use Rattle.mini_kept.specs.Without.{Assured, nothing_assured, BodySets, none_steady, Steadies, Permits}
 use Rattle.mini_kept.specs.Frames.{has_key, unbracketed, Frame}
 
 -- ---- what a key gives
@@ -28,10 +29,10 @@ pub record OnlyGives (e : Environment) (vars : Variable → Slot) (s : List ℕ)
   pub outcome : r.outcome ≡ NormalOf value
   pub key : to_text value ≡ makes s
 
--- from each start the run is outside the model, or only gives that key; in any environment in which nobody else sees D, the variables W
--- can be written, and no answer changes those of V
-pub record GivesKeyUnder (W V D : VariableSet) (n : Tree) (s : List ℕ) : Type 0 where
-  pub by : (e : Environment) → Permits W D e → Steadies V e → (vars : Variable → Slot) (this : Value) (answers : List Answer) (turns : ℕ) → (Run e InnerValue n vars this answers turns ≡ None) ⊎ ((r : Ran) × (Run e InnerValue n vars this answers turns ≡ Some r) × OnlyGives e vars s r)
+-- from each start the run is outside the model, or only gives that key; in any environment in which nobody else sees D and the variables W
+-- can be written, and where that is so which V says
+pub record GivesKeyUnder (W : VariableSet) (V : Assured) (D : VariableSet) (n : Tree) (s : List ℕ) : Type 0 where
+  pub by : (e : Environment) → Permits W D e → Steadies V e → (vars : Variable → Slot) (this : Value) (answers : List Answer) (turns : ℕ) → Initialised V.initial (start_of vars this answers turns) → (Run e InnerValue n vars this answers turns ≡ None) ⊎ ((r : Ran) × (Run e InnerValue n vars this answers turns ≡ Some r) × OnlyGives e vars s r)
 
 -- of some bodies the one with this number does
 pub record KeyGivenUnder (W : VariableSet) (S : BodySets) (D : VariableSet) (bs : List Body) (n : ℕ) (s : List ℕ) : Type 0 where
@@ -41,13 +42,13 @@ pub record KeyGivenUnder (W : VariableSet) (S : BodySets) (D : VariableSet) (bs 
   pub kind : body.kind ≡ InnerValue
   pub gives : GivesKeyUnder W (S body.number) D body.root s
 
--- whichever are steady
+-- whatever is known of it
 abbrev pub KeyGivenWith : VariableSet → VariableSet → List Body → ℕ → List ℕ → Type 0
 KeyGivenWith W D = KeyGivenUnder W none_steady D
 
 -- and whichever can be written
 abbrev pub GivesKey : VariableSet → Tree → List ℕ → Type 0
-GivesKey D = GivesKeyUnder nothing nothing D
+GivesKey D = GivesKeyUnder nothing nothing_assured D
 
 abbrev pub KeyGiven : VariableSet → List Body → ℕ → List ℕ → Type 0
 KeyGiven D = KeyGivenWith nothing D

@@ -1,5 +1,5 @@
--- Bodies that stand for others where some variables are gone, some can be written, and some are steady: they run alike where nobody else
--- sees the first, a write of the second writes, and no answer changes the third while that body runs.
+-- Bodies that stand for others where some variables are gone, some can be written, and something is known of each body's run: they run
+-- alike where nobody else sees the first, a write of the second writes, and that is so.
 use Rattle.std.specs.Prelude.{ℕ, ◌≡◌, ◌⊎◌, Bool, true, false, List, [], ◌∷◌}
 use Rattle.mini_model.specs.declared.place.Position.{Position}
 use Rattle.mini_model.specs.Rewriting.{Step}
@@ -26,26 +26,53 @@ pub record Permits (W D : VariableSet) (e : Environment) : Type 0 where
   pub unseen : Unseen D e
   pub writable : (x : Variable) → W x ≡ true → e.fixed x ≡ Writable
 
--- for each number of a body a set of variables
+-- what is known of the runs of a body
+pub record Assured : Type 0 where
+  -- no answer changes these variables while it runs
+  pub steady : VariableSet
+  -- none of its events shows these
+  pub unshared : VariableSet
+  -- these are initialised as it starts
+  pub initial : VariableSet
+  -- it doesn't ask the world for `this`
+  pub has_this : Bool
+
+abbrev pub nothing_assured : Assured
+nothing_assured = record { steady = nothing; unshared = nothing; initial = nothing; has_this = false }
+
+-- for the number of each body
 abbrev pub BodySets : Type 0
-BodySets = ℕ → VariableSet
+BodySets = ℕ → Assured
 
 abbrev pub none_steady : BodySets
-none_steady b = nothing
+none_steady b = nothing_assured
 
--- no answer changes one of these variables
-abbrev pub Steadies : VariableSet → Environment → Type 0
-Steadies V e = (x : Variable) → V x ≡ true → e.foreign x ≡ false
+-- all that is known of one is known of another
+pub record Within (V W : Assured) : Type 0 where
+  pub steady : (x : Variable) → V.steady x ≡ true → W.steady x ≡ true
+  pub unshared : (x : Variable) → V.unshared x ≡ true → W.unshared x ≡ true
+  pub initial : (x : Variable) → V.initial x ≡ true → W.initial x ≡ true
+  pub has_this : V.has_this ≡ true → W.has_this ≡ true
 
--- an earlier body and a later one, without the variables D, where those of W can be written, and those stay that S says to be steady in
--- the body with a number
+-- so it is in an environment
+pub record Steadies (V : Assured) (e : Environment) : Type 0 where
+  pub steady : (x : Variable) → V.steady x ≡ true → e.foreign x ≡ false
+  pub unshared : (x : Variable) → V.unshared x ≡ true → e.shared x ≡ false
+  pub has_this : V.has_this ≡ true → e.asks_this ≡ false
+
+-- and from the starts that initialise X
+abbrev pub Begins : Assured → VariableSet → Type 0
+Begins V X = (x : Variable) → V.initial x ≡ true → X x ≡ true
+
+-- an earlier body and a later one, without the variables D, where those of W can be written, and what S says is known of the body with
+-- a number
 pub record AlikeUnder (W : VariableSet) (S : BodySets) (D : VariableSet) (b c : Body) : Type 0 where
   pub number : b.number ≡ c.number
   pub kind : KindKept b.kind c.kind
   pub strict : b.strict ≡ c.strict
   pub asks_this : b.asks_this ≡ c.asks_this
-  -- from each start, whichever variables are initialised there
-  pub same : (e : Environment) → Permits W D e → Steadies (S b.number) e → (X : VariableSet) → RunsAs e b.kind c.kind X b.root c.root
+  -- from each start, whichever variables are initialised there besides
+  pub same : (e : Environment) → Permits W D e → Steadies (S b.number) e → (X : VariableSet) → Begins (S b.number) X → RunsAs e b.kind c.kind X b.root c.root
 
 -- the later body is one of these
 abbrev pub IsOneUnder : VariableSet → BodySets → VariableSet → List Body → Body → Type 0
@@ -57,7 +84,7 @@ abbrev pub BodiesUnder : VariableSet → BodySets → VariableSet → List Body 
 BodiesUnder W S D bs [] = Unit {0}
 BodiesUnder W S D bs (c ∷ cs) = IsOneUnder W S D bs c × BodiesUnder W S D bs cs
 
--- whichever names are steady
+-- whatever is known besides
 abbrev pub AlikeWith : VariableSet → VariableSet → Body → Body → Type 0
 AlikeWith W D = AlikeUnder W none_steady D
 
@@ -69,7 +96,7 @@ abbrev pub BodiesWithout : VariableSet → List Body → List Body → Type 0
 BodiesWithout D = BodiesWith nothing D
 
 -- what a relation of rewriting has to keep of the nodes that it replaces, for a program to keep its bodies without the variables D,
--- where those of W can be written and those of S are steady: each instance means the same where nobody else sees the former, and is read
+-- where those of W can be written and what S says is known: each instance means the same where nobody else sees the former, and is read
 -- alike
 pub record KeepsBodiesUnder (W : VariableSet) (S : BodySets) (D : VariableSet) (R : Position → Tree → Tree → Type 0) : Type 0 where
   pub means : (e : Environment) → Permits W D e → KeepsMeaning R e D

@@ -1,7 +1,8 @@
 -- Passes of a lawful relation give a faithful answer.
-use Rattle.std.proofs.Common.{◌≡◌, ◌⊎◌, Bool, suc, ◌+◌, ◌≤◌, max, true, false, [], ◌∷◌, refl, sym, ap, ◌∙◌, subst, arith, true≢false}
-use Rattle.std.proofs.lemmas.Bool.{eqb-true}
-use Rattle.std.specs.Prelude.{Contains, None, not, length}
+use Rattle.std.proofs.Common.{◌≡◌, ◌⊎◌, Bool, zero, suc, ◌+◌, ◌<◌, ◌≤◌, max, true, false, List, [], ◌∷◌, refl, sym, ap, ◌∙◌, subst, arith, true≢false}
+use Rattle.std.proofs.lemmas.Bool.{eqb-true, eq-eqb, and_parts, or_parts, not-true}
+use Rattle.std.specs.Prelude.{Contains, None, not, ◌&&◌, nat_eq, length, slice_index_or}
+use Rattle.std.specs.List.{list_any}
 use Rattle.serde_json.specs.Data.{Data}
 use Rattle.serde_json.specs.View.{view}
 use Rattle.mini_model.specs.declared.place.Position.{Position}
@@ -16,6 +17,7 @@ use Rattle.mini_laws.proofs.Places.{resolved_distinct}
 use Rattle.mini_laws.proofs.Whole.{scoped}
 use Rattle.mini_scope.specs.Pointers.{early_fault}
 use Rattle.mini_laws.specs.Value.{Variable, Declared, Global, VariableSet}
+use Rattle.mini_laws.specs.State.{Fixed}
 use Rattle.mini_laws.specs.Body.{Run}
 use Rattle.mini_laws.specs.Bodies.{Body, bodies_in, outermost}
 use Rattle.mini_laws.specs.Congruence.{Avoids}
@@ -30,7 +32,7 @@ use Rattle.mini_kept.specs.Frames.{frames_in}
 use Rattle.mini_kept.specs.ShownFrames.{KeyGivenUnder, gone_from, FramesShown}
 use Rattle.mini_laws.specs.Writable.{writable_by, writable_in}
 use Rattle.mini_kept.specs.Loosely.{symbol, LawfulWith, LawfulUnder, undeclared, ProgramIsKeptUnder}
-use Rattle.mini_kept.specs.Without.{BodySets, none_steady, Steadies, Unseen, AlikeUnder}
+use Rattle.mini_kept.specs.Without.{BodySets, none_steady, Within, Steadies, Begins, Unseen, AlikeUnder}
 use Rattle.mini_kept.proofs.Gone.{avoids}
 use Rattle.mini_kept.proofs.Loosely.{steadily_keeps, loose_is_steady}
 use Rattle.mini_kept.proofs.ReadBack.{IsRead, IsReadBack, read_back}
@@ -41,8 +43,9 @@ use Rattle.mini_kept.proofs.Undeclared.{unshared, native}
 use Rattle.mini_kept.proofs.WithoutLists.{PartEach, none_part, each_itself, kept_stands}
 use Rattle.mini_writer.specs.Written.{program_data}
 use Rattle.mini_tree.specs.Passes.{MakesPasses}
-use Rattle.mini_peephole.specs.Environments.{name_of, shared_by, foreign_to, initialised_for, steady_in, environment_with}
+use Rattle.mini_peephole.specs.Environments.{name_of, shared_by, foreign_to, is_declared, initialised_for, asks_as, steady_in, environment_with}
 use Rattle.mini_laws.specs.Foreign.{is_foreign}
+use Rattle.mini_laws.specs.Shared.{is_shared}
 use Rattle.mini_peephole.specs.AnyPasses.{EachBegins, SteadyPassesFaithful, NothingLeft}
 use Rattle.mini_peephole.specs.Minified.{IsWritten}
 use Rattle.mini_rows.specs.Switches.{let_go}
@@ -75,14 +78,34 @@ unseen u v c = record { shared = shown; foreign = changed }
     changed (Declared k) h = native k u (avoids k Read [] u v refl (eqb-true (times (symbol k) (declared_symbols u)) 0 h)) c.number
     changed (Global s) h = absurd (true≢false (sym h))
 
--- no answer changes a name that is steady in a body of it
-steadies : (u : Tree) (S : BodySets) → PartEach S (steady_in u) → (b c : Body) → b.number ≡ c.number → Steadies (S b.number) (environment_with u (shared_by u c) (foreign_to u c) c)
-steadies u S f b c e (Declared k) h = told (is_foreign u c.number (name_of (Declared k))) (sym (ap (λ n. steady_in u n (Declared k)) e) ∙ f b.number (Declared k) h)
+equal_itself : (n : ℕ) → nat_eq n n ≡ true
+equal_itself n = eq-eqb n n refl
+
+untold : (g h : Bool) → g && not h ≡ true → h ≡ false
+untold g h e = not-true h (and_parts g (not h) e).1
+
+-- of some bodies of which none asks as the one with a number
+none_asks : (n : ℕ) (bs : List Body) → list_any (asks_as n) bs ≡ false → (c : Body) (i : ℕ) → i < length bs → slice_index_or bs i c ≡ c → asks_as n c ≡ false
+none_asks n [] e c i below at = absurd (omega (arith, below))
+none_asks n (b ∷ bs) e c zero below at = ap (asks_as n) (sym at) ∙ (or_parts (asks_as n b) (list_any (asks_as n) bs) e).0
+none_asks n (b ∷ bs) e c (suc i) below at = none_asks n bs (or_parts (asks_as n b) (list_any (asks_as n) bs) e).1 c i (omega (arith, below)) at
+
+-- what is known of a body of a program is so where it runs
+steadies : (u : Tree) (S : BodySets) → PartEach S (steady_in u) → (b c : Body) → Contains (bodies_in u) c → b.number ≡ c.number → b.asks_this ≡ c.asks_this → (fixed : Variable → Fixed) → Steadies (S b.number) (record { shared = shared_by u c; foreign = foreign_to u c; fixed = fixed; asks_this = b.asks_this })
+steadies u S f b c (i, below, at) e asks fixed =
+    let known : Within (S b.number) (steady_in u c.number) = subst (λ n. Within (S b.number) (steady_in u n)) e (f b.number) in
+    record {
+      steady = λ x h. untold (is_declared x) (is_foreign u c.number (name_of x)) (known.steady x h);
+      unshared = λ x h. untold (is_declared x) (is_shared u c.number (name_of x)) (known.unshared x h);
+      has_this = λ h. asks ∙ asked (none_asks c.number (bodies_in u) (not-true (list_any (asks_as c.number) (bodies_in u)) (known.has_this h)) c i below at);
+    }
   where
-    told : (g : Bool) → not g ≡ true → g ≡ false
-    told true h = absurd (true≢false (sym h))
-    told false h = refl
-steadies u S f b c e (Global s) h = absurd (true≢false (sym (f b.number (Global s) h)))
+    asked : asks_as c.number c ≡ false → c.asks_this ≡ false
+    asked h = sym (ap (λ g. g && c.asks_this) (equal_itself c.number)) ∙ h
+
+-- and it starts where those are initialised
+begun : (u : Tree) (S : BodySets) → PartEach S (steady_in u) → (b c : Body) → b.number ≡ c.number → Begins (S b.number) (initialised_for u c)
+begun u S f b c e x h = (subst (λ n. Within (S b.number) (steady_in u n)) e (f b.number)).initial x h
 
 module _ (K : Shape → Bool) (S : BodySets) where
   same_body : (t u : Tree) → ProgramIsKeptUnder K (writable_by t) S t u → PartEach S (steady_in u) → Scoped Read [] t → Distinct (declared_symbols t) → Scoped Read [] u → (b c : Body) → Contains (bodies_in u) c → AlikeUnder (writable_by t) S (undeclared u) b c → IsSameBody t u b c
@@ -99,7 +122,7 @@ module _ (K : Shape → Bool) (S : BodySets) where
         same = record {
           by = λ vars this answers turns i.
               let again = refixed e f.fixed (undeclared u) (λ x h. (λ k. fixed_in (a.strict k) t x) ∙ kept.fixities vt d c.strict x h) c.kind c.root root vars this answers turns ∙ (λ k. Run (modes k) c.kind c.root vars this answers turns) in
-              subst (λ r. (Run e b.kind b.root vars this answers turns ≡ None) ⊎ (Run e b.kind b.root vars this answers turns ≡ r)) again ((a.same e (record { unseen = record { shared = seen.shared; foreign = seen.foreign }; writable = λ x h. open_in b.strict t x h }) (steadies u S part b c a.number) X).by vars this answers turns i);
+              subst (λ r. (Run e b.kind b.root vars this answers turns ≡ None) ⊎ (Run e b.kind b.root vars this answers turns ≡ r)) again ((a.same e (record { unseen = record { shared = seen.shared; foreign = seen.foreign }; writable = λ x h. open_in b.strict t x h }) (steadies u S part b c there a.number a.asks_this (fixed_in b.strict t)) X (begun u S part b c a.number)).by vars this answers turns i);
         };
       }
 
@@ -110,7 +133,7 @@ module _ (K : Shape → Bool) (S : BodySets) where
 
 -- ---- the whole
 
--- t is read, its resolved form becomes v, and u is v read again; S has names that are steady in v
+-- t is read, its resolved form becomes v, and u is v read again; what S says is known of the bodies of v
 pub record Made (S : BodySets) (G : Tree → Position → Tree → Tree → Type 0) (D : Tree → Position → Tree → Type 0) (o : CompressOptions) (m : Minified) (t v u : Tree) : Type 0 where
   pub passes : MakesPasses G D (resolved_program t) v o.passes m.passes m.settled
   pub kept : m.kept ≡ 0 ∷ numbers v
@@ -155,7 +178,7 @@ module _ (S : BodySets) (G : Tree → Position → Tree → Tree → Type 0) (D 
         unsettled = λ e. let (same, fell) = made.passes.stopped e in subst (λ w. program_weight w + max o.passes 1 ≤ program_weight (resolved_program t)) (sym whole) (omega (arith, same, fell));
       }
 
--- what is lawful where T says of each program which names are steady in it, and S has all of those
+-- what is lawful where T says what is known of the bodies of each program, and S says all of that
 module _ (G : Tree → Position → Tree → Tree → Type 0) (D : Tree → Position → Tree → Type 0) (o : CompressOptions) (T : Tree → BodySets) (S : BodySets) (l : (q : Tree) → LawfulUnder (let_go (switches o)) (writable_in q) (T q) (G q)) (d : Data) (m : Minified) (t : Tree) (read : Accepts d t) (r : IsWritten G D (resolved_program t) o.passes m) (begins : EachBegins (λ q. PartEach (T q) S) r.passes.reached) (part : PartEach S (steady_in r.output)) where
   pub start : IsRead t read.1
   start = is_read d read.0 read.1 t read.2
@@ -187,7 +210,7 @@ module _ (G : Tree → Position → Tree → Tree → Type 0) (D : Tree → Posi
   pub faithful_there : early_fault t ≡ None → IsFaithfulUnder S (NothingLeft D) o m t again.0
   faithful_there free = faithful_trees S G D o m t r.output again.0 free made
 
--- ---- where nothing rests on steady names
+-- ---- where nothing rests on what is known of bodies
 
 pub none_in : (u : Tree) → PartEach none_steady (steady_in u)
 none_in u = none_part (steady_in u)

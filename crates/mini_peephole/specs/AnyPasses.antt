@@ -10,7 +10,7 @@ use Rattle.mini_accept.specs.Accept.{Accepts}
 use Rattle.mini_scope.specs.Pointers.{early_fault}
 use Rattle.mini_tree.specs.declared.options.CompressOptions.{CompressOptions}
 use Rattle.mini_laws.specs.Writable.{writable_in}
-use Rattle.mini_laws.specs.Value.{Variable}
+use Rattle.mini_kept.specs.Without.{Within}
 use Rattle.mini_kept.specs.Loosely.{LawfulWith, LawfulUnder}
 use Rattle.mini_tree.specs.Passes.{PassesReach, no_pass, one_more}
 use Rattle.mini_rows.specs.Switches.{let_go}
@@ -29,8 +29,8 @@ use Rattle.mini_peephole.specs.declared.minify.Minified.{Minified}
 abbrev pub LawfulFor : (CompressOptions → Tree → Position → Tree → Tree → Type 0) → Type 0
 LawfulFor G = (o : CompressOptions) (q : Tree) → LawfulWith (let_go (switches o)) (writable_in q) (G o q)
 
--- What a rule makes may rest on it besides that names are steady in a body, as they are in the program over which it makes it: then no
--- answer changes them while that body runs. What is lawful without that is so (`LooseIsSteady`, mini_kept).
+-- What a rule makes may rest besides on what is known of each body of the program over which it makes it, as that no answer changes a name
+-- while the body runs. What is lawful without that is so (`LooseIsSteady`, mini_kept).
 abbrev pub LawfulSteadily : (CompressOptions → Tree → Position → Tree → Tree → Type 0) → Type 0
 LawfulSteadily G = (o : CompressOptions) (q : Tree) → LawfulUnder (let_go (switches o)) (writable_in q) (steady_in q) (G o q)
 
@@ -39,9 +39,9 @@ abbrev pub EachBegins : (Tree → Type 0) → {G : Tree → Position → Tree �
 EachBegins P (no_pass t) = Unit {0}
 EachBegins P (one_more n t u v r s) = EachBegins P r × P u
 
--- the names that are steady in one program are so in another
+-- what is known of the bodies of one program is known of those of another
 abbrev pub StaySteady : Tree → Tree → Type 0
-StaySteady u q = (b : ℕ) (x : Variable) → steady_in q b x ≡ true → steady_in u b x ≡ true
+StaySteady u q = (b : ℕ) → Within (steady_in q b) (steady_in u b)
 
 -- where the passes settled the rule has nothing left to do in the last program, by what is known of that program itself
 abbrev pub NothingLeft : (Tree → Position → Tree → Type 0) → Tree → Type 0
@@ -52,7 +52,7 @@ abbrev pub LawfulPassesFaithful : (CompressOptions → Tree → Position → Tre
 LawfulPassesFaithful G D =
     LawfulFor G → (d : Data) (o : CompressOptions) (m : Minified) (t : Tree) → Accepts d t → early_fault t ≡ None → IsWritten (G o) (D o) (resolved_program t) o.passes m → FaithfulWith (NothingLeft (D o)) d o m
 
--- the same of what rests on steady names, where those are steady in the last program that were so as any pass began
+-- the same of what rests on bodies, where that is known of those of the last program which was known as any pass began
 abbrev pub SteadyPassesFaithful : (CompressOptions → Tree → Position → Tree → Tree → Type 0) → (CompressOptions → Tree → Position → Tree → Type 0) → Type 0
 SteadyPassesFaithful G D =
     LawfulSteadily G → (d : Data) (o : CompressOptions) (m : Minified) (t : Tree) → Accepts d t → early_fault t ≡ None → (r : IsWritten (G o) (D o) (resolved_program t) o.passes m) → EachBegins (StaySteady r.output) r.passes.reached → FaithfulSteadily (NothingLeft (D o)) d o m

@@ -1,6 +1,7 @@
 -- What a run of a body of a program rests on: which variables its events show, which an answer may change, and which a start
 -- has initialised.
-use Rattle.std.specs.Prelude.{ℕ, Bool, true, false, ◌&&◌, not, [], Some}
+use Rattle.std.specs.Prelude.{ℕ, nat_eq, Bool, true, false, ◌&&◌, not, [], Some}
+use Rattle.std.specs.List.{list_any}
 use Rattle.mini_model.specs.declared.name.Name.{Name}
 use Rattle.mini_model.specs.Tree.{Tree, unresolved}
 use Rattle.mini_laws.specs.Mentions.{is_among}
@@ -9,7 +10,7 @@ use Rattle.mini_laws.specs.Foreign.{is_declared_in, is_foreign, lexical_variable
 use Rattle.mini_laws.specs.Value.{Variable, Declared, Global, VariableSet}
 use Rattle.mini_laws.specs.State.{Environment}
 use Rattle.mini_laws.specs.Body.{environment_in}
-use Rattle.mini_laws.specs.Bodies.{Body}
+use Rattle.mini_laws.specs.Bodies.{Body, bodies_in}
 use Rattle.mini_kept.specs.Without.{BodySets}
 
 -- a name of this variable: a declared one is told by its symbol
@@ -34,13 +35,25 @@ is_declared (Declared n) = true
 is_declared (Global s) = false
 
 -- a start leaves no declared name uninitialised, but foreign ones and lexical names of the body
-abbrev pub initialised_for : Tree → Body → VariableSet
-initialised_for t b x = is_declared x && (not (foreign_to t b x) && not (is_lexical_in t b.number (name_of x)))
+abbrev pub initialised_at : Tree → ℕ → VariableSet
+initialised_at t b x = is_declared x && (not (is_foreign t b (name_of x)) && not (is_lexical_in t b (name_of x)))
 
--- of the body with a number the declared variables that no answer changes: they aren't foreign to it
+abbrev pub initialised_for : Tree → Body → VariableSet
+initialised_for t b = initialised_at t b.number
+
+-- a body with this number asks the world for `this`
+abbrev pub asks_as : ℕ → Body → Bool
+asks_as n b = nat_eq b.number n && b.asks_this
+
+-- what is known of the body with a number: no answer changes the declared variables that aren't foreign to it, its events show none of
+-- those that aren't shared, and it starts where those are initialised that are so for it
 abbrev pub steady_in : Tree → BodySets
-steady_in t b (Declared n) = not (is_foreign t b (name_of (Declared n)))
-steady_in t b (Global s) = false
+steady_in t b = record {
+  steady = λ x. is_declared x && not (is_foreign t b (name_of x));
+  unshared = λ x. is_declared x && not (is_shared t b (name_of x));
+  initial = initialised_at t b;
+  has_this = not (list_any (asks_as b) (bodies_in t));
+}
 
 -- of a body in this program, with the variables that its events show and those that an answer may change
 abbrev pub environment_with : Tree → VariableSet → VariableSet → Body → Environment

@@ -93,7 +93,7 @@ pass_bound o = max o.passes 1
 abbrev pub switches : CompressOptions → Switches
 switches o = record { sequences = o.sequences; join_vars = o.join_vars; keep_function_names = o.keep_names.function; keep_class_names = o.keep_names.class }
 
--- what is said of the two trees, where Rests says of the later one that nothing is left to do, and S has the names that are steady in a body
+-- what is said of the two trees, where Rests says of the later one that nothing is left to do, and S what is known of each body
 pub record IsFaithfulUnder (S : BodySets) (Rests : Tree → Type 0) (o : CompressOptions) (m : Minified) (t u : Tree) : Type 0 where
   -- the answer has no early error
   pub names : early_names [] u ≡ []
@@ -104,7 +104,7 @@ pub record IsFaithfulUnder (S : BodySets) (Rests : Tree → Type 0) (o : Compres
   pub spelled : (x : Name) → Contains (declared (later m u)) x → Contains (declared (earlier t)) x
   -- what stands outside bodies is kept: each of its nodes with a number has the frame that the one had which it was, but for the
   -- brackets of keys which give one property and do nothing else, where the variables can be written that the earlier program lets be
-  -- written, and those of S are steady, and for the name of a function or a class expression that the later
+  -- written, and that is so which S says, and for the name of a function or a class expression that the later
   -- program doesn't declare, so that nothing in it refers to that, where the options let it go
   pub frames : FramesShown (gone_from (let_go (switches o)) (undeclared (later m u))) (KeyGivenUnder (writable_by (earlier t)) S (undeclared (later m u)) (bodies_in (earlier t))) (frames_in (earlier t)) (frames_in (later m u))
   -- each body does what the one does that it was
@@ -117,7 +117,7 @@ pub record IsFaithfulUnder (S : BodySets) (Rests : Tree → Type 0) (o : Compres
   pub settled : m.settled ≡ true → Rests (later m u)
   pub unsettled : m.settled ≡ false → program_weight (later m u) + pass_bound o ≤ program_weight (earlier t)
 
--- whichever names are steady
+-- whatever is known of the bodies
 abbrev pub IsFaithfulWith : (Tree → Type 0) → CompressOptions → Minified → Tree → Tree → Type 0
 IsFaithfulWith = IsFaithfulUnder none_steady
 
@@ -129,7 +129,7 @@ pub record FaithfulWith (Rests : Tree → Type 0) (d : Data) (o : CompressOption
   pub answered : Accepts (view m.program) output
   pub faithful : IsFaithfulWith Rests o m input output
 
--- the same, with the names that are steady in the later one
+-- the same, with what is known of the bodies of the later one
 pub record FaithfulSteadily (Rests : Tree → Type 0) (d : Data) (o : CompressOptions) (m : Minified) : Type 0 where
   pub input : Tree
   pub output : Tree

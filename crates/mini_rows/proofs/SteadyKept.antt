@@ -12,7 +12,7 @@ use Rattle.mini_model.specs.Tree.{Tree, none, ◌▸◌, logical}
 use Rattle.mini_model.specs.Position.{left_operand_seat}
 use Rattle.mini_model.specs.Weight.{outline, outlines, weight}
 use Rattle.mini_accept.specs.WellShaped.{Slot, fits}
-use Rattle.mini_laws.specs.Value.{VariableSet}
+use Rattle.mini_kept.specs.Without.{Assured}
 use Rattle.mini_kept.specs.Frames.{frames}
 use Rattle.mini_kept.specs.KeepsNames.{is_rewritten_place}
 use Rattle.mini_kept.specs.KeepsShapes.{AskedAlike, KeepsShapes}
@@ -33,19 +33,19 @@ use Rattle.mini_rows.proofs.ChoiceWeights.{assignment_marks, member_heavy}
 use Rattle.mini_rows.proofs.SpellShapes.{a_logical, an_assignment, Formed, formed_asked}
 use Rattle.mini_rows.proofs.SpellWeights.{falls_by}
 
-module _ (S : VariableSet) where
-  member_kept : (q : Seat) (n w : Tree) → Row38Member S n w → KeptAt (Expr q) n w
+module _ (V : Assured) where
+  member_kept : (q : Seat) (n w : Tree) → Row38Member V.steady n w → KeptAt (Expr q) n w
   member_kept q n w r =
       let member : Tree = member_of (resolved r.spelling r.symbol) r.key in
       subst (KeptAt (Expr q) n) (sym r.written)
       (retargeted_tree (deciding r.operator) member r.b (member_reads (resolved r.spelling r.symbol) r.key) q n (expressions_arranged_freely first_dropped (record { trees = member ▸ r.b ▸ none; lists = [] }) (tt, tt, (member_vanishes (resolved r.spelling r.symbol) r.key, tt)) (under (Logical r.operator) (part 0 ▹ assigns_first (part 1) ▹ end)) (assigns_first (part 1)) refl q n (assignment assigning.Assign member r.b) r.shape refl))
 
-  member_formed : (n w : Tree) → Row38Member S n w → Formed n w
+  member_formed : (n w : Tree) → Row38Member V.steady n w → Formed n w
   member_formed n w r =
       let member : Tree = member_of (resolved r.spelling r.symbol) r.key in
       record { first = a_logical r.operator; second = an_assignment (deciding r.operator); parts = member ▸ assignment assigning.Assign member r.b ▸ none; others = member ▸ r.b ▸ none; read = r.shape; made = r.written; optional = λ x. absurd (cc x) }
 
-  member_fits : (n w : Tree) → Row38Member S n w → (strict : Bool) (s : Slot) → fits strict s n ≡ true → fits strict s w ≡ true
+  member_fits : (n w : Tree) → Row38Member V.steady n w → (strict : Bool) (s : Slot) → fits strict s n ≡ true → fits strict s w ≡ true
   member_fits n w r strict s e =
       let x : Name = resolved r.spelling r.symbol in
       let member : Tree = member_of x r.key in
@@ -54,26 +54,26 @@ module _ (S : VariableSet) where
       let (target, b) = of_member_assignment strict x r.key r.b rest in
       ap (fits strict s) r.written ∙ expression_taken strict s (assignment (deciding r.operator) member r.b) here (member_assignment_fits strict (deciding r.operator) x r.key r.b target b)
 
-  pub kept : (p : Position) (n w : Tree) → SteadyRow S p n w → KeptAt p n w
+  pub kept : (p : Position) (n w : Tree) → SteadyRow V p n w → KeptAt p n w
   kept (Expr q) n w r = member_kept q n w r
   kept p n w r = absurd r
 
-  pub placed : (p : Position) (n w : Tree) → SteadyRow S p n w → is_rewritten_place p ≡ true
+  pub placed : (p : Position) (n w : Tree) → SteadyRow V p n w → is_rewritten_place p ≡ true
   placed (Expr q) n w r = refl
   placed p n w r = absurd r
 
-  pub shapes : KeepsShapes (SteadyRow S)
+  pub shapes : KeepsShapes (SteadyRow V)
   shapes = record { fitting = λ p n w r strict s k e. row_fits p n w r strict s e; asked = row_asked }
     where
-      row_fits : (p : Position) (n w : Tree) → SteadyRow S p n w → (strict : Bool) (s : Slot) → fits strict s n ≡ true → fits strict s w ≡ true
+      row_fits : (p : Position) (n w : Tree) → SteadyRow V p n w → (strict : Bool) (s : Slot) → fits strict s n ≡ true → fits strict s w ≡ true
       row_fits (Expr q) n w r strict s e = member_fits n w r strict s e
       row_fits p n w r strict s e = absurd r
 
-      row_asked : (p : Position) (n w : Tree) → SteadyRow S p n w → AskedAlike p n w
+      row_asked : (p : Position) (n w : Tree) → SteadyRow V p n w → AskedAlike p n w
       row_asked (Expr q) n w r = formed_asked (Expr q) n w (member_formed n w r)
       row_asked p n w r = absurd r
 
-  pub names : KeepsNames (SteadyRow S)
+  pub names : KeepsNames (SteadyRow V)
   names = record { places = λ p n w r. inl (placed p n w r); pieces = λ p n w r. (kept p n w r).piece; keeps = λ p n w r. (kept p n w r).keeps }
 
 -- ---- the bodies and frames in it are the same
@@ -93,12 +93,12 @@ member_frames o x (Named s) b q = nil_right _
 member_frames o x (Spelled s) b q = nil_right _
 member_frames o x (Numbered n) b q = nil_right _
 
-module _ (S : VariableSet) where
-  pub same_bodies : (p : Position) (n w : Tree) → SteadyRow S p n w → (a : Around) → bodies a n ≡ bodies a w
+module _ (V : Assured) where
+  pub same_bodies : (p : Position) (n w : Tree) → SteadyRow V p n w → (a : Around) → bodies a n ≡ bodies a w
   same_bodies (Expr s) n w r a = ap (bodies a) r.shape ∙ member_bodies r.operator (resolved r.spelling r.symbol) r.key r.b a ∙ sym (ap (bodies a) r.written)
   same_bodies p n w r a = absurd r
 
-  pub same_frames : (p : Position) (n w : Tree) → SteadyRow S p n w → (q : Option PropertyKind) → frames q n ≡ frames q w
+  pub same_frames : (p : Position) (n w : Tree) → SteadyRow V p n w → (q : Option PropertyKind) → frames q n ≡ frames q w
   same_frames (Expr s) n w r q = ap (frames q) r.shape ∙ member_frames r.operator (resolved r.spelling r.symbol) r.key r.b q ∙ sym (ap (frames q) r.written)
   same_frames p n w r q = absurd r
 
@@ -109,19 +109,19 @@ member_falls Or s x k b = omega (arith, assignment_marks s assigning.LogicalOr (
 member_falls And s x k b = omega (arith, assignment_marks s assigning.LogicalAnd (outlines (member_of x k ▸ b ▸ none)), member_heavy (left_operand_seat And s) x k)
 member_falls Coalesce s x k b = omega (arith, assignment_marks s assigning.LogicalNullish (outlines (member_of x k ▸ b ▸ none)), member_heavy (left_operand_seat Coalesce s) x k)
 
-row_lighter : (S : VariableSet) (p : Position) (n w : Tree) → SteadyRow S p n w → weight p w < weight p n
-row_lighter S (Expr s) n w r = falls_by (Expr s) n w _ _ r.shape r.written (member_falls r.operator s (resolved r.spelling r.symbol) r.key r.b)
-row_lighter S p n w r = absurd r
+row_lighter : (V : Assured) (p : Position) (n w : Tree) → SteadyRow V p n w → weight p w < weight p n
+row_lighter V (Expr s) n w r = falls_by (Expr s) n w _ _ r.shape r.written (member_falls r.operator s (resolved r.spelling r.symbol) r.key r.b)
+row_lighter V p n w r = absurd r
 
-outline_by_row : (S : VariableSet) (p : Position) (n w : Tree) → SteadyRow S p n w → outline n ≡ outline w
-outline_by_row S (Expr s) n w r = ap outline r.shape ∙ sym (ap outline r.written)
-outline_by_row S p n w r = absurd r
+outline_by_row : (V : Assured) (p : Position) (n w : Tree) → SteadyRow V p n w → outline n ≡ outline w
+outline_by_row V (Expr s) n w r = ap outline r.shape ∙ sym (ap outline r.written)
+outline_by_row V p n w r = absurd r
 
 pub steady_lightens : SteadyLightens
-steady_lightens S = record {
-  lighter = row_lighter S;
-  absent = λ p n w r a. ap (λ o. o.absent) (outline_by_row S p n w r);
-  items = λ p n w r a. ap (λ o. o.items) (outline_by_row S p n w r);
-  is_zero = λ p n w r a. inl (ap (λ o. o.is_zero) (outline_by_row S p n w r));
-  chooses = λ p n w r a. inl (λ h. sym (ap (λ o. o.chooses) (outline_by_row S p n w r)) ∙ h);
+steady_lightens V = record {
+  lighter = row_lighter V;
+  absent = λ p n w r a. ap (λ o. o.absent) (outline_by_row V p n w r);
+  items = λ p n w r a. ap (λ o. o.items) (outline_by_row V p n w r);
+  is_zero = λ p n w r a. inl (ap (λ o. o.is_zero) (outline_by_row V p n w r));
+  chooses = λ p n w r a. inl (λ h. sym (ap (λ o. o.chooses) (outline_by_row V p n w r)) ∙ h);
 }

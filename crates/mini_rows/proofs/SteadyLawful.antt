@@ -38,7 +38,7 @@ use Rattle.mini_kept.specs.KeepsShapes.{AskedAlike}
 use Rattle.mini_kept.specs.Lifted.{is_piece, is_rooted_place, KeepsRoot}
 use Rattle.mini_kept.specs.Loosely.{SteadiesWith, LawfulUnder}
 use Rattle.mini_kept.specs.Placed.{is_statement_list, fits_place}
-use Rattle.mini_kept.specs.Without.{BodySets, Steadies, BodiesUnder}
+use Rattle.mini_kept.specs.Without.{Assured, BodySets, Steadies, BodiesUnder}
 use Rattle.mini_kept.proofs.Declared.{reaches_declared}
 use Rattle.mini_kept.proofs.Fixed.{step_fixed}
 use Rattle.mini_kept.proofs.FrameSteps.{its_number, kept_are_shown}
@@ -91,7 +91,7 @@ no_frame : (k : Option PropertyKind) (h : Shape) (o : Tree) (xs : List Name) →
 no_frame k (shape.Program m ds) o xs e = absurd (true≢false e)
 no_frame k h o xs e = refl
 
-module _ (V : VariableSet) where
+module _ (V : Assured) where
   abbrev R : Position → Tree → Tree → Type 0
   R = SteadyRow V
 
@@ -143,7 +143,7 @@ module _ (V : VariableSet) where
     own_frames_in (own_first π t u ts s) κ i = ap (λ fs. fs ++ frames_from κ (suc i) ts) (own_frames s (κ i))
     own_frames_in (own_later π t ts us s) κ i = ap (λ fs. frames (κ i) t ++ fs) (own_frames_in s κ (suc i))
 
-  -- and it runs as before where no answer changes the variables
+  -- and it runs as before where that is so which is known
   keeps_meaning : (e : Environment) → Steadies V e → KeepsMeaning R e nothing
   keeps_meaning e z = record { same = λ p n w r q f. steady_same V p n w r e z q f; reads = λ p n w r. subst (ReadAlike nothing e (summary n)) (steady_reads V p n w r) (alike_self nothing e (summary n)) }
 
@@ -162,7 +162,7 @@ module _ (S : BodySets) (W : VariableSet) (d g : Bool) (ds : List (List ℕ)) (k
   abbrev f' : Tree
   f' = function_over d g ds k name ps u
 
-  abbrev V : VariableSet
+  abbrev V : Assured
   V = S k
 
   whole : Step (SteadyRow V) p f f'
@@ -198,7 +198,7 @@ module _ (S : BodySets) (W : VariableSet) (d g : Bool) (ds : List (List ℕ)) (k
   whole_bodies : (a : Around) → BodiesUnder W S nothing (bodies a f) (bodies a f')
   whole_bodies a =
       each_under W S nothing (own_body a t) (others a (bodies (below_it a 2) t)) (own_body a u) (others a (bodies (below_it a 2) u))
-      (inl (record { number = refl; kind = inl refl; strict = refl; asks_this = refl; same = λ e z y X. own_runs V s e y X }), tt)
+      (inl (record { number = refl; kind = inl refl; strict = refl; asks_this = refl; same = λ e z y X g. own_runs V s e y X }), tt)
       (subst (λ bs. BodiesUnder W S nothing (others a (bodies (below_it a 2) t)) (others a bs)) (own_bodies V s (below_it a 2)) (itself_under W S nothing (others a (bodies (below_it a 2) t))))
 
   whole_steadies : SteadiesWith W S p f f'

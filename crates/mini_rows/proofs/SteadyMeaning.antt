@@ -20,7 +20,7 @@ use Rattle.mini_laws.specs.Step.{step, means, meaning}
 use Rattle.mini_laws.specs.Targets.{assigns, AssignDemand, put_target, after_read}
 use Rattle.mini_laws.proofs.Runs.{either_cong, either_assoc, either_ok}
 use Rattle.mini_laws.proofs.Sparing.{steady}
-use Rattle.mini_kept.specs.Without.{Steadies}
+use Rattle.mini_kept.specs.Without.{Assured, Steadies}
 use Rattle.mini_rows.specs.Choices.{Key, Named, Spelled, Numbered, member_of, deciding}
 use Rattle.mini_rows.specs.Spellings.{assignment}
 use Rattle.mini_rows.specs.Steady.{Row38Member, SteadyRow, SteadyMeansSame}
@@ -104,17 +104,17 @@ module _ (e : Environment) (spelling : List ℕ) (k : ℕ) (still : e.foreign (D
       (λ v r. by_keeping (Declared k) (s.vars (Declared k)) (fetch e x j v s) (fetch_keeps j v s) _ _ (λ a y h. ap (λ c. choose (assigns o a) c (ok a y)) (put_then j b v s y r h)))
       ∙ sym (decided_value e x j b o s)
 
-member_same : (S : VariableSet) (n w : Tree) (r : Row38Member S n w) (e : Environment) → Steadies S e → (q : Demand) → Same e nothing nothing q n w
-member_same S n w r e z q =
+member_same : (V : Assured) (n w : Tree) (r : Row38Member V.steady n w) (e : Environment) → Steadies V e → (q : Demand) → Same e nothing nothing q n w
+member_same V n w r e z q =
     let m : Tree = member_of (resolved r.spelling r.symbol) r.key in
     subst (λ t. Same e nothing nothing q t w) (sym r.shape)
     (subst (λ t. Same e nothing nothing q (logical r.operator m (assignment Assign m r.b)) t) (sym r.written)
-    (same_there e (logical r.operator m (assignment Assign m r.b)) (assignment (deciding r.operator) m r.b) (logical_tells r.operator m (assignment Assign m r.b)) (assignment_tells (deciding r.operator) m r.b) (member_decides e r.spelling r.symbol (z (Declared r.symbol) r.steady) r.operator r.key r.b) q))
+    (same_there e (logical r.operator m (assignment Assign m r.b)) (assignment (deciding r.operator) m r.b) (logical_tells r.operator m (assignment Assign m r.b)) (assignment_tells (deciding r.operator) m r.b) (member_decides e r.spelling r.symbol (z.steady (Declared r.symbol) r.steady) r.operator r.key r.b) q))
 
 pub steady_same : SteadyMeansSame
-steady_same S (Expr s) n w r e z q f = member_same S n w r e z q
-steady_same S p n w r e z q f = absurd r
+steady_same V (Expr s) n w r e z q f = member_same V n w r e z q
+steady_same V p n w r e z q f = absurd r
 
-pub steady_reads : (S : VariableSet) (p : Position) (n w : Tree) → SteadyRow S p n w → summary n ≡ summary w
-steady_reads S (Expr s) n w r = ap summary r.shape ∙ sym (ap summary r.written)
-steady_reads S p n w r = absurd r
+pub steady_reads : (V : Assured) (p : Position) (n w : Tree) → SteadyRow V p n w → summary n ≡ summary w
+steady_reads V (Expr s) n w r = ap summary r.shape ∙ sym (ap summary r.written)
+steady_reads V p n w r = absurd r

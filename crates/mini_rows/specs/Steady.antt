@@ -18,7 +18,7 @@ use Rattle.mini_laws.specs.Value.{Declared, VariableSet, nothing}
 use Rattle.mini_laws.specs.Weights.{Lightens}
 use Rattle.mini_kept.specs.KeepsFrames.{function_over}
 use Rattle.mini_kept.specs.Loosely.{LawfulUnder}
-use Rattle.mini_kept.specs.Without.{BodySets, Steadies}
+use Rattle.mini_kept.specs.Without.{Assured, BodySets, Steadies}
 use Rattle.mini_rows.specs.Choices.{Key, member_of, deciding}
 use Rattle.mini_rows.specs.Spellings.{assignment}
 use Rattle.mini_rows.specs.Unused.{resolved}
@@ -34,10 +34,10 @@ pub record Row38Member (S : VariableSet) (n w : Tree) : Type 0 where
   pub shape : n ≡ logical operator (member_of (resolved spelling symbol) key) (assignment Assign (member_of (resolved spelling symbol) key) b)
   pub written : w ≡ assignment (deciding operator) (member_of (resolved spelling symbol) key) b
 
--- a row reads n as w at this place
-abbrev pub SteadyRow : VariableSet → Position → Tree → Tree → Type 0
-SteadyRow S (Expr s) n w = Row38Member S n w
-SteadyRow S _ n w = ⊥
+-- a row reads n as w at this place, in a body of which this is known
+abbrev pub SteadyRow : Assured → Position → Tree → Tree → Type 0
+SteadyRow V (Expr s) n w = Row38Member V.steady n w
+SteadyRow V _ n w = ⊥
 
 -- ---- in the body of a function
 
@@ -61,7 +61,7 @@ mutual
     own_first : (π : ℕ → Position) (t u : Tree) (ts : Trees) → OwnStep R (π zero) t u → OwnStepIn R π (t ▸ ts) (u ▸ ts)
     own_later : (π : ℕ → Position) (t : Tree) (ts us : Trees) → OwnStepIn R (λ i. π (suc i)) ts us → OwnStepIn R π (t ▸ ts) (t ▸ us)
 
--- a function whose body takes such a step by a row, over the names that are steady in it: S has those of the body with a number
+-- a function whose body takes such a step by a row, over what S says of the body with its number
 pub record SteadyFunctionRow (S : BodySets) (n w : Tree) : Type 0 where
   pub is_declaration : Bool
   pub is_generator : Bool
@@ -85,18 +85,18 @@ SteadyFunction S _ n w = ⊥
 
 -- ---- the laws
 
--- what a row writes means the same in any environment in which no answer changes those variables
+-- what a row writes means the same in any environment in which that is so
 abbrev pub SteadyMeansSame : Type 0
-SteadyMeansSame = (S : VariableSet) (p : Position) (n w : Tree) → SteadyRow S p n w → (e : Environment) → Steadies S e → (q : Demand) → Fits p q → Same e nothing nothing q n w
+SteadyMeansSame = (V : Assured) (p : Position) (n w : Tree) → SteadyRow V p n w → (e : Environment) → Steadies V e → (q : Demand) → Fits p q → Same e nothing nothing q n w
 
 -- it makes the whole lighter, wherever the expression stands, and so does what is written in the body of a function
 abbrev pub SteadyLightens : Type 0
-SteadyLightens = (S : VariableSet) → Lightens (SteadyRow S)
+SteadyLightens = (V : Assured) → Lightens (SteadyRow V)
 
 abbrev pub SteadyFunctionsLighten : Type 0
 SteadyFunctionsLighten = (S : BodySets) → Lightens (SteadyFunction S)
 
--- and that keeps all that a program has to keep, where those names are steady, whichever functions and classes may lose their own name and
+-- and that keeps all that a program has to keep, where that is so, whichever functions and classes may lose their own name and
 -- whichever variables can be written
 abbrev pub SteadyFunctionsAreLawful : Type 0
 SteadyFunctionsAreLawful = (K : Shape → Bool) (W : VariableSet) (S : BodySets) → LawfulUnder K W S (SteadyFunction S)

@@ -8,6 +8,7 @@ use Rattle.mini_model.specs.declared.operator.AssignmentOperator.TheVariants.{As
 use Rattle.mini_model.specs.declared.operator.LogicalOperator.{LogicalOperator}
 use Rattle.mini_model.specs.Tree.{Tree, identifier, logical}
 use Rattle.mini_laws.specs.Value.{Declared, VariableSet}
+use Rattle.mini_kept.specs.Without.{Assured}
 use Rattle.mini_node.specs.Children.{part, names_of}
 use Rattle.mini_node.specs.Equal.{same_tree}
 use Rattle.mini_node.specs.Kinds.{assignment, assignment_operator, logical_operator}
@@ -111,11 +112,11 @@ unwritten_rests S n e w r = absurd (cc (sym (passes S n w r) ∙ ap is_some e))
 
 -- ---- at an expression in its seat
 
-pub here_applied : (V : VariableSet) (s : Seat) (t u : Tree) (b : Bool) → u ≡ unwrap_or (written V t) t → b ≡ is_some (written V t) → AppliedHere (SteadyRow V) (Expr s) t u b
+pub here_applied : (V : Assured) (s : Seat) (t u : Tree) (b : Bool) → u ≡ unwrap_or (written V.steady t) t → b ≡ is_some (written V.steady t) → AppliedHere (SteadyRow V) (Expr s) t u b
 here_applied V s t u b e f =
     subst (λ v. AppliedHere (SteadyRow V) (Expr s) t v b) (sym e)
-    (subst (AppliedHere (SteadyRow V) (Expr s) t (unwrap_or (written V t) t)) (sym f) (go (written V t) refl))
+    (subst (AppliedHere (SteadyRow V) (Expr s) t (unwrap_or (written V.steady t) t)) (sym f) (go (written V.steady t) refl))
   where
-    go : (o : Option Tree) → written V t ≡ o → AppliedHere (SteadyRow V) (Expr s) t (unwrap_or o t) (is_some o)
-    go None h = (refl, unwritten_rests V t h)
-    go (Some w) h = steady_row V t w h
+    go : (o : Option Tree) → written V.steady t ≡ o → AppliedHere (SteadyRow V) (Expr s) t (unwrap_or o t) (is_some o)
+    go None h = (refl, unwritten_rests V.steady t h)
+    go (Some w) h = steady_row V.steady t w h

@@ -9,7 +9,7 @@ use Rattle.mini_model.specs.Tree.{Tree, Trees, node, none, ◌▸◌, count, chi
 use Rattle.mini_model.specs.declared.place.Position.{Position}
 use Rattle.mini_model.specs.declared.place.Position.TheVariants.{Expr}
 use Rattle.mini_model.specs.Position.{child_position}
-use Rattle.mini_laws.specs.Value.{VariableSet}
+use Rattle.mini_kept.specs.Without.{Assured}
 use Rattle.mini_node.specs.Children.{with_child, with_part, part}
 use Rattle.mini_node.specs.Lends.{with_children}
 use Rattle.mini_rows.specs.Steady.{SteadyRow, has_body, OwnStep, own_here, own_inside, OwnStepIn, own_first, own_later}
@@ -142,16 +142,16 @@ module _ (R : Position → Tree → Tree → Type 0) where
 -- ---- what isn't open
 
 -- a row reads what is open
-read_open : (V : VariableSet) (p : Position) (t w : Tree) → SteadyRow V p t w → is_open t ≡ true
+read_open : (V : Assured) (p : Position) (t w : Tree) → SteadyRow V p t w → is_open t ≡ true
 read_open V (Expr s) t w r = ap is_open r.shape
 read_open V p t w r = absurd r
 
-pub closed_rests : (V : VariableSet) (p : Position) (t : Tree) → is_open t ≡ false → OwnRests (SteadyRow V) p t
+pub closed_rests : (V : Assured) (p : Position) (t : Tree) → is_open t ≡ false → OwnRests (SteadyRow V) p t
 closed_rests V p t e w s = go s e
   where
     go : {p : Position} {t w : Tree} → OwnStep (SteadyRow V) p t w → is_open t ≡ false → ⊥
     go (own_here p n w r) e = false≢true (sym e ∙ read_open V p n w r)
     go (own_inside p h xs ts us b s) e = false≢true (sym e ∙ ap not b)
 
-pub walked_closed : (V : VariableSet) (p : Position) (t : Tree) → is_open t ≡ false → OwnWalked (SteadyRow V) p t t false
+pub walked_closed : (V : Assured) (p : Position) (t : Tree) → is_open t ≡ false → OwnWalked (SteadyRow V) p t t false
 walked_closed V p t e = (refl, closed_rests V p t e)

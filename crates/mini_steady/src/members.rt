@@ -14,7 +14,7 @@ use std::alloc::Global;
 
 // Whether a scope declares the name, and it is steady in the body with this number.
 fn is_steady<S: SteadyNames>(name: &Option<Name>, body: u32, steady: &S) -> bool
-    ensures { result ≡ row.is_steady_in (S.sets steady.now body) (names name.now) }
+    ensures { result ≡ row.is_steady_in (S.sets steady.now body).steady (names name.now) }
 {
     match name {
         Some(name) => match name.symbol {
@@ -27,7 +27,7 @@ fn is_steady<S: SteadyNames>(name: &Option<Name>, body: u32, steady: &S) -> bool
 
 // `x.k = b`, where the member is this one, and x is steady.
 fn assigns_member<S: SteadyNames>(left: &Node, right: &Node, body: u32, steady: &S) -> bool
-    ensures { result ≡ row.assigns_member (S.sets steady.now body) left.now right.now }
+    ensures { result ≡ row.assigns_member (S.sets steady.now body).steady left.now right.now }
 {
     assigns_plainly(right)
         && is_same_member(left, right.child(0))
@@ -36,7 +36,7 @@ fn assigns_member<S: SteadyNames>(left: &Node, right: &Node, body: u32, steady: 
 
 // The operator of `x.k || (x.k = b)`.
 fn deciding_operator<S: SteadyNames>(node: &Node, body: u32, steady: &S) -> Option<LogicalOperator>
-    ensures { result ≡ row.deciding_operator (S.sets steady.now body) node.now }
+    ensures { result ≡ row.deciding_operator (S.sets steady.now body).steady node.now }
 {
     match logical_operator(node) {
         Some(operator) if assigns_member(node.child(0), node.child(1), body, steady) => {
@@ -64,8 +64,8 @@ pub fn minimize_steady_logical_expression<S: SteadyNames>(
     body: u32,
     steady: &S,
 ) -> Result<bool, OutOfMemory>
-    ensures tree { OnOk result (node.new ≡ unwrap_or (written (S.sets steady.now body) node.old) node.old) }
-    ensures said { IfOk result (λ changed. changed ≡ is_some (written (S.sets steady.now body) node.old)) }
+    ensures tree { OnOk result (node.new ≡ unwrap_or (written (S.sets steady.now body).steady node.old) node.old) }
+    ensures said { IfOk result (λ changed. changed ≡ is_some (written (S.sets steady.now body).steady node.old)) }
 {
     match deciding_operator(node, body, steady) {
         Some(operator) => {

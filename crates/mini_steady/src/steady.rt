@@ -14,7 +14,7 @@ pub trait SteadyNames {
 
     /// Whether the symbol is among those of the body with this number.
     fn is_steady(&self, symbol: SymbolId, body: u32) -> bool
-        ensures { result ≡ sets self.now body (Declared symbol.0) };
+        ensures { result ≡ (sets self.now body).steady (Declared symbol.0) };
 }
 
 impl SteadyNames for Scopes {
