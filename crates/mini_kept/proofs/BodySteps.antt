@@ -197,18 +197,18 @@ module _ (R : Position → Tree → Tree → Type 0) (W : VariableSet) (S : Body
   own_kept : (a : Around) (p : Position) (h : Shape) (xs : List Name) (n : ℕ) (ts us : Trees) → StepIn R (child_position h p (count ts)) ts us → ((i : ℕ) → Moved (child_position h p (count ts) i) (child_or_absent ts i) (child_or_absent us i)) → (h ≡ shape.InnerExpression → is_asked_whole p ≡ true) → (a.is_assigned ≡ true → is_unseated p ≡ true) → Avoids D (node h xs n us)
       → BodiesUnder W S D (body_of a h n (node h xs n ts) ts) (body_of a h n (node h xs n us) us)
   own_kept a p (shape.Program m ds) xs n ts us st mv w y v =
-      (inl (record { number = refl; kind = inl refl; strict = refl; asks_this = refl; same = λ e z r X. as_runs e Program X _ _ (stepped_body Elsewhere _ _ (inside Elsewhere (shape.Program m ds) xs n ts us st) v Program tt e z X) }), tt)
+      (inl (record { number = refl; kind = inl refl; strict = refl; asks_this = refl; same = λ e z r X g. as_runs e Program X _ _ (stepped_body Elsewhere _ _ (inside Elsewhere (shape.Program m ds) xs n ts us st) v Program tt e z X) }), tt)
   own_kept a p (shape.Function d g ds) xs n ts us st mv w y v =
-      (inl (record { number = refl; kind = inl refl; strict = refl; asks_this = refl; same = λ e z r X. as_runs e FunctionStatements X _ _ (moved_body Elsewhere _ _ (mv 2) (child_avoids D us v.1 2) FunctionStatements tt e z X) }), tt)
+      (inl (record { number = refl; kind = inl refl; strict = refl; asks_this = refl; same = λ e z r X g. as_runs e FunctionStatements X _ _ (moved_body Elsewhere _ _ (mv 2) (child_avoids D us v.1 2) FunctionStatements tt e z X) }), tt)
   own_kept a p (shape.ArrowFunctionExpression ds) xs n ts us st mv w y v =
-      (inl (record { number = refl; kind = inl (moved_kind (mv 1)); strict = refl; asks_this = refl; same = λ e z r X. subst (λ l. RunsAs e (arrow_kind (shape_of (child_or_absent ts 1))) l X (child_or_absent ts 1) (child_or_absent us 1)) (moved_kind (mv 1)) (as_runs e (arrow_kind (shape_of (child_or_absent ts 1))) X _ _ (moved_body (Expr argument_seat) _ _ (mv 1) (child_avoids D us v.1 1) (arrow_kind (shape_of (child_or_absent ts 1))) (arrow_fits (shape_of (child_or_absent ts 1)) argument_seat refl refl) e z X)) }), tt)
+      (inl (record { number = refl; kind = inl (moved_kind (mv 1)); strict = refl; asks_this = refl; same = λ e z r X b. subst (λ l. RunsAs e (arrow_kind (shape_of (child_or_absent ts 1))) l X (child_or_absent ts 1) (child_or_absent us 1)) (moved_kind (mv 1)) (as_runs e (arrow_kind (shape_of (child_or_absent ts 1))) X _ _ (moved_body (Expr argument_seat) _ _ (mv 1) (child_avoids D us v.1 1) (arrow_kind (shape_of (child_or_absent ts 1))) (arrow_fits (shape_of (child_or_absent ts 1)) argument_seat refl refl) e z X)) }), tt)
   own_kept a p shape.StaticBlock xs n ts us st mv w y v =
-      (inl (record { number = refl; kind = inl refl; strict = refl; asks_this = refl; same = λ e z r X. as_runs e FunctionStatements X _ _ (stepped_body Elsewhere _ _ (inside Elsewhere shape.StaticBlock xs n ts us st) v FunctionStatements tt e z X) }), tt)
+      (inl (record { number = refl; kind = inl refl; strict = refl; asks_this = refl; same = λ e z r X g. as_runs e FunctionStatements X _ _ (stepped_body Elsewhere _ _ (inside Elsewhere shape.StaticBlock xs n ts us st) v FunctionStatements tt e z X) }), tt)
   own_kept a p shape.InnerExpression xs n ts us st mv w y v = inner a.is_assigned refl
     where
       inner : (b : Bool) → a.is_assigned ≡ b → BodiesUnder W S D (record { number = n; kind = choose b InnerTarget InnerValue; root = node shape.InnerExpression xs n ts; strict = a.strict; asks_this = a.asks_this } ∷ []) (record { number = n; kind = choose b InnerTarget InnerValue; root = node shape.InnerExpression xs n us; strict = a.strict; asks_this = a.asks_this } ∷ [])
-      inner true k = (inl (record { number = refl; kind = inl refl; strict = refl; asks_this = refl; same = λ e z r X. as_runs e InnerTarget X _ _ (stepped_body p _ _ (inside p shape.InnerExpression xs n ts us st) v InnerTarget (target_fits p (w refl) (y k)) e z X) }), tt)
-      inner false k = (inl (record { number = refl; kind = inl refl; strict = refl; asks_this = refl; same = λ e z r X. as_runs e InnerValue X _ _ (stepped_body p _ _ (inside p shape.InnerExpression xs n ts us st) v InnerValue (value_fits p (w refl)) e z X) }), tt)
+      inner true k = (inl (record { number = refl; kind = inl refl; strict = refl; asks_this = refl; same = λ e z r X g. as_runs e InnerTarget X _ _ (stepped_body p _ _ (inside p shape.InnerExpression xs n ts us st) v InnerTarget (target_fits p (w refl) (y k)) e z X) }), tt)
+      inner false k = (inl (record { number = refl; kind = inl refl; strict = refl; asks_this = refl; same = λ e z r X g. as_runs e InnerValue X _ _ (stepped_body p _ _ (inside p shape.InnerExpression xs n ts us st) v InnerValue (value_fits p (w refl)) e z X) }), tt)
   own_kept a p h xs n ts us st mv w y v = tt
 
   parts_fill : (strict : Bool) (s : Slot) (h : Shape) (xs : List Name) (n : ℕ) (ts : Trees) → fits strict s (node h xs n ts) ≡ true → fill (is_strict_in strict h) (filling strict s h) ts ≡ true
