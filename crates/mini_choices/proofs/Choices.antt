@@ -24,7 +24,7 @@ use Rattle.mini_node.specs.Made.{assignment_is, logical_is, binary_is, condition
 use Rattle.mini_node.proofs.Equality.{tree_same, tree_itself}
 use Rattle.mini_terms.specs.Folds.{is_effect_free}
 use Rattle.mini_rows.specs.Lists.{sequence}
-use Rattle.mini_rows.specs.Choices.{argument, assign, is_grouped, joined, strictly, joining, asks_object, null_compared, ended, deciding, may_choose, Row39, Row38, Row35, Row35Member, Row45, Row45Member, Row38Last, Key, member_of, Row46Equal, Row46Unequal, Row44, Row13Both, Row45Indexed, LighterRow, OwnRow, ChoiceRow, ChoiceContracts}
+use Rattle.mini_rows.specs.Choices.{argument, assign, is_grouped, joined, strictly, joining, asks_object, null_compared, ended, deciding, may_choose, Row39, Row38, Row35, Row35Member, Row45, Row45Member, Key, member_of, Row46Equal, Row46Unequal, Row44, Row13Both, Row45Indexed, LighterRow, OwnRow, ChoiceRow, ChoiceContracts}
 use Rattle.mini_rows.proofs.ChoiceCalls.{calls_lighter}
 use Rattle.mini_rows.proofs.ChoiceIndexed.{indexed_lighter}
 use Rattle.mini_rows.proofs.ChoiceWeights as choice_weights
@@ -52,7 +52,7 @@ use Rattle.mini_choices.proofs.Trials.{some_is, not_true, both_true, tried, firs
 use Rattle.mini_choices.specs.SubstituteRotateLogicalExpression.{leftmost}
 use Rattle.mini_choices.specs.MinimizeNullishComparison as nullish
 use Rattle.mini_choices.specs.MinimizeObjectTest as object_test
-use Rattle.mini_choices.proofs.Names.{assigns_is, operator_is, OneName, one_name}
+use Rattle.mini_choices.proofs.Names.{assigns_is, operator_is, one_name}
 use Rattle.mini_choices.proofs.NullishComparison.{comparison_row, alone_passes, after_passes}
 use Rattle.mini_choices.proofs.ObjectTest.{object_row, object_passes, before_passes}
 use Rattle.mini_choices.proofs.Spines.{logical_kind_is, spine_of, leftmost_joined}

@@ -1,5 +1,5 @@
 -- What is written for a counter is what a row says, and else no row reads it.
-use Rattle.std.proofs.Common.{◌≡◌, ◌+◌, ◌<◌, ◌≤◌, ℕ, zero, suc, Bool, true, false, List, [], ◌∷◌, refl, sym, ap, subst, ◌∙◌, arith, true≢false}
+use Rattle.std.proofs.Common.{◌≡◌, ◌+◌, ◌<◌, ◌≤◌, ℕ, zero, suc, Bool, true, false, List, [], refl, sym, ap, subst, ◌∙◌, arith, true≢false}
 use Rattle.std.specs.Prelude.{◌&&◌, ℤ, pos, negsuc, Option, Some, None, if◌then◌else◌}
 use Rattle.std.proofs.lemmas.Bool.{and_parts}
 use Rattle.mini_model.specs.declared.name.Name.{Name}
@@ -15,9 +15,9 @@ use Rattle.mini_node.specs.Made.{assignment_is, number_is, identifier_is}
 use Rattle.mini_node.specs.Walks.{next_child, no_rest}
 use Rattle.mini_rows.specs.Lists.{for_loop}
 use Rattle.mini_rows.specs.Spellings.{assignment, update}
-use Rattle.mini_rows.specs.Decrements.{leaves_number, keeps_number, keep_number, amount, subtracts, steps, counts, Row36}
+use Rattle.mini_rows.specs.Decrements.{leaves_number, keeps_number, keep_number, amount, subtracts, counts, Row36}
 use Rattle.mini_fold.specs.RemoveIdleHead.{is_for}
-use Rattle.mini_fold.specs.DecrementCounter.{step_in, step_by, is_subtraction, is_subtraction_from_name, step_of, counts_in, stepped, counter_in, counter_step, written_by, written}
+use Rattle.mini_fold.specs.DecrementCounter.{step_in, step_by, is_subtraction, is_subtraction_from_name, step_of, counts_in, stepped, counter_in, written_by, written}
 use Rattle.mini_fold.proofs.IdleHeads.{for_is}
 
 -- ---- the fold

@@ -1,14 +1,13 @@
 -- The length of a text makes what its row says, and stays where no row reads it.
-use Rattle.std.proofs.Common.{◌≡◌, ◌≤◌, ℕ, zero, Bool, true, false, List, [], length, refl, sym, ap, subst, ◌∙◌, true≢false}
+use Rattle.std.proofs.Common.{◌≡◌, ℕ, zero, Bool, true, false, List, [], length, refl, sym, ap, subst, ◌∙◌}
 use Rattle.std.specs.Prelude.{◌&&◌, not, nat_le, pos, codes, Option, Some, None, if◌then◌else◌}
 use Rattle.std.proofs.lemmas.Bool.{and_parts, leb-true, le-leb, false≢true}
 use Rattle.mini_model.specs.Numerals.{max_safe_integer}
 use Rattle.mini_model.specs.declared.seat.Seat.{Seat}
 use Rattle.mini_model.specs.declared.shape.Shape.{Shape}
 use Rattle.mini_model.specs.declared.shape.Shape.TheVariants as shape
-use Rattle.mini_model.specs.Tree.{Tree, Trees, node, none, leaf, shape_of}
+use Rattle.mini_model.specs.Tree.{Tree, Trees, node, none, leaf}
 use Rattle.mini_model.specs.declared.name.Name.{Name}
-use Rattle.mini_model.specs.Weight.{same_text}
 use Rattle.mini_kept.specs.Placed.{is_chain_seat}
 use Rattle.mini_kept.proofs.SameScopes.{same_texts}
 use Rattle.mini_node.specs.Children.{is_bare, part}

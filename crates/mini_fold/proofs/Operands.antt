@@ -32,7 +32,6 @@ use Rattle.mini_rows.specs.Spellings.{negated_digit, numeral, text}
 use Rattle.mini_rows.proofs.OperandWeights.{lighter}
 use Rattle.mini_tree.specs.Rule.{Applied}
 use Rattle.mini_tree.proofs.Reaching.{moves_once}
-use Rattle.mini_fold.specs.FoldOperators.{operator_written}
 use Rattle.mini_fold.proofs.Operators.{operator_or, delete_row, same_there, never_there, left_there, right_there, later, masks_there}
 use Rattle.mini_fold.specs.FoldOperands.{is_redundant, logical_written, is_empty, is_string_kind, is_text, text_written, sum_text_by, joined_texts, with_text, joined_written, or_else, sum_written, is_zero, tests_bits, tests_shift, tests_enclosed, keeps_beside, kept_written, bits_written, whole_written, wholes_written, negated_truth, truth_in, is_boolean_kind, is_told, right_written, left_written, either_written, equal_written, operands_written, binary_written, written_by, written, Gives, Rests}
 

@@ -1,6 +1,6 @@
 -- What goes into the text of a template is what a row says, and where nothing does no row makes it lighter.
 use Rattle.std.proofs.Common.{◌≡◌, ℕ, zero, suc, ◌<◌, ◌≤◌, ◌^◌, Bool, true, false, List, [], ◌∷◌, length, Option, Some, None, inl, inr, refl, sym, ap, subst, ◌∙◌, true≢false, ltb-true, arith}
-use Rattle.std.specs.Prelude.{◌+◌, ◌-◌, ◌*◌, ◌&&◌, ◌||◌, nat_eq, nat_le, nat_lt, is_some, unwrap_or, IfSome, if◌then◌else◌}
+use Rattle.std.specs.Prelude.{◌+◌, ◌-◌, ◌*◌, ◌&&◌, ◌||◌, nat_eq, nat_lt, is_some, unwrap_or, IfSome, if◌then◌else◌}
 use Rattle.std.proofs.lemmas.Bool.{and_parts, le-leb, leb-true, lt-ltb, eqb-true, eq-eqb, false≢true}
 use Rattle.mini_model.specs.declared.operator.BinaryOperator.{BinaryOperator}
 use Rattle.mini_model.specs.declared.operator.BinaryOperator.TheVariants.{Addition}
@@ -31,7 +31,7 @@ use Rattle.mini_tree.specs.Rule.{Applied, Moves}
 use Rattle.mini_tree.proofs.Reaching.{moves_once}
 use Rattle.mini_fold.specs.FoldOperands.{is_string_kind}
 use Rattle.mini_fold.specs.FoldSequences.{last_of, but_last}
-use Rattle.mini_fold.specs.FoldTemplates.{is_piece, piece_in, raw_in, are_pieces, is_template, texts_of, parts_of, is_whole, spare, growth, pays, hole, joined_at, is_sewn, sewn_by, sewn, sewn_at, any_sewn, sewn_texts, inlined, mark, plus_sign, paired, both_written, is_added, tail_by, tail_piece, with_tail, besides, head_seat, head_by, head_piece, with_head, made_by, sum_by, sum_written, may_join, is_settled, behind_written, rejoined, nested_written, added_by, added_written, Gives, Rests, PartsRest, first_written, behind_or_whole}
+use Rattle.mini_fold.specs.FoldTemplates.{is_piece, piece_in, raw_in, are_pieces, is_template, texts_of, parts_of, is_whole, spare, growth, pays, hole, joined_at, is_sewn, sewn_by, sewn, sewn_at, any_sewn, sewn_texts, inlined, mark, plus_sign, paired, both_written, is_added, tail_by, tail_piece, with_tail, besides, head_seat, head_by, head_piece, with_head, made_by, sum_by, sum_written, may_join, is_settled, behind_written, rejoined, nested_written, added_by, added_written, Gives, Rests, PartsRest, first_written}
 use Rattle.mini_fold.proofs.Operands.{string_kind}
 use Rattle.mini_fold.proofs.Sequences.{last_append}
 

@@ -16,7 +16,7 @@ use Rattle.mini_node.specs.Children.{part, with_child, rest_children}
 use Rattle.mini_node.specs.Kinds.{logical_operator, is_logical, is_sequence, sequence}
 use Rattle.mini_node.specs.Made.{logical_is, sequence_is}
 use Rattle.mini_node.specs.Walks.{next_child}
-use Rattle.mini_rows.specs.DeMorgan.{turned_logical, Row50Part, DeMorganContracts}
+use Rattle.mini_rows.specs.DeMorgan.{turned_logical, DeMorganContracts}
 use Rattle.mini_rows.proofs.SequenceWeights.{part_changes, part_within}
 use Rattle.mini_tree.specs.Rule.{Applied}
 use Rattle.mini_tree.proofs.Reaching.{moves_once}

@@ -16,7 +16,7 @@ use Rattle.mini_laws.specs.declared.names.Use.TheVariants.{Read}
 use Rattle.mini_laws.proofs.Places.{resolved_distinct}
 use Rattle.mini_laws.proofs.Whole.{scoped}
 use Rattle.mini_scope.specs.Pointers.{early_fault}
-use Rattle.mini_laws.specs.Value.{Variable, Declared, Global, VariableSet}
+use Rattle.mini_laws.specs.Value.{Variable, Declared, Global}
 use Rattle.mini_laws.specs.State.{Fixed}
 use Rattle.mini_laws.specs.Body.{Run}
 use Rattle.mini_laws.specs.Bodies.{Body, bodies_in, outermost}
@@ -50,7 +50,7 @@ use Rattle.mini_peephole.specs.AnyPasses.{EachBegins, SteadyPassesFaithful, Noth
 use Rattle.mini_peephole.specs.Minified.{IsWritten}
 use Rattle.mini_rows.specs.Switches.{let_go}
 use Rattle.mini_peephole.specs.Faithful as faith
-use Rattle.mini_peephole.specs.Faithful.{earlier, switches, symbols_of, HasNoRepeat, BeginsWithProgram, AreNamed, IsSameBody, BodiesAreSame, IsFaithfulUnder, FaithfulWith}
+use Rattle.mini_peephole.specs.Faithful.{switches, symbols_of, HasNoRepeat, BeginsWithProgram, AreNamed, IsSameBody, BodiesAreSame, IsFaithfulUnder, FaithfulWith}
 use Rattle.mini_peephole.specs.declared.minify.Minified.{Minified}
 use Rattle.mini_peephole.proofs.Chains.{Any, any_lawful, any_reach, each_begins, open_in}
 use Rattle.mini_peephole.proofs.Repeats.{no_repeat}

@@ -12,8 +12,8 @@ use Rattle.mini_accept.proofs.Results.{ok_same}
 use Rattle.mini_model.specs.Faults.{Fault}
 use Rattle.mini_scope.specs.Pointers.{early_fault}
 use Rattle.mini_peephole.specs.Minified.{HasDefect}
-use Rattle.mini_peephole.specs.Answer.{Change, Gave, HasFault, IsNotJson, IsUntouched, IsDelivered, IsDeliveredOf, IsDueOfRead, IsDueOfScript, IsDue, IsValidInput, IsValidScript, IsAnswered, to_read, to_generate}
-use Rattle.mini_run.specs.Words.{NameOrders, GoodWords}
+use Rattle.mini_peephole.specs.Answer.{Change, Gave, HasFault, IsNotJson, IsUntouched, IsDelivered, IsDeliveredOf, IsDue, IsValidInput, IsValidScript, IsAnswered, to_read, to_generate}
+use Rattle.mini_run.specs.Words.{NameOrders}
 use Rattle.mini_run.specs.declared.choice.Orders.{Orders}
 use Rattle.mini_peephole.specs.declared.running.Status.{Status}
 use Rattle.mini_peephole.specs.declared.running.Status.TheVariants.{Done, BadWords, NotJson, Refused, ReadFault, WriteFault, TooLong, OutOfMemory}

@@ -1,6 +1,6 @@
 -- What an outcome is, and what of it was written or told, is what a status says.
 use Rattle.std.proofs.Common.{◌≡◌, ℕ, List, subst}
-use Rattle.std.specs.Prelude.{Option, Some, None, IfSome, string_bytes}
+use Rattle.std.specs.Prelude.{Option, Some, IfSome}
 use Rattle.std.specs.Io.KnownBytes.{Appends}
 use Rattle.mini_tree.specs.declared.options.CompressOptions.{CompressOptions}
 use Rattle.mini_model.specs.Faults.{Fault, fault_of}

@@ -1,5 +1,5 @@
 -- Passes of any rule that is lawful, be it loosely, are faithful.
-use Rattle.std.specs.Prelude.{◌≡◌, ℕ, true, None}
+use Rattle.std.specs.Prelude.{◌≡◌, ℕ, None}
 use Rattle.serde_json.specs.Data.{Data}
 use Rattle.mini_model.specs.declared.place.Position.{Position}
 use Rattle.mini_model.specs.declared.place.Position.TheVariants.{Elsewhere}

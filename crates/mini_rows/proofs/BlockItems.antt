@@ -1,18 +1,14 @@
 -- A block has the same in it where one of its statements is another that keeps what the first has.
-use Rattle.std.specs.Prelude.{ℕ, suc, ◌≤◌, ◌≡◌, refl, not, ◌&&◌, Bool, true, false, List, [], ◌∷◌, ◌++◌, Contains, None, Option}
+use Rattle.std.specs.Prelude.{ℕ, suc, ◌≤◌, ◌≡◌, refl, not, ◌&&◌, Bool, true, false, List, [], ◌∷◌, ◌++◌, None}
 use Rattle.std.proofs.Common.{ap, ◌∙◌, sym, subst, arith}
-use Rattle.mini_model.specs.declared.kind.PropertyKind.{PropertyKind}
-use Rattle.mini_model.specs.declared.name.Name.{Name}
 use Rattle.mini_model.specs.declared.shape.Shape.TheVariants as shape
 use Rattle.mini_model.specs.Tree.{Tree, Trees, none, ◌▸◌, listed, shape_of}
 use Rattle.mini_model.specs.Paths.{append}
 use Rattle.mini_laws.specs.declared.names.Use.{Use}
 use Rattle.mini_laws.specs.declared.names.Use.TheVariants.{Read, Alone}
 use Rattle.mini_laws.specs.declared.names.Binding.{Binding}
-use Rattle.mini_laws.specs.declared.names.Declaration.{Declaration}
 use Rattle.mini_laws.specs.declared.names.Declared.TheVariants as declared
 use Rattle.mini_laws.specs.declared.names.Targets.{Targets}
-use Rattle.mini_laws.specs.DeclaredNames.{names_of}
 use Rattle.mini_laws.specs.Scopes.{use_of, lexical_scope, opened, scopes_by}
 use Rattle.mini_laws.specs.Resolved.{Environment}
 use Rattle.mini_laws.specs.Scoped.{Scoped, AllScoped}

@@ -5,7 +5,7 @@ use Rattle.mini_model.specs.declared.operator.LogicalOperator.{LogicalOperator}
 use Rattle.mini_model.specs.declared.operator.LogicalOperator.TheVariants.{Or, And, Coalesce}
 use Rattle.mini_model.specs.Tree.{Tree, logical}
 use Rattle.mini_laws.specs.Value.{Value, Undefined, Null, choose, truth, is_nullish}
-use Rattle.mini_laws.specs.State.{State, ok, stop, either, Environment}
+use Rattle.mini_laws.specs.State.{State, ok, Environment}
 use Rattle.mini_laws.specs.Targets.{assigns}
 use Rattle.mini_terms.specs.declared.kinds.Kind.{Kind}
 use Rattle.mini_terms.specs.declared.kinds.Kind.TheVariants.{Undefined as IsUndefined, Null as IsNull}

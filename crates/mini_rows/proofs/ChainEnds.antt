@@ -8,7 +8,7 @@ use Rattle.mini_model.specs.Weight.{outline}
 use Rattle.mini_accept.specs.WellShaped.{Slot, fits}
 use Rattle.mini_laws.specs.Value.{Value, Undefined, Null, is_nullish}
 use Rattle.mini_laws.specs.Conversion.{key_value}
-use Rattle.mini_laws.specs.State.{State, Completion, Short, ok, stop, either, Environment}
+use Rattle.mini_laws.specs.State.{State, Short, ok, stop, either, Environment}
 use Rattle.mini_laws.specs.Demand.{AMember, AValue, Called, plain_call}
 use Rattle.mini_laws.specs.Step.{step, means, meaning}
 use Rattle.mini_laws.specs.Naming.{summary}

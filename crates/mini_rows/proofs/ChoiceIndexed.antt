@@ -6,7 +6,7 @@ use Rattle.mini_model.specs.declared.name.Name.{Name}
 use Rattle.mini_model.specs.declared.operator.AssignmentOperator.TheVariants.{Assign}
 use Rattle.mini_model.specs.declared.place.Position.TheVariants.{Expr}
 use Rattle.mini_model.specs.declared.seat.Seat.{Seat}
-use Rattle.mini_model.specs.Tree.{Tree, node, none, ◌▸◌, identifier, conditional}
+use Rattle.mini_model.specs.Tree.{Tree, none, ◌▸◌, identifier, conditional}
 use Rattle.mini_model.specs.Position.{argument_seat, branch_seat, conditional_level}
 use Rattle.mini_model.specs.Weight.{outlines, weight}
 use Rattle.mini_accept.specs.WellShaped.{a_target, one, fits}

@@ -1,6 +1,6 @@
 -- What an operator makes of a member of a name, and an assignment to it, is what the one assignment of that operator does (35), and what
 -- a test chooses may be assigned to one (45).
-use Rattle.std.proofs.Common.{◌≡◌, ℕ, ℤ, Bool, true, false, Option, Some, None, List, [], ◌∷◌, refl, sym, ap, subst, ◌∙◌}
+use Rattle.std.proofs.Common.{◌≡◌, ℕ, Bool, true, false, Option, Some, None, List, [], ◌∷◌, refl, sym, ap, subst, ◌∙◌}
 use Rattle.mini_model.specs.declared.name.Name.{Name}
 use Rattle.mini_model.specs.declared.operator.AssignmentOperator.{AssignmentOperator}
 use Rattle.mini_model.specs.declared.operator.AssignmentOperator.TheVariants as assigning
@@ -14,7 +14,7 @@ use Rattle.mini_laws.specs.State.{GetOf, Entry, Item, State, Completion, ok, sto
 use Rattle.mini_laws.specs.Demand.{Val, Demand, As, Target, Reference, AMember, AFetched, Prepare, Fetch, Put}
 use Rattle.mini_laws.specs.Command.{Naming, Command, bind, emit, act, Kids, run}
 use Rattle.mini_laws.specs.Naming.{summaries, naming}
-use Rattle.mini_laws.specs.Replies.{reply, raise, or_event, get_member, operate}
+use Rattle.mini_laws.specs.Replies.{reply, raise, or_event, operate}
 use Rattle.mini_laws.specs.Conversion.{key_value, known_member}
 use Rattle.mini_laws.specs.Expressions.{operate_by}
 use Rattle.mini_laws.specs.Targets.{AssignDemand, put_target, after_read}

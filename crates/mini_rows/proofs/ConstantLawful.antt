@@ -17,10 +17,10 @@ use Rattle.mini_model.specs.declared.place.Position.TheVariants.{Expr}
 use Rattle.mini_model.specs.declared.seat.Seat.{Seat}
 use Rattle.mini_model.specs.declared.shape.Shape.{Shape}
 use Rattle.mini_model.specs.declared.shape.Shape.TheVariants as shape
-use Rattle.mini_model.specs.Tree.{Tree, Trees, node, none, ◌▸◌, leaf, is_absent, shape_of, unary, logical, conditional}
+use Rattle.mini_model.specs.Tree.{Tree, Trees, node, none, ◌▸◌, leaf, is_absent, shape_of, unary, logical}
 use Rattle.mini_accept.specs.WellShaped.{Depth, in_module, in_body, nested, refused, Class, a_statement, a_key, a_private_or_key, an_inner_key, an_init, an_arrow_body, an_expression, a_link, an_argument, a_default_export, Slot, one, one_or_absent, is_safe, is_paired, has_names, has_its_number, has_plain_fields, has_its_parts, is_whole, class_of, is_function_body, spelling, has_optional, filling, is_strict_in, fits, fill}
 use Rattle.mini_node.specs.Children.{part}
-use Rattle.mini_node.specs.Kinds.{binary, unary_operator as its_unary_operator}
+use Rattle.mini_node.specs.Kinds.{binary}
 use Rattle.mini_laws.specs.Value.{Value, Undefined, Null, Boolean, Number, String, Symbol, Object, choose, truth, is_nullish}
 use Rattle.mini_laws.specs.Conversion.{Made, makes, raises, outside, both, text_of_boolean, to_text, to_number, signed}
 use Rattle.mini_laws.specs.Conversion as conversion
@@ -38,7 +38,7 @@ use Rattle.mini_terms.specs.Calculated.{undefined_if, leaf_value, as_number, ove
 use Rattle.mini_terms.specs.Parts.{leaves_nothing}
 use Rattle.mini_terms.specs.Plain.{lit, void_zero}
 use Rattle.mini_terms.specs.Kind.{is_undefined_name}
-use Rattle.mini_terms.proofs.Calculated.{Form, of_unary, of_binary, Choice, of_logical, of_conditional, within, Calculated, calculated_is}
+use Rattle.mini_terms.proofs.Calculated.{Form, of_unary, of_binary, Choice, of_logical, of_conditional, within, calculated_is}
 use Rattle.mini_rows.specs.Arranged.{KeptAt, Vanishes}
 use Rattle.mini_rows.specs.Sketches.{Null as NullHead, Number as NumberHead, String as StringHead, Unary, Binary, part as hole, under, end, ◌▹◌, Free}
 use Rattle.mini_rows.specs.Constants.{RowConstant, ConstantRow, ConstantContracts}

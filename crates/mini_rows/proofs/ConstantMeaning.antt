@@ -1,5 +1,5 @@
 -- What a row on a constant writes means the same.
-use Rattle.std.proofs.Common.{◌≡◌, true, Option, Some, None, sym, ◌∙◌}
+use Rattle.std.proofs.Common.{◌≡◌, true, Some, None, sym, ◌∙◌}
 use Rattle.mini_model.specs.declared.place.Position.{Position}
 use Rattle.mini_model.specs.declared.place.Position.TheVariants.{Expr}
 use Rattle.mini_model.specs.declared.seat.Seat.{Seat}

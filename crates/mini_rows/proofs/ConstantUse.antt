@@ -1,23 +1,22 @@
 -- A constant may be put in the place of a read of a variable that holds it, whatever is evaluated before.
 use Rattle.std.specs.Prelude.{codes, length, if◌then◌else◌}
 use Rattle.std.proofs.lemmas.Bool.{eq-eqb}
-use Rattle.std.proofs.Common.{◌≡◌, ℕ, zero, suc, Bool, true, false, List, [], ◌∷◌, Some, None, refl, sym, ap, ◌∙◌, subst, subst₂, true≢false}
+use Rattle.std.proofs.Common.{◌≡◌, ℕ, suc, Bool, true, false, List, [], ◌∷◌, Some, None, refl, sym, ap, ◌∙◌, subst, true≢false}
 use Rattle.mini_model.specs.declared.name.Name.{Name}
-use Rattle.mini_model.specs.declared.shape.Shape.{Shape}
 use Rattle.mini_model.specs.declared.shape.Shape.TheVariants as shape
-use Rattle.mini_model.specs.Tree.{Tree, Trees, node, none, ◌▸◌, count, identifier}
+use Rattle.mini_model.specs.Tree.{Tree, Trees, none, ◌▸◌, count, identifier}
 use Rattle.mini_model.specs.Paths.{append}
 use Rattle.mini_model.specs.Weight.{same_text}
 use Rattle.mini_laws.specs.Value.{Value, Declared, VariableSet, Slot, Holds, choose, variable_eq, nothing, variables}
-use Rattle.mini_laws.specs.State.{Item, State, Completion, ok, stop, halt, out, Environment, either, with_vars}
-use Rattle.mini_laws.specs.Demand.{Want, Val, Demand, As, Callee, AnEntry, Stat, Request, Reply, says}
+use Rattle.mini_laws.specs.State.{State, Completion, ok, stop, halt, out, Environment, either, with_vars}
+use Rattle.mini_laws.specs.Demand.{Want, Val, Demand, As, Callee, AnEntry, Stat, Request, Reply}
 use Rattle.mini_laws.specs.Command.{act, run, read_slot, at_variable, set_var}
-use Rattle.mini_laws.specs.Naming.{EvalName, PlainName, Summary, summary, summaries, facts, facts_all, naming}
+use Rattle.mini_laws.specs.Naming.{EvalName, PlainName, summary, summaries, facts_all, naming}
 use Rattle.mini_laws.specs.Asking.{demand}
 use Rattle.mini_laws.specs.Replies.{valued}
 use Rattle.mini_laws.specs.Expressions.{get_identifier}
 use Rattle.mini_laws.specs.Step.{step, means}
-use Rattle.mini_laws.specs.Same.{Goes, Agree, Initialised}
+use Rattle.mini_laws.specs.Same.{Goes, Agree}
 use Rattle.mini_laws.specs.Skeleton.{hidden_all, needs, Rules, Sound, Both, TreesGo}
 use Rattle.mini_laws.specs.Steady.{SparedBy, Spares, AllSpare}
 use Rattle.mini_laws.specs.Substitution.{alone}
@@ -31,7 +30,7 @@ use Rattle.mini_laws.proofs.Sparing.{Stays, steady_rules, steady_sound, itself}
 use Rattle.mini_laws.proofs.Truth.{coherent}
 use Rattle.mini_kept.specs.Without.{Unseen}
 use Rattle.mini_terms.specs.Reading.{is_item, by_value}
-use Rattle.mini_rows.specs.Sketches.{shape_by, Asked, AsWholeItem, AsValue, AsValues, asked_below}
+use Rattle.mini_rows.specs.Sketches.{shape_by, Asked, AsValue, asked_below}
 use Rattle.mini_rows.specs.Unused.{resolved, is_constant}
 use Rattle.mini_rows.proofs.ItemReads.{item_read}
 use Rattle.mini_rows.proofs.Passing.{value_there}

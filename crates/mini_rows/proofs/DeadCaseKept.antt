@@ -45,7 +45,7 @@ use Rattle.mini_rows.proofs.ArrangedNames.{ScopedAs, scoped_below, below_scoped,
 use Rattle.mini_rows.proofs.ArrangedBodies.{HasBodies, bodies_below, below_bodies, HasFrames, frames_below, below_frames, Declares, declares_below, below_declares, rank, by_rank, FixedBy, fixed_below, below_fixed}
 use Rattle.mini_rows.proofs.ArrangedTrees.{both_same, itself}
 use Rattle.mini_rows.proofs.BranchAround.{Core, Said}
-use Rattle.mini_rows.proofs.BranchInside.{quiet, no_lexical}
+use Rattle.mini_rows.proofs.BranchInside.{quiet}
 use Rattle.mini_rows.proofs.CaseKept.{no_lexicals}
 use Rattle.mini_rows.proofs.DeadCaseMeaning.{left_loose, later_loose}
 use Rattle.mini_rows.proofs.ArrangedGather.{concat}

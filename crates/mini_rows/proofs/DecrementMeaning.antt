@@ -7,10 +7,10 @@ use Rattle.mini_model.specs.declared.operator.BinaryOperator.TheVariants as bina
 use Rattle.mini_model.specs.declared.operator.UpdateOperator.{UpdateOperator}
 use Rattle.mini_model.specs.declared.operator.UpdateOperator.TheVariants.{Increment, Decrement}
 use Rattle.mini_model.specs.declared.shape.Shape.TheVariants as shape
-use Rattle.mini_model.specs.Tree.{Tree, none, ◌▸◌, identifier}
+use Rattle.mini_model.specs.Tree.{none, ◌▸◌, identifier}
 use Rattle.mini_laws.specs.Value.{Value, Number, choose}
 use Rattle.mini_laws.specs.State.{State, Stop, ok, stop, either, Environment}
-use Rattle.mini_laws.specs.Demand.{Val, Target, Unused, As, AName, Fetch, Put}
+use Rattle.mini_laws.specs.Demand.{Val, Target, Unused, As, AName, Put}
 use Rattle.mini_laws.specs.Command.{Naming, Command, ret, kid, then, bind, Kids, run}
 use Rattle.mini_laws.specs.Naming.{summaries, naming}
 use Rattle.mini_laws.specs.Replies.{reply, of_made, numeric, operate}
@@ -21,7 +21,6 @@ use Rattle.mini_laws.specs.Step.{step, means, meaning}
 use Rattle.mini_laws.specs.Truth.{told}
 use Rattle.mini_laws.proofs.Runs.{either_cong, either_assoc, either_ok, run_bind}
 use Rattle.mini_laws.proofs.Truth.{coherent}
-use Rattle.mini_rows.specs.Spellings.{assignment}
 use Rattle.mini_rows.specs.Decrements.{amount, subtracts, steps}
 use Rattle.mini_rows.proofs.ChoiceRuns.{value, puts, fetched, sides, binary_names, written_out, computing_value, numeric_free}
 use Rattle.mini_rows.proofs.Weaker.{Weaker}

@@ -1,44 +1,32 @@
 -- What each row on what is known writes keeps what a program has to keep.
-use Rattle.std.proofs.Common.{◌≡◌, Bool, true, false, [], ◌∷◌, refl, sym, ap, subst, ◌∙◌, inl, inr, true≢false}
-use Rattle.std.specs.Prelude.{◌&&◌, ◌||◌}
+use Rattle.std.proofs.Common.{◌≡◌, Bool, true, false, [], refl, sym, true≢false}
+use Rattle.std.specs.Prelude.{◌&&◌}
 use Rattle.std.proofs.lemmas.Bool.{and_parts}
-use Rattle.mini_model.specs.declared.kind.VariableDeclarationKind.TheVariants.{Const}
 use Rattle.mini_model.specs.declared.operator.BinaryOperator.{BinaryOperator}
 use Rattle.mini_model.specs.declared.operator.LogicalOperator.{LogicalOperator}
 use Rattle.mini_model.specs.declared.place.Position.{Position}
 use Rattle.mini_model.specs.declared.place.Position.TheVariants.{Expr, Stmt}
 use Rattle.mini_model.specs.declared.seat.Seat.{Seat}
 use Rattle.mini_model.specs.declared.seat.StmtSeat.{StmtSeat}
-use Rattle.mini_model.specs.declared.shape.Shape.{Shape}
 use Rattle.mini_model.specs.declared.shape.Shape.TheVariants as shape
-use Rattle.mini_model.specs.Tree.{Tree, Trees, node, none, ◌▸◌, shape_of, logical, conditional, expression_statement, empty_statement}
+use Rattle.mini_model.specs.Tree.{Tree, node, none, ◌▸◌, logical, conditional, expression_statement, empty_statement}
 use Rattle.mini_accept.specs.WellShaped.{Class, a_statement, an_init, an_arrow_body, an_expression, a_link, an_argument, a_key, a_private_or_key, an_inner_key, a_default_export, Slot, one, one_or_absent, fits, is_not_positive_number}
-use Rattle.mini_laws.specs.DeclaredNames.{is_inner, has_inner, any_inner}
-use Rattle.mini_laws.specs.Value.{Variable, choose, is_in}
-use Rattle.mini_laws.specs.State.{Fixed, Writable}
-use Rattle.mini_laws.specs.Naming.{summaries}
-use Rattle.mini_laws.specs.Fixity.{fixity_by, declared_by, stricter, fixed_by, fixed_by_any}
-use Rattle.mini_kept.specs.KeepsNames.{is_rewritten_place}
 use Rattle.mini_kept.specs.KeepsShapes.{AskedAlike}
 use Rattle.mini_kept.specs.KeepsFrames.{is_in_body, is_body_slot}
-use Rattle.mini_kept.specs.Lawful.{Lawful}
-use Rattle.mini_kept.specs.Placed.{fits_place}
 use Rattle.mini_kept.proofs.Bools.{left}
-use Rattle.mini_kept.proofs.Expressions.{refused_here, expression, of_conditional, TakesExpressionIn, TakesExpression, expression_taken}
+use Rattle.mini_kept.proofs.Expressions.{refused_here, expression, TakesExpressionIn, TakesExpression}
 use Rattle.mini_kept.proofs.Rows.{TakesStatementIn, TakesStatement}
-use Rattle.mini_terms.specs.Parts.{is_number, suits, leaves_nothing_by, leaves_nothing, leave_nothing}
-use Rattle.mini_rows.specs.Arranged.{KeptAt, Vanishes}
-use Rattle.mini_rows.specs.Sketches.{Empty, OfExpression, Logical, Binary, Conditional, part, under, end, ◌▹◌, Free}
-use Rattle.mini_rows.specs.ForParts.{ForPartRow}
-use Rattle.mini_rows.specs.Folding.{Row12, Row13, Row22, Row28, Row49Idle, FoldingRow, FoldingContracts}
+use Rattle.mini_terms.specs.Parts.{is_number, suits}
+use Rattle.mini_rows.specs.Arranged.{KeptAt}
+use Rattle.mini_rows.specs.Sketches.{Empty, OfExpression, Logical, Binary, Conditional, part, under, end, ◌▹◌}
+use Rattle.mini_rows.specs.Folding.{Row12, Row13, Row22, Row28, Row49Idle}
 use Rattle.mini_rows.specs.Spellings.{binary}
 use Rattle.mini_rows.proofs.ArrangedExpressions.{expressions_arranged, expressions_arranged_freely}
-use Rattle.mini_rows.proofs.ArrangedLawful.{kept_is_lawful}
 use Rattle.mini_rows.proofs.ArrangedStatements.{statements_arranged}
 use Rattle.mini_rows.proofs.ChoiceShapes.{choice_taken}
 pub use Rattle.mini_rows.proofs.Vanishing.{vanishes, first_dropped}
 use Rattle.mini_rows.proofs.FoldWeights.{not_a_number}
-use Rattle.mini_rows.proofs.SpellShapes.{a_logical, a_binary, Alone, Linked, Ending, Assigned, Nowhere, Stands, stands, FitsToo, by_shape, Formed, formed_asked, formed_slot}
+use Rattle.mini_rows.proofs.SpellShapes.{a_logical, a_binary, Alone, Linked, Ending, Assigned, Nowhere, Stands, stands, FitsToo, by_shape, Formed}
 
 -- ---- the same parts
 

@@ -42,7 +42,7 @@ use Rattle.mini_rows.specs.Lists.{sequence, return_statement, throw_statement, o
 use Rattle.mini_rows.specs.DeadCases.{known}
 use Rattle.mini_rows.specs.Lets.{Row70Let}
 use Rattle.mini_rows.specs.Arranged.{KeptAt}
-use Rattle.mini_rows.specs.Sketches.{AList, Sequence, Assignment, OfExpression, part, Asked, AsWholeList, AsWholeItem, AsValue, AsValues, AsTarget, AsBranch, Leap, leaps}
+use Rattle.mini_rows.specs.Sketches.{AList, Assignment, part, Asked, AsWholeList, AsWholeItem, AsValue, AsTarget, AsBranch, Leap, leaps}
 use Rattle.mini_rows.specs.Sketches as sketch
 use Rattle.mini_rows.proofs.Arranging.{All, Any, Leaping, Local, sum_all, Summed}
 use Rattle.mini_rows.proofs.ArrangedNames.{ScopedAs, scoped_local, symbol_times, symbols_summed, number_times, numbers_summed, InnerIf, inner_local, Once, once_local, HasTarget, Aimed, aimed_local}

@@ -1,11 +1,11 @@
 -- A `break` or `continue` that never runs is dropped: nothing else is lost.
-use Rattle.std.specs.Prelude.{◌≡◌, ◌≤◌, refl, ◌&&◌, ◌||◌, Bool, true, false, [], ◌++◌}
+use Rattle.std.specs.Prelude.{◌≡◌, ◌≤◌, refl, ◌||◌, Bool, true, false, [], ◌++◌}
 use Rattle.std.proofs.Common.{ap, ◌∙◌, sym, subst, arith}
 use Rattle.mini_model.specs.declared.place.Position.TheVariants.{StatementList}
 use Rattle.mini_model.specs.declared.shape.Shape.TheVariants as shape
 use Rattle.mini_model.specs.Tree.{Tree, Trees, none, ◌▸◌, absent, listed}
 use Rattle.mini_model.specs.Paths.{append}
-use Rattle.mini_accept.specs.WellShaped.{Depth, a_statement, one, each, fits, fill}
+use Rattle.mini_accept.specs.WellShaped.{a_statement, one, each, fits, fill}
 use Rattle.mini_laws.specs.declared.names.Declared.{Declared}
 use Rattle.mini_laws.specs.declared.names.Declared.TheVariants as declared
 use Rattle.mini_laws.specs.DeclaredNames.{has_inner, names_of, body_names}

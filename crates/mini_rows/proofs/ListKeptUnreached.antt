@@ -1,8 +1,7 @@
 -- A statement that never runs goes, and its `var` names are declared without initializers: nothing else of it is kept.
-use Rattle.std.specs.Prelude.{ℕ, ◌+◌, ◌≤◌, ◌≡◌, refl, ◌||◌, not, Bool, true, false, List, [], ◌∷◌, ◌++◌, Contains, Option, None}
+use Rattle.std.specs.Prelude.{ℕ, ◌+◌, ◌≤◌, ◌≡◌, refl, ◌||◌, Bool, true, false, List, [], ◌∷◌, ◌++◌, Contains, Option}
 use Rattle.std.proofs.Common.{◌<◌, ap, ◌∙◌, sym, subst, arith}
 use Rattle.std.proofs.lemmas.List.{append-nil}
-use Rattle.std.proofs.lemmas.Bool.{and_parts}
 use Rattle.mini_model.specs.declared.kind.VariableDeclarationKind.TheVariants.{Var}
 use Rattle.mini_model.specs.declared.name.Name.{Name}
 use Rattle.mini_model.specs.declared.name.SymbolId.{SymbolId}
@@ -19,7 +18,7 @@ use Rattle.mini_laws.specs.DeclaredNames.{has_inner, names_of, all_names, body_n
 use Rattle.mini_laws.specs.Scopes.{scopes_by}
 use Rattle.mini_laws.specs.Resolved.{Environment, symbol_of}
 use Rattle.mini_laws.specs.Scoped.{NamesScoped, Scoped}
-use Rattle.mini_laws.specs.Symbols.{declared as declared_in, times}
+use Rattle.mini_laws.specs.Symbols.{declared as declared_in}
 use Rattle.mini_laws.specs.Early.{own_declarations, scope_declarations, early_names, targets_of, early_jumps}
 use Rattle.mini_laws.specs.Value.{Variable}
 use Rattle.mini_laws.specs.State.{Writable}
@@ -27,7 +26,7 @@ use Rattle.mini_laws.specs.Fixity.{fixed_by}
 use Rattle.mini_laws.specs.Bodies.{Around, Body, bodies}
 use Rattle.mini_kept.specs.AlikeBodies.{BodiesKept}
 use Rattle.mini_kept.specs.Carried.{numbers}
-use Rattle.mini_kept.specs.Declaring.{declared as names_declared, declared_all}
+use Rattle.mini_kept.specs.Declaring.{declared_all}
 use Rattle.mini_kept.specs.Frames.{Frame, frames, FramesKept}
 use Rattle.mini_kept.specs.KeepsNames.{count_of}
 use Rattle.mini_kept.proofs.Anywhere.{once_anywhere, targets_anywhere}
@@ -40,12 +39,12 @@ use Rattle.mini_rows.specs.Sketches.{AList, Asked, AsWholeList, AsWholeItem, Lea
 use Rattle.mini_rows.proofs.Arranging.{All, Any, Local, sum_all, Summed}
 use Rattle.mini_rows.proofs.ArrangedNames.{ScopedAs, scoped_local, symbol_times, symbols_summed, number_times, numbers_summed, InnerIf, inner_local, Once, once_local, HasTarget, Aimed, aimed_local}
 use Rattle.mini_rows.proofs.ArrangedBetween.{append_more}
-use Rattle.mini_rows.proofs.ArrangedBodies.{quiet, HasBodies, bodies_local, HasFrames, frames_local, Among, Declares, FixedBy, fixed_local, rank}
+use Rattle.mini_rows.proofs.ArrangedBodies.{HasBodies, bodies_local, HasFrames, frames_local, Among, Declares, FixedBy, fixed_local, rank}
 use Rattle.mini_rows.proofs.ArrangedFolds.{port}
 use Rattle.mini_rows.proofs.ArrangedGather.{concat}
 use Rattle.mini_rows.proofs.ArrangedValues.{Valued}
 use Rattle.mini_rows.proofs.ListKeptValues.{stricter_alone}
-use Rattle.mini_rows.proofs.ListKeptDeclarations.{over, is_var, declares_as, names_if, names_are, body_are, declarations_are, scoped_up as var_scoped_up, symbols_are, inner_is, numbers_are, declared_are, frames_are, bodies_are, once_is, jumps_are}
+use Rattle.mini_rows.proofs.ListKeptDeclarations.{over, names_if, names_are, body_are, declarations_are, scoped_up as var_scoped_up, symbols_are, inner_is, numbers_are, declared_are, frames_are, bodies_are, once_is, jumps_are}
 use Rattle.mini_rows.proofs.ListKeptStretch.{of_all, sum_items, NamesStretched, Stretched, stretch_kept}
 use Rattle.mini_rows.proofs.UnreachedNames.{nameless_vanishes, hoisted_there}
 

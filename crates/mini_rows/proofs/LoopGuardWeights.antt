@@ -1,5 +1,5 @@
 -- What is written for a guard in the body of a loop is lighter.
-use Rattle.std.specs.Prelude.{ℕ, ◌≤◌, ◌<◌, ◌+◌, ◌≡◌, refl, Bool, true, false, if◌then◌else◌}
+use Rattle.std.specs.Prelude.{ℕ, ◌<◌, ◌+◌, ◌≡◌, refl, true, false, if◌then◌else◌}
 use Rattle.std.proofs.Common.{ap, inl, inr, arith}
 use Rattle.mini_model.specs.declared.place.Position.{Position}
 use Rattle.mini_model.specs.declared.place.Position.TheVariants.{Stmt}
@@ -12,7 +12,7 @@ use Rattle.mini_model.specs.Weight.{outlines, one_chooses, weight}
 use Rattle.mini_laws.specs.Weights.{Lightens}
 use Rattle.mini_laws.proofs.Seats.{moved}
 use Rattle.mini_rows.specs.Switches.{Switches}
-use Rattle.mini_rows.specs.Lists.{block, alternate_of, Row75, Row75Block}
+use Rattle.mini_rows.specs.Lists.{block, alternate_of}
 use Rattle.mini_rows.specs.Branches.{Surrounding, around, is_loop, bare_continue}
 use Rattle.mini_rows.specs.LoopGuards.{TurnsGuard, LoopGuardRow, LoopGuardContracts, LoopGuardsLighter}
 use Rattle.mini_rows.proofs.LoopGuards.{guard_unscoped, made_unscoped}

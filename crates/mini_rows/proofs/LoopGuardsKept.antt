@@ -1,6 +1,6 @@
 -- What is written for a guard in the body of a loop keeps what a program has to keep: the jump goes first, and then the block is
 -- built anew of the same parts.
-use Rattle.std.specs.Prelude.{ℕ, ◌≡◌, refl, ◌&&◌, Bool, true, false, List, [], ◌∷◌, None}
+use Rattle.std.specs.Prelude.{◌≡◌, refl, ◌&&◌, Bool, true, false, [], ◌∷◌}
 use Rattle.std.proofs.Common.{ap, ◌∙◌, sym, subst, inl, inr, true≢false}
 use Rattle.std.proofs.lemmas.Bool.{and_parts}
 use Rattle.mini_model.specs.declared.operator.UnaryOperator.TheVariants.{LogicalNot}
@@ -19,9 +19,9 @@ use Rattle.mini_kept.proofs.Bools.{left, right}
 use Rattle.mini_kept.proofs.Fixed.{of_children}
 use Rattle.mini_rows.specs.Switches.{Switches}
 use Rattle.mini_rows.specs.Arranged.{AreFree}
-use Rattle.mini_rows.specs.Lists.{block, are_unscoped, alternate_of, Row75, Row75Block}
+use Rattle.mini_rows.specs.Lists.{block, are_unscoped, alternate_of}
 use Rattle.mini_rows.specs.Branches.{Surrounding, Consequent, Alternate, WhileBody, DoBody, ForBody, InBody, OfBody, around, is_loop, bare_continue}
-use Rattle.mini_rows.specs.LoopGuards.{TurnsGuard, Row75Loop, LoopGuardRow, LoopGuardContracts}
+use Rattle.mini_rows.specs.LoopGuards.{TurnsGuard, LoopGuardRow, LoopGuardContracts}
 use Rattle.mini_rows.specs.Sketches.{Unary, AbsentPart, Empty, If, Block, Free, Parts, Items, part, under, list, end, ◌▹◌, no_items, item, items, items_filled, AsWholeList, AsWholeItem, items_stand_well, parts_in, is_rearranged, keeps_statements, rearranges_list}
 use Rattle.mini_rows.proofs.ArrangedStatements.{parts_kept, names_kept, list_parts, same_loop}
 use Rattle.mini_rows.proofs.ArrangedTrees.{same_fixed, same_declared, same_frames, same_bodies}
@@ -32,7 +32,7 @@ use Rattle.mini_rows.proofs.BranchInside.{Inside, wrapped_inside, unwrapped_insi
 use Rattle.mini_rows.proofs.BranchAround.{Said, first_among, around_core, around_said, around_says, around_plain}
 use Rattle.mini_rows.proofs.BranchLawful.{Kind, kind_along, around_fits, around_read, block_fit, in_block_fit, last_fit, one_fit, unscoped_there, kinds_lawful, IsKind}
 use Rattle.mini_rows.proofs.ListEndsKept.{row_75_fits, row_75_block_fits, block_fits}
-use Rattle.mini_rows.proofs.ListShapes.{expression, statement, Fits, AllFit, first_fits, more_fit, append_fits, both_fit, of_if, if_fits, of_block}
+use Rattle.mini_rows.proofs.ListShapes.{expression, statement, AllFit, first_fits, more_fit, append_fits, both_fit, of_if, if_fits, of_block}
 use Rattle.mini_rows.proofs.LoopGuards.{guard_unscoped, made_unscoped, loop_guards_same}
 
 -- ---- a block whose list is built anew

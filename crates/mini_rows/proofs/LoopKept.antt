@@ -49,7 +49,7 @@ use Rattle.mini_kept.proofs.Unplaced.{unplaced_both, declared_same, free_same}
 use Rattle.mini_rows.specs.Lists.{for_loop, is_unscoped, are_unscoped}
 use Rattle.mini_rows.specs.Loops.{bare_break, may_leap, is_there, is_test, Tested, always, while_true, test_of, is_tested, also, Leaving, alone, or_else, unless, leaves_by, goes_by, runs_on, is_loose, Leading, whole, before, led, others_of}
 use Rattle.mini_rows.proofs.BranchAround as around
-use Rattle.mini_rows.proofs.BranchAround.{Core, Among, later_among, second_among}
+use Rattle.mini_rows.proofs.BranchAround.{Core, Among, later_among}
 use Rattle.mini_rows.proofs.BranchInside.{quiet}
 use Rattle.mini_rows.proofs.BranchParts.{Value, value_itself, said_itself}
 use Rattle.mini_rows.proofs.ListShapes.{of_block, first_fits, more_fit}

@@ -10,7 +10,7 @@ use Rattle.mini_model.specs.declared.shape.Shape.{Shape}
 use Rattle.mini_model.specs.declared.shape.Shape.TheVariants as shape
 use Rattle.mini_model.specs.Tree.{Tree, Trees, none, ◌▸◌, listed, shape_of, program}
 use Rattle.mini_model.specs.Paths.{append}
-use Rattle.mini_accept.specs.WellShaped.{Depth, in_module, Class, a_statement, a_loop_left, a_method, a_default_export, Slot, one, many, Filling, these, each, class_of, filling, has_its_number, has_plain_fields, has_its_parts, is_whole, fits, fill}
+use Rattle.mini_accept.specs.WellShaped.{Depth, in_module, Class, a_statement, a_loop_left, a_method, a_default_export, Slot, one, many, these, each, class_of, filling, has_its_number, has_plain_fields, has_its_parts, is_whole, fits, fill}
 use Rattle.mini_laws.specs.Value.{Declared, VariableSet, nothing}
 use Rattle.mini_laws.specs.State.{Environment}
 use Rattle.mini_laws.specs.Demand.{Demand, Stat}

@@ -1,13 +1,13 @@
 -- A bitwise operator of a number and of two others, one after the other, is that of the number and of what it makes of the two.
-use Rattle.std.proofs.Common.{◌≡◌, ℕ, ℤ, ◌<◌, ◌≤◌, Bool, true, false, Some, refl, sym, ap, ◌∙◌, true≢false, ltb-true, ltb-false, arith}
+use Rattle.std.proofs.Common.{◌≡◌, ℕ, ℤ, ◌<◌, Bool, true, false, Some, refl, sym, ap, ◌∙◌, true≢false, arith}
 use Rattle.std.specs.Prelude.{pos, negsuc, ◌+◌, ◌-◌, ◌%◌, nat_lt, max}
 use Rattle.std.specs.Int.Bits.{bit_and, bit_or, bit_xor}
 use Rattle.std.proofs.lemmas.Nat.{and_assoc, and_comm, or_comm, xor_comm, and_le_l, or_of_32, xor_of_32}
 use Rattle.std.proofs.lemmas.Nat.Bits.{bit_at_or, bit_at_xor, same_from_bits}
 use Rattle.mini_model.specs.declared.operator.BinaryOperator.{BinaryOperator}
 use Rattle.mini_model.specs.declared.operator.BinaryOperator.TheVariants as binary_operator
-use Rattle.mini_laws.specs.Value.{Value, Number, choose}
-use Rattle.mini_laws.specs.Conversion.{Made, makes}
+use Rattle.mini_laws.specs.Value.{Number, choose}
+use Rattle.mini_laws.specs.Conversion.{makes}
 use Rattle.mini_laws.specs.Operators.{modulo_32, signed_32, of_numbers}
 use Rattle.mini_terms.specs.Calculated.{calculated_numbers}
 use Rattle.mini_terms.specs.Const.{made}

@@ -47,7 +47,7 @@ use Rattle.mini_terms.proofs.EffectsTable.{effect_free_sound}
 use Rattle.mini_terms.proofs.Frame.{gives_any, gives_map}
 use Rattle.mini_terms.proofs.KindTable.{kind_sound}
 use Rattle.mini_terms.proofs.Opened.{after}
-use Rattle.mini_terms.proofs.Reading.{same_in_seat, read_by_value}
+use Rattle.mini_terms.proofs.Reading.{same_in_seat}
 use Rattle.mini_rows.specs.Booleans.{plus}
 use Rattle.mini_rows.specs.Choices.{pair}
 use Rattle.mini_rows.specs.Operators.{deleted, says_equal, is_type_text, is_other_kind, is_no_type_by, is_no_type, makes_numbers, is_bitwise, with_number, OperatorRow}

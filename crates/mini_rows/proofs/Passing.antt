@@ -1,7 +1,7 @@
 -- Parts that may be evaluated before an expression rather than after it: of the same value whenever they are evaluated, or without an
 -- effect, as the expression is.
-use Rattle.std.proofs.Common.{◌≡◌, ℕ, zero, suc, Bool, true, false, List, [], ◌∷◌, ◌⊎◌, inl, inr, refl, sym, ap, ◌∙◌, subst, subst₂, true≢false}
-use Rattle.std.specs.Prelude.{not, ◌&&◌, ◌||◌, Some, None}
+use Rattle.std.proofs.Common.{◌≡◌, ℕ, Bool, true, false, List, ◌⊎◌, inl, inr, refl, sym, ap, ◌∙◌, subst, true≢false}
+use Rattle.std.specs.Prelude.{not, ◌&&◌, ◌||◌, None}
 use Rattle.std.proofs.lemmas.Bool.{and_parts}
 use Rattle.mini_model.specs.declared.name.Name.{Name}
 use Rattle.mini_model.specs.declared.operator.UnaryOperator.TheVariants.{LogicalNot, Void}
@@ -9,9 +9,9 @@ use Rattle.mini_model.specs.declared.shape.Shape.{Shape}
 use Rattle.mini_model.specs.declared.shape.Shape.TheVariants as shape
 use Rattle.mini_model.specs.Tree.{Tree, Trees, node, none, ◌▸◌, shape_of}
 use Rattle.mini_laws.specs.Value.{Value, Undefined, Null, Boolean, Number, String, VariableSet, truth, variables}
-use Rattle.mini_laws.specs.State.{Item, State, Stop, Completion, ok, stop, halt, out, either, Environment}
+use Rattle.mini_laws.specs.State.{Item, State, Completion, ok, stop, halt, out, either, Environment}
 use Rattle.mini_laws.specs.Demand.{Val, Demand, As, Callee, AnEntry, Stat, Called, Request, Reply, plain_call, says}
-use Rattle.mini_laws.specs.Command.{ret, bind, run}
+use Rattle.mini_laws.specs.Command.{ret, run}
 use Rattle.mini_laws.specs.Naming.{NameKind, kinds, summaries, naming}
 use Rattle.mini_laws.specs.Expressions.{first_kind, get_identifier, is_eval}
 use Rattle.mini_laws.specs.Step.{step, means, meaning}

@@ -1,6 +1,5 @@
 -- What a parent reads of an expression of which it reads no more than that it is there.
 use Rattle.std.proofs.Common.{◌≡◌, Bool, true, false, [], None, sym, refl, ap, true≢false}
-use Rattle.std.specs.Prelude.{◌&&◌, ◌||◌, not}
 use Rattle.mini_model.specs.declared.operator.UnaryOperator.TheVariants.{LogicalNot}
 use Rattle.mini_model.specs.declared.shape.Shape.TheVariants as shape
 use Rattle.mini_model.specs.Tree.{Tree, node, none, ◌▸◌}

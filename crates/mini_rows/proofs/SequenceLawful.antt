@@ -25,7 +25,7 @@ use Rattle.mini_rows.proofs.ArrangedExpressions.{expressions_arranged, expressio
 use Rattle.mini_rows.proofs.ArrangedLawful.{kept_is_lawful}
 use Rattle.mini_rows.proofs.ConstantLawful.{unary_at, binary_at}
 use Rattle.mini_rows.proofs.FoldLawful.{operands, expression_slot, vanishes, first_dropped, no_number}
-use Rattle.mini_rows.proofs.ListShapes.{AllFit, sequence_fits, parts_fit, of_parts_fits, append_fits, both_fit, first_fits, more_fit}
+use Rattle.mini_rows.proofs.ListShapes.{AllFit, sequence_fits, parts_fit, append_fits, both_fit, first_fits}
 use Rattle.mini_rows.proofs.SequenceCalls.{left_number}
 use Rattle.mini_rows.proofs.SequencePaths.{in_order, path, parts_along, path_rearranged, nested_filled, flat_filled}
 use Rattle.mini_rows.proofs.SequenceYields.{yield_at, yielded_fits}

@@ -8,7 +8,7 @@ use Rattle.mini_model.specs.declared.operator.LogicalOperator.TheVariants.{Or, A
 use Rattle.mini_model.specs.declared.place.Position.{Position}
 use Rattle.mini_model.specs.declared.place.Position.TheVariants.{Expr}
 use Rattle.mini_model.specs.Tree.{Tree, identifier, logical}
-use Rattle.mini_laws.specs.Value.{Value, Variable, Declared, Slot, VariableSet, choose, nothing}
+use Rattle.mini_laws.specs.Value.{Value, Variable, Declared, Slot, choose, nothing}
 use Rattle.mini_laws.specs.State.{State, Completion, ok, stop, halt, out, either, Environment}
 use Rattle.mini_laws.specs.Demand.{Demand, As, Val, Target, Prepare, Fetch}
 use Rattle.mini_laws.specs.Command.{ret, kid, then, bind, read_slot, run}

@@ -1,17 +1,15 @@
 -- What a row on templates writes keeps all that a program has to keep: it is built anew of the same parts.
-use Rattle.std.proofs.Common.{◌≡◌, ℕ, suc, ◌+◌, Bool, true, false, List, [], ◌∷◌, length, Option, Some, None, refl, sym, ap, subst, ◌∙◌, inl, inr, ◌⊎◌, true≢false, arith}
+use Rattle.std.proofs.Common.{◌≡◌, ℕ, suc, Bool, true, false, List, [], ◌∷◌, Some, None, refl, sym, ap, subst, ◌∙◌, inl, inr, ◌⊎◌, true≢false, arith}
 use Rattle.std.specs.Prelude.{◌&&◌, nat_eq}
 use Rattle.std.proofs.lemmas.Bool.{and_parts, eqb-true, eq-eqb}
-use Rattle.mini_model.specs.declared.name.Name.{Name}
 use Rattle.mini_model.specs.declared.operator.BinaryOperator.TheVariants.{Addition}
 use Rattle.mini_model.specs.declared.place.Position.{Position}
 use Rattle.mini_model.specs.declared.place.Position.TheVariants.{Expr}
 use Rattle.mini_model.specs.declared.seat.Seat.{Seat}
-use Rattle.mini_model.specs.declared.shape.Shape.{Shape}
 use Rattle.mini_model.specs.declared.shape.Shape.TheVariants as shape
 use Rattle.mini_model.specs.Paths.{append}
 use Rattle.mini_model.specs.Tree.{Tree, Trees, node, none, ◌▸◌, count, listed}
-use Rattle.mini_accept.specs.WellShaped.{Depth, in_module, in_body, nested, Class, a_statement, an_init, an_arrow_body, an_expression, a_link, an_argument, a_key, a_private_or_key, an_inner_key, an_inner, a_default_export, a_tagged_template, Slot, one, one_or_absent, many, quasis, Tagging, untagged, tagged, statement_slots, filling_by, each, pieces as pieces_filling, is_same_flag, is_quasi, are_quasis, is_paired, fits, fill}
+use Rattle.mini_accept.specs.WellShaped.{Depth, in_module, in_body, nested, Class, a_statement, an_init, an_arrow_body, an_expression, a_link, an_argument, a_key, a_private_or_key, an_inner_key, an_inner, a_default_export, a_tagged_template, Slot, one, one_or_absent, many, untagged, tagged, statement_slots, filling_by, each, pieces as pieces_filling, is_same_flag, is_quasi, are_quasis, is_paired, fits, fill}
 use Rattle.mini_kept.specs.KeepsNames.{is_rewritten_place}
 use Rattle.mini_kept.specs.KeepsShapes.{AskedAlike}
 use Rattle.mini_kept.specs.KeepsFrames.{is_body_slot}
@@ -20,22 +18,20 @@ use Rattle.mini_kept.proofs.Bools.{left, both}
 use Rattle.mini_kept.proofs.Expressions.{refused_here, expression, TakesExpressionIn, TakesExpression, expression_taken, two_fit}
 use Rattle.mini_laws.specs.Conversion.{makes, raises, outside, to_text}
 use Rattle.mini_laws.specs.Conversion as conversion
-use Rattle.mini_laws.specs.Value.{Value}
 use Rattle.mini_node.specs.Children.{part as its_part}
 use Rattle.mini_node.specs.Walks.{append_none}
-use Rattle.mini_terms.specs.Calculated.{operand_value}
 use Rattle.mini_terms.specs.Const.{made}
 use Rattle.mini_rows.specs.Arranged.{KeptAt}
 use Rattle.mini_rows.specs.Sketches.{Binary, Template, Piece as PieceHead, Parts, Sketch, part, under, list, Items, end, ◌▹◌, no_items, item, items}
 use Rattle.mini_rows.specs.Spellings.{binary}
-use Rattle.mini_rows.specs.Templates.{Piece, piece, pieces, template, pair, spelled, told, Row18, Row5Both, Row5After, Row5Before, Row5, Row6, TemplateRow, TemplateContracts}
+use Rattle.mini_rows.specs.Templates.{Piece, piece, pieces, template, pair, spelled, told, Row18, Row5Both, Row5After, Row5Before, Row5, TemplateRow, TemplateContracts}
 use Rattle.mini_rows.proofs.ArrangedExpressions.{expressions_arranged, expressions_arranged_freely}
 use Rattle.mini_rows.proofs.ArrangedLawful.{kept_is_lawful}
 use Rattle.mini_rows.proofs.ConstantLawful.{Paired, operand_written, text_paired, binary_at}
 use Rattle.mini_rows.proofs.FoldLawful.{vanishes, first_dropped, expression_slot}
 use Rattle.mini_rows.proofs.ListShapes.{AllFit, append_fits, both_fit, first_fits}
 use Rattle.mini_rows.proofs.TemplateMeaning.{nothing, Told, told_is, templates_same}
-use Rattle.mini_rows.proofs.TemplatePieces.{Whole, Stands, pair_whole, spelled_whole, piece_stands, stands_piece}
+use Rattle.mini_rows.proofs.TemplatePieces.{Whole, pair_whole, spelled_whole, piece_stands, stands_piece}
 use Rattle.mini_rows.proofs.TemplateRuns.{count_append}
 
 -- ---- the same parts

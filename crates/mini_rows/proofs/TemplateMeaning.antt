@@ -1,29 +1,23 @@
 -- What a row on templates writes means the same.
 use Rattle.std.proofs.Common.{◌≡◌, ℕ, zero, suc, inl, inr, true≢false, ◌+◌, arith, List, [], ◌∷◌, ◌++◌, Option, Some, None, length, append_assoc, append-nil, refl, sym, ap, subst, ◌∙◌}
-use Rattle.std.specs.Prelude.{not, ◌||◌, Bool, true, false, is_some, codes}
+use Rattle.std.specs.Prelude.{◌||◌, Bool, true, false, is_some, codes}
 use Rattle.std.specs.Fmt.{signed_decimal}
-use Rattle.mini_model.specs.declared.name.Name.{Name}
 use Rattle.mini_model.specs.declared.operator.BinaryOperator.TheVariants.{Addition}
-use Rattle.mini_model.specs.declared.operator.UnaryOperator.{UnaryOperator}
 use Rattle.mini_model.specs.declared.operator.UnaryOperator.TheVariants as unary_operator
 use Rattle.mini_model.specs.declared.place.Position.{Position}
 use Rattle.mini_model.specs.declared.place.Position.TheVariants.{Expr}
 use Rattle.mini_model.specs.declared.seat.Seat.{Seat}
-use Rattle.mini_model.specs.declared.shape.Shape.{Shape}
 use Rattle.mini_model.specs.declared.shape.Shape.TheVariants as shape
 use Rattle.mini_model.specs.Paths.{append}
-use Rattle.mini_model.specs.Tree.{Tree, Trees, node, none, ◌▸◌, shape_of, unary, count}
+use Rattle.mini_model.specs.Tree.{Tree, Trees, none, ◌▸◌, count}
 use Rattle.mini_node.specs.Children.{part}
-use Rattle.mini_node.specs.Kinds.{unary_operator as its_unary_operator}
-use Rattle.mini_node.specs.Made.{unary_is}
-use Rattle.mini_laws.specs.Value.{Value, Undefined, Null, Boolean, Number, String, Symbol, Object, truth}
-use Rattle.mini_laws.specs.State.{State, Completion, ok, stop, either, Environment}
+use Rattle.mini_laws.specs.Value.{Value, Undefined, Null, Boolean, Number, String, Symbol, Object}
+use Rattle.mini_laws.specs.State.{State, Completion, ok, either, Environment}
 use Rattle.mini_laws.specs.Command.{run}
 use Rattle.mini_laws.specs.Conversion.{to_text, text_of_boolean}
 use Rattle.mini_laws.specs.Demand.{Val, As}
 use Rattle.mini_laws.specs.Expressions.{operate_by}
 use Rattle.mini_laws.specs.Naming.{summary}
-use Rattle.mini_laws.specs.Step.{step, means, meaning}
 use Rattle.mini_laws.specs.Rows.{SameAt}
 use Rattle.mini_laws.specs.Rewritten.{MeansSame}
 use Rattle.mini_terms.specs.declared.kinds.Kind.{Kind}
@@ -35,7 +29,6 @@ use Rattle.mini_terms.proofs.Dropping.{after_cong}
 use Rattle.mini_terms.proofs.KindTable.{kind_sound}
 use Rattle.mini_terms.specs.Calculated.{operand_value}
 use Rattle.mini_terms.specs.Const.{made, text_of}
-use Rattle.mini_terms.proofs.Opened.{negation_opened}
 use Rattle.mini_node.specs.Walks.{append_none}
 use Rattle.mini_rows.specs.Spellings.{binary}
 use Rattle.mini_rows.specs.Templates.{Piece, piece, pieces, template, pair, spelled, told, Row18, Row5, Row6, TemplateRow, TemplateContracts}

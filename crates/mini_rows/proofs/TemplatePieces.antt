@@ -1,6 +1,6 @@
 -- Two pieces of a template's text that stand as one.
-use Rattle.std.proofs.Common.{◌≡◌, ℕ, ◌-◌, ◌<◌, ◌≤◌, ◌==◌, Option, None, Bool, true, false, List, [], ◌∷◌, ◌++◌, Some, take, length, codes, cond, inl, inr, append-nil, refl, sym, ap, subst, ◌∙◌, true≢false, arith}
-use Rattle.std.specs.Prelude.{◌&&◌, ◌||◌, not, map, nat_lt, nat_le, if◌then◌else◌}
+use Rattle.std.proofs.Common.{◌≡◌, ℕ, ◌-◌, ◌≤◌, ◌==◌, Option, None, Bool, true, false, List, [], ◌∷◌, ◌++◌, Some, take, length, codes, cond, inl, inr, append-nil, refl, sym, ap, ◌∙◌, true≢false, arith}
+use Rattle.std.specs.Prelude.{◌&&◌, ◌||◌, not, nat_lt, nat_le, if◌then◌else◌}
 use Rattle.std.specs.List.{list_any}
 use Rattle.std.specs.Char.Utf16.{is_high_surrogate, is_low_surrogate, utf16_chars, lone_unit_char, has_unpaired_surrogate}
 use Rattle.std.proofs.lemmas.Bool.{and_parts, leb-true, leb-false}
@@ -11,11 +11,11 @@ use Rattle.mini_model.specs.Texts.{are_units}
 use Rattle.mini_model.proofs.Ends.{null_front, take-front}
 use Rattle.mini_model.proofs.Joins.{joined_cooks}
 use Rattle.mini_model.proofs.Raw.{escaped_cooks}
-use Rattle.mini_accept.specs.WellShaped.{is_paired, is_text, is_text_of_cooked, is_paired_cooked, is_same_flag, untagged, is_quasi}
+use Rattle.mini_accept.specs.WellShaped.{is_paired, is_text_of_cooked, is_same_flag, untagged, is_quasi}
 use Rattle.mini_accept.proofs.Types.{text_same, text_is}
 use Rattle.mini_kept.proofs.Bools.{both}
 use Rattle.mini_rows.specs.Templates.{Piece, piece, pair, spelled}
-use Rattle.mini_rows.proofs.Surrogates.{missing, chars_by, none_missing, or_false, unit_first, unpaired_by, missing_small, unit_small, small_first, is_paired_joined, not_true}
+use Rattle.mini_rows.proofs.Surrogates.{missing, chars_by, none_missing, or_false, unit_first, unpaired_by, missing_small, is_paired_joined, not_true}
 
 -- ---- a text that is escaped
 

@@ -13,7 +13,7 @@ use Rattle.mini_laws.specs.Lists.{template_texts}
 use Rattle.mini_laws.specs.Naming.{summaries, facts, texts_all, naming}
 use Rattle.mini_laws.specs.Replies.{primitive, of_made}
 use Rattle.mini_laws.specs.Step.{step, means, meaning}
-use Rattle.mini_laws.proofs.Runs.{either_cong, either_assoc, either_eta, either_ok, either_stop, run_bind, run_shift}
+use Rattle.mini_laws.proofs.Runs.{either_cong, either_assoc, either_ok, either_stop, run_bind, run_shift}
 use Rattle.mini_rows.specs.Templates.{Piece, piece, pieces, template}
 use Rattle.mini_rows.proofs.ChoiceRuns.{value, primitive_free, made_free}
 

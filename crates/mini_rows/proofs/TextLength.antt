@@ -1,8 +1,8 @@
 -- The length of a text, and the number that it is: they mean the same, the number is lighter, and it keeps all that a program has to keep.
-use Rattle.std.proofs.Common.{◌≡◌, ℕ, zero, suc, ◌+◌, ◌≤◌, ◌<◌, Bool, true, false, List, [], ◌∷◌, length, refl, sym, ap, subst, ◌∙◌, ◌⊎◌, inl, inr, true≢false, arith}
-use Rattle.std.specs.Prelude.{◌&&◌, ◌||◌, nat_lt, nat_le, not, codes, pos, if◌then◌else◌}
+use Rattle.std.proofs.Common.{◌≡◌, ℕ, ◌+◌, ◌≤◌, Bool, true, false, List, [], length, refl, sym, ap, subst, ◌∙◌, true≢false, arith}
+use Rattle.std.specs.Prelude.{◌&&◌, codes, pos, if◌then◌else◌}
 use Rattle.std.specs.Fmt.{decimal}
-use Rattle.std.proofs.lemmas.Bool.{and_parts, false≢true, le-leb}
+use Rattle.std.proofs.lemmas.Bool.{false≢true, le-leb}
 use Rattle.std.proofs.lemmas.Fmt.{length-decimal-le_succ}
 use Rattle.mini_model.specs.Numerals.{max_safe_integer}
 use Rattle.mini_model.specs.declared.place.Position.TheVariants.{Expr}
@@ -13,15 +13,15 @@ use Rattle.mini_model.specs.declared.shape.Shape.TheVariants as shape
 use Rattle.mini_model.specs.Tree.{Tree, Trees, none, ◌▸◌}
 use Rattle.mini_model.specs.Weight.{weight, is_awkward, outlines}
 use Rattle.mini_accept.specs.WellShaped.{Depth, in_module, in_body, nested, Class, a_statement, a_chain, an_init, an_arrow_body, an_expression, a_link, an_argument, an_inner, an_inner_argument, a_key, a_private_or_key, an_inner_key, a_default_export, Slot, one, one_or_absent, filling, refused, fits}
-use Rattle.mini_laws.specs.Demand.{Demand, As, Callee, OfType, Deleted, Target, AnEntry, Stat, Request}
+use Rattle.mini_laws.specs.Demand.{Demand, As, Callee, OfType, Deleted, Target, AnEntry, Request}
 use Rattle.mini_laws.specs.State.{State, either, Environment}
 use Rattle.mini_laws.specs.Naming.{summary}
 use Rattle.mini_laws.specs.Fits.{Fits}
 use Rattle.mini_laws.specs.Rows.{SameAt}
 use Rattle.mini_laws.specs.Step.{step, means, meaning}
-use Rattle.mini_laws.proofs.Rows.{Equal, equal_same}
+use Rattle.mini_laws.proofs.Rows.{equal_same}
 use Rattle.mini_kept.specs.KeepsShapes.{AskedAlike}
-use Rattle.mini_kept.specs.Placed.{is_expression_class, is_chain_class, is_chain_seat, fits_seat, fits_place}
+use Rattle.mini_kept.specs.Placed.{is_chain_seat, fits_seat, fits_place}
 use Rattle.mini_kept.proofs.Expressions.{refused_here, expression, TakesExpressionIn, TakesExpression, expression_taken}
 use Rattle.mini_terms.specs.Parts.{takes_numbers}
 use Rattle.mini_terms.specs.Reading.{is_unguarded}

@@ -28,7 +28,7 @@ use Rattle.mini_laws.specs.Command.{Naming, Op, read, read_typeof, fixity, write
 use Rattle.mini_laws.specs.Naming.{NameKind, PlainName, EvalName, UndefinedName, NumberName, Declared, Variables, AClass, FunctionFact, Named, NamedDefault, BareDefault, Facts, function_facts, first_facts, nth_absent, texts_all, kinds, summaries, facts, naming}
 use Rattle.mini_laws.specs.Asking.{pass, first_demand, parts_demand, tail_demand, do_demand, for_demand, demand, chained}
 use Rattle.mini_laws.specs.Replies as reply
-use Rattle.mini_laws.specs.Replies.{valued, passed, passing, as_ended, merged, statement, raise, of_made, of_option, primitive, numeric, hint_of, is_of_primitives, operate, loosely, or_event, get_member, put_member, by_fixity, put_own}
+use Rattle.mini_laws.specs.Replies.{valued, passed, passing, as_ended, merged, statement, of_made, of_option, primitive, numeric, hint_of, is_of_primitives, operate, loosely, or_event, get_member, put_member, by_fixity, put_own}
 use Rattle.mini_laws.specs.Expressions.{get_identifier, type_identifier, first_kind, delete_of, number_step, unary_step, operate_by, binary_step, logical_step, conditional_step, sequence_step, call_event, call_step, new_step, member_step, got, called_member, chain_end, chain_value, chain_step, array_step, object_step, property_key, property_step, template_step, yield_step}
 use Rattle.mini_laws.specs.Targets.{put_identifier, identifier_step, fetched, stored, as_member, carried, carried_target, private_member, super_member, chained_carries, pattern_target, AssignmentKind, Plainly, Computing, Deciding, assignment_kind, assigns, put_target, after_read, assign_by, assignment_step, update_step, changed}
 use Rattle.mini_laws.specs.Lists.{entries, spread_step, parts, sequence, template_texts, each, declarators, the_declarator, is_case, test_cases, default_case, or_default, case_bodies, enter_case, cases, list_step}

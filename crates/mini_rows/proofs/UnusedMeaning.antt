@@ -9,7 +9,7 @@ use Rattle.mini_model.specs.declared.name.Name.{Name}
 use Rattle.mini_model.specs.declared.name.SymbolId.{SymbolId}
 use Rattle.mini_model.specs.declared.operator.UnaryOperator.TheVariants.{LogicalNot}
 use Rattle.mini_model.specs.declared.shape.Shape.TheVariants as shape
-use Rattle.mini_model.specs.Tree.{Tree, Trees, node, none, ◌▸◌, absent, listed, shape_of, identifier, program, empty_statement, expression_statement}
+use Rattle.mini_model.specs.Tree.{Tree, Trees, node, none, ◌▸◌, absent, listed, shape_of, program, empty_statement, expression_statement}
 use Rattle.mini_model.specs.Paths.{append}
 use Rattle.mini_laws.specs.Value.{Value, Undefined, Variable, Declared, VariableSet, Slot, Holds, Missing, Uninitialised, choose, variable_eq, is_in, nothing}
 use Rattle.mini_laws.specs.State.{State, Completion, ok, stop, halt, out, either, Writable, Environment, with_vars}
@@ -39,14 +39,12 @@ use Rattle.mini_node.specs.Kinds.{is_absent_part}
 use Rattle.mini_node.specs.Made.{absent_is}
 use Rattle.mini_terms.specs.Folds.{is_effect_free}
 use Rattle.mini_terms.specs.Parts.{leaves_nothing}
-use Rattle.mini_terms.specs.Reading.{is_item, is_plain_part}
+use Rattle.mini_terms.specs.Reading.{is_plain_part}
 use Rattle.mini_terms.proofs.Dropping.{does_nothing, weak}
 use Rattle.mini_rows.specs.Cases.{switch_case}
 use Rattle.mini_rows.specs.Lists.{block, switch, declaration, declares_nothing}
 use Rattle.mini_rows.specs.Declarations.{binding, declarator}
-use Rattle.mini_rows.specs.Sketches.{shape_by, AsWholeItem}
-use Rattle.mini_rows.specs.Unused.{resolved, names, any_names, declared_among, declared_one, is_idle, declared_left, is_definition, may_move, put_first, reads_first, statements, static_block, lets_go, Row72, Row72Idle, Row71}
-use Rattle.mini_rows.proofs.FoldMeaning.{plain_read}
+use Rattle.mini_rows.specs.Unused.{resolved, declared_among, declared_one, is_idle, declared_left, is_definition, may_move, statements, static_block, lets_go, Row72, Row72Idle}
 use Rattle.mini_rows.proofs.UnusedNames.{avoided, all_avoided}
 use Rattle.mini_rows.proofs.ListStretches.{lets_append, functions_append, facts_append, texts_append, exec_one, exec_two, listed_is}
 use Rattle.mini_rows.proofs.ListStatements.{declaration_is, declare_more, declare_none, expression_is, empty_is, declarations_join}

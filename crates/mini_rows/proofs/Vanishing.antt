@@ -1,6 +1,6 @@
 -- What leaves nothing behind may be dropped.
 use Rattle.std.proofs.Common.{◌≡◌, Bool, true, false, [], ◌∷◌, refl, sym, ap, ◌∙◌, true≢false}
-use Rattle.std.specs.Prelude.{◌&&◌, ◌||◌}
+use Rattle.std.specs.Prelude.{◌||◌}
 use Rattle.std.proofs.lemmas.Bool.{and_parts}
 use Rattle.mini_model.specs.declared.kind.VariableDeclarationKind.TheVariants.{Const}
 use Rattle.mini_model.specs.declared.shape.Shape.{Shape}

@@ -1,9 +1,9 @@
 -- Runs of which the first leaves the model, or both are the same.
-use Rattle.std.proofs.Common.{◌≡◌, ℕ, true, List, refl, sym, ap, subst, inl, inr}
+use Rattle.std.proofs.Common.{◌≡◌, ℕ, true, refl, sym, subst, inl, inr}
 use Rattle.std.specs.Prelude.{◌⊎◌}
 use Rattle.mini_laws.specs.Value.{VariableSet}
 use Rattle.mini_laws.specs.State.{State, Stop, Completion, ok, stop, halt, out, done, ended, either, Environment}
-use Rattle.mini_laws.specs.Demand.{Demand, Request, Reply}
+use Rattle.mini_laws.specs.Demand.{Demand, Request}
 use Rattle.mini_laws.specs.Command.{Naming, Command, ret, fails, stuck, op, kid, Kids, act, run}
 use Rattle.mini_laws.specs.Same.{Goes, Agree}
 use Rattle.mini_laws.proofs.Rows.{goes_refl}

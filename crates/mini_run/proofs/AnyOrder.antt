@@ -8,7 +8,7 @@ use Rattle.std.proofs.lemmas.List.{map-append}
 use Rattle.mini_tree.specs.declared.options.CompressOptions.{CompressOptions}
 use Rattle.mini_run.specs.declared.choice.Choice.{Choice}
 use Rattle.mini_run.specs.declared.choice.Orders.{Orders}
-use Rattle.mini_run.specs.Words.{spelling, option_of, number_of, named, chosen, ordered, IsAllowed, IsOnce, Spell, NameOptions, NameOrders, GoodWords}
+use Rattle.mini_run.specs.Words.{spelling, option_of, number_of, named, ordered, IsAllowed, IsOnce, Spell, NameOptions, NameOrders, GoodWords}
 use Rattle.mini_run.proofs.Spelled.{spelling_tells}
 use Rattle.mini_run.proofs.Reading.{skip, still_named}
 

@@ -1,5 +1,5 @@
 -- A list of statements, one after another.
-use Rattle.std.proofs.Common.{◌≡◌, ℕ, zero, suc, ◌+◌, ◌-◌, ◌<◌, refl, sym, ap, ap₂, subst, ◌∙◌, arith}
+use Rattle.std.proofs.Common.{◌≡◌, ℕ, zero, suc, ◌+◌, ◌-◌, refl, sym, ap, ◌∙◌, arith}
 use Rattle.mini_model.specs.Tree.{Trees, none, ◌▸◌}
 use Rattle.mini_model.specs.Paths.{append}
 use Rattle.mini_node.specs.Walks.{append_none, append_one}

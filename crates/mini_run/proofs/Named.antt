@@ -1,6 +1,6 @@
 -- Words name one choice of options, in any order of theirs.
 use Rattle.std.proofs.Common.{◌≡◌, ℕ, ◌≤◌, List, [], ◌∷◌, map, get_or, drop, Bool, true, false, refl, sym, ap, ap₂, subst, ◌∙◌}
-use Rattle.std.specs.Prelude.{Option, Some, None, ◌==◌, IfSome, if◌then◌else◌}
+use Rattle.std.specs.Prelude.{Option, Some, ◌==◌, IfSome, if◌then◌else◌}
 use Rattle.mini_run.specs.declared.choice.Choice.TheVariants as choice
 use Rattle.std.specs.List.{AllByRecursion}
 use Rattle.mini_tree.specs.declared.options.CompressOptions.{CompressOptions}

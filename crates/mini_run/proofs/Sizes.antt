@@ -10,7 +10,7 @@ use Rattle.mini_model.proofs.Units.{bytes_of-units_of}
 use Rattle.mini_writer.specs.Fits.{Fits}
 use Rattle.mini_writer.specs.Written.{tree_data, trees_data, program_data}
 use Rattle.mini_writer.proofs.Counted.{size, items_size, values_counted, units_counted}
-use Rattle.mini_run.specs.Generated.{by_turn, choice, comparison, guarded, statement, statements, generated, generated_data}
+use Rattle.mini_run.specs.Generated.{by_turn, choice, comparison, guarded, statements, generated_data}
 
 -- a text is written as it is spelled
 text_back : (text : List ℕ) → are_ascii text ≡ true → bytes_of (units_of text) ≡ text

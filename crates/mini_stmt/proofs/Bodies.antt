@@ -1,10 +1,9 @@
 -- The list of a function's body: the rows of lists act there as in any list, and those at its end besides.
-use Rattle.std.proofs.Common.{◌≡◌, ℕ, zero, suc, ◌+◌, ◌-◌, ◌<◌, Bool, true, false, List, [], refl, sym, ap, ◌∙◌, subst, inl, inr, true≢false, arith}
-use Rattle.std.specs.Prelude.{◌⊎◌, not, ◌&&◌, ◌||◌, Option, Some, None, Result, Ok, Err, IfOk}
+use Rattle.std.proofs.Common.{◌≡◌, ℕ, zero, suc, ◌<◌, Bool, true, false, [], refl, sym, ap, ◌∙◌, subst, inl, inr, true≢false, arith}
+use Rattle.std.specs.Prelude.{not, ◌&&◌, ◌||◌, Some, None, Result, Ok, Err, IfOk}
 use Rattle.std.proofs.lemmas.Bool.{and_parts, false≢true}
 use Rattle.mini_model.specs.declared.place.Position.{Position}
 use Rattle.mini_model.specs.declared.place.Position.TheVariants.{StatementList, BodyList}
-use Rattle.mini_model.specs.declared.shape.Shape.{Shape}
 use Rattle.mini_model.specs.declared.shape.Shape.TheVariants as shape
 use Rattle.mini_model.specs.Tree.{Tree, Trees, node, none, ◌▸◌, count, shape_of, child_or_absent, absent, listed, children, if_else, if_alone, negation}
 use Rattle.mini_model.specs.Paths.{append}
@@ -20,14 +19,14 @@ use Rattle.mini_model.specs.declared.memory.OutOfMemory.{OutOfMemory}
 use Rattle.mini_tree.specs.Rule.{Moves}
 use Rattle.mini_rows.specs.Switches.{Switches}
 use Rattle.mini_rows.specs.Branches.{bare_continue}
-use Rattle.mini_rows.specs.Lists.{return_statement, are_unscoped, is_unscoped, is_shallow, are_shallow, alternate_of, bare_return, Row75, Row75Block, Row78, AtEnd, EndRow, ListRow, ListContracts}
+use Rattle.mini_rows.specs.Lists.{return_statement, are_unscoped, is_unscoped, is_shallow, are_shallow, alternate_of, bare_return, AtEnd, EndRow, ListRow, ListContracts}
 use Rattle.mini_rows.proofs.ListWeights.{lists_lighter}
-use Rattle.mini_stmt.specs.JoinGuards.{last_after, is_apart}
+use Rattle.mini_stmt.specs.JoinGuards.{last_after}
 use Rattle.mini_stmt.specs.JoinJumps.{returns_nothing}
-use Rattle.mini_stmt.specs.MinimizeStatements.{is_quiet, Rests, MinimizesList}
+use Rattle.mini_stmt.specs.MinimizeStatements.{Rests, MinimizesList}
 use Rattle.mini_stmt.specs.SpreadBlock.{body_of}
-use Rattle.mini_stmt.specs.MinimizeBody.{jump_at, goes_on, is_jump, leaves, leaves_by_block, is_guard, may_nest, leaves_early, ends_bare, is_ended, EarlyAt, Turned, TurnedAt, Turns, AllTurned, DropsLast, EndRests, EndsBody, MinimizesBody, QuietRests}
-use Rattle.mini_stmt.proofs.Parts.{not_true, not_false}
+use Rattle.mini_stmt.specs.MinimizeBody.{jump_at, goes_on, is_jump, leaves, leaves_by_block, is_guard, may_nest, leaves_early, ends_bare, EarlyAt, Turned, TurnedAt, Turns, AllTurned, DropsLast, EndRests, EndsBody, MinimizesBody, QuietRests}
+use Rattle.mini_stmt.proofs.Parts.{not_true}
 use Rattle.mini_stmt.proofs.Guards.{last_pushed}
 use Rattle.mini_stmt.proofs.Assignments.{list_no_row}
 

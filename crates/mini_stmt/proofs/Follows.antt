@@ -11,7 +11,7 @@ use Rattle.mini_node.specs.Children.{part, with_part, is_bare}
 use Rattle.mini_node.specs.Kinds.{is_sequence_shape, is_sequence, is_absent_part, is_listed, is_return_statement, is_throw_statement, is_if_statement, is_if_alone, is_expression_statement, is_empty_statement}
 use Rattle.mini_node.specs.Made.{absent_is, sequence_is, expression_statement_is, empty_statement_is, block_is, if_statement_is, if_alone_is, return_statement_is, throw_statement_is}
 use Rattle.mini_rows.specs.Switches.{Switches}
-use Rattle.mini_rows.specs.Lists.{of_parts, is_one_part, are_parts, sequence, block, return_statement, throw_statement, switch, for_loop, for_in, is_plain_left, declaration, or_void, has_alternates, are_unscoped, is_unscoped, is_terminated, Head, If, Switch, For, with_head, Row66Empty, Row66Joined, Row67, Row67Absent, Row67In, Row68, Row68Free, Row68Init, Row73, Row73Bare, Row76, Row79, StretchRow}
+use Rattle.mini_rows.specs.Lists.{of_parts, is_one_part, are_parts, sequence, return_statement, switch, for_loop, for_in, is_plain_left, declaration, has_alternates, are_unscoped, is_unscoped, is_terminated, Head, If, Switch, For, with_head, StretchRow}
 use Rattle.mini_rows.specs.Lists as list
 use Rattle.mini_stmt.specs.declared.lead.Lead.{Lead}
 use Rattle.mini_stmt.specs.declared.lead.Lead.TheVariants.{Expression, Declaration, Return, Throw, Nothing}

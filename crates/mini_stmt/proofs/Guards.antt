@@ -19,7 +19,7 @@ use Rattle.mini_model.specs.declared.memory.OutOfMemory.{OutOfMemory}
 use Rattle.mini_rows.specs.Switches.{Switches}
 use Rattle.mini_rows.specs.Lists.{is_terminated, is_shallow, Row74, StretchRow, GuardsRow, NeighbourRow, InList, EntersRow, Saying, AsStatement, AsReturn, AsThrow, says, Row77, Leap, Breaks, Continues, leap, Row77Leap, Row77Unreached}
 use Rattle.mini_stmt.specs.MinimizeStatements as list
-use Rattle.mini_stmt.specs.MinimizeStatements.{Changes, is_quiet, StretchRests, JoinsStatements}
+use Rattle.mini_stmt.specs.MinimizeStatements.{Changes, StretchRests, JoinsStatements}
 use Rattle.mini_stmt.specs.JoinGuards.{are_guards, both_guards, is_leap_shape, leaps, is_idle, may_go, ends_before, meets, met, meet_first, are_apart, is_apart, last_after, meets_last, Changed, PutJoined, Joined, Settled, Rests, JoinsGuards, JoinsOthers}
 use Rattle.mini_stmt.specs.DropUnreached.{is_reached, Dropped}
 use Rattle.mini_stmt.specs.JoinAssignments as assignments

@@ -13,7 +13,7 @@ use Rattle.mini_node.specs.Children.{part, rest_children}
 use Rattle.mini_node.specs.Kinds.{is_sequence_shape, is_sequence, is_absent_part}
 use Rattle.mini_node.specs.Walks.{from_first, next_child, no_rest}
 use Rattle.mini_rows.specs.Switches.{Switches}
-use Rattle.mini_rows.specs.Lists.{of_parts, is_one_part_shape, is_one_part, are_parts, declares_nothing, block, return_statement, throw_statement, for_loop, for_in, is_plain_left, declaration, are_unscoped, is_unscoped, is_terminated, has_alternates, Head, If, Switch, For, with_head, Row66Empty, Row66Joined, Row67, Row67Absent, Row68, Row73, Row73Bare, Row76, Row79, SequencesRow, LoopRow, JoinRow, StretchRow, InList, ListRow}
+use Rattle.mini_rows.specs.Lists.{of_parts, is_one_part, are_parts, return_statement, throw_statement, for_loop, for_in, is_plain_left, is_unscoped, is_terminated, has_alternates, Head, If, Switch, For, with_head, SequencesRow, LoopRow, JoinRow, StretchRow, InList}
 use Rattle.mini_rows.specs.Lists as list
 use Rattle.mini_stmt.specs.declared.lead.Lead.{Lead}
 use Rattle.mini_stmt.specs.declared.lead.Lead.TheVariants.{Expression, Declaration, Return, Throw, Nothing}

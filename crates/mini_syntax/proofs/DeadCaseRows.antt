@@ -13,7 +13,7 @@ use Rattle.mini_laws.specs.Operators.{strictly_equal, same_number, same_boolean}
 use Rattle.mini_model.specs.Weight.{same_text}
 use Rattle.mini_node.specs.Children.{part, first_children, rest_children}
 use Rattle.mini_node.specs.Equal.{same_tree}
-use Rattle.mini_node.specs.Kinds.{number, unary_operator, is_absent_part, is_listed}
+use Rattle.mini_node.specs.Kinds.{number, unary_operator, is_absent_part}
 use Rattle.mini_node.specs.Made.{number_is, unary_is}
 use Rattle.mini_node.proofs.Equality.{tree_same as same_is_equal, tree_itself as each_is_itself}
 use Rattle.mini_terms.specs.Const.{const}
@@ -22,7 +22,7 @@ use Rattle.mini_rows.specs.Cases.{switch_case}
 use Rattle.mini_model.specs.Paths.{append}
 use Rattle.mini_rows.specs.DeadCases.{Known, a_number, a_text, a_truth, a_null, undefined, known, value_of, selects, Choices, no_choices, choice, cases_of, before_others, switch_over, are_loose, left_cases, cases_go, running, rest_goes, Missed, AllMissed, AllPassed, Taken, are_several, DeadCaseRow}
 use Rattle.mini_rows.specs.Lists.{switch}
-use Rattle.mini_rows.specs.Spellings.{numeral, PlainForm, a_boolean, a_big_int, a_template, a_void, plain}
+use Rattle.mini_rows.specs.Spellings.{PlainForm, a_boolean, a_big_int, a_template, a_void, plain}
 use Rattle.mini_rows.specs.Spellings as form
 use Rattle.mini_rows.proofs.BranchWeights.{branch_lighter}
 use Rattle.mini_tree.specs.Rule.{Applied}

@@ -1,4 +1,4 @@
-use Rattle.std.proofs.Common.{◌≡◌, ◌∙◌, ap, sym, arith}
+use Rattle.std.proofs.Common.{◌∙◌, ap, sym, arith}
 use Rattle.mini_model.specs.Tree.{child_or_absent}
 use Rattle.mini_fold.specs.FoldTemplates.{sewn}
 use Rattle.mini_fold.proofs.Templates.{stops}

@@ -1,6 +1,6 @@
-use Rattle.std.proofs.Common.{sym, ◌∙◌}
+use Rattle.std.proofs.Common.{sym}
 use Rattle.mini_stmt.specs.MinimizeStatements.{switches_of}
-use Rattle.mini_stmt.proofs.Bodies.{other_body, body_first, body_after}
+use Rattle.mini_stmt.proofs.Bodies.{body_first, body_after}
 use Rattle.mini_stmt.proofs.rewrites.minimize_body.minimize_body.Goals as goal
 
 pub returns-then-branch : goal.returns-then-branch

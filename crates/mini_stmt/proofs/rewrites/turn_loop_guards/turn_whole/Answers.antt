@@ -1,7 +1,6 @@
 use Rattle.std.proofs.Common.{true, ◌∙◌, sym, ap, subst}
 use Rattle.mini_stmt.specs.MinimizeBody.{is_guard}
 use Rattle.mini_stmt.specs.TurnLoopGuards.{TurnedWhole}
-use Rattle.mini_stmt.proofs.Parts.{not_true}
 use Rattle.mini_stmt.proofs.LoopGuards.{whole_loop, no_whole}
 use Rattle.mini_stmt.proofs.rewrites.turn_loop_guards.turn_whole.Goals as goal
 

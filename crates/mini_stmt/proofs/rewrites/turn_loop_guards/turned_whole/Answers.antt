@@ -1,4 +1,4 @@
-use Rattle.std.proofs.Common.{true, ◌≡◌, ◌∙◌, sym, ap, subst, arith}
+use Rattle.std.proofs.Common.{true, ◌∙◌, ap, subst, arith}
 use Rattle.mini_model.specs.Tree.{none, count, child_or_absent, absent}
 use Rattle.mini_node.specs.Children.{like, with_child}
 use Rattle.mini_node.specs.Walks.{count_with}
