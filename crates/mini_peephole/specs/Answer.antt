@@ -1,5 +1,5 @@
 -- What a run answers, and when.
-use Rattle.std.specs.Prelude.{◌≡◌, ℕ, ◌<◌, ◌≤◌, ◌⊎◌, true, List, [], ◌∷◌, ◌++◌, length, codes, map, Bool, false, decimal, if◌then◌else◌, Option, Some, None, Ok, IfSome, string_bytes, IsUtf8}
+use Rattle.std.specs.Prelude.{◌≡◌, ℕ, ◌<◌, ◌≤◌, ◌⊎◌, List, [], ◌∷◌, ◌++◌, length, codes, map, Bool, decimal, if◌then◌else◌, Option, Some, None, Ok, IfSome, string_bytes, IsUtf8}
 use Rattle.std.specs.Io.KnownBytes.{Appends, Consumes, IsAtEnd}
 use Rattle.serde_json.specs.Data.{Data, Members, unsigned, number, boolean, array, object, no_members, member}
 use Rattle.serde_json.specs.View.{view, items_of}

@@ -1,5 +1,5 @@
 -- The choice that a word spells.
-use Rattle.std.proofs.Common.{◌≡◌, ◌≢◌, ℕ, zero, suc, ◌+◌, ◌<◌, ◌^◌, List, [], ◌∷◌, length, get_or, drop, refl, sym, ap, ◌∙◌, arith}
+use Rattle.std.proofs.Common.{◌≡◌, ◌≢◌, ℕ, zero, suc, ◌+◌, ◌<◌, ◌≤◌, ◌^◌, List, [], ◌∷◌, ◌++◌, length, get_or, drop, refl, sym, ap, ◌∙◌, arith}
 use Rattle.std.specs.Prelude.{◌==◌, if◌then◌else◌, Result, Ok, Err, codes}
 use Rattle.std.specs.Fmt.{decimal}
 use Rattle.std.specs.Str.Parse.{digits_value, ParsesUnsigned}
@@ -9,7 +9,7 @@ use Rattle.std.proofs.lemmas.Result.{OkIff-at_ok}
 use Rattle.std.proofs.lemmas.Str.Parse.{numerals_by_value, tells_by_index, digit_at, parse_plain}
 use Rattle.mini_run.specs.declared.choice.Choice.{Choice}
 use Rattle.mini_run.specs.declared.choice.Choice.TheVariants.{NoSequences, NoJoinVars, KeepFunctionNames, KeepClassNames, PureCoercion, KnownCalls, Passes, MaxDepth, Generate}
-use Rattle.mini_run.specs.Words.{spelling, IsAllowed}
+use Rattle.mini_run.specs.Words.{spelling, IsAllowed, HasNumber}
 
 -- ---- the digits of a number
 
