@@ -193,7 +193,7 @@ module _ (W : VariableSet) (s : Seat) (ds : List (List ℕ)) (number : ℕ) (ps 
 
   arrow_bodies : (e : Around) → BodiesWith W D (bodies e this) (bodies e that)
   arrow_bodies e =
-      without.each_of W D (own e first_list) (bodies_after e first_list) (own e second_list) (bodies_after e second_list) (inl (record { number = refl; kind = inl refl; strict = refl; asks_this = refl; same = λ f u y. statements_run W (listed ps) a b t f u }), tt)
+      without.each_of W D (own e first_list) (bodies_after e first_list) (own e second_list) (bodies_after e second_list) (inl (record { number = refl; kind = inl refl; strict = refl; asks_this = refl; same = λ f u y X g. statements_run W (listed ps) a b t f u X }), tt)
       (without.all_more nothing W D D (without.nothing_part W) (without.part_itself D) (bodies_after e first_list) (bodies_after e second_list) (from_kept D (bodies_after e first_list) (bodies_after e second_list) (bodies_behind (listed ps) x t.before t.after t.d t.w t.loses.leaves t.loses.declares t.outside t.earlier t.later (around e 0) (around e 1))))
 
   abbrev own_frame : List Frame

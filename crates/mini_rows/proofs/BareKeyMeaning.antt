@@ -100,5 +100,5 @@ only_gives (a_count n) e vars = record { value = Number (pos n); events = refl; 
 
 pub gives_key : (i : ℕ) (k : PlainKey) → GivesKey nothing (node shape.InnerExpression [] i (plain_key k ▸ none)) (property_of k)
 gives_key i k = record {
-  by = λ e u y vars this answers turns i. inr (record { events = []; final = seen e.shared vars; outcome = NormalOf (value_of k) }, runs i k e vars this answers turns, only_gives k e vars);
+  by = λ e u y vars this answers turns b. inr (record { events = []; final = seen e.shared vars; outcome = NormalOf (value_of k) }, runs i k e vars this answers turns, only_gives k e vars);
 }

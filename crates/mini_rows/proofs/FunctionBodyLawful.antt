@@ -188,7 +188,7 @@ module _ (W : VariableSet) (p : Position) (d g : Bool) (ds : List (List ℕ)) (n
 
   these_bodies : (e : Around) → BodiesWith W D (bodies e this) (bodies e that)
   these_bodies e =
-      without.each_of W D (own e first_list) (bodies_after e first_list) (own e second_list) (bodies_after e second_list) (inl (record { number = refl; kind = inl refl; strict = refl; asks_this = refl; same = λ f u y. statements_run W (listed (name ▸ ps)) a b t f u }), tt)
+      without.each_of W D (own e first_list) (bodies_after e first_list) (own e second_list) (bodies_after e second_list) (inl (record { number = refl; kind = inl refl; strict = refl; asks_this = refl; same = λ f u y X g. statements_run W (listed (name ▸ ps)) a b t f u X }), tt)
       (without.all_more nothing W D D (without.nothing_part W) (without.part_itself D) (bodies_after e first_list) (bodies_after e second_list) (from_kept D (bodies_after e first_list) (bodies_after e second_list) (function_bodies (listed ps) x t.before t.after t.d t.w t.loses.leaves t.loses.declares outside t.earlier t.later d g ds number name (around e 0) (around e 1) (around e 2))))
 
   abbrev own_frame : List Frame

@@ -141,7 +141,7 @@ module _ (W : VariableSet) (number : ℕ) (a b : Trees) (t : Stretch W (listed n
 
   these_bodies : (e : Around) → BodiesWith W D (bodies e this) (bodies e that)
   these_bodies e =
-      without.each_of W D (own_body e first_list) (others e first_list) (own_body e second_list) (others e second_list) (inl (record { number = refl; kind = inl refl; strict = refl; asks_this = refl; same = λ f u y. runs f u }), tt)
+      without.each_of W D (own_body e first_list) (others e first_list) (own_body e second_list) (others e second_list) (inl (record { number = refl; kind = inl refl; strict = refl; asks_this = refl; same = λ f u y X g. runs f u X }), tt)
       (without.all_more nothing W D D (without.nothing_part W) (without.part_itself D) (others e first_list) (others e second_list) (from_kept D (others e first_list) (others e second_list) (others_kept e)))
 
   abbrev own_frame : List Frame
