@@ -34,7 +34,7 @@ module _ (k : ℕ) where
   out [] a = refl
   out (y ∷ ys) a = ap (λ b. choose b true (is_in (Symbol k) ys)) (turned y a.0) ∙ out ys a.1
 
-  out_both : (xs ys : List Variable) → Out xs → Out ys → Out (xs ++ ys)
+  pub out_both : (xs ys : List Variable) → Out xs → Out ys → Out (xs ++ ys)
   out_both [] ys e f = f
   out_both (x ∷ xs) ys e f = by (variable_eq x (Symbol k)) e (out_both xs ys)
     where

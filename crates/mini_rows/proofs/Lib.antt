@@ -124,6 +124,12 @@ pub mod ChoiceLawful
 mod SteadyMeaning
 pub mod SteadyKept
 pub mod SteadyLawful
+pub mod Unbound
+pub mod PastRuns
+pub mod PastParts
+pub mod PastMeaning
+pub mod PastNext
+pub mod PastStretches
 pub mod FoldEqualities
 mod FoldBranches
 pub mod FoldMeaning

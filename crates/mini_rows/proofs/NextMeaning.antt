@@ -38,7 +38,7 @@ use Rattle.mini_rows.proofs.DeclaredKept.{none_in}
 use Rattle.mini_rows.proofs.NextKept.{next_unnamed}
 
 -- a path leads to no absent part
-led_there : (ss : List Step) (t : Tree) → (summary t).facts.absent ≡ false → (summary (led ss t)).facts.absent ≡ false
+pub led_there : (ss : List Step) (t : Tree) → (summary t).facts.absent ≡ false → (summary (led ss t)).facts.absent ≡ false
 led_there [] t e = e
 led_there (s ∷ ss) t e = by s.lead (led_there ss t e)
   where
@@ -46,16 +46,16 @@ led_there (s ∷ ss) t e = by s.lead (led_there ss t e)
     by Not h = h
     by l h = refl
 
-stopped : (X : Type 0) (D : VariableSet) (y : Stop) (s t : State) → Agree D s t → Goes {A = X} true (λ u. Agree D) (Agree D) (Agree D) (stop y s) (stop y t)
+pub stopped : (X : Type 0) (D : VariableSet) (y : Stop) (s t : State) → Agree D s t → Goes {A = X} true (λ u. Agree D) (Agree D) (Agree D) (stop y s) (stop y t)
 unfolding Goes
 stopped X D y s t g = (refl, g)
 
 -- what a declarator binds takes a value, and the declarators behind it are run
 module _ (e : Environment) (id : Tree) (K : VariableDeclarationKind) (last : Trees) where
-  abbrev others : State → Completion (Unit {0})
+  abbrev pub others : State → Completion (Unit {0})
   others z = means e (declaration K last) (Stat None) [] z
 
-  abbrev rest : Value → State → Completion (Unit {0})
+  abbrev pub rest : Value → State → Completion (Unit {0})
   rest a z = either (means e id (Binds (is_lexical K)) a z) (λ u y. others y) (λ x y. stop x y)
 
 -- a declarator with a value, run

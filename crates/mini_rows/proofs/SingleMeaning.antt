@@ -289,14 +289,14 @@ replies Callee b u = tt
 replies q b u = absurd u
 
 -- what the parts before are asked
-abbrev AllReply : (ℕ → Demand) → Trees → Type 0
+abbrev pub AllReply : (ℕ → Demand) → Trees → Type 0
 AllReply σ none = Unit {0}
 AllReply σ (t ▸ ts) = Replies (σ 0) × AllReply (λ i. σ (suc i)) ts
 
-record Asks (c : Asked) (l : Lead) (fs : List Facts) (q : Demand) (r : Request q) (at_end : Bool) : Type 0 where
-  reaches : is_steady l ≡ true → Reaches (count (before l)) (step (shape_by (head_of l)) [] fs q r)
-  below : Suits (asked_below (head_of l) c (place 0 (before l))) (demand (shape_by (head_of l)) fs q (count (before l))) at_end
-  first : is_steady l ≡ true → AllReply (demand (shape_by (head_of l)) fs q) (before l)
+pub record Asks (c : Asked) (l : Lead) (fs : List Facts) (q : Demand) (r : Request q) (at_end : Bool) : Type 0 where
+  pub reaches : is_steady l ≡ true → Reaches (count (before l)) (step (shape_by (head_of l)) [] fs q r)
+  pub below : Suits (asked_below (head_of l) c (place 0 (before l))) (demand (shape_by (head_of l)) fs q (count (before l))) at_end
+  pub first : is_steady l ≡ true → AllReply (demand (shape_by (head_of l)) fs q) (before l)
 
 value_asks : (l : Lead) (b : Bool) → Stands AsValue l b → (fs : List Facts) (q : Demand) → Replies q → (r : Request q) → Asks AsValue l fs q r b
 unfolding step
@@ -385,7 +385,7 @@ list_asks (Listing ts) b s (f ∷ fs) h Items u r = record { reaches = λ y. ent
 list_asks (Listing ts) b s (f ∷ fs) h q u r = absurd u
 list_asks l b s fs h q u r = absurd s
 
-asks : (c : Asked) (l : Lead) (b : Bool) → Stands c l b → (fs : List Facts) → Before (count (before l)) (length fs) → (q : Demand) → Suits c q false → (r : Request q) → Asks c l fs q r b
+pub asks : (c : Asked) (l : Lead) (b : Bool) → Stands c l b → (fs : List Facts) → Before (count (before l)) (length fs) → (q : Demand) → Suits c q false → (r : Request q) → Asks c l fs q r b
 asks AsWholeItem l b s fs h (Stat None) u r = statement_asks l b s fs r
 asks AsValue l b s fs h q u r = value_asks l b s fs q (replies q false u) r
 asks AsValues l b s fs h q u r = list_asks l b s fs h q u r
@@ -475,7 +475,7 @@ module _ (e : Environment) (k : ℕ) (z : Unseen (alone (Declared k)) e) where
   told_goes w (halt y s) = (refl, itself s)
   told_goes w out = tt
 
-  read_goes : (spelling : List ℕ) (init : Tree) (w : Want) (s : State) → Go (next (means e init (As Val) tt s) (λ v t. means e (identifier (resolved spelling k)) (As w) tt (after v t))) (means e init (As w) tt s)
+  pub read_goes : (spelling : List ℕ) (init : Tree) (w : Want) (s : State) → Go (next (means e init (As Val) tt s) (λ v t. means e (identifier (resolved spelling k)) (As w) tt (after v t))) (means e init (As w) tt s)
   read_goes spelling init w s =
       subst₂ Go
       (either_cong (means e init (As Val) tt s) _ _ _ _ (λ v t. sym (coherent (identifier (resolved spelling k)) w e (after v t) ∙ ap (told w) (read_is spelling v t))) (λ y t. refl))
@@ -489,7 +489,7 @@ module _ (e : Environment) (k : ℕ) (z : Unseen (alone (Declared k)) e) where
   item_goes (halt y s) = (refl, itself s)
   item_goes out = tt
 
-  entry_goes : (spelling : List ℕ) (init : Tree) → is_item init ≡ true → (s : State) → Go (next (means e init (As Val) tt s) (λ v t. means e (identifier (resolved spelling k)) AnEntry tt (after v t))) (means e init AnEntry tt s)
+  pub entry_goes : (spelling : List ℕ) (init : Tree) → is_item init ≡ true → (s : State) → Go (next (means e init (As Val) tt s) (λ v t. means e (identifier (resolved spelling k)) AnEntry tt (after v t))) (means e init AnEntry tt s)
   entry_goes spelling init i s =
       subst₂ Go
       (either_cong (means e init (As Val) tt s) _ _ _ _ (λ v t. sym (item_read (identifier (resolved spelling k)) refl e (after v t) ∙ ap (by_value AnEntry tt) (read_is spelling v t))) (λ y t. refl))
@@ -508,14 +508,14 @@ module _ (e : Environment) (k : ℕ) (z : Unseen (alone (Declared k)) e) where
   abbrev front : Trees → (σ : ℕ → Demand) → (j : ℕ) → Does (σ j)
   front ps σ j r s = meaning e ps j (σ j) r s
 
-  front_is : (ps : Trees) (t : Tree) (ts : Trees) (j : ℕ) → Before j (count ps) → (q : Demand) (r : Request q) (s : State) → meaning e (append ps (t ▸ ts)) j q r s ≡ meaning e ps j q r s
+  pub front_is : (ps : Trees) (t : Tree) (ts : Trees) (j : ℕ) → Before j (count ps) → (q : Demand) (r : Request q) (s : State) → meaning e (append ps (t ▸ ts)) j q r s ≡ meaning e ps j q r s
   unfolding meaning
   front_is none t ts zero b q r s = absurd b
   front_is none t ts (suc j) b q r s = absurd b
   front_is (p ▸ ps) t ts zero b q r s = refl
   front_is (p ▸ ps) t ts (suc j) b q r s = front_is ps t ts j b q r s
 
-  there_is : (ps : Trees) (t : Tree) (ts : Trees) (q : Demand) (r : Request q) (s : State) → meaning e (append ps (t ▸ ts)) (count ps) q r s ≡ means e t q r s
+  pub there_is : (ps : Trees) (t : Tree) (ts : Trees) (q : Demand) (r : Request q) (s : State) → meaning e (append ps (t ▸ ts)) (count ps) q r s ≡ means e t q r s
   unfolding meaning
   there_is none t ts q r s = refl
   there_is (p ▸ ps) t ts q r s = there_is ps t ts q r s
@@ -617,10 +617,10 @@ module _ (e : Environment) (k : ℕ) (z : Unseen (alone (Declared k)) e) where
 
   -- ---- the path
 
-  all_spared : (x : Name) → x.symbol ≡ Some (record { 0 = k }) → (ts : Trees) → any_names x ts ≡ false → AllAvoid D ts
+  pub all_spared : (x : Name) → x.symbol ≡ Some (record { 0 = k }) → (ts : Trees) → any_names x ts ≡ false → AllAvoid D ts
   all_spared x h ts f = all_avoided x k h ts f
 
-  there_before : (ps : Trees) (t : Tree) (ts : Trees) → Before (count ps) (length (facts_all (summaries (append ps (t ▸ ts)))))
+  pub there_before : (ps : Trees) (t : Tree) (ts : Trees) → Before (count ps) (length (facts_all (summaries (append ps (t ▸ ts)))))
   there_before none t ts = tt
   there_before (p ▸ ps) t ts = there_before ps t ts
 

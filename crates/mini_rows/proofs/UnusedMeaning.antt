@@ -61,11 +61,11 @@ there (node (shape.Class true) xs n ts) e = absurd (true≢false (sym e))
 there (node (shape.Class false) xs n ts) e = refl
 there (node h xs n ts) e = refl
 
-same_append : (a b : Trees) → first.append a b ≡ append a b
+pub same_append : (a b : Trees) → first.append a b ≡ append a b
 same_append none b = refl
 same_append (t ▸ a) b = ap (λ ts. t ▸ ts) (same_append a b)
 
-all_join : (D : VariableSet) (a b : Trees) → AllAvoid D a → AllAvoid D b → AllAvoid D (append a b)
+pub all_join : (D : VariableSet) (a b : Trees) → AllAvoid D a → AllAvoid D b → AllAvoid D (append a b)
 all_join D none b p q = q
 all_join D (t ▸ a) b p q = (p.0, all_join D a b p.1 q)
 
@@ -369,7 +369,7 @@ module _ (e : Environment) (spelling : List ℕ) (k : ℕ) (z : Unseen (alone (D
   texts_around : (ts : Trees) → texts_all (facts_all (summaries (append before (append ts after)))) ≡ texts_all (facts_all (summaries before)) ++ (texts_all (facts_all (summaries ts)) ++ texts_all (facts_all (summaries after)))
   texts_around ts = texts_append before (append ts after) ∙ ap (λ l. texts_all (facts_all (summaries before)) ++ l) (texts_append ts after)
 
-  list_read : ReadAlike (alone (Declared k)) e (summary (listed (append before (append d after)))) (summary (listed (append before (append w after))))
+  pub list_read : ReadAlike (alone (Declared k)) e (summary (listed (append before (append d after)))) (summary (listed (append before (append w after))))
   list_read = record {
     facts = λ j. record {
       absent = false;

@@ -109,13 +109,13 @@ module _ (W : VariableSet) (p : Tree) (earlier_list later_list : Trees) (listed_
 
 -- ---- what stands in a block may stand in a function's body and in a module
 
-declaration_in : (o : Depth) (strict : Bool) (k : VariableDeclarationKind) (ds : Trees) → fits strict (item_in o) (declaration k ds) ≡ fits strict item (declaration k ds)
+pub declaration_in : (o : Depth) (strict : Bool) (k : VariableDeclarationKind) (ds : Trees) → fits strict (item_in o) (declaration k ds) ≡ fits strict item (declaration k ds)
 declaration_in o strict k ds = declaration_anywhere strict o k ds ∙ sym (declaration_anywhere strict nested k ds)
 
 expression_in : (o : Depth) (strict : Bool) (t : Tree) → fits strict (item_in o) (expression_statement t) ≡ fits strict item (expression_statement t)
 expression_in o strict t = refl
 
-left_in : (o : Depth) (strict : Bool) (k : VariableDeclarationKind) (ds : Trees) → fits strict (item_in o) (declared_left k ds) ≡ fits strict item (declared_left k ds)
+pub left_in : (o : Depth) (strict : Bool) (k : VariableDeclarationKind) (ds : Trees) → fits strict (item_in o) (declared_left k ds) ≡ fits strict item (declared_left k ds)
 left_in o strict k none = refl
 left_in o strict k (t ▸ ds) = declaration_in o strict k (t ▸ ds)
 
@@ -126,7 +126,7 @@ led_in Raising s o strict ts = refl
 led_in Testing s o strict ts = refl
 led_in l s o strict ts = absurd s
 
-one_fits : (o : Depth) (strict : Bool) (d w : Tree) → (fits strict item d ≡ true → fits strict item w ≡ true) → fits strict (item_in o) d ≡ fits strict item d → fits strict (item_in o) w ≡ fits strict item w → fill strict (each (item_in o)) (d ▸ none) ≡ true → fill strict (each (item_in o)) (w ▸ none) ≡ true
+pub one_fits : (o : Depth) (strict : Bool) (d w : Tree) → (fits strict item d ≡ true → fits strict item w ≡ true) → fits strict (item_in o) d ≡ fits strict item d → fits strict (item_in o) w ≡ fits strict item w → fill strict (each (item_in o)) (d ▸ none) ≡ true → fill strict (each (item_in o)) (w ▸ none) ≡ true
 one_fits o strict d w f a b h = let (one_there, rest) = first_fits strict (item_in o) d none h in more_fit strict (item_in o) w none (b ∙ f (sym a ∙ one_there)) rest
 
 -- and is no import and no export
@@ -143,13 +143,13 @@ led_ported Testing s ts rest = refl
 led_ported l s ts rest = absurd s
 
 -- a head and what is written for it stand where a statement does, and are no import and no export
-record StandsThere (head put : Tree) : Type 0 where
-  head_in : (o : Depth) (strict : Bool) → fits strict (item_in o) head ≡ fits strict item head
-  put_in : (o : Depth) (strict : Bool) → fits strict (item_in o) put ≡ fits strict item put
-  head_ported : (rest : Trees) → ports true (head ▸ rest) ≡ ports true rest
-  put_ported : (rest : Trees) → ports true (put ▸ rest) ≡ ports true rest
+pub record StandsThere (head put : Tree) : Type 0 where
+  pub head_in : (o : Depth) (strict : Bool) → fits strict (item_in o) head ≡ fits strict item head
+  pub put_in : (o : Depth) (strict : Bool) → fits strict (item_in o) put ≡ fits strict item put
+  pub head_ported : (rest : Trees) → ports true (head ▸ rest) ≡ ports true rest
+  pub put_ported : (rest : Trees) → ports true (put ▸ rest) ≡ ports true rest
 
-statement_there : (x : Name) (head : Tree) → reads_first x head ≡ true → (init : Tree) → StandsThere head (put_first x init head)
+pub statement_there : (x : Name) (head : Tree) → reads_first x head ≡ true → (init : Tree) → StandsThere head (put_first x init head)
 statement_there x head once init =
     let t = statement x head once in
     record {

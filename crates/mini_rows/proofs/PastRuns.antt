@@ -1,0 +1,152 @@
+-- What a tree reads may be put there where each part that stands before gives the same before the initializer and after it, from one state.
+use Rattle.std.specs.Prelude.{Bool, ◌⊎◌}
+use Rattle.std.proofs.Common.{◌≡◌, ℕ, zero, suc, true, false, List, [], ◌∷◌, Some, refl, sym, ap, ◌∙◌, subst, subst₂, true≢false, inl, inr}
+use Rattle.mini_model.specs.declared.name.Name.{Name}
+use Rattle.mini_model.specs.declared.shape.Shape.{Shape}
+use Rattle.mini_model.specs.Tree.{Tree, Trees, node, none, ◌▸◌, count, identifier}
+use Rattle.mini_model.specs.Paths.{append}
+use Rattle.mini_laws.specs.Value.{Value, Declared, VariableSet, Holds}
+use Rattle.mini_laws.specs.State.{Stop, State, Completion, ok, stop, halt, out, Ends, done, ended, either, Environment, with_vars}
+use Rattle.mini_laws.specs.Demand.{Val, Demand, As, AnEntry, Callee, Request, Reply}
+use Rattle.mini_laws.specs.Command.{set_var, Command, ret, fails, stuck, op, kid, run}
+use Rattle.mini_laws.specs.Naming.{Summary, summary, summaries, facts_all, naming}
+use Rattle.mini_laws.specs.Asking.{demand}
+use Rattle.mini_laws.specs.Step.{step, means, meaning}
+use Rattle.mini_laws.specs.Same.{Goes, Agree}
+use Rattle.mini_laws.specs.Substitution.{alone}
+use Rattle.mini_laws.specs.Congruence.{AllAvoid}
+use Rattle.mini_laws.proofs.Runs.{either_cong, either_assoc, either_ok, either_stop}
+use Rattle.mini_laws.proofs.Simulation.{goes_either}
+use Rattle.mini_kept.specs.Without.{Unseen}
+use Rattle.mini_terms.specs.Reading.{is_item}
+use Rattle.mini_rows.specs.Sketches.{shape_by, Asked, AsValue, asked_below}
+use Rattle.mini_rows.specs.Unused.{resolved}
+use Rattle.mini_rows.proofs.Passing.{Replies, Does}
+use Rattle.mini_rows.proofs.SingleMeaning.{Before, Later, Reaches, Suits, AllReply, asks, next, later_goes, by_summaries, node_is, stopped, front_is, there_is, read_goes, entry_goes, all_spared, there_before}
+use Rattle.mini_rows.proofs.SingleUse.{head_of, before, place, Step, led, is_end, is_steady, Well, Spared, summaries_led}
+
+-- what goes on after a reply may rest on it
+pub by_reply : {A B : Type 0} (x : Completion A) (f g : A → State → Completion B) → ((v : A) (t : State) → x ≡ ok v t → f v t ≡ g v t) → next x f ≡ next x g
+unfolding either
+by_reply (ok v t) f g h = h v t refl
+by_reply (stop y t) f g h = refl
+by_reply (halt y t) f g h = refl
+by_reply out f g h = refl
+
+module _ (e : Environment) (k : ℕ) (z : Unseen (alone (Declared k)) e) (init : Tree) (s : State) where
+  abbrev D : VariableSet
+  D = alone (Declared k)
+
+  abbrev Go : {A : Type 0} → Completion A → Completion A → Type 0
+  Go x y = Goes true (λ a. Agree D) (Agree D) (Agree D) x y
+
+  abbrev after : Value → State → State
+  after v t = with_vars t (set_var t.vars (Declared k) (Holds v))
+
+  -- with the initializer's value in the variable
+  abbrev Started : {A : Type 0} → (Value → State → Completion A) → Completion A
+  Started f = next (means e init (As Val) tt s) (λ v t. f v (after v t))
+
+  -- it does nothing but reply, and replies the same before the initializer and after it
+  abbrev pub Held : (q : Demand) → Does q → Type 0
+  Held q m = (r : Request q) → (a : Reply q r) × (m r s ≡ ok a s) × ((v : Value) (t : State) → means e init (As Val) tt s ≡ ok v t → m r (after v t) ≡ ok a (after v t))
+
+  -- so does each of some parts, whatever it is asked for
+  abbrev pub AllHeld : Trees → Type 0
+  AllHeld none = Unit {0}
+  AllHeld (t ▸ ts) = ((q : Demand) → Replies q → Held q (means e t q)) × AllHeld ts
+
+  abbrev pub HeldPath : List Step → Type 0
+  HeldPath [] = Unit {0}
+  HeldPath (s ∷ ss) = (AllHeld (before s.lead) × (is_steady s.lead ≡ true)) × HeldPath ss
+
+  abbrev front : Trees → (σ : ℕ → Demand) → (j : ℕ) → Does (σ j)
+  front ps σ j r t = meaning e ps j (σ j) r t
+
+  held_front : (ps : Trees) → AllHeld ps → (σ : ℕ → Demand) → AllReply σ ps → (j : ℕ) → Before j (count ps) → Held (σ j) (front ps σ j)
+  unfolding meaning
+  held_front none h σ u zero b = absurd b
+  held_front none h σ u (suc j) b = absurd b
+  held_front (t ▸ ps) h σ u zero b = h.0 (σ 0) u.0
+  held_front (t ▸ ps) h σ u (suc j) b = held_front ps h.1 (λ i. σ (suc i)) u.1 j b
+
+  passed_goes : {A : Type 0} (q : Demand) (m : Does q) → Held q m → (r : Request q) (F G : Reply q r → State → Completion A) (f g : Stop → State → Completion A) → ((a : Reply q r) → Go (Started (λ v t. F a t)) (G a s)) → Go (Started (λ v t. either (m r t) F f)) (either (m r s) G g)
+  passed_goes q m c r F G f g h =
+      let (a, now, later) = c r in
+      subst₂ Go (by_reply (means e init (As Val) tt s) (λ v t. F a (after v t)) (λ v t. either (m r (after v t)) F f) (λ v t is. sym (ap (λ x. either x F f) (later v t is) ∙ either_ok a (after v t) F f))) (sym (ap (λ x. either x G g) now ∙ either_ok a s G g)) (h a)
+
+  -- ---- a node, with the expression in the place of the read
+
+  module _ (h : Shape) (q : Demand) (is : List Summary) (σ : ℕ → Demand) (ps : Trees) (t u : Tree) (ts : Trees) (first : AllAvoid D ps) (last : AllAvoid D ts) (held : (j : ℕ) → Before j (count ps) → Held (σ j) (front ps σ j))
+      (inner : (r : Request (σ (count ps))) → Go (Started (λ v y. means e t (σ (count ps)) r y)) (means e u (σ (count ps)) r s)) where
+    abbrev runs : {A : Type 0} → Tree → Command σ A → State → Completion A
+    runs w c y = run e (naming h q [] 0 is) (λ i r z. meaning e (append ps (w ▸ ts)) i (σ i) r z) c y
+
+    abbrev Reached : {A : Type 0} → Command σ A → Type 0
+    Reached c = Go (Started (λ v y. runs t c y)) (runs u c s)
+
+    module _ {A : Type 0} (r : Request (σ (count ps))) (c : Ends (Reply (σ (count ps)) r) → Command σ A) (stops : (y : Stop) → c (ended y) ≡ fails y) (later : (a : Reply (σ (count ps)) r) → Later (count ps) (c (done a))) where
+      abbrev goes_on_with : Tree → Reply (σ (count ps)) r → State → Completion A
+      goes_on_with w a y = runs w (c (done a)) y
+
+      asked_there : (w : Tree) (y : State) → runs w (kid (count ps) r c) y ≡ next (means e w (σ (count ps)) r y) (goes_on_with w)
+      asked_there w y =
+          ap (λ x. either x (goes_on_with w) (λ x p. runs w (c (ended x)) p)) (there_is e k z ps w ts (σ (count ps)) r y)
+          ∙ either_cong (means e w (σ (count ps)) r y) _ _ _ _ (λ a p. refl) (λ x p. ap (λ d. runs w d p) (stops x))
+
+      hit_here : Reached (kid (count ps) r c)
+      hit_here =
+          let v = means e init (As Val) tt s in
+          subst₂ Go
+          (sym (either_cong v _ _ _ _ (λ p y. asked_there t (after p y)) (λ y p. refl) ∙ sym (either_assoc v (λ p y. means e t (σ (count ps)) r (after p y)) (λ y p. stop y p) (goes_on_with t) (λ y p. stop y p) ∙ either_cong v _ _ _ _ (λ p y. refl) (λ y p. either_stop y p (goes_on_with t) (λ y p. stop y p)))))
+          (sym (asked_there u s))
+          (goes_either true (λ p. Agree D) (Agree D) (Agree D) (λ p. Agree D) (Agree D) (Started (λ p y. means e t (σ (count ps)) r y)) (means e u (σ (count ps)) r s) _ _ _ _
+          (inner r)
+          (λ p x y g. later_goes e k z h q is ps t u ts first last (c (done p)) (later p) x y g) (λ p x y g. stopped e k z A p x y g))
+
+    hit_there : {A : Type 0} (j : ℕ) → j ≡ count ps → (r : Request (σ j)) (c : Ends (Reply (σ j) r) → Command σ A) → ((y : Stop) → c (ended y) ≡ fails y) → ((a : Reply (σ j) r) → Later (count ps) (c (done a))) → Reached (kid j r c)
+    hit_there {A} j p =
+        subst (λ j. (r : Request (σ j)) (c : Ends (Reply (σ j) r) → Command σ A) → ((y : Stop) → c (ended y) ≡ fails y) → ((a : Reply (σ j) r) → Later (count ps) (c (done a))) → Reached (kid j r c)) (sym p)
+        (λ r c stops later. hit_here r c stops later)
+
+    reach_goes : {A : Type 0} (c : Command σ A) → Reaches (count ps) c → Reached c
+    reach_goes {A} (kid j r c) (inl l) =
+        let F = λ (a : Reply (σ j) r) (y : State). runs t (c (done a)) y in
+        let G = λ (a : Reply (σ j) r) (y : State). runs u (c (done a)) y in
+        let f = λ (x : Stop) (y : State). runs t (c (ended x)) y in
+        let g = λ (x : Stop) (y : State). runs u (c (ended x)) y in
+        subst₂ Go (either_cong (means e init (As Val) tt s) _ _ _ _ (λ v y. ap (λ x. either x F f) (sym (front_is e k z ps t ts j l.0 (σ j) r (after v y)))) (λ x y. refl)) (ap (λ x. either x G g) (sym (front_is e k z ps u ts j l.0 (σ j) r s)))
+        (passed_goes (σ j) (front ps σ j) (held j l.0) r F G f g (λ a. reach_goes (c (done a)) (l.1 a)))
+    reach_goes (kid j r c) (inr l) = hit_there j l.here r c l.stops l.later
+    reach_goes (ret a) l = absurd l
+    reach_goes (fails y) l = absurd l
+    reach_goes stuck l = absurd l
+    reach_goes (op o c) l = absurd l
+
+  -- ---- the path
+
+  module _ (x : Name) (named : x.symbol ≡ Some (record { 0 = k })) (spelling : List ℕ) (plain : summary (identifier (resolved spelling k)) ≡ summary init) (item : is_item init ≡ true) where
+    abbrev read : Tree
+    read = identifier (resolved spelling k)
+
+    pub past_goes : (c : Asked) (ss : List Step) → Well c ss → Spared x ss → HeldPath ss → (q : Demand) → Suits c q (is_end ss) → (r : Request q) → Go (Started (λ v t. means e (led ss read) q r t)) (means e (led ss init) q r s)
+    past_goes AsValue [] w f p (As v) u r = read_goes e k z spelling init v s
+    past_goes AsValue [] w f p AnEntry u r = entry_goes e k z spelling init item s
+    past_goes AsValue [] w f p Callee u r = absurd (true≢false u)
+    past_goes AsValue [] w f p q u r = absurd u
+    past_goes c [] w f p q u r = absurd w
+    past_goes c (step_there ∷ ss) w f p q u r =
+        let l = step_there.lead in
+        let h = shape_by (head_of l) in
+        let ps = before l in
+        let kids = λ (t : Tree). append ps (led ss t ▸ step_there.rest) in
+        let is = summaries (kids read) in
+        let σ = demand h (facts_all is) q in
+        let a = asks c l (is_end ss) w.0 (facts_all is) (there_before e k z ps (led ss read) step_there.rest) q u r in
+        let first = all_spared e k z x named ps f.0.0 in
+        let last = all_spared e k z x named step_there.rest f.0.1 in
+        let there = λ (y : State). node_is e k z h q r (kids read) y in
+        let put : means e (led (step_there ∷ ss) init) q r s ≡ by_summaries e k z h q r is (kids init) s = node_is e k z h q r (kids init) s ∙ ap (λ i. by_summaries e k z h q r i (kids init) s) (sym (summaries_led step_there ss read init plain)) in
+        subst₂ Go (sym (either_cong (means e init (As Val) tt s) _ _ _ _ (λ v y. there (after v y)) (λ y p. refl))) (sym put)
+        (reach_goes h q is σ ps (led ss read) (led ss init) step_there.rest first last (held_front ps p.0.0 σ (a.first p.0.1))
+        (λ r'. past_goes (asked_below (head_of l) c (place 0 ps)) ss w.1 f.1 p.1 (σ (count ps)) a.below r') (step h [] (facts_all is) q r) (a.reaches p.0.1))

@@ -1,0 +1,181 @@
+-- What the rows of names that are read behind held names do to the statements of a body.
+use Rattle.std.specs.Prelude.{ℕ, ◌≡◌, refl, ◌&&◌, ◌||◌, Bool, true, false, List, [], None}
+use Rattle.std.proofs.Common.{ap, ◌∙◌, sym, subst, subst₂, inl, inr, true≢false}
+use Rattle.mini_model.specs.declared.kind.VariableDeclarationKind.{VariableDeclarationKind}
+use Rattle.mini_model.specs.declared.name.Name.{Name}
+use Rattle.mini_model.specs.Tree.{Tree, Trees, node, none, ◌▸◌, listed}
+use Rattle.mini_model.specs.Paths.{append}
+use Rattle.mini_accept.specs.WellShaped.{in_body, each, fill}
+use Rattle.mini_laws.specs.Body.{FunctionStatements}
+use Rattle.mini_laws.specs.Congruence.{AllAvoid}
+use Rattle.mini_laws.specs.Demand.{Stat}
+use Rattle.mini_laws.specs.Same.{Same}
+use Rattle.mini_laws.specs.Skeleton.{Off, hidden_all}
+use Rattle.mini_laws.specs.State.{Environment}
+use Rattle.mini_laws.specs.Substitution.{alone}
+use Rattle.mini_laws.specs.Value.{Declared, VariableSet, nothing}
+use Rattle.mini_laws.proofs.Congruent.{transitive}
+use Rattle.mini_kept.specs.AlikeBodies.{RunsAs}
+use Rattle.mini_kept.specs.Without.{Assured, Steadies, Begins, Permits}
+use Rattle.mini_rows.specs.Lists.{declaration}
+use Rattle.mini_rows.specs.Declarations.{binding, declarator}
+use Rattle.mini_rows.specs.Past.{binds, any_bind, held, Row71Past, Row71PastNext, PastRow, PastRunsAlike}
+use Rattle.mini_rows.specs.Unused.{resolved, names, any_names, declared_among, declared_one, declared_left, put_first, reads_first, reads_head, statements}
+use Rattle.mini_rows.proofs.FoldMeaning.{plain_read}
+use Rattle.mini_rows.proofs.HeadKept.{head_leaves, head_declares}
+use Rattle.mini_rows.proofs.HeadMeaning.{head_read, head_unnamed}
+use Rattle.mini_rows.proofs.ListShapes.{first_fits, more_fit}
+use Rattle.mini_rows.proofs.NextKept.{next_leaves, next_declares}
+use Rattle.mini_rows.proofs.NextMeaning.{next_read, next_avoids}
+use Rattle.mini_rows.proofs.PastNext.{next_past}
+use Rattle.mini_rows.proofs.PastMeaning.{held_still, held_off, statement_goes, in_two, in_one, behind_same, pair_same, body_runs}
+use Rattle.mini_rows.proofs.Unbound.{all_unhidden}
+use Rattle.mini_rows.proofs.UnusedKept.{LeavesThere, DeclaresThere}
+use Rattle.mini_rows.proofs.UnusedLawful.{single_fits, next_fits}
+use Rattle.mini_rows.proofs.UnusedMeaning.{ReadThere, read_alone, single_read, first_avoids, may_write, movable}
+use Rattle.mini_rows.proofs.UnusedNames.{or_parts, avoided, all_avoided}
+use Rattle.mini_rows.proofs.UnusedStretches.{body_item, declaration_in, left_in, one_fits, StandsThere, statement_there}
+
+-- ---- of some statements that lose a name, behind what stands outside of them
+
+pub record Behind (V : Assured) (W : VariableSet) (outside : Tree) (ts us : Trees) : Type 0 where
+  pub spelling : List ℕ
+  pub symbol : ℕ
+  pub before : Trees
+  pub after : Trees
+  pub d : Trees
+  pub w : Trees
+  pub leaves : LeavesThere (resolved spelling symbol) d w
+  pub declares : DeclaresThere (resolved spelling symbol) d w
+  pub read : ReadThere symbol d w
+  pub same : (e : Environment) → Permits W (alone (Declared symbol)) e → Steadies V e → Same e (alone (Declared symbol)) (held V ts) (Stat None) (listed d) (listed w)
+  pub avoids : AllAvoid (alone (Declared symbol)) w
+  pub fits : (strict : Bool) → fill strict (each body_item) d ≡ true → fill strict (each body_item) w ≡ true
+  pub outer : names (resolved spelling symbol) outside ≡ false
+  pub earlier : any_names (resolved spelling symbol) before ≡ false
+  pub later : any_names (resolved spelling symbol) after ≡ false
+  pub read_is : ts ≡ append before (append d after)
+  pub written_is : us ≡ append before (append w after)
+
+bind_parts : (j : ℕ) (a b : Trees) → any_bind j (append a b) ≡ false → (any_bind j a ≡ false) × (any_bind j b ≡ false)
+bind_parts j none b e = (refl, e)
+bind_parts j (t ▸ a) b e =
+    let (one, others) = or_parts (binds j t) (any_bind j (append a b)) e in
+    let (f, g) = bind_parts j a b others in
+    (ap (λ c. c || any_bind j a) one ∙ f, g)
+
+-- the statements before hide none
+pub before_off : (V : Assured) (before rest ts : Trees) → ts ≡ append before rest → Off (hidden_all before) (held V ts)
+before_off V before rest ts is = held_off V ts (hidden_all before) (λ j f. all_unhidden j before (bind_parts j before rest (sym (ap (any_bind j) is) ∙ f)).0)
+
+left_bound : (j : ℕ) (K : VariableDeclarationKind) (first rest hs : Trees) → any_bind j (declaration K (append first rest) ▸ hs) ≡ false → any_bind j (declared_left K first ▸ none) ≡ false
+left_bound j K none rest hs e = refl
+left_bound j K (t ▸ first) rest hs e =
+    let (d, others) = or_parts (binds j (declaration K (append (t ▸ first) rest))) (any_bind j hs) e in
+    let (list, end) = or_parts (any_bind j (append (t ▸ first) rest)) false d in
+    ap (λ b. (b || false) || false) (bind_parts j (t ▸ first) rest list).0
+
+-- nor do the declarators before
+left_off : (V : Assured) (before : Trees) (K : VariableDeclarationKind) (first rest hs after ts : Trees) → ts ≡ append before (declaration K (append first rest) ▸ append hs after) → Off (hidden_all (declared_left K first ▸ none)) (held V ts)
+left_off V before K first rest hs after ts is =
+    held_off V ts (hidden_all (declared_left K first ▸ none)) (λ j f. all_unhidden j (declared_left K first ▸ none) (left_bound j K first rest (append hs after) (bind_parts j before (declaration K (append first rest) ▸ append hs after) (sym (ap (any_bind j) is) ∙ f)).1))
+
+first_true : (a b : Bool) → a ≡ true → (a || b) ≡ true
+first_true true b e = refl
+first_true false b e = absurd (true≢false (sym e))
+
+pub of_head : (V : Assured) (W : VariableSet) (outside : Tree) (ts us : Trees) → Row71Past V W outside ts us → Behind V W outside ts us
+of_head V W outside ts us r =
+    let k = r.symbol in
+    let x : Name = resolved r.spelling k in
+    let K = r.kind in
+    let d = declared_among K x r.first r.init none in
+    let left = declared_left K r.first in
+    let put = put_first x r.init r.head in
+    let one = declared_one K x r.init in
+    let once = first_true (reads_first x r.head) _ r.once in
+    let there = statement_there x r.head r.once r.init in
+    let H = held V ts in
+    record {
+      spelling = r.spelling;
+      symbol = k;
+      before = r.before;
+      after = r.after;
+      d = d ▸ (r.head ▸ none);
+      w = left ▸ (put ▸ none);
+      leaves = head_leaves K x k refl r.first r.init r.head (movable r.init r.moves) once r.initial r.declared_earlier;
+      declares = head_declares K x k refl r.first r.init r.head (movable r.init r.moves) once r.initial r.declared_earlier;
+      read = single_read r.spelling k K r.first r.init r.head put (head_read x r.head once r.init);
+      same = λ e u s.
+          transitive e (alone (Declared k)) H (Stat None) (listed (d ▸ (r.head ▸ none))) (listed (left ▸ (one ▸ (r.head ▸ none)))) (listed (left ▸ (put ▸ none))) (in_two e K r.first (declarator (binding x) r.init ▸ none) (alone (Declared k)) H none (r.head ▸ none))
+          (behind_same e (alone (Declared k)) u.unseen.shared H (left ▸ none) (one ▸ (r.head ▸ none)) (put ▸ none) none tt (left_off V r.before K r.first (declarator (binding x) r.init ▸ none) (r.head ▸ none) r.after ts r.shape)
+          (pair_same e r.spelling k u.unseen H r.init r.head put (ap (λ i. i.facts.absent) (plain_read r.init (movable r.init r.moves))) K (may_write W K e k r.goes u) (statement_goes e r.spelling k u.unseen H (held_still V ts e s) r.init r.head r.moves r.once r.passed)));
+      avoids = (first_avoids (alone (Declared k)) K r.first (all_avoided x k refl r.first r.declared_earlier), (avoided x k refl put (head_unnamed x r.head once r.init r.initial), tt));
+      fits = λ strict h.
+          let (f, g) = first_fits strict body_item d (r.head ▸ none) h in
+          let (i, rest) = first_fits strict body_item r.head none g in
+          let (v, w) = single_fits strict K x r.first r.init r.head r.moves once (sym (declaration_in in_body strict K (append r.first (declarator (binding x) r.init ▸ none))) ∙ f) (sym (there.head_in in_body strict) ∙ i) in
+          more_fit strict body_item left (put ▸ none) (left_in in_body strict K r.first ∙ v) (more_fit strict body_item put none (there.put_in in_body strict ∙ w) rest);
+      outer = r.outer;
+      earlier = r.earlier;
+      later = r.later;
+      read_is = r.shape;
+      written_is = r.written;
+    }
+
+pub of_next : (V : Assured) (W : VariableSet) (outside : Tree) (ts us : Trees) → Row71PastNext V W outside ts us → Behind V W outside ts us
+of_next V W outside ts us r =
+    let k = r.symbol in
+    let x : Name = resolved r.spelling k in
+    let K = r.kind in
+    let H = held V ts in
+    let D = alone (Declared k) in
+    let these = declarator (binding x) r.init ▸ (declarator r.binds r.value ▸ r.last) in
+    let those = declarator r.binds (put_first x r.init r.value) ▸ r.last in
+    let d = declaration K (append r.first these) in
+    let w = declaration K (append r.first those) in
+    let left = declared_left K r.first in
+    record {
+      spelling = r.spelling;
+      symbol = k;
+      before = r.before;
+      after = r.after;
+      d = d ▸ none;
+      w = w ▸ none;
+      leaves = next_leaves K x k refl r.first r.init r.binds r.value r.last r.once r.declared_earlier r.initial r.other r.declared_later;
+      declares = next_declares K x k refl r.first r.init r.binds r.value r.last r.once r.declared_earlier r.initial r.other r.declared_later;
+      read = read_alone k d w (next_read K r.spelling k r.first r.last r.init r.binds r.value (put_first x r.init r.value));
+      same = λ e u s.
+          transitive e D H (Stat None) (listed (d ▸ none)) (listed (left ▸ (declaration K these ▸ none))) (listed (w ▸ none)) (in_two e K r.first these D H none none)
+          (transitive e D H (Stat None) (listed (left ▸ (declaration K these ▸ none))) (listed (left ▸ (declaration K those ▸ none))) (listed (w ▸ none))
+          (behind_same e D u.unseen.shared H (left ▸ none) (declaration K these ▸ none) (declaration K those ▸ none) none tt (left_off V r.before K r.first these none r.after ts r.shape)
+          (next_past e r.spelling k u.unseen H (held_still V ts e s) K r.init r.binds r.value r.last r.moves r.once r.passed (avoided x k refl r.binds r.other) (all_avoided x k refl r.last r.declared_later) (may_write W K e k r.goes u)))
+          (in_one e K r.first those D H none none));
+      avoids = (next_avoids x k refl K r.first r.init r.binds r.value r.last r.once r.declared_earlier r.initial r.other r.declared_later, tt);
+      fits = λ strict. one_fits in_body strict d w (next_fits strict K x r.first r.init r.binds r.value r.last r.moves r.once) (declaration_in in_body strict K (append r.first these)) (declaration_in in_body strict K (append r.first those));
+      outer = r.outer;
+      earlier = r.earlier;
+      later = r.later;
+      read_is = r.shape;
+      written_is = r.written;
+    }
+
+pub behind : (V : Assured) (W : VariableSet) (outside : Tree) (ts us : Trees) → PastRow V W outside ts us → Behind V W outside ts us
+behind V W outside ts us (inl r) = of_head V W outside ts us r
+behind V W outside ts us (inr r) = of_next V W outside ts us r
+
+-- ---- a body with them runs as before
+
+pub statements_run : (V : Assured) (W : VariableSet) (outside : Tree) (ts us : Trees) (b : Behind V W outside ts us) → (e : Environment) → Permits W (alone (Declared b.symbol)) e → Steadies V e → (X : VariableSet) → Begins V X → RunsAs e FunctionStatements FunctionStatements X (statements (append b.before (append b.d b.after))) (statements (append b.before (append b.w b.after)))
+statements_run V W outside ts us b e u s X begins =
+    let x = resolved b.spelling b.symbol in
+    let D = alone (Declared b.symbol) in
+    let there = append b.before (append b.d b.after) in
+    let same = subst (λ l. Same e D (held V l) (Stat None) (listed b.d) (listed b.w)) b.read_is (b.same e u s) in
+    body_runs e b.spelling b.symbol u.unseen V b.before b.d b.w b.after b.read (all_avoided x b.symbol refl b.before b.earlier) b.avoids (all_avoided x b.symbol refl b.after b.later)
+    (behind_same e D u.unseen.shared (held V there) b.before b.d b.w b.after (all_avoided x b.symbol refl b.after b.later) (before_off V b.before (append b.d b.after) there refl) same) X begins
+
+pub runs_alike : PastRunsAlike
+runs_alike V W outside ts us r =
+    let b = behind V W outside ts us r in
+    (b.symbol, λ e u s X g. subst₂ (λ a c. RunsAs e FunctionStatements FunctionStatements X (statements a) (statements c)) (sym b.read_is) (sym b.written_is) (statements_run V W outside ts us b e u s X g))

@@ -1,0 +1,177 @@
+-- Row 71 past steady names: a name that is read once, behind what may be evaluated before its initializer because no answer of the world
+-- changes it while the body runs, as equations with the JavaScript before and after.
+use Rattle.std.specs.Prelude.{◌≡◌, ◌⊎◌, ◌||◌, ◌&&◌, not, ℕ, nat_eq, Bool, true, false, List, [], ◌∷◌, Option, Some, None, if◌then◌else◌}
+use Rattle.mini_model.specs.declared.kind.VariableDeclarationKind.{VariableDeclarationKind}
+use Rattle.mini_model.specs.declared.name.Name.{Name}
+use Rattle.mini_model.specs.declared.name.SymbolId.{SymbolId}
+use Rattle.mini_model.specs.declared.place.Position.{Position}
+use Rattle.mini_model.specs.declared.place.Position.TheVariants.{Expr, Stmt, Method, Elsewhere}
+use Rattle.mini_model.specs.declared.shape.Shape.{Shape}
+use Rattle.mini_model.specs.declared.shape.Shape.TheVariants as shape
+use Rattle.mini_model.specs.Tree.{Tree, Trees, node, none, ◌▸◌, listed}
+use Rattle.mini_model.specs.Paths.{append}
+use Rattle.mini_laws.specs.Body.{FunctionStatements}
+use Rattle.mini_laws.specs.ScopeList.{has_eval}
+use Rattle.mini_laws.specs.State.{Environment}
+use Rattle.mini_laws.specs.Substitution.{alone}
+use Rattle.mini_laws.specs.Value.{Declared, Global, VariableSet}
+use Rattle.mini_laws.specs.Weights.{Lightens}
+use Rattle.mini_kept.specs.AlikeBodies.{RunsAs}
+use Rattle.mini_kept.specs.Loosely.{LawfulUnder}
+use Rattle.mini_kept.specs.Without.{Assured, BodySets, Steadies, Begins, Permits}
+use Rattle.mini_node.specs.Children.{names_of}
+use Rattle.mini_node.specs.Kinds.{is_identifier}
+use Rattle.mini_rows.specs.Lists.{block, declaration}
+use Rattle.mini_rows.specs.Declarations.{declarator}
+use Rattle.mini_rows.specs.Unused.{resolved, names, any_names, declared_among, declared_left, lets_go, may_go_on, begins_with, is_first, put_first, is_constant, reads_first, may_move, statements, function_with}
+
+-- ---- what may be evaluated before the initializer
+
+-- a node that declares a name
+abbrev pub is_binding : Shape → Bool
+is_binding shape.BindingIdentifier = true
+is_binding h = false
+
+abbrev pub is_symbol : ℕ → Option SymbolId → Bool
+is_symbol k (Some s) = nat_eq s.0 k
+is_symbol k None = false
+
+abbrev pub has_symbol : ℕ → List Name → Bool
+has_symbol k [] = false
+has_symbol k (x ∷ xs) = is_symbol k x.symbol || has_symbol k xs
+
+-- a name with this symbol is declared in a tree
+abbrev mutual
+  pub binds : ℕ → Tree → Bool
+  binds k (node h xs n ts) = (is_binding h && has_symbol k xs) || any_bind k ts
+
+  pub any_bind : ℕ → Trees → Bool
+  any_bind k none = false
+  any_bind k (t ▸ ts) = binds k t || any_bind k ts
+
+-- of a body of which this is known, with these statements, the variables that keep the value with which it starts, where nothing in it writes
+-- them: no answer changes them, they are initialised as it starts, and no scope in it declares them
+abbrev pub held : Assured → Trees → VariableSet
+held V ts (Declared k) = V.steady (Declared k) && (V.initial (Declared k) && not (any_bind k ts))
+held V ts (Global s) = false
+
+abbrev pub is_held_symbol : VariableSet → Option SymbolId → Bool
+is_held_symbol H (Some s) = H (Declared s.0)
+is_held_symbol H None = false
+
+-- the name of one of these variables, which r doesn't mention
+abbrev pub is_held_name : VariableSet → Tree → List Name → Bool
+is_held_name H r (y ∷ []) = is_held_symbol H y.symbol && not (names y r)
+is_held_name H r ys = false
+
+abbrev pub is_held : VariableSet → Tree → Tree → Bool
+is_held H r t = is_identifier t && is_held_name H r (names_of t)
+
+-- it may be evaluated before r rather than after, whatever r does: it is a constant, or such a name
+abbrev pub passes_any : VariableSet → Tree → Tree → Bool
+passes_any H r t = is_constant t || is_held H r t
+
+-- so may each part that is evaluated before the variable is read, and the read is reached whatever they are
+abbrev mutual
+  pub are_past : VariableSet → Name → Tree → Tree → Bool
+  are_past H x r (node h ys n ts) = (not (may_go_on h) || begins_with x ts) && all_past H x r ts
+
+  pub all_past : VariableSet → Name → Tree → Trees → Bool
+  all_past H x r none = true
+  all_past H x r (t ▸ ts) = if names x t then are_past H x r t else (passes_any H r t && all_past H x r ts)
+
+-- ---- in the statements of a body
+
+-- 71: `function f(g) { let x = a(); return g(x); }` becomes `function f(g) { ; return g(a()); }`, and so of `[g, x]` and `g + x`
+pub record Row71Past (V : Assured) (W : VariableSet) (outside : Tree) (ts us : Trees) : Type 0 where
+  pub before : Trees
+  pub kind : VariableDeclarationKind
+  pub first : Trees
+  pub spelling : List ℕ
+  pub symbol : ℕ
+  pub init : Tree
+  pub head : Tree
+  pub after : Trees
+  pub goes : lets_go W kind symbol ≡ true
+  pub moves : may_move init ≡ true
+  pub varies : is_constant init ≡ false
+  pub once : reads_first (resolved spelling symbol) head ≡ true
+  pub passed : are_past (held V ts) (resolved spelling symbol) init head ≡ true
+  pub outer : names (resolved spelling symbol) outside ≡ false
+  pub earlier : any_names (resolved spelling symbol) before ≡ false
+  pub declared_earlier : any_names (resolved spelling symbol) first ≡ false
+  pub initial : names (resolved spelling symbol) init ≡ false
+  pub later : any_names (resolved spelling symbol) after ≡ false
+  pub unseen : has_eval (block (outside ▸ ts)) ≡ false
+  pub shape : ts ≡ append before (declared_among kind (resolved spelling symbol) first init none ▸ (head ▸ after))
+  pub written : us ≡ append before (declared_left kind first ▸ (put_first (resolved spelling symbol) init head ▸ after))
+
+-- where the next declarator reads it: `let x = a(), y = g(x);` becomes `let y = g(a());`
+pub record Row71PastNext (V : Assured) (W : VariableSet) (outside : Tree) (ts us : Trees) : Type 0 where
+  pub before : Trees
+  pub kind : VariableDeclarationKind
+  pub first : Trees
+  pub spelling : List ℕ
+  pub symbol : ℕ
+  pub init : Tree
+  pub binds : Tree
+  pub value : Tree
+  pub last : Trees
+  pub after : Trees
+  pub goes : lets_go W kind symbol ≡ true
+  pub moves : may_move init ≡ true
+  pub varies : is_constant init ≡ false
+  pub once : is_first (resolved spelling symbol) false value ≡ true
+  pub passed : are_past (held V ts) (resolved spelling symbol) init value ≡ true
+  pub other : names (resolved spelling symbol) binds ≡ false
+  pub outer : names (resolved spelling symbol) outside ≡ false
+  pub earlier : any_names (resolved spelling symbol) before ≡ false
+  pub declared_earlier : any_names (resolved spelling symbol) first ≡ false
+  pub initial : names (resolved spelling symbol) init ≡ false
+  pub declared_later : any_names (resolved spelling symbol) last ≡ false
+  pub later : any_names (resolved spelling symbol) after ≡ false
+  pub unseen : has_eval (block (outside ▸ ts)) ≡ false
+  pub shape : ts ≡ append before (declared_among kind (resolved spelling symbol) first init (declarator binds value ▸ last) ▸ after)
+  pub written : us ≡ append before (declaration kind (append first (declarator binds (put_first (resolved spelling symbol) init value) ▸ last)) ▸ after)
+
+abbrev pub PastRow : Assured → VariableSet → Tree → Trees → Trees → Type 0
+PastRow V W outside ts us = Row71Past V W outside ts us ⊎ Row71PastNext V W outside ts us
+
+-- a function with such statements: its name and its parameters are read like what stands before the declaration
+pub record PastFunctionRow (S : BodySets) (W : VariableSet) (n w : Tree) : Type 0 where
+  pub is_declared : Bool
+  pub is_generator : Bool
+  pub directives : List (List ℕ)
+  pub number : ℕ
+  pub name : Tree
+  pub parameters : Trees
+  pub before : Trees
+  pub after : Trees
+  pub row : PastRow (S number) W (listed (name ▸ parameters)) before after
+  pub shape : n ≡ function_with is_declared is_generator directives number name parameters before
+  pub written : w ≡ function_with is_declared is_generator directives number name parameters after
+
+-- wherever the function stands
+abbrev pub PastFunction : BodySets → VariableSet → Position → Tree → Tree → Type 0
+PastFunction S W (Stmt q) n w = PastFunctionRow S W n w
+PastFunction S W (Expr s) n w = PastFunctionRow S W n w
+PastFunction S W Method n w = PastFunctionRow S W n w
+PastFunction S W Elsewhere n w = PastFunctionRow S W n w
+PastFunction S W _ n w = ⊥
+
+-- ---- the laws
+
+-- a body runs as before, from each start that initialises what is known to be initialised, in any environment in which that is so which is known,
+-- where nobody else sees the name that goes
+abbrev pub PastRunsAlike : Type 0
+PastRunsAlike =
+    (V : Assured) (W : VariableSet) (outside : Tree) (ts us : Trees) → PastRow V W outside ts us → (k : ℕ) × ((e : Environment) → Permits W (alone (Declared k)) e → Steadies V e → (X : VariableSet) → Begins V X → RunsAs e FunctionStatements FunctionStatements X (statements ts) (statements us))
+
+-- it makes the whole lighter, wherever the function stands
+abbrev pub PastLightens : Type 0
+PastLightens = (S : BodySets) (W : VariableSet) → Lightens (PastFunction S W)
+
+-- and it drops a name that nothing mentions, where S says what is known of each body and the variables W can be written, whichever functions
+-- and classes may lose their own name
+abbrev pub PastIsLawful : Type 0
+PastIsLawful = (K : Shape → Bool) (W : VariableSet) (S : BodySets) → LawfulUnder K W S (PastFunction S W)
