@@ -63,7 +63,7 @@ created false g ds k name ps a b e Deleted r s = refl
 created false g ds k name ps a b e AnEntry r s = refl
 created false g ds k name ps a b e q r s = refl
 
-same_at : (d g : Bool) (ds : List (List ℕ)) (k : ℕ) (name : Tree) (ps a b : Trees) (p : Position) → SameAt p (function_with d g ds k name ps a) (function_with d g ds k name ps b)
+pub same_at : (d g : Bool) (ds : List (List ℕ)) (k : ℕ) (name : Tree) (ps a b : Trees) (p : Position) → SameAt p (function_with d g ds k name ps a) (function_with d g ds k name ps b)
 same_at d g ds k name ps a b p = equal_same p (function_with d g ds k name ps a) (function_with d g ds k name ps b) (record { by = λ e q z r s. created d g ds k name ps a b e q r s })
 
 -- ---- what stands in its body
@@ -140,13 +140,13 @@ module _ (d g : Bool) (ds : List (List ℕ)) (k : ℕ) (name : Tree) (ps a b : T
       (ap (λ q. has_its_number c (shape.Function d g ds) k && (has_plain_fields (shape.Function d g ds) && q)) (sym (same_parts c d g ds name (listed ps ▸ (statements a ▸ none)) (listed ps ▸ (statements b ▸ none)))) ∙ w)
       (third_filled (inner strict) o name (listed ps) (statements a) (statements b) (body_fits a b (inner strict) (h (inner strict))) f)
 
-  function_fits : (strict : Bool) (s : Slot) → fits strict s (function_with d g ds k name ps a) ≡ true → fits strict s (function_with d g ds k name ps b) ≡ true
+  pub function_fits : (strict : Bool) (s : Slot) → fits strict s (function_with d g ds k name ps a) ≡ true → fits strict s (function_with d g ds k name ps b) ≡ true
   function_fits strict (one c) e = function_in strict c e
   function_fits strict (one_or_absent c) e = function_in strict c e
   function_fits strict s e = absurd (refused_here strict s (shape.Function d g ds) [] k (parts a) refl e)
 
 -- it has a number from 1
-numbered : (d g : Bool) (ds : List (List ℕ)) (k : ℕ) (name : Tree) (ps a : Trees) (strict : Bool) (s : Slot) → fits strict s (function_with d g ds k name ps a) ≡ true → (n : ℕ) × (k ≡ suc n)
+pub numbered : (d g : Bool) (ds : List (List ℕ)) (k : ℕ) (name : Tree) (ps a : Trees) (strict : Bool) (s : Slot) → fits strict s (function_with d g ds k name ps a) ≡ true → (n : ℕ) × (k ≡ suc n)
 numbered d g ds zero name ps a strict s e = absurd (true≢false (sym (its_number (class_of s) (shape.Function d g ds) [] 0 (name ▸ (listed ps ▸ (statements a ▸ none))) (fill (is_strict_in strict (shape.Function d g ds)) (filling strict s (shape.Function d g ds)) (name ▸ (listed ps ▸ (statements a ▸ none)))) e)))
 numbered d g ds (suc n) name ps a strict s e = (n, refl)
 
@@ -272,7 +272,7 @@ module _ (W : VariableSet) (n w : Tree) (r : FunctionBodyRow W n w) where
 -- ---- all
 
 -- where a function may be replaced
-abbrev is_function_place : Position → Bool
+abbrev pub is_function_place : Position → Bool
 is_function_place (Stmt q) = true
 is_function_place (Expr s) = true
 is_function_place Method = true
@@ -282,7 +282,7 @@ is_function_place p = false
 abbrev OfFunction : VariableSet → Position → Tree → Tree → Type 0
 OfFunction W p n w = (is_function_place p ≡ true) × FunctionBodyRow W n w
 
-rooted : (p : Position) → is_function_place p ≡ true → (is_rewritten_place p ≡ true) ⊎ (is_rooted_place p ≡ true)
+pub rooted : (p : Position) → is_function_place p ≡ true → (is_rewritten_place p ≡ true) ⊎ (is_rooted_place p ≡ true)
 rooted (Stmt q) z = inl refl
 rooted (Expr s) z = inl refl
 rooted Method z = inr refl
@@ -296,7 +296,7 @@ function_placed W p n w (z, r) = by (rooted p z)
     by (inl e) = inl e
     by (inr e) = inr (shaped W n w r (KeepsRoot p) (record { place = e; shape = refl; names = refl; number = refl; counted = refl; second = refl }))
 
-no_list : (p : Position) → is_function_place p ≡ true → is_statement_list p ≡ true → ⊥
+pub no_list : (p : Position) → is_function_place p ≡ true → is_statement_list p ≡ true → ⊥
 no_list StatementList z e = cc z
 no_list BodyList z e = cc z
 no_list p z e = cc e

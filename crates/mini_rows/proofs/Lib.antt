@@ -130,6 +130,7 @@ pub mod PastParts
 pub mod PastMeaning
 pub mod PastNext
 pub mod PastStretches
+pub mod PastLawful
 pub mod FoldEqualities
 mod FoldBranches
 pub mod FoldMeaning

@@ -80,7 +80,7 @@ left_off : (V : Assured) (before : Trees) (K : VariableDeclarationKind) (first r
 left_off V before K first rest hs after ts is =
     held_off V ts (hidden_all (declared_left K first ▸ none)) (λ j f. all_unhidden j (declared_left K first ▸ none) (left_bound j K first rest (append hs after) (bind_parts j before (declaration K (append first rest) ▸ append hs after) (sym (ap (any_bind j) is) ∙ f)).1))
 
-first_true : (a b : Bool) → a ≡ true → (a || b) ≡ true
+pub first_true : (a b : Bool) → a ≡ true → (a || b) ≡ true
 first_true true b e = refl
 first_true false b e = absurd (true≢false (sym e))
 

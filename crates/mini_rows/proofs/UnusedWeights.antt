@@ -64,7 +64,7 @@ same_choice none (t ▸ after) d w h = refl
 same_choice (t ▸ none) after d w h = refl
 same_choice (t ▸ (u ▸ before)) after d w h = refl
 
-block_falls : (q : StmtSeat) (before after : Trees) (d w : Tree) → (outline d).chooses ≡ (outline w).chooses → total (w ▸ none) + 1 ≤ total (d ▸ none) → weight (Stmt q) (block (append before (w ▸ after))) < weight (Stmt q) (block (append before (d ▸ after)))
+pub block_falls : (q : StmtSeat) (before after : Trees) (d w : Tree) → (outline d).chooses ≡ (outline w).chooses → total (w ▸ none) + 1 ≤ total (d ▸ none) → weight (Stmt q) (block (append before (w ▸ after))) < weight (Stmt q) (block (append before (d ▸ after)))
 block_falls q before after d w h less =
     let falls = in_list before (d ▸ none) (w ▸ none) after 1 less in
     let braces = ap (braces_weight q) (same_choice before after d w h) in

@@ -1,9 +1,20 @@
 //! Row 71 past steady names.
 
-ghost use Rattle.mini_rows.specs.Past.{PastRunsAlike};
+ghost use Rattle.mini_rows.specs.Past.{PastIsLawful, PastLightens, PastRunsAlike};
 
 /// A body runs as before where the initializer goes past names that are held, from each start that initialises what is known to be
 /// initialised, in any environment in which that is so which is known, where nobody else sees the name that goes.
 pub fn past_steady_names_run_alike()
     ensures { PastRunsAlike }
+{}
+
+/// What is written of a function makes the whole lighter, wherever it stands.
+pub fn past_steady_names_lighten()
+    ensures { PastLightens }
+{}
+
+/// It keeps all that a program has to keep, but a name that nothing mentions, where that is so which is known of the function's body, and
+/// those variables can be written for which it acts.
+pub fn past_steady_names_are_lawful()
+    ensures { PastIsLawful }
 {}
