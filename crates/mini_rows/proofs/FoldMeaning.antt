@@ -7,7 +7,6 @@ use Rattle.mini_model.specs.declared.place.Position.{Position}
 use Rattle.mini_model.specs.declared.place.Position.TheVariants.{Expr, Stmt}
 use Rattle.mini_model.specs.declared.seat.Seat.{Seat}
 use Rattle.mini_model.specs.declared.seat.StmtSeat.{StmtSeat}
-use Rattle.mini_model.specs.declared.shape.Shape.TheVariants as shape
 use Rattle.mini_model.specs.Tree.{Tree, logical, conditional, expression_statement, empty_statement}
 use Rattle.mini_laws.specs.Value.{VariableSet}
 use Rattle.mini_laws.specs.State.{Environment}

@@ -1,5 +1,5 @@
 -- A statement that never runs goes, and its `var` names are declared without initializers: nothing else of it is kept.
-use Rattle.std.specs.Prelude.{ℕ, ◌+◌, ◌≤◌, ◌≡◌, refl, ◌||◌, Bool, true, false, List, [], ◌∷◌, ◌++◌, Contains, Option}
+use Rattle.std.specs.Prelude.{ℕ, ◌≤◌, ◌≡◌, refl, ◌||◌, Bool, true, false, List, [], ◌∷◌, ◌++◌, Contains, Option}
 use Rattle.std.proofs.Common.{◌<◌, ap, ◌∙◌, sym, subst, arith}
 use Rattle.std.proofs.lemmas.List.{append-nil}
 use Rattle.mini_model.specs.declared.kind.VariableDeclarationKind.TheVariants.{Var}
@@ -23,11 +23,11 @@ use Rattle.mini_laws.specs.Early.{own_declarations, scope_declarations, early_na
 use Rattle.mini_laws.specs.Value.{Variable}
 use Rattle.mini_laws.specs.State.{Writable}
 use Rattle.mini_laws.specs.Fixity.{fixed_by}
-use Rattle.mini_laws.specs.Bodies.{Around, Body, bodies}
+use Rattle.mini_laws.specs.Bodies.{Around, Body}
 use Rattle.mini_kept.specs.AlikeBodies.{BodiesKept}
 use Rattle.mini_kept.specs.Carried.{numbers}
 use Rattle.mini_kept.specs.Declaring.{declared_all}
-use Rattle.mini_kept.specs.Frames.{Frame, frames, FramesKept}
+use Rattle.mini_kept.specs.Frames.{Frame, FramesKept}
 use Rattle.mini_kept.specs.KeepsNames.{count_of}
 use Rattle.mini_kept.proofs.Anywhere.{once_anywhere, targets_anywhere}
 use Rattle.mini_kept.proofs.Fixed.{of_children}

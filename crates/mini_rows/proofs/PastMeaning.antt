@@ -1,16 +1,16 @@
 -- A name that is read once behind names that are held: its initializer may stand there, in the statements of a body.
-use Rattle.std.specs.Prelude.{◌&&◌, ◌||◌, not, nat_eq, Bool, Option}
+use Rattle.std.specs.Prelude.{◌&&◌, ◌||◌, not, nat_eq, Bool}
 use Rattle.std.proofs.lemmas.Bool.{and_parts, eq-eqb}
-use Rattle.std.proofs.Common.{◌≡◌, ℕ, true, false, List, [], ◌∷◌, ◌++◌, None, Some, refl, sym, ap, ◌∙◌, subst, subst₂, inl, inr, true≢false}
+use Rattle.std.proofs.Common.{◌≡◌, ℕ, true, false, List, [], ◌∷◌, None, Some, refl, sym, ap, ◌∙◌, subst, subst₂, true≢false}
 use Rattle.mini_model.specs.declared.kind.VariableDeclarationKind.{VariableDeclarationKind}
 use Rattle.mini_model.specs.declared.name.Name.{Name}
 use Rattle.mini_model.specs.declared.shape.Shape.TheVariants as shape
-use Rattle.mini_model.specs.Tree.{Tree, Trees, node, none, ◌▸◌, listed, identifier}
+use Rattle.mini_model.specs.Tree.{Tree, Trees, none, ◌▸◌, listed, identifier}
 use Rattle.mini_model.specs.Paths.{append}
 use Rattle.mini_model.specs.Weight.{same_text}
-use Rattle.mini_laws.specs.Value.{Variable, Declared, Global, VariableSet, choose, is_in, nothing}
-use Rattle.mini_laws.specs.State.{State, Completion, ok, stop, either, Writable, Environment}
-use Rattle.mini_laws.specs.Demand.{Tail, FunctionTail, Val, As, Stat}
+use Rattle.mini_laws.specs.Value.{Variable, Declared, Global, VariableSet, choose, is_in}
+use Rattle.mini_laws.specs.State.{State, stop, either, Writable, Environment}
+use Rattle.mini_laws.specs.Demand.{FunctionTail, Stat}
 use Rattle.mini_laws.specs.Naming.{summary, summaries, lets_all, is_lexical}
 use Rattle.mini_laws.specs.Skeleton.{plus, minus, Within, Off, hidden, hidden_all}
 use Rattle.mini_laws.specs.Path.{here, inside}
@@ -18,21 +18,19 @@ use Rattle.mini_laws.specs.Same.{Goes, Agree, Same, Initialised}
 use Rattle.mini_laws.specs.Step.{means}
 use Rattle.mini_laws.specs.Stretches as first
 use Rattle.mini_laws.specs.Substitution.{alone}
-use Rattle.mini_laws.specs.Symbols.{is_same}
 use Rattle.mini_laws.specs.Congruence.{AllAvoid, Apart}
 use Rattle.mini_laws.specs.Body.{FunctionStatements}
 use Rattle.mini_laws.proofs.Anywhere.{in_each_tail, stretch_anywhere}
-use Rattle.mini_laws.proofs.Congruent.{body_same, congruent_same, reflexive, transitive, weaker}
+use Rattle.mini_laws.proofs.Congruent.{body_same, congruent_same, reflexive, weaker}
 use Rattle.mini_laws.proofs.Runs.{either_cong, either_assoc, either_stop}
 use Rattle.mini_laws.proofs.Stretching.{exec}
 use Rattle.mini_laws.proofs.Simulation.{within_refl}
 use Rattle.mini_kept.specs.AlikeBodies.{RunsAs}
-use Rattle.mini_kept.specs.Without.{Assured, Steadies, Begins, Unseen, Permits}
+use Rattle.mini_kept.specs.Without.{Assured, Steadies, Begins, Unseen}
 use Rattle.mini_rows.specs.Lists.{declaration}
-use Rattle.mini_rows.specs.Declarations.{binding, declarator}
-use Rattle.mini_rows.specs.Past.{any_bind, binds, held, are_past, Row71Past}
-use Rattle.mini_rows.specs.Sketches.{AsWholeItem, AsValue}
-use Rattle.mini_rows.specs.Unused.{resolved, names, any_names, declared_among, declared_one, declared_left, may_move, statements, put_first, is_first, reads_first}
+use Rattle.mini_rows.specs.Past.{any_bind, held, are_past}
+use Rattle.mini_rows.specs.Sketches.{AsWholeItem}
+use Rattle.mini_rows.specs.Unused.{resolved, names, any_names, declared_one, declared_left, may_move, statements, put_first, reads_first}
 use Rattle.mini_rows.proofs.FoldMeaning.{plain_read}
 use Rattle.mini_rows.proofs.ItemReads.{plain_item}
 use Rattle.mini_rows.proofs.ListStretches.{exec_one, exec_two, exec_more, exec_append, listed_is}
@@ -40,9 +38,8 @@ use Rattle.mini_rows.proofs.ListStatements.{declarations_join, empty_is}
 use Rattle.mini_rows.proofs.PastParts.{Still, path_held}
 use Rattle.mini_rows.proofs.PastRuns.{past_goes}
 use Rattle.mini_rows.proofs.SingleUse.{Step, led, is_end, Well, Spared, statement, or_true}
-use Rattle.mini_rows.proofs.Unbound.{unhidden, all_unhidden}
-use Rattle.mini_rows.proofs.UnusedMeaning.{GoesWith, ReadThere, declared_then, list_read, all_join, same_append, same_symbol, movable, single_read}
-use Rattle.mini_rows.proofs.UnusedNames.{or_parts, avoided, all_avoided}
+use Rattle.mini_rows.proofs.Unbound.{unhidden}
+use Rattle.mini_rows.proofs.UnusedMeaning.{GoesWith, ReadThere, declared_then, list_read, all_join, same_append, same_symbol, movable}
 
 -- ---- a set of variables that no scope hides
 

@@ -1,12 +1,10 @@
 -- A name that the next declarator reads behind names that are held: the initializer may stand there.
-use Rattle.std.specs.Prelude.{Bool}
 use Rattle.std.proofs.Common.{◌≡◌, ℕ, true, false, List, [], None, refl, sym, ap, ◌∙◌, subst, subst₂}
 use Rattle.mini_model.specs.declared.kind.VariableDeclarationKind.{VariableDeclarationKind}
 use Rattle.mini_model.specs.declared.name.Name.{Name}
 use Rattle.mini_model.specs.Tree.{Tree, Trees, none, ◌▸◌, listed, identifier}
-use Rattle.mini_model.specs.Paths.{append}
 use Rattle.mini_laws.specs.Value.{Value, Declared, VariableSet, Holds}
-use Rattle.mini_laws.specs.State.{Stop, State, Completion, stop, either, Writable, Environment, with_vars}
+use Rattle.mini_laws.specs.State.{State, Completion, stop, either, Writable, Environment, with_vars}
 use Rattle.mini_laws.specs.Demand.{Val, As, Stat, Binds}
 use Rattle.mini_laws.specs.Command.{set_var}
 use Rattle.mini_laws.specs.Naming.{summary, is_lexical}
@@ -27,7 +25,7 @@ use Rattle.mini_rows.proofs.FoldMeaning.{plain_read}
 use Rattle.mini_rows.proofs.ItemReads.{plain_item}
 use Rattle.mini_rows.proofs.ListStretches.{exec_one, listed_is}
 use Rattle.mini_rows.proofs.ListStatements.{declarations_join}
-use Rattle.mini_rows.proofs.NextMeaning.{led_there, stopped, others, rest, with_others}
+use Rattle.mini_rows.proofs.NextMeaning.{led_there, stopped, rest, with_others}
 use Rattle.mini_rows.proofs.PastMeaning.{read_named}
 use Rattle.mini_rows.proofs.PastParts.{Still, path_held}
 use Rattle.mini_rows.proofs.PastRuns.{past_goes}

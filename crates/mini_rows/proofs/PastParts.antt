@@ -1,33 +1,31 @@
 -- Parts that give the same before an initializer and after it, from a state in which the names that are held are initialised.
-use Rattle.std.specs.Prelude.{◌&&◌, ◌||◌, not, Bool, ◌⊎◌, Option, if◌then◌else◌}
-use Rattle.std.proofs.Common.{◌≡◌, ℕ, zero, suc, true, false, List, [], ◌∷◌, Some, None, refl, sym, ap, ◌∙◌, subst, inl, inr, true≢false}
+use Rattle.std.specs.Prelude.{◌&&◌, ◌||◌, not, Bool, Option, if◌then◌else◌}
+use Rattle.std.proofs.Common.{◌≡◌, ℕ, zero, true, false, List, [], ◌∷◌, Some, None, refl, sym, ap, ◌∙◌, subst, true≢false}
 use Rattle.std.proofs.lemmas.Bool.{and_parts}
 use Rattle.mini_model.specs.declared.name.Name.{Name}
 use Rattle.mini_model.specs.declared.name.SymbolId.{SymbolId}
 use Rattle.mini_model.specs.declared.shape.Shape.TheVariants as shape
 use Rattle.mini_model.specs.Tree.{Tree, Trees, node, none, ◌▸◌, identifier}
 use Rattle.mini_model.specs.Paths.{append}
-use Rattle.mini_laws.specs.Value.{Value, Undefined, Declared, VariableSet, Slot, Holds, Missing, Uninitialised, choose, variables, variable_eq}
+use Rattle.mini_laws.specs.Value.{Value, Undefined, Declared, VariableSet, Slot, Holds, Missing, Uninitialised, choose, variable_eq}
 use Rattle.mini_laws.specs.State.{Item, State, Completion, ok, stop, either, Environment, with_vars}
 use Rattle.mini_laws.specs.Demand.{Val, Demand, As, Callee, AnEntry, Stat, Called, Request, Reply, says}
 use Rattle.mini_laws.specs.Command.{set_var, ret, run, read_slot}
-use Rattle.mini_laws.specs.Naming.{NameKind, kind_of, kinds, summaries, naming}
-use Rattle.mini_laws.specs.Expressions.{first_kind, get_identifier, is_eval}
+use Rattle.mini_laws.specs.Naming.{NameKind, kind_of, naming}
+use Rattle.mini_laws.specs.Expressions.{get_identifier, is_eval}
 use Rattle.mini_laws.specs.Same.{Filled, Initialised}
 use Rattle.mini_laws.specs.Steady.{Spares, KeepsSlot}
 use Rattle.mini_laws.specs.Step.{step, means, meaning}
 use Rattle.mini_laws.specs.Substitution.{alone}
 use Rattle.mini_laws.specs.Symbols.{is_same}
 use Rattle.mini_laws.specs.Truth.{told}
-use Rattle.mini_laws.proofs.Runs.{run_bind, either_eta, either_ok}
+use Rattle.mini_laws.proofs.Runs.{run_bind, either_eta}
 use Rattle.mini_laws.proofs.Sparing.{steady}
 use Rattle.mini_laws.proofs.Truth.{coherent}
 use Rattle.mini_kept.specs.Without.{Unseen}
-use Rattle.mini_node.specs.Children.{names_of}
-use Rattle.mini_node.specs.Kinds.{is_identifier}
 use Rattle.mini_terms.specs.Reading.{by_value}
 use Rattle.mini_rows.specs.Sketches.{shape_by}
-use Rattle.mini_rows.specs.Past.{is_held_symbol, is_held_name, is_held, passes_any, are_past, all_past}
+use Rattle.mini_rows.specs.Past.{is_held_symbol, is_held, passes_any, are_past, all_past}
 use Rattle.mini_rows.specs.Unused.{is_like_one, names, any_names, may_go_on, begins_with, is_constant, resolved}
 use Rattle.mini_rows.proofs.Avoiding as avoiding
 use Rattle.mini_rows.proofs.ItemReads.{item_read}

@@ -1,9 +1,8 @@
 -- What a tree reads may be put there where each part that stands before gives the same before the initializer and after it, from one state.
-use Rattle.std.specs.Prelude.{Bool, ◌⊎◌}
-use Rattle.std.proofs.Common.{◌≡◌, ℕ, zero, suc, true, false, List, [], ◌∷◌, Some, refl, sym, ap, ◌∙◌, subst, subst₂, true≢false, inl, inr}
+use Rattle.std.proofs.Common.{◌≡◌, ℕ, zero, suc, true, List, [], ◌∷◌, Some, refl, sym, ap, ◌∙◌, subst, subst₂, true≢false, inl, inr}
 use Rattle.mini_model.specs.declared.name.Name.{Name}
 use Rattle.mini_model.specs.declared.shape.Shape.{Shape}
-use Rattle.mini_model.specs.Tree.{Tree, Trees, node, none, ◌▸◌, count, identifier}
+use Rattle.mini_model.specs.Tree.{Tree, Trees, none, ◌▸◌, count, identifier}
 use Rattle.mini_model.specs.Paths.{append}
 use Rattle.mini_laws.specs.Value.{Value, Declared, VariableSet, Holds}
 use Rattle.mini_laws.specs.State.{Stop, State, Completion, ok, stop, halt, out, Ends, done, ended, either, Environment, with_vars}

@@ -1,9 +1,9 @@
 -- What the rows of names that are read behind held names do to the statements of a body.
-use Rattle.std.specs.Prelude.{ℕ, ◌≡◌, refl, ◌&&◌, ◌||◌, Bool, true, false, List, [], None}
+use Rattle.std.specs.Prelude.{ℕ, ◌≡◌, refl, ◌||◌, Bool, true, false, List, None}
 use Rattle.std.proofs.Common.{ap, ◌∙◌, sym, subst, subst₂, inl, inr, true≢false}
 use Rattle.mini_model.specs.declared.kind.VariableDeclarationKind.{VariableDeclarationKind}
 use Rattle.mini_model.specs.declared.name.Name.{Name}
-use Rattle.mini_model.specs.Tree.{Tree, Trees, node, none, ◌▸◌, listed}
+use Rattle.mini_model.specs.Tree.{Tree, Trees, none, ◌▸◌, listed}
 use Rattle.mini_model.specs.Paths.{append}
 use Rattle.mini_accept.specs.WellShaped.{in_body, each, fill}
 use Rattle.mini_laws.specs.Body.{FunctionStatements}
@@ -13,14 +13,14 @@ use Rattle.mini_laws.specs.Same.{Same}
 use Rattle.mini_laws.specs.Skeleton.{Off, hidden_all}
 use Rattle.mini_laws.specs.State.{Environment}
 use Rattle.mini_laws.specs.Substitution.{alone}
-use Rattle.mini_laws.specs.Value.{Declared, VariableSet, nothing}
+use Rattle.mini_laws.specs.Value.{Declared, VariableSet}
 use Rattle.mini_laws.proofs.Congruent.{transitive}
 use Rattle.mini_kept.specs.AlikeBodies.{RunsAs}
 use Rattle.mini_kept.specs.Without.{Assured, Steadies, Begins, Permits}
 use Rattle.mini_rows.specs.Lists.{declaration}
 use Rattle.mini_rows.specs.Declarations.{binding, declarator}
 use Rattle.mini_rows.specs.Past.{binds, any_bind, held, Row71Past, Row71PastNext, PastRow, PastRunsAlike}
-use Rattle.mini_rows.specs.Unused.{resolved, names, any_names, declared_among, declared_one, declared_left, put_first, reads_first, reads_head, statements}
+use Rattle.mini_rows.specs.Unused.{resolved, names, any_names, declared_among, declared_one, declared_left, put_first, reads_first, statements}
 use Rattle.mini_rows.proofs.FoldMeaning.{plain_read}
 use Rattle.mini_rows.proofs.HeadKept.{head_leaves, head_declares}
 use Rattle.mini_rows.proofs.HeadMeaning.{head_read, head_unnamed}
@@ -34,7 +34,7 @@ use Rattle.mini_rows.proofs.UnusedKept.{LeavesThere, DeclaresThere}
 use Rattle.mini_rows.proofs.UnusedLawful.{single_fits, next_fits}
 use Rattle.mini_rows.proofs.UnusedMeaning.{ReadThere, read_alone, single_read, first_avoids, may_write, movable}
 use Rattle.mini_rows.proofs.UnusedNames.{or_parts, avoided, all_avoided}
-use Rattle.mini_rows.proofs.UnusedStretches.{body_item, declaration_in, left_in, one_fits, StandsThere, statement_there}
+use Rattle.mini_rows.proofs.UnusedStretches.{body_item, declaration_in, left_in, one_fits, statement_there}
 
 -- ---- of some statements that lose a name, behind what stands outside of them
 

@@ -1,5 +1,5 @@
 -- A part of a sequence that has no effect, and is not the last, may go.
-use Rattle.std.proofs.Common.{◌≡◌, true, false, sym, subst, true≢false}
+use Rattle.std.proofs.Common.{◌≡◌, true, sym, subst, true≢false}
 use Rattle.mini_model.specs.Tree.{Tree, Trees, none, ◌▸◌}
 use Rattle.mini_model.specs.Paths.{append}
 use Rattle.mini_laws.specs.Value.{VariableSet}

@@ -30,7 +30,7 @@ use Rattle.mini_rows.proofs.SequenceCalls.{left_number}
 use Rattle.mini_rows.proofs.SequencePaths.{in_order, path, parts_along, path_rearranged, nested_filled, flat_filled}
 use Rattle.mini_rows.proofs.SequenceYields.{yield_at, yielded_fits}
 use Rattle.mini_rows.proofs.SequenceEnds.{last_fits}
-use Rattle.mini_rows.proofs.SequenceMeaning.{several, sequences_same}
+use Rattle.mini_rows.proofs.SequenceMeaning.{sequences_same}
 
 -- ---- the same parts
 

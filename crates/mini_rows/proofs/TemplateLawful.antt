@@ -9,7 +9,7 @@ use Rattle.mini_model.specs.declared.seat.Seat.{Seat}
 use Rattle.mini_model.specs.declared.shape.Shape.TheVariants as shape
 use Rattle.mini_model.specs.Paths.{append}
 use Rattle.mini_model.specs.Tree.{Tree, Trees, node, none, ◌▸◌, count, listed}
-use Rattle.mini_accept.specs.WellShaped.{Depth, in_module, in_body, nested, Class, a_statement, an_init, an_arrow_body, an_expression, a_link, an_argument, a_key, a_private_or_key, an_inner_key, an_inner, a_default_export, a_tagged_template, Slot, one, one_or_absent, many, untagged, tagged, statement_slots, filling_by, each, pieces as pieces_filling, is_same_flag, is_quasi, are_quasis, is_paired, fits, fill}
+use Rattle.mini_accept.specs.WellShaped.{Depth, in_module, in_body, nested, Class, a_statement, an_init, an_arrow_body, an_expression, a_link, an_argument, a_key, a_private_or_key, an_inner_key, an_inner, a_default_export, a_tagged_template, Slot, one, one_or_absent, untagged, tagged, statement_slots, filling_by, each, pieces as pieces_filling, is_same_flag, is_quasi, are_quasis, is_paired, fits, fill}
 use Rattle.mini_kept.specs.KeepsNames.{is_rewritten_place}
 use Rattle.mini_kept.specs.KeepsShapes.{AskedAlike}
 use Rattle.mini_kept.specs.KeepsFrames.{is_body_slot}

@@ -3,11 +3,9 @@ use Rattle.std.proofs.Common.{◌≡◌, ℕ, zero, suc, inl, inr, true≢false,
 use Rattle.std.specs.Prelude.{◌||◌, Bool, true, false, is_some, codes}
 use Rattle.std.specs.Fmt.{signed_decimal}
 use Rattle.mini_model.specs.declared.operator.BinaryOperator.TheVariants.{Addition}
-use Rattle.mini_model.specs.declared.operator.UnaryOperator.TheVariants as unary_operator
 use Rattle.mini_model.specs.declared.place.Position.{Position}
 use Rattle.mini_model.specs.declared.place.Position.TheVariants.{Expr}
 use Rattle.mini_model.specs.declared.seat.Seat.{Seat}
-use Rattle.mini_model.specs.declared.shape.Shape.TheVariants as shape
 use Rattle.mini_model.specs.Paths.{append}
 use Rattle.mini_model.specs.Tree.{Tree, Trees, none, ◌▸◌, count}
 use Rattle.mini_node.specs.Children.{part}

@@ -1,12 +1,12 @@
 -- A tree in which no name with a symbol is declared reads as if it didn't mention it, and no scope in it hides that variable.
-use Rattle.std.proofs.Common.{◌≡◌, ℕ, Bool, true, false, List, [], ◌∷◌, ◌++◌, Option, Some, None, refl, ap, ◌∙◌}
-use Rattle.std.specs.Prelude.{◌||◌, ◌&&◌, nat_eq}
+use Rattle.std.proofs.Common.{◌≡◌, ℕ, true, false, List, [], ◌∷◌, Option, Some, None, refl, ap, ◌∙◌}
+use Rattle.std.specs.Prelude.{◌&&◌}
 use Rattle.mini_model.specs.declared.name.Name.{Name}
 use Rattle.mini_model.specs.declared.operator.UnaryOperator.TheVariants.{LogicalNot}
 use Rattle.mini_model.specs.declared.shape.Shape.{Shape}
 use Rattle.mini_model.specs.declared.shape.Shape.TheVariants as shape
 use Rattle.mini_model.specs.Tree.{Tree, Trees, node, none, ◌▸◌}
-use Rattle.mini_laws.specs.Value.{Declared as Symbol, Global, choose, variable_by, variables, variable_eq, is_in}
+use Rattle.mini_laws.specs.Value.{Declared as Symbol, choose, variable_by, variables, variable_eq, is_in}
 use Rattle.mini_laws.specs.Demand.{AnEntry}
 use Rattle.mini_laws.specs.Naming.{Summary, summary, summaries, summary_of, scope_of}
 use Rattle.mini_laws.specs.Skeleton.{hidden, hidden_all}

@@ -8,7 +8,7 @@ use Rattle.mini_model.specs.declared.name.Name.{Name}
 use Rattle.mini_model.specs.declared.shape.Shape.{Shape}
 use Rattle.mini_model.specs.declared.shape.Shape.TheVariants as shape
 use Rattle.mini_model.specs.Tree.{Tree, Trees, node, none, ◌▸◌, is_absent}
-use Rattle.mini_accept.specs.WellShaped.{Slot, Class, is_name, has_names, is_quasi, are_quasis, Tagging, Filling, refused, these, each, each_or_last, pieces, is_whole, class_of, is_last, is_strict_in, filling, fits, fill}
+use Rattle.mini_accept.specs.WellShaped.{Slot, is_name, has_names, is_quasi, are_quasis, Tagging, Filling, refused, these, each, each_or_last, pieces, is_whole, class_of, is_last, is_strict_in, filling, fits, fill}
 use Rattle.mini_laws.specs.declared.names.Declared.{Declared}
 use Rattle.mini_laws.specs.declared.names.Declared.TheVariants as declared
 use Rattle.mini_laws.specs.declared.names.Place.{Place}

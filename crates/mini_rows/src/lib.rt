@@ -41,7 +41,9 @@ pub use loop_guards::{loop_guards_are_lawful, loop_guards_lighten, loop_guards_m
 pub use names::{names_are_lawful, names_lighten};
 pub use negations::{negations_are_lawful, negations_lighten, negations_mean_the_same};
 pub use operands::{operands_are_lawful, operands_are_lighter, operands_mean_the_same};
-pub use past::{past_steady_names_are_lawful, past_steady_names_lighten, past_steady_names_run_alike};
+pub use past::{
+    past_steady_names_are_lawful, past_steady_names_lighten, past_steady_names_run_alike,
+};
 pub use redexes::rows_are_lawful;
 pub use sequences::{sequences_are_lawful, sequences_are_lighter, sequences_mean_the_same};
 pub use steady::{steady_functions_are_lawful, steady_names_lighten, steady_names_mean_the_same};
