@@ -18,7 +18,7 @@ use Rattle.mini_model.specs.Terms.{not_of}
 use Rattle.mini_accept.specs.WellShaped.{nested, Class, a_case, a_statement, a_key, a_private_or_key, an_inner_key, a_loop_left, an_expression, an_init, Slot, one, one_or_absent, many, many_or_holes, many_and_rest, many_or_holes_and_rest, quasis, refused, each, filling, fits, fill, is_function_body, spelling, spelling_by, has_optional, has_optional_by, is_not_positive_number}
 use Rattle.mini_kept.specs.KeepsFrames.{is_in_body, is_body_slot}
 use Rattle.mini_kept.specs.KeepsNames.{is_rewritten_place}
-use Rattle.mini_kept.specs.KeepsShapes.{is_default, AskedAlike}
+use Rattle.mini_kept.specs.KeepsShapes.{is_default, AskedAlike, KeepsShapes}
 use Rattle.mini_kept.specs.Lawful.{Lawful}
 use Rattle.mini_kept.proofs.Bools.{left, both}
 use Rattle.mini_kept.proofs.Expressions.{expression, refused_here, not_of_fits, two_fit}
@@ -27,11 +27,11 @@ use Rattle.mini_kept.proofs.Rows.{statement, last_statement, TakesStatementIn, T
 use Rattle.mini_terms.specs.Parts.{leaves_nothing}
 use Rattle.mini_laws.specs.Rewritten.{MeansSame}
 use Rattle.mini_rows.specs.Arranged.{KeptAt, Vanishes}
-use Rattle.mini_rows.specs.Lists.{block, switch, return_statement, is_unscoped, are_unscoped, left_behind}
+use Rattle.mini_rows.specs.Lists.{block, switch, for_loop, return_statement, is_unscoped, are_unscoped, left_behind}
 use Rattle.mini_rows.specs.Sketches.{AbsentPart, Return, part, under, end, ◌▹◌}
 use Rattle.mini_rows.specs.Spellings.{IsUndefined, PlainForm, a_number, a_text, a_boolean, a_null, a_big_int, a_template, a_void, plain, binary}
 use Rattle.mini_rows.specs.Cases.{switch_case, one_case, ended, breaks_out, OneCaseRow}
-use Rattle.mini_rows.specs.Loops.{bare_break}
+use Rattle.mini_rows.specs.Loops.{bare_break, is_test, Tested, test_of, is_tested, also, Leaving, leaves_by, goes_by, runs_on, is_loose, Leading, led}
 use Rattle.mini_rows.specs.DeadCases.{known, Choices, no_choices, choice, cases_of, before_others, left_all, left_cases, are_ended, running, DeadCaseRow}
 use Rattle.mini_rows.specs.Branches.{IsEmpty, IsIdleVoid, Row60, has_else, is_other_branch, as_consequent, Surrounding, Consequent, Alternate, WhileBody, DoBody, ForBody, InBody, OfBody, around, conjunct_seat, bare_continue, Row82Empty, after, with_not, without_not, Row82Ends, Row83, BodyRow, SwitchRow, BranchRow, BranchContracts}
 use Rattle.mini_rows.proofs.ArrangedLawful.{kept_is_lawful}
@@ -51,6 +51,7 @@ use Rattle.mini_laws.specs.DeclaredNames.{names_of as names_there}
 use Rattle.mini_rows.proofs.Vanishing.{vanishes, first_dropped}
 use Rattle.mini_rows.proofs.ListShapes.{both_fit}
 use Rattle.mini_rows.proofs.LoopKept.{row_84_fits, row_84_core, row_84_said}
+use Rattle.mini_rows.proofs.LoopSplits.{FreeOf, free_of}
 
 else_unscoped : (c : Tree) → has_else c ≡ true → is_unscoped c ≡ true
 else_unscoped (node shape.IfStatement xs n ts) h = refl
@@ -384,21 +385,23 @@ row_78_once test ts = around_kind (DoBody test) (block (append ts (bare_break �
 row_78_never : (test : Tree) → Kind (around (DoBody test) bare_break) (around (DoBody test) empty_statement)
 row_78_never test = around_kind (DoBody test) bare_break empty_statement (emptied bare_break break_idle) (λ strict e. refl) (λ strict e. refl)
 
+pub row_84_kind : (init update x : Tree) (t : Tested) (d : Leading) (l : Leaving) → is_test x ≡ true → is_tested t ≡ true → is_loose l ≡ true → FreeOf x d → Kind (for_loop init (test_of t) update (led d (leaves_by l x))) (for_loop init (also t (goes_by l x)) update (led d (runs_on l)))
+row_84_kind init update x t d l asked tested loose free = record {
+  read = refl;
+  before = refl;
+  after = refl;
+  fitting = row_84_fits init update x t d l asked tested loose free;
+  core = row_84_core init update x t d l asked tested loose free;
+  said = row_84_said init update x t d l asked tested loose free;
+}
+
 body_kind : (n w : Tree) → BodyRow n w → Kind n w
 body_kind n w (inl r) = kind_along n _ w _ r.shape r.written (row_79 r.place r.statement r.unscoped)
 body_kind n w (inr (inl (inl r))) = kind_along n _ w _ r.shape r.written (row_78_block r.place r.before)
 body_kind n w (inr (inl (inr r))) = kind_along n _ w _ r.shape r.written (row_78_whole r.place)
 body_kind n w (inr (inr (inl (inl r)))) = kind_along n _ w _ r.shape r.written (row_78_once r.test r.before)
 body_kind n w (inr (inr (inl (inr r)))) = kind_along n _ w _ r.shape r.written (row_78_never r.test)
-body_kind n w (inr (inr (inr r))) =
-    kind_along n _ w _ r.shape r.written (record {
-      read = refl;
-      before = refl;
-      after = refl;
-      fitting = row_84_fits r.init r.update r.x r.test r.leading r.leaving r.asked r.tested r.loose r.unscoped;
-      core = row_84_core r.init r.update r.x r.test r.leading r.leaving r.asked r.tested r.loose r.unscoped;
-      said = row_84_said r.init r.update r.x r.test r.leading r.leaving r.asked r.tested r.loose r.unscoped;
-    })
+body_kind n w (inr (inr (inr r))) = kind_along n _ w _ r.shape r.written (row_84_kind r.init r.update r.x r.test r.leading r.leaving r.asked r.tested r.loose (free_of r.x r.leading r.unscoped))
 
 row_83_block : (a c u : Tree) → has_else c ≡ true → Kind (if_else a c u) (if_else a (block (c ▸ none)) u)
 row_83_block a c u h = record {
@@ -533,16 +536,16 @@ plain_fits strict (a_big_int n) e = e
 plain_fits strict (a_template l raw s) e = e
 plain_fits strict a_void e = e
 
-row_80_case : (d : Tree) (f : PlainForm) (b : Bool) (ss : Trees) → are_unscoped ss ≡ true → breaks_out (listed ss) ≡ false → Kind (one_case d (plain f) (ended b ss)) (if_alone (binary StrictEquality d (plain f)) (block ss))
-row_80_case d f b ss u s = record {
+pub row_80_case : (d : Tree) (f : PlainForm) (b : Bool) (ss : Trees) → breaks_out (listed ss) ≡ false → Kind (one_case d (plain f) (ended b ss)) (if_alone (binary StrictEquality d (plain f)) (block ss))
+row_80_case d f b ss s = record {
   read = refl;
   before = refl;
   after = refl;
   fitting = λ strict e.
       let (discriminant, test, body) = one_case_fits strict d (plain f) (ended b ss) e in
       both (fits strict expression (binary StrictEquality d (plain f))) (fits strict statement (block ss) && true) (two_fit strict d (plain f) discriminant (plain_fits strict f test)) (both (fits strict statement (block ss)) true (both (fill strict (each statement) ss) true (fill_ended strict b ss body) refl) refl);
-  core = λ strict e. case_is_kept d b ss u s f (expression_is_quiet strict d (one_case_fits strict d (plain f) (ended b ss) e).0);
-  said = case_says d b ss u s f;
+  core = λ strict e. case_is_kept d b ss s f (expression_is_quiet strict d (one_case_fits strict d (plain f) (ended b ss) e).0);
+  said = case_says d b ss s f;
 }
 
 row_80_default : (d : Tree) (b : Bool) (ss : Trees) → are_unscoped ss ≡ true → breaks_out (listed ss) ≡ false → Kind (one_case d absent (ended b ss)) (block (expression_statement d ▸ ss))
@@ -553,12 +556,12 @@ row_80_default d b ss u s = record {
   fitting = λ strict e.
       let (discriminant, test, body) = one_case_fits strict d absent (ended b ss) e in
       both (fits strict statement (expression_statement d) && fill strict (each statement) ss) true (both (fits strict statement (expression_statement d)) (fill strict (each statement) ss) (both (fits strict expression d) true discriminant refl) (fill_ended strict b ss body)) refl;
-  core = λ strict e. default_is_kept d b ss u s (expression_is_quiet strict d (one_case_fits strict d absent (ended b ss) e).0);
-  said = default_says d b ss u s;
+  core = λ strict e. default_is_kept d b ss s u (expression_is_quiet strict d (one_case_fits strict d absent (ended b ss) e).0);
+  said = default_says d b ss s u;
 }
 
 row_80 : (n w : Tree) → OneCaseRow n w → Kind n w
-row_80 n w (inl r) = kind_along n _ w _ r.shape r.written (row_80_case r.discriminant r.test r.is_ended r.statements r.unscoped r.stays)
+row_80 n w (inl r) = kind_along n _ w _ r.shape r.written (row_80_case r.discriminant r.test r.is_ended r.statements r.stays)
 row_80 n w (inr r) = kind_along n _ w _ r.shape r.written (row_80_default r.discriminant r.is_ended r.statements r.unscoped r.stays)
 
 -- a `switch` over a value that is written out: its cases
@@ -717,21 +720,23 @@ stood_at : (p : Position) (n w : Tree) → IsKind p n w → Stood n w
 stood_at (Stmt q) n w k = kind_stood n w k
 stood_at p n w k = absurd k
 
-placed_at : (p : Position) (n w : Tree) → IsKind p n w → is_rewritten_place p ≡ true
+pub placed_at : (p : Position) (n w : Tree) → IsKind p n w → is_rewritten_place p ≡ true
 placed_at (Stmt q) n w k = refl
 placed_at p n w k = absurd k
 
-kept_at : (p : Position) (n w : Tree) → IsKind p n w → KeptAt p n w
+pub kept_at : (p : Position) (n w : Tree) → IsKind p n w → KeptAt p n w
 kept_at (Stmt q) n w k = kind_kept q n w k
 kept_at p n w k = absurd k
 
+pub kinds_shapes : (R : Position → Tree → Tree → Type 0) → ((p : Position) (n w : Tree) → R p n w → IsKind p n w) → KeepsShapes R
+kinds_shapes R kind = record {
+  fitting = λ p n w c strict s f e. let k = stood_at p n w (kind p n w c) in fits_there strict s n w k.read k.before k.after (k.fitting strict) e;
+  asked = λ p n w c. let k = stood_at p n w (kind p n w c) in plain_asked p n w k.before k.after;
+}
+
 pub kinds_lawful : (R : Position → Tree → Tree → Type 0) → MeansSame R → ((p : Position) (n w : Tree) → R p n w → IsKind p n w) → Lawful R
 kinds_lawful R same kind =
-    kept_is_lawful R same
-    (record {
-      fitting = λ p n w c strict s f e. let k = stood_at p n w (kind p n w c) in fits_there strict s n w k.read k.before k.after (k.fitting strict) e;
-      asked = λ p n w c. let k = stood_at p n w (kind p n w c) in plain_asked p n w k.before k.after;
-    })
+    kept_is_lawful R same (kinds_shapes R kind)
     (λ p n w c. placed_at p n w (kind p n w c))
     (λ p n w c strict s f e. body_slot p s (taken strict s n (stood_at p n w (kind p n w c)).read e))
     (λ p n w c. kept_at p n w (kind p n w c))

@@ -9,6 +9,7 @@ use Rattle.mini_model.specs.declared.shape.Shape.{Shape}
 use Rattle.mini_model.specs.declared.shape.Shape.TheVariants as shape
 use Rattle.mini_model.specs.Tree.{Tree, Trees, node, none, ◌▸◌, absent, listed, expression_statement, if_alone}
 use Rattle.mini_model.specs.Paths.{append}
+use Rattle.mini_laws.specs.declared.names.Binding.{Binding}
 use Rattle.mini_laws.specs.declared.names.Use.{Use}
 use Rattle.mini_laws.specs.declared.names.Use.TheVariants.{Read, Alone}
 use Rattle.mini_laws.specs.declared.names.Declared.{Declared}
@@ -135,7 +136,7 @@ module _ (ts ss : Trees) where
   -- what stays of them
   pub record Shorter : Type 0 where
     hoisted : all_names declared.Hoisted ss ≡ all_names declared.Hoisted ts
-    lexical : all_names declared.Lexical ts ≡ []
+    lexical : all_names declared.Lexical ts ≡ all_names declared.Lexical ss
     inner : any_inner ss ≡ any_inner ts
     symbols : declared_from (λ j. []) (λ j. Read) 0 ss ≡ declared_from (λ j. []) (λ j. Read) 0 ts
     scoped : (env : Environment) → AllScoped (λ j. []) (λ j. Read) 0 env ts → AllScoped (λ j. []) (λ j. Read) 0 env ss
@@ -156,12 +157,10 @@ unfolding names_of
 hoisted_longer none = refl
 hoisted_longer (t ▸ ss) = ap (λ r. names_of declared.Hoisted t ++ r) (hoisted_longer ss)
 
-lexical_longer : (ss : Trees) → all_names declared.Lexical ss ≡ [] → all_names declared.Lexical (longer ss) ≡ []
+lexical_longer : (ss : Trees) → all_names declared.Lexical (longer ss) ≡ all_names declared.Lexical ss
 unfolding names_of
-lexical_longer none e = refl
-lexical_longer (t ▸ ss) e =
-    let (own, rest) = empty_both (names_of declared.Lexical t) (all_names declared.Lexical ss) e in
-    both_empty (names_of declared.Lexical t) (all_names declared.Lexical (longer ss)) own (lexical_longer ss rest)
+lexical_longer none = refl
+lexical_longer (t ▸ ss) = ap (λ r. names_of declared.Lexical t ++ r) (lexical_longer ss)
 
 inner_longer : (ss : Trees) → any_inner ss ≡ any_inner (longer ss)
 unfolding has_inner
@@ -222,11 +221,11 @@ targets_out : (a : Targets) (p : Path) (ss : Trees) → breaks_out (listed ss) �
 unfolding targets_of
 targets_out a p ss b e = all_aimed_out shape.Listed ss a p 0 ss b e
 
-shorter : (b : Bool) (ss : Trees) → are_unscoped ss ≡ true → breaks_out (listed ss) ≡ false → Shorter (ended b ss) ss
-shorter false ss u s = record { hoisted = refl; lexical = no_lexicals ss u; inner = refl; symbols = refl; scoped = λ env r. r; numbers = refl; once = λ p e. e; targets = λ a p e. targets_out a p ss s e; bodies = λ a. refl; frames = refl; fixed = λ z. refl; declared = refl; body = refl }
-shorter true ss u s = record {
+shorter : (b : Bool) (ss : Trees) → breaks_out (listed ss) ≡ false → Shorter (ended b ss) ss
+shorter false ss s = record { hoisted = refl; lexical = refl; inner = refl; symbols = refl; scoped = λ env r. r; numbers = refl; once = λ p e. e; targets = λ a p e. targets_out a p ss s e; bodies = λ a. refl; frames = refl; fixed = λ z. refl; declared = refl; body = refl }
+shorter true ss s = record {
   hoisted = hoisted_longer ss;
-  lexical = lexical_longer ss (no_lexicals ss u);
+  lexical = lexical_longer ss;
   inner = inner_longer ss;
   symbols = symbols_longer 0 ss;
   scoped = λ env r. scoped_longer 0 env ss r;
@@ -250,7 +249,10 @@ module _ {A : Type 0} where
   beside : (ds ts : List A) → [] ≡ ts → (xs : List A) → ds ++ (((ts ++ (xs ++ [])) ++ []) ++ []) ≡ ds ++ xs
   beside ds ts e xs = ap (λ r. ds ++ r) (append-nil ((ts ++ (xs ++ [])) ++ []) ∙ alone ts e xs)
 
-  -- `if (a === 1) { .. }`
+  -- `if (a === 1) { .. }`, with the names of the block
+  in_if_after : (ds ts : List A) → [] ≡ ts → (ls xs : List A) → (ds ++ (ts ++ [])) ++ ((ls ++ (xs ++ [])) ++ []) ≡ ds ++ (ls ++ xs)
+  in_if_after ds ts e ls xs = ap (λ r. (ds ++ (r ++ [])) ++ ((ls ++ (xs ++ [])) ++ [])) (sym e) ∙ (λ k. append-nil ds k ++ (append-nil (ls ++ (xs ++ [])) ∙ ap (λ r. ls ++ r) (append-nil xs)) k)
+
   in_if : (ds ts : List A) → [] ≡ ts → (xs : List A) → (ds ++ (ts ++ [])) ++ ((xs ++ []) ++ []) ≡ ds ++ xs
   in_if ds ts e xs = ap (λ r. (ds ++ (r ++ [])) ++ ((xs ++ []) ++ [])) (sym e) ∙ (λ k. append-nil ds k ++ (append-nil (xs ++ []) ∙ append-nil xs) k)
 
@@ -296,30 +298,34 @@ module _ (d t : Tree) (ts ss : Trees) (blank : Blank t) (k : Shorter ts ss) wher
       ap (λ r. r ++ (((names_of declared.Hoisted t ++ (all_names declared.Hoisted ts ++ [])) ++ []) ++ [])) (no_names declared.Hoisted d q)
       ∙ beside [] (names_of declared.Hoisted t) (sym blank.hoisted) (all_names declared.Hoisted ts) ∙ sym k.hoisted
 
-  no_scope : lexical_scope (lexical_names cases) ≡ []
+  -- the scope of the `switch` is the block's
+  abbrev scope : List Binding
+  scope = lexical_scope (all_names declared.Lexical ss)
+
+  cases_scope : lexical_scope (lexical_names cases) ≡ scope
   unfolding names_of with_names
-  no_scope = ap lexical_scope (ap (λ r. (r ++ (all_names declared.Lexical ts ++ [])) ++ []) blank.lexical ∙ ap (λ r. (r ++ []) ++ []) k.lexical)
+  cases_scope = ap lexical_scope (ap (λ r. (r ++ (all_names declared.Lexical ts ++ [])) ++ []) blank.lexical ∙ append-nil (all_names declared.Lexical ts ++ []) ∙ append-nil (all_names declared.Lexical ts) ∙ k.lexical)
 
   list_symbols : declared_in Read (listed ss) ≡ declared_in Read (listed ts)
   unfolding declared_in scopes_by
   list_symbols = k.symbols
 
-  n_symbols : (u : Use) → declared_in u n ≡ declared_in Read d ++ declared_in Read (listed ss)
+  n_symbols : (u : Use) → declared_in u n ≡ declared_in Read d ++ (symbols_in scope ++ declared_in Read (listed ss))
   unfolding declared_in scopes_by
   n_symbols u =
-      ap (λ bs. declared_in Read d ++ (symbols_in bs ++ (((declared_in Read t ++ (declared_from (λ j. []) (λ j. Read) 0 ts ++ [])) ++ []) ++ []))) no_scope
-      ∙ beside (declared_in Read d) (declared_in Read t) (sym blank.symbols) (declared_from (λ j. []) (λ j. Read) 0 ts) ∙ ap (λ r. declared_in Read d ++ r) (sym k.symbols)
+      ap (λ bs. declared_in Read d ++ (symbols_in bs ++ (((declared_in Read t ++ (declared_from (λ j. []) (λ j. Read) 0 ts ++ [])) ++ []) ++ []))) cases_scope
+      ∙ ap (λ r. declared_in Read d ++ (symbols_in scope ++ r)) (beside [] (declared_in Read t) (sym blank.symbols) (declared_from (λ j. []) (λ j. Read) 0 ts) ∙ sym k.symbols)
 
   n_inner : has_inner n ≡ (has_inner d || any_inner ss)
   unfolding has_inner
   n_inner = or_alone (has_inner d) (has_inner t) (any_inner ts) blank.inner ∙ ap (λ b. has_inner d || b) (sym k.inner)
 
-  n_scoped : (u : Use) (env : Environment) → Scoped u env n → Scoped Read env d × AllScoped (λ j. []) (λ j. Read) 0 env ss
+  n_scoped : (u : Use) (env : Environment) → Scoped u env n → Scoped Read env d × AllScoped (λ j. []) (λ j. Read) 0 (env ++ scope) ss
   unfolding Scoped scopes_by
   n_scoped u env r =
-      let a = subst (λ bs. AllScoped (at_or_empty ([] ∷ (bs ∷ []))) (use_of shape.SwitchStatement u) 0 env (d ▸ (cases ▸ none))) no_scope r.1 in
-      let same : ((((env ++ []) ++ []) ++ []) ++ []) ++ [] ≡ env = append-nil ((((env ++ []) ++ []) ++ []) ++ []) ∙ append-nil (((env ++ []) ++ []) ++ []) ∙ append-nil ((env ++ []) ++ []) ∙ append-nil (env ++ []) ∙ append-nil env in
-      (moved Read (env ++ []) env d (append-nil env) a.0, k.scoped env (subst (λ v. AllScoped (λ j. []) (λ j. Read) 0 v ts) same a.1.0.1.0.1.1.0.1))
+      let a = subst (λ bs. AllScoped (at_or_empty ([] ∷ (bs ∷ []))) (use_of shape.SwitchStatement u) 0 env (d ▸ (cases ▸ none))) cases_scope r.1 in
+      let same : ((((env ++ []) ++ scope) ++ []) ++ []) ++ [] ≡ env ++ scope = append-nil ((((env ++ []) ++ scope) ++ []) ++ []) ∙ append-nil (((env ++ []) ++ scope) ++ []) ∙ append-nil ((env ++ []) ++ scope) ∙ ap (λ v. v ++ scope) (append-nil env) in
+      (moved Read (env ++ []) env d (append-nil env) a.0, k.scoped (env ++ scope) (subst (λ v. AllScoped (λ j. []) (λ j. Read) 0 v ts) same a.1.0.1.0.1.1.0.1))
 
   -- early errors
 
@@ -375,109 +381,109 @@ module _ (d t : Tree) (ts ss : Trees) (blank : Blank t) (k : Shorter ts ss) wher
   cases_body : as_body false cases ≡ all_as_body false ss
   cases_body = alone (as_body false t) (sym blank.body) (all_as_body false ts) ∙ sym k.body
 
-  no_lexical_left : all_names declared.Lexical ss ≡ [] → lexical_scope (lexical_names (listed ss)) ≡ []
+  -- ---- `if (a === 1) { .. }`
+
+  abbrev w : Tree
+  w = if_alone (binary StrictEquality d t) (block ss)
+
+  w_names : IsQuiet d → (o : Declared) → names_of o w ≡ names_of o n
+  unfolding names_of
+  w_names q declared.Bound = refl
+  w_names q declared.Lexical = refl
+  w_names q declared.Hoisted = append-nil (hoists ++ []) ∙ append-nil hoists ∙ sym (n_hoisted q)
+
+  w_body : IsQuiet d → body_names w ≡ body_names n
+  unfolding body_names names_of
+  w_body q = w_names q declared.Hoisted
+
+  w_inner : has_inner w ≡ has_inner n
+  unfolding has_inner
+  w_inner = or_if (has_inner d) (has_inner t) (any_inner ss) blank.inner ∙ sym n_inner
+
+  block_scope : lexical_scope (lexical_names (listed ss)) ≡ scope
   unfolding names_of with_names
-  no_lexical_left e = ap lexical_scope e
+  block_scope = refl
+
+  w_symbols : (u : Use) → declared_in u w ≡ declared_in Read d ++ (symbols_in scope ++ declared_in Read (listed ss))
+  unfolding declared_in scopes_by
+  w_symbols u =
+      ap (λ bs. (declared_in Read d ++ (declared_in Read t ++ [])) ++ ((symbols_in bs ++ (declared_from (λ j. []) (λ j. Read) 0 ss ++ [])) ++ [])) block_scope
+      ∙ in_if_after (declared_in Read d) (declared_in Read t) (sym blank.symbols) (symbols_in scope) (declared_from (λ j. []) (λ j. Read) 0 ss)
+
+  w_scoped : (u : Use) (env : Environment) → Scoped u env n → Scoped u env w
+  unfolding Scoped scopes_by
+  w_scoped u env r =
+      let (first, second) = n_scoped u env r in
+      let same : env ≡ (((env ++ []) ++ []) ++ []) ++ [] = sym (append-nil (((env ++ []) ++ []) ++ []) ∙ append-nil ((env ++ []) ++ []) ∙ append-nil (env ++ []) ∙ append-nil env) in (
+        tt,
+        (
+          (tt, (moved Read env ((env ++ []) ++ []) d (sym (append-nil (env ++ []) ∙ append-nil env)) first, (blank.scoped (((env ++ []) ++ []) ++ []), tt))),
+          (
+            (tt, subst (λ bs. AllScoped (at_or_empty (bs ∷ [])) (use_of shape.BlockStatement Alone) 0 ((env ++ []) ++ []) (listed ss ▸ none)) (sym block_scope) ((tt, subst (λ v. AllScoped (λ j. []) (λ j. Read) 0 (v ++ scope) ss) (sym (append-nil (env ++ []) ∙ append-nil env)) second), tt)),
+            ((tt, tt), tt),
+          ),
+        ),
+      )
+
+  w_once : (p : Path) → early_names p n ≡ [] → early_names p w ≡ []
+  unfolding early_names scope_declarations
+  w_once p e =
+      let (own, (first, second)) = n_once p e in
+      let at : Path = (p ++ 1 ∷ []) ++ 0 ∷ [] in
+      both_empty (early_names ((p ++ 0 ∷ []) ++ 0 ∷ []) d ++ (early_names ((p ++ 0 ∷ []) ++ 1 ∷ []) t ++ [])) ((clashing [] (in_body false (p ++ 1 ∷ []) (listed ss ▸ none) 0) ++ (all_early_names at 0 ss ++ [])) ++ [])
+      (both_empty (early_names ((p ++ 0 ∷ []) ++ 0 ∷ []) d) (early_names ((p ++ 0 ∷ []) ++ 1 ∷ []) t ++ []) (once_anywhere (p ++ 0 ∷ []) ((p ++ 0 ∷ []) ++ 0 ∷ []) d first) (both_empty (early_names ((p ++ 0 ∷ []) ++ 1 ∷ []) t) [] (blank.once ((p ++ 0 ∷ []) ++ 1 ∷ [])) refl))
+      (both_empty (clashing [] (in_body false (p ++ 1 ∷ []) (listed ss ▸ none) 0) ++ (all_early_names at 0 ss ++ [])) []
+      (both_empty (clashing [] (in_body false (p ++ 1 ∷ []) (listed ss ▸ none) 0)) (all_early_names at 0 ss ++ [])
+      (free_same (in_body false p (d ▸ (cases ▸ none)) 1) (in_body false (p ++ 1 ∷ []) (listed ss ▸ none) 0) (body_same false at (p ++ 1 ∷ []) cases (listed ss) (sym cases_body)) own)
+      (both_empty (all_early_names at 0 ss) [] (once_anywhere (((p ++ 1 ∷ []) ++ 0 ∷ []) ++ 1 ∷ []) at (listed ss) second) refl))
+      refl)
+
+  w_targets : (a : Targets) (p : Path) → early_jumps a p n ≡ [] → early_jumps a p w ≡ []
+  unfolding early_jumps targets_of
+  w_targets a p e =
+      let (first, second) = n_targets a p e in
+      let at : Path = (p ++ 1 ∷ []) ++ 0 ∷ [] in
+      both_empty (early_jumps a ((p ++ 0 ∷ []) ++ 0 ∷ []) d ++ (early_jumps a ((p ++ 0 ∷ []) ++ 1 ∷ []) t ++ [])) ((all_early_jumps (λ j. a) at 0 ss ++ []) ++ [])
+      (both_empty (early_jumps a ((p ++ 0 ∷ []) ++ 0 ∷ []) d) (early_jumps a ((p ++ 0 ∷ []) ++ 1 ∷ []) t ++ []) (targets_anywhere a (p ++ 0 ∷ []) ((p ++ 0 ∷ []) ++ 0 ∷ []) d first) (both_empty (early_jumps a ((p ++ 0 ∷ []) ++ 1 ∷ []) t) [] (blank.targets a ((p ++ 0 ∷ []) ++ 1 ∷ [])) refl))
+      (both_empty (all_early_jumps (λ j. a) at 0 ss ++ []) [] (both_empty (all_early_jumps (λ j. a) at 0 ss) [] (targets_anywhere a (((p ++ 1 ∷ []) ++ 0 ∷ []) ++ 1 ∷ []) at (listed ss) second) refl) refl)
+
+  w_numbers : numbers w ≡ numbers n
+  unfolding numbers
+  w_numbers = in_if (numbers d) (numbers t) (sym blank.numbers) (all_numbers ss) ∙ sym n_numbers
+
+  w_bodies : (a : Around) → bodies a w ≡ bodies a n
+  w_bodies a = in_if (bodies (quiet a) d) (bodies (quiet a) t) (sym (blank.bodies a)) (bodies_from (λ j. quiet a) 0 ss) ∙ sym (n_bodies a)
+
+  w_frames : frames None w ≡ frames None n
+  w_frames = in_if (frames None d) (frames None t) (sym blank.frames) (frames_from (λ j. None) 0 ss) ∙ sym n_frames
+
+  w_declared : declared_names w ≡ declared_names n
+  w_declared = in_if (declared_names d) (declared_names t) (sym blank.declared) (declared_all ss) ∙ sym n_declared
+
+  w_fixed : (z : Variable) → fixed_by w z ≡ fixed_by n z
+  w_fixed z =
+      of_if (binary StrictEquality d t) (block ss) absent z
+      ∙ (λ i. stricter (of_children (shape.BinaryExpression StrictEquality) [] 0 (d ▸ (t ▸ none)) z refl i) (stricter (of_children shape.BlockStatement [] 0 (listed ss ▸ none) z refl i) (stricter (of_absent z i) Writable)))
+      ∙ (λ i. stricter (stricter (fixed_by d z) (stricter (blank.fixed z i) Writable)) (stricter (stricter (of_children shape.Listed [] 0 ss z refl i) Writable) Writable))
+      ∙ (λ i. stricter (strict_none (fixed_by d z) i) ((strict_none (stricter (fixed_by_any ss z) Writable) ∙ strict_none (fixed_by_any ss z)) i))
+      ∙ sym (n_fixed z)
+
+  pub case_core : IsQuiet d → Core n w
+  case_core q = record {
+    kept = record { names = w_names q; body = w_body q; inner = w_inner; symbols = λ u x. omega (arith, ap (times x) (w_symbols u ∙ sym (n_symbols u))) };
+    scoped = w_scoped;
+    numbers = λ m. omega (arith, ap (count_of m) w_numbers);
+    once = w_once;
+    targets = w_targets;
+    loop = refl;
+    bodies = λ a. subst (BodiesKept (bodies a n)) (sym (w_bodies a)) (kept_itself (bodies a n));
+    frames = λ f c. subst (λ fs. Contains fs f) w_frames c;
+  }
+
+  pub case_said : Said n w
+  case_said = record { fixed = λ z. sym (w_fixed z); declared = λ z c. subst (λ xs. Contains xs z) w_declared c }
 
   module _ (left : all_names declared.Lexical ss ≡ []) where
-    -- ---- `if (a === 1) { .. }`
-
-    abbrev w : Tree
-    w = if_alone (binary StrictEquality d t) (block ss)
-
-    w_names : IsQuiet d → (o : Declared) → names_of o w ≡ names_of o n
-    unfolding names_of
-    w_names q declared.Bound = refl
-    w_names q declared.Lexical = refl
-    w_names q declared.Hoisted = append-nil (hoists ++ []) ∙ append-nil hoists ∙ sym (n_hoisted q)
-
-    w_body : IsQuiet d → body_names w ≡ body_names n
-    unfolding body_names names_of
-    w_body q = w_names q declared.Hoisted
-
-    w_inner : has_inner w ≡ has_inner n
-    unfolding has_inner
-    w_inner = or_if (has_inner d) (has_inner t) (any_inner ss) blank.inner ∙ sym n_inner
-
-    w_symbols : (u : Use) → declared_in u w ≡ declared_in Read d ++ declared_in Read (listed ss)
-    unfolding declared_in scopes_by
-    w_symbols u =
-        ap (λ bs. (declared_in Read d ++ (declared_in Read t ++ [])) ++ ((symbols_in bs ++ (declared_from (λ j. []) (λ j. Read) 0 ss ++ [])) ++ [])) (no_lexical_left left)
-        ∙ in_if (declared_in Read d) (declared_in Read t) (sym blank.symbols) (declared_from (λ j. []) (λ j. Read) 0 ss)
-
-    w_scoped : (u : Use) (env : Environment) → Scoped u env n → Scoped u env w
-    unfolding Scoped scopes_by
-    w_scoped u env r =
-        let (first, second) = n_scoped u env r in
-        let same : env ≡ (((env ++ []) ++ []) ++ []) ++ [] = sym (append-nil (((env ++ []) ++ []) ++ []) ∙ append-nil ((env ++ []) ++ []) ∙ append-nil (env ++ []) ∙ append-nil env) in (
-          tt,
-          (
-            (tt, (moved Read env ((env ++ []) ++ []) d (sym (append-nil (env ++ []) ∙ append-nil env)) first, (blank.scoped (((env ++ []) ++ []) ++ []), tt))),
-            (
-              (tt, subst (λ bs. AllScoped (at_or_empty (bs ∷ [])) (use_of shape.BlockStatement Alone) 0 ((env ++ []) ++ []) (listed ss ▸ none)) (sym (no_lexical_left left)) ((tt, subst (λ v. AllScoped (λ j. []) (λ j. Read) 0 v ss) (sym (append-nil ((env ++ []) ++ []) ∙ append-nil (env ++ []) ∙ append-nil env)) second), tt)),
-              ((tt, tt), tt),
-            ),
-          ),
-        )
-
-    w_once : (p : Path) → early_names p n ≡ [] → early_names p w ≡ []
-    unfolding early_names scope_declarations
-    w_once p e =
-        let (own, (first, second)) = n_once p e in
-        let at : Path = (p ++ 1 ∷ []) ++ 0 ∷ [] in
-        both_empty (early_names ((p ++ 0 ∷ []) ++ 0 ∷ []) d ++ (early_names ((p ++ 0 ∷ []) ++ 1 ∷ []) t ++ [])) ((clashing [] (in_body false (p ++ 1 ∷ []) (listed ss ▸ none) 0) ++ (all_early_names at 0 ss ++ [])) ++ [])
-        (both_empty (early_names ((p ++ 0 ∷ []) ++ 0 ∷ []) d) (early_names ((p ++ 0 ∷ []) ++ 1 ∷ []) t ++ []) (once_anywhere (p ++ 0 ∷ []) ((p ++ 0 ∷ []) ++ 0 ∷ []) d first) (both_empty (early_names ((p ++ 0 ∷ []) ++ 1 ∷ []) t) [] (blank.once ((p ++ 0 ∷ []) ++ 1 ∷ [])) refl))
-        (both_empty (clashing [] (in_body false (p ++ 1 ∷ []) (listed ss ▸ none) 0) ++ (all_early_names at 0 ss ++ [])) []
-        (both_empty (clashing [] (in_body false (p ++ 1 ∷ []) (listed ss ▸ none) 0)) (all_early_names at 0 ss ++ [])
-        (free_same (in_body false p (d ▸ (cases ▸ none)) 1) (in_body false (p ++ 1 ∷ []) (listed ss ▸ none) 0) (body_same false at (p ++ 1 ∷ []) cases (listed ss) (sym cases_body)) own)
-        (both_empty (all_early_names at 0 ss) [] (once_anywhere (((p ++ 1 ∷ []) ++ 0 ∷ []) ++ 1 ∷ []) at (listed ss) second) refl))
-        refl)
-
-    w_targets : (a : Targets) (p : Path) → early_jumps a p n ≡ [] → early_jumps a p w ≡ []
-    unfolding early_jumps targets_of
-    w_targets a p e =
-        let (first, second) = n_targets a p e in
-        let at : Path = (p ++ 1 ∷ []) ++ 0 ∷ [] in
-        both_empty (early_jumps a ((p ++ 0 ∷ []) ++ 0 ∷ []) d ++ (early_jumps a ((p ++ 0 ∷ []) ++ 1 ∷ []) t ++ [])) ((all_early_jumps (λ j. a) at 0 ss ++ []) ++ [])
-        (both_empty (early_jumps a ((p ++ 0 ∷ []) ++ 0 ∷ []) d) (early_jumps a ((p ++ 0 ∷ []) ++ 1 ∷ []) t ++ []) (targets_anywhere a (p ++ 0 ∷ []) ((p ++ 0 ∷ []) ++ 0 ∷ []) d first) (both_empty (early_jumps a ((p ++ 0 ∷ []) ++ 1 ∷ []) t) [] (blank.targets a ((p ++ 0 ∷ []) ++ 1 ∷ [])) refl))
-        (both_empty (all_early_jumps (λ j. a) at 0 ss ++ []) [] (both_empty (all_early_jumps (λ j. a) at 0 ss) [] (targets_anywhere a (((p ++ 1 ∷ []) ++ 0 ∷ []) ++ 1 ∷ []) at (listed ss) second) refl) refl)
-
-    w_numbers : numbers w ≡ numbers n
-    unfolding numbers
-    w_numbers = in_if (numbers d) (numbers t) (sym blank.numbers) (all_numbers ss) ∙ sym n_numbers
-
-    w_bodies : (a : Around) → bodies a w ≡ bodies a n
-    w_bodies a = in_if (bodies (quiet a) d) (bodies (quiet a) t) (sym (blank.bodies a)) (bodies_from (λ j. quiet a) 0 ss) ∙ sym (n_bodies a)
-
-    w_frames : frames None w ≡ frames None n
-    w_frames = in_if (frames None d) (frames None t) (sym blank.frames) (frames_from (λ j. None) 0 ss) ∙ sym n_frames
-
-    w_declared : declared_names w ≡ declared_names n
-    w_declared = in_if (declared_names d) (declared_names t) (sym blank.declared) (declared_all ss) ∙ sym n_declared
-
-    w_fixed : (z : Variable) → fixed_by w z ≡ fixed_by n z
-    w_fixed z =
-        of_if (binary StrictEquality d t) (block ss) absent z
-        ∙ (λ i. stricter (of_children (shape.BinaryExpression StrictEquality) [] 0 (d ▸ (t ▸ none)) z refl i) (stricter (of_children shape.BlockStatement [] 0 (listed ss ▸ none) z refl i) (stricter (of_absent z i) Writable)))
-        ∙ (λ i. stricter (stricter (fixed_by d z) (stricter (blank.fixed z i) Writable)) (stricter (stricter (of_children shape.Listed [] 0 ss z refl i) Writable) Writable))
-        ∙ (λ i. stricter (strict_none (fixed_by d z) i) ((strict_none (stricter (fixed_by_any ss z) Writable) ∙ strict_none (fixed_by_any ss z)) i))
-        ∙ sym (n_fixed z)
-
-    pub case_core : IsQuiet d → Core n w
-    case_core q = record {
-      kept = record { names = w_names q; body = w_body q; inner = w_inner; symbols = λ u x. omega (arith, ap (times x) (w_symbols u ∙ sym (n_symbols u))) };
-      scoped = w_scoped;
-      numbers = λ m. omega (arith, ap (count_of m) w_numbers);
-      once = w_once;
-      targets = w_targets;
-      loop = refl;
-      bodies = λ a. subst (BodiesKept (bodies a n)) (sym (w_bodies a)) (kept_itself (bodies a n));
-      frames = λ f c. subst (λ fs. Contains fs f) w_frames c;
-    }
-
-    pub case_said : Said n w
-    case_said = record { fixed = λ z. sym (w_fixed z); declared = λ z c. subst (λ xs. Contains xs z) w_declared c }
-
     -- ---- `{ a; .. }`
 
     abbrev v : Tree
@@ -506,6 +512,13 @@ module _ (d t : Tree) (ts ss : Trees) (blank : Blank t) (k : Shorter ts ss) wher
     shifted i j none = refl
     shifted i j (u ▸ us) = ap (λ r. declared_in Read u ++ r) (shifted (suc i) (suc j) us)
 
+    no_scope : scope ≡ []
+    unfolding with_names
+    no_scope = ap lexical_scope left
+
+    n_declares : (u : Use) → declared_in u n ≡ declared_in Read d ++ declared_in Read (listed ss)
+    n_declares u = n_symbols u ∙ ap (λ bs. declared_in Read d ++ (symbols_in bs ++ declared_in Read (listed ss))) no_scope
+
     v_symbols : (u : Use) → declared_in u v ≡ declared_in Read d ++ declared_in Read (listed ss)
     unfolding declared_in scopes_by
     v_symbols u =
@@ -520,7 +533,8 @@ module _ (d t : Tree) (ts ss : Trees) (blank : Blank t) (k : Shorter ts ss) wher
     v_scoped : (u : Use) (env : Environment) → Scoped u env n → Scoped u env v
     unfolding Scoped scopes_by
     v_scoped u env r =
-        let (first, second) = n_scoped u env r in
+        let (first, later) = n_scoped u env r in
+        let second = subst (λ bs. AllScoped (λ j. []) (λ j. Read) 0 bs ss) (ap (λ bs. env ++ bs) no_scope ∙ append-nil env) later in
         let same : ((env ++ []) ++ []) ++ [] ≡ env = append-nil ((env ++ []) ++ []) ∙ append-nil (env ++ []) ∙ append-nil env in (
           tt,
           subst (λ bs. AllScoped (at_or_empty (bs ∷ [])) (use_of shape.BlockStatement u) 0 env (listed (expression_statement d ▸ ss) ▸ none)) (sym v_scope)
@@ -596,7 +610,7 @@ module _ (d t : Tree) (ts ss : Trees) (blank : Blank t) (k : Shorter ts ss) wher
 
     pub default_core : IsQuiet d → Core n v
     default_core q = record {
-      kept = record { names = v_names q; body = v_body q; inner = v_inner; symbols = λ u x. omega (arith, ap (times x) (v_symbols u ∙ sym (n_symbols u))) };
+      kept = record { names = v_names q; body = v_body q; inner = v_inner; symbols = λ u x. omega (arith, ap (times x) (v_symbols u ∙ sym (n_declares u))) };
       scoped = v_scoped;
       numbers = λ m. omega (arith, ap (count_of m) v_numbers);
       once = v_once;
@@ -611,15 +625,21 @@ module _ (d t : Tree) (ts ss : Trees) (blank : Blank t) (k : Shorter ts ss) wher
 
 -- ---- the rows
 
-module _ (d : Tree) (b : Bool) (ss : Trees) (u : are_unscoped ss ≡ true) (s : breaks_out (listed ss) ≡ false) where
+module _ (d : Tree) (b : Bool) (ss : Trees) (s : breaks_out (listed ss) ≡ false) where
   pub case_is_kept : (f : PlainForm) → IsQuiet d → Core (one_case d (plain f) (ended b ss)) (if_alone (binary StrictEquality d (plain f)) (block ss))
-  case_is_kept f q = case_core d (plain f) (ended b ss) ss (blank_plain f) (shorter b ss u s) (no_lexicals ss u) q
+  case_is_kept f q = case_core d (plain f) (ended b ss) ss (blank_plain f) (shorter b ss s) q
 
   pub case_says : (f : PlainForm) → Said (one_case d (plain f) (ended b ss)) (if_alone (binary StrictEquality d (plain f)) (block ss))
-  case_says f = case_said d (plain f) (ended b ss) ss (blank_plain f) (shorter b ss u s) (no_lexicals ss u)
+  case_says f = case_said d (plain f) (ended b ss) ss (blank_plain f) (shorter b ss s)
 
-  pub default_is_kept : IsQuiet d → Core (one_case d absent (ended b ss)) (block (expression_statement d ▸ ss))
-  default_is_kept q = default_core d absent (ended b ss) ss blank_absent (shorter b ss u s) (no_lexicals ss u) q
+  pub case_bodies : (f : PlainForm) (a : Around) → bodies a (one_case d (plain f) (ended b ss)) ≡ bodies a (if_alone (binary StrictEquality d (plain f)) (block ss))
+  case_bodies f a = sym (w_bodies d (plain f) (ended b ss) ss (blank_plain f) (shorter b ss s) a)
 
-  pub default_says : Said (one_case d absent (ended b ss)) (block (expression_statement d ▸ ss))
-  default_says = default_said d absent (ended b ss) ss blank_absent (shorter b ss u s) (no_lexicals ss u)
+  pub case_frames : (f : PlainForm) → frames None (one_case d (plain f) (ended b ss)) ≡ frames None (if_alone (binary StrictEquality d (plain f)) (block ss))
+  case_frames f = sym (w_frames d (plain f) (ended b ss) ss (blank_plain f) (shorter b ss s))
+
+  pub default_is_kept : are_unscoped ss ≡ true → IsQuiet d → Core (one_case d absent (ended b ss)) (block (expression_statement d ▸ ss))
+  default_is_kept u q = default_core d absent (ended b ss) ss blank_absent (shorter b ss s) (no_lexicals ss u) q
+
+  pub default_says : are_unscoped ss ≡ true → Said (one_case d absent (ended b ss)) (block (expression_statement d ▸ ss))
+  default_says u = default_said d absent (ended b ss) ss blank_absent (shorter b ss s) (no_lexicals ss u)

@@ -164,12 +164,12 @@ module _ (e : Environment) (cases : Tree) (i : Idle cases) where
 -- ---- 80
 
 -- a value that is written out
-record Written (t : Tree) : Type 0 where
-  idle : Idle t
-  there : (summary t).facts.absent ≡ false
-  stays : breaks_out t ≡ false
+pub record Written (t : Tree) : Type 0 where
+  pub idle : Idle t
+  pub there : (summary t).facts.absent ≡ false
+  pub stays : breaks_out t ≡ false
 
-plain_written : (f : PlainForm) → Written (plain f)
+pub plain_written : (f : PlainForm) → Written (plain f)
 plain_written (a_number n) = record { idle = record { lets = refl; functions = refl; facts = refl }; there = refl; stays = refl }
 plain_written (a_text s) = record { idle = record { lets = refl; functions = refl; facts = refl }; there = refl; stays = refl }
 plain_written (a_boolean b) = record { idle = record { lets = refl; functions = refl; facts = refl }; there = refl; stays = refl }
@@ -178,7 +178,7 @@ plain_written (a_big_int n) = record { idle = record { lets = refl; functions = 
 plain_written (a_template l raw s) = record { idle = record { lets = refl; functions = refl; facts = refl }; there = refl; stays = refl }
 plain_written a_void = record { idle = record { lets = refl; functions = refl; facts = refl }; there = refl; stays = refl }
 
-equal_test : (e : Environment) (d t : Tree) (s : State) → means e (binary StrictEquality d t) (As Test) tt s ≡ either (means e d (As Val) tt s) (λ v z. either (means e t (As Val) tt z) (λ w z. ok (strictly_equal v w) z) (λ x z. stop x z)) (λ x z. stop x z)
+pub equal_test : (e : Environment) (d t : Tree) (s : State) → means e (binary StrictEquality d t) (As Test) tt s ≡ either (means e d (As Val) tt s) (λ v z. either (means e t (As Val) tt z) (λ w z. ok (strictly_equal v w) z) (λ x z. stop x z)) (λ x z. stop x z)
 unfolding means meaning step
 equal_test e d t s = refl
 
@@ -186,14 +186,27 @@ choose_caught : (b : Bool) (x y : Completion (Unit {0})) → caught (choose b x 
 choose_caught true x y = refl
 choose_caught false x y = refl
 
-module _ (e : Environment) (d : Tree) (u : Nothing d) (ss : Trees) (b : Bool) (unscoped : are_unscoped ss ≡ true) (stays : breaks_out (listed ss) ≡ false) (r : LabelSet) where
-  abbrev does : Tree → Value → State → Completion (Unit {0})
+module _ (e : Environment) (ss : Trees) (b : Bool) (stays : breaks_out (listed ss) ≡ false) where
+  -- the statements are run where the test is the value
+  abbrev pub does : Tree → Value → State → Completion (Unit {0})
   does t v z = either (means e t (As Val) tt z) (λ w z. choose (strictly_equal v w) (means e (listed ss) (Stat None) [] z) (ok tt z)) (λ x z. stop x z)
 
+  branch : (c : Bool) (z : State) → caught (choose c (means e (listed (ended b ss)) (Stat None) [] z) (ok tt z)) ≡ choose c (means e (listed ss) (Stat None) [] z) (ok tt z)
+  branch true z = body_ends e ss stays b z
+  branch false z = either_ok tt z _ _
+
+  pub case_does : (t : Tree) → Written t → (v : Value) (z : State) → caught (means e (listed (switch_case t (ended b ss) ▸ none)) Cases v z) ≡ does t v z
+  case_does t w v z =
+      ap caught (cases_choose e t (ended b ss) v z ∙ ap (λ a. chooses e t (ended b ss) a v z) w.there ∙ chooses_case e t (ended b ss) w.there v z)
+      ∙ either_assoc (means e t (As Val) tt z) _ _ _ _
+      ∙ either_cong (means e t (As Val) tt z) _ _ _ _ (λ y z. branch (strictly_equal v y) z) (λ x z. either_stop x z _ _)
+      ∙ unbroken_cong (means e t (As Val) tt z) _ _ (never_broken e t w.stays (As Val) tt z) (λ y z. refl)
+
+module _ (e : Environment) (d : Tree) (u : Nothing d) (ss : Trees) (b : Bool) (unscoped : are_unscoped ss ≡ true) (stays : breaks_out (listed ss) ≡ false) (r : LabelSet) where
   case_means : (t : Tree) → Written t → (s : State) → means e (one_case d t (ended b ss)) (Stat None) r s ≡ means e (if_alone (binary StrictEquality d t) (block ss)) (Stat None) r s
   case_means t w s =
       switch_caught e (listed (switch_case t (ended b ss) ▸ none)) (idle_case t (ended b ss) w.idle (read_nothing (ended b ss) (unscoped_ended b ss unscoped))) d u r s
-      ∙ either_cong (means e d (As Val) tt s) _ _ _ _ (λ v z. inner v z) (λ x z. refl)
+      ∙ either_cong (means e d (As Val) tt s) _ _ _ _ (λ v z. case_does e ss b stays t w v z) (λ x z. refl)
       ∙ sym (
       if_is e (binary StrictEquality d t) (block ss) absent r s
       ∙ ap (λ x. either x (λ c z. choose c (means e (block ss) (Stat None) [] z) (means e absent (Stat None) [] z)) (λ x z. stop x z)) (equal_test e d t s)
@@ -201,22 +214,11 @@ module _ (e : Environment) (d : Tree) (u : Nothing d) (ss : Trees) (b : Bool) (u
       ∙ either_cong (means e d (As Val) tt s) _ _ _ _ (λ v z. outer v z) (λ x z. either_stop x z _ _)
       )
     where
-      branch : (c : Bool) (z : State) → caught (choose c (means e (listed (ended b ss)) (Stat None) [] z) (ok tt z)) ≡ choose c (means e (listed ss) (Stat None) [] z) (ok tt z)
-      branch true z = body_ends e ss stays b z
-      branch false z = either_ok tt z _ _
-
-      inner : (v : Value) (z : State) → caught (means e (listed (switch_case t (ended b ss) ▸ none)) Cases v z) ≡ does t v z
-      inner v z =
-          ap caught (cases_choose e t (ended b ss) v z ∙ ap (λ a. chooses e t (ended b ss) a v z) w.there ∙ chooses_case e t (ended b ss) w.there v z)
-          ∙ either_assoc (means e t (As Val) tt z) _ _ _ _
-          ∙ either_cong (means e t (As Val) tt z) _ _ _ _ (λ y z. branch (strictly_equal v y) z) (λ x z. either_stop x z _ _)
-          ∙ unbroken_cong (means e t (As Val) tt z) _ _ (never_broken e t w.stays (As Val) tt z) (λ y z. refl)
-
       taken : (c : Bool) (z : State) → choose c (means e (block ss) (Stat None) [] z) (means e absent (Stat None) [] z) ≡ choose c (means e (listed ss) (Stat None) [] z) (ok tt z)
       taken true z = block_is e ss (read_nothing ss unscoped) [] z
       taken false z = absent_is e [] z
 
-      outer : (v : Value) (z : State) → either (either (means e t (As Val) tt z) (λ w z. ok (strictly_equal v w) z) (λ x z. stop x z)) (λ c z. choose c (means e (block ss) (Stat None) [] z) (means e absent (Stat None) [] z)) (λ x z. stop x z) ≡ does t v z
+      outer : (v : Value) (z : State) → either (either (means e t (As Val) tt z) (λ w z. ok (strictly_equal v w) z) (λ x z. stop x z)) (λ c z. choose c (means e (block ss) (Stat None) [] z) (means e absent (Stat None) [] z)) (λ x z. stop x z) ≡ does e ss b stays t v z
       outer v z =
           either_assoc (means e t (As Val) tt z) _ _ _ _
           ∙ either_cong (means e t (As Val) tt z) _ _ _ _ (λ y z. either_ok (strictly_equal v y) z _ _ ∙ taken (strictly_equal v y) z) (λ x z. either_stop x z _ _)

@@ -42,7 +42,7 @@ braces_light stmt_seat.Consequent true = omega arith
 braces_light stmt_seat.Consequent false = omega arith
 braces_light q b = omega arith
 
-case_lighter : (q : StmtSeat) (d : Tree) (f : PlainForm) (b : Bool) (ss : Trees) → weight (Stmt q) (if_alone (binary StrictEquality d (plain f)) (block ss)) < weight (Stmt q) (one_case d (plain f) (ended b ss))
+pub case_lighter : (q : StmtSeat) (d : Tree) (f : PlainForm) (b : Bool) (ss : Trees) → weight (Stmt q) (if_alone (binary StrictEquality d (plain f)) (block ss)) < weight (Stmt q) (one_case d (plain f) (ended b ss))
 case_lighter q d f b ss =
     let left = moved (binary_operand_seat StrictEquality 0) whole_seat refl d in
     let right = value_same f in

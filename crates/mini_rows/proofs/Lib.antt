@@ -242,3 +242,11 @@ pub mod DeadCaseKept
 pub mod LetMeaning
 pub mod LetWeights
 pub mod LetLawful
+pub mod Fading
+pub mod FadingSteps
+pub mod HeldNames
+pub mod Unfilled
+pub mod LexicalScopes
+pub mod LexicalLoops
+pub mod LexicalMeaning
+pub mod LexicalKept

@@ -46,15 +46,15 @@ use Rattle.mini_kept.proofs.FrameLists.{same_frames}
 use Rattle.mini_kept.proofs.Quiet.{IsQuiet, expression_is_quiet, no_names}
 use Rattle.mini_kept.proofs.Rows.{statement, last_statement, of_if}
 use Rattle.mini_kept.proofs.Unplaced.{unplaced_both, declared_same, free_same}
-use Rattle.mini_rows.specs.Lists.{for_loop, is_unscoped, are_unscoped}
-use Rattle.mini_rows.specs.Loops.{bare_break, may_leap, is_there, is_test, Tested, always, while_true, test_of, is_tested, also, Leaving, alone, or_else, unless, leaves_by, goes_by, runs_on, is_loose, Leading, whole, before, led, others_of}
+use Rattle.mini_rows.specs.Lists.{for_loop, is_unscoped}
+use Rattle.mini_rows.specs.Loops.{bare_break, may_leap, is_there, is_test, Tested, always, while_true, test_of, is_tested, also, Leaving, alone, or_else, unless, leaves_by, goes_by, runs_on, is_loose, Leading, whole, before, led}
 use Rattle.mini_rows.proofs.BranchAround as around
 use Rattle.mini_rows.proofs.BranchAround.{Core, Among, later_among}
 use Rattle.mini_rows.proofs.BranchInside.{quiet}
 use Rattle.mini_rows.proofs.BranchParts.{Value, value_itself, said_itself}
 use Rattle.mini_rows.proofs.ListShapes.{of_block, first_fits, more_fit}
 use Rattle.mini_rows.proofs.LoopLeaps.{leapless}
-use Rattle.mini_rows.proofs.LoopSplits.{or_nothing, alone_fixed, fixed_assoc, Splits, Said, body_splits, body_said}
+use Rattle.mini_rows.proofs.LoopSplits.{or_nothing, alone_fixed, fixed_assoc, Splits, Said, FreeOf, body_splits, body_said, body_bodies, body_frames}
 
 -- ---- a test that has what t has and what x has
 
@@ -259,6 +259,42 @@ module _ (i t w u b c x : Tree) where
   abbrev New : Tree
   New = for_loop i w u c
 
+  for_bodies : (r : Around) → BodiesKept (bodies (quiet r) t ++ bodies (quiet r) x) (bodies (quiet r) w) → BodiesKept (bodies (quiet r) b) (bodies (quiet r) x ++ bodies (quiet r) c) → BodiesKept (bodies r Old) (bodies r New)
+  for_bodies r adds splits =
+      let bi : List Body = bodies (quiet r) i in
+      let bt : List Body = bodies (quiet r) t in
+      let bw : List Body = bodies (quiet r) w in
+      let bu : List Body = bodies (quiet r) u in
+      let bb : List Body = bodies (quiet r) b in
+      let bc : List Body = bodies (quiet r) c in
+      let bx : List Body = bodies (quiet r) x in
+      let all : List Body = bi ++ (bt ++ (bu ++ (bb ++ []))) in
+      let in_test : BodiesKept all bt = body_lists.second_of bi (bt ++ (bu ++ (bb ++ []))) bt (body_lists.first_of bt (bu ++ (bb ++ [])) bt (kept_itself bt)) in
+      let in_update : BodiesKept all bu = body_lists.second_of bi (bt ++ (bu ++ (bb ++ []))) bu (body_lists.second_of bt (bu ++ (bb ++ [])) bu (body_lists.first_of bu (bb ++ []) bu (kept_itself bu))) in
+      let in_body : BodiesKept all (bx ++ bc) = body_lists.second_of bi (bt ++ (bu ++ (bb ++ []))) (bx ++ bc) (body_lists.second_of bt (bu ++ (bb ++ [])) (bx ++ bc) (body_lists.second_of bu (bb ++ []) (bx ++ bc) (body_lists.first_of bb [] (bx ++ bc) splits))) in
+      let of_x : BodiesKept all bx = kept_on all (bx ++ bc) bx in_body (body_lists.first_of bx bc bx (kept_itself bx)) in
+      let of_c : BodiesKept all bc = kept_on all (bx ++ bc) bc in_body (body_lists.second_of bx bc bc (kept_itself bc)) in
+      let of_w : BodiesKept all bw = kept_on all (bt ++ bx) bw (body_lists.both_of all bt bx in_test of_x) adds in
+      body_lists.both_of all bi (bw ++ (bu ++ (bc ++ []))) (body_lists.first_of bi (bt ++ (bu ++ (bb ++ []))) bi (kept_itself bi)) (body_lists.both_of all bw (bu ++ (bc ++ [])) of_w (body_lists.both_of all bu (bc ++ []) in_update (body_lists.both_of all bc [] of_c tt)))
+
+  for_frames : FramesKept (frames None t ++ frames None x) (frames None w) → FramesKept (frames None b) (frames None x ++ frames None c) → FramesKept (frames None Old) (frames None New)
+  for_frames adds splits =
+      let bi : List Frame = frames None i in
+      let bt : List Frame = frames None t in
+      let bw : List Frame = frames None w in
+      let bu : List Frame = frames None u in
+      let bb : List Frame = frames None b in
+      let bc : List Frame = frames None c in
+      let bx : List Frame = frames None x in
+      let all : List Frame = bi ++ (bt ++ (bu ++ (bb ++ []))) in
+      let in_test : FramesKept all bt = frame_lists.second_of bi (bt ++ (bu ++ (bb ++ []))) bt (frame_lists.first_of bt (bu ++ (bb ++ [])) bt (λ f m. m)) in
+      let in_update : FramesKept all bu = frame_lists.second_of bi (bt ++ (bu ++ (bb ++ []))) bu (frame_lists.second_of bt (bu ++ (bb ++ [])) bu (frame_lists.first_of bu (bb ++ []) bu (λ f m. m))) in
+      let in_body : FramesKept all (bx ++ bc) = frame_lists.second_of bi (bt ++ (bu ++ (bb ++ []))) (bx ++ bc) (frame_lists.second_of bt (bu ++ (bb ++ [])) (bx ++ bc) (frame_lists.second_of bu (bb ++ []) (bx ++ bc) (frame_lists.first_of bb [] (bx ++ bc) splits))) in
+      let of_x : FramesKept all bx = λ f m. in_body f (frame_lists.first_of bx bc bx (λ f m. m) f m) in
+      let of_c : FramesKept all bc = λ f m. in_body f (frame_lists.second_of bx bc bc (λ f m. m) f m) in
+      let of_w : FramesKept all bw = λ f m. frame_lists.both_of all bt bx in_test of_x f (adds f m) in
+      frame_lists.both_of all bi (bw ++ (bu ++ (bc ++ []))) (frame_lists.first_of bi (bt ++ (bu ++ (bb ++ []))) bi (λ f m. m)) (frame_lists.both_of all bw (bu ++ (bc ++ [])) of_w (frame_lists.both_of all bu (bc ++ []) in_update (frame_lists.alone_of all bc of_c)))
+
   module _ (a : Adds t x w) (s : Splits b x c) (f : may_leap x ≡ false) where
     for_names : (d : Declared) → names_of d New ≡ names_of d Old
     unfolding names_of
@@ -359,44 +395,8 @@ module _ (i t w u b c x : Tree) where
         (both_empty (early_jumps g (q ++ 1 ∷ []) w) (early_jumps g (q ++ 2 ∷ []) u ++ (early_jumps (looped g) (q ++ 3 ∷ []) c ++ [])) (a.targets g (q ++ 1 ∷ []) et ez)
         (both_empty (early_jumps g (q ++ 2 ∷ []) u) (early_jumps (looped g) (q ++ 3 ∷ []) c ++ []) eu (both_empty (early_jumps (looped g) (q ++ 3 ∷ []) c) [] ec refl)))
 
-    for_bodies : (r : Around) → BodiesKept (bodies r Old) (bodies r New)
-    for_bodies r =
-        let bi : List Body = bodies (quiet r) i in
-        let bt : List Body = bodies (quiet r) t in
-        let bw : List Body = bodies (quiet r) w in
-        let bu : List Body = bodies (quiet r) u in
-        let bb : List Body = bodies (quiet r) b in
-        let bc : List Body = bodies (quiet r) c in
-        let bx : List Body = bodies (quiet r) x in
-        let all : List Body = bi ++ (bt ++ (bu ++ (bb ++ []))) in
-        let in_test : BodiesKept all bt = body_lists.second_of bi (bt ++ (bu ++ (bb ++ []))) bt (body_lists.first_of bt (bu ++ (bb ++ [])) bt (kept_itself bt)) in
-        let in_update : BodiesKept all bu = body_lists.second_of bi (bt ++ (bu ++ (bb ++ []))) bu (body_lists.second_of bt (bu ++ (bb ++ [])) bu (body_lists.first_of bu (bb ++ []) bu (kept_itself bu))) in
-        let in_body : BodiesKept all (bx ++ bc) = body_lists.second_of bi (bt ++ (bu ++ (bb ++ []))) (bx ++ bc) (body_lists.second_of bt (bu ++ (bb ++ [])) (bx ++ bc) (body_lists.second_of bu (bb ++ []) (bx ++ bc) (body_lists.first_of bb [] (bx ++ bc) (s.bodies r)))) in
-        let of_x : BodiesKept all bx = kept_on all (bx ++ bc) bx in_body (body_lists.first_of bx bc bx (kept_itself bx)) in
-        let of_c : BodiesKept all bc = kept_on all (bx ++ bc) bc in_body (body_lists.second_of bx bc bc (kept_itself bc)) in
-        let of_w : BodiesKept all bw = kept_on all (bt ++ bx) bw (body_lists.both_of all bt bx in_test of_x) (a.bodies r) in
-        body_lists.both_of all bi (bw ++ (bu ++ (bc ++ []))) (body_lists.first_of bi (bt ++ (bu ++ (bb ++ []))) bi (kept_itself bi)) (body_lists.both_of all bw (bu ++ (bc ++ [])) of_w (body_lists.both_of all bu (bc ++ []) in_update (body_lists.both_of all bc [] of_c tt)))
-
-    for_frames : FramesKept (frames None Old) (frames None New)
-    for_frames =
-        let bi : List Frame = frames None i in
-        let bt : List Frame = frames None t in
-        let bw : List Frame = frames None w in
-        let bu : List Frame = frames None u in
-        let bb : List Frame = frames None b in
-        let bc : List Frame = frames None c in
-        let bx : List Frame = frames None x in
-        let all : List Frame = bi ++ (bt ++ (bu ++ (bb ++ []))) in
-        let in_test : FramesKept all bt = frame_lists.second_of bi (bt ++ (bu ++ (bb ++ []))) bt (frame_lists.first_of bt (bu ++ (bb ++ [])) bt (λ f m. m)) in
-        let in_update : FramesKept all bu = frame_lists.second_of bi (bt ++ (bu ++ (bb ++ []))) bu (frame_lists.second_of bt (bu ++ (bb ++ [])) bu (frame_lists.first_of bu (bb ++ []) bu (λ f m. m))) in
-        let in_body : FramesKept all (bx ++ bc) = frame_lists.second_of bi (bt ++ (bu ++ (bb ++ []))) (bx ++ bc) (frame_lists.second_of bt (bu ++ (bb ++ [])) (bx ++ bc) (frame_lists.second_of bu (bb ++ []) (bx ++ bc) (frame_lists.first_of bb [] (bx ++ bc) s.frames))) in
-        let of_x : FramesKept all bx = λ f m. in_body f (frame_lists.first_of bx bc bx (λ f m. m) f m) in
-        let of_c : FramesKept all bc = λ f m. in_body f (frame_lists.second_of bx bc bc (λ f m. m) f m) in
-        let of_w : FramesKept all bw = λ f m. frame_lists.both_of all bt bx in_test of_x f (a.frames f m) in
-        frame_lists.both_of all bi (bw ++ (bu ++ (bc ++ []))) (frame_lists.first_of bi (bt ++ (bu ++ (bb ++ []))) bi (λ f m. m)) (frame_lists.both_of all bw (bu ++ (bc ++ [])) of_w (frame_lists.both_of all bu (bc ++ []) in_update (frame_lists.alone_of all bc of_c)))
-
     for_core : Core Old New
-    for_core = record { kept = record { names = for_names; body = for_body; inner = for_inner; symbols = for_symbols }; scoped = for_scoped; numbers = for_numbers; once = for_once; targets = for_targets; loop = refl; bodies = for_bodies; frames = for_frames }
+    for_core = record { kept = record { names = for_names; body = for_body; inner = for_inner; symbols = for_symbols }; scoped = for_scoped; numbers = for_numbers; once = for_once; targets = for_targets; loop = refl; bodies = λ r. for_bodies r (a.bodies r) (s.bodies r); frames = for_frames a.frames s.frames }
 
   module _ (a : AddsSaid t x w) (s : Said b x c) where
     for_fixed : (z : Variable) → fixed_by Old z ≡ fixed_by New z
@@ -509,7 +509,7 @@ test_fit strict (while_true t) l x h k e f = two_fit strict t (goes_by l x) (sur
 
 -- ---- 84
 
-module _ (init update x : Tree) (t : Tested) (d : Leading) (l : Leaving) (asked : is_test x ≡ true) (tested : is_tested t ≡ true) (loose : is_loose l ≡ true) (unscoped : are_unscoped (others_of d) ≡ true) where
+module _ (init update x : Tree) (t : Tested) (d : Leading) (l : Leaving) (asked : is_test x ≡ true) (tested : is_tested t ≡ true) (loose : is_loose l ≡ true) (free : FreeOf x d) where
   abbrev pub Before : Tree
   Before = for_loop init (test_of t) update (led d (leaves_by l x))
 
@@ -539,7 +539,38 @@ module _ (init update x : Tree) (t : Tested) (d : Leading) (l : Leaving) (asked 
       let (f, r4) = and_parts (fits strict statement (led d (leaves_by l x))) true r3 in
       let quiet_test = expression_is_quiet strict x (body_fit strict d l x loose f).0 in
       for_core init (test_of t) (also t (goes_by l x)) update (led d (leaves_by l x)) (led d (runs_on l)) x
-      (test_adds t l x quiet_test (λ k. expression_is_quiet strict (test_of t) (surely_fits strict (test_of t) k b)) tested) (body_splits d l x unscoped loose quiet_test) (calm (may_leap x) (and_parts (is_there x) (not (may_leap x)) asked).1)
+      (test_adds t l x quiet_test (λ k. expression_is_quiet strict (test_of t) (surely_fits strict (test_of t) k b)) tested) (body_splits d l x free loose quiet_test) (calm (may_leap x) (and_parts (is_there x) (not (may_leap x)) asked).1)
 
   pub row_84_said : around.Said Before After
-  row_84_said = for_said init (test_of t) (also t (goes_by l x)) update (led d (leaves_by l x)) (led d (runs_on l)) x (test_said t l x) (body_said d l x unscoped loose)
+  row_84_said = for_said init (test_of t) (also t (goes_by l x)) update (led d (leaves_by l x)) (led d (runs_on l)) x (test_said t l x) (body_said d l x)
+
+-- bodies and frames alone
+
+goes_bodies : (l : Leaving) (x : Tree) (a : Around) → bodies (quiet a) x ≡ bodies (quiet a) (goes_by l x)
+goes_bodies alone x a = sym (append-nil (bodies (quiet a) x))
+goes_bodies (or_else s) x a = sym (append-nil (bodies (quiet a) x))
+goes_bodies (unless s) x a = refl
+
+goes_frames : (l : Leaving) (x : Tree) → frames None x ≡ frames None (goes_by l x)
+goes_frames alone x = sym (append-nil (frames None x))
+goes_frames (or_else s) x = sym (append-nil (frames None x))
+goes_frames (unless s) x = refl
+
+test_bodies : (t : Tested) (l : Leaving) (x : Tree) (a : Around) → bodies (quiet a) (test_of t) ++ bodies (quiet a) x ≡ bodies (quiet a) (also t (goes_by l x))
+test_bodies always l x a = goes_bodies l x a
+test_bodies (while_true t) l x a = ap (λ r. bodies (quiet a) t ++ r) (goes_bodies l x a ∙ sym (append-nil (bodies (quiet a) (goes_by l x))))
+
+test_frames : (t : Tested) (l : Leaving) (x : Tree) → frames None (test_of t) ++ frames None x ≡ frames None (also t (goes_by l x))
+test_frames always l x = goes_frames l x
+test_frames (while_true t) l x = ap (λ r. frames None t ++ r) (goes_frames l x ∙ sym (append-nil (frames None (goes_by l x))))
+
+module _ (init update x : Tree) (t : Tested) (d : Leading) (l : Leaving) where
+  pub loop_bodies : (a : Around) → BodiesKept (bodies a (for_loop init (test_of t) update (led d (leaves_by l x)))) (bodies a (for_loop init (also t (goes_by l x)) update (led d (runs_on l))))
+  loop_bodies a =
+      for_bodies init (test_of t) (also t (goes_by l x)) update (led d (leaves_by l x)) (led d (runs_on l)) x a
+      (subst (BodiesKept (bodies (quiet a) (test_of t) ++ bodies (quiet a) x)) (test_bodies t l x a) (kept_itself (bodies (quiet a) (test_of t) ++ bodies (quiet a) x))) (body_bodies d l x a)
+
+  pub loop_frames : FramesKept (frames None (for_loop init (test_of t) update (led d (leaves_by l x)))) (frames None (for_loop init (also t (goes_by l x)) update (led d (runs_on l))))
+  loop_frames =
+      for_frames init (test_of t) (also t (goes_by l x)) update (led d (leaves_by l x)) (led d (runs_on l)) x
+      (same_frames (frames None (test_of t) ++ frames None x) (frames None (also t (goes_by l x))) (test_frames t l x)) (body_frames d l x)

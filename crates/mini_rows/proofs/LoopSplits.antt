@@ -1,11 +1,12 @@
 -- A body that begins by leaving the loop has what its test has, and what the rest of it has.
-use Rattle.std.specs.Prelude.{ℕ, ◌+◌, ◌≤◌, ◌≡◌, refl, ◌||◌, ◌&&◌, Bool, true, false, List, [], ◌∷◌, ◌++◌, Contains, Option, None}
+use Rattle.std.specs.Prelude.{ℕ, ◌+◌, ◌≤◌, ◌≡◌, refl, ◌||◌, Bool, true, false, List, [], ◌∷◌, ◌++◌, Contains, Option, None}
 use Rattle.std.proofs.Common.{ap, ◌∙◌, sym, subst, arith, append_assoc}
 use Rattle.std.proofs.lemmas.List.{append-nil}
 use Rattle.std.proofs.lemmas.Bool.{and_parts}
 use Rattle.mini_model.specs.declared.name.SymbolId.{SymbolId}
 use Rattle.mini_model.specs.declared.shape.Shape.TheVariants as shape
 use Rattle.mini_model.specs.Tree.{Tree, Trees, none, ◌▸◌, listed, absent, empty_statement, if_else}
+use Rattle.mini_laws.specs.declared.names.Binding.{Binding}
 use Rattle.mini_laws.specs.declared.names.Use.TheVariants.{Read, Alone}
 use Rattle.mini_laws.specs.declared.names.Declared.TheVariants as declared
 use Rattle.mini_laws.specs.declared.names.Targets.{Targets}
@@ -252,23 +253,57 @@ leaves_said (unless s) x = un_said x bare_break s break_idle
 
 -- ---- a block that begins so
 
+-- the scope of the other statements
+abbrev pub scope_of : Trees → List Binding
+scope_of ts = lexical_scope (all_names declared.Lexical ts)
+
 all_lexical : (ts : Trees) → are_unscoped ts ≡ true → all_names declared.Lexical ts ≡ []
 unfolding names_of
 all_lexical none h = refl
 all_lexical (t ▸ ts) h = let (one, others) = and_parts (is_unscoped t) (are_unscoped ts) h in (λ k. no_lexical t one k ++ all_lexical ts others k)
 
-no_scope : (ts : Trees) → are_unscoped ts ≡ true → lexical_scope (names_of declared.Lexical (listed ts)) ≡ []
+no_scope : (ts : Trees) → are_unscoped ts ≡ true → scope_of ts ≡ []
 unfolding names_of with_names
 no_scope ts h = ap lexical_scope (all_lexical ts h)
 
-module _ (t x s : Tree) (ts : Trees) (u : is_unscoped t ≡ true) (v : is_unscoped s ≡ true) (o : are_unscoped ts ≡ true) where
+-- a test that has its names without that scope too
+abbrev pub Free : Tree → Trees → Type 0
+Free x ts = (env : Environment) → Scoped Read (env ++ scope_of ts) x → Scoped Read env x
+
+abbrev pub FreeOf : Tree → Leading → Type 0
+FreeOf x whole = Unit {0}
+FreeOf x (before ts) = Free x ts
+
+unscoped_free : (x : Tree) (ts : Trees) → are_unscoped ts ≡ true → Free x ts
+unscoped_free x ts h env r = moved Read (env ++ scope_of ts) env x (ap (λ bs. env ++ bs) (no_scope ts h) ∙ append-nil env) r
+
+pub free_of : (x : Tree) (d : Leading) → are_unscoped (others_of d) ≡ true → FreeOf x d
+free_of x whole h = tt
+free_of x (before ts) h = unscoped_free x ts h
+
+module _ (t x s : Tree) (ts : Trees) where
   abbrev B : Tree → Tree
   B c = block (c ▸ ts)
 
-  both_loose : (c : Tree) → is_unscoped c ≡ true → are_unscoped (c ▸ ts) ≡ true
-  both_loose c h = ap (λ b. b && are_unscoped ts) h ∙ o
+  in_bodies : (a : Around) → BodiesKept (bodies (quiet a) t) (bodies (quiet a) x ++ bodies (quiet a) s) → BodiesKept (bodies (quiet a) (B t)) (bodies (quiet a) x ++ bodies (quiet a) (B s))
+  in_bodies a h =
+      let bt = bodies (quiet a) t in
+      let bx = bodies (quiet a) x in
+      let bs = bodies (quiet a) s in
+      let rest = bodies_from (λ n. quiet a) 1 ts in
+      subst (λ ks. BodiesKept ks (bx ++ ((bs ++ rest) ++ []))) (sym (append-nil (bt ++ rest)))
+      (subst (BodiesKept (bt ++ rest)) (append_assoc bx bs rest ∙ ap (λ r. bx ++ r) (sym (append-nil (bs ++ rest)))) (each_body bt rest (bx ++ bs) rest h (kept_itself rest)))
 
-  module _ (i : Splits t x s) where
+  in_frames : FramesKept (frames None t) (frames None x ++ frames None s) → FramesKept (frames None (B t)) (frames None x ++ frames None (B s))
+  in_frames h =
+      let ft = frames None t in
+      let fx = frames None x in
+      let fs = frames None s in
+      let rest = frames_from (λ n. None) 1 ts in
+      subst (λ ks. FramesKept ks (fx ++ ((fs ++ rest) ++ []))) (sym (append-nil (ft ++ rest)))
+      (subst (FramesKept (ft ++ rest)) (append_assoc fx fs rest ∙ ap (λ r. fx ++ r) (sym (append-nil (fs ++ rest)))) (each_frame ft rest (fx ++ fs) rest h (λ f m. m)))
+
+  module _ (u : is_unscoped t ≡ true) (v : is_unscoped s ≡ true) (free : Free x ts) (i : Splits t x s) where
     in_hoisted : names_of declared.Hoisted (B t) ≡ names_of declared.Hoisted (B s)
     unfolding names_of
     in_hoisted = ap (λ xs. (xs ++ all_names declared.Hoisted ts) ++ []) i.hoisted
@@ -280,32 +315,38 @@ module _ (t x s : Tree) (ts : Trees) (u : is_unscoped t ≡ true) (v : is_unscop
     abbrev later : List (Option SymbolId)
     later = declared_from (λ n. []) (λ n. Read) 1 ts
 
-    is_declared : (c : Tree) → is_unscoped c ≡ true → declared_in Alone (B c) ≡ (declared_in Read c ++ later) ++ []
-    unfolding declared_in scopes_by
-    is_declared c h = ap (λ bs. symbols_in bs ++ ((declared_in Read c ++ later) ++ [])) (no_scope (c ▸ ts) (both_loose c h))
+    scope_is : (c : Tree) → is_unscoped c ≡ true → lexical_scope (names_of declared.Lexical (listed (c ▸ ts))) ≡ scope_of ts
+    unfolding names_of
+    scope_is c h = ap (λ ns. lexical_scope (ns ++ all_names declared.Lexical ts)) (no_lexical c h)
 
-    sum_declared : (c : Tree) → is_unscoped c ≡ true → (y : Option SymbolId) → times y (declared_in Alone (B c)) ≡ times y (declared_in Alone c) + times y later
-    sum_declared c h y = omega (arith, ap (times y) (is_declared c h), times_both y (declared_in Read c ++ later) [], times_both y (declared_in Read c) later, ap (times y) (same_symbols c h Read Alone))
+    is_declared : (c : Tree) → is_unscoped c ≡ true → declared_in Alone (B c) ≡ symbols_in (scope_of ts) ++ ((declared_in Read c ++ later) ++ [])
+    unfolding declared_in scopes_by
+    is_declared c h = ap (λ bs. symbols_in bs ++ ((declared_in Read c ++ later) ++ [])) (scope_is c h)
+
+    sum_declared : (c : Tree) → is_unscoped c ≡ true → (y : Option SymbolId) → times y (declared_in Alone (B c)) ≡ times y (symbols_in (scope_of ts)) + (times y (declared_in Alone c) + times y later)
+    sum_declared c h y =
+        omega (arith, ap (times y) (is_declared c h), times_both y (symbols_in (scope_of ts)) ((declared_in Read c ++ later) ++ []), times_both y (declared_in Read c ++ later) [], times_both y (declared_in Read c) later, ap (times y) (same_symbols c h Read Alone))
 
     in_symbols : (y : Option SymbolId) → times y (declared_in Read x) + times y (declared_in Alone (B s)) ≤ times y (declared_in Alone (B t))
     in_symbols y = omega (arith, sum_declared t u y, sum_declared s v y, i.symbols y)
 
-    same_env : (c : Tree) → is_unscoped c ≡ true → (env : Environment) → (env ++ lexical_scope (names_of declared.Lexical (listed (c ▸ ts)))) ++ [] ≡ env
-    same_env c h env = ap (λ bs. (env ++ bs) ++ []) (no_scope (c ▸ ts) (both_loose c h)) ∙ append-nil (env ++ []) ∙ append-nil env
+    same_env : (c : Tree) → is_unscoped c ≡ true → (env : Environment) → (env ++ lexical_scope (names_of declared.Lexical (listed (c ▸ ts)))) ++ [] ≡ env ++ scope_of ts
+    same_env c h env = append-nil (env ++ lexical_scope (names_of declared.Lexical (listed (c ▸ ts)))) ∙ ap (λ bs. env ++ bs) (scope_is c h)
 
     in_scoped : (env : Environment) → Scoped Alone env (B t) → Scoped Read env x × Scoped Alone env (B s)
     unfolding Scoped scopes_by
     in_scoped env r =
-        let first = subst (λ X. X) (sym (same_scoped t u env)) (moved Read ((env ++ lexical_scope (names_of declared.Lexical (listed (t ▸ ts)))) ++ []) env t (same_env t u env) r.1.0.1.0) in
-        let (test, rest) = i.scoped env first in (
-          test,
+        let inner : Environment = env ++ scope_of ts in
+        let first = subst (λ X. X) (sym (same_scoped t u inner)) (moved Read ((env ++ lexical_scope (names_of declared.Lexical (listed (t ▸ ts)))) ++ []) inner t (same_env t u env) r.1.0.1.0) in
+        let (test, rest) = i.scoped inner first in (
+          free env test,
           (
             tt,
             (
               (
                 tt,
                 (
-                  moved Read env ((env ++ lexical_scope (names_of declared.Lexical (listed (s ▸ ts)))) ++ []) s (sym (same_env s v env)) (subst (λ X. X) (same_scoped s v env) rest),
+                  moved Read inner ((env ++ lexical_scope (names_of declared.Lexical (listed (s ▸ ts)))) ++ []) s (sym (same_env s v env)) (subst (λ X. X) (same_scoped s v inner) rest),
                   subst (λ e. AllScoped (λ n. []) (λ n. Read) 1 e ts) (same_env t u env ∙ sym (same_env s v env)) r.1.0.1.1,
                 ),
               ),
@@ -353,26 +394,8 @@ module _ (t x s : Tree) (ts : Trees) (u : is_unscoped t ≡ true) (v : is_unscop
         let (a, b) = i.targets g p k in
         (targets_anywhere g p q x a, both_empty (early_jumps g p s ++ all_early_jumps (λ n. g) (q ++ 0 ∷ []) 1 ts) [] (both_empty (early_jumps g p s) (all_early_jumps (λ n. g) (q ++ 0 ∷ []) 1 ts) b l) refl)
 
-    in_bodies : (a : Around) → BodiesKept (bodies (quiet a) (B t)) (bodies (quiet a) x ++ bodies (quiet a) (B s))
-    in_bodies a =
-        let bt = bodies (quiet a) t in
-        let bx = bodies (quiet a) x in
-        let bs = bodies (quiet a) s in
-        let rest = bodies_from (λ n. quiet a) 1 ts in
-        subst (λ ks. BodiesKept ks (bx ++ ((bs ++ rest) ++ []))) (sym (append-nil (bt ++ rest)))
-        (subst (BodiesKept (bt ++ rest)) (append_assoc bx bs rest ∙ ap (λ r. bx ++ r) (sym (append-nil (bs ++ rest)))) (each_body bt rest (bx ++ bs) rest (i.bodies a) (kept_itself rest)))
-
-    in_frames : FramesKept (frames None (B t)) (frames None x ++ frames None (B s))
-    in_frames =
-        let ft = frames None t in
-        let fx = frames None x in
-        let fs = frames None s in
-        let rest = frames_from (λ n. None) 1 ts in
-        subst (λ ks. FramesKept ks (fx ++ ((fs ++ rest) ++ []))) (sym (append-nil (ft ++ rest)))
-        (subst (FramesKept (ft ++ rest)) (append_assoc fx fs rest ∙ ap (λ r. fx ++ r) (sym (append-nil (fs ++ rest)))) (each_frame ft rest (fx ++ fs) rest i.frames (λ f m. m)))
-
     block_splits : Splits (B t) x (B s)
-    block_splits = record { hoisted = in_hoisted; inner = in_inner; symbols = in_symbols; scoped = in_scoped; numbers = in_numbers; once = in_once; targets = in_targets; bodies = in_bodies; frames = in_frames }
+    block_splits = record { hoisted = in_hoisted; inner = in_inner; symbols = in_symbols; scoped = in_scoped; numbers = in_numbers; once = in_once; targets = in_targets; bodies = λ a. in_bodies a (i.bodies a); frames = in_frames i.frames }
 
   module _ (i : Said t x s) where
     list_fixed : (c : Tree) (z : Variable) → fixed_by (B c) z ≡ stricter (fixed_by c z) (fixed_by_any ts z)
@@ -398,10 +421,30 @@ leaves_unscoped alone x = refl
 leaves_unscoped (or_else s) x = refl
 leaves_unscoped (unless s) x = refl
 
-pub body_splits : (d : Leading) (l : Leaving) (x : Tree) → are_unscoped (others_of d) ≡ true → is_loose l ≡ true → IsQuiet x → Splits (led d (leaves_by l x)) x (led d (runs_on l))
-body_splits whole l x o h q = leaves_split l x q
-body_splits (before ts) l x o h q = block_splits (leaves_by l x) x (runs_on l) ts (leaves_unscoped l x) h o (leaves_split l x q)
+pub body_splits : (d : Leading) (l : Leaving) (x : Tree) → FreeOf x d → is_loose l ≡ true → IsQuiet x → Splits (led d (leaves_by l x)) x (led d (runs_on l))
+body_splits whole l x f h q = leaves_split l x q
+body_splits (before ts) l x f h q = block_splits (leaves_by l x) x (runs_on l) ts (leaves_unscoped l x) h f (leaves_split l x q)
 
-pub body_said : (d : Leading) (l : Leaving) (x : Tree) → are_unscoped (others_of d) ≡ true → is_loose l ≡ true → Said (led d (leaves_by l x)) x (led d (runs_on l))
-body_said whole l x o h = leaves_said l x
-body_said (before ts) l x o h = block_said (leaves_by l x) x (runs_on l) ts (leaves_unscoped l x) h o (leaves_said l x)
+pub body_said : (d : Leading) (l : Leaving) (x : Tree) → Said (led d (leaves_by l x)) x (led d (runs_on l))
+body_said whole l x = leaves_said l x
+body_said (before ts) l x = block_said (leaves_by l x) x (runs_on l) ts (leaves_said l x)
+
+-- ---- bodies and frames alone
+
+leaves_bodies : (l : Leaving) (x : Tree) (a : Around) → BodiesKept (bodies (quiet a) (leaves_by l x)) (bodies (quiet a) x ++ bodies (quiet a) (runs_on l))
+leaves_bodies alone x a = subst (BodiesKept (bodies (quiet a) (leaves_by alone x))) (or_bodies x bare_break absent break_idle a) (kept_itself (bodies (quiet a) (leaves_by alone x)))
+leaves_bodies (or_else s) x a = subst (BodiesKept (bodies (quiet a) (leaves_by (or_else s) x))) (or_bodies x bare_break s break_idle a) (kept_itself (bodies (quiet a) (leaves_by (or_else s) x)))
+leaves_bodies (unless s) x a = subst (BodiesKept (bodies (quiet a) (leaves_by (unless s) x))) (un_bodies x bare_break s break_idle a) (kept_itself (bodies (quiet a) (leaves_by (unless s) x)))
+
+leaves_frames : (l : Leaving) (x : Tree) → FramesKept (frames None (leaves_by l x)) (frames None x ++ frames None (runs_on l))
+leaves_frames alone x = same_frames (frames None (leaves_by alone x)) (frames None x ++ []) (or_frames x bare_break absent break_idle)
+leaves_frames (or_else s) x = same_frames (frames None (leaves_by (or_else s) x)) (frames None x ++ frames None s) (or_frames x bare_break s break_idle)
+leaves_frames (unless s) x = same_frames (frames None (leaves_by (unless s) x)) (frames None x ++ frames None s) (un_frames x bare_break s break_idle)
+
+pub body_bodies : (d : Leading) (l : Leaving) (x : Tree) (a : Around) → BodiesKept (bodies (quiet a) (led d (leaves_by l x))) (bodies (quiet a) x ++ bodies (quiet a) (led d (runs_on l)))
+body_bodies whole l x a = leaves_bodies l x a
+body_bodies (before ts) l x a = in_bodies (leaves_by l x) x (runs_on l) ts a (leaves_bodies l x a)
+
+pub body_frames : (d : Leading) (l : Leaving) (x : Tree) → FramesKept (frames None (led d (leaves_by l x))) (frames None x ++ frames None (led d (runs_on l)))
+body_frames whole l x = leaves_frames l x
+body_frames (before ts) l x = in_frames (leaves_by l x) x (runs_on l) ts (leaves_frames l x)

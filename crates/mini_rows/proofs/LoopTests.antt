@@ -30,7 +30,7 @@ use Rattle.mini_rows.proofs.ListStretches.{exec_more, listed_is}
 -- ---- the body
 
 -- whether the loop goes on where the test gives this
-abbrev stays : Leaving → Bool → Bool
+abbrev pub stays : Leaving → Bool → Bool
 stays alone v = not v
 stays (or_else s) v = not v
 stays (unless s) v = v
@@ -41,7 +41,7 @@ leaves_unscoped (or_else s) x = refl
 leaves_unscoped (unless s) x = refl
 
 module _ (e : Environment) (x : Tree) where
-  break_is : (z : State) → means e bare_break (Stat None) [] z ≡ stop (Broken None) z
+  pub break_is : (z : State) → means e bare_break (Stat None) [] z ≡ stop (Broken None) z
   unfolding means meaning step either
   break_is z = refl
 

@@ -17,14 +17,19 @@ use Rattle.mini_kept.specs.Frames.{frames}
 use Rattle.mini_kept.specs.KeepsNames.{is_rewritten_place}
 use Rattle.mini_kept.specs.KeepsShapes.{AskedAlike, KeepsShapes}
 use Rattle.mini_kept.specs.Lifted.{KeepsNames}
+use Rattle.mini_kept.specs.AlikeBodies.{BodiesKept}
+use Rattle.mini_kept.proofs.BodyLists.{kept_itself}
+use Rattle.mini_kept.proofs.FrameLists.{same_frames}
 use Rattle.mini_kept.proofs.Expressions.{expression_taken}
+use Rattle.mini_rows.proofs.FadingSteps.{same_fades}
+use Rattle.mini_rows.proofs.SteadyMeaning.{steady_same, steady_reads}
 use Rattle.mini_rows.specs.Arranged.{KeptAt}
 use Rattle.mini_rows.specs.Choices.{Key, Named, Spelled, Numbered, member_of, deciding}
 use Rattle.mini_laws.specs.Bodies.{Around, bodies}
 use Rattle.mini_model.specs.declared.kind.PropertyKind.{PropertyKind}
 use Rattle.mini_rows.specs.Sketches.{Logical, part, under, end, ◌▹◌}
 use Rattle.mini_rows.specs.Spellings.{assignment}
-use Rattle.mini_rows.specs.Steady.{Row38Member, SteadyRow, SteadyLightens}
+use Rattle.mini_rows.specs.Steady.{Row38Member, SteadyRow, KeepsOwn, SteadyLightens}
 use Rattle.mini_rows.specs.Unused.{resolved}
 use Rattle.mini_rows.proofs.ArrangedExpressions.{expressions_arranged_freely}
 use Rattle.mini_rows.proofs.ChoiceLawful.{member_reads, member_vanishes, retargeted_tree, first_dropped, assigns_first}
@@ -98,9 +103,9 @@ module _ (V : Assured) where
   same_bodies (Expr s) n w r a = ap (bodies a) r.shape ∙ member_bodies r.operator (resolved r.spelling r.symbol) r.key r.b a ∙ sym (ap (bodies a) r.written)
   same_bodies p n w r a = absurd r
 
-  pub same_frames : (p : Position) (n w : Tree) → SteadyRow V p n w → (q : Option PropertyKind) → frames q n ≡ frames q w
-  same_frames (Expr s) n w r q = ap (frames q) r.shape ∙ member_frames r.operator (resolved r.spelling r.symbol) r.key r.b q ∙ sym (ap (frames q) r.written)
-  same_frames p n w r q = absurd r
+  pub frames_same : (p : Position) (n w : Tree) → SteadyRow V p n w → (q : Option PropertyKind) → frames q n ≡ frames q w
+  frames_same (Expr s) n w r q = ap (frames q) r.shape ∙ member_frames r.operator (resolved r.spelling r.symbol) r.key r.b q ∙ sym (ap (frames q) r.written)
+  frames_same p n w r q = absurd r
 
 -- ---- lighter
 
@@ -124,4 +129,19 @@ steady_lightens V = record {
   items = λ p n w r a. ap (λ o. o.items) (outline_by_row V p n w r);
   is_zero = λ p n w r a. inl (ap (λ o. o.is_zero) (outline_by_row V p n w r));
   chooses = λ p n w r a. inl (λ h. sym (ap (λ o. o.chooses) (outline_by_row V p n w r)) ∙ h);
+}
+
+-- ---- all
+
+pub steady_own : (V : Assured) → KeepsOwn V (SteadyRow V)
+steady_own V = record {
+  means = λ e z p n w r q f. same_fades V.unshared e z.unshared q n w (steady_same V p n w r e z q f);
+  reads = λ p n w r. steady_reads V p n w r;
+  shapes = shapes V;
+  names = names V;
+  fixed = λ p n w r. (kept V p n w r).fixed;
+  declared = λ p n w r. (kept V p n w r).declared;
+  bodies = λ p n w r a. subst (BodiesKept (bodies a n)) (same_bodies V p n w r a) (kept_itself (bodies a n));
+  frames = λ p n w r k. same_frames (frames k n) (frames k w) (frames_same V p n w r k);
+  lightens = steady_lightens V;
 }

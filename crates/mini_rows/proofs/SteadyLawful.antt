@@ -1,36 +1,38 @@
 -- What a row of steady names writes in the body of a function is lawful where those names are steady in that body.
 use Rattle.std.specs.Prelude.{ℕ, zero, suc, ◌≡◌, ◌<◌, ◌⊎◌, refl, Bool, true, false, List, [], ◌∷◌, ◌++◌, Option, None, not, Contains}
-use Rattle.std.proofs.Common.{ap, ◌∙◌, sym, subst, inl, inr, true≢false}
+use Rattle.std.proofs.Common.{ap, ◌∙◌, sym, subst, subst₂, length, inl, inr, true≢false}
 use Rattle.mini_model.specs.declared.kind.PropertyKind.{PropertyKind}
 use Rattle.mini_model.specs.declared.name.Name.{Name}
 use Rattle.mini_model.specs.declared.place.Position.{Position}
 use Rattle.mini_model.specs.declared.place.Position.TheVariants.{Expr, Stmt, Method, Elsewhere, StatementList, BodyList}
 use Rattle.mini_model.specs.declared.shape.Shape.{Shape}
 use Rattle.mini_model.specs.declared.shape.Shape.TheVariants as shape
-use Rattle.mini_model.specs.Tree.{Tree, Trees, node, none, ◌▸◌, shape_of}
+use Rattle.mini_model.specs.Tree.{Tree, Trees, node, none, ◌▸◌, count, shape_of}
+use Rattle.mini_model.specs.Position.{child_position}
 use Rattle.mini_model.specs.Rewriting.{Step, here, inside, StepIn, first, later, done, more}
 use Rattle.mini_model.specs.Weight.{outline, weight}
 use Rattle.mini_accept.specs.WellShaped.{a_statement, a_default_export, Slot, one, class_of, filling, is_strict_in, fits, fill}
 use Rattle.mini_laws.specs.Value.{Variable, VariableSet, nothing, variables}
 use Rattle.mini_laws.specs.State.{State, Environment}
 use Rattle.mini_laws.specs.Demand.{Demand, As, Callee, OfType, Deleted, AnEntry, Stat, Request}
-use Rattle.mini_laws.specs.Naming.{summary, summary_of, summaries, facts_all, nth_absent}
+use Rattle.mini_laws.specs.Naming.{summary, summary_of, summaries, facts, facts_all, naming, nth_absent}
 use Rattle.mini_laws.specs.Step.{step, means}
 use Rattle.mini_laws.specs.Rows.{SameAt}
 use Rattle.mini_laws.specs.Fixity.{fixed_by}
 use Rattle.mini_laws.specs.Body.{FunctionStatements, body_demand}
 use Rattle.mini_laws.specs.Bodies.{Around, below, Body, bodies, bodies_from, body_of, arrow_kind}
-use Rattle.mini_laws.specs.Congruence.{ReadAlike, Apart}
-use Rattle.mini_laws.specs.Rewritten.{KeepsMeaning}
+use Rattle.mini_laws.specs.Skeleton.{hidden_all, needs, Rules, Sound, TreesGo}
+use Rattle.mini_laws.specs.Fits.{Fits}
+use Rattle.mini_laws.specs.Asking.{demand}
 use Rattle.mini_laws.specs.Weights.{Lightens}
-use Rattle.mini_laws.proofs.Congruent.{body_same, avoids_nothing, weaker, no_within}
-use Rattle.mini_laws.proofs.Dead.{alike_self}
+use Rattle.mini_laws.proofs.Congruent.{plain_goes}
+use Rattle.mini_laws.proofs.Fitting.{fits_children}
+use Rattle.mini_laws.proofs.Fundamental.{PlaceGo, one_node, place_none, place_cons}
 use Rattle.mini_laws.proofs.Lighter.{any_step_lighter}
-use Rattle.mini_laws.proofs.Rewritten.{step_keeps as step_means}
 use Rattle.mini_laws.proofs.Rows.{equal_same}
-use Rattle.mini_kept.specs.AlikeBodies.{RunsAs}
+use Rattle.mini_kept.specs.AlikeBodies.{RunsAs, BodiesKept}
 use Rattle.mini_kept.specs.Declaring.{declared}
-use Rattle.mini_kept.specs.Frames.{frame_of, frames, frames_from, property_below, outline as frame_outline, globals}
+use Rattle.mini_kept.specs.Frames.{Frame, FramesKept, frame_of, frames, frames_from, property_below, outline as frame_outline, globals}
 use Rattle.mini_kept.specs.KeepsFrames.{KeepsFunction, function_over}
 use Rattle.mini_kept.specs.KeepsLoosely.{KeepsLoosely}
 use Rattle.mini_kept.specs.KeepsNames.{is_rewritten_place}
@@ -38,16 +40,20 @@ use Rattle.mini_kept.specs.KeepsShapes.{AskedAlike}
 use Rattle.mini_kept.specs.Lifted.{is_piece, is_rooted_place, KeepsRoot}
 use Rattle.mini_kept.specs.Loosely.{SteadiesWith, LawfulUnder}
 use Rattle.mini_kept.specs.Placed.{is_statement_list, fits_place}
-use Rattle.mini_kept.specs.Without.{Assured, BodySets, Steadies, BodiesUnder}
+use Rattle.mini_kept.specs.Without.{none_steady, Assured, BodySets, Steadies, BodiesUnder}
 use Rattle.mini_kept.proofs.Declared.{reaches_declared}
 use Rattle.mini_kept.proofs.Fixed.{step_fixed}
 use Rattle.mini_kept.proofs.FrameSteps.{its_number, kept_are_shown}
 use Rattle.mini_kept.proofs.Stepping.{step_keeps}
 use Rattle.mini_kept.proofs.Steps.{any_step_fits}
-use Rattle.mini_kept.proofs.WithoutLists.{each_under, itself_under}
-use Rattle.mini_rows.specs.Steady.{SteadyRow, has_body, OwnStep, own_here, own_inside, OwnStepIn, own_first, own_later, SteadyFunctionRow, SteadyFunction, SteadyFunctionsAreLawful, SteadyFunctionsLighten}
-use Rattle.mini_rows.proofs.SteadyKept.{kept, shapes, names, same_bodies, same_frames, steady_lightens}
-use Rattle.mini_rows.proofs.SteadyMeaning.{steady_same, steady_reads}
+use Rattle.mini_kept.proofs.BodyLists.{kept_itself, each_of as each_body}
+use Rattle.mini_kept.proofs.FrameLists.{each_of as each_frame}
+use Rattle.mini_kept.proofs.WithoutLists.{from_kept, more_under, nothing_within, each_under, itself_under}
+use Rattle.mini_rows.specs.Steady.{SteadyRow, KeepsOwn, has_body, OwnStep, own_here, own_inside, OwnStepIn, own_first, own_later, OwnRows, LexicalRows, OwnFunctionRow, OwnFunction, SteadyFunctionsAreLawful, SteadyFunctionsLighten, LexicalFunctionsAreLawful, LexicalFunctionsLighten}
+use Rattle.mini_rows.proofs.Fading.{fading_rules, fading_sound}
+use Rattle.mini_rows.proofs.FadingSteps.{trees_fade, tree_itself, runs_alike}
+use Rattle.mini_rows.proofs.LexicalKept.{lexical_own}
+use Rattle.mini_rows.proofs.SteadyKept.{steady_own}
 
 -- ---- a function is made alike, whatever its body is
 
@@ -91,10 +97,7 @@ no_frame : (k : Option PropertyKind) (h : Shape) (o : Tree) (xs : List Name) →
 no_frame k (shape.Program m ds) o xs e = absurd (true≢false e)
 no_frame k h o xs e = refl
 
-module _ (V : Assured) where
-  abbrev R : Position → Tree → Tree → Type 0
-  R = SteadyRow V
-
+module _ (V : Assured) (R : Position → Tree → Tree → Type 0) (k : KeepsOwn V R) where
   mutual
     forget : {p : Position} {t u : Tree} → OwnStep R p t u → Step R p t u
     forget (own_here p n w r) = here p n w r
@@ -106,7 +109,7 @@ module _ (V : Assured) where
 
   mutual
     own_read : {p : Position} {t u : Tree} → OwnStep R p t u → summary t ≡ summary u
-    own_read (own_here p n w r) = steady_reads V p n w r
+    own_read (own_here p n w r) = k.reads p n w r
     own_read (own_inside p h xs ts us b s) = ap (λ is. summary_of h (variables xs) 0 is) (own_reads s)
 
     own_reads : {π : ℕ → Position} {ts us : Trees} → OwnStepIn R π ts us → summaries ts ≡ summaries us
@@ -117,45 +120,62 @@ module _ (V : Assured) where
   around_same a (shape.Class c) {ts = ts} {us = us} s = (λ j i. record (below a (shape.Class c) ts i) { extends = not (nth_absent (facts_all (own_reads s j)) 1) })
   around_same a h s = refl
 
-  -- the bodies and frames in it are the same
+  -- the bodies and frames in it are among those that were there
   mutual
-    own_bodies : {p : Position} {t u : Tree} → OwnStep R p t u → (a : Around) → bodies a t ≡ bodies a u
-    own_bodies (own_here p n w r) a = same_bodies V p n w r a
+    own_bodies : {p : Position} {t u : Tree} → OwnStep R p t u → (a : Around) → BodiesKept (bodies a t) (bodies a u)
+    own_bodies (own_here p n w r) a = k.bodies p n w r a
     own_bodies (own_inside p h xs ts us b s) a =
-        (λ i. no_body a h (node h xs 0 ts) ts b i ++ bodies_from (below a h ts) 0 ts)
-        ∙ own_bodies_in s (below a h ts) 0
-        ∙ ap (λ α. bodies_from α 0 us) (around_same a h s)
-        ∙ sym (λ i. no_body a h (node h xs 0 us) us b i ++ bodies_from (below a h us) 0 us)
+        subst₂ BodiesKept (sym (λ i. no_body a h (node h xs 0 ts) ts b i ++ bodies_from (below a h ts) 0 ts)) (ap (λ α. bodies_from α 0 us) (around_same a h s) ∙ sym (λ i. no_body a h (node h xs 0 us) us b i ++ bodies_from (below a h us) 0 us))
+        (own_bodies_in s (below a h ts) 0)
 
-    own_bodies_in : {π : ℕ → Position} {ts us : Trees} → OwnStepIn R π ts us → (α : ℕ → Around) (i : ℕ) → bodies_from α i ts ≡ bodies_from α i us
-    own_bodies_in (own_first π t u ts s) α i = ap (λ bs. bs ++ bodies_from α (suc i) ts) (own_bodies s (α i))
-    own_bodies_in (own_later π t ts us s) α i = ap (λ bs. bodies (α i) t ++ bs) (own_bodies_in s α (suc i))
+    own_bodies_in : {π : ℕ → Position} {ts us : Trees} → OwnStepIn R π ts us → (α : ℕ → Around) (i : ℕ) → BodiesKept (bodies_from α i ts) (bodies_from α i us)
+    own_bodies_in (own_first π t u ts s) α i = each_body (bodies (α i) t) (bodies_from α (suc i) ts) (bodies (α i) u) (bodies_from α (suc i) ts) (own_bodies s (α i)) (kept_itself (bodies_from α (suc i) ts))
+    own_bodies_in (own_later π t ts us s) α i = each_body (bodies (α i) t) (bodies_from α (suc i) ts) (bodies (α i) t) (bodies_from α (suc i) us) (kept_itself (bodies (α i) t)) (own_bodies_in s α (suc i))
 
   mutual
-    own_frames : {p : Position} {t u : Tree} → OwnStep R p t u → (k : Option PropertyKind) → frames k t ≡ frames k u
-    own_frames (own_here p n w r) k = same_frames V p n w r k
-    own_frames (own_inside p h xs ts us b s) k =
-        (λ i. no_frame k h (frame_outline h xs 0 ts) (globals h ts) b i ++ frames_from (property_below h) 0 ts)
-        ∙ own_frames_in s (property_below h) 0
-        ∙ sym (λ i. no_frame k h (frame_outline h xs 0 us) (globals h us) b i ++ frames_from (property_below h) 0 us)
+    own_frames : {p : Position} {t u : Tree} → OwnStep R p t u → (κ : Option PropertyKind) → FramesKept (frames κ t) (frames κ u)
+    own_frames (own_here p n w r) κ = k.frames p n w r κ
+    own_frames (own_inside p h xs ts us b s) κ =
+        subst₂ FramesKept (sym (λ i. no_frame κ h (frame_outline h xs 0 ts) (globals h ts) b i ++ frames_from (property_below h) 0 ts)) (sym (λ i. no_frame κ h (frame_outline h xs 0 us) (globals h us) b i ++ frames_from (property_below h) 0 us))
+        (own_frames_in s (property_below h) 0)
 
-    own_frames_in : {π : ℕ → Position} {ts us : Trees} → OwnStepIn R π ts us → (κ : ℕ → Option PropertyKind) (i : ℕ) → frames_from κ i ts ≡ frames_from κ i us
-    own_frames_in (own_first π t u ts s) κ i = ap (λ fs. fs ++ frames_from κ (suc i) ts) (own_frames s (κ i))
-    own_frames_in (own_later π t ts us s) κ i = ap (λ fs. frames (κ i) t ++ fs) (own_frames_in s κ (suc i))
+    own_frames_in : {π : ℕ → Position} {ts us : Trees} → OwnStepIn R π ts us → (κ : ℕ → Option PropertyKind) (i : ℕ) → FramesKept (frames_from κ i ts) (frames_from κ i us)
+    own_frames_in (own_first π t u ts s) κ i = each_frame (frames (κ i) t) (frames_from κ (suc i) ts) (frames (κ i) u) (frames_from κ (suc i) ts) (own_frames s (κ i)) (λ f m. m)
+    own_frames_in (own_later π t ts us s) κ i = each_frame (frames (κ i) t) (frames_from κ (suc i) ts) (frames (κ i) t) (frames_from κ (suc i) us) (λ f m. m) (own_frames_in s κ (suc i))
 
-  -- and it runs as before where that is so which is known
-  keeps_meaning : (e : Environment) → Steadies V e → KeepsMeaning R e nothing
-  keeps_meaning e z = record { same = λ p n w r q f. steady_same V p n w r e z q f; reads = λ p n w r. subst (ReadAlike nothing e (summary n)) (steady_reads V p n w r) (alike_self nothing e (summary n)) }
+  -- and it does what it did where that is so which is known
+  module _ (e : Environment) (z : Steadies V e) where
+    abbrev U : Rules
+    U = fading_rules V.unshared e
 
-  apart : (e : Environment) → Apart e nothing
-  apart e x h = absurd (true≢false (sym h))
+    abbrev sound : Sound U
+    sound = fading_sound V.unshared e z.unshared
 
-  own_runs : {t u : Tree} → OwnStep R Elsewhere t u → (e : Environment) → Steadies V e → (X : VariableSet) → RunsAs e FunctionStatements FunctionStatements X t u
-  own_runs {t} {u} s e z X = record { by = (body_same e nothing X (apart e) FunctionStatements t u (weaker e nothing nothing nothing X (no_within nothing) (no_within X) (body_demand FunctionStatements) t u (step_means R e nothing (apart e) (keeps_meaning e z) Elsewhere t u (forget s) (avoids_nothing u) (body_demand FunctionStatements) tt))).by }
+    kids_itself : (ts : Trees) (X : ℕ → VariableSet) (σ : ℕ → Demand) → PlaceGo U sound X σ (hidden_all ts) ts ts
+    kids_itself none X σ = place_none U sound X σ
+    kids_itself (t ▸ ts) X σ = place_cons U sound t t ts ts X σ (tree_itself V.unshared e z.unshared (X 0) (σ 0) t) (kids_itself ts (λ i. X (suc i)) (λ i. σ (suc i)))
+
+    facts_count : (ts : Trees) → length (facts ts) ≡ count ts
+    facts_count none = refl
+    facts_count (t ▸ ts) = ap suc (facts_count ts)
+
+    mutual
+      own_goes : {p : Position} {t u : Tree} → OwnStep R p t u → (X : VariableSet) (q : Demand) → Fits p q → TreesGo U X q t u
+      own_goes (own_here p n w r) X q f = trees_fade V.unshared e z.unshared X q n w (k.means e z p n w r q f)
+      own_goes (own_inside p h xs ts us b s) X q f =
+          one_node U sound h xs xs 0 0 ts us X q (ap (naming h q (variables xs) 0) (own_reads s)) refl (ap facts_all (own_reads s))
+          (own_goes_in s (needs h q X ts) (demand h (facts ts) q) (λ i. subst (λ m. Fits (child_position h p m i) (demand h (facts ts) q i)) (facts_count ts) (fits_children h (facts ts) p q f i)))
+
+      own_goes_in : {π : ℕ → Position} {ts us : Trees} → OwnStepIn R π ts us → (X : ℕ → VariableSet) (σ : ℕ → Demand) → ((i : ℕ) → Fits (π i) (σ i)) → PlaceGo U sound X σ (hidden_all ts) ts us
+      own_goes_in (own_first π t u ts s) X σ f = place_cons U sound t u ts ts X σ (own_goes s (X 0) (σ 0) (f 0)) (kids_itself ts (λ i. X (suc i)) (λ i. σ (suc i)))
+      own_goes_in (own_later π t ts us s) X σ f = place_cons U sound t t ts us X σ (tree_itself V.unshared e z.unshared (X 0) (σ 0) t) (own_goes_in s (λ i. X (suc i)) (λ i. σ (suc i)) (λ i. f (suc i)))
+
+    own_runs : {t u : Tree} → OwnStep R Elsewhere t u → (X : VariableSet) → RunsAs e FunctionStatements FunctionStatements X t u
+    own_runs {t} {u} s X = runs_alike V.unshared e z.unshared FunctionStatements t u (λ r x y f. plain_goes U (body_demand FunctionStatements) t u (own_goes s nothing (body_demand FunctionStatements) tt) r x y f) X
 
 -- ---- an instance
 
-module _ (S : BodySets) (W : VariableSet) (d g : Bool) (ds : List (List ℕ)) (k : ℕ) (name ps t u : Tree) (s : OwnStep (SteadyRow (S k)) Elsewhere t u) (p : Position) where
+module _ (F : OwnRows) (keeps : (V : Assured) → KeepsOwn V (F V)) (S : BodySets) (W : VariableSet) (d g : Bool) (ds : List (List ℕ)) (k : ℕ) (name ps t u : Tree) (s : OwnStep (F (S k)) Elsewhere t u) (p : Position) where
   abbrev f : Tree
   f = function_over d g ds k name ps t
 
@@ -165,26 +185,35 @@ module _ (S : BodySets) (W : VariableSet) (d g : Bool) (ds : List (List ℕ)) (k
   abbrev V : Assured
   V = S k
 
-  whole : Step (SteadyRow V) p f f'
-  whole = inside p (shape.Function d g ds) [] k (name ▸ (ps ▸ (t ▸ none))) (name ▸ (ps ▸ (u ▸ none))) (later _ name (ps ▸ (t ▸ none)) (ps ▸ (u ▸ none)) (later _ ps (t ▸ none) (u ▸ none) (first _ t u none (forget V s))))
+  own : KeepsOwn V (F V)
+  own = keeps V
+
+  whole : Step (F V) p f f'
+  whole = inside p (shape.Function d g ds) [] k (name ▸ (ps ▸ (t ▸ none))) (name ▸ (ps ▸ (u ▸ none))) (later _ name (ps ▸ (t ▸ none)) (ps ▸ (u ▸ none)) (later _ ps (t ▸ none) (u ▸ none) (first _ t u none (forget V (F V) own s))))
 
   whole_fits : (strict : Bool) (c : Slot) → fits_place p c ≡ true → fits strict c f ≡ true → fits strict c f' ≡ true
-  whole_fits strict c z e = any_step_fits (SteadyRow V) (names V) (shapes V) whole strict c z e
+  whole_fits strict c z e = any_step_fits (F V) own.names own.shapes whole strict c z e
 
   whole_keeps : (strict : Bool) (c : Slot) → fits_place p c ≡ true → fits strict c f ≡ true → KeepsLoosely p f f'
-  whole_keeps strict c z e = step_keeps (SteadyRow V) (names V) whole strict c z e
+  whole_keeps strict c z e = step_keeps (F V) own.names whole strict c z e
 
   whole_declares : (x : Name) → Contains (declared f') x → Contains (declared f) x
-  whole_declares = reaches_declared (SteadyRow V) (λ q n w r. (kept V q n w r).declared) (more p f f' f' whole (done p f'))
+  whole_declares = reaches_declared (F V) own.declared (more p f f' f' whole (done p f'))
 
   whole_fixed : (x : Variable) → fixed_by f x ≡ fixed_by f' x
-  whole_fixed x = step_fixed nothing (SteadyRow V) (record { reads = λ q n w r. steady_reads V q n w r; fixed = λ q n w r y c. (kept V q n w r).fixed y }) whole x refl
+  whole_fixed x = step_fixed nothing (F V) (record { reads = own.reads; fixed = λ q n w r y c. own.fixed q n w r y }) whole x refl
 
-  body_frames : frames None t ≡ frames None u
-  body_frames = own_frames V s None
+  body_frames : FramesKept (frames None t) (frames None u)
+  body_frames = own_frames V (F V) own s None
 
-  whole_frames : frames None f ≡ frames None f'
-  whole_frames = ap (λ fs. frame_of None (shape.Function d g ds) k (frame_outline (shape.Function d g ds) [] k (name ▸ (ps ▸ (t ▸ none)))) (globals (shape.Function d g ds) (name ▸ (ps ▸ (t ▸ none)))) ++ (frames None name ++ (frames None ps ++ (fs ++ [])))) body_frames
+  abbrev own_frame : List Frame
+  own_frame = frame_of None (shape.Function d g ds) k (frame_outline (shape.Function d g ds) [] k (name ▸ (ps ▸ (t ▸ none)))) (globals (shape.Function d g ds) (name ▸ (ps ▸ (t ▸ none))))
+
+  after : (es fs gs : List Frame) → FramesKept fs gs → FramesKept (es ++ fs) (es ++ gs)
+  after es fs gs h = each_frame es fs es gs (λ f m. m) h
+
+  whole_frames : FramesKept (frames None f) (frames None f')
+  whole_frames = after own_frame _ _ (after (frames None name) _ _ (after (frames None ps) _ _ (each_frame (frames None t) [] (frames None u) [] body_frames (λ f m. m))))
 
   abbrev own_body : Around → Tree → List Body
   own_body a v = body_of a (shape.Function d g ds) k (function_over d g ds k name ps v) (name ▸ (ps ▸ (v ▸ none)))
@@ -195,17 +224,26 @@ module _ (S : BodySets) (W : VariableSet) (d g : Bool) (ds : List (List ℕ)) (k
   abbrev others : Around → List Body → List Body
   others a bs = bodies (below_it a 0) name ++ (bodies (below_it a 1) ps ++ (bs ++ []))
 
+  kept_under : (bs cs : List Body) → BodiesKept bs cs → BodiesUnder W S nothing bs cs
+  kept_under bs cs h = more_under nothing W none_steady S nothing nothing (λ x h. absurd (true≢false (sym h))) (λ b. nothing_within (S b)) (λ x h. h) bs cs (from_kept nothing bs cs h)
+
+  others_kept : (a : Around) → BodiesUnder W S nothing (others a (bodies (below_it a 2) t)) (others a (bodies (below_it a 2) u))
+  others_kept a =
+      each_under W S nothing (bodies (below_it a 0) name) _ (bodies (below_it a 0) name) _ (itself_under W S nothing (bodies (below_it a 0) name))
+      (each_under W S nothing (bodies (below_it a 1) ps) _ (bodies (below_it a 1) ps) _ (itself_under W S nothing (bodies (below_it a 1) ps))
+      (each_under W S nothing (bodies (below_it a 2) t) [] (bodies (below_it a 2) u) [] (kept_under (bodies (below_it a 2) t) (bodies (below_it a 2) u) (own_bodies V (F V) own s (below_it a 2))) tt))
+
   whole_bodies : (a : Around) → BodiesUnder W S nothing (bodies a f) (bodies a f')
   whole_bodies a =
       each_under W S nothing (own_body a t) (others a (bodies (below_it a 2) t)) (own_body a u) (others a (bodies (below_it a 2) u))
-      (inl (record { number = refl; kind = inl refl; strict = refl; asks_this = refl; same = λ e z y X g. own_runs V s e y X }), tt)
-      (subst (λ bs. BodiesUnder W S nothing (others a (bodies (below_it a 2) t)) (others a bs)) (own_bodies V s (below_it a 2)) (itself_under W S nothing (others a (bodies (below_it a 2) t))))
+      (inl (record { number = refl; kind = inl refl; strict = refl; asks_this = refl; same = λ e z y X g. own_runs V (F V) own e y s X }), tt)
+      (others_kept a)
 
   whole_steadies : SteadiesWith W S p f f'
   whole_steadies = record {
     same = record { by = λ e z. (created_same d g ds k name ps t u p).by e nothing nothing };
     fixed = whole_fixed;
-    frames = λ strict c z e a. kept_are_shown f f' (λ x c. subst (λ fs. Contains fs x) (sym whole_frames) c) a;
+    frames = λ strict c z e a. kept_are_shown f f' whole_frames a;
     bodies = λ strict c z e a st. whole_bodies a;
   }
 
@@ -223,7 +261,7 @@ module _ (S : BodySets) (W : VariableSet) (d g : Bool) (ds : List (List ℕ)) (k
         later = u;
         before = ap (λ m. function_over d g ds m name ps t) is;
         after = ap (λ m. function_over d g ds m name ps u) is;
-        framed = λ x c. subst (λ fs. Contains fs x) (sym body_frames) c;
+        framed = body_frames;
       }
 
 -- ---- all
@@ -236,12 +274,12 @@ is_function_place Method = true
 is_function_place Elsewhere = true
 is_function_place p = false
 
-placed_row : (S : BodySets) (p : Position) (n w : Tree) → SteadyFunction S p n w → (is_function_place p ≡ true) × SteadyFunctionRow S n w
-placed_row S (Stmt q) n w r = (refl, r)
-placed_row S (Expr s) n w r = (refl, r)
-placed_row S Method n w r = (refl, r)
-placed_row S Elsewhere n w r = (refl, r)
-placed_row S p n w r = absurd r
+placed_row : (F : OwnRows) (S : BodySets) (p : Position) (n w : Tree) → OwnFunction F S p n w → (is_function_place p ≡ true) × OwnFunctionRow F S n w
+placed_row F S (Stmt q) n w r = (refl, r)
+placed_row F S (Expr s) n w r = (refl, r)
+placed_row F S Method n w r = (refl, r)
+placed_row F S Elsewhere n w r = (refl, r)
+placed_row F S p n w r = absurd r
 
 rooted : (p : Position) → is_function_place p ≡ true → (is_rewritten_place p ≡ true) ⊎ (is_rooted_place p ≡ true)
 rooted (Stmt q) z = inl refl
@@ -255,52 +293,52 @@ no_list StatementList z e = cc z
 no_list BodyList z e = cc z
 no_list p z e = cc e
 
-module _ (S : BodySets) where
+module _ (F : OwnRows) (keeps : (V : Assured) → KeepsOwn V (F V)) (S : BodySets) where
   -- what holds of each such function holds of what a row reads and writes
-  by_row : (P : Position → Tree → Tree → Type 0) → ((p : Position) (d g : Bool) (ds : List (List ℕ)) (k : ℕ) (name ps t u : Tree) → is_function_place p ≡ true → OwnStep (SteadyRow (S k)) Elsewhere t u → P p (function_over d g ds k name ps t) (function_over d g ds k name ps u)) → (p : Position) (n w : Tree) → SteadyFunction S p n w → P p n w
+  by_row : (P : Position → Tree → Tree → Type 0) → ((p : Position) (d g : Bool) (ds : List (List ℕ)) (k : ℕ) (name ps t u : Tree) → is_function_place p ≡ true → OwnStep (F (S k)) Elsewhere t u → P p (function_over d g ds k name ps t) (function_over d g ds k name ps u)) → (p : Position) (n w : Tree) → OwnFunction F S p n w → P p n w
   by_row P h p n w c =
-      let (z, r) = placed_row S p n w c in
+      let (z, r) = placed_row F S p n w c in
       subst (λ v. P p v w) (sym r.shape) (subst (P p (function_over r.is_declaration r.is_generator r.directives r.number r.name r.parameters r.before)) (sym r.written) (h p r.is_declaration r.is_generator r.directives r.number r.name r.parameters r.before r.after z r.step))
 
   root_kept : (p : Position) (d g : Bool) (ds : List (List ℕ)) (k : ℕ) (name ps t u : Tree) → (is_rewritten_place p ≡ true) ⊎ (is_rooted_place p ≡ true) → (is_rewritten_place p ≡ true) ⊎ KeepsRoot p (function_over d g ds k name ps t) (function_over d g ds k name ps u)
   root_kept p d g ds k name ps t u (inl e) = inl e
   root_kept p d g ds k name ps t u (inr e) = inr (record { place = e; shape = refl; names = refl; number = refl; counted = refl; second = refl })
 
-  pub functions_lawful : (K : Shape → Bool) (W : VariableSet) → LawfulUnder K W S (SteadyFunction S)
+  pub functions_lawful : (K : Shape → Bool) (W : VariableSet) → LawfulUnder K W S (OwnFunction F S)
   functions_lawful K W = record {
     shapes = record {
-      fitting = by_row (λ p n w. (strict : Bool) (c : Slot) → fits_place p c ≡ true → fits strict c n ≡ true → fits strict c w ≡ true) (λ p d g ds k name ps t u z s. whole_fits S W d g ds k name ps t u s p);
+      fitting = by_row (λ p n w. (strict : Bool) (c : Slot) → fits_place p c ≡ true → fits strict c n ≡ true → fits strict c w ≡ true) (λ p d g ds k name ps t u z s. whole_fits F keeps S W d g ds k name ps t u s p);
       asked = by_row AskedAlike (λ p d g ds k name ps t u z s. record { absent = λ g. absurd (true≢false (sym g)); body = λ g. absurd (true≢false (sym g)); optional = λ g. absurd (true≢false (sym g)); number = λ g h. refl; spelled = λ o g. absurd (cc g); plain = refl });
     };
     places = record {
       names = record {
         places = by_row (λ p n w. (is_rewritten_place p ≡ true) ⊎ KeepsRoot p n w) (λ p d g ds k name ps t u z s. root_kept p d g ds k name ps t u (rooted p z));
         pieces = by_row (λ p n w. is_piece (shape_of n) ≡ false) (λ p d g ds k name ps t u z s. refl);
-        keeps = by_row (λ p n w. (strict : Bool) (c : Slot) → fits_place p c ≡ true → fits strict c n ≡ true → KeepsLoosely p n w) (λ p d g ds k name ps t u z s. whole_keeps S W d g ds k name ps t u s p);
+        keeps = by_row (λ p n w. (strict : Bool) (c : Slot) → fits_place p c ≡ true → fits strict c n ≡ true → KeepsLoosely p n w) (λ p d g ds k name ps t u z s. whole_keeps F keeps S W d g ds k name ps t u s p);
       };
       slots = λ p n w c strict s f e. inr (inl (function_kept p n w c strict s e));
       ports = λ p n w c strict d e m. inr (function_kept p n w c strict (one (a_statement d)) e);
-      listed = λ p n w e c. absurd (no_list p (placed_row S p n w c).0 e);
+      listed = λ p n w e c. absurd (no_list p (placed_row F S p n w c).0 e);
       exported = λ p n w c strict e. inr (function_kept p n w c strict (one a_default_export) e);
     };
-    reads = by_row (λ p n w. summary n ≡ summary w) (λ p d g ds k name ps t u z s. ap (λ i. summary_of (shape.Function d g ds) [] k (summary name ∷ (summary ps ∷ (i ∷ [])))) (own_read (S k) s));
+    reads = by_row (λ p n w. summary n ≡ summary w) (λ p d g ds k name ps t u z s. ap (λ i. summary_of (shape.Function d g ds) [] k (summary name ∷ (summary ps ∷ (i ∷ [])))) (own_read (S k) (F (S k)) (keeps (S k)) s));
     kind = by_row (λ p n w. (strict : Bool) (c : Slot) → fits strict c n ≡ true → arrow_kind (shape_of n) ≡ arrow_kind (shape_of w)) (λ p d g ds k name ps t u z s strict c e. refl);
-    declared = by_row (λ p n w. (x : Name) → Contains (declared w) x → Contains (declared n) x) (λ p d g ds k name ps t u z s. whole_declares S W d g ds k name ps t u s p);
-    instances = λ p n w c. inl (by_row (SteadiesWith W S) (λ p d g ds k name ps t u z s. whole_steadies S W d g ds k name ps t u s p) p n w c);
+    declared = by_row (λ p n w. (x : Name) → Contains (declared w) x → Contains (declared n) x) (λ p d g ds k name ps t u z s. whole_declares F keeps S W d g ds k name ps t u s p);
+    instances = λ p n w c. inl (by_row (SteadiesWith W S) (λ p d g ds k name ps t u z s. whole_steadies F keeps S W d g ds k name ps t u s p) p n w c);
   }
     where
-      function_kept : (p : Position) (n w : Tree) → SteadyFunction S p n w → (strict : Bool) (c : Slot) → fits strict c n ≡ true → KeepsFunction n w
-      function_kept = by_row (λ p n w. (strict : Bool) (c : Slot) → fits strict c n ≡ true → KeepsFunction n w) (λ p d g ds k name ps t u z s. keeps_function S W d g ds k name ps t u s p)
+      function_kept : (p : Position) (n w : Tree) → OwnFunction F S p n w → (strict : Bool) (c : Slot) → fits strict c n ≡ true → KeepsFunction n w
+      function_kept = by_row (λ p n w. (strict : Bool) (c : Slot) → fits strict c n ≡ true → KeepsFunction n w) (λ p d g ds k name ps t u z s. keeps_function F keeps S W d g ds k name ps t u s p)
 
   -- ---- lighter
 
-  function_lighter : (p : Position) (n w : Tree) → SteadyFunction S p n w → weight p w < weight p n
-  function_lighter = by_row (λ p n w. weight p w < weight p n) (λ p d g ds k name ps t u z s. any_step_lighter (SteadyRow (S k)) (steady_lightens (S k)) p _ _ (whole S nothing d g ds k name ps t u s p))
+  function_lighter : (p : Position) (n w : Tree) → OwnFunction F S p n w → weight p w < weight p n
+  function_lighter = by_row (λ p n w. weight p w < weight p n) (λ p d g ds k name ps t u z s. any_step_lighter (F (S k)) (keeps (S k)).lightens p _ _ (whole F keeps S nothing d g ds k name ps t u s p))
 
-  function_outline : (p : Position) (n w : Tree) → SteadyFunction S p n w → outline n ≡ outline w
+  function_outline : (p : Position) (n w : Tree) → OwnFunction F S p n w → outline n ≡ outline w
   function_outline = by_row (λ p n w. outline n ≡ outline w) (λ p d g ds k name ps t u z s. refl)
 
-  pub functions_lighten : Lightens (SteadyFunction S)
+  pub functions_lighten : Lightens (OwnFunction F S)
   functions_lighten = record {
     lighter = function_lighter;
     absent = λ p n w r a. ap (λ o. o.absent) (function_outline p n w r);
@@ -310,7 +348,13 @@ module _ (S : BodySets) where
   }
 
 pub steady_functions_lawful : SteadyFunctionsAreLawful
-steady_functions_lawful K W S = functions_lawful S K W
+steady_functions_lawful K W S = functions_lawful SteadyRow steady_own S K W
 
 pub steady_functions_lighten : SteadyFunctionsLighten
-steady_functions_lighten S = functions_lighten S
+steady_functions_lighten S = functions_lighten SteadyRow steady_own S
+
+pub lexical_functions_lawful : LexicalFunctionsAreLawful
+lexical_functions_lawful K W S = functions_lawful LexicalRows lexical_own S K W
+
+pub lexical_functions_lighten : LexicalFunctionsLighten
+lexical_functions_lighten S = functions_lighten LexicalRows lexical_own S

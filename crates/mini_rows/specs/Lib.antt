@@ -36,3 +36,5 @@ pub mod Cases
 pub mod LoopGuards
 pub mod DeadCases
 pub mod Lets
+pub mod Fading
+pub mod Lexical

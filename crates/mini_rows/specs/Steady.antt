@@ -1,6 +1,7 @@
 -- Rows that rest on it that names are steady, as equations: each is a shape and what is written in its place, with the JavaScript before
 -- and after. S has the variables that no answer of the world changes while the body runs in which the expression stands.
-use Rattle.std.specs.Prelude.{◌≡◌, ℕ, zero, suc, Bool, true, false, List}
+use Rattle.std.specs.Prelude.{◌≡◌, ℕ, zero, suc, Bool, true, false, List, Option, Contains}
+use Rattle.mini_model.specs.declared.kind.PropertyKind.{PropertyKind}
 use Rattle.mini_model.specs.declared.name.Name.{Name}
 use Rattle.mini_model.specs.declared.operator.AssignmentOperator.TheVariants.{Assign}
 use Rattle.mini_model.specs.declared.operator.LogicalOperator.{LogicalOperator}
@@ -14,12 +15,22 @@ use Rattle.mini_laws.specs.Demand.{Demand}
 use Rattle.mini_laws.specs.Fits.{Fits}
 use Rattle.mini_laws.specs.Same.{Same}
 use Rattle.mini_laws.specs.State.{Environment}
-use Rattle.mini_laws.specs.Value.{Declared, VariableSet, nothing}
+use Rattle.mini_laws.specs.Value.{Variable, Declared, VariableSet, nothing}
+use Rattle.mini_laws.specs.Naming.{summary}
+use Rattle.mini_laws.specs.Fixity.{fixed_by}
+use Rattle.mini_laws.specs.Bodies.{Around, bodies}
 use Rattle.mini_laws.specs.Weights.{Lightens}
+use Rattle.mini_kept.specs.AlikeBodies.{BodiesKept}
+use Rattle.mini_kept.specs.Declaring.{declared}
+use Rattle.mini_kept.specs.Frames.{frames, FramesKept}
 use Rattle.mini_kept.specs.KeepsFrames.{function_over}
+use Rattle.mini_kept.specs.KeepsShapes.{KeepsShapes}
+use Rattle.mini_kept.specs.Lifted.{KeepsNames}
 use Rattle.mini_kept.specs.Loosely.{LawfulUnder}
 use Rattle.mini_kept.specs.Without.{Assured, BodySets, Steadies}
 use Rattle.mini_rows.specs.Choices.{Key, member_of, deciding}
+use Rattle.mini_rows.specs.Fading.{Fading}
+use Rattle.mini_rows.specs.Lexical.{LexicalRow}
 use Rattle.mini_rows.specs.Spellings.{assignment}
 use Rattle.mini_rows.specs.Unused.{resolved}
 
@@ -38,6 +49,29 @@ pub record Row38Member (S : VariableSet) (n w : Tree) : Type 0 where
 abbrev pub SteadyRow : Assured → Position → Tree → Tree → Type 0
 SteadyRow V (Expr s) n w = Row38Member V.steady n w
 SteadyRow V _ n w = ⊥
+
+-- ---- rows of the code of a body
+
+-- by what is known of the body, which nodes are read as which
+abbrev pub OwnRows : Type 1
+OwnRows = Assured → Position → Tree → Tree → Type 0
+
+-- 80 and 84 with lexical names
+abbrev pub LexicalRows : OwnRows
+LexicalRows V = LexicalRow V.unshared
+
+-- What a relation has to keep of a node in the code of a body of which this is known: it means the same but for variables that no event shows
+-- and that may have no value where the node stood, a parent reads both alike, and it keeps shapes, names, bodies and frames
+pub record KeepsOwn (V : Assured) (R : Position → Tree → Tree → Type 0) : Type 0 where
+  pub means : (e : Environment) → Steadies V e → (p : Position) (n w : Tree) → R p n w → (q : Demand) → Fits p q → Fading V.unshared e q n w
+  pub reads : (p : Position) (n w : Tree) → R p n w → summary n ≡ summary w
+  pub shapes : KeepsShapes R
+  pub names : KeepsNames R
+  pub fixed : (p : Position) (n w : Tree) → R p n w → (x : Variable) → fixed_by n x ≡ fixed_by w x
+  pub declared : (p : Position) (n w : Tree) → R p n w → (x : Name) → Contains (declared w) x → Contains (declared n) x
+  pub bodies : (p : Position) (n w : Tree) → R p n w → (a : Around) → BodiesKept (bodies a n) (bodies a w)
+  pub frames : (p : Position) (n w : Tree) → R p n w → (k : Option PropertyKind) → FramesKept (frames k n) (frames k w)
+  pub lightens : Lightens R
 
 -- ---- in the body of a function
 
@@ -61,8 +95,8 @@ mutual
     own_first : (π : ℕ → Position) (t u : Tree) (ts : Trees) → OwnStep R (π zero) t u → OwnStepIn R π (t ▸ ts) (u ▸ ts)
     own_later : (π : ℕ → Position) (t : Tree) (ts us : Trees) → OwnStepIn R (λ i. π (suc i)) ts us → OwnStepIn R π (t ▸ ts) (t ▸ us)
 
--- a function whose body takes such a step by a row, over what S says of the body with its number
-pub record SteadyFunctionRow (S : BodySets) (n w : Tree) : Type 0 where
+-- a function whose body takes such a step by a row of F, over what S says of the body with its number
+pub record OwnFunctionRow (F : OwnRows) (S : BodySets) (n w : Tree) : Type 0 where
   pub is_declaration : Bool
   pub is_generator : Bool
   pub directives : List (List ℕ)
@@ -71,17 +105,28 @@ pub record SteadyFunctionRow (S : BodySets) (n w : Tree) : Type 0 where
   pub parameters : Tree
   pub before : Tree
   pub after : Tree
-  pub step : OwnStep (SteadyRow (S number)) Elsewhere before after
+  pub step : OwnStep (F (S number)) Elsewhere before after
   pub shape : n ≡ function_over is_declaration is_generator directives number name parameters before
   pub written : w ≡ function_over is_declaration is_generator directives number name parameters after
 
 -- wherever the function stands
+abbrev pub OwnFunction : OwnRows → BodySets → Position → Tree → Tree → Type 0
+OwnFunction F S (Stmt q) n w = OwnFunctionRow F S n w
+OwnFunction F S (Expr s) n w = OwnFunctionRow F S n w
+OwnFunction F S Method n w = OwnFunctionRow F S n w
+OwnFunction F S Elsewhere n w = OwnFunctionRow F S n w
+OwnFunction F S _ n w = ⊥
+
+-- by a row of members
+abbrev pub SteadyFunctionRow : BodySets → Tree → Tree → Type 0
+SteadyFunctionRow = OwnFunctionRow SteadyRow
+
 abbrev pub SteadyFunction : BodySets → Position → Tree → Tree → Type 0
-SteadyFunction S (Stmt q) n w = SteadyFunctionRow S n w
-SteadyFunction S (Expr s) n w = SteadyFunctionRow S n w
-SteadyFunction S Method n w = SteadyFunctionRow S n w
-SteadyFunction S Elsewhere n w = SteadyFunctionRow S n w
-SteadyFunction S _ n w = ⊥
+SteadyFunction = OwnFunction SteadyRow
+
+-- and by one of lexical names
+abbrev pub LexicalFunction : BodySets → Position → Tree → Tree → Type 0
+LexicalFunction = OwnFunction LexicalRows
 
 -- ---- the laws
 
@@ -89,14 +134,30 @@ SteadyFunction S _ n w = ⊥
 abbrev pub SteadyMeansSame : Type 0
 SteadyMeansSame = (V : Assured) (p : Position) (n w : Tree) → SteadyRow V p n w → (e : Environment) → Steadies V e → (q : Demand) → Fits p q → Same e nothing nothing q n w
 
--- it makes the whole lighter, wherever the expression stands, and so does what is written in the body of a function
+-- it makes the whole lighter, wherever it stands, and so does what is written in the body of a function
 abbrev pub SteadyLightens : Type 0
 SteadyLightens = (V : Assured) → Lightens (SteadyRow V)
 
-abbrev pub SteadyFunctionsLighten : Type 0
-SteadyFunctionsLighten = (S : BodySets) → Lightens (SteadyFunction S)
+abbrev pub FunctionsLighten : OwnRows → Type 0
+FunctionsLighten F = (S : BodySets) → Lightens (OwnFunction F S)
 
--- and that keeps all that a program has to keep, where that is so, whichever functions and classes may lose their own name and
--- whichever variables can be written
+abbrev pub SteadyFunctionsLighten : Type 0
+SteadyFunctionsLighten = FunctionsLighten SteadyRow
+
+-- what a row of lexical names writes keeps what the code of a body has to keep
+abbrev pub LexicalKeepsOwn : Type 0
+LexicalKeepsOwn = (V : Assured) → KeepsOwn V (LexicalRows V)
+
+abbrev pub LexicalFunctionsLighten : Type 0
+LexicalFunctionsLighten = FunctionsLighten LexicalRows
+
+-- and so what is written in the body of a function keeps all that a program has to keep, where that is so, whichever functions and classes may
+-- lose their own name and whichever variables can be written
+abbrev pub FunctionsAreLawful : OwnRows → Type 0
+FunctionsAreLawful F = (K : Shape → Bool) (W : VariableSet) (S : BodySets) → LawfulUnder K W S (OwnFunction F S)
+
 abbrev pub SteadyFunctionsAreLawful : Type 0
-SteadyFunctionsAreLawful = (K : Shape → Bool) (W : VariableSet) (S : BodySets) → LawfulUnder K W S (SteadyFunction S)
+SteadyFunctionsAreLawful = FunctionsAreLawful SteadyRow
+
+abbrev pub LexicalFunctionsAreLawful : Type 0
+LexicalFunctionsAreLawful = FunctionsAreLawful LexicalRows

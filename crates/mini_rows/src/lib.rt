@@ -13,6 +13,7 @@ mod de_morgan;
 mod declarations;
 mod foldings;
 mod lets;
+mod lexical;
 mod lists;
 mod loop_guards;
 mod names;
@@ -37,6 +38,10 @@ pub use de_morgan::{de_morgan_is_lawful, de_morgan_lightens, de_morgan_means_the
 pub use declarations::{declarations_are_lawful, declarations_lighten, declarations_same};
 pub use foldings::{foldings_are_lawful, foldings_are_lighter, foldings_mean_the_same};
 pub use lets::{lets_are_lawful, lets_lighten};
+pub use lexical::{
+    each_tree_fades, lexical_functions_are_lawful, lexical_names_lighten,
+    lexical_names_mean_the_same, lexical_rows_are_kept,
+};
 pub use loop_guards::{loop_guards_are_lawful, loop_guards_lighten, loop_guards_mean_the_same};
 pub use names::{names_are_lawful, names_lighten};
 pub use negations::{negations_are_lawful, negations_lighten, negations_mean_the_same};
