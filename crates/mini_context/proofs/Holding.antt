@@ -1,5 +1,5 @@
 -- What a walk finds of the variables that a tree mentions, and of those that it declares and that can't be written.
-use Rattle.std.specs.Prelude.{ℕ, zero, suc, ◌≡◌, ◌≤◌, refl, nat_eq, ◌&&◌, ◌||◌, not, Bool, true, false, List, [], ◌∷◌, ◌++◌, Option, Some, None, if◌then◌else◌}
+use Rattle.std.specs.Prelude.{ℕ, zero, suc, ◌≡◌, ◌≤◌, ◌<◌, refl, length, slice_index_or, nat_eq, ◌&&◌, ◌||◌, not, Bool, true, false, List, [], ◌∷◌, ◌++◌, Option, Some, None, if◌then◌else◌}
 use Rattle.std.proofs.Common.{ap, ◌∙◌, sym, subst, arith}
 use Rattle.mini_model.specs.declared.kind.VariableDeclarationKind.TheVariants.{Const, Var}
 use Rattle.mini_model.specs.declared.name.Name.{Name}
@@ -15,7 +15,7 @@ use Rattle.mini_laws.specs.State.{Fixed, Writable, Constant, KeepsOld}
 use Rattle.mini_laws.specs.Value as value
 use Rattle.mini_laws.specs.Value.{Variable, variables, variable_eq, variable_by, is_in, choose}
 use Rattle.mini_node.specs.Children.{names, names_of}
-use Rattle.mini_context.specs.Holders.{class_place, declares_class, lets_holder, forbidden_holder, is_class, lets_at, class_at, held_by, forbidden_in, all_forbidden_in, variables_in, all_variables_in, has, PutAll, TakenAll, Writables}
+use Rattle.mini_context.specs.Holders.{class_place, declares_class, lets_holder, forbidden_holder, is_class, lets_at, class_at, held_by, forbidden_in, all_forbidden_in, variables_in, all_variables_in, has, AllBelow, PutAll, TakenAll, Writables}
 use Rattle.mini_context.specs.declared.writable.ClassPlace.{ClassPlace}
 use Rattle.mini_context.specs.declared.writable.ClassPlace.TheVariants as class
 use Rattle.mini_context.specs.declared.writable.Holder.{Holder}
@@ -236,3 +236,13 @@ pub writables_told : (t : Tree) (put left : List Bool) → PutAll (variables_in 
 writables_told t put left p q s =
     let x = value.Declared s in
     q s ∙ ap (λ b. b && not (is_in x (forbidden_in t))) (p s) ∙ (λ i. mentions_told t x i && sym (open_told t x) i)
+
+-- ---- where there is a mark there is an entry
+
+pub within : (marks : List Bool) (s : ℕ) → slice_index_or marks s false ≡ true → s < length marks
+within [] s e = absurd (cc e)
+within (m ∷ ms) zero e = omega arith
+within (m ∷ ms) (suc s) e = omega (arith, within ms s e)
+
+pub room_told : (t : Tree) (put : List Bool) (n : ℕ) → PutAll (variables_in t) [] put → n ≡ length put → AllBelow n t
+room_told t put n p e s h = omega (arith, e, within put s (p s ∙ mentions_told t (value.Declared s) ∙ h))

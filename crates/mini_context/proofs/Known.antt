@@ -69,6 +69,9 @@ replicated (suc n) = ap suc (replicated n)
 counts_length : (p : Use → Bool) (n : ℕ) (t : Tree) → length (counts_of p n t) ≡ n
 counts_length p n t = counted_length p (references Read t) (replicate n 0) ∙ replicated n
 
+pub told_length : (f : Facts) (n : ℕ) (t : Tree) → Told f n t → length f.reads ≡ n
+told_length f n t w = ap length w.reads_told ∙ counts_length is_read n t
+
 -- ---- at first, and anew
 
 pub refreshed_by : (old new : Facts) (n : ℕ) (t : Tree) → n ≡ length old.reads → new.tops ≡ old.tops → Told new n t → Refreshed old new t

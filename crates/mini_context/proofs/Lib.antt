@@ -20,4 +20,5 @@ mod Values
 mod Foreigns
 mod Uses
 mod Holding
-mod Stays
+pub mod Stays
+mod Askings

@@ -1,4 +1,4 @@
--- What stays steady from one look to the next.
+-- What is told of bodies stays so from one look to the next.
 use Rattle.std.specs.Prelude.{ℕ, zero, suc, ◌≡◌, ◌<◌, ◌≤◌, ◌+◌, refl, nat_eq, nat_lt, ◌&&◌, ◌||◌, not, Bool, true, false, List, [], ◌∷◌, length, slice_index_or, Result, Ok, Err, OnOk, IfOk}
 use Rattle.std.specs.List.{list_all, list_any}
 use Rattle.std.proofs.Common.{ap, ◌∙◌, arith, sym, subst, eq-eqb}
@@ -13,14 +13,16 @@ use Rattle.mini_context.specs.declared.mentions.Mentioned.{Mentioned}
 use Rattle.mini_context.specs.declared.mentions.Mentioned.TheVariants as mentioned
 use Rattle.mini_context.specs.Enclosing.{is_around}
 use Rattle.mini_context.specs.declared.scopes.Look.{Look}
-use Rattle.mini_context.specs.Facts.{Facts, Looked, Told, facts_of, foreign, foreign_always, is_changed, is_changed_outside, may_be_unset, shares}
+use Rattle.mini_context.specs.Facts.{Facts, Looked, Told, facts_of, foreign, foreign_always, is_changed, is_changed_outside, may_be_unset, shared_always, shares}
+use Rattle.mini_context.proofs.Shares.{tables_share}
 use Rattle.mini_context.specs.Lists.{holds}
 use Rattle.mini_context.specs.Mentioned.{is_outside, is_somewhere, mentioned_at}
-use Rattle.mini_context.specs.Steady.{is_steady, is_unsteady, home_stays, homes_stay, stays_set, only_of, is_this, stays_bound, is_origin, any_below, has_origin, FunctionsStay, Stays, Answers, StaysSteady, Renewed}
+use Rattle.mini_context.specs.Steady.{is_steady, is_initial, is_unshared, is_unsteady, home_stays, homes_stay, stays_set, only_of, is_this, stays_bound, is_origin, any_below, has_origin, stays_alone, is_widely, stays_unshared, symbol_stays, FunctionsStay, Stays, Answers, StaysTold, TellsBodies, Renewed}
 use Rattle.mini_context.specs.Tables.{mark_at, named}
 use Rattle.mini_context.proofs.Enclosing.{and_left}
 use Rattle.mini_context.proofs.Known.{known_anew, refreshed_by}
 use Rattle.mini_context.proofs.Foreigns.{changed_told, tables_foreign}
+use Rattle.mini_context.proofs.Holding.{within}
 
 -- ---- booleans
 
@@ -212,33 +214,112 @@ set_in f g n s b w h e u =
     let later = slice_index_or g.functions s [] in
     let lost : Bool = mark_at f.lexical s && (not (holds f.homes s b) || mark_at f.switched s || holds f.early s b) in
     let around : Bool = is_around f.functions f.enclosed s b in
-    let sets = now_set (is_unsteady f s) (is_unsteady g s) (stays_set f g s) (stays_bound earlier later) (w.symbols s h) e in
-    let binds = now_bound (is_unsteady f s) (is_unsteady g s) (stays_set f g s) (stays_bound earlier later) (w.symbols s h) e in
+    let there = and_left (symbol_stays f g s) (stays_unshared f g s) (w.symbols s h) in
+    let sets = now_set (is_unsteady f s) (is_unsteady g s) (stays_set f g s) (stays_bound earlier later) there e in
+    let binds = now_bound (is_unsteady f s) (is_unsteady g s) (stays_set f g s) (stays_bound earlier later) there e in
     both_false (mark_at g.lexical s && (not (holds g.homes s b) || mark_at g.switched s || holds g.early s b)) (is_around g.functions g.enclosed s b)
     (set_still (mark_at f.lexical s) (holds f.homes s b) (mark_at f.switched s) (holds f.early s b) (mark_at g.lexical s) (holds g.homes s b) (mark_at g.switched s) (holds g.early s b) (homes_stay f g s) (or_first_false lost around u) sets (λ a i. each_of (home_stays f g s) (slice_index_or f.homes s []) a b i))
     (around_still (λ k. holds f.enclosed b k) (λ k. holds g.enclosed b k) earlier later binds
     (λ k j x y i. w.functions b k j i (origin_of f g n s k j h (and_both (not (is_unsteady f s)) (is_this (only_of later) k && is_this (only_of earlier) j) (ap not e) (and_both (is_this (only_of later) k) (is_this (only_of earlier) j) x y))))
     (or_second_false lost around u))
 
-pub steady_still : (f g : Facts) (n : ℕ) → Stays f g n → StaysSteady f g n
+steady_still : (f g : Facts) (n : ℕ) → Stays f g n → (s b : ℕ) → s < n → is_steady f s b ≡ true → is_steady g s b ≡ true
 steady_still f g n w s b h e =
     let shared = shares f s b && is_changed_outside f s b in
     let abroad = not (holds f.homes s b) && is_changed f s in
     let was = was_steady (is_changed f s) (foreign_always f s) shared abroad (may_be_unset f s b) e in
     let set = was_set (is_changed f s) (foreign_always f s) shared abroad (may_be_unset f s b) e in
     is_steady_still (is_changed g s) (foreign_always g s) (shares g s b) (is_changed_outside g s b) (holds g.homes s b) (may_be_unset g s b)
-    (now_steady (is_unsteady f s) (is_unsteady g s) (stays_set f g s) (stays_bound (slice_index_or f.functions s []) (slice_index_or g.functions s [])) (w.symbols s h) was)
+    (now_steady (is_unsteady f s) (is_unsteady g s) (stays_set f g s) (stays_bound (slice_index_or f.functions s []) (slice_index_or g.functions s [])) (and_left (symbol_stays f g s) (stays_unshared f g s) (w.symbols s h)) was)
     (outside_nothing (mentioned_at g.given s) (mentioned_at g.written s) b)
     (set_in f g n s b w h was set)
 
+-- what isn't lexical, and steady, doesn't become lexical
+
+not_lexical : (lf lg sf rest : Bool) → (not lg || (lf && rest)) ≡ true → not lf ≡ true → not lg ≡ true
+not_lexical lf false sf rest e h = refl
+not_lexical true true sf rest e h = absurd (false≢true h)
+not_lexical false true sf rest e h = absurd (false≢true e)
+
+initial_still : (f g : Facts) (n : ℕ) → Stays f g n → (s b : ℕ) → s < n → is_initial f s b ≡ true → is_initial g s b ≡ true
+initial_still f g n w s b h e =
+    let shared = shares f s b && is_changed_outside f s b in
+    let abroad = not (holds f.homes s b) && is_changed f s in
+    let steady = and_left (is_steady f s b) (not (mark_at f.lexical s)) e in
+    let was = was_steady (is_changed f s) (foreign_always f s) shared abroad (may_be_unset f s b) steady in
+    let sets = now_set (is_unsteady f s) (is_unsteady g s) (stays_set f g s) (stays_bound (slice_index_or f.functions s []) (slice_index_or g.functions s [])) (and_left (symbol_stays f g s) (stays_unshared f g s) (w.symbols s h)) was in
+    and_both (is_steady g s b) (not (mark_at g.lexical s)) (steady_still f g n w s b h steady)
+    (not_lexical (mark_at f.lexical s) (mark_at g.lexical s) (mark_at f.switched s) (mark_at f.switched s || (not (mark_at g.switched s) && homes_stay f g s)) sets (and_after (is_steady f s b) (not (mark_at f.lexical s)) e))
+
+-- ---- what isn't shared
+
+outside_still : (m l : Mentioned) (b : ℕ) → is_widely m ≡ false → stays_alone m l ≡ true → is_outside m b ≡ false → is_outside l b ≡ false
+outside_still mentioned.Widely l b v e h = absurd (false≢true (sym v))
+outside_still mentioned.Nowhere mentioned.Nowhere b v e h = refl
+outside_still mentioned.Nowhere (mentioned.In j) b v e h = absurd (false≢true e)
+outside_still mentioned.Nowhere mentioned.Widely b v e h = absurd (false≢true e)
+outside_still (mentioned.In k) mentioned.Nowhere b v e h = refl
+outside_still (mentioned.In k) (mentioned.In j) b v e h = ap (λ i. is_outside (mentioned.In i) b) (sym (eqb-true k j e)) ∙ h
+outside_still (mentioned.In k) mentioned.Widely b v e h = absurd (false≢true e)
+
+wide_outside : (m : Mentioned) (b : ℕ) → is_outside m b ≡ false → is_widely m ≡ false
+wide_outside mentioned.Nowhere b h = refl
+wide_outside (mentioned.In k) b h = refl
+wide_outside mentioned.Widely b h = absurd (false≢true (sym h))
+
+not_false : (b : Bool) → not b ≡ true → b ≡ false
+not_false true e = absurd (false≢true e)
+not_false false e = refl
+
+-- of two looks: whether it is shared by all, whether it stands widely, and whether it stays alone
+alone_still : (a w c s : Bool) → a ≡ false → w ≡ false → (a || w || (not c && s)) ≡ true → (c ≡ false) × (s ≡ true)
+alone_still true w c s e f h = absurd (false≢true (sym e))
+alone_still false true c s e f h = absurd (false≢true (sym f))
+alone_still false false true s e f h = absurd (false≢true h)
+alone_still false false false s e f h = (refl, h)
+
+unshared_still : (f g : Facts) (n : ℕ) → Stays f g n → (s b : ℕ) → s < n → is_unshared f s b ≡ true → is_unshared g s b ≡ true
+unshared_still f g n w s b h e =
+    let before = mentioned_at f.mentioned s in
+    let after = mentioned_at g.mentioned s in
+    let apart = not_false (shares f s b) e in
+    let always = or_first_false (shared_always f s) (is_outside before b) apart in
+    let inside = or_second_false (shared_always f s) (is_outside before b) apart in
+    let wide = wide_outside before b inside in
+    let (still, alone) = alone_still (shared_always f s) (is_widely before) (shared_always g s) (stays_alone before after) always wide (and_after (symbol_stays f g s) (stays_unshared f g s) (w.symbols s h)) in
+    ap not (both_false (shared_always g s) (is_outside after b) still (outside_still before after b wide alone inside))
+
+-- ---- `this`
+
+unmarked_still : (a b : Bool) → (b ≡ true → a ≡ true) → not a ≡ true → not b ≡ true
+unmarked_still a false h e = refl
+unmarked_still true true h e = absurd (false≢true e)
+unmarked_still false true h e = absurd (false≢true (h refl))
+
+pub told_still : (f g : Facts) (n : ℕ) → Stays f g n → StaysTold f g n
+told_still f g n w = record {
+  steady = steady_still f g n w;
+  unshared = unshared_still f g n w;
+  initial = initial_still f g n w;
+  has_this = λ b. unmarked_still (mark_at f.asking b) (mark_at g.asking b) (w.asking b);
+}
+
 pub steady_told : (f : Facts) (n : ℕ) (t : Tree) → Looked f n t → (s b : ℕ) → s < n → is_steady f s b ≡ (not (list_any (is_write (named s)) (all_writes t)) && not (is_foreign t b (named s)))
 steady_told f n t w s b h = ap (λ v. not v && not (foreign f s b)) (changed_told f n t w s h) ∙ ap (λ v. not (list_any (is_write (named s)) (all_writes t)) && not v) (tables_foreign f n t w s b h)
+
+pub bodies_told : (f : Facts) (n : ℕ) (t : Tree) → Told f n t → TellsBodies f n t
+bodies_told f n t w = record {
+  steady = steady_told f n t w.looked;
+  unshared = λ s b h. ap not (tables_share f n t w.looked s b h);
+  initial = λ s b h. (λ i. steady_told f n t w.looked s b h i && not (w.looked.lexical_told s h i));
+  has_this = λ b. ap not (w.asking_told b);
+}
 
 -- ---- a second look
 
 -- which names were a script's top names at first is no matter
 stays_anyhow : (a b : Look) (ts us vs ws : List Bool) (n : ℕ) → Stays (facts_of a ts) (facts_of b us) n → Stays (facts_of a vs) (facts_of b ws) n
-stays_anyhow a b ts us vs ws n w = record { symbols = w.symbols; functions = w.functions }
+stays_anyhow a b ts us vs ws n w = record { symbols = w.symbols; asking = w.asking; functions = w.functions }
 
 answers_anyhow : (v : Bool) (a b : Look) (ts us vs ws : List Bool) (n : ℕ) → Answers v (Stays (facts_of a ts) (facts_of b us) n) → Answers v (Stays (facts_of a vs) (facts_of b ws) n)
 answers_anyhow v a b ts us vs ws n w = record { yes = λ e. stays_anyhow a b ts us vs ws n (w.yes e); no = λ s. w.no (stays_anyhow a b vs ws ts us n s) }
@@ -248,8 +329,25 @@ renewed_by v a b tops n t e k w =
     let f = facts_of a tops in
     let g = facts_of b tops in
     let answers = subst (λ m. Answers v (Stays f g m)) e (answers_anyhow v a b [] [] tops tops n w) in
-    record { refreshed = refreshed_by f g n t e refl k; answers = answers; steady = λ x. steady_still f g (length f.reads) (answers.yes x) }
+    record { refreshed = refreshed_by f g n t e refl k; answers = answers; stays = λ x. told_still f g (length f.reads) (answers.yes x) }
 
 pub known_by : (r : Result Bool OutOfMemory) (c d : TraverseCtx) (t : Tree) → OnOk r (d.options ≡ c.options) → IfOk r (λ v. Renewed v c.scopes d.scopes t) → OnOk r (KnowsAnew Knows c d t)
 known_by (Ok v) c d t e w = λ o q k. known_anew c d o q t e w.refreshed k
 known_by (Err x) c d t e w = tt
+
+-- ---- marks
+
+pub mark_answered : (v a b : Bool) → v ≡ (not b || a) → Answers v (b ≡ true → a ≡ true)
+mark_answered v a false e = record { yes = λ x h. absurd (false≢true h); no = λ h. e }
+mark_answered v a true e = record { yes = λ x h. sym e ∙ x; no = λ h. e ∙ h refl }
+
+-- past the end of a table there is none
+pub marks_yes : (es ls : List Bool) (n : ℕ) → length ls ≤ n → ((b : ℕ) → b < n → mark_at ls b ≡ true → mark_at es b ≡ true) → (b : ℕ) → mark_at ls b ≡ true → mark_at es b ≡ true
+marks_yes es ls n h f b e = f b (omega (arith, h, within ls b e)) e
+
+pub one_more_mark : (es ls : List Bool) (n : ℕ) → ((b : ℕ) → b < n → mark_at ls b ≡ true → mark_at es b ≡ true) → (mark_at ls n ≡ true → mark_at es n ≡ true) → (b : ℕ) → b < n + 1 → mark_at ls b ≡ true → mark_at es b ≡ true
+one_more_mark es ls n f g b h = by (nat_eq b n) refl
+  where
+    by : (v : Bool) → nat_eq b n ≡ v → mark_at ls b ≡ true → mark_at es b ≡ true
+    by true e = subst (λ k. mark_at ls k ≡ true → mark_at es k ≡ true) (sym (eqb-true b n e)) g
+    by false e = f b (below b n (omega (arith, h)) e)

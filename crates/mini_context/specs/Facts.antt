@@ -17,7 +17,9 @@ use Rattle.mini_laws.specs.Foreign.{imported_names, is_declared_in, is_read_earl
 use Rattle.mini_context.specs.Outside.{is_mentioned_outside}
 use Rattle.mini_context.specs.Tables.{mark_at, named}
 use Rattle.mini_context.specs.Visits.{is_writing}
-use Rattle.mini_context.specs.Holders.{Writables}
+use Rattle.mini_context.specs.Holders.{AllBelow, Writables}
+use Rattle.mini_context.specs.Asking.{asks_as}
+use Rattle.mini_laws.specs.Bodies.{bodies_in}
 
 -- by symbol: how often it is read, and written; whether it can't be written; whether it was one of a script's top names when the
 -- program was resolved; its scope; whether it is a top name; whether a direct eval can see it; whether a module imports or exports
@@ -25,7 +27,8 @@ use Rattle.mini_context.specs.Holders.{Writables}
 -- directly in a `switch`; whether it is a parameter of `catch`, and whether it is a `var` under one of its name; where it is
 -- mentioned, where a reference writes it, and where a `var` does; in which bodies it is bound, and which
 -- read it before its declaration has ended; the functions whose parameters bind it; whether it is mentioned and can be written. By scope: whether its code
--- is strict; whether a direct eval stands in it. By body: whether `this` is an event in it; whether it has an `arguments`; the functions in whose parameters it stands
+-- is strict; whether a direct eval stands in it. By body: whether `this` is an event in it; whether it has an `arguments`; the functions in whose parameters it stands;
+-- whether it asks the world for `this`
 pub record Facts : Type 0 where
   pub reads : List ℕ
   pub writes : List ℕ
@@ -54,10 +57,11 @@ pub record Facts : Type 0 where
   pub this_events : List Bool
   pub arguments : List Bool
   pub enclosed : List (List ℕ)
+  pub asking : List Bool
 
 -- what a look at a program found, beside a script's top names when it was resolved
 abbrev pub facts_of : Look → List Bool → Facts
-facts_of b tops = record { reads = b.counts.reads.items; writes = b.counts.writes.items; fixed = b.tables.fixed.items; tops = tops; owners = b.scopes.owners.items; now_top = b.tops.items; seen = b.scopes.seen.items; exchanged = b.tables.exchanged.items; imported = b.tables.imported.items; reached = b.tables.reached.items; patterns = b.tables.patterns.items; lexical = b.tables.lexical.items; switched = b.tables.switched.items; params = b.tables.params.items; caught = b.tables.caught.items; mentioned = b.tables.mentioned.items; written = b.tables.written.items; given = b.given.items; homes = b.tables.homes.items; early = b.moments.early.items; functions = b.tables.enclosing.by_symbol.items; writable = b.writable.items; strict = b.scopes.strict.items; evals = b.scopes.evals.items; this_events = b.tables.this_events.items; arguments = b.tables.arguments.items; enclosed = b.tables.enclosing.by_number.items }
+facts_of b tops = record { reads = b.counts.reads.items; writes = b.counts.writes.items; fixed = b.tables.fixed.items; tops = tops; owners = b.scopes.owners.items; now_top = b.tops.items; seen = b.scopes.seen.items; exchanged = b.tables.exchanged.items; imported = b.tables.imported.items; reached = b.tables.reached.items; patterns = b.tables.patterns.items; lexical = b.tables.lexical.items; switched = b.tables.switched.items; params = b.tables.params.items; caught = b.tables.caught.items; mentioned = b.tables.mentioned.items; written = b.tables.written.items; given = b.given.items; homes = b.tables.homes.items; early = b.moments.early.items; functions = b.tables.enclosing.by_symbol.items; writable = b.writable.items; strict = b.scopes.strict.items; evals = b.scopes.evals.items; this_events = b.tables.this_events.items; arguments = b.tables.arguments.items; enclosed = b.tables.enclosing.by_number.items; asking = b.asking.items }
 
 -- of so many symbols they say what is shared, and what is foreign, in a tree
 pub record Looked (f : Facts) (n : ℕ) (t : Tree) : Type 0 where
@@ -90,6 +94,10 @@ pub record Told (f : Facts) (n : ℕ) (t : Tree) : Type 0 where
   pub arguments_told : (b : ℕ) → mark_at f.arguments b ≡ has_arguments t b
   -- of any symbol
   pub writable_told : Writables t f.writable
+  -- of any number
+  pub asking_told : (b : ℕ) → mark_at f.asking b ≡ list_any (asks_as b) (bodies_in t)
+  -- the tables have room for each symbol
+  pub whole : AllBelow n t
   pub looked : Looked f n t
 
 -- they are those of a tree that was just resolved
@@ -106,11 +114,12 @@ pub record Refreshed (old new : Facts) (t : Tree) : Type 0 where
 abbrev pub written_in_catch : Facts → ℕ → Bool
 written_in_catch f s = mark_at f.params s && is_somewhere (mentioned_at f.given s)
 
--- whether a body shares the symbol with a number, as the tables tell it
+-- whether every body that mentions it shares the symbol with a number, and whether a body does, as the tables tell it
+abbrev pub shared_always : Facts → ℕ → Bool
+shared_always f s = mark_at f.now_top s || mark_at f.exchanged s || mark_at f.seen s || mark_at f.reached s || mark_at f.caught s || written_in_catch f s
+
 abbrev pub shares : Facts → ℕ → ℕ → Bool
-shares f s b =
-    (mark_at f.now_top s || mark_at f.exchanged s || mark_at f.seen s || mark_at f.reached s || mark_at f.caught s || written_in_catch f s)
-    || is_outside (mentioned_at f.mentioned s) b
+shares f s b = shared_always f s || is_outside (mentioned_at f.mentioned s) b
 
 -- whether something writes the symbol, and whether another body than this or a carried node does
 abbrev pub is_changed : Facts → ℕ → Bool

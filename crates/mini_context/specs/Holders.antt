@@ -1,5 +1,5 @@
 -- By shape, whose names a node declares or binds, and which of them can't be written; and tables of marks by symbol.
-use Rattle.std.specs.Prelude.{ℕ, ◌≡◌, Bool, true, false, ◌&&◌, ◌||◌, not, List, [], ◌++◌, Option, Some, None, if◌then◌else◌}
+use Rattle.std.specs.Prelude.{ℕ, ◌≡◌, ◌<◌, Bool, true, false, ◌&&◌, ◌||◌, not, List, [], ◌++◌, Option, Some, None, if◌then◌else◌}
 use Rattle.mini_model.specs.declared.kind.VariableDeclarationKind.TheVariants.{Const, Var}
 use Rattle.mini_model.specs.declared.operator.UnaryOperator.TheVariants.{LogicalNot}
 use Rattle.mini_model.specs.declared.shape.Shape.{Shape}
@@ -14,7 +14,7 @@ use Rattle.mini_context.specs.declared.writable.Holder.TheVariants as holder
 use Rattle.mini_context.specs.declared.writable.ClassPlace.{ClassPlace}
 use Rattle.mini_context.specs.declared.writable.ClassPlace.TheVariants as class
 use Rattle.mini_context.specs.Tables.{mark_at}
-use Rattle.mini_laws.specs.Writable.{writable_in}
+use Rattle.mini_laws.specs.Writable.{mentions, writable_in}
 
 -- ---- by shape
 
@@ -115,3 +115,7 @@ TakenAll ys old new = (s : ℕ) → mark_at new s ≡ (mark_at old s && not (has
 -- the marks are those of the symbols that a program mentions and lets be written
 abbrev pub Writables : Tree → List Bool → Type 0
 Writables t marks = (s : ℕ) → mark_at marks s ≡ writable_in t (value.Declared s)
+
+-- each symbol that a program mentions is below this number
+abbrev pub AllBelow : ℕ → Tree → Type 0
+AllBelow n t = (s : ℕ) → mentions t (value.Declared s) ≡ true → s < n

@@ -1,3 +1,4 @@
+pub mod Asking
 pub mod Own
 pub mod Tallies
 pub mod Tables

@@ -41,8 +41,8 @@ fn reference_count(node: &Node) -> u64
 impl TraverseCtx {
     ghost use Rattle.mini_context.specs.Known.{Knows};
 
-    /// Looks at a program as `refresh` does, and tells whether each symbol that was steady in a body is steady there in this
-    /// program: nothing writes it, and it isn't foreign to the body. The only error is that memory runs out, and then the context
+    /// Looks at a program as `refresh` does, and tells whether all that was told of each body is so in this program: which
+    /// symbols are steady there, which it begins with, which it doesn't share, and that it has a `this`. The only error is that memory runs out, and then the context
     /// is fit only to be dropped.
     pub fn renew(&mut self, alloc: Global, program: &Node) -> Result<bool, OutOfMemory>
         ensures knows { OnOk result (KnowsAnew Knows self.old self.new program.now) }

@@ -1,6 +1,6 @@
 //! Laws of counts. Each is the contract of a function that does nothing.
 
-ghost use Rattle.mini_context.specs.Steady.{StayingTells, SteadyTells};
+ghost use Rattle.mini_context.specs.Steady.{BodiesTold, StayingTells, SteadyTells};
 ghost use Rattle.mini_context.specs.Laws.{CountsTell, DeclaratorsTell, ForeignTells, NamesTell, RefreshTells, SharesTell, TablesTell, UsesTell};
 
 /// The counts by symbol of a tree are how often each symbol is read, and how often it is written.
@@ -33,7 +33,12 @@ pub fn steady_tells()
     ensures { SteadyTells }
 {}
 
-/// What stays from one look to the next is steady where it was.
+/// They tell all that is told of bodies.
+pub fn bodies_told()
+    ensures { BodiesTold }
+{}
+
+/// What stays from one look to the next is told where it was.
 pub fn staying_tells()
     ensures { StayingTells }
 {}

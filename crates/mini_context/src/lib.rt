@@ -3,6 +3,7 @@
 //! rewrites ask it, whose counts follow what they drop.
 #![tactic(auto)]
 
+mod asking;
 mod catching;
 mod context;
 mod count;
@@ -32,8 +33,8 @@ mod writable;
 pub use context::{Parent, TraverseCtx};
 pub use count::{Counts, Tally, fresh_counts, tally_node};
 pub use laws::{
-    counts_tell, declarators_tell, foreign_tells, names_tell, refresh_tells, shares_tell,
-    staying_tells, steady_tells, tables_tell, uses_tell,
+    bodies_told, counts_tell, declarators_tell, foreign_tells, names_tell, refresh_tells,
+    shares_tell, staying_tells, steady_tells, tables_tell, uses_tell,
 };
 pub use refreshing::refresh;
 pub use resolution::resolve;

@@ -23,8 +23,7 @@ pub fn refresh(alloc: Global, program: &Node, context: &mut TraverseCtx) -> Resu
     context.scopes.refresh(alloc, program)
 }
 
-/// Does so, and tells whether each symbol that was steady in a body is steady there in this
-/// program.
+/// Does so, and tells whether all that was told of each body is so in this program.
 pub fn renew(alloc: Global, program: &Node, context: &mut TraverseCtx) -> Result<bool, OutOfMemory>
     requires { length (references variant.Read program.now) + 1 < 2 ^ 32 }
     ensures renewed { IfOk result (λ answer. Renewed answer context.old.scopes context.new.scopes program.now) }

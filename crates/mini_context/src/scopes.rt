@@ -6,15 +6,16 @@ ghost use Rattle.mini_laws.specs.References.{references, reads as is_read, write
 ghost use Rattle.mini_laws.specs.Shared.{script_tops as script_tops_of};
 ghost use Rattle.mini_context.specs.Mentioned.{is_outside as is_outside_of, mentioned_at as entry_at};
 ghost use Rattle.mini_context.specs.Own.{is_script_shape};
-ghost use Rattle.mini_context.specs.Facts.{Refreshed, Tells, Told, facts_of, foreign, foreign_always, is_changed as changes, is_changed_outside, may_be_unset, shares, written_in_catch};
+ghost use Rattle.mini_context.specs.Facts.{Refreshed, Tells, Told, facts_of, foreign, foreign_always, is_changed as changes, is_changed_outside, may_be_unset, shared_always, shares};
 ghost use Rattle.mini_context.specs.Found.{Found, FoundScopes};
 ghost use Rattle.mini_laws.specs.Foreign.{is_read_early, moments as moments_of};
 ghost use Rattle.mini_laws.specs.Mentions.{outermost};
 ghost use Rattle.mini_context.specs.Lists.{holds};
-ghost use Rattle.mini_context.specs.Steady.{is_steady as steady, Renewed};
+ghost use Rattle.mini_context.specs.Steady.{has_this as this_held, is_initial as initial, is_past as past, is_steady as steady, is_unshared as unshared, Renewed};
 ghost use Rattle.mini_context.specs.Tables.{mark_at, named, Marked};
 ghost use Rattle.mini_laws.specs.Counts.{Contained, FellBy};
 
+use crate::asking::list_asking;
 use crate::count::{Counts, count_out, no_counts, own_counts};
 use crate::early::{Moments, empty_moments, open_moments, pass_node};
 use crate::listing::{ScopeTables, empty_scopes, has_eval, list_scopes, open_scopes};
@@ -23,7 +24,7 @@ use crate::marks::{is_marked, mark_bindings, no_marks};
 use crate::mentions::{Mentioned, is_outside, mentioned_at, no_mentions};
 use crate::params::is_around;
 use crate::standing::{at_top, first_reading};
-use crate::steady::{is_changed, is_foreign_always, is_written_in_catch, look_stays};
+use crate::steady::{is_changed, is_foreign_always, is_shared_always, look_stays};
 use crate::steps::Steps;
 use crate::survey::{Tables, empty_tables, open_tables, survey_node};
 use crate::writable::mark_writable;
@@ -59,6 +60,8 @@ pub struct Look {
     pub tops: Vec<bool>,
     /// The names that are mentioned and can be written.
     pub writable: Vec<bool>,
+    /// The bodies that ask the world for `this`.
+    pub asking: Vec<bool>,
 }
 
 /// What is known of the names of a program. A contract sees it as lists, by symbol, by scope and by body. Scopes have the
@@ -170,10 +173,12 @@ fn no_look(alloc: Global) -> Look {
         moments: empty_moments(alloc),
         tops: Vec::new(alloc),
         writable: Vec::new(alloc),
+        asking: Vec::new(alloc),
     }
 }
 
-// Sets what is known of the names of a program with so many symbols.
+// Sets what is known of the names of a program with so many symbols. Memory counts as run out where it mentions a symbol past these, which no program that was
+// resolved does, and nothing that is made of one.
 fn look_at(look: &mut Look, alloc: Global, program: &Node, symbols: u32) -> Result<(), OutOfMemory>
     requires { length (references variant.Read program.now) + 1 < 2 ^ 32 }
     ensures { (tops : List Bool) → OnOk result (Told (facts_of look.new tops) symbols program.now) }
@@ -182,7 +187,11 @@ fn look_at(look: &mut Look, alloc: Global, program: &Node, symbols: u32) -> Resu
     survey_program(alloc, &mut look.tables, program, symbols)?;
     list_program(alloc, &mut look.scopes, &mut look.given, program, symbols)?;
     pass_program(alloc, &mut look.moments, program, symbols)?;
-    mark_writable(alloc, &mut look.writable, program)?;
+    let room = mark_writable(alloc, &mut look.writable, program)?;
+    if room > symbols as usize {
+        return Err(OutOfMemory);
+    }
+    list_asking(alloc, &mut look.asking, program)?;
     mark_tops(alloc, &mut look.tops, program, symbols)
 }
 
@@ -211,7 +220,8 @@ impl Scopes {
         }
     }
 
-    /// Does so, and tells whether each symbol that was steady in a body is steady there in this program.
+    /// Does so, and tells whether all that was told of each body is so in this program: which symbols are steady there, which it begins with,
+    /// which it doesn't share, and that it has a `this`.
     pub fn renew(&mut self, alloc: Global, program: &Node) -> Result<bool, OutOfMemory>
         requires { length (references variant.Read program.now) + 1 < 2 ^ 32 }
         ensures { IfOk result (λ answer. Renewed answer self.old self.new program.now) }
@@ -240,11 +250,39 @@ impl Scopes {
         answer
     }
 
+    /// Whether there is no room for the symbol: the program that was looked at last doesn't mention it.
+    pub fn is_past(&self, symbol: SymbolId) -> bool
+        ensures { result ≡ past self.now symbol.0 }
+    {
+        symbol.0 as usize >= self.look.counts.reads.len()
+    }
+
     /// Whether the symbol is steady in the body with this number: nothing writes it, and it isn't foreign to the body.
     pub fn is_steady(&self, symbol: SymbolId, body: u32) -> bool
         ensures { result ≡ steady self.now symbol.0 body }
     {
         !self.is_changed(symbol.0) && !self.is_foreign(symbol, body)
+    }
+
+    /// Whether no event of the body with this number shows the symbol: the body doesn't share it.
+    pub fn is_unshared(&self, symbol: SymbolId, body: u32) -> bool
+        ensures { result ≡ unshared self.now symbol.0 body }
+    {
+        !self.is_shared(symbol, body)
+    }
+
+    /// Whether the symbol is steady in the body with this number, and initialised as that begins. Of a lexical name it never answers true.
+    pub fn is_initial(&self, symbol: SymbolId, body: u32) -> bool
+        ensures { result ≡ initial self.now symbol.0 body }
+    {
+        self.is_steady(symbol, body) && !is_marked(self.look.tables.lexical.as_slice(), symbol.0)
+    }
+
+    /// Whether no body with this number asks the world for `this`. (ECMA-262, "ResolveThisBinding".)
+    pub fn has_this(&self, body: u32) -> bool
+        ensures { result ≡ this_held self.now body }
+    {
+        !is_marked(self.look.asking.as_slice(), body)
     }
 
     /// How often the symbol is read: export specifiers, compound targets and updates are among that.
@@ -332,14 +370,9 @@ impl Scopes {
     }
 
     fn is_shared_always(&self, symbol: u32) -> bool
-        ensures { result ≡ (mark_at self.now.now_top symbol || mark_at self.now.exchanged symbol || mark_at self.now.seen symbol || mark_at self.now.reached symbol || mark_at self.now.caught symbol || written_in_catch self.now symbol) }
+        ensures { result ≡ shared_always self.now symbol }
     {
-        is_marked(self.look.tops.as_slice(), symbol)
-            || is_marked(self.look.tables.exchanged.as_slice(), symbol)
-            || is_marked(self.look.scopes.seen.as_slice(), symbol)
-            || is_marked(self.look.tables.reached.as_slice(), symbol)
-            || is_marked(self.look.tables.caught.as_slice(), symbol)
-            || is_written_in_catch(&self.look, symbol)
+        is_shared_always(&self.look, symbol)
     }
 
     /// Whether the symbol is foreign to the body with this number: others may change it while the body runs, or it may be

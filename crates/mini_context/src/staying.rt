@@ -1,9 +1,10 @@
-//! Functions in whose parameters bodies stand, compared from one look at a program to the next.
+//! Functions in whose parameters bodies stand, and marks of bodies, compared from one look at a program to the next.
 
 ghost use Rattle.std.specs.Prelude.{◌≡◌, ℕ, ◌<◌, ◌||◌, ◌&&◌, nat_eq, true, [], length, slice_index_or, OnOk};
 ghost use Rattle.std.specs.List.{list_all, list_any};
 ghost use Rattle.mini_context.specs.Lists.{holds};
-ghost use Rattle.mini_context.specs.Steady.{is_no_number, is_this, only_of, stays_bound as stays_bound_in};
+ghost use Rattle.mini_context.specs.Steady.{is_no_number, is_this, only_of, stays_bound as stays_bound_in, Answers};
+ghost use Rattle.mini_context.specs.Tables.{mark_at};
 
 use crate::lists::has_number;
 use crate::params::put_own;
@@ -139,4 +140,33 @@ pub fn put_origin(
         },
         None => Ok(()),
     }
+}
+
+// Whether there is a mark; past the end of the table there is none.
+fn is_set(marks: &[bool], at: usize) -> bool
+    ensures { result ≡ mark_at marks.now at }
+{
+    match marks.get(at) {
+        Some(mark) => *mark,
+        None => false,
+    }
+}
+
+// Where there is a mark later there was one earlier.
+fn mark_stays(earlier: &[bool], later: &[bool], at: usize) -> bool
+    ensures { Answers result (mark_at later.now at ≡ true → mark_at earlier.now at ≡ true) }
+{
+    !is_set(later, at) || is_set(earlier, at)
+}
+
+/// Whether each later mark was there earlier.
+pub fn marks_stay(earlier: &[bool], later: &[bool]) -> bool
+    ensures { Answers result ((b : ℕ) → mark_at later.now b ≡ true → mark_at earlier.now b ≡ true) }
+{
+    for at in 0..later.len() {
+        if !mark_stays(earlier, later, at) {
+            return false;
+        }
+    }
+    true
 }

@@ -1,17 +1,17 @@
-//! Whether names stay steady from one look at a program to the next.
+//! Whether what is told of bodies stays so from one look at a program to the next.
 
-ghost use Rattle.std.specs.Prelude.{◌≡◌, ℕ, ◌||◌, [], false, OnOk, IfOk};
+ghost use Rattle.std.specs.Prelude.{◌≡◌, ℕ, ◌||◌, [], true, false, OnOk, IfOk};
 ghost use Rattle.std.specs.List.{list_all};
-ghost use Rattle.mini_context.specs.Facts.{facts_of, foreign_always, is_changed as changes, written_in_catch};
+ghost use Rattle.mini_context.specs.Facts.{facts_of, foreign_always, is_changed as changes, shared_always, written_in_catch};
 ghost use Rattle.mini_context.specs.Lists.{holds};
 ghost use Rattle.mini_context.specs.Tables.{mark_at};
-ghost use Rattle.mini_context.specs.Steady.{has_origin, home_stays as stays_home, homes_stay as stay_homes, is_origin, is_unsteady as unsteady, stays_set as set_stays, symbol_stays as stays_symbol, Answers, FunctionsStay, Stays, SymbolsStay};
+ghost use Rattle.mini_context.specs.Steady.{has_origin, home_stays as stays_home, homes_stay as stay_homes, is_origin, is_unsteady as unsteady, is_widely as stands_widely, all_stays as stays_all, stays_alone as alone_stays, stays_set as set_stays, stays_unshared as unshared_stays, symbol_stays as stays_symbol, Answers, AskingStays, FunctionsStay, Stays, SymbolsStay};
 
 use crate::lists::holds_number;
 use crate::marks::is_marked;
-use crate::mentions::{is_somewhere, mentioned_at};
+use crate::mentions::{Mentioned, is_somewhere, mentioned_at};
 use crate::scopes::Look;
-use crate::staying::{bodies_stay, only_at, put_origin, stays_bound};
+use crate::staying::{bodies_stay, marks_stay, only_at, put_origin, stays_bound};
 use mini_model::{OutOfMemory, OwnedList};
 use std::alloc::Global;
 
@@ -40,6 +40,18 @@ pub fn is_foreign_always(look: &Look, symbol: u32) -> bool
         || is_marked(look.scopes.seen.as_slice(), symbol)
         || is_marked(look.tables.reached.as_slice(), symbol)
         || is_marked(look.tables.patterns.as_slice(), symbol)
+        || is_written_in_catch(look, symbol)
+}
+
+/// Whether every body shares the symbol that mentions it.
+pub fn is_shared_always(look: &Look, symbol: u32) -> bool
+    ensures { result ≡ shared_always (facts_of look.now []) symbol }
+{
+    is_marked(look.tops.as_slice(), symbol)
+        || is_marked(look.tables.exchanged.as_slice(), symbol)
+        || is_marked(look.scopes.seen.as_slice(), symbol)
+        || is_marked(look.tables.reached.as_slice(), symbol)
+        || is_marked(look.tables.caught.as_slice(), symbol)
         || is_written_in_catch(look, symbol)
 }
 
@@ -117,11 +129,53 @@ fn symbol_stays(earlier: &Look, later: &Look, symbol: u32) -> bool
                 )))
 }
 
+fn is_widely(mentioned: Mentioned) -> bool
+    ensures { result ≡ stands_widely mentioned }
+{
+    matches!(mentioned, Mentioned::Widely)
+}
+
+fn stays_alone(earlier: Mentioned, later: Mentioned) -> bool
+    ensures { result ≡ alone_stays earlier later }
+{
+    match earlier {
+        Mentioned::Widely => true,
+        Mentioned::Nowhere => !is_somewhere(later),
+        Mentioned::In(number) => match later {
+            Mentioned::Nowhere => true,
+            Mentioned::In(other) => number == other,
+            Mentioned::Widely => false,
+        },
+    }
+}
+
+fn stays_unshared(earlier: &Look, later: &Look, symbol: u32) -> bool
+    ensures { result ≡ unshared_stays (facts_of earlier.now []) (facts_of later.now []) symbol }
+{
+    let before = mentioned_at(earlier.tables.mentioned.as_slice(), symbol);
+    let after = mentioned_at(later.tables.mentioned.as_slice(), symbol);
+    is_shared_always(earlier, symbol)
+        || is_widely(before)
+        || (!is_shared_always(later, symbol) && stays_alone(before, after))
+}
+
+fn all_stays(earlier: &Look, later: &Look, symbol: u32) -> bool
+    ensures { result ≡ stays_all (facts_of earlier.now []) (facts_of later.now []) symbol }
+{
+    symbol_stays(earlier, later, symbol) && stays_unshared(earlier, later, symbol)
+}
+
+fn asking_stays(earlier: &Look, later: &Look) -> bool
+    ensures { Answers result (AskingStays (facts_of earlier.now []) (facts_of later.now [])) }
+{
+    marks_stay(earlier.asking.as_slice(), later.asking.as_slice())
+}
+
 fn symbols_stay(earlier: &Look, later: &Look, symbols: u32) -> bool
     ensures { Answers result (SymbolsStay (facts_of earlier.now []) (facts_of later.now []) symbols) }
 {
     for symbol in 0..symbols {
-        if !symbol_stays(earlier, later, symbol) {
+        if !all_stays(earlier, later, symbol) {
             return false;
         }
     }
@@ -179,7 +233,7 @@ fn functions_stay(
     ))
 }
 
-/// Whether each of so many symbols that was steady in a body is so in a later look.
+/// Whether all that is told of bodies, of so many symbols, is so in a later look.
 pub fn look_stays(
     alloc: Global,
     earlier: &Look,
@@ -188,7 +242,7 @@ pub fn look_stays(
 ) -> Result<bool, OutOfMemory>
     ensures { IfOk result (λ answer. Answers answer (Stays (facts_of earlier.now []) (facts_of later.now []) symbols)) }
 {
-    if symbols_stay(earlier, later, symbols) {
+    if asking_stays(earlier, later) && symbols_stay(earlier, later, symbols) {
         functions_stay(alloc, earlier, later, symbols)
     } else {
         Ok(false)

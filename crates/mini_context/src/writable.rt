@@ -1,12 +1,12 @@
 //! Which symbols a program mentions and lets be written.
 
-ghost use Rattle.std.specs.Prelude.{◌≡◌, ℕ, ◌&&◌, not, nat_eq, ◌∷◌, [], OnOk};
+ghost use Rattle.std.specs.Prelude.{◌≡◌, ℕ, ◌&&◌, not, nat_eq, ◌∷◌, [], IfOk, OnOk};
 ghost use Rattle.mini_model.specs.Tree.{children};
 ghost use Rattle.mini_node.specs.Children.{names, names_of};
 ghost use Rattle.mini_laws.specs.Naming.{lets_all, summary, summaries};
 ghost use Rattle.mini_laws.specs.Value.{variables};
 ghost use Rattle.mini_context.specs.Tables.{mark_at};
-ghost use Rattle.mini_context.specs.Holders.{class_place as class_place_of, declares_class as is_class_declared, forbidden_holder as forbidden_holder_of, forbidden_in, all_forbidden_in, held_by, class_at, lets_at, lets_holder as lets_holder_of, variables_in, all_variables_in, PutAll, TakenAll, Writables};
+ghost use Rattle.mini_context.specs.Holders.{class_place as class_place_of, declares_class as is_class_declared, forbidden_holder as forbidden_holder_of, forbidden_in, all_forbidden_in, held_by, class_at, lets_at, lets_holder as lets_holder_of, variables_in, all_variables_in, AllBelow, PutAll, TakenAll, Writables};
 
 use crate::survey::mark_number;
 use mini_model::{Name, OutOfMemory, Shape, SymbolId, UnaryOperator, VariableDeclarationKind};
@@ -238,16 +238,19 @@ fn take_all_forbidden(marks: &mut Vec<bool>, nodes: &Nodes)
     }
 }
 
-/// Sets the symbols that a program mentions and lets be written. After `OutOfMemory` they are fit only to be dropped.
+/// Sets the symbols that a program mentions and lets be written, and answers for how many symbols a table has room for each that it
+/// mentions. After `OutOfMemory` they are fit only to be dropped.
 pub fn mark_writable(
     alloc: Global,
     marks: &mut Vec<bool>,
     program: &Node,
-) -> Result<(), OutOfMemory>
-    ensures { OnOk result (Writables program.now marks.new.items) }
+) -> Result<usize, OutOfMemory>
+    ensures marks { OnOk result (Writables program.now marks.new.items) }
+    ensures room { IfOk result (λ room. AllBelow room program.now) }
 {
     *marks = Vec::new(alloc);
     put_node(marks, program)?;
+    let room = marks.len();
     take_forbidden(marks, program);
-    Ok(())
+    Ok(room)
 }

@@ -1,5 +1,5 @@
-use Rattle.mini_context.proofs.Stays.{steady_still}
+use Rattle.mini_context.proofs.Stays.{told_still}
 use Rattle.mini_context.proofs.laws.staying_tells.Goals as goal
 
 pub returns : goal.returns
-returns c = steady_still
+returns c = told_still

@@ -1,4 +1,4 @@
-use Rattle.std.proofs.Common.{refl}
+use Rattle.std.proofs.Common.{refl, arith}
 use Rattle.std.proofs.lemmas.Result.{on_ok_weaker}
 use Rattle.mini_laws.specs.ScopeList.{seen_by_eval}
 use Rattle.mini_laws.specs.Shared.{program_var_writes}
@@ -20,7 +20,9 @@ returns c =
       evals_told = listed.evals;
       this_told = found.this_told;
       arguments_told = found.arguments_told;
-      writable_told = c.in_ok-mark_writable.ensures;
+      writable_told = c.in_ok-room.ensures.marks;
+      asking_told = c.in_ok-list_asking.ensures;
+      whole = λ s h. omega (arith, c.in_ok-room.ensures.room s h, c.if-room-symbols.false);
       looked = record {
         tops_told = from_blank n _ _ _ refl marked;
         seen_told = from_blank n (seen_by_eval t) _ c.list_program.new.scopes.seen.items refl listed.seen;
