@@ -9,7 +9,7 @@ use Rattle.mini_model.specs.declared.kind.PropertyKind.{PropertyKind}
 use Rattle.mini_model.specs.declared.place.Position.{Position}
 use Rattle.mini_model.specs.declared.place.Position.TheVariants.{Stmt}
 use Rattle.mini_model.specs.declared.seat.StmtSeat.{StmtSeat}
-use Rattle.mini_model.specs.Tree.{Tree, Trees}
+use Rattle.mini_model.specs.Tree.{Tree, Trees, shape_of}
 use Rattle.mini_model.specs.Weight.{weight}
 use Rattle.mini_laws.specs.Value.{VariableSet}
 use Rattle.mini_laws.specs.declared.names.Use.TheVariants.{Read}
@@ -19,7 +19,7 @@ use Rattle.mini_laws.specs.Resolved.{Environment}
 use Rattle.mini_laws.specs.Scoped.{Scoped, Unmentioned}
 use Rattle.mini_laws.proofs.Drops.{dropped, moved}
 use Rattle.mini_laws.specs.Naming.{summary}
-use Rattle.mini_laws.specs.Bodies.{Around, bodies}
+use Rattle.mini_laws.specs.Bodies.{Around, bodies, arrow_kind}
 use Rattle.mini_kept.specs.AlikeBodies.{BodiesKept}
 use Rattle.mini_kept.specs.Frames.{frames, FramesKept}
 use Rattle.mini_kept.proofs.BodyLists.{kept_itself}
@@ -126,10 +126,15 @@ module _ (V : VariableSet) where
   at_place G f (Stmt q) n w r = f q n w r
   at_place G f p n w r = absurd r
 
+arrow_kinds : (V : VariableSet) (n w : Tree) → LexicalStatement V n w → arrow_kind (shape_of n) ≡ arrow_kind (shape_of w)
+arrow_kinds V n w (inl r) = ap (λ t. arrow_kind (shape_of t)) r.shape ∙ sym (ap (λ t. arrow_kind (shape_of t)) r.written)
+arrow_kinds V n w (inr r) = ap (λ t. arrow_kind (shape_of t)) r.shape ∙ sym (ap (λ t. arrow_kind (shape_of t)) r.written)
+
 pub lexical_own : LexicalKeepsOwn
 lexical_own V = record {
   means = λ e z p n w r q f. lexical_same V.unshared p n w r e z.unshared q f;
   reads = at_place V.unshared (λ p n w. summary n ≡ summary w) (λ q. statement_reads V.unshared);
+  kind = at_place V.unshared (λ p n w. arrow_kind (shape_of n) ≡ arrow_kind (shape_of w)) (λ q. arrow_kinds V.unshared);
   shapes = kinds_shapes (LexicalRow V.unshared) (lexical_kind V.unshared);
   names = record {
     places = λ p n w r. inl (placed_at p n w (lexical_kind V.unshared p n w r));

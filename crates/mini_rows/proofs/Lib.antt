@@ -124,6 +124,7 @@ pub mod ChoiceLawful
 mod SteadyMeaning
 pub mod SteadyKept
 pub mod SteadyLawful
+pub mod OwnArrowLawful
 pub mod Unbound
 pub mod PastRuns
 pub mod PastParts

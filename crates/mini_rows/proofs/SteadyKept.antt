@@ -8,7 +8,7 @@ use Rattle.mini_model.specs.declared.operator.LogicalOperator.TheVariants.{Or, A
 use Rattle.mini_model.specs.declared.place.Position.{Position}
 use Rattle.mini_model.specs.declared.place.Position.TheVariants.{Expr}
 use Rattle.mini_model.specs.declared.seat.Seat.{Seat}
-use Rattle.mini_model.specs.Tree.{Tree, none, ◌▸◌, logical}
+use Rattle.mini_model.specs.Tree.{Tree, none, ◌▸◌, logical, shape_of}
 use Rattle.mini_model.specs.Position.{left_operand_seat}
 use Rattle.mini_model.specs.Weight.{outline, outlines, weight}
 use Rattle.mini_accept.specs.WellShaped.{Slot, fits}
@@ -25,7 +25,7 @@ use Rattle.mini_rows.proofs.FadingSteps.{same_fades}
 use Rattle.mini_rows.proofs.SteadyMeaning.{steady_same, steady_reads}
 use Rattle.mini_rows.specs.Arranged.{KeptAt}
 use Rattle.mini_rows.specs.Choices.{Key, Named, Spelled, Numbered, member_of, deciding}
-use Rattle.mini_laws.specs.Bodies.{Around, bodies}
+use Rattle.mini_laws.specs.Bodies.{Around, bodies, arrow_kind}
 use Rattle.mini_model.specs.declared.kind.PropertyKind.{PropertyKind}
 use Rattle.mini_rows.specs.Sketches.{Logical, part, under, end, ◌▹◌}
 use Rattle.mini_rows.specs.Spellings.{assignment}
@@ -133,10 +133,15 @@ steady_lightens V = record {
 
 -- ---- all
 
+row_kind : (V : Assured) (p : Position) (n w : Tree) → SteadyRow V p n w → arrow_kind (shape_of n) ≡ arrow_kind (shape_of w)
+row_kind V (Expr s) n w r = ap (λ t. arrow_kind (shape_of t)) r.shape ∙ sym (ap (λ t. arrow_kind (shape_of t)) r.written)
+row_kind V p n w r = absurd r
+
 pub steady_own : (V : Assured) → KeepsOwn V (SteadyRow V)
 steady_own V = record {
   means = λ e z p n w r q f. same_fades V.unshared e z.unshared q n w (steady_same V p n w r e z q f);
   reads = λ p n w r. steady_reads V p n w r;
+  kind = row_kind V;
   shapes = shapes V;
   names = names V;
   fixed = λ p n w r. (kept V p n w r).fixed;

@@ -19,7 +19,7 @@ use Rattle.mini_laws.specs.Naming.{summary, summary_of, summaries, facts, facts_
 use Rattle.mini_laws.specs.Step.{step, means}
 use Rattle.mini_laws.specs.Rows.{SameAt}
 use Rattle.mini_laws.specs.Fixity.{fixed_by}
-use Rattle.mini_laws.specs.Body.{FunctionStatements, body_demand}
+use Rattle.mini_laws.specs.Body.{BodyKind, FunctionStatements, body_demand}
 use Rattle.mini_laws.specs.Bodies.{Around, below, Body, bodies, bodies_from, body_of, arrow_kind}
 use Rattle.mini_laws.specs.Skeleton.{hidden_all, needs, Rules, Sound, TreesGo}
 use Rattle.mini_laws.specs.Fits.{Fits}
@@ -99,7 +99,7 @@ no_frame k h o xs e = refl
 
 module _ (V : Assured) (R : Position → Tree → Tree → Type 0) (k : KeepsOwn V R) where
   mutual
-    forget : {p : Position} {t u : Tree} → OwnStep R p t u → Step R p t u
+    pub forget : {p : Position} {t u : Tree} → OwnStep R p t u → Step R p t u
     forget (own_here p n w r) = here p n w r
     forget (own_inside p h xs ts us b s) = inside p h xs 0 ts us (forget_in s)
 
@@ -108,7 +108,7 @@ module _ (V : Assured) (R : Position → Tree → Tree → Type 0) (k : KeepsOwn
     forget_in (own_later π t ts us s) = later π t ts us (forget_in s)
 
   mutual
-    own_read : {p : Position} {t u : Tree} → OwnStep R p t u → summary t ≡ summary u
+    pub own_read : {p : Position} {t u : Tree} → OwnStep R p t u → summary t ≡ summary u
     own_read (own_here p n w r) = k.reads p n w r
     own_read (own_inside p h xs ts us b s) = ap (λ is. summary_of h (variables xs) 0 is) (own_reads s)
 
@@ -122,7 +122,7 @@ module _ (V : Assured) (R : Position → Tree → Tree → Type 0) (k : KeepsOwn
 
   -- the bodies and frames in it are among those that were there
   mutual
-    own_bodies : {p : Position} {t u : Tree} → OwnStep R p t u → (a : Around) → BodiesKept (bodies a t) (bodies a u)
+    pub own_bodies : {p : Position} {t u : Tree} → OwnStep R p t u → (a : Around) → BodiesKept (bodies a t) (bodies a u)
     own_bodies (own_here p n w r) a = k.bodies p n w r a
     own_bodies (own_inside p h xs ts us b s) a =
         subst₂ BodiesKept (sym (λ i. no_body a h (node h xs 0 ts) ts b i ++ bodies_from (below a h ts) 0 ts)) (ap (λ α. bodies_from α 0 us) (around_same a h s) ∙ sym (λ i. no_body a h (node h xs 0 us) us b i ++ bodies_from (below a h us) 0 us))
@@ -133,7 +133,7 @@ module _ (V : Assured) (R : Position → Tree → Tree → Type 0) (k : KeepsOwn
     own_bodies_in (own_later π t ts us s) α i = each_body (bodies (α i) t) (bodies_from α (suc i) ts) (bodies (α i) t) (bodies_from α (suc i) us) (kept_itself (bodies (α i) t)) (own_bodies_in s α (suc i))
 
   mutual
-    own_frames : {p : Position} {t u : Tree} → OwnStep R p t u → (κ : Option PropertyKind) → FramesKept (frames κ t) (frames κ u)
+    pub own_frames : {p : Position} {t u : Tree} → OwnStep R p t u → (κ : Option PropertyKind) → FramesKept (frames κ t) (frames κ u)
     own_frames (own_here p n w r) κ = k.frames p n w r κ
     own_frames (own_inside p h xs ts us b s) κ =
         subst₂ FramesKept (sym (λ i. no_frame κ h (frame_outline h xs 0 ts) (globals h ts) b i ++ frames_from (property_below h) 0 ts)) (sym (λ i. no_frame κ h (frame_outline h xs 0 us) (globals h us) b i ++ frames_from (property_below h) 0 us))
@@ -170,8 +170,12 @@ module _ (V : Assured) (R : Position → Tree → Tree → Type 0) (k : KeepsOwn
       own_goes_in (own_first π t u ts s) X σ f = place_cons U sound t u ts ts X σ (own_goes s (X 0) (σ 0) (f 0)) (kids_itself ts (λ i. X (suc i)) (λ i. σ (suc i)))
       own_goes_in (own_later π t ts us s) X σ f = place_cons U sound t t ts us X σ (tree_itself V.unshared e z.unshared (X 0) (σ 0) t) (own_goes_in s (λ i. X (suc i)) (λ i. σ (suc i)) (λ i. f (suc i)))
 
-    own_runs : {t u : Tree} → OwnStep R Elsewhere t u → (X : VariableSet) → RunsAs e FunctionStatements FunctionStatements X t u
-    own_runs {t} {u} s X = runs_alike V.unshared e z.unshared FunctionStatements t u (λ r x y f. plain_goes U (body_demand FunctionStatements) t u (own_goes s nothing (body_demand FunctionStatements) tt) r x y f) X
+    pub own_runs : {p : Position} {t u : Tree} → OwnStep R p t u → (b : BodyKind) → Fits p (body_demand b) → (X : VariableSet) → RunsAs e b b X t u
+    own_runs {t = t} {u = u} s b fit X = runs_alike V.unshared e z.unshared b t u (λ r x y f. plain_goes U (body_demand b) t u (own_goes s nothing (body_demand b) fit) r x y f) X
+
+-- bodies that are there stand for themselves
+pub kept_under : (S : BodySets) (W : VariableSet) (bs cs : List Body) → BodiesKept bs cs → BodiesUnder W S nothing bs cs
+kept_under S W bs cs h = more_under nothing W none_steady S nothing nothing (λ x h. absurd (true≢false (sym h))) (λ b. nothing_within (S b)) (λ x h. h) bs cs (from_kept nothing bs cs h)
 
 -- ---- an instance
 
@@ -224,19 +228,16 @@ module _ (F : OwnRows) (keeps : (V : Assured) → KeepsOwn V (F V)) (S : BodySet
   abbrev others : Around → List Body → List Body
   others a bs = bodies (below_it a 0) name ++ (bodies (below_it a 1) ps ++ (bs ++ []))
 
-  kept_under : (bs cs : List Body) → BodiesKept bs cs → BodiesUnder W S nothing bs cs
-  kept_under bs cs h = more_under nothing W none_steady S nothing nothing (λ x h. absurd (true≢false (sym h))) (λ b. nothing_within (S b)) (λ x h. h) bs cs (from_kept nothing bs cs h)
-
   others_kept : (a : Around) → BodiesUnder W S nothing (others a (bodies (below_it a 2) t)) (others a (bodies (below_it a 2) u))
   others_kept a =
       each_under W S nothing (bodies (below_it a 0) name) _ (bodies (below_it a 0) name) _ (itself_under W S nothing (bodies (below_it a 0) name))
       (each_under W S nothing (bodies (below_it a 1) ps) _ (bodies (below_it a 1) ps) _ (itself_under W S nothing (bodies (below_it a 1) ps))
-      (each_under W S nothing (bodies (below_it a 2) t) [] (bodies (below_it a 2) u) [] (kept_under (bodies (below_it a 2) t) (bodies (below_it a 2) u) (own_bodies V (F V) own s (below_it a 2))) tt))
+      (each_under W S nothing (bodies (below_it a 2) t) [] (bodies (below_it a 2) u) [] (kept_under S W (bodies (below_it a 2) t) (bodies (below_it a 2) u) (own_bodies V (F V) own s (below_it a 2))) tt))
 
   whole_bodies : (a : Around) → BodiesUnder W S nothing (bodies a f) (bodies a f')
   whole_bodies a =
       each_under W S nothing (own_body a t) (others a (bodies (below_it a 2) t)) (own_body a u) (others a (bodies (below_it a 2) u))
-      (inl (record { number = refl; kind = inl refl; strict = refl; asks_this = refl; same = λ e z y X g. own_runs V (F V) own e y s X }), tt)
+      (inl (record { number = refl; kind = inl refl; strict = refl; asks_this = refl; same = λ e z y X g. own_runs V (F V) own e y s FunctionStatements tt X }), tt)
       (others_kept a)
 
   whole_steadies : SteadiesWith W S p f f'

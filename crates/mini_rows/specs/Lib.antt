@@ -31,6 +31,7 @@ pub mod Names
 pub mod Catches
 pub mod Writes
 pub mod Steady
+pub mod OwnArrows
 pub mod Past
 pub mod Cases
 pub mod LoopGuards

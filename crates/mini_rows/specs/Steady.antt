@@ -9,7 +9,7 @@ use Rattle.mini_model.specs.declared.place.Position.{Position}
 use Rattle.mini_model.specs.declared.place.Position.TheVariants.{Expr, Stmt, Method, Elsewhere}
 use Rattle.mini_model.specs.declared.shape.Shape.{Shape}
 use Rattle.mini_model.specs.declared.shape.Shape.TheVariants as shape
-use Rattle.mini_model.specs.Tree.{Tree, Trees, node, ◌▸◌, count, logical}
+use Rattle.mini_model.specs.Tree.{Tree, Trees, node, ◌▸◌, count, logical, shape_of}
 use Rattle.mini_model.specs.Position.{child_position}
 use Rattle.mini_laws.specs.Demand.{Demand}
 use Rattle.mini_laws.specs.Fits.{Fits}
@@ -18,7 +18,7 @@ use Rattle.mini_laws.specs.State.{Environment}
 use Rattle.mini_laws.specs.Value.{Variable, Declared, VariableSet, nothing}
 use Rattle.mini_laws.specs.Naming.{summary}
 use Rattle.mini_laws.specs.Fixity.{fixed_by}
-use Rattle.mini_laws.specs.Bodies.{Around, bodies}
+use Rattle.mini_laws.specs.Bodies.{Around, bodies, arrow_kind}
 use Rattle.mini_laws.specs.Weights.{Lightens}
 use Rattle.mini_kept.specs.AlikeBodies.{BodiesKept}
 use Rattle.mini_kept.specs.Declaring.{declared}
@@ -65,6 +65,8 @@ LexicalRows V = LexicalRow V.unshared
 pub record KeepsOwn (V : Assured) (R : Position → Tree → Tree → Type 0) : Type 0 where
   pub means : (e : Environment) → Steadies V e → (p : Position) (n w : Tree) → R p n w → (q : Demand) → Fits p q → Fading V.unshared e q n w
   pub reads : (p : Position) (n w : Tree) → R p n w → summary n ≡ summary w
+  -- as an arrow's body it is of the same kind
+  pub kind : (p : Position) (n w : Tree) → R p n w → arrow_kind (shape_of n) ≡ arrow_kind (shape_of w)
   pub shapes : KeepsShapes R
   pub names : KeepsNames R
   pub fixed : (p : Position) (n w : Tree) → R p n w → (x : Variable) → fixed_by n x ≡ fixed_by w x

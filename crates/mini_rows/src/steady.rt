@@ -1,5 +1,6 @@
 //! The rows that rest on it that names are steady.
 
+ghost use Rattle.mini_rows.specs.OwnArrows.{LexicalCodeIsLawful, LexicalCodeLightens, SteadyCodeIsLawful, SteadyCodeLightens};
 ghost use Rattle.mini_rows.specs.Steady.{SteadyFunctionsAreLawful, SteadyFunctionsLighten, SteadyLightens, SteadyMeansSame};
 
 /// What each row writes means the same wherever the expression stands, in any environment in which no answer changes the variables that
@@ -18,4 +19,16 @@ pub fn steady_names_lighten()
 /// as before where no answer changes them.
 pub fn steady_functions_are_lawful()
     ensures { SteadyFunctionsAreLawful }
+{}
+
+/// What these rows and those of lexical names write in the body of a function or an arrow function keeps all that a program has to keep.
+pub fn own_code_is_lawful()
+    ensures members { SteadyCodeIsLawful }
+    ensures lexical { LexicalCodeIsLawful }
+{}
+
+/// And it is lighter.
+pub fn own_code_lightens()
+    ensures members { SteadyCodeLightens }
+    ensures lexical { LexicalCodeLightens }
 {}
