@@ -126,6 +126,7 @@ pub mod SteadyKept
 pub mod SteadyLawful
 pub mod OwnArrowLawful
 pub mod Unbound
+pub mod PastSpared
 pub mod PastRuns
 pub mod PastParts
 pub mod PastMeaning

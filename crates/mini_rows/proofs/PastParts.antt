@@ -25,14 +25,14 @@ use Rattle.mini_laws.proofs.Truth.{coherent}
 use Rattle.mini_kept.specs.Without.{Unseen}
 use Rattle.mini_terms.specs.Reading.{by_value}
 use Rattle.mini_rows.specs.Sketches.{shape_by}
-use Rattle.mini_rows.specs.Past.{is_held_symbol, is_held, passes_any, are_past, all_past}
+use Rattle.mini_rows.specs.Past.{binds, writes, leaves, is_held_symbol, is_held, passes_any, are_past, all_past}
 use Rattle.mini_rows.specs.Unused.{is_like_one, names, any_names, may_go_on, begins_with, is_constant, resolved}
-use Rattle.mini_rows.proofs.Avoiding as avoiding
 use Rattle.mini_rows.proofs.ItemReads.{item_read}
 use Rattle.mini_rows.proofs.Passing.{Replies, constant_replies}
+use Rattle.mini_rows.proofs.PastSpared.{left_alone}
 use Rattle.mini_rows.proofs.PastRuns.{Held, AllHeld, HeldPath}
 use Rattle.mini_rows.proofs.SingleUse.{Lead, Following, Branching, Failing, Storing, Fielding, head_of, before, Step, led, is_steady, Spared}
-use Rattle.mini_rows.proofs.UnusedNames.{or_parts, avoided}
+use Rattle.mini_rows.proofs.UnusedNames.{or_parts}
 use Rattle.mini_rows.proofs.WriteMeaning.{read_value}
 
 -- what nothing writes, and no answer changes
@@ -93,25 +93,26 @@ module _ (e : Environment) (k : ℕ) (z : Unseen (alone (Declared k)) e) (init :
   -- ---- what passes
 
   module _ (H : VariableSet) (still : Still H e) (ready : Initialised H s) (x : Name) (named : x.symbol ≡ Some (record { 0 = k })) where
-    symbol_held : (spelling : List ℕ) (o : Option SymbolId) → is_held_symbol H o ≡ true → names (record { spelling = spelling; symbol = o }) init ≡ false → is_same x.symbol o ≡ false → (q : Demand) → Replies q → Held e k z init s q (means e (identifier (record { spelling = spelling; symbol = o })) q)
+    not_true : (b : Bool) → not b ≡ true → b ≡ false
+    not_true true e = absurd (true≢false (sym e))
+    not_true false e = refl
+
+    symbol_held : (spelling : List ℕ) (o : Option SymbolId) → is_held_symbol H init (record { spelling = spelling; symbol = o }) o ≡ true → is_same x.symbol o ≡ false → (q : Demand) → Replies q → Held e k z init s q (means e (identifier (record { spelling = spelling; symbol = o })) q)
     unfolding Initialised
-    symbol_held spelling (Some j) h f g =
-        name_held spelling j.0 (still.by j.0 h) (avoiding.spares j.0 init (avoided (resolved spelling j.0) j.0 refl init f) (As Val)) (sym (ap (λ o. is_same o (Some j)) named) ∙ g) (ready (Declared j.0) h)
-    symbol_held spelling None h f g = absurd (true≢false (sym h))
+    symbol_held spelling (Some j) h g =
+        let (a, b) = and_parts (H (Declared j.0)) (leaves init (resolved spelling j.0) j.0) h in
+        let (c, d) = and_parts (not (binds j.0 init)) (not (writes (resolved spelling j.0) init)) b in
+        name_held spelling j.0 (still.by j.0 a) (left_alone (resolved spelling j.0) j.0 refl init (not_true (binds j.0 init) c) (not_true (writes (resolved spelling j.0) init) d) (As Val) tt) (sym (ap (λ o. is_same o (Some j)) named) ∙ g) (ready (Declared j.0) a)
+    symbol_held spelling None h g = absurd (true≢false (sym h))
 
     last_part : (a b : Bool) → ((a || b) || false) ≡ false → b ≡ false
     last_part true b e = absurd (true≢false e)
     last_part false true e = absurd (true≢false e)
     last_part false false e = refl
 
-    not_true : (b : Bool) → not b ≡ true → b ≡ false
-    not_true true e = absurd (true≢false (sym e))
-    not_true false e = refl
-
     held_there : (t : Tree) → is_held H init t ≡ true → names x t ≡ false → (q : Demand) → Replies q → Held e k z init s q (means e t q)
     held_there (node shape.Identifier (y ∷ []) zero none) h f =
-        let (a, b) = and_parts (is_held_symbol H y.symbol) (not (names y init)) h in
-        symbol_held y.spelling y.symbol a (not_true (names y init) b) (last_part _ (is_same x.symbol y.symbol) (or_parts (is_like_one x (y ∷ [])) false f).0)
+        symbol_held y.spelling y.symbol h (last_part _ (is_same x.symbol y.symbol) (or_parts (is_like_one x (y ∷ [])) false f).0)
     held_there t h f = absurd (true≢false (sym h))
 
     part_held : (t : Tree) → passes_any H init t ≡ true → names x t ≡ false → (q : Demand) → Replies q → Held e k z init s q (means e t q)

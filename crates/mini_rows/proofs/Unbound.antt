@@ -19,7 +19,7 @@ module _ (k : ℕ) where
   other s (Some n) e = e
   other s None e = refl
 
-  out_names : (xs : List Name) → has_symbol k xs ≡ false → Out k (variables xs)
+  pub out_names : (xs : List Name) → has_symbol k xs ≡ false → Out k (variables xs)
   out_names [] e = refl
   out_names (x ∷ xs) e =
       let (first, rest) = or_parts (is_symbol k x.symbol) (has_symbol k xs) e in
@@ -38,7 +38,7 @@ module _ (k : ℕ) where
     without : (t : Tree) → binds k t ≡ false → Without k (summary t)
     without (node h xs n ts) e = let (own, below) = or_parts (is_binding h && has_symbol k xs) (any_bind k ts) e in by_binding h xs n (summaries ts) own (all_without ts below)
 
-    all_without : (ts : Trees) → any_bind k ts ≡ false → AllWithout k (summaries ts)
+    pub all_without : (ts : Trees) → any_bind k ts ≡ false → AllWithout k (summaries ts)
     all_without none e = tt
     all_without (t ▸ ts) e = let (one, others) = or_parts (binds k t) (any_bind k ts) e in (without t one, all_without ts others)
 

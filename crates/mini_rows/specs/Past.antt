@@ -55,13 +55,34 @@ abbrev pub held : Assured → Trees → VariableSet
 held V ts (Declared k) = V.steady (Declared k) && (V.initial (Declared k) && not (any_bind k ts))
 held V ts (Global s) = false
 
-abbrev pub is_held_symbol : VariableSet → Option SymbolId → Bool
-is_held_symbol H (Some s) = H (Declared s.0)
-is_held_symbol H None = false
+-- what writes a part of it
+abbrev pub is_writer : Shape → Bool
+is_writer (shape.UpdateExpression o is_prefix) = true
+is_writer (shape.AssignmentExpression o) = true
+is_writer shape.ForInStatement = true
+is_writer shape.ForOfStatement = true
+is_writer h = false
 
--- the name of one of these variables, which r doesn't mention
+-- a name like it stands in such a node
+abbrev mutual
+  pub writes : Name → Tree → Bool
+  writes x (node h xs n ts) = if is_writer h then any_names x ts else any_write x ts
+
+  pub any_write : Name → Trees → Bool
+  any_write x none = false
+  any_write x (t ▸ ts) = writes x t || any_write x ts
+
+-- r leaves the variable of a name as it is: it neither declares nor writes it (ECMA-262, "PutValue")
+abbrev pub leaves : Tree → Name → ℕ → Bool
+leaves r y k = not (binds k r) && not (writes y r)
+
+-- the name of one of these variables, which r leaves as it is
+abbrev pub is_held_symbol : VariableSet → Tree → Name → Option SymbolId → Bool
+is_held_symbol H r y (Some s) = H (Declared s.0) && leaves r y s.0
+is_held_symbol H r y None = false
+
 abbrev pub is_held_name : VariableSet → Tree → List Name → Bool
-is_held_name H r (y ∷ []) = is_held_symbol H y.symbol && not (names y r)
+is_held_name H r (y ∷ []) = is_held_symbol H r y y.symbol
 is_held_name H r ys = false
 
 abbrev pub is_held : VariableSet → Tree → Tree → Bool
