@@ -1,6 +1,6 @@
 -- What neither declares nor writes a name spares its variable, wherever a value is asked of it.
-use Rattle.std.proofs.Common.{◌≡◌, ℕ, zero, suc, Bool, true, false, List, [], ◌∷◌, Option, Some, None, refl, true≢false}
-use Rattle.std.specs.Prelude.{◌||◌, ◌&&◌, length, if◌then◌else◌}
+use Rattle.std.proofs.Common.{◌≡◌, ℕ, zero, suc, Bool, true, false, List, [], Option, Some, None, refl, true≢false}
+use Rattle.std.specs.Prelude.{◌&&◌, length, if◌then◌else◌}
 use Rattle.mini_model.specs.declared.kind.VariableDeclarationKind.{VariableDeclarationKind}
 use Rattle.mini_model.specs.declared.name.Name.{Name}
 use Rattle.mini_model.specs.declared.operator.LogicalOperator.{LogicalOperator}
@@ -11,9 +11,9 @@ use Rattle.mini_model.specs.declared.shape.Shape.{Shape}
 use Rattle.mini_model.specs.declared.shape.Shape.TheVariants as shape
 use Rattle.mini_model.specs.Tree.{Tree, Trees, node, none, ◌▸◌}
 use Rattle.mini_laws.specs.Value.{Declared as Symbol, variables}
-use Rattle.mini_laws.specs.Demand.{Want, Val, Test, Unused, Tail, LoopTail, Demand, As, Callee, OfType, Deleted, Target, AnEntry, Items, Parts, Texts, Stat, Declares, Binds, ClassValue, Cases, ACase, Catches}
+use Rattle.mini_laws.specs.Demand.{Want, Val, Test, Unused, Tail, LoopTail, Demand, As, Callee, Deleted, Target, Items, Parts, Texts, Stat, Declares, Binds, Cases}
 use Rattle.mini_laws.specs.Naming.{Declared, Variables, AClass, Facts, first_facts, Summary, summaries, facts, written_of, naming}
-use Rattle.mini_laws.specs.Asking.{pass, demand, first_demand, and_or_demand, logical_demand, operand_demand, chained, parts_demand, sequence_demand, tail_demand, tail_of, try_demand, do_demand, head_demand, for_demand, declaration_demand, lexically, exported_demand, list_demand}
+use Rattle.mini_laws.specs.Asking.{pass, demand, first_demand, logical_demand, operand_demand, chained, parts_demand, sequence_demand, tail_demand, tail_of, try_demand, do_demand, head_demand, for_demand, declaration_demand, lexically, exported_demand, list_demand}
 use Rattle.mini_laws.specs.Steady.{SparedBy, Spares, AllSpare}
 use Rattle.mini_rows.specs.Past.{is_binding, has_symbol, binds, any_bind, is_writer, writes, any_write}
 use Rattle.mini_rows.specs.Unused.{any_names}
