@@ -10,6 +10,7 @@ use Rattle.mini_laws.specs.Naming.{summary}
 use Rattle.mini_laws.specs.Same.{Same}
 use Rattle.mini_laws.specs.Substitution.{alone}
 use Rattle.mini_kept.specs.Without.{Unseen}
+use Rattle.mini_terms.specs.Folds.{is_effect_free}
 use Rattle.mini_rows.specs.Lists.{declaration, Each, EachIn, EachOf, each_loop}
 use Rattle.mini_rows.specs.Declarations.{declarator}
 use Rattle.mini_rows.specs.Sketches.{shape_by, AsWholeItem}
@@ -17,7 +18,7 @@ use Rattle.mini_rows.specs.Unused.{is_constant, resolved, names, any_names, decl
 use Rattle.mini_rows.proofs.FoldMeaning.{plain_read}
 use Rattle.mini_rows.proofs.NextKept.{next_unnamed}
 use Rattle.mini_rows.proofs.NextMeaning.{initial_goes}
-use Rattle.mini_rows.proofs.SingleUse.{is_steady, or_true, Lead, Doing, Giving, Raising, Testing, head_of, Step, led, is_end, Stands, Well, AllPass, Initial, heads, statement, unnamed, Outside, Over, Heads, path}
+use Rattle.mini_rows.proofs.SingleUse.{surely, or_true, Lead, Doing, Giving, Raising, Testing, head_of, Step, led, is_end, Stands, Well, AllPass, Initial, heads, statement, unnamed, Outside, Over, Heads, path}
 use Rattle.mini_rows.proofs.ListKeptHeads.{Seat, Loop, Choice, seated, rest}
 use Rattle.mini_rows.proofs.OpeningMeaning.{outside_goes}
 use Rattle.mini_rows.proofs.OverMeaning.{each_goes}
@@ -77,9 +78,9 @@ module _ (e : Environment) (spelling : List ℕ) (k : ℕ) (z : Unseen (alone (D
       let one = λ (u : Tree). led (step ∷ []) u in
       let there : head ≡ led steps (identifier (resolved reading.spelling k)) = t.is ∙ t.along t.inner ∙ ap one (t.path.is ∙ ap (led t.path.steps) read_as) in
       let put : put_first x init head ≡ led steps init = t.puts init ∙ t.along (put_first x init t.inner) ∙ ap one (t.path.puts init) in
-      let beside = subst (AllPass init) (sym t.front) tt in
+      let beside = subst (AllPass init (shape_by (head_of t.lead)) 0) (sym t.front) tt in
       subst₂ (λ h w. GoesWith e k init h w s) (sym there) (sym put)
-      (moves_there e k z x refl reading.spelling init (sym (plain_read init (movable init moves))) (plain_item init (movable init moves)) AsWholeItem steps (t.stands (is_end t.path.steps), subst (λ c. Well c t.path.steps) (sym (t.below AsWholeItem)) t.path.well) ((ap (any_names x) t.front, t.free), t.path.spared) ((beside, or_true (is_constant init) (is_steady t.lead) t.steady), t.path.passed init (t.passed init passed)) (Stat None) tt [] s)
+      (moves_there e k z x refl reading.spelling init (sym (plain_read init (movable init moves))) (plain_item init (movable init moves)) AsWholeItem steps (t.stands (is_end t.path.steps), subst (λ c. Well c t.path.steps) (sym (t.below AsWholeItem)) t.path.well) ((ap (any_names x) t.front, t.free), t.path.spared) ((beside, or_true (is_constant init) (surely (is_effect_free init) t.lead) (t.steady (is_effect_free init))), t.path.passed init (t.passed init passed)) (Stat None) tt [] s)
 
   scope_goes : (t : Outside x head) → are_passed x init head ≡ true → (s : State) → GoesWith e k init head (put_first x init head) s
   scope_goes t passed s =

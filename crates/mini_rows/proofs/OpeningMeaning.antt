@@ -1,5 +1,5 @@
 -- What a `switch` or a `for` reads before all else may be put there: it is outside of the scope that the statement opens.
-use Rattle.std.proofs.Common.{◌≡◌, ℕ, zero, suc, true, false, List, [], ◌∷◌, None, Some, refl, sym, ap, ◌∙◌, subst, subst₂}
+use Rattle.std.proofs.Common.{◌≡◌, ℕ, zero, suc, Bool, true, false, List, [], ◌∷◌, None, Some, refl, sym, ap, ◌∙◌, subst, subst₂}
 use Rattle.mini_model.specs.declared.name.Name.{Name}
 use Rattle.mini_model.specs.declared.shape.Shape.TheVariants as shape
 use Rattle.mini_model.specs.Tree.{Tree, Trees, node, none, ◌▸◌, absent, identifier}
@@ -18,6 +18,7 @@ use Rattle.mini_laws.proofs.Congruent.{insensitive}
 use Rattle.mini_laws.proofs.Runs.{either_cong, either_assoc, either_stop}
 use Rattle.mini_laws.proofs.Simulation.{goes_either}
 use Rattle.mini_kept.specs.Without.{Unseen}
+use Rattle.mini_terms.specs.Folds.{is_effect_free}
 use Rattle.mini_terms.specs.Reading.{is_item}
 use Rattle.mini_rows.specs.Lists.{switch, for_loop}
 use Rattle.mini_rows.specs.Sketches.{shape_by, AsValue, asked_below}
@@ -50,9 +51,9 @@ switch_later fs v = (
   λ y. tt,
 )
 
-switch_reaches : (fs : List Facts) → Reaches 0 (step shape.SwitchStatement [] fs (Stat None) [])
+switch_reaches : (f : Bool) (fs : List Facts) → Reaches f 0 0 (step shape.SwitchStatement [] fs (Stat None) [])
 unfolding step
-switch_reaches fs = reach_statement 0 (switch_step fs) (one 0 (first_demand (As Val) Cases) (Unit {0}) tt _ (λ v. switch_later (function_facts fs) v))
+switch_reaches f fs = reach_statement f 0 0 (switch_step fs) (one f 0 0 (first_demand (As Val) Cases) (Unit {0}) tt _ (λ v. switch_later (function_facts fs) v))
 
 -- nothing stands before
 none_before : (j : ℕ) → Before j 0 → ⊥
@@ -125,8 +126,8 @@ module _ (e : Environment) (k : ℕ) (z : Unseen (alone (Declared k)) e) (x : Na
       let put_is : means e (switch put cases) (Stat None) [] t ≡ by_summaries e k z h (Stat None) [] is (put ▸ ts) t =
       node_is e k z h (Stat None) [] (put ▸ ts) t ∙ ap (λ i. by_summaries e k z h (Stat None) [] (i ∷ summaries ts) (put ▸ ts) t) (sym (summary_led ss (identifier (resolved spelling k)) init plain)) in
       subst₂ Go (sym (either_cong (means e init (As Val) tt t) _ _ _ _ (λ v y. there (after v y)) (λ y p. refl))) (sym put_is)
-      (reach_goes e k z h (Stat None) is σ none value put ts init tt (all_avoided x k named ts g) (λ j b. absurd (none_before j b))
-      (λ r' s'. moves_there e k z x named spelling init plain item AsValue ss w f p (As Val) tt r' s') (step h [] (facts_all is) (Stat None) []) (switch_reaches (facts_all is)) t)
+      (reach_goes e k z h (Stat None) is σ none value put ts init tt (all_avoided x k named ts g) 0 (λ j b. b) (λ j b. absurd (none_before j b))
+      (λ r' s'. moves_there e k z x named spelling init plain item AsValue ss w f p (As Val) tt r' s') (step h [] (facts_all is) (Stat None) []) (switch_reaches (is_effect_free init) (facts_all is)) t)
 
   nothing_value : Nothing value
   nothing_value = nothing_led ss w (identifier (resolved spelling k)) (record { lets = refl; functions = refl; facts = refl; declared = refl })

@@ -1,6 +1,6 @@
 -- Parts that may be evaluated before an expression rather than after it: of the same value whenever they are evaluated, or without an
 -- effect, as the expression is.
-use Rattle.std.proofs.Common.{◌≡◌, ℕ, Bool, true, false, List, ◌⊎◌, inl, inr, refl, sym, ap, ◌∙◌, subst, true≢false}
+use Rattle.std.proofs.Common.{◌≡◌, ℕ, zero, Bool, true, false, List, [], ◌∷◌, ◌⊎◌, inl, inr, refl, sym, ap, ◌∙◌, subst, true≢false}
 use Rattle.std.specs.Prelude.{not, ◌&&◌, ◌||◌, None}
 use Rattle.std.proofs.lemmas.Bool.{and_parts}
 use Rattle.mini_model.specs.declared.name.Name.{Name}
@@ -8,11 +8,11 @@ use Rattle.mini_model.specs.declared.operator.UnaryOperator.TheVariants.{Logical
 use Rattle.mini_model.specs.declared.shape.Shape.{Shape}
 use Rattle.mini_model.specs.declared.shape.Shape.TheVariants as shape
 use Rattle.mini_model.specs.Tree.{Tree, Trees, node, none, ◌▸◌, shape_of}
-use Rattle.mini_laws.specs.Value.{Value, Undefined, Null, Boolean, Number, String, VariableSet, truth, variables}
+use Rattle.mini_laws.specs.Value.{Value, Undefined, Null, Boolean, Number, String, Variable, VariableSet, truth, variables}
 use Rattle.mini_laws.specs.State.{Item, State, Completion, ok, stop, halt, out, either, Environment}
-use Rattle.mini_laws.specs.Demand.{Val, Demand, As, Callee, AnEntry, Stat, Called, Request, Reply, plain_call, says}
-use Rattle.mini_laws.specs.Command.{ret, run}
-use Rattle.mini_laws.specs.Naming.{NameKind, kinds, summaries, naming}
+use Rattle.mini_laws.specs.Demand.{Val, Demand, As, Callee, Target, AnEntry, Stat, Called, Reference, AName, Prepare, Fetch, Request, Reply, plain_call, says}
+use Rattle.mini_laws.specs.Command.{ret, act, Kids, run}
+use Rattle.mini_laws.specs.Naming.{NameKind, PlainName, EvalName, UndefinedName, NumberName, Summary, kinds, summaries, naming}
 use Rattle.mini_laws.specs.Expressions.{first_kind, get_identifier, is_eval}
 use Rattle.mini_laws.specs.Step.{step, means, meaning}
 use Rattle.mini_laws.specs.Same.{Goes, Agree}
@@ -20,12 +20,13 @@ use Rattle.mini_laws.specs.Truth.{told}
 use Rattle.mini_laws.specs.Congruence.{Avoids, Apart}
 use Rattle.mini_laws.proofs.Congruent.{insensitive}
 use Rattle.mini_laws.proofs.Runs.{run_bind, either_eta}
+use Rattle.mini_node.specs.Kinds.{is_identifier}
 use Rattle.mini_terms.specs.Folds.{is_effect_free}
 use Rattle.mini_terms.specs.Reading.{stands, is_item, by_value}
 use Rattle.mini_terms.specs.Sound.{Quiet}
 use Rattle.mini_terms.proofs.EffectsTable.{effect_free_sound}
 use Rattle.mini_terms.proofs.Reading.{read_by_value}
-use Rattle.mini_rows.specs.Unused.{is_written_value, is_value_operator, is_constant, passes}
+use Rattle.mini_rows.specs.Unused.{is_written_value, is_value_operator, is_constant, is_word, passes}
 use Rattle.mini_rows.proofs.ItemReads.{item_read}
 
 -- an expression is asked for its value, as a callee, or as an item of a list
@@ -39,14 +40,23 @@ Replies q = ⊥
 abbrev pub Does : Demand → Type 0
 Does q = (r : Request q) → State → Completion (Reply q r)
 
+-- a request of what is evaluated before a read: of what is assigned to, the reference, and where nothing is lost its value
+abbrev pub Mild : Bool → (q : Demand) → Request q → Type 0
+Mild f (As w) r = Unit {0}
+Mild f Callee r = Unit {0}
+Mild f AnEntry r = Unit {0}
+Mild f Target Prepare = Unit {0}
+Mild f Target (Fetch reference) = f ≡ true
+Mild f q r = ⊥
+
 -- it replies the same in each state
-abbrev pub Replying : (q : Demand) → Does q → Type 0
-Replying q m = (r : Request q) → (a : Reply q r) × ((s : State) → m r s ≡ ok a s)
+abbrev pub Replying : (q : Demand) → Does q → Request q → Type 0
+Replying q m r = (a : Reply q r) × ((s : State) → m r s ≡ ok a s)
 
 -- it does nothing but reply, and replies the same whatever the dead variables hold
-pub record Quietly (D : VariableSet) (q : Demand) (m : Does q) : Type 0 where
-  pub quiet : (r : Request q) (s : State) → Quiet s (m r s)
-  pub same : (r : Request q) (s t : State) → Agree D s t → Goes true (λ a. Agree D) (Agree D) (Agree D) (m r s) (m r t)
+pub record Quietly (D : VariableSet) (q : Demand) (m : Does q) (r : Request q) : Type 0 where
+  pub quiet : (s : State) → Quiet s (m r s)
+  pub same : (s t : State) → Agree D s t → Goes true (λ a. Agree D) (Agree D) (Agree D) (m r s) (m r t)
 
 -- ---- constants
 
@@ -116,12 +126,26 @@ module _ (e : Environment) where
   replied AnEntry u v r = (Item v, λ s. refl)
   replied q u v r = absurd u
 
-  pub constant_replies : (t : Tree) → is_constant t ≡ true → (q : Demand) → Replies q → Replying q (means e t q)
+  pub constant_replies : (t : Tree) → is_constant t ≡ true → (q : Demand) → Replies q → (r : Request q) → Replying q (means e t q) r
   constant_replies t c q u r =
       let (there, known) = value_there t c in
       let (v, f) = known in
       let (a, g) = replied q u v r in
       (a, λ s. read_by_value t there e q r s ∙ ap (by_value q r) (f s) ∙ g s)
+
+  -- a key that is written out
+  pub word_replies : (t : Tree) → is_word (shape_of t) ≡ true → Replying (As Val) (means e t (As Val)) tt
+  unfolding means step
+  word_replies (node (shape.IdentifierName m) xs n ts) c = (String m, λ s. refl)
+  word_replies (node (shape.StringLiteral m) xs n ts) c = (String m, λ s. refl)
+  word_replies (node (shape.NumericLiteral m) xs n ts) c = (Number m, λ s. refl)
+  word_replies (node h xs n ts) c = absurd (true≢false (sym c))
+
+  -- a name that is assigned to, before it is
+  pub target_replies : (t : Tree) → is_identifier t ≡ true → Replying Target (means e t Target) Prepare
+  unfolding means step
+  target_replies (node shape.Identifier (y ∷ []) zero none) c = (AName, λ s. refl)
+  target_replies t c = absurd (true≢false (sym c))
 
 -- ---- without an effect
 
@@ -157,6 +181,26 @@ module _ (e : Environment) where
       (quiet_mapped (of_name k) s (run {q = λ i. Stat None} e names K (get_identifier k) s)
       (subst (Quiet s) (run_bind e names {q = λ i. Stat None} (get_identifier k) (λ v. ret v) K s ∙ either_eta (run {q = λ i. Stat None} e names K (get_identifier k) s)) h))
 
+  -- what is read of a name is the same, whatever else is asked of it
+  name_alike : (xs : List Variable) (n : ℕ) (is : List Summary) (k : NameKind) (K : Kids (λ i. Stat None)) (s : State) → run {q = λ i. Stat None} e (naming shape.Identifier (As Val) xs n is) K (get_identifier k) s ≡ run {q = λ i. Stat None} e (naming shape.Identifier Target xs n is) K (get_identifier k) s
+  unfolding act
+  name_alike xs n is PlainName K s = refl
+  name_alike xs n is EvalName K s = refl
+  name_alike xs n is UndefinedName K s = refl
+  name_alike xs n is NumberName K s = refl
+
+  name_fetched : (xs : List Name) (n : ℕ) (ts : Trees) (reference : Reference) (s : State) → Quiet s (means e (node shape.Identifier xs n ts) (As Val) tt s) → Quiet s (means e (node shape.Identifier xs n ts) Target (Fetch reference) s)
+  unfolding means step
+  name_fetched xs n ts reference s h =
+      let names = naming shape.Identifier (As Val) (variables xs) n (summaries ts) in
+      let k = first_kind (kinds xs) in
+      let K = λ (i : ℕ) (r : Request (Stat None)) (z : State). meaning e ts i (Stat None) r z in
+      subst (Quiet s) (run_bind e names {q = λ i. Stat None} (get_identifier k) (λ v. ret v) K s ∙ either_eta (run {q = λ i. Stat None} e names K (get_identifier k) s) ∙ name_alike (variables xs) n (summaries ts) k K s) h
+
+  fetched_quiet : (t : Tree) → is_identifier t ≡ true → is_effect_free t ≡ true → (reference : Reference) (s : State) → Quiet s (means e t Target (Fetch reference) s)
+  fetched_quiet (node shape.Identifier (y ∷ []) zero none) i f reference s = name_fetched (y ∷ []) 0 none reference s (quiet_there (node shape.Identifier (y ∷ []) 0 none) f s)
+  fetched_quiet t i f reference s = absurd (true≢false (sym i))
+
   called_quiet : (t : Tree) → is_effect_free t ≡ true → is_item t ≡ true → (s : State) → Quiet s (means e t Callee tt s)
   unfolding means step Quiet
   called_quiet (node shape.Identifier xs n ts) f i s = name_called xs n ts s (quiet_there (node shape.Identifier xs n ts) f s)
@@ -177,8 +221,11 @@ module _ (e : Environment) where
   effect_free_quiet t f i AnEntry u r s = subst (Quiet s) (sym (item_read t i e s)) (quiet_item s (means e t (As Val) tt s) (quiet_there t f s))
   effect_free_quiet t f i q u r s = absurd u
 
-  pub quietly : (D : VariableSet) → Apart e D → (t : Tree) → Avoids D t → is_effect_free t ≡ true → is_item t ≡ true → (q : Demand) → Replies q → Quietly D q (means e t q)
-  quietly D apart t a f i q u = record { quiet = λ r s. effect_free_quiet t f i q u r s; same = λ r s z g. insensitive e D apart t a q r s z g }
+  pub quietly : (D : VariableSet) → Apart e D → (t : Tree) → Avoids D t → is_effect_free t ≡ true → is_item t ≡ true → (q : Demand) → Replies q → (r : Request q) → Quietly D q (means e t q) r
+  quietly D apart t a f i q u r = record { quiet = λ s. effect_free_quiet t f i q u r s; same = λ s z g. insensitive e D apart t a q r s z g }
+
+  pub fetched_quietly : (D : VariableSet) → Apart e D → (t : Tree) → Avoids D t → is_identifier t ≡ true → is_effect_free t ≡ true → (reference : Reference) → Quietly D Target (means e t Target) (Fetch reference)
+  fetched_quietly D apart t a i f reference = record { quiet = λ s. fetched_quiet t i f reference s; same = λ s z g. insensitive e D apart t a Target (Fetch reference) s z g }
 
 -- ---- what passes
 

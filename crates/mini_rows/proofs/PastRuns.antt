@@ -1,5 +1,5 @@
 -- What a tree reads may be put there where each part that stands before gives the same before the initializer and after it, from one state.
-use Rattle.std.proofs.Common.{◌≡◌, ℕ, zero, suc, true, List, [], ◌∷◌, Some, refl, sym, ap, ◌∙◌, subst, subst₂, true≢false, inl, inr}
+use Rattle.std.proofs.Common.{◌≡◌, ℕ, zero, suc, true, false, List, [], ◌∷◌, Some, refl, sym, ap, ◌∙◌, subst, subst₂, true≢false, inl, inr}
 use Rattle.mini_model.specs.declared.name.Name.{Name}
 use Rattle.mini_model.specs.declared.shape.Shape.{Shape}
 use Rattle.mini_model.specs.Tree.{Tree, Trees, none, ◌▸◌, count, identifier}
@@ -21,7 +21,7 @@ use Rattle.mini_terms.specs.Reading.{is_item}
 use Rattle.mini_rows.specs.Sketches.{shape_by, Asked, AsValue, asked_below}
 use Rattle.mini_rows.specs.Unused.{resolved}
 use Rattle.mini_rows.proofs.Passing.{Replies, Does}
-use Rattle.mini_rows.proofs.SingleMeaning.{Before, Later, Reaches, Suits, AllReply, asks, next, later_goes, by_summaries, node_is, stopped, front_is, there_is, read_goes, entry_goes, all_spared, there_before}
+use Rattle.mini_rows.proofs.SingleMeaning.{Before, Later, Reaches, Suits, AllReply, asks, steady_sure, steady_earlier, steady_valued, next, later_goes, by_summaries, node_is, stopped, front_is, there_is, read_goes, entry_goes, all_spared, there_before}
 use Rattle.mini_rows.proofs.SingleUse.{head_of, before, place, Step, led, is_end, is_steady, Well, Spared, summaries_led}
 
 -- what goes on after a reply may rest on it
@@ -108,19 +108,20 @@ module _ (e : Environment) (k : ℕ) (z : Unseen (alone (Declared k)) e) (init :
         subst (λ j. (r : Request (σ j)) (c : Ends (Reply (σ j) r) → Command σ A) → ((y : Stop) → c (ended y) ≡ fails y) → ((a : Reply (σ j) r) → Later (count ps) (c (done a))) → Reached (kid j r c)) (sym p)
         (λ r c stops later. hit_here r c stops later)
 
-    reach_goes : {A : Type 0} (c : Command σ A) → Reaches (count ps) c → Reached c
+    reach_goes : {A : Type 0} (c : Command σ A) → Reaches false (count ps) (count ps) c → Reached c
     reach_goes {A} (kid j r c) (inl l) =
         let F = λ (a : Reply (σ j) r) (y : State). runs t (c (done a)) y in
         let G = λ (a : Reply (σ j) r) (y : State). runs u (c (done a)) y in
         let f = λ (x : Stop) (y : State). runs t (c (ended x)) y in
         let g = λ (x : Stop) (y : State). runs u (c (ended x)) y in
-        subst₂ Go (either_cong (means e init (As Val) tt s) _ _ _ _ (λ v y. ap (λ x. either x F f) (sym (front_is e k z ps t ts j l.0 (σ j) r (after v y)))) (λ x y. refl)) (ap (λ x. either x G g) (sym (front_is e k z ps u ts j l.0 (σ j) r s)))
-        (passed_goes (σ j) (front ps σ j) (held j l.0) r F G f g (λ a. reach_goes (c (done a)) (l.1 a)))
-    reach_goes (kid j r c) (inr l) = hit_there j l.here r c l.stops l.later
-    reach_goes (ret a) l = absurd l
-    reach_goes (fails y) l = absurd l
-    reach_goes stuck l = absurd l
-    reach_goes (op o c) l = absurd l
+        subst₂ Go (either_cong (means e init (As Val) tt s) _ _ _ _ (λ v y. ap (λ x. either x F f) (sym (front_is e k z ps t ts j l.0.0 (σ j) r (after v y)))) (λ x y. refl)) (ap (λ x. either x G g) (sym (front_is e k z ps u ts j l.0.0 (σ j) r s)))
+        (passed_goes (σ j) (front ps σ j) (held j l.0.0) r F G f g (λ a. reach_goes (c (done a)) (l.1 a)))
+    reach_goes (kid j r c) (inr (inl l)) = hit_there j l.here r c l.stops l.later
+    reach_goes (kid j r c) (inr (inr l)) = absurd (true≢false (sym l.0))
+    reach_goes (ret a) l = absurd (true≢false (sym l.0))
+    reach_goes (fails y) l = absurd (true≢false (sym l.0))
+    reach_goes stuck l = absurd (true≢false (sym l.0))
+    reach_goes (op o c) l = absurd (true≢false (sym l.0))
 
   -- ---- the path
 
@@ -141,11 +142,11 @@ module _ (e : Environment) (k : ℕ) (z : Unseen (alone (Declared k)) e) (init :
         let kids = λ (t : Tree). append ps (led ss t ▸ step_there.rest) in
         let is = summaries (kids read) in
         let σ = demand h (facts_all is) q in
-        let a = asks c l (is_end ss) w.0 (facts_all is) (there_before e k z ps (led ss read) step_there.rest) q u r in
+        let a = asks false c l (is_end ss) w.0 (facts_all is) (there_before e k z ps (led ss read) step_there.rest) q u r in
         let first = all_spared e k z x named ps f.0.0 in
         let last = all_spared e k z x named step_there.rest f.0.1 in
         let there = λ (y : State). node_is e k z h q r (kids read) y in
         let put : means e (led (step_there ∷ ss) init) q r s ≡ by_summaries e k z h q r is (kids init) s = node_is e k z h q r (kids init) s ∙ ap (λ i. by_summaries e k z h q r i (kids init) s) (sym (summaries_led step_there ss read init plain)) in
         subst₂ Go (sym (either_cong (means e init (As Val) tt s) _ _ _ _ (λ v y. there (after v y)) (λ y p. refl))) (sym put)
-        (reach_goes h q is σ ps (led ss read) (led ss init) step_there.rest first last (held_front ps p.0.0 σ (a.first p.0.1))
-        (λ r'. past_goes (asked_below (head_of l) c (place 0 ps)) ss w.1 f.1 p.1 (σ (count ps)) a.below r') (step h [] (facts_all is) q r) (a.reaches p.0.1))
+        (reach_goes h q is σ ps (led ss read) (led ss init) step_there.rest first last (held_front ps p.0.0 σ (subst (AllReply σ) (steady_valued l p.0.1) a.first))
+        (λ r'. past_goes (asked_below (head_of l) c (place 0 ps)) ss w.1 f.1 p.1 (σ (count ps)) a.below r') (step h [] (facts_all is) q r) (subst (λ us. Reaches false (count us) (count ps) (step h [] (facts_all is) q r)) (steady_earlier l p.0.1) (a.reaches (steady_sure false l p.0.1))))

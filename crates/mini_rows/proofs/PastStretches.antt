@@ -20,7 +20,7 @@ use Rattle.mini_kept.specs.Without.{Assured, Steadies, Begins, Permits}
 use Rattle.mini_rows.specs.Lists.{declaration}
 use Rattle.mini_rows.specs.Declarations.{binding, declarator}
 use Rattle.mini_rows.specs.Past.{binds, any_bind, held, Row71Past, Row71PastNext, PastRow, PastRunsAlike}
-use Rattle.mini_rows.specs.Unused.{resolved, names, any_names, declared_among, declared_one, declared_left, put_first, reads_first, statements}
+use Rattle.mini_rows.specs.Unused.{resolved, names, any_names, declared_among, declared_one, declared_left, put_first, reads_first, evaluated, statements}
 use Rattle.mini_rows.proofs.FoldMeaning.{plain_read}
 use Rattle.mini_rows.proofs.HeadKept.{head_leaves, head_declares}
 use Rattle.mini_rows.proofs.HeadMeaning.{head_read, head_unnamed}
@@ -31,6 +31,7 @@ use Rattle.mini_rows.proofs.PastNext.{next_past}
 use Rattle.mini_rows.proofs.PastMeaning.{held_still, held_off, statement_goes, in_two, in_one, behind_same, pair_same, body_runs}
 use Rattle.mini_rows.proofs.Unbound.{all_unhidden}
 use Rattle.mini_rows.proofs.UnusedKept.{LeavesThere, DeclaresThere}
+use Rattle.mini_rows.proofs.SingleFits.{no_number_there}
 use Rattle.mini_rows.proofs.UnusedLawful.{single_fits, next_fits}
 use Rattle.mini_rows.proofs.UnusedMeaning.{ReadThere, read_alone, single_read, first_avoids, may_write, movable}
 use Rattle.mini_rows.proofs.UnusedNames.{or_parts, avoided, all_avoided}
@@ -114,7 +115,7 @@ of_head V W outside ts us r =
       fits = λ strict h.
           let (f, g) = first_fits strict body_item d (r.head ▸ none) h in
           let (i, rest) = first_fits strict body_item r.head none g in
-          let (v, w) = single_fits strict K x r.first r.init r.head r.moves once (sym (declaration_in in_body strict K (append r.first (declarator (binding x) r.init ▸ none))) ∙ f) (sym (there.head_in in_body strict) ∙ i) in
+          let (v, w) = single_fits strict K x r.first r.init r.head r.moves once (no_number_there x r.init (evaluated r.head) r.varies) (sym (declaration_in in_body strict K (append r.first (declarator (binding x) r.init ▸ none))) ∙ f) (sym (there.head_in in_body strict) ∙ i) in
           more_fit strict body_item left (put ▸ none) (left_in in_body strict K r.first ∙ v) (more_fit strict body_item put none (there.put_in in_body strict ∙ w) rest);
       outer = r.outer;
       earlier = r.earlier;
@@ -152,7 +153,7 @@ of_next V W outside ts us r =
           (next_past e r.spelling k u.unseen H (held_still V ts e s) K r.init r.binds r.value r.last r.moves r.once r.passed (avoided x k refl r.binds r.other) (all_avoided x k refl r.last r.declared_later) (may_write W K e k r.goes u)))
           (in_one e K r.first those D H none none));
       avoids = (next_avoids x k refl K r.first r.init r.binds r.value r.last r.once r.declared_earlier r.initial r.other r.declared_later, tt);
-      fits = λ strict. one_fits in_body strict d w (next_fits strict K x r.first r.init r.binds r.value r.last r.moves r.once) (declaration_in in_body strict K (append r.first these)) (declaration_in in_body strict K (append r.first those));
+      fits = λ strict. one_fits in_body strict d w (next_fits strict K x r.first r.init r.binds r.value r.last r.moves r.once (no_number_there x r.init r.value r.varies)) (declaration_in in_body strict K (append r.first these)) (declaration_in in_body strict K (append r.first those));
       outer = r.outer;
       earlier = r.earlier;
       later = r.later;

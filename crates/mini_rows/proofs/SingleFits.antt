@@ -1,19 +1,19 @@
 -- Where a tree that reads a variable may stand, there it may with an expression in the place of that.
-use Rattle.std.specs.Prelude.{ℕ, ◌≡◌, refl, ◌&&◌, suc, Bool, true, false, List, [], ◌∷◌, nat_le}
-use Rattle.std.proofs.Common.{ap, ◌∙◌, sym, subst₂, true≢false}
+use Rattle.std.specs.Prelude.{ℕ, ◌≡◌, ◌⊎◌, refl, not, ◌&&◌, suc, Bool, true, false, List, [], ◌∷◌, nat_le}
+use Rattle.std.proofs.Common.{ap, ◌∙◌, sym, subst₂, true≢false, inl, inr}
 use Rattle.std.proofs.lemmas.Bool.{and_parts}
 use Rattle.mini_model.specs.declared.name.Name.{Name}
 use Rattle.mini_model.specs.declared.kind.PropertyKind.TheVariants.{Init}
 use Rattle.mini_model.specs.declared.operator.AssignmentOperator.TheVariants.{Assign}
 use Rattle.mini_model.specs.declared.shape.Shape.TheVariants as shape
-use Rattle.mini_model.specs.Tree.{Tree, Trees, node, none, ◌▸◌, count, children, identifier}
+use Rattle.mini_model.specs.Tree.{Tree, Trees, node, none, ◌▸◌, count, children, identifier, shape_of}
 use Rattle.mini_model.specs.Paths.{append}
 use Rattle.mini_accept.specs.WellShaped.{nested, a_statement, an_init, an_expression, an_argument, an_object_property, a_key, a_target, a_simple_target, Slot, one, one_or_absent, many, many_or_holes, these, each, fits, fill, is_not_positive_number}
 use Rattle.mini_kept.proofs.Bools.{both}
 use Rattle.mini_kept.proofs.Expressions.{refused_here}
 use Rattle.mini_rows.specs.Sketches.{shape_by, Asked, AsWholeItem, AsValue, AsValues, asked_below}
-use Rattle.mini_rows.specs.Unused.{is_first, put_first, reads_first}
-use Rattle.mini_rows.proofs.SingleUse.{Lead, Not, Plus, Minus, Tilde, Emptying, Beside, Deciding, Choosing, Passing, Called, Making, Waiting, Member, Keyed, Holding, Against, Given, Filling, Keying, Following, Branching, Failing, Storing, Gathering, Fielding, Listing, Doing, Giving, Raising, Testing, head_of, before, place, Step, led, is_end, Stands, Well, path, statement}
+use Rattle.mini_rows.specs.Unused.{is_number_shape, is_constant, is_first, put_first, are_passed, reads_first}
+use Rattle.mini_rows.proofs.SingleUse.{Lead, Not, Plus, Minus, Tilde, Emptying, Beside, Deciding, Choosing, Passing, Called, Making, Waiting, Member, Keyed, Holding, Against, Given, Filling, Keying, Following, Branching, Failing, Storing, Gathering, Fielding, Listing, Doing, Giving, Raising, Testing, head_of, before, place, Step, led, is_end, Stands, Well, suited, Suited, Path, path, statement}
 
 pub first_of : (a b c : Bool) → (a ≡ true → b ≡ true) → a && c ≡ true → b && c ≡ true
 first_of true b c f e = ap (λ d. d && c) (f refl) ∙ e
@@ -109,13 +109,13 @@ module _ (strict : Bool) where
   room l b s (one an_object_property) k t u ts f g e = no_property l b s t u ts f e
   room l b s r k t u ts f g e = absurd k
 
-  value_step : (l : Lead) (b : Bool) → Stands AsValue l b → (t u : Tree) (ts : Trees) → (asked_below (head_of l) AsValue (place 0 (before l)) ≡ AsValues → count (children t) ≡ count (children u)) → (b ≡ false → is_not_positive_number u ≡ true) → FitsAs (asked_below (head_of l) AsValue (place 0 (before l))) t u
+  value_step : (l : Lead) (b : Bool) → Stands AsValue l b → (t u : Tree) (ts : Trees) → (asked_below (head_of l) AsValue (place 0 (before l)) ≡ AsValues → count (children t) ≡ count (children u)) → (l ≡ Minus → is_not_positive_number u ≡ true) → FitsAs (asked_below (head_of l) AsValue (place 0 (before l))) t u
       → fits strict (one an_expression) (node (shape_by (head_of l)) [] 0 (append (before l) (t ▸ ts))) ≡ true → fits strict (one an_expression) (node (shape_by (head_of l)) [] 0 (append (before l) (u ▸ ts))) ≡ true
   value_step Not b s t u ts c n f e = first_of (fits strict (one an_expression) t) (fits strict (one an_expression) u) _ (f (one an_expression) tt) e
   value_step Plus b s t u ts c n f e = first_of (fits strict (one an_expression) t) (fits strict (one an_expression) u) _ (f (one an_expression) tt) e
   value_step Minus b s t u ts c n f e =
       let (x, y) = and_parts (is_not_positive_number t) (fits strict (one an_expression) t && fill strict (these []) ts) e in
-      both (is_not_positive_number u) (fits strict (one an_expression) u && fill strict (these []) ts) (n s) (first_of (fits strict (one an_expression) t) (fits strict (one an_expression) u) (fill strict (these []) ts) (f (one an_expression) tt) y)
+      both (is_not_positive_number u) (fits strict (one an_expression) u && fill strict (these []) ts) (n refl) (first_of (fits strict (one an_expression) t) (fits strict (one an_expression) u) (fill strict (these []) ts) (f (one an_expression) tt) y)
   value_step Tilde b s t u ts c n f e = first_of (fits strict (one an_expression) t) (fits strict (one an_expression) u) _ (f (one an_expression) tt) e
   value_step Emptying b s t u ts c n f e = first_of (fits strict (one an_expression) t) (fits strict (one an_expression) u) _ (f (one an_expression) tt) e
   value_step (Beside o) b s t u ts c n f e = first_of (fits strict (one an_expression) t) (fits strict (one an_expression) u) _ (f (one an_expression) tt) e
@@ -199,23 +199,58 @@ module _ (strict : Bool) where
   number_of (Listing us) ts = refl
   number_of l ts = refl
 
-  no_number : (ss : List Step) (t : Tree) → is_end ss ≡ false → is_not_positive_number (led ss t) ≡ true
-  no_number [] t e = absurd (true≢false e)
-  no_number (s ∷ ss) t e = number_of s.lead (append (before s.lead) (led ss t ▸ s.rest))
+  no_positive : (r : Tree) → not (is_number_shape (shape_of r) && true) ≡ true → is_not_positive_number r ≡ true
+  no_positive (node (shape.NumericLiteral n) xs k ts) e = absurd (true≢false (sym e))
+  no_positive (node h xs k ts) e = refl
 
-  put_value : (c : Asked) (ss : List Step) → Well c ss → (c ≡ AsWholeItem → ⊥) → (y : Name) (r : Tree) → ((s : Slot) → Takes AsValue s → fits strict s (identifier y) ≡ true → fits strict s r ≡ true) → FitsAs c (led ss (identifier y)) (led ss r)
-  put_value AsValue [] w n y r f s k e = f s k e
-  put_value AsValue (q ∷ ss) w n y r f s k e =
-      let inner = put_value (asked_below (head_of q.lead) AsValue (place 0 (before q.lead))) ss w.1 (below_value q.lead (is_end ss) w.0) y r f in
-      room q.lead (is_end ss) w.0 s k (led ss (identifier y)) (led ss r) q.rest inner (value_step q.lead (is_end ss) w.0 (led ss (identifier y)) (led ss r) q.rest (same_count (asked_below (head_of q.lead) AsValue (place 0 (before q.lead))) ss w.1 (identifier y) r) (no_number ss r) inner) e
-  put_value AsValues (q ∷ ss) w n y r f s k e = list_step q.lead (is_end ss) w.0 (led ss (identifier y)) (led ss r) q.rest (put_value (asked_below (head_of q.lead) AsValues (place 0 (before q.lead))) ss w.1 (below_list q.lead (is_end ss) w.0) y r f) s k e
-  put_value AsWholeItem ss w n y r f s k e = absurd (n refl)
-  put_value c [] w n y r f s k e = absurd w
-  put_value c (q ∷ ss) w n y r f s k e = absurd w.0
+  -- right under a minus
+  no_number : (l : Lead) (ss : List Step) (t : Tree) → suited t l (is_end ss) ≡ true → l ≡ Minus → is_not_positive_number (led ss t) ≡ true
+  no_number l [] t e m = no_positive t (sym (ap (λ k. suited t k true) m) ∙ e)
+  no_number l (s ∷ ss) t e m = number_of s.lead (append (before s.lead) (led ss t ▸ s.rest))
+
+  put_value : (c : Asked) (ss : List Step) → Well c ss → (c ≡ AsWholeItem → ⊥) → (y : Name) (r : Tree) → Suited r ss → ((s : Slot) → Takes AsValue s → fits strict s (identifier y) ≡ true → fits strict s r ≡ true) → FitsAs c (led ss (identifier y)) (led ss r)
+  put_value AsValue [] w n y r g f s k e = f s k e
+  put_value AsValue (q ∷ ss) w n y r g f s k e =
+      let inner = put_value (asked_below (head_of q.lead) AsValue (place 0 (before q.lead))) ss w.1 (below_value q.lead (is_end ss) w.0) y r g.1 f in
+      room q.lead (is_end ss) w.0 s k (led ss (identifier y)) (led ss r) q.rest inner (value_step q.lead (is_end ss) w.0 (led ss (identifier y)) (led ss r) q.rest (same_count (asked_below (head_of q.lead) AsValue (place 0 (before q.lead))) ss w.1 (identifier y) r) (no_number q.lead ss r g.0) inner) e
+  put_value AsValues (q ∷ ss) w n y r g f s k e = list_step q.lead (is_end ss) w.0 (led ss (identifier y)) (led ss r) q.rest (put_value (asked_below (head_of q.lead) AsValues (place 0 (before q.lead))) ss w.1 (below_list q.lead (is_end ss) w.0) y r g.1 f) s k e
+  put_value AsWholeItem ss w n y r g f s k e = absurd (n refl)
+  put_value c [] w n y r g f s k e = absurd w
+  put_value c (q ∷ ss) w n y r g f s k e = absurd w.0
 
   -- an expression along a path
-  put_along : (ss : List Step) → Well AsValue ss → (y : Name) (r : Tree) → fits strict (one an_expression) r ≡ true → FitsAs AsValue (led ss (identifier y)) (led ss r)
-  put_along ss w y r f = put_value AsValue ss w (λ e. cc e) y r (taken_by strict y r f)
+  put_along : (ss : List Step) → Well AsValue ss → (y : Name) (r : Tree) → Suited r ss → fits strict (one an_expression) r ≡ true → FitsAs AsValue (led ss (identifier y)) (led ss r)
+  put_along ss w y r g f = put_value AsValue ss w (λ e. cc e) y r g (taken_by strict y r f)
+
+-- what may stand in the place of what a tree reads: no number, or what its parts pass
+abbrev pub MayStand : Name → Tree → Tree → Type 0
+MayStand x r t = (is_number_shape (shape_of r) ≡ false) ⊎ (are_passed x r t ≡ true)
+
+suited_lead : (r : Tree) → is_number_shape (shape_of r) ≡ false → (l : Lead) (b : Bool) → suited r l b ≡ true
+suited_lead r n Minus b = ap (λ c. not (c && b)) n
+suited_lead r n l b = refl
+
+suited_all : (r : Tree) → is_number_shape (shape_of r) ≡ false → (ss : List Step) → Suited r ss
+suited_all r n [] = tt
+suited_all r n (s ∷ ss) = (suited_lead r n s.lead (is_end ss), suited_all r n ss)
+
+stands_there : (x : Name) (c : Asked) (t : Tree) (p : Path x c t) (r : Tree) → MayStand x r t → Suited r p.steps
+stands_there x c t p r (inl n) = suited_all r n p.steps
+stands_there x c t p r (inr e) = p.suit r e
+
+number_constant : (t : Tree) → is_number_shape (shape_of t) ≡ true → is_constant t ≡ true
+number_constant (node (shape.NumericLiteral n) xs k none) e = refl
+number_constant (node (shape.NumericLiteral n) xs k (t ▸ none)) e = refl
+number_constant (node (shape.NumericLiteral n) xs k (t ▸ (u ▸ ts))) e = refl
+number_constant t e = absurd (true≢false (sym e))
+
+-- what is no constant is no number
+pub no_number_there : (x : Name) (r t : Tree) → is_constant r ≡ false → MayStand x r t
+no_number_there x r t v = by (is_number_shape (shape_of r)) refl
+  where
+    by : (b : Bool) → is_number_shape (shape_of r) ≡ b → MayStand x r t
+    by true e = absurd (true≢false (sym (number_constant r e) ∙ v))
+    by false e = inl e
 
 stated : (l : Lead) → Stands AsWholeItem l true → (strict : Bool) (t u : Tree) (ts : Trees) → FitsAs strict AsValue t u → fits strict (one (a_statement nested)) (node (shape_by (head_of l)) [] 0 (t ▸ ts)) ≡ true → fits strict (one (a_statement nested)) (node (shape_by (head_of l)) [] 0 (u ▸ ts)) ≡ true
 stated Doing s true t u ts f e = first_of (fits true (one an_expression) t) (fits true (one an_expression) u) _ (f (one an_expression) tt) e
@@ -228,25 +263,29 @@ stated Testing s true t u ts f e = first_of (fits true (one an_expression) t) (f
 stated Testing s false t u ts f e = first_of (fits false (one an_expression) t) (fits false (one an_expression) u) _ (f (one an_expression) tt) e
 stated l s strict t u ts f e = absurd s
 
-pub put_in : (strict : Bool) (x : Name) (t : Tree) → (e : is_first x false t ≡ true) → (r : Tree) → fits strict (one an_expression) r ≡ true → FitsAs strict AsValue t (put_first x r t)
-put_in strict x t e r f =
+pub put_in : (strict : Bool) (x : Name) (t : Tree) → (e : is_first x false t ≡ true) → (r : Tree) → MayStand x r t → fits strict (one an_expression) r ≡ true → FitsAs strict AsValue t (put_first x r t)
+put_in strict x t e r g f =
     let p = path x false t e in
-    subst₂ (FitsAs strict AsValue) (sym p.is) (sym (p.puts r)) (put_along strict p.steps p.well p.read r f)
+    subst₂ (FitsAs strict AsValue) (sym p.is) (sym (p.puts r)) (put_along strict p.steps p.well p.read r (stands_there x AsValue t p r g) f)
 
-pub put_fits : (strict : Bool) (x : Name) (head : Tree) → reads_first x head ≡ true → (r : Tree) → fits strict (one an_expression) r ≡ true → fits strict (one (a_statement nested)) head ≡ true → fits strict (one (a_statement nested)) (put_first x r head) ≡ true
-put_fits strict x head e r f g =
+pub put_fits : (strict : Bool) (x : Name) (head : Tree) → reads_first x head ≡ true → (r : Tree) → MayStand x r head → fits strict (one an_expression) r ≡ true → fits strict (one (a_statement nested)) head ≡ true → fits strict (one (a_statement nested)) (put_first x r head) ≡ true
+put_fits strict x head e r h f g =
     let t = statement x head e in
     let p = t.path in
-    let inner = subst₂ (FitsAs strict AsValue) (sym p.is) (sym (p.puts r)) (put_along strict p.steps p.well p.read r f) in
+    let inner = subst₂ (FitsAs strict AsValue) (sym p.is) (sym (p.puts r)) (put_along strict p.steps p.well p.read r (stands_there x AsValue t.inner p r (below h)) f) in
     ap (fits strict (one (a_statement nested))) (t.puts r) ∙ stated t.lead (t.stands true) strict t.inner (put_first x r t.inner) t.rest inner (sym (ap (fits strict (one (a_statement nested))) t.is) ∙ g)
+  where
+    below : MayStand x r head → MayStand x r (statement x head e).inner
+    below (inl n) = inl n
+    below (inr p) = inr ((statement x head e).passed r p)
 
 -- as what a declarator is initialised with
-pub put_initial : (strict : Bool) (x : Name) (value : Tree) → is_first x false value ≡ true → (r : Tree) → fits strict (one an_expression) r ≡ true → fits strict (one_or_absent an_expression) value ≡ true → fits strict (one_or_absent an_expression) (put_first x r value) ≡ true
-put_initial strict x value e r f g = put_in strict x value e r f (one_or_absent an_expression) tt g
+pub put_initial : (strict : Bool) (x : Name) (value : Tree) → is_first x false value ≡ true → (r : Tree) → MayStand x r value → fits strict (one an_expression) r ≡ true → fits strict (one_or_absent an_expression) value ≡ true → fits strict (one_or_absent an_expression) (put_first x r value) ≡ true
+put_initial strict x value e r h f g = put_in strict x value e r h f (one_or_absent an_expression) tt g
 
 -- as what a `switch` asks
-pub put_asked : (strict : Bool) (x : Name) (value : Tree) → is_first x false value ≡ true → (r : Tree) → fits strict (one an_expression) r ≡ true → fits strict (one an_expression) value ≡ true → fits strict (one an_expression) (put_first x r value) ≡ true
-put_asked strict x value e r f g = put_in strict x value e r f (one an_expression) tt g
+pub put_asked : (strict : Bool) (x : Name) (value : Tree) → is_first x false value ≡ true → (r : Tree) → MayStand x r value → fits strict (one an_expression) r ≡ true → fits strict (one an_expression) value ≡ true → fits strict (one an_expression) (put_first x r value) ≡ true
+put_asked strict x value e r h f g = put_in strict x value e r h f (one an_expression) tt g
 
 -- as what a `for` begins with
 begun : (strict : Bool) (t : Tree) → fits strict (one an_expression) t ≡ true → fits strict (one_or_absent an_init) t ≡ true
@@ -287,8 +326,8 @@ begun_there strict (s ∷ ss) w y e = by s.lead w.0 (append (before s.lead) (led
     by (Fielding g a) s ts e = e
     by l s ts e = absurd s
 
-pub put_begun : (strict : Bool) (x : Name) (value : Tree) → is_first x false value ≡ true → (r : Tree) → fits strict (one an_expression) r ≡ true → fits strict (one_or_absent an_init) value ≡ true → fits strict (one_or_absent an_init) (put_first x r value) ≡ true
-put_begun strict x value e r f g =
+pub put_begun : (strict : Bool) (x : Name) (value : Tree) → is_first x false value ≡ true → (r : Tree) → MayStand x r value → fits strict (one an_expression) r ≡ true → fits strict (one_or_absent an_init) value ≡ true → fits strict (one_or_absent an_init) (put_first x r value) ≡ true
+put_begun strict x value e r h f g =
     let p = path x false value e in
     let there = ap (fits strict (one an_expression)) p.is ∙ begun_there strict p.steps p.well p.read (sym (ap (fits strict (one_or_absent an_init)) p.is) ∙ g) in
-    begun strict (put_first x r value) (put_asked strict x value e r f there)
+    begun strict (put_first x r value) (put_asked strict x value e r h f there)

@@ -1,9 +1,12 @@
 -- What a tree reads may be put there: a variable that holds a value, or the expression that gives the value, where the parts that are
 -- evaluated before pass it.
 use Rattle.std.specs.Prelude.{◌&&◌, ◌||◌, not, Bool, Option, length, codes, if◌then◌else◌, ◌⊎◌}
-use Rattle.std.proofs.lemmas.Bool.{eq-eqb}
+use Rattle.std.proofs.lemmas.Bool.{and_parts, eq-eqb}
 use Rattle.std.proofs.Common.{◌≡◌, ℕ, zero, suc, true, false, List, [], ◌∷◌, None, Some, refl, sym, ap, ◌∙◌, subst, subst₂, true≢false, inl, inr}
 use Rattle.mini_model.specs.declared.name.Name.{Name}
+use Rattle.mini_model.specs.declared.kind.PropertyKind.TheVariants.{Init}
+use Rattle.mini_model.specs.declared.operator.AssignmentOperator.{AssignmentOperator}
+use Rattle.mini_model.specs.declared.operator.AssignmentOperator.TheVariants.{Assign}
 use Rattle.mini_model.specs.declared.operator.BinaryOperator.{BinaryOperator}
 use Rattle.mini_model.specs.declared.operator.BinaryOperator.TheVariants as binary
 use Rattle.mini_model.specs.declared.operator.LogicalOperator.{LogicalOperator}
@@ -12,42 +15,43 @@ use Rattle.mini_model.specs.declared.operator.UnaryOperator.{UnaryOperator}
 use Rattle.mini_model.specs.declared.operator.UnaryOperator.TheVariants.{UnaryPlus, UnaryNegation, BitwiseNot}
 use Rattle.mini_model.specs.declared.shape.Shape.{Shape}
 use Rattle.mini_model.specs.declared.shape.Shape.TheVariants as shape
-use Rattle.mini_model.specs.Tree.{Tree, Trees, node, none, ◌▸◌, count, identifier}
+use Rattle.mini_model.specs.Tree.{Tree, Trees, node, none, ◌▸◌, count, identifier, shape_of}
 use Rattle.mini_model.specs.Paths.{append}
 use Rattle.mini_model.specs.Weight.{same_text}
 use Rattle.mini_laws.specs.Value.{Value, Boolean, Declared, VariableSet, Slot, Holds, choose, truth, is_nullish, variable_eq}
 use Rattle.mini_laws.specs.Conversion.{Made, makes, raises, outside, to_number, known_member}
 use Rattle.mini_laws.specs.Operators.{of_number, strictly_equal, loosely_equal, of_numbers, of_primitives}
 use Rattle.mini_laws.specs.State.{Hint, ForDefault, ForNumber, GetOf, CallOf, DirectEval, Coerce, Entry, Item, Stop, State, Completion, ok, stop, halt, out, Ends, done, ended, either, Environment, with_vars}
-use Rattle.mini_laws.specs.Demand.{Want, Val, Test, Unused, Demand, As, Callee, AnEntry, Parts, Items, Stat, Reference, AMember, Called, Request, Reply, Says}
+use Rattle.mini_laws.specs.Demand.{Want, Val, Test, Unused, Demand, As, Callee, Target, AnEntry, Parts, Items, Stat, Reference, AMember, TargetRequest, Prepare, Fetch, Put, Called, Request, Reply, Says, says}
 use Rattle.mini_laws.specs.Command.{set_var, Command, ret, fails, stuck, op, kid, then, attempt, bind, shift, emit, act, Gets, run, read_slot, at_variable, is_object}
 use Rattle.mini_laws.specs.Naming.{EvalName, PlainName, Facts, Summary, summary, summaries, facts_all, naming}
 use Rattle.mini_laws.specs.Asking.{pass, demand, first_demand, parts_demand, logical_demand}
 use Rattle.mini_laws.specs.Replies.{reply, valued, passed, passing, merged, raise, of_made, of_option, primitive, hint_of, numeric, is_of_primitives, operate, loosely, or_event, get_member}
-use Rattle.mini_laws.specs.Expressions.{get_identifier, operate_by, binary_step, logical_step, conditional_step, sequence_step, not_step, number_step, void_step, call_event, call_step, new_step, array_step, object_step, yield_step, member_step, got, called_member}
+use Rattle.mini_laws.specs.Expressions.{get_identifier, operate_by, binary_step, and_step, or_step, logical_step, conditional_step, sequence_step, not_step, property_step, number_step, void_step, call_event, call_step, new_step, array_step, object_step, yield_step, member_step, got, called_member}
 use Rattle.mini_laws.specs.Lists.{entries, parts}
-use Rattle.mini_laws.specs.Targets.{as_member}
+use Rattle.mini_laws.specs.Targets.{as_member, AssignmentKind, Plainly, Computing, Deciding as DecidingKind, assignment_kind, assigns, AssignDemand, put_target, after_read, assign_by, assignment_step}
 use Rattle.mini_laws.specs.Statements.{if_step, return_step, throw_step}
-use Rattle.mini_laws.specs.Step.{step, means, meaning}
+use Rattle.mini_laws.specs.Step.{entry, step, means, meaning}
 use Rattle.mini_laws.specs.Same.{Goes, Agree}
 use Rattle.mini_laws.specs.Substitution.{alone}
 use Rattle.mini_laws.specs.Truth.{told}
-use Rattle.mini_laws.specs.Congruence.{AllAvoid}
+use Rattle.mini_laws.specs.Congruence.{Avoids, AllAvoid}
 use Rattle.mini_laws.proofs.Congruent.{insensitive}
 use Rattle.mini_laws.proofs.Dead.{dead_sound, alive_self}
 use Rattle.mini_laws.proofs.Runs.{either_cong, either_assoc, either_ok}
 use Rattle.mini_laws.proofs.Simulation.{goes_either}
 use Rattle.mini_laws.proofs.Truth.{coherent}
 use Rattle.mini_kept.specs.Without.{Unseen}
+use Rattle.mini_node.specs.Kinds.{is_identifier}
 use Rattle.mini_terms.specs.Folds.{is_effect_free}
 use Rattle.mini_terms.specs.Reading.{is_item, by_value}
 use Rattle.mini_terms.specs.Sound.{Quiet}
 use Rattle.mini_terms.proofs.Dropping.{weak}
 use Rattle.mini_rows.specs.Sketches.{shape_by, Asked, AsWholeItem, AsValue, AsValues, asked_below}
-use Rattle.mini_rows.specs.Unused.{any_names, resolved, is_constant}
+use Rattle.mini_rows.specs.Unused.{any_names, resolved, is_constant, is_plain_assignment, is_word, passes, passes_target}
 use Rattle.mini_rows.proofs.ItemReads.{item_read}
-use Rattle.mini_rows.proofs.Passing.{Replies, Does, Replying, Quietly, constant_replies, quiet_there, quietly, passes_by}
-use Rattle.mini_rows.proofs.SingleUse.{Lead, Not, Plus, Minus, Tilde, Emptying, Beside, Deciding, Choosing, Passing, Called as CalledLead, Making, Waiting, Member, Keyed, Holding, Against, Given as GivenLead, Filling, Keying, Following, Branching, Failing, Storing, Gathering, Fielding, Listing, Doing, Giving, Raising, Testing, head_of, before, place, Step, led, is_end, is_steady, Stands, Well, Spared, AllPass, Passed, summaries_led}
+use Rattle.mini_rows.proofs.Passing.{Replies, Does, Mild, Replying, Quietly, constant_replies, word_replies, target_replies, quiet_there, quietly, fetched_quietly, passes_by}
+use Rattle.mini_rows.proofs.SingleUse.{Lead, Not, Plus, Minus, Tilde, Emptying, Beside, Deciding, Choosing, Passing, Called as CalledLead, Making, Waiting, Member, Keyed, Holding, Against, Given as GivenLead, Filling, Keying, Following, Branching, Failing, Storing, Gathering, Fielding, Listing, Doing, Giving, Raising, Testing, head_of, before, place, Step, led, is_end, is_steady, surely, Stands, Well, Spared, AllPass, Passed, summaries_led}
 use Rattle.mini_rows.proofs.UnusedNames.{all_avoided}
 
 -- ---- a command that doesn't ask a child any more
@@ -171,106 +175,167 @@ pub record Hits (i : ℕ) (σ : ℕ → Demand) (A : Type 0) (j : ℕ) (r : Requ
   pub stops : (y : Stop) → k (ended y) ≡ fails y
   pub later : (a : Reply (σ j) r) → Later i (k (done a))
 
-abbrev pub Reaches : ℕ → {σ : ℕ → Demand} {A : Type 0} → Command σ A → Type 0
-Reaches i {σ} {A} (kid j r k) = (Before j i × ((a : Reply (σ j) r) → Reaches i (k (done a)))) ⊎ Hits i σ A j r k
-Reaches i {σ} {A} c = ⊥
+-- so many of those before may be asked; where nothing is lost, it may end without asking the one at the place
+abbrev pub Reaches : Bool → ℕ → ℕ → {σ : ℕ → Demand} {A : Type 0} → Command σ A → Type 0
+Reaches f m i {σ} {A} (kid j r k) = ((Before j m × Mild f (σ j) r) × ((a : Reply (σ j) r) → Reaches f m i (k (done a)))) ⊎ (Hits i σ A j r k ⊎ ((f ≡ true) × Later i {σ = σ} (kid j r k)))
+Reaches f m i {σ} {A} c = (f ≡ true) × Later i {σ = σ} c
 
-reach_bind : (i : ℕ) {σ : ℕ → Demand} {A B : Type 0} (c : Command σ A) (f : A → Command σ B) → Reaches i c → ((a : A) → Later i (f a)) → Reaches i (bind c f)
-reach_bind i (kid j r k) f (inl t) g = inl (t.0, λ a. reach_bind i (k (done a)) f (t.1 a) g)
-reach_bind i (kid j r k) f (inr t) g = inr (record { here = t.here; stops = λ y. ap (λ d. bind d f) (t.stops y); later = λ a. later_bind i (k (done a)) f (t.later a) g })
-reach_bind i (ret a) f t g = absurd t
-reach_bind i (fails y) f t g = absurd t
-reach_bind i stuck f t g = absurd t
-reach_bind i (op o k) f t g = absurd t
+missed : (f : Bool) (m i : ℕ) {σ : ℕ → Demand} {A : Type 0} (c : Command σ A) → f ≡ true → Later i c → Reaches f m i c
+missed f m i (kid j r k) e l = inr (inr (e, l))
+missed f m i (ret a) e l = (e, l)
+missed f m i (fails y) e l = (e, l)
+missed f m i stuck e l = (e, l)
+missed f m i (op o k) e l = (e, l)
 
-pub reach_statement : (i : ℕ) {σ : ℕ → Demand} (c : Command σ (Unit {0})) → Reaches i c → Reaches i (attempt c (merged None))
-reach_statement i (kid j r k) (inl t) = inl (t.0, λ a. reach_statement i (k (done a)) (t.1 a))
-reach_statement i (kid j r k) (inr t) = inr (record { here = t.here; stops = λ y. ap (λ d. attempt d (merged None)) (t.stops y); later = λ a. later_attempt i (k (done a)) (merged None) (t.later a) (λ u. tt) (λ y. tt) })
-reach_statement i (ret a) t = absurd t
-reach_statement i (fails y) t = absurd t
-reach_statement i stuck t = absurd t
-reach_statement i (op o k) t = absurd t
+reach_choose : (f : Bool) (m i : ℕ) {σ : ℕ → Demand} {A : Type 0} (b : Bool) (x y : Command σ A) → Reaches f m i x → Reaches f m i y → Reaches f m i (choose b x y)
+reach_choose f m i true x y t u = t
+reach_choose f m i false x y t u = u
 
-reach_shift : (i : ℕ) (q : ℕ → Demand) {A : Type 0} (c : Command (λ i. q (suc i)) A) → Reaches i c → Reaches (suc i) (shift {q = q} c)
-reach_shift i q (kid j r k) (inl t) = inl (t.0, λ a. reach_shift i q (k (done a)) (t.1 a))
-reach_shift i q (kid j r k) (inr t) = inr (record { here = ap suc t.here; stops = λ y. ap (shift {q = q}) (t.stops y); later = λ a. later_shifted i q (k (done a)) (t.later a) })
-reach_shift i q (ret a) t = absurd t
-reach_shift i q (fails y) t = absurd t
-reach_shift i q stuck t = absurd t
-reach_shift i q (op o k) t = absurd t
+reach_bind : (f : Bool) (m i : ℕ) {σ : ℕ → Demand} {A B : Type 0} (c : Command σ A) (g : A → Command σ B) → Reaches f m i c → ((a : A) → Later i (g a)) → Reaches f m i (bind c g)
+reach_bind f m i (kid j r k) g (inl t) h = inl (t.0, λ a. reach_bind f m i (k (done a)) g (t.1 a) h)
+reach_bind f m i (kid j r k) g (inr (inl t)) h = inr (inl (record { here = t.here; stops = λ y. ap (λ d. bind d g) (t.stops y); later = λ a. later_bind i (k (done a)) g (t.later a) h }))
+reach_bind f m i (kid j r k) g (inr (inr t)) h = inr (inr (t.0, later_bind i (kid j r k) g t.1 h))
+reach_bind f m i (ret a) g t h = missed f m i (g a) t.0 (h a)
+reach_bind f m i (fails y) g t h = (t.0, tt)
+reach_bind f m i stuck g t h = (t.0, tt)
+reach_bind f m i (op o k) g t h = (t.0, later_bind i (op o k) g t.1 h)
 
-reach_valued : (i : ℕ) (σ : ℕ → Demand) (q : Demand) → Replies q → (r : Request q) (c : Command σ Value) → Reaches i c → Reaches i (valued q r c)
-reach_valued i σ (As w) u r c b = reach_bind i c (reply (As w) r) b (λ v. tt)
-reach_valued i σ Callee u r c b = reach_bind i c (reply Callee r) b (λ v. tt)
-reach_valued i σ AnEntry u r c b = reach_bind i c (reply AnEntry r) b (λ v. tt)
-reach_valued i σ q u r c b = absurd u
+pub reach_statement : (f : Bool) (m i : ℕ) {σ : ℕ → Demand} (c : Command σ (Unit {0})) → Reaches f m i c → Reaches f m i (attempt c (merged None))
+reach_statement f m i (kid j r k) (inl t) = inl (t.0, λ a. reach_statement f m i (k (done a)) (t.1 a))
+reach_statement f m i (kid j r k) (inr (inl t)) = inr (inl (record { here = t.here; stops = λ y. ap (λ d. attempt d (merged None)) (t.stops y); later = λ a. later_attempt i (k (done a)) (merged None) (t.later a) (λ u. tt) (λ y. tt) }))
+reach_statement f m i (kid j r k) (inr (inr t)) = inr (inr (t.0, later_attempt i (kid j r k) (merged None) t.1 (λ u. tt) (λ y. tt)))
+reach_statement f m i (ret a) t = (t.0, tt)
+reach_statement f m i (fails y) t = (t.0, tt)
+reach_statement f m i stuck t = (t.0, tt)
+reach_statement f m i (op o k) t = (t.0, later_attempt i (op o k) (merged None) t.1 (λ u. tt) (λ y. tt))
 
-reach_passing : (i : ℕ) (σ : ℕ → Demand) (q : Demand) → Replies q → (r : Request q) (c : Command σ (Says (pass q))) → Reaches i c → Reaches i (passing q r c)
-reach_passing i σ (As w) u r c b = reach_bind i c (passed (As w) r) b (λ v. tt)
-reach_passing i σ Callee u r c b = reach_bind i c (passed Callee r) b (λ v. tt)
-reach_passing i σ AnEntry u r c b = reach_bind i c (passed AnEntry r) b (λ v. tt)
-reach_passing i σ q u r c b = absurd u
+reach_shift : (f : Bool) (m i : ℕ) (q : ℕ → Demand) {A : Type 0} (c : Command (λ i. q (suc i)) A) → Reaches f m i c → Reaches f (suc m) (suc i) (shift {q = q} c)
+reach_shift f m i q (kid j r k) (inl t) = inl (t.0, λ a. reach_shift f m i q (k (done a)) (t.1 a))
+reach_shift f m i q (kid j r k) (inr (inl t)) = inr (inl (record { here = ap suc t.here; stops = λ y. ap (shift {q = q}) (t.stops y); later = λ a. later_shifted i q (k (done a)) (t.later a) }))
+reach_shift f m i q (kid j r k) (inr (inr t)) = inr (inr (t.0, later_shifted i q (kid j r k) t.1))
+reach_shift f m i q (ret a) t = (t.0, tt)
+reach_shift f m i q (fails y) t = (t.0, tt)
+reach_shift f m i q stuck t = (t.0, tt)
+reach_shift f m i q (op o k) t = (t.0, later_shifted i q (op o k) t.1)
+
+reach_valued : (f : Bool) (m i : ℕ) (σ : ℕ → Demand) (q : Demand) → Replies q → (r : Request q) (c : Command σ Value) → Reaches f m i c → Reaches f m i (valued q r c)
+reach_valued f m i σ (As w) u r c b = reach_bind f m i c (reply (As w) r) b (λ v. tt)
+reach_valued f m i σ Callee u r c b = reach_bind f m i c (reply Callee r) b (λ v. tt)
+reach_valued f m i σ AnEntry u r c b = reach_bind f m i c (reply AnEntry r) b (λ v. tt)
+reach_valued f m i σ q u r c b = absurd u
+
+reach_passing : (f : Bool) (m i : ℕ) (σ : ℕ → Demand) (q : Demand) → Replies q → (r : Request q) (c : Command σ (Says (pass q))) → Reaches f m i c → Reaches f m i (passing q r c)
+reach_passing f m i σ (As w) u r c b = reach_bind f m i c (passed (As w) r) b (λ v. tt)
+reach_passing f m i σ Callee u r c b = reach_bind f m i c (passed Callee r) b (λ v. tt)
+reach_passing f m i σ AnEntry u r c b = reach_bind f m i c (passed AnEntry r) b (λ v. tt)
+reach_passing f m i σ q u r c b = absurd u
 
 -- ---- each shape
 
 -- a command that goes on with nothing else of a child
-pub one : (i : ℕ) (σ : ℕ → Demand) (A : Type 0) (r : Request (σ i)) (f : Reply (σ i) r → Command σ A) → ((a : Reply (σ i) r) → Later i (f a)) → Reaches i {σ = σ} (kid i r ((then) f))
-one i σ A r f h = inr (record { here = refl; stops = λ y. refl; later = h })
+pub one : (f : Bool) (m i : ℕ) (σ : ℕ → Demand) (A : Type 0) (r : Request (σ i)) (g : Reply (σ i) r → Command σ A) → ((a : Reply (σ i) r) → Later i (g a)) → Reaches f m i {σ = σ} (kid i r ((then) g))
+one f m i σ A r g h = inr (inl (record { here = refl; stops = λ y. refl; later = h }))
 
-number_begins : (o : UnaryOperator) → Reaches 0 (number_step o)
-number_begins o = one 0 (λ i. As Val) Value tt _ (λ v. later_bind 0 (numeric v) (λ n. of_made (of_number o n)) (numeric_later 0 (λ i. As Val) v) (λ n. made_later 0 (λ i. As Val) (of_number o n)))
+module _ (f : Bool) where
+  number_begins : (o : UnaryOperator) → Reaches f 0 0 (number_step o)
+  number_begins o = one f 0 0 (λ i. As Val) Value tt _ (λ v. later_bind 0 (numeric v) (λ n. of_made (of_number o n)) (numeric_later 0 (λ i. As Val) v) (λ n. made_later 0 (λ i. As Val) (of_number o n)))
 
-binary_begins : (o : BinaryOperator) → Reaches 0 (binary_step o)
-binary_begins o = one 0 (λ i. As Val) Value tt _ (λ v. (tt, (λ w. by_later 0 (λ i. As Val) o v w, λ y. tt)))
+  binary_begins : (o : BinaryOperator) → Reaches f 0 0 (binary_step o)
+  binary_begins o = one f 0 0 (λ i. As Val) Value tt _ (λ v. (tt, (λ w. by_later 0 (λ i. As Val) o v w, λ y. tt)))
 
-binary_goes_on : (o : BinaryOperator) → Reaches 1 (binary_step o)
-binary_goes_on o = inl (tt, λ v. one 1 (λ i. As Val) Value tt _ (λ w. by_later 1 (λ i. As Val) o v w))
+  binary_goes_on : (o : BinaryOperator) → Reaches f 1 1 (binary_step o)
+  binary_goes_on o = inl ((tt, tt), λ v. one f 1 1 (λ i. As Val) Value tt _ (λ w. by_later 1 (λ i. As Val) o v w))
 
-logical_begins : (o : LogicalOperator) (w : Want) → Reaches 0 (logical_step o w)
-logical_begins And Val = one 0 (λ i. As Val) Value tt _ (λ v. later_choose 0 (truth v) (kid 1 tt ((then) ret)) (ret v) (tt, (λ v. tt, λ y. tt)) tt)
-logical_begins And Test = one 0 (λ i. As Test) Bool tt _ (λ c. later_choose 0 c (kid 1 tt ((then) ret)) (ret false) (tt, (λ v. tt, λ y. tt)) tt)
-logical_begins And Unused = one 0 (logical_demand And Unused) (Unit {0}) tt _ (λ c. later_choose 0 {σ = logical_demand And Unused} c (kid 1 tt ((then) ret)) (ret tt) (tt, (λ v. tt, λ y. tt)) tt)
-logical_begins Or Val = one 0 (λ i. As Val) Value tt _ (λ v. later_choose 0 (truth v) (ret v) (kid 1 tt ((then) ret)) tt (tt, (λ v. tt, λ y. tt)))
-logical_begins Or Test = one 0 (λ i. As Test) Bool tt _ (λ c. later_choose 0 c (ret true) (kid 1 tt ((then) ret)) tt (tt, (λ v. tt, λ y. tt)))
-logical_begins Or Unused = one 0 (logical_demand Or Unused) (Unit {0}) tt _ (λ c. later_choose 0 {σ = logical_demand Or Unused} c (ret tt) (kid 1 tt ((then) ret)) tt (tt, (λ v. tt, λ y. tt)))
-logical_begins Coalesce w = one 0 (λ i. As Val) (Says w) tt _ (λ v. later_choose 0 (is_nullish v) _ _ (tt, (λ v. tt, λ y. tt)) tt)
+  logical_begins : (o : LogicalOperator) (w : Want) → Reaches f 0 0 (logical_step o w)
+  logical_begins And Val = one f 0 0 (λ i. As Val) Value tt _ (λ v. later_choose 0 (truth v) (kid 1 tt ((then) ret)) (ret v) (tt, (λ v. tt, λ y. tt)) tt)
+  logical_begins And Test = one f 0 0 (λ i. As Test) Bool tt _ (λ c. later_choose 0 c (kid 1 tt ((then) ret)) (ret false) (tt, (λ v. tt, λ y. tt)) tt)
+  logical_begins And Unused = one f 0 0 (logical_demand And Unused) (Unit {0}) tt _ (λ c. later_choose 0 {σ = logical_demand And Unused} c (kid 1 tt ((then) ret)) (ret tt) (tt, (λ v. tt, λ y. tt)) tt)
+  logical_begins Or Val = one f 0 0 (λ i. As Val) Value tt _ (λ v. later_choose 0 (truth v) (ret v) (kid 1 tt ((then) ret)) tt (tt, (λ v. tt, λ y. tt)))
+  logical_begins Or Test = one f 0 0 (λ i. As Test) Bool tt _ (λ c. later_choose 0 c (ret true) (kid 1 tt ((then) ret)) tt (tt, (λ v. tt, λ y. tt)))
+  logical_begins Or Unused = one f 0 0 (logical_demand Or Unused) (Unit {0}) tt _ (λ c. later_choose 0 {σ = logical_demand Or Unused} c (ret tt) (kid 1 tt ((then) ret)) tt (tt, (λ v. tt, λ y. tt)))
+  logical_begins Coalesce w = one f 0 0 (λ i. As Val) (Says w) tt _ (λ v. later_choose 0 (is_nullish v) _ _ (tt, (λ v. tt, λ y. tt)) tt)
 
-conditional_begins : (w : Want) → Reaches 0 (conditional_step w)
-conditional_begins w = one 0 (first_demand (As Test) (As w)) (Says w) tt _ (λ c. later_choose 0 {σ = first_demand (As Test) (As w)} c (kid 1 tt ((then) ret)) (kid 2 tt ((then) ret)) (tt, (λ v. tt, λ y. tt)) (tt, (λ v. tt, λ y. tt)))
+  conditional_begins : (w : Want) → Reaches f 0 0 (conditional_step w)
+  conditional_begins w = one f 0 0 (first_demand (As Test) (As w)) (Says w) tt _ (λ c. later_choose 0 {σ = first_demand (As Test) (As w)} c (kid 1 tt ((then) ret)) (kid 2 tt ((then) ret)) (tt, (λ v. tt, λ y. tt)) (tt, (λ v. tt, λ y. tt)))
 
-member_begins : Reaches 0 (member_step false)
-member_begins = one 0 (λ i. As Val) Reference tt _ (λ v. (tt, (λ u. tt, λ y. tt)))
+  member_begins : Reaches f 0 0 (member_step false)
+  member_begins = one f 0 0 (λ i. As Val) Reference tt _ (λ v. (tt, (λ u. tt, λ y. tt)))
 
-member_goes_on : Reaches 1 (member_step false)
-member_goes_on = inl (tt, λ v. one 1 (λ i. As Val) Reference tt _ (λ u. tt))
+  member_goes_on : Reaches f 1 1 (member_step false)
+  member_goes_on = inl ((tt, tt), λ v. one f 1 1 (λ i. As Val) Reference tt _ (λ u. tt))
 
-as_member_reaches : (i : ℕ) → Reaches i (member_step false) → (q : Demand) → Replies q → (r : Request q) → Reaches i (as_member (member_step false) q r)
-as_member_reaches i m (As w) u r = reach_valued i (λ i. As Val) (As w) tt r (bind (member_step false) got) (reach_bind i (member_step false) got m (got_later i (λ i. As Val)))
-as_member_reaches i m AnEntry u r = reach_valued i (λ i. As Val) AnEntry tt r (bind (member_step false) got) (reach_bind i (member_step false) got m (got_later i (λ i. As Val)))
-as_member_reaches i m Callee u r = reach_bind i (member_step false) called_member m (called_later i (λ i. As Val))
-as_member_reaches i m q u r = absurd u
+  as_member_reaches : (i : ℕ) → Reaches f i i (member_step false) → (q : Demand) → Replies q → (r : Request q) → Reaches f i i (as_member (member_step false) q r)
+  as_member_reaches i m (As w) u r = reach_valued f i i (λ i. As Val) (As w) tt r (bind (member_step false) got) (reach_bind f i i (member_step false) got m (got_later i (λ i. As Val)))
+  as_member_reaches i m AnEntry u r = reach_valued f i i (λ i. As Val) AnEntry tt r (bind (member_step false) got) (reach_bind f i i (member_step false) got m (got_later i (λ i. As Val)))
+  as_member_reaches i m Callee u r = reach_bind f i i (member_step false) called_member m (called_later i (λ i. As Val))
+  as_member_reaches i m q u r = absurd u
 
-call_goes_on : Reaches 1 (call_step false)
-call_goes_on = inl (tt, λ f. one 1 (first_demand Callee Items) Value tt _ (λ vs. call_later 1 (first_demand Callee Items) false f vs))
+  call_goes_on : Reaches f 1 1 (call_step false)
+  call_goes_on = inl ((tt, tt), λ g. one f 1 1 (first_demand Callee Items) Value tt _ (λ vs. call_later 1 (first_demand Callee Items) false g vs))
 
-new_goes_on : Reaches 1 new_step
-new_goes_on = inl (tt, λ f. one 1 (first_demand (As Val) Items) Value tt _ (λ vs. (λ v. tt, λ y. tt)))
+  new_goes_on : Reaches f 1 1 new_step
+  new_goes_on = inl ((tt, tt), λ g. one f 1 1 (first_demand (As Val) Items) Value tt _ (λ vs. (λ v. tt, λ y. tt)))
 
-parts_reach : (i n : ℕ) (w : Want) → Before i (suc n) → Reaches i (parts n w)
-parts_reach zero zero w h = one 0 (parts_demand zero w) (Says w) tt _ (λ a. tt)
-parts_reach zero (suc n) w h = one 0 (parts_demand (suc n) w) (Says w) tt _ (λ a. later_shift (parts_demand (suc n) w) (parts n w))
-parts_reach (suc i) zero w h = absurd (no_less i h)
-  where
-    no_less : (i : ℕ) → Before i 0 → ⊥
-    no_less zero h = h
-    no_less (suc i) h = h
-parts_reach (suc i) (suc n) w h = inl (tt, λ u. reach_shift i (parts_demand (suc n) w) (parts n w) (parts_reach i n w h))
+  parts_reach : (i n : ℕ) (w : Want) → Before i (suc n) → Reaches f i i (parts n w)
+  parts_reach zero zero w h = one f 0 0 (parts_demand zero w) (Says w) tt _ (λ a. tt)
+  parts_reach zero (suc n) w h = one f 0 0 (parts_demand (suc n) w) (Says w) tt _ (λ a. later_shift (parts_demand (suc n) w) (parts n w))
+  parts_reach (suc i) zero w h = absurd (no_less i h)
+    where
+      no_less : (i : ℕ) → Before i 0 → ⊥
+      no_less zero h = h
+      no_less (suc i) h = h
+  parts_reach (suc i) (suc n) w h = inl ((tt, tt), λ u. reach_shift f i i (parts_demand (suc n) w) (parts n w) (parts_reach i n w h))
 
-entries_reach : (i n : ℕ) → Before i n → Reaches i (entries n)
-entries_reach zero zero h = absurd h
-entries_reach (suc i) zero h = absurd h
-entries_reach zero (suc n) h = one 0 (λ i. AnEntry) (List Entry) tt _ (λ e. later_bind 0 (shift {q = λ i. AnEntry} (entries n)) (λ es. ret (e ∷ es)) (later_shift (λ i. AnEntry) (entries n)) (λ es. tt))
-entries_reach (suc i) (suc n) h = inl (tt, λ e. reach_bind (suc i) (shift {q = λ i. AnEntry} (entries n)) (λ es. ret (e ∷ es)) (reach_shift i (λ i. AnEntry) (entries n) (entries_reach i n h)) (λ es. tt))
+  entries_reach : (i n : ℕ) → Before i n → Reaches f i i (entries n)
+  entries_reach zero zero h = absurd h
+  entries_reach (suc i) zero h = absurd h
+  entries_reach zero (suc n) h = one f 0 0 (λ i. AnEntry) (List Entry) tt _ (λ e. later_bind 0 (shift {q = λ i. AnEntry} (entries n)) (λ es. ret (e ∷ es)) (later_shift (λ i. AnEntry) (entries n)) (λ es. tt))
+  entries_reach (suc i) (suc n) h = inl ((tt, tt), λ e. reach_bind f (suc i) (suc i) (shift {q = λ i. AnEntry} (entries n)) (λ es. ret (e ∷ es)) (reach_shift f i i (λ i. AnEntry) (entries n) (entries_reach i n h)) (λ es. tt))
+
+  -- one that may be left out
+  and_follows : (w : Want) → f ≡ true → Reaches f 1 1 (and_step w)
+  and_follows Val e = inl ((tt, tt), λ v. reach_choose f 1 1 (truth v) (kid 1 tt ((then) ret)) (ret v) (one f 1 1 (λ i. As Val) Value tt ret (λ v. tt)) (e, tt))
+  and_follows Test e = inl ((tt, tt), λ c. reach_choose f 1 1 c (kid 1 tt ((then) ret)) (ret false) (one f 1 1 (λ i. As Test) Bool tt ret (λ v. tt)) (e, tt))
+  and_follows Unused e = inl ((tt, tt), λ c. reach_choose f 1 1 {σ = logical_demand And Unused} c (kid 1 tt ((then) ret)) (ret tt) (one f 1 1 (logical_demand And Unused) (Unit {0}) tt ret (λ v. tt)) (e, tt))
+
+  or_follows : (w : Want) → f ≡ true → Reaches f 1 1 (or_step w)
+  or_follows Val e = inl ((tt, tt), λ v. reach_choose f 1 1 (truth v) (ret v) (kid 1 tt ((then) ret)) (e, tt) (one f 1 1 (λ i. As Val) Value tt ret (λ v. tt)))
+  or_follows Test e = inl ((tt, tt), λ c. reach_choose f 1 1 c (ret true) (kid 1 tt ((then) ret)) (e, tt) (one f 1 1 (λ i. As Test) Bool tt ret (λ v. tt)))
+  or_follows Unused e = inl ((tt, tt), λ c. reach_choose f 1 1 {σ = logical_demand Or Unused} c (ret tt) (kid 1 tt ((then) ret)) (e, tt) (one f 1 1 (logical_demand Or Unused) (Unit {0}) tt ret (λ v. tt)))
+
+  logical_follows : (o : LogicalOperator) (w : Want) → f ≡ true → Reaches f 1 1 (logical_step o w)
+  logical_follows And w e = and_follows w e
+  logical_follows Or w e = or_follows w e
+  logical_follows Coalesce w e = inl ((tt, tt), λ v. reach_choose f 1 1 (is_nullish v) _ (ret (says w v)) (one f 1 1 (λ i. As Val) (Says w) tt _ (λ u. tt)) (e, tt))
+
+  branch_follows : (w : Want) → f ≡ true → Reaches f 1 1 (conditional_step w)
+  branch_follows w e = inl ((tt, tt), λ c. reach_choose f 1 1 {σ = first_demand (As Test) (As w)} c (kid 1 tt ((then) ret)) (kid 2 tt ((then) ret)) (one f 1 1 (first_demand (As Test) (As w)) (Says w) tt ret (λ v. tt)) (inr (inr (e, (tt, (λ v. tt, λ y. tt))))))
+
+  other_follows : (w : Want) → f ≡ true → Reaches f 1 2 (conditional_step w)
+  other_follows w e = inl ((tt, tt), λ c. reach_choose f 1 2 {σ = first_demand (As Test) (As w)} c (kid 1 tt ((then) ret)) (kid 2 tt ((then) ret)) (inr (inr (e, (tt, (λ v. tt, λ y. tt))))) (one f 1 2 (first_demand (As Test) (As w)) (Says w) tt ret (λ v. tt)))
+
+  -- the right side of an assignment, behind what is assigned to
+  put_later : (reference : Reference) (v : Value) → Later 1 (put_target reference v)
+  put_later reference v = (tt, (λ u. tt, λ y. tt))
+
+  stored_plainly : (reference : Reference) → Reaches f 1 1 (assign_by Plainly reference)
+  stored_plainly reference = one f 1 1 AssignDemand Value tt (put_target reference) (put_later reference)
+
+  stored_by : (k : AssignmentKind) → f ≡ true → (reference : Reference) → Reaches f 1 1 (assign_by k reference)
+  stored_by Plainly e reference = stored_plainly reference
+  stored_by (Computing o) e reference = inl ((tt, e), λ a. one f 1 1 AssignDemand Value tt _ (λ b. later_bind 1 {σ = AssignDemand} (operate o a b) (put_target (after_read reference)) (operate_later 1 AssignDemand o a b) (put_later (after_read reference))))
+  stored_by (DecidingKind o) e reference = inl ((tt, e), λ a. reach_choose f 1 1 {σ = AssignDemand} (assigns o a) (kid 1 tt ((then) (put_target (after_read reference)))) (ret a) (one f 1 1 AssignDemand Value tt (put_target (after_read reference)) (put_later (after_read reference))) (e, tt))
+
+  stores : (o : AssignmentOperator) → (is_plain_assignment o || f) ≡ true → Reaches f 1 1 (assignment_step o)
+  stores Assign e = inl ((tt, tt), stored_plainly)
+  stores o e = inl ((tt, tt), stored_by (assignment_kind o) e)
+
+  -- the value of a property, behind a key that is written out
+  fields : (q : Demand) → Replies q → (r : Request q) → f ≡ true → Reaches f 1 1 (entry q r (property_step Init false false false))
+  fields (As w) u r e = (e, tt)
+  fields Callee u r e = (e, tt)
+  fields AnEntry u r e = reach_bind f 1 1 {σ = λ i. As Val} (property_step Init false false false) ret (inl ((tt, tt), λ key. one f 1 1 (λ i. As Val) Entry tt _ (λ v. tt))) (λ v. tt)
+  fields q u r e = absurd u
 
 -- what is asked where a step stands
 abbrev pub Suits : Asked → Demand → Bool → Type 0
@@ -288,25 +353,34 @@ replies AnEntry b u = tt
 replies Callee b u = tt
 replies q b u = absurd u
 
--- what the parts before are asked
+-- the parts before that are evaluated before the one there
+abbrev pub earlier : Lead → Trees
+earlier (Failing a b) = a ▸ none
+earlier l = before l
+
+-- those of them that are asked for values
+abbrev pub valued_before : Lead → Trees
+valued_before (Storing o a) = none
+valued_before l = earlier l
+
 abbrev pub AllReply : (ℕ → Demand) → Trees → Type 0
 AllReply σ none = Unit {0}
 AllReply σ (t ▸ ts) = Replies (σ 0) × AllReply (λ i. σ (suc i)) ts
 
-pub record Asks (c : Asked) (l : Lead) (fs : List Facts) (q : Demand) (r : Request q) (at_end : Bool) : Type 0 where
-  pub reaches : is_steady l ≡ true → Reaches (count (before l)) (step (shape_by (head_of l)) [] fs q r)
+pub record Asks (f : Bool) (c : Asked) (l : Lead) (fs : List Facts) (q : Demand) (r : Request q) (at_end : Bool) : Type 0 where
+  pub reaches : surely f l ≡ true → Reaches f (count (earlier l)) (count (before l)) (step (shape_by (head_of l)) [] fs q r)
   pub below : Suits (asked_below (head_of l) c (place 0 (before l))) (demand (shape_by (head_of l)) fs q (count (before l))) at_end
-  pub first : is_steady l ≡ true → AllReply (demand (shape_by (head_of l)) fs q) (before l)
+  pub first : AllReply (demand (shape_by (head_of l)) fs q) (valued_before l)
 
-value_asks : (l : Lead) (b : Bool) → Stands AsValue l b → (fs : List Facts) (q : Demand) → Replies q → (r : Request q) → Asks AsValue l fs q r b
+value_asks : (f : Bool) (l : Lead) (b : Bool) → Stands AsValue l b → (fs : List Facts) (q : Demand) → Replies q → (r : Request q) → Asks f AsValue l fs q r b
 unfolding step
-value_asks Not b s fs q u r = record { reaches = λ y. reach_valued 0 (λ i. As Test) q u r not_step (one 0 (λ i. As Test) Value tt _ (λ v. tt)); below = tt; first = λ y. tt }
-value_asks Plus b s fs q u r = record { reaches = λ y. reach_valued 0 (λ i. As Val) q u r (number_step UnaryPlus) (number_begins UnaryPlus); below = tt; first = λ y. tt }
-value_asks Minus b s fs q u r = record { reaches = λ y. reach_valued 0 (λ i. As Val) q u r (number_step UnaryNegation) (number_begins UnaryNegation); below = tt; first = λ y. tt }
-value_asks Tilde b s fs q u r = record { reaches = λ y. reach_valued 0 (λ i. As Val) q u r (number_step BitwiseNot) (number_begins BitwiseNot); below = tt; first = λ y. tt }
-value_asks Emptying b s fs q u r = record { reaches = λ y. reach_valued 0 (λ i. As Val) q u r void_step (one 0 (λ i. As Val) Value tt _ (λ v. tt)); below = tt; first = λ y. tt }
-value_asks (Beside o) b s fs q u r = record { reaches = λ y. reach_valued 0 (λ i. As Val) q u r (binary_step o) (binary_begins o); below = tt; first = λ y. tt }
-value_asks (Deciding o) b s fs q u r = record { reaches = λ y. reach_passing 0 (logical_demand o (pass q)) q u r (logical_step o (pass q)) (logical_begins o (pass q)); below = left o (pass q); first = λ y. tt }
+value_asks f Not b s fs q u r = record { reaches = λ y. reach_valued f 0 0 (λ i. As Test) q u r not_step (one f 0 0 (λ i. As Test) Value tt _ (λ v. tt)); below = tt; first = tt }
+value_asks f Plus b s fs q u r = record { reaches = λ y. reach_valued f 0 0 (λ i. As Val) q u r (number_step UnaryPlus) (number_begins f UnaryPlus); below = tt; first = tt }
+value_asks f Minus b s fs q u r = record { reaches = λ y. reach_valued f 0 0 (λ i. As Val) q u r (number_step UnaryNegation) (number_begins f UnaryNegation); below = tt; first = tt }
+value_asks f Tilde b s fs q u r = record { reaches = λ y. reach_valued f 0 0 (λ i. As Val) q u r (number_step BitwiseNot) (number_begins f BitwiseNot); below = tt; first = tt }
+value_asks f Emptying b s fs q u r = record { reaches = λ y. reach_valued f 0 0 (λ i. As Val) q u r void_step (one f 0 0 (λ i. As Val) Value tt _ (λ v. tt)); below = tt; first = tt }
+value_asks f (Beside o) b s fs q u r = record { reaches = λ y. reach_valued f 0 0 (λ i. As Val) q u r (binary_step o) (binary_begins f o); below = tt; first = tt }
+value_asks f (Deciding o) b s fs q u r = record { reaches = λ y. reach_passing f 0 0 (logical_demand o (pass q)) q u r (logical_step o (pass q)) (logical_begins f o (pass q)); below = left o (pass q); first = tt }
   where
     left : (o : LogicalOperator) (w : Want) → Suits AsValue (logical_demand o w 0) b
     left And Val = tt
@@ -316,20 +390,20 @@ value_asks (Deciding o) b s fs q u r = record { reaches = λ y. reach_passing 0 
     left Or Test = tt
     left Or Unused = tt
     left Coalesce w = tt
-value_asks Choosing b s fs q u r = record { reaches = λ y. reach_passing 0 (first_demand (As Test) (As (pass q))) q u r (conditional_step (pass q)) (conditional_begins (pass q)); below = tt; first = λ y. tt }
-value_asks Passing b s fs q u r = record { reaches = λ y. reach_passing 0 (λ i. Parts (pass q)) q u r (sequence_step (pass q)) (one 0 (λ i. Parts (pass q)) (Says (pass q)) tt _ (λ v. tt)); below = tt; first = λ y. tt }
-value_asks CalledLead b s fs q u r = record { reaches = λ y. reach_valued 0 (first_demand Callee Items) q u r (call_step false) (one 0 (first_demand Callee Items) Value tt _ (λ f. (tt, (λ vs. call_later 0 (first_demand Callee Items) false f vs, λ y. tt)))); below = s; first = λ y. tt }
-value_asks Making b s fs q u r = record { reaches = λ y. reach_valued 0 (first_demand (As Val) Items) q u r new_step (one 0 (first_demand (As Val) Items) Value tt _ (λ f. (tt, (λ vs. (λ v. tt, λ y. tt), λ y. tt)))); below = tt; first = λ y. tt }
-value_asks (Waiting d) b s fs q u r = record { reaches = λ y. reach_valued 0 (λ i. As Val) q u r (yield_step d) (one 0 (λ i. As Val) Value tt _ (λ v. (λ a. tt, λ y. tt))); below = tt; first = λ y. tt }
-value_asks Member b s fs q u r = record { reaches = λ y. as_member_reaches 0 member_begins q u r; below = tt; first = λ y. tt }
-value_asks Keyed b s fs q u r = record { reaches = λ y. as_member_reaches 0 member_begins q u r; below = tt; first = λ y. tt }
-value_asks Holding b s fs q u r = record { reaches = λ y. reach_valued 0 (λ i. Items) q u r array_step (one 0 (λ i. Items) Value tt _ (λ vs. (λ v. tt, λ y. tt))); below = tt; first = λ y. tt }
-value_asks Gathering b s fs q u r = record { reaches = λ y. reach_valued 0 (λ i. Items) q u r object_step (one 0 (λ i. Items) Value tt _ (λ vs. (λ v. tt, λ y. tt))); below = tt; first = λ y. tt }
-value_asks (Against o a) b s fs q u r = record { reaches = λ y. reach_valued 1 (λ i. As Val) q u r (binary_step o) (binary_goes_on o); below = tt; first = λ y. (tt, tt) }
-value_asks (GivenLead a) b s fs q u r = record { reaches = λ y. reach_valued 1 (first_demand Callee Items) q u r (call_step false) call_goes_on; below = tt; first = λ y. (tt, tt) }
-value_asks (Filling a) b s fs q u r = record { reaches = λ y. reach_valued 1 (first_demand (As Val) Items) q u r new_step new_goes_on; below = tt; first = λ y. (tt, tt) }
-value_asks (Keying a) b s fs q u r = record { reaches = λ y. as_member_reaches 1 member_goes_on q u r; below = tt; first = λ y. (tt, tt) }
-value_asks (Following o a) b s fs q u r = record { reaches = λ y. absurd (true≢false (sym y)); below = behind o (pass q); first = λ y. absurd (true≢false (sym y)) }
+value_asks f Choosing b s fs q u r = record { reaches = λ y. reach_passing f 0 0 (first_demand (As Test) (As (pass q))) q u r (conditional_step (pass q)) (conditional_begins f (pass q)); below = tt; first = tt }
+value_asks f Passing b s fs q u r = record { reaches = λ y. reach_passing f 0 0 (λ i. Parts (pass q)) q u r (sequence_step (pass q)) (one f 0 0 (λ i. Parts (pass q)) (Says (pass q)) tt _ (λ v. tt)); below = tt; first = tt }
+value_asks f CalledLead b s fs q u r = record { reaches = λ y. reach_valued f 0 0 (first_demand Callee Items) q u r (call_step false) (one f 0 0 (first_demand Callee Items) Value tt _ (λ f. (tt, (λ vs. call_later 0 (first_demand Callee Items) false f vs, λ y. tt)))); below = s; first = tt }
+value_asks f Making b s fs q u r = record { reaches = λ y. reach_valued f 0 0 (first_demand (As Val) Items) q u r new_step (one f 0 0 (first_demand (As Val) Items) Value tt _ (λ f. (tt, (λ vs. (λ v. tt, λ y. tt), λ y. tt)))); below = tt; first = tt }
+value_asks f (Waiting d) b s fs q u r = record { reaches = λ y. reach_valued f 0 0 (λ i. As Val) q u r (yield_step d) (one f 0 0 (λ i. As Val) Value tt _ (λ v. (λ a. tt, λ y. tt))); below = tt; first = tt }
+value_asks f Member b s fs q u r = record { reaches = λ y. as_member_reaches f 0 (member_begins f) q u r; below = tt; first = tt }
+value_asks f Keyed b s fs q u r = record { reaches = λ y. as_member_reaches f 0 (member_begins f) q u r; below = tt; first = tt }
+value_asks f Holding b s fs q u r = record { reaches = λ y. reach_valued f 0 0 (λ i. Items) q u r array_step (one f 0 0 (λ i. Items) Value tt _ (λ vs. (λ v. tt, λ y. tt))); below = tt; first = tt }
+value_asks f Gathering b s fs q u r = record { reaches = λ y. reach_valued f 0 0 (λ i. Items) q u r object_step (one f 0 0 (λ i. Items) Value tt _ (λ vs. (λ v. tt, λ y. tt))); below = tt; first = tt }
+value_asks f (Against o a) b s fs q u r = record { reaches = λ y. reach_valued f 1 1 (λ i. As Val) q u r (binary_step o) (binary_goes_on f o); below = tt; first = (tt, tt) }
+value_asks f (GivenLead a) b s fs q u r = record { reaches = λ y. reach_valued f 1 1 (first_demand Callee Items) q u r (call_step false) (call_goes_on f); below = tt; first = (tt, tt) }
+value_asks f (Filling a) b s fs q u r = record { reaches = λ y. reach_valued f 1 1 (first_demand (As Val) Items) q u r new_step (new_goes_on f); below = tt; first = (tt, tt) }
+value_asks f (Keying a) b s fs q u r = record { reaches = λ y. as_member_reaches f 1 (member_goes_on f) q u r; below = tt; first = (tt, tt) }
+value_asks f (Following o a) b s fs q u r = record { reaches = λ y. reach_passing f 1 1 (logical_demand o (pass q)) q u r (logical_step o (pass q)) (logical_follows f o (pass q) y); below = behind o (pass q); first = (ahead o (pass q), tt) }
   where
     behind : (o : LogicalOperator) (w : Want) → Suits AsValue (logical_demand o w 1) b
     behind And Val = tt
@@ -339,19 +413,29 @@ value_asks (Following o a) b s fs q u r = record { reaches = λ y. absurd (true�
     behind Or Test = tt
     behind Or Unused = tt
     behind Coalesce w = tt
-value_asks (Branching a) b s fs q u r = record { reaches = λ y. absurd (true≢false (sym y)); below = tt; first = λ y. absurd (true≢false (sym y)) }
-value_asks (Failing a d) b s fs q u r = record { reaches = λ y. absurd (true≢false (sym y)); below = tt; first = λ y. absurd (true≢false (sym y)) }
-value_asks (Storing o a) b s fs q u r = record { reaches = λ y. absurd (true≢false (sym y)); below = tt; first = λ y. absurd (true≢false (sym y)) }
-value_asks (Fielding g a) b s fs q u r = record { reaches = λ y. absurd (true≢false (sym y)); below = tt; first = λ y. absurd (true≢false (sym y)) }
-value_asks l b s fs q u r = absurd s
 
-statement_asks : (l : Lead) (b : Bool) → Stands AsWholeItem l b → (fs : List Facts) (r : Request (Stat None)) → Asks AsWholeItem l fs (Stat None) r b
+    ahead : (o : LogicalOperator) (w : Want) → Replies (logical_demand o w 0)
+    ahead And Val = tt
+    ahead And Test = tt
+    ahead And Unused = tt
+    ahead Or Val = tt
+    ahead Or Test = tt
+    ahead Or Unused = tt
+    ahead Coalesce w = tt
+value_asks f (Branching a) b s fs q u r = record { reaches = λ y. reach_passing f 1 1 (first_demand (As Test) (As (pass q))) q u r (conditional_step (pass q)) (branch_follows f (pass q) y); below = tt; first = (tt, tt) }
+value_asks f (Failing a d) b s fs q u r = record { reaches = λ y. reach_passing f 1 2 (first_demand (As Test) (As (pass q))) q u r (conditional_step (pass q)) (other_follows f (pass q) y); below = tt; first = (tt, tt) }
+value_asks f (Storing o a) b s fs q u r = record { reaches = λ y. reach_valued f 1 1 AssignDemand q u r (assignment_step o) (stores f o y); below = tt; first = tt }
+value_asks f (Fielding false a) b s fs q u r = record { reaches = λ y. fields f q u r y; below = tt; first = (tt, tt) }
+value_asks f (Fielding true a) b s fs q u r = record { reaches = λ y. absurd (true≢false (sym y)); below = tt; first = (tt, tt) }
+value_asks f l b s fs q u r = absurd s
+
+statement_asks : (f : Bool) (l : Lead) (b : Bool) → Stands AsWholeItem l b → (fs : List Facts) (r : Request (Stat None)) → Asks f AsWholeItem l fs (Stat None) r b
 unfolding step
-statement_asks Doing b s fs r = record { reaches = λ y. reach_statement 0 {σ = λ i. As Unused} (kid 0 tt ((then) ret)) (one 0 (λ i. As Unused) (Unit {0}) tt ret (λ v. tt)); below = tt; first = λ y. tt }
-statement_asks Giving b s fs r = record { reaches = λ y. reach_statement 0 return_step (one 0 (λ i. As Val) (Unit {0}) tt _ (λ v. tt)); below = tt; first = λ y. tt }
-statement_asks Raising b s fs r = record { reaches = λ y. reach_statement 0 throw_step (one 0 (λ i. As Val) (Unit {0}) tt _ (λ v. tt)); below = tt; first = λ y. tt }
-statement_asks Testing b s fs r = record { reaches = λ y. reach_statement 0 (if_step None) (one 0 (first_demand (As Test) (Stat None)) (Unit {0}) tt _ (λ c. later_choose 0 {σ = first_demand (As Test) (Stat None)} c (kid 1 [] ((then) ret)) (kid 2 [] ((then) ret)) (tt, (λ u. tt, λ y. tt)) (tt, (λ u. tt, λ y. tt)))); below = tt; first = λ y. tt }
-statement_asks l b s fs r = absurd s
+statement_asks f Doing b s fs r = record { reaches = λ y. reach_statement f 0 0 {σ = λ i. As Unused} (kid 0 tt ((then) ret)) (one f 0 0 (λ i. As Unused) (Unit {0}) tt ret (λ v. tt)); below = tt; first = tt }
+statement_asks f Giving b s fs r = record { reaches = λ y. reach_statement f 0 0 return_step (one f 0 0 (λ i. As Val) (Unit {0}) tt _ (λ v. tt)); below = tt; first = tt }
+statement_asks f Raising b s fs r = record { reaches = λ y. reach_statement f 0 0 throw_step (one f 0 0 (λ i. As Val) (Unit {0}) tt _ (λ v. tt)); below = tt; first = tt }
+statement_asks f Testing b s fs r = record { reaches = λ y. reach_statement f 0 0 (if_step None) (one f 0 0 (first_demand (As Test) (Stat None)) (Unit {0}) tt _ (λ c. later_choose 0 {σ = first_demand (As Test) (Stat None)} c (kid 1 [] ((then) ret)) (kid 2 [] ((then) ret)) (tt, (λ u. tt, λ y. tt)) (tt, (λ u. tt, λ y. tt)))); below = tt; first = tt }
+statement_asks f l b s fs r = absurd s
 
 -- the parts of a sequence are asked nothing but the last, and items each for the item
 parts_asked : (i n : ℕ) (w : Want) (b : Bool) → Before i (suc n) → Suits AsValue (parts_demand n w i) b
@@ -373,27 +457,52 @@ entries_reply : (ts : Trees) → AllReply (λ i. AnEntry) ts
 entries_reply none = tt
 entries_reply (t ▸ ts) = (tt, entries_reply ts)
 
-list_asks : (l : Lead) (b : Bool) → Stands AsValues l b → (fs : List Facts) → Before (count (before l)) (length fs) → (q : Demand) → Suits AsValues q false → (r : Request q) → Asks AsValues l fs q r b
+list_asks : (f : Bool) (l : Lead) (b : Bool) → Stands AsValues l b → (fs : List Facts) → Before (count (before l)) (length fs) → (q : Demand) → Suits AsValues q false → (r : Request q) → Asks f AsValues l fs q r b
 unfolding step
-list_asks (Listing ts) b s [] h q u r = absurd (none_less (count ts) h)
+list_asks f (Listing ts) b s [] h q u r = absurd (none_less (count ts) h)
   where
     none_less : (i : ℕ) → Before i 0 → ⊥
     none_less zero h = h
     none_less (suc i) h = h
-list_asks (Listing ts) b s (f ∷ fs) h (Parts w) u r = record { reaches = λ y. parts_reach (count ts) (length fs) w h; below = parts_asked (count ts) (length fs) w b h; first = λ y. parts_reply (length fs) w ts }
-list_asks (Listing ts) b s (f ∷ fs) h Items u r = record { reaches = λ y. entries_reach (count ts) (suc (length fs)) h; below = tt; first = λ y. entries_reply ts }
-list_asks (Listing ts) b s (f ∷ fs) h q u r = absurd u
-list_asks l b s fs h q u r = absurd s
+list_asks f (Listing ts) b s (g ∷ fs) h (Parts w) u r = record { reaches = λ y. parts_reach f (count ts) (length fs) w h; below = parts_asked (count ts) (length fs) w b h; first = parts_reply (length fs) w ts }
+list_asks f (Listing ts) b s (g ∷ fs) h Items u r = record { reaches = λ y. entries_reach f (count ts) (suc (length fs)) h; below = tt; first = entries_reply ts }
+list_asks f (Listing ts) b s (g ∷ fs) h q u r = absurd u
+list_asks f l b s fs h q u r = absurd s
 
-pub asks : (c : Asked) (l : Lead) (b : Bool) → Stands c l b → (fs : List Facts) → Before (count (before l)) (length fs) → (q : Demand) → Suits c q false → (r : Request q) → Asks c l fs q r b
-asks AsWholeItem l b s fs h (Stat None) u r = statement_asks l b s fs r
-asks AsValue l b s fs h q u r = value_asks l b s fs q (replies q false u) r
-asks AsValues l b s fs h q u r = list_asks l b s fs h q u r
-asks c l b s fs h q u r = absurd u
+pub asks : (f : Bool) (c : Asked) (l : Lead) (b : Bool) → Stands c l b → (fs : List Facts) → Before (count (before l)) (length fs) → (q : Demand) → Suits c q false → (r : Request q) → Asks f c l fs q r b
+asks f AsWholeItem l b s fs h (Stat None) u r = statement_asks f l b s fs r
+asks f AsValue l b s fs h q u r = value_asks f l b s fs q (replies q false u) r
+asks f AsValues l b s fs h q u r = list_asks f l b s fs h q u r
+asks f c l b s fs h q u r = absurd u
 
 -- what is asked of the part there
 pub suits_below : (c : Asked) (l : Lead) (b : Bool) → Stands c l b → (fs : List Facts) → Before (count (before l)) (length fs) → (q : Demand) → Suits c q false → (r : Request q) → Suits (asked_below (head_of l) c (place 0 (before l))) (demand (shape_by (head_of l)) fs q (count (before l))) b
-suits_below c l b s fs h q u r = (asks c l b s fs h q u r).below
+suits_below c l b s fs h q u r = (asks true c l b s fs h q u r).below
+
+-- one that is evaluated whatever is before it, which is asked for values
+pub steady_sure : (f : Bool) (l : Lead) → is_steady l ≡ true → surely f l ≡ true
+steady_sure f (Following o a) e = absurd (true≢false (sym e))
+steady_sure f (Branching a) e = absurd (true≢false (sym e))
+steady_sure f (Failing a b) e = absurd (true≢false (sym e))
+steady_sure f (Storing o a) e = absurd (true≢false (sym e))
+steady_sure f (Fielding c a) e = absurd (true≢false (sym e))
+steady_sure f l e = refl
+
+pub steady_earlier : (l : Lead) → is_steady l ≡ true → earlier l ≡ before l
+steady_earlier (Failing a b) e = absurd (true≢false (sym e))
+steady_earlier l e = refl
+
+pub steady_valued : (l : Lead) → is_steady l ≡ true → valued_before l ≡ before l
+steady_valued (Failing a b) e = absurd (true≢false (sym e))
+steady_valued (Storing o a) e = absurd (true≢false (sym e))
+steady_valued l e = refl
+
+-- what is evaluated before stands before
+earlier_within : (l : Lead) (j : ℕ) → Before j (count (earlier l)) → Before j (count (before l))
+earlier_within (Failing t d) zero b = tt
+earlier_within (Failing t d) (suc zero) b = absurd b
+earlier_within (Failing t d) (suc (suc j)) b = absurd b
+earlier_within l j b = b
 
 -- ---- runs
 
@@ -521,19 +630,73 @@ module _ (e : Environment) (k : ℕ) (z : Unseen (alone (Declared k)) e) where
   there_is (p ▸ ps) t ts q r s = there_is ps t ts q r s
 
   -- what each of them does
-  abbrev Calm : Tree → (q : Demand) → Does q → Type 0
-  Calm init q m = Replying q m ⊎ ((is_effect_free init ≡ true) × Quietly D q m)
+  abbrev Calm : Tree → (q : Demand) → Does q → Request q → Type 0
+  Calm init q m r = Replying q m r ⊎ ((is_effect_free init ≡ true) × Quietly D q m r)
 
-  calm_front : (init : Tree) → is_constant init ≡ false → (ps : Trees) → AllPass init ps → AllAvoid D ps → (σ : ℕ → Demand) → AllReply σ ps → (j : ℕ) → Before j (count ps) → Calm init (σ j) (front ps σ j)
-  unfolding meaning
-  calm_front init o none p a σ u zero b = absurd b
-  calm_front init o none p a σ u (suc j) b = absurd b
-  calm_front init o (t ▸ ps) p a σ u (suc j) b = calm_front init o ps p.1 a.1 (λ i. σ (suc i)) u.1 j b
-  calm_front init o (t ▸ ps) p a σ u zero b = by (passes_by init t o p.0)
-    where
-      by : (is_constant t ≡ true) ⊎ ((is_effect_free init ≡ true) × (is_effect_free t ≡ true) × (is_item t ≡ true)) → Calm init (σ 0) (means e t (σ 0))
-      by (inl c) = inl (constant_replies e t c (σ 0) u.0)
-      by (inr (f, g, i)) = inr (f, quietly e D z.shared t a.0 g i (σ 0) u.0)
+  -- where it is asked no more than the way to the read asks
+  abbrev AllCalm : Tree → ℕ → Trees → (ℕ → Demand) → Type 0
+  AllCalm init m ps σ = (j : ℕ) → Before j m → (r : Request (σ j)) → Mild (is_effect_free init) (σ j) r → Calm init (σ j) (front ps σ j) r
+
+  module _ (init : Tree) (varies : is_constant init ≡ false) where
+    calm_part : (t : Tree) → passes init t ≡ true → Avoids D t → (q : Demand) → Replies q → (r : Request q) → Calm init q (means e t q) r
+    calm_part t p a q u r = by (passes_by init t varies p)
+      where
+        by : (is_constant t ≡ true) ⊎ ((is_effect_free init ≡ true) × (is_effect_free t ≡ true) × (is_item t ≡ true)) → Calm init q (means e t q) r
+        by (inl c) = inl (constant_replies e t c q u r)
+        by (inr (f, g, i)) = inr (f, quietly e D z.shared t a g i q u r)
+
+    calm_list : (i : ℕ) (ps : Trees) → AllPass init shape.Listed i ps → AllAvoid D ps → (σ : ℕ → Demand) → AllReply σ ps → AllCalm init (count ps) ps σ
+    unfolding meaning
+    calm_list i none p a σ u zero b r m = absurd b
+    calm_list i none p a σ u (suc j) b r m = absurd b
+    calm_list i (t ▸ ps) p a σ u (suc j) b r m = calm_list (suc i) ps p.1 a.1 (λ i. σ (suc i)) u.1 j b r m
+    calm_list i (t ▸ ps) p a σ u zero b r m = calm_part t p.0 a.0 (σ 0) u.0 r
+
+    calm_one : (t : Tree) (ps : Trees) → passes init t ≡ true → Avoids D t → (σ : ℕ → Demand) → Replies (σ 0) → AllCalm init 1 (t ▸ ps) σ
+    unfolding meaning
+    calm_one t ps p a σ u zero b r m = calm_part t p a (σ 0) u r
+    calm_one t ps p a σ u (suc zero) b r m = absurd b
+    calm_one t ps p a σ u (suc (suc j)) b r m = absurd b
+
+    varied : (b : Bool) → (is_constant init || b) ≡ true → b ≡ true
+    varied b p = sym (ap (λ c. c || b) varies) ∙ p
+
+    calm_target : (o : AssignmentOperator) (t : Tree) → passes_target init o t ≡ true → Avoids D t → (r : TargetRequest) → Mild (is_effect_free init) Target r → Calm init Target (means e t Target) r
+    calm_target o t p a Prepare m = inl (target_replies e t (and_parts (is_identifier t) (is_effect_free t) (and_parts (is_identifier t && is_effect_free t) (is_plain_assignment o || is_effect_free init) (varied _ p)).0).0)
+    calm_target o t p a (Fetch reference) m =
+        let (i, f) = and_parts (is_identifier t) (is_effect_free t) (and_parts (is_identifier t && is_effect_free t) (is_plain_assignment o || is_effect_free init) (varied _ p)).0 in
+        inr (m, fetched_quietly e D z.shared t a i f reference)
+    calm_target o t p a (Put reference v) m = absurd m
+
+    calm_assigned : (o : AssignmentOperator) (t : Tree) → passes_target init o t ≡ true → Avoids D t → AllCalm init 1 (t ▸ none) AssignDemand
+    unfolding meaning
+    calm_assigned o t p a zero b r m = calm_target o t p a r m
+    calm_assigned o t p a (suc zero) b r m = absurd b
+    calm_assigned o t p a (suc (suc j)) b r m = absurd b
+
+    calm_key : (t : Tree) → is_word (shape_of t) ≡ true → AllCalm init 1 (t ▸ none) (λ i. As Val)
+    unfolding meaning
+    calm_key t p zero b r m = inl (word_replies e t p)
+    calm_key t p (suc zero) b r m = absurd b
+    calm_key t p (suc (suc j)) b r m = absurd b
+
+    none_calm : (σ : ℕ → Demand) → AllCalm init 0 none σ
+    none_calm σ zero b r m = absurd b
+    none_calm σ (suc j) b r m = absurd b
+
+    calm_before : (l : Lead) → AllPass init (shape_by (head_of l)) 0 (before l) → AllAvoid D (before l) → (fs : List Facts) (q : Demand) → AllReply (demand (shape_by (head_of l)) fs q) (valued_before l) → AllCalm init (count (earlier l)) (before l) (demand (shape_by (head_of l)) fs q)
+    calm_before (Against o t) p a fs q u = calm_one t none p.0 a.0 (λ i. As Val) u.0
+    calm_before (GivenLead t) p a fs q u = calm_one t none p.0 a.0 (first_demand Callee Items) u.0
+    calm_before (Filling t) p a fs q u = calm_one t none p.0 a.0 (first_demand (As Val) Items) u.0
+    calm_before (Keying t) p a fs q u = calm_one t none p.0 a.0 (λ i. As Val) u.0
+    calm_before (Following o t) p a fs q u = calm_one t none p.0 a.0 (logical_demand o (pass q)) u.0
+    calm_before (Branching t) p a fs q u = calm_one t none p.0 a.0 (first_demand (As Test) (As (pass q))) u.0
+    calm_before (Failing t d) p a fs q u = calm_one t (d ▸ none) p.0 a.0 (first_demand (As Test) (As (pass q))) u.0
+    calm_before (Storing o t) p a fs q u = calm_assigned o t p.0 a.0
+    calm_before (Fielding false t) p a fs q u = calm_key t (varied (is_word (shape_of t)) p.0)
+    calm_before (Fielding true t) p a fs q u = absurd (true≢false (sym (varied false p.0)))
+    calm_before (Listing ts) p a fs q u = calm_list 0 ts p a (demand shape.Listed fs q) u
+    calm_before l p a fs q u = none_calm (demand (shape_by (head_of l)) fs q)
 
   module _ {A : Type 0} (init : Tree) (s : State) where
     abbrev Started : (Value → State → Completion A) → Completion A
@@ -558,18 +721,18 @@ module _ (e : Environment) (k : ℕ) (z : Unseen (alone (Declared k)) e) where
     quiet_both z (halt a v) y m n o F G f g h = absurd m
     quiet_both z out y m n o F G f g h = weak D (either y G g)
 
-    passed_goes : (q : Demand) (m : Does q) → Calm init q m → (r : Request q) (F G : Reply q r → State → Completion A) (f g : Stop → State → Completion A) → ((a : Reply q r) → Go (Started (λ v t. F a t)) (G a s)) → Go (Started (λ v t. either (m r t) F f)) (either (m r s) G g)
-    passed_goes q m (inl c) r F G f g h =
-        let (a, is) = c r in
+    passed_goes : (q : Demand) (m : Does q) (r : Request q) → Calm init q m r → (F G : Reply q r → State → Completion A) (f g : Stop → State → Completion A) → ((a : Reply q r) → Go (Started (λ v t. F a t)) (G a s)) → Go (Started (λ v t. either (m r t) F f)) (either (m r s) G g)
+    passed_goes q m r (inl c) F G f g h =
+        let (a, is) = c in
         subst₂ Go (either_cong (means e init (As Val) tt s) _ _ _ _ (λ v t. sym (ap (λ x. either x F f) (is (after v t)) ∙ either_ok a (after v t) F f)) (λ y t. refl)) (sym (ap (λ x. either x G g) (is s) ∙ either_ok a s G g)) (h a)
-    passed_goes q m (inr (free, n)) r F G f g h =
+    passed_goes q m r (inr (free, n)) F G f g h =
         with_value (means e init (As Val) tt s) (quiet_there e init free s) (λ v t. either (m r t) F f) (either (m r s) G g)
-        (λ v is. quiet_both (after v s) (m r (after v s)) (m r s) (n.quiet r (after v s)) (n.quiet r s) (n.same r (after v s) s (agrees v s)) F G f g
+        (λ v is. quiet_both (after v s) (m r (after v s)) (m r s) (n.quiet (after v s)) (n.quiet s) (n.same (after v s) s (agrees v s)) F G f g
         (λ a. subst (λ c. Go c (G a s)) (ap (λ x. next x (λ v t. F a (after v t))) is ∙ either_ok v s (λ v t. F a (after v t)) (λ y z. stop y z)) (h a)))
 
   -- ---- a node, with the expression in the place of the read
 
-  module _ (h : Shape) (q : Demand) (is : List Summary) (σ : ℕ → Demand) (ps : Trees) (t u : Tree) (ts : Trees) (init : Tree) (first : AllAvoid D ps) (last : AllAvoid D ts) (calm : (j : ℕ) → Before j (count ps) → Calm init (σ j) (front ps σ j))
+  module _ (h : Shape) (q : Demand) (is : List Summary) (σ : ℕ → Demand) (ps : Trees) (t u : Tree) (ts : Trees) (init : Tree) (first : AllAvoid D ps) (last : AllAvoid D ts) (m : ℕ) (within : (j : ℕ) → Before j m → Before j (count ps)) (calm : AllCalm init m ps σ)
       (inner : (r : Request (σ (count ps))) (s : State) → Go (next (means e init (As Val) tt s) (λ v z. means e t (σ (count ps)) r (after v z))) (means e u (σ (count ps)) r s)) where
     abbrev runs : {A : Type 0} → Tree → Command σ A → State → Completion A
     runs w c y = run e (naming h q [] 0 is) (λ i r z. meaning e (append ps (w ▸ ts)) i (σ i) r z) c y
@@ -601,19 +764,25 @@ module _ (e : Environment) (k : ℕ) (z : Unseen (alone (Declared k)) e) where
         subst (λ j. (r : Request (σ j)) (c : Ends (Reply (σ j) r) → Command σ A) → ((y : Stop) → c (ended y) ≡ fails y) → ((a : Reply (σ j) r) → Later (count ps) (c (done a))) → Reached (kid j r c)) (sym p)
         (λ r c stops later. hit_here r c stops later)
 
-    pub reach_goes : {A : Type 0} (c : Command σ A) → Reaches (count ps) c → Reached c
+    -- where it isn't asked: the initializer does nothing but give a value, which nothing reads
+    gone : {A : Type 0} (c : Command σ A) → is_effect_free init ≡ true → Later (count ps) c → Reached c
+    gone c free l s = with_value init s (means e init (As Val) tt s) (quiet_there e init free s) (λ v y. runs t c y) (runs u c s) (λ v known. later_goes h q is ps t u ts first last c l (after v s) s (agrees v s))
+
+    pub reach_goes : {A : Type 0} (c : Command σ A) → Reaches (is_effect_free init) m (count ps) c → Reached c
     reach_goes {A} (kid j r c) (inl l) s =
         let F = λ (a : Reply (σ j) r) (y : State). runs t (c (done a)) y in
         let G = λ (a : Reply (σ j) r) (y : State). runs u (c (done a)) y in
         let f = λ (x : Stop) (y : State). runs t (c (ended x)) y in
         let g = λ (x : Stop) (y : State). runs u (c (ended x)) y in
-        subst₂ Go (either_cong (means e init (As Val) tt s) _ _ _ _ (λ v y. ap (λ x. either x F f) (sym (front_is ps t ts j l.0 (σ j) r (after v y)))) (λ x y. refl)) (ap (λ x. either x G g) (sym (front_is ps u ts j l.0 (σ j) r s)))
-        (passed_goes init s (σ j) (front ps σ j) (calm j l.0) r F G f g (λ a. reach_goes (c (done a)) (l.1 a) s))
-    reach_goes (kid j r c) (inr l) s = hit_there j l.here r c l.stops l.later s
-    reach_goes (ret a) l s = absurd l
-    reach_goes (fails y) l s = absurd l
-    reach_goes stuck l s = absurd l
-    reach_goes (op o c) l s = absurd l
+        let b = within j l.0.0 in
+        subst₂ Go (either_cong (means e init (As Val) tt s) _ _ _ _ (λ v y. ap (λ x. either x F f) (sym (front_is ps t ts j b (σ j) r (after v y)))) (λ x y. refl)) (ap (λ x. either x G g) (sym (front_is ps u ts j b (σ j) r s)))
+        (passed_goes init s (σ j) (front ps σ j) r (calm j l.0.0 r l.0.1) F G f g (λ a. reach_goes (c (done a)) (l.1 a) s))
+    reach_goes (kid j r c) (inr (inl l)) s = hit_there j l.here r c l.stops l.later s
+    reach_goes (kid j r c) (inr (inr l)) s = gone (kid j r c) l.0 l.1 s
+    reach_goes (ret a) l s = gone (ret a) l.0 l.1 s
+    reach_goes (fails y) l s = gone (fails y) l.0 l.1 s
+    reach_goes stuck l s = gone stuck l.0 l.1 s
+    reach_goes (op o c) l s = gone (op o c) l.0 l.1 s
 
   -- ---- the path
 
@@ -640,12 +809,12 @@ module _ (e : Environment) (k : ℕ) (z : Unseen (alone (Declared k)) e) where
         let kids = λ (t : Tree). append ps (led ss t ▸ s.rest) in
         let is = summaries (kids read) in
         let σ = demand h (facts_all is) q in
-        let a = asks c s.lead (is_end ss) w.0 (facts_all is) (there_before ps (led ss read) s.rest) q u r in
-        let steady = sym (ap (λ b. b || is_steady s.lead) varies) ∙ p.0.1 in
+        let a = asks (is_effect_free init) c s.lead (is_end ss) w.0 (facts_all is) (there_before ps (led ss read) s.rest) q u r in
+        let sure = varied init varies (surely (is_effect_free init) s.lead) p.0.1 in
         let first = all_spared x named ps f.0.0 in
         let last = all_spared x named s.rest f.0.1 in
         let there = λ (y : State). node_is h q r (kids read) y in
         let put : means e (led (s ∷ ss) init) q r z ≡ by_summaries h q r is (kids init) z = node_is h q r (kids init) z ∙ ap (λ i. by_summaries h q r i (kids init) z) (sym (summaries_led s ss read init plain)) in
         subst₂ Go (sym (either_cong (means e init (As Val) tt z) _ _ _ _ (λ v y. there (after v y)) (λ y p. refl))) (sym put)
-        (reach_goes h q is σ ps (led ss read) (led ss init) s.rest init first last (calm_front init varies ps p.0.0 first σ (a.first steady))
-        (λ r' s'. first_goes (asked_below (head_of s.lead) c (place 0 ps)) ss w.1 f.1 p.1 (σ (count ps)) a.below r' s') (step h [] (facts_all is) q r) (a.reaches steady) z)
+        (reach_goes h q is σ ps (led ss read) (led ss init) s.rest init first last (count (earlier s.lead)) (earlier_within s.lead) (calm_before init varies s.lead p.0.0 first (facts_all is) q a.first)
+        (λ r' s'. first_goes (asked_below (head_of s.lead) c (place 0 ps)) ss w.1 f.1 p.1 (σ (count ps)) a.below r' s') (step h [] (facts_all is) q r) (a.reaches sure) z)

@@ -1,6 +1,6 @@
 -- A tree that reads a variable after the parts that stand before, as a path to that read: what leads there, and what stands beside it.
 use Rattle.std.specs.Prelude.{ℕ, zero, suc, ◌+◌, ◌≡◌, ◌⊎◌, refl, not, ◌&&◌, ◌||◌, Bool, true, false, List, [], ◌∷◌, if◌then◌else◌}
-use Rattle.std.proofs.Common.{ap, ◌∙◌, sym, subst, arith, inl, inr, true≢false}
+use Rattle.std.proofs.Common.{ap, ◌∙◌, sym, subst, subst₂, arith, inl, inr, true≢false}
 use Rattle.std.proofs.lemmas.Bool.{and_parts}
 use Rattle.mini_model.specs.declared.kind.PropertyKind.TheVariants.{Init}
 use Rattle.mini_model.specs.declared.kind.VariableDeclarationKind.{VariableDeclarationKind}
@@ -11,17 +11,18 @@ use Rattle.mini_model.specs.declared.operator.LogicalOperator.{LogicalOperator}
 use Rattle.mini_model.specs.declared.operator.UnaryOperator.TheVariants.{LogicalNot, UnaryPlus, UnaryNegation, BitwiseNot, Void}
 use Rattle.mini_model.specs.declared.shape.Shape.{Shape}
 use Rattle.mini_model.specs.declared.shape.Shape.TheVariants as shape
-use Rattle.mini_model.specs.Tree.{Tree, Trees, node, none, ◌▸◌, listed, children, identifier}
+use Rattle.mini_model.specs.Tree.{Tree, Trees, node, none, ◌▸◌, listed, children, identifier, shape_of}
 use Rattle.mini_model.specs.Paths.{append}
 use Rattle.mini_model.specs.Weight.{same_text}
 use Rattle.mini_laws.specs.Naming.{summary, summaries, summary_of}
 use Rattle.mini_laws.specs.Symbols.{is_same}
 use Rattle.mini_node.specs.Children.{part, is_nameless, rest_children}
 use Rattle.mini_node.specs.Kinds.{is_identifier}
+use Rattle.mini_terms.specs.Folds.{is_effect_free}
 use Rattle.mini_rows.specs.Sketches.{Head, AList, Array, Unary, Binary, Logical, Conditional, Sequence, Call, New, StaticMember, ComputedMember, Yield, Object, Property, Assignment, OfExpression, Throw, Return, If, shape_by, Asked, AsWholeItem, AsValue, AsValues, asked_below, Leap}
 use Rattle.mini_rows.specs.Lists.{declaration, Each, EachIn, EachOf, each_loop}
 use Rattle.mini_rows.specs.Declarations.{declarator}
-use Rattle.mini_rows.specs.Unused.{is_like_one, names, any_names, begins, goes_on, may_go_on, has_branches, leads, holds_list, is_childless, reads, is_first, leads_to, put_first, put_among, is_constant, passes, begins_with, is_reached, are_passed, all_passed, reads_first, is_declarator, declares_list, reads_declarator, reads_declarators, reads_initially, reads_outside, is_open_left, reads_over, reads_head, evaluated}
+use Rattle.mini_rows.specs.Unused.{is_like_one, names, any_names, begins, goes_on, may_go_on, has_branches, leads, holds_list, is_childless, reads, is_first, leads_to, put_first, put_among, is_constant, passes_at, is_plain_assignment, is_sure, begins_with, is_reached, is_number_shape, suits, are_passed, all_passed, reads_first, is_declarator, declares_list, reads_declarator, reads_declarators, reads_initially, reads_outside, is_open_left, reads_over, reads_head, evaluated}
 use Rattle.mini_rows.proofs.Arranging.{Plain, Below, sum_below, Local, Summed}
 use Rattle.mini_rows.proofs.ListKeptHeads.{Seat, Loop, Choice, seated, rest}
 
@@ -120,6 +121,15 @@ is_steady (Storing o a) = false
 is_steady (Fielding c a) = false
 is_steady l = true
 
+-- it is evaluated whatever they are; where nothing is lost by it, it may be left out
+abbrev pub surely : Bool → Lead → Bool
+surely is_free (Following o a) = is_free
+surely is_free (Branching a) = is_free
+surely is_free (Failing a b) = is_free
+surely is_free (Storing o a) = is_plain_assignment o || is_free
+surely is_free (Fielding c a) = not c && is_free
+surely is_free l = true
+
 -- the place after some parts
 abbrev pub place : ℕ → Trees → ℕ
 place i none = i
@@ -146,9 +156,9 @@ Stands AsWholeItem Testing at_end = Unit {0}
 Stands AsValues (Listing ts) at_end = Unit {0}
 Stands AsValue Not at_end = Unit {0}
 Stands AsValue Plus at_end = Unit {0}
-Stands AsValue Minus at_end = at_end ≡ false
+Stands AsValue Minus at_end = Unit {0}
 Stands AsValue Tilde at_end = Unit {0}
-Stands AsValue Emptying at_end = at_end ≡ false
+Stands AsValue Emptying at_end = Unit {0}
 Stands AsValue (Beside o) at_end = Unit {0}
 Stands AsValue (Deciding o) at_end = Unit {0}
 Stands AsValue Choosing at_end = Unit {0}
@@ -180,18 +190,27 @@ abbrev pub Spared : Name → List Step → Type 0
 Spared x [] = Unit {0}
 Spared x (s ∷ ss) = ((any_names x (before s.lead) ≡ false) × (any_names x s.rest ≡ false)) × Spared x ss
 
--- each of these may be evaluated before r
-abbrev pub AllPass : Tree → Trees → Type 0
-AllPass r none = Unit {0}
-AllPass r (t ▸ ts) = (passes r t ≡ true) × AllPass r ts
+-- each of these, from a place on, may be evaluated before r
+abbrev pub AllPass : Tree → Shape → ℕ → Trees → Type 0
+AllPass r h i none = Unit {0}
+AllPass r h i (t ▸ ts) = (passes_at r h i t ≡ true) × AllPass r h (suc i) ts
 
--- it is evaluated whatever they are, or r is a constant
+-- it is evaluated whatever they are, or nothing is lost
 abbrev pub Sure : Tree → Lead → Type 0
-Sure r l = (is_constant r || is_steady l) ≡ true
+Sure r l = (is_constant r || surely (is_effect_free r) l) ≡ true
+
+-- r may stand there
+abbrev pub suited : Tree → Lead → Bool → Bool
+suited r Minus at_end = not (is_number_shape (shape_of r) && at_end)
+suited r l at_end = true
+
+abbrev pub Suited : Tree → List Step → Type 0
+Suited r [] = Unit {0}
+Suited r (s ∷ ss) = (suited r s.lead (is_end ss) ≡ true) × Suited r ss
 
 abbrev pub Passed : Tree → List Step → Type 0
 Passed r [] = Unit {0}
-Passed r (s ∷ ss) = (AllPass r (before s.lead) × Sure r s.lead) × Passed r ss
+Passed r (s ∷ ss) = (AllPass r (shape_by (head_of s.lead)) 0 (before s.lead) × Sure r s.lead) × Passed r ss
 
 -- ---- a tree as such a path
 
@@ -205,6 +224,7 @@ pub record Path (x : Name) (c : Asked) (t : Tree) : Type 0 where
   pub puts : (r : Tree) → put_first x r t ≡ led steps r
   pub ends : is_end steps ≡ is_childless t
   pub passed : (r : Tree) → are_passed x r t ≡ true → Passed r steps
+  pub suit : (r : Tree) → are_passed x r t ≡ true → Suited r steps
 
 abbrev asked : Bool → Asked
 asked true = AsValues
@@ -220,44 +240,49 @@ record Leads (b c : Bool) (h : Shape) (ts : Trees) : Type 0 where
   front : before lead ≡ ts
   stands : Stands (asked b) lead c
   below : asked_below (head_of lead) (asked b) (place 0 (before lead)) ≡ asked (holds_list h (place 0 ts))
-  sure : (not (may_go_on h) || is_empty ts) ≡ true → is_steady lead ≡ true
+  sure : (f : Bool) → (is_sure f h || is_empty ts) ≡ true → surely f lead ≡ true
+  suit : (r t : Tree) (us : Trees) → is_childless t ≡ c → suits r h (append ts (t ▸ us)) ≡ true → suited r lead c ≡ true
+
+sure_there : (a : Bool) → (a || false) ≡ true → a ≡ true
+sure_there true e = refl
+sure_there false e = e
 
 not_leaf : (c : Bool) → not c ≡ true → c ≡ false
 not_leaf true e = absurd (true≢false (sym e))
 not_leaf false e = refl
 
 begun_by : (c : Bool) (h : Shape) → begins h c ≡ true → Leads false c h none
-begun_by c (shape.UnaryExpression LogicalNot) e = record { lead = Not; is = refl; front = refl; stands = tt; below = refl; sure = λ q. refl }
-begun_by c (shape.UnaryExpression UnaryPlus) e = record { lead = Plus; is = refl; front = refl; stands = tt; below = refl; sure = λ q. refl }
-begun_by c (shape.UnaryExpression UnaryNegation) e = record { lead = Minus; is = refl; front = refl; stands = not_leaf c e; below = refl; sure = λ q. refl }
-begun_by c (shape.UnaryExpression BitwiseNot) e = record { lead = Tilde; is = refl; front = refl; stands = tt; below = refl; sure = λ q. refl }
-begun_by c (shape.UnaryExpression Void) e = record { lead = Emptying; is = refl; front = refl; stands = not_leaf c e; below = refl; sure = λ q. refl }
-begun_by c (shape.BinaryExpression o) e = record { lead = Beside o; is = refl; front = refl; stands = tt; below = refl; sure = λ q. refl }
-begun_by c (shape.LogicalExpression o) e = record { lead = Deciding o; is = refl; front = refl; stands = tt; below = refl; sure = λ q. refl }
-begun_by c shape.ConditionalExpression e = record { lead = Choosing; is = refl; front = refl; stands = tt; below = refl; sure = λ q. refl }
-begun_by c shape.SequenceExpression e = record { lead = Passing; is = refl; front = refl; stands = tt; below = refl; sure = λ q. refl }
-begun_by c (shape.CallExpression false) e = record { lead = Called; is = refl; front = refl; stands = not_leaf c e; below = refl; sure = λ q. refl }
-begun_by c shape.NewExpression e = record { lead = Making; is = refl; front = refl; stands = tt; below = refl; sure = λ q. refl }
-begun_by c shape.ArrayExpression e = record { lead = Holding; is = refl; front = refl; stands = tt; below = refl; sure = λ q. refl }
-begun_by c shape.ObjectExpression e = record { lead = Gathering; is = refl; front = refl; stands = tt; below = refl; sure = λ q. refl }
-begun_by c (shape.YieldExpression d) e = record { lead = Waiting d; is = refl; front = refl; stands = tt; below = refl; sure = λ q. refl }
-begun_by c (shape.StaticMemberExpression false) e = record { lead = Member; is = refl; front = refl; stands = tt; below = refl; sure = λ q. refl }
-begun_by c (shape.ComputedMemberExpression false) e = record { lead = Keyed; is = refl; front = refl; stands = tt; below = refl; sure = λ q. refl }
+begun_by c (shape.UnaryExpression LogicalNot) e = record { lead = Not; is = refl; front = refl; stands = tt; below = refl; sure = λ f q. refl; suit = λ r t us n e. refl }
+begun_by c (shape.UnaryExpression UnaryPlus) e = record { lead = Plus; is = refl; front = refl; stands = tt; below = refl; sure = λ f q. refl; suit = λ r t us n e. refl }
+begun_by c (shape.UnaryExpression UnaryNegation) e = record { lead = Minus; is = refl; front = refl; stands = tt; below = refl; sure = λ f q. refl; suit = λ r t us n e. ap (λ b. not (is_number_shape (shape_of r) && b)) (sym n) ∙ e }
+begun_by c (shape.UnaryExpression BitwiseNot) e = record { lead = Tilde; is = refl; front = refl; stands = tt; below = refl; sure = λ f q. refl; suit = λ r t us n e. refl }
+begun_by c (shape.UnaryExpression Void) e = record { lead = Emptying; is = refl; front = refl; stands = tt; below = refl; sure = λ f q. refl; suit = λ r t us n e. refl }
+begun_by c (shape.BinaryExpression o) e = record { lead = Beside o; is = refl; front = refl; stands = tt; below = refl; sure = λ f q. refl; suit = λ r t us n e. refl }
+begun_by c (shape.LogicalExpression o) e = record { lead = Deciding o; is = refl; front = refl; stands = tt; below = refl; sure = λ f q. refl; suit = λ r t us n e. refl }
+begun_by c shape.ConditionalExpression e = record { lead = Choosing; is = refl; front = refl; stands = tt; below = refl; sure = λ f q. refl; suit = λ r t us n e. refl }
+begun_by c shape.SequenceExpression e = record { lead = Passing; is = refl; front = refl; stands = tt; below = refl; sure = λ f q. refl; suit = λ r t us n e. refl }
+begun_by c (shape.CallExpression false) e = record { lead = Called; is = refl; front = refl; stands = not_leaf c e; below = refl; sure = λ f q. refl; suit = λ r t us n e. refl }
+begun_by c shape.NewExpression e = record { lead = Making; is = refl; front = refl; stands = tt; below = refl; sure = λ f q. refl; suit = λ r t us n e. refl }
+begun_by c shape.ArrayExpression e = record { lead = Holding; is = refl; front = refl; stands = tt; below = refl; sure = λ f q. refl; suit = λ r t us n e. refl }
+begun_by c shape.ObjectExpression e = record { lead = Gathering; is = refl; front = refl; stands = tt; below = refl; sure = λ f q. refl; suit = λ r t us n e. refl }
+begun_by c (shape.YieldExpression d) e = record { lead = Waiting d; is = refl; front = refl; stands = tt; below = refl; sure = λ f q. refl; suit = λ r t us n e. refl }
+begun_by c (shape.StaticMemberExpression false) e = record { lead = Member; is = refl; front = refl; stands = tt; below = refl; sure = λ f q. refl; suit = λ r t us n e. refl }
+begun_by c (shape.ComputedMemberExpression false) e = record { lead = Keyed; is = refl; front = refl; stands = tt; below = refl; sure = λ f q. refl; suit = λ r t us n e. refl }
 begun_by c h e = absurd (true≢false (sym e))
 
 gone_on_by : (c : Bool) (h : Shape) (a : Tree) → (goes_on h || may_go_on h) ≡ true → Leads false c h (a ▸ none)
-gone_on_by c (shape.BinaryExpression o) a e = record { lead = Against o a; is = refl; front = refl; stands = tt; below = refl; sure = λ q. refl }
-gone_on_by c (shape.CallExpression false) a e = record { lead = Given a; is = refl; front = refl; stands = tt; below = refl; sure = λ q. refl }
-gone_on_by c shape.NewExpression a e = record { lead = Filling a; is = refl; front = refl; stands = tt; below = refl; sure = λ q. refl }
-gone_on_by c (shape.ComputedMemberExpression false) a e = record { lead = Keying a; is = refl; front = refl; stands = tt; below = refl; sure = λ q. refl }
-gone_on_by c (shape.LogicalExpression o) a e = record { lead = Following o a; is = refl; front = refl; stands = tt; below = refl; sure = λ q. absurd (true≢false (sym q)) }
-gone_on_by c shape.ConditionalExpression a e = record { lead = Branching a; is = refl; front = refl; stands = tt; below = refl; sure = λ q. absurd (true≢false (sym q)) }
-gone_on_by c (shape.AssignmentExpression o) a e = record { lead = Storing o a; is = refl; front = refl; stands = tt; below = refl; sure = λ q. absurd (true≢false (sym q)) }
-gone_on_by c (shape.ObjectProperty Init false false d) a e = record { lead = Fielding d a; is = refl; front = refl; stands = tt; below = refl; sure = λ q. absurd (true≢false (sym q)) }
+gone_on_by c (shape.BinaryExpression o) a e = record { lead = Against o a; is = refl; front = refl; stands = tt; below = refl; sure = λ f q. refl; suit = λ r t us n e. refl }
+gone_on_by c (shape.CallExpression false) a e = record { lead = Given a; is = refl; front = refl; stands = tt; below = refl; sure = λ f q. refl; suit = λ r t us n e. refl }
+gone_on_by c shape.NewExpression a e = record { lead = Filling a; is = refl; front = refl; stands = tt; below = refl; sure = λ f q. refl; suit = λ r t us n e. refl }
+gone_on_by c (shape.ComputedMemberExpression false) a e = record { lead = Keying a; is = refl; front = refl; stands = tt; below = refl; sure = λ f q. refl; suit = λ r t us n e. refl }
+gone_on_by c (shape.LogicalExpression o) a e = record { lead = Following o a; is = refl; front = refl; stands = tt; below = refl; sure = λ f q. sure_there f q; suit = λ r t us n e. refl }
+gone_on_by c shape.ConditionalExpression a e = record { lead = Branching a; is = refl; front = refl; stands = tt; below = refl; sure = λ f q. sure_there f q; suit = λ r t us n e. refl }
+gone_on_by c (shape.AssignmentExpression o) a e = record { lead = Storing o a; is = refl; front = refl; stands = tt; below = refl; sure = λ f q. sure_there (is_plain_assignment o || f) q; suit = λ r t us n e. refl }
+gone_on_by c (shape.ObjectProperty Init false false d) a e = record { lead = Fielding d a; is = refl; front = refl; stands = tt; below = refl; sure = λ f q. sure_there (not d && f) q; suit = λ r t us n e. refl }
 gone_on_by c h a e = absurd (true≢false (sym e))
 
 branched_by : (c : Bool) (h : Shape) (a b : Tree) → has_branches h ≡ true → Leads false c h (a ▸ (b ▸ none))
-branched_by c shape.ConditionalExpression a b e = record { lead = Failing a b; is = refl; front = refl; stands = tt; below = refl; sure = λ q. absurd (true≢false (sym q)) }
+branched_by c shape.ConditionalExpression a b e = record { lead = Failing a b; is = refl; front = refl; stands = tt; below = refl; sure = λ f q. sure_there f q; suit = λ r t us n e. refl }
 branched_by c h a b e = absurd (true≢false (sym e))
 
 place_next : (i : ℕ) (ts : Trees) → place (suc i) ts ≡ suc (place i ts)
@@ -272,7 +297,7 @@ no_list_of zero = refl
 no_list_of (suc i) = refl
 
 lead_by : (b c : Bool) (h : Shape) (ts : Trees) → leads b h (place 0 ts) c ≡ true → Leads b c h ts
-lead_by true c shape.Listed ts e = record { lead = Listing ts; is = refl; front = refl; stands = tt; below = ap asked (sym (no_list_of (place 0 ts))); sure = λ q. refl }
+lead_by true c shape.Listed ts e = record { lead = Listing ts; is = refl; front = refl; stands = tt; below = ap asked (sym (no_list_of (place 0 ts))); sure = λ f q. refl; suit = λ r t us n e. refl }
 lead_by true c h ts e = absurd (true≢false (sym e))
 lead_by false c h none e = begun_by c h e
 lead_by false c h (a ▸ none) e = gone_on_by c h a e
@@ -298,7 +323,7 @@ record Among (x : Name) (b : Bool) (h : Shape) (i : ℕ) (ts : Trees) : Type 0 w
   leads : leads b h (place i first) (is_childless one) ≡ true
   path : Path x (asked (holds_list h (place i first))) one
   puts : (r : Tree) → put_among x r ts ≡ append first (put_first x r one ▸ rest)
-  passed : (r : Tree) → all_passed x r ts ≡ true → AllPass r first × (are_passed x r one ≡ true)
+  passed : (r : Tree) → all_passed x r h i ts ≡ true → AllPass r h i first × (are_passed x r one ≡ true)
 
 this_one : (x : Name) (b : Bool) (h : Shape) (i : ℕ) (t : Tree) (ts : Trees) → names x t ≡ true → leads b h i (is_childless t) ≡ true → Path x (asked (holds_list h i)) t → any_names x ts ≡ false → Among x b h i (t ▸ ts)
 this_one x b h i t ts n l p f = record {
@@ -311,7 +336,7 @@ this_one x b h i t ts n l p f = record {
   leads = l;
   path = p;
   puts = λ r. ap (λ c. if c then put_first x r t ▸ ts else t ▸ put_among x r ts) n;
-  passed = λ r e. (tt, sym (ap (λ c. if c then are_passed x r t else (passes r t && all_passed x r ts)) n) ∙ e);
+  passed = λ r e. (tt, sym (ap (λ c. if c then are_passed x r t else (passes_at r h i t && all_passed x r h (suc i) ts)) n) ∙ e);
 }
 
 later_one : (x : Name) (b : Bool) (h : Shape) (i : ℕ) (t : Tree) (ts : Trees) → names x t ≡ false → Among x b h (suc i) ts → Among x b h i (t ▸ ts)
@@ -326,7 +351,7 @@ later_one x b h i t ts n a = record {
   path = a.path;
   puts = λ r. ap (λ c. if c then put_first x r t ▸ ts else t ▸ put_among x r ts) n ∙ ap (λ us. t ▸ us) (a.puts r);
   passed = λ r e.
-      let (p, q) = and_parts (passes r t) (all_passed x r ts) (sym (ap (λ c. if c then are_passed x r t else (passes r t && all_passed x r ts)) n) ∙ e) in
+      let (p, q) = and_parts (passes_at r h i t) (all_passed x r h (suc i) ts) (sym (ap (λ c. if c then are_passed x r t else (passes_at r h i t && all_passed x r h (suc i) ts)) n) ∙ e) in
       let (f, g) = a.passed r q in
       ((p, f), g);
 }
@@ -345,12 +370,24 @@ at_front x true first one rest n e = refl
 at_front x false none one rest n e = refl
 at_front x false (p ▸ ps) one rest n e = absurd (true≢false (sym (first_true (names x p) (any_names x ps) e) ∙ n))
 
-sure_by : (x : Name) (r : Tree) (h : Shape) (first : Trees) (one : Tree) (rest : Trees) (s : Bool) → any_names x first ≡ false → ((not (may_go_on h) || is_empty first) ≡ true → s ≡ true) → is_reached x r h (append first (one ▸ rest)) ≡ true → (is_constant r || s) ≡ true
+sure_by : (x : Name) (r : Tree) (h : Shape) (first : Trees) (one : Tree) (rest : Trees) (s : Bool) → any_names x first ≡ false → ((is_sure (is_effect_free r) h || is_empty first) ≡ true → s ≡ true) → is_reached x r h (append first (one ▸ rest)) ≡ true → (is_constant r || s) ≡ true
 sure_by x r h first one rest s n f e = by (is_constant r) e
   where
-    by : (c : Bool) → (c || (not (may_go_on h) || begins_with x (append first (one ▸ rest)))) ≡ true → (c || s) ≡ true
+    by : (c : Bool) → (c || (is_sure (is_effect_free r) h || begins_with x (append first (one ▸ rest)))) ≡ true → (c || s) ≡ true
     by true e = refl
-    by false e = f (at_front x (not (may_go_on h)) first one rest n e)
+    by false e = f (at_front x (is_sure (is_effect_free r) h) first one rest n e)
+
+-- what is asked of the parts of a node
+record Parted (x : Name) (r : Tree) (h : Shape) (ts : Trees) : Type 0 where
+  suit : suits r h ts ≡ true
+  reached : is_reached x r h ts ≡ true
+  all : all_passed x r h 0 ts ≡ true
+
+parted : (x : Name) (r : Tree) (h : Shape) (ts : Trees) → suits r h ts && (is_reached x r h ts && all_passed x r h 0 ts) ≡ true → Parted x r h ts
+parted x r h ts e =
+    let (p, q) = and_parts (suits r h ts) (is_reached x r h ts && all_passed x r h 0 ts) e in
+    let (a, b) = and_parts (is_reached x r h ts) (all_passed x r h 0 ts) q in
+    record { suit = p; reached = a; all = b }
 
 one_step : (x : Name) (b : Bool) (h : Shape) (t : Tree) (ts : Trees) → Among x b h 0 (t ▸ ts) → Path x (asked b) (node h [] 0 (t ▸ ts))
 one_step x b h t ts a =
@@ -368,10 +405,15 @@ one_step x b h t ts a =
       puts = λ r. ap (node h [] 0) (a.puts r) ∙ along r (put_first x r a.one) (p.puts r);
       ends = refl;
       passed = λ r e.
-          let (d, q) = and_parts (is_reached x r h (t ▸ ts)) (all_passed x r (t ▸ ts)) e in
-          let (f, g) = a.passed r q in
-          let sure = sure_by x r h a.first a.one a.rest (is_steady l.lead) a.earlier l.sure (subst (λ us. is_reached x r h us ≡ true) a.is d) in
-          ((subst (AllPass r) (sym l.front) f, sure), p.passed r g);
+          let d = parted x r h (t ▸ ts) e in
+          let (f, g) = a.passed r d.all in
+          let sure = sure_by x r h a.first a.one a.rest (surely (is_effect_free r) l.lead) a.earlier (l.sure (is_effect_free r)) (subst (λ us. is_reached x r h us ≡ true) a.is d.reached) in
+          ((subst₂ (λ k us. AllPass r k 0 us) (sym l.is) (sym l.front) f, sure), p.passed r g);
+      suit = λ r e.
+          let d = parted x r h (t ▸ ts) e in
+          let (f, g) = a.passed r d.all in
+          let suit = l.suit r a.one a.rest refl (subst (λ us. suits r h us ≡ true) a.is d.suit) in
+          (ap (suited r l.lead) p.ends ∙ suit, p.suit r g);
     }
 
 mutual
@@ -379,7 +421,7 @@ mutual
   path x true (node h ys n none) e = absurd (true≢false (sym e))
   path x false (node h ys n none) e =
       let (y, is, same) = read_is x (node h ys n none) e in
-      record { steps = []; read = y; well = tt; spared = tt; same = same; is = is; puts = λ r. refl; ends = refl; passed = λ r e. tt }
+      record { steps = []; read = y; well = tt; spared = tt; same = same; is = is; puts = λ r. refl; ends = refl; passed = λ r e. tt; suit = λ r e. tt }
   path x b (node h [] zero (t ▸ ts)) e = one_step x b h t ts (among x b h 0 (t ▸ ts) e)
   path x b (node h [] (suc n) (t ▸ ts)) e = absurd (true≢false (sym e))
   path x b (node h (y ∷ ys) n (t ▸ ts)) e = absurd (true≢false (sym e))
@@ -417,7 +459,7 @@ pub record Statement (x : Name) (t : Tree) : Type 0 where
   pub lead : Lead
   pub stands : (b : Bool) → Stands AsWholeItem lead b
   pub front : before lead ≡ none
-  pub steady : is_steady lead ≡ true
+  pub steady : (f : Bool) → surely f lead ≡ true
   pub below : (c : Asked) → asked_below (head_of lead) c (place 0 (before lead)) ≡ AsValue
   pub inner : Tree
   pub rest : Trees
@@ -429,7 +471,7 @@ pub record Statement (x : Name) (t : Tree) : Type 0 where
   pub passed : (r : Tree) → are_passed x r t ≡ true → are_passed x r inner ≡ true
 
 -- of this lead
-stated : (x : Name) (l : Lead) (t : Tree) (ts : Trees) → ((b : Bool) → Stands AsWholeItem l b) → before l ≡ none → is_steady l ≡ true → ((c : Asked) → asked_below (head_of l) c (place 0 (before l)) ≡ AsValue) → is_first x false t && not (any_names x ts) ≡ true → Statement x (node (shape_by (head_of l)) [] 0 (t ▸ ts))
+stated : (x : Name) (l : Lead) (t : Tree) (ts : Trees) → ((b : Bool) → Stands AsWholeItem l b) → before l ≡ none → ((f : Bool) → surely f l ≡ true) → ((c : Asked) → asked_below (head_of l) c (place 0 (before l)) ≡ AsValue) → is_first x false t && not (any_names x ts) ≡ true → Statement x (node (shape_by (head_of l)) [] 0 (t ▸ ts))
 stated x l t ts s o d b e =
     let (q, f) = and_parts (is_first x false t) (not (any_names x ts)) e in
     let n = mentioned x false t q in
@@ -446,15 +488,15 @@ stated x l t ts s o d b e =
       is = refl;
       puts = λ r. ap (λ c. node (shape_by (head_of l)) [] 0 (if c then put_first x r t ▸ ts else t ▸ put_among x r ts)) n;
       along = λ u. ap (λ us. node (shape_by (head_of l)) [] 0 (append us (u ▸ ts))) (sym o);
-      passed = λ r e. sym (ap (λ c. if c then are_passed x r t else (passes r t && all_passed x r ts)) n) ∙ (and_parts (is_reached x r (shape_by (head_of l)) (t ▸ ts)) (all_passed x r (t ▸ ts)) e).1;
+      passed = λ r e. let h = shape_by (head_of l) in sym (ap (λ c. if c then are_passed x r t else (passes_at r h 0 t && all_passed x r h 1 ts)) n) ∙ (parted x r h (t ▸ ts) e).all;
     }
 
 pub statement : (x : Name) (t : Tree) → reads_first x t ≡ true → Statement x t
 statement x (node h ys n none) e = absurd (true≢false (sym e))
-statement x (node shape.ExpressionStatement [] zero (t ▸ ts)) e = stated x Doing t ts (λ b. tt) refl refl (λ c. refl) e
-statement x (node shape.ReturnStatement [] zero (t ▸ ts)) e = stated x Giving t ts (λ b. tt) refl refl (λ c. refl) e
-statement x (node shape.ThrowStatement [] zero (t ▸ ts)) e = stated x Raising t ts (λ b. tt) refl refl (λ c. refl) e
-statement x (node shape.IfStatement [] zero (t ▸ ts)) e = stated x Testing t ts (λ b. tt) refl refl (λ c. refl) e
+statement x (node shape.ExpressionStatement [] zero (t ▸ ts)) e = stated x Doing t ts (λ b. tt) refl (λ f. refl) (λ c. refl) e
+statement x (node shape.ReturnStatement [] zero (t ▸ ts)) e = stated x Giving t ts (λ b. tt) refl (λ f. refl) (λ c. refl) e
+statement x (node shape.ThrowStatement [] zero (t ▸ ts)) e = stated x Raising t ts (λ b. tt) refl (λ f. refl) (λ c. refl) e
+statement x (node shape.IfStatement [] zero (t ▸ ts)) e = stated x Testing t ts (λ b. tt) refl (λ f. refl) (λ c. refl) e
 statement x t e = absurd (true≢false (sym e))
 
 -- a declaration does in its first initializer
@@ -547,7 +589,7 @@ outside_of x s h value ts there same evaluates e =
       is = refl;
       puts = λ r. ap (put_first x r) (there value) ∙ ap (λ c. node h [] 0 (if c then put_first x r value ▸ ts else value ▸ put_among x r ts)) n ∙ sym (there (put_first x r value));
       evaluates = evaluates;
-      passed = λ r e. sym (ap (λ c. if c then are_passed x r value else (passes r value && all_passed x r ts)) n) ∙ (and_parts (is_reached x r h (value ▸ ts)) (all_passed x r (value ▸ ts)) (sym (ap (are_passed x r) (there value)) ∙ e)).1;
+      passed = λ r e. sym (ap (λ c. if c then are_passed x r value else (passes_at r h 0 value && all_passed x r h 1 ts)) n) ∙ (parted x r h (value ▸ ts) (sym (ap (are_passed x r) (there value)) ∙ e)).all;
     }
 
 outside : (x : Name) (t : Tree) → reads_outside x t ≡ true → Outside x t

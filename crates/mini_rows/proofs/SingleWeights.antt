@@ -1,6 +1,6 @@
 -- What a tree weighs with another in the place of what it reads.
 use Rattle.std.proofs.Common.{◌≡◌, inl, inr, ℕ, suc, ◌+◌, ◌≤◌, Bool, true, false, [], ◌∷◌, List, Option, Some, None, refl, sym, ap, ◌∙◌, subst, true≢false, arith}
-use Rattle.std.specs.Prelude.{is_none, if◌then◌else◌}
+use Rattle.std.specs.Prelude.{is_none, if◌then◌else◌, pos, zero}
 use Rattle.mini_model.specs.declared.kind.VariableDeclarationKind.{VariableDeclarationKind}
 use Rattle.mini_model.specs.declared.kind.VariableDeclarationKind.TheVariants.{Var, Let, Const}
 use Rattle.mini_model.specs.declared.name.Name.{Name}
@@ -14,8 +14,8 @@ use Rattle.mini_model.specs.declared.seat.StmtSeat.TheVariants as stmt_seat
 use Rattle.mini_model.specs.declared.shape.Shape.TheVariants as shape
 use Rattle.mini_model.specs.Tree.{Tree, Trees, node, none, ◌▸◌, count, identifier}
 use Rattle.mini_model.specs.Paths.{append}
-use Rattle.mini_model.specs.Position.{argument_seat, statement_expression_seat, whole_seat, seat_of_level, child_position}
-use Rattle.mini_model.specs.Weight.{commas_weight, outline, outlines, one_chooses, braces_weight, own_weight, text_weight, place_weight, spelled_weight, weight, weights}
+use Rattle.mini_model.specs.Position.{argument_seat, statement_expression_seat, whole_seat, seat_of_level, unary_operand_seat, child_position}
+use Rattle.mini_model.specs.Weight.{commas_weight, outline, outlines, one_chooses, braces_weight, is_awkward, own_weight, text_weight, place_weight, spelled_weight, weight, weights}
 use Rattle.mini_laws.specs.Symbols.{is_same}
 use Rattle.mini_terms.specs.Reading.{is_plain_part}
 use Rattle.mini_rows.specs.Declarations.{binding, declarator}
@@ -104,16 +104,21 @@ same_statement Raising b s q t u ts = refl
 same_statement Testing b s q t u ts = refl
 same_statement l b s q t u ts = absurd s
 
--- both are a zero, or neither is, where a further step leads
-abbrev SameZero : Bool → Tree → Tree → Type 0
-SameZero b t u = b ≡ false → (outline t).is_zero ≡ (outline u).is_zero
+-- under `void` both are a zero, or neither is
+abbrev SameZero : Lead → Tree → Tree → Type 0
+SameZero Emptying t u = (outline t).is_zero ≡ (outline u).is_zero
+SameZero l t u = Unit {0}
 
-same_value : (l : Lead) (b : Bool) → Stands AsValue l b → (q : Seat) (t u : Tree) (ts : Trees) → SameZero b t u → SameOwn (Expr q) l t u ts
+zeros : (l : Lead) (t u : Tree) → (outline t).is_zero ≡ (outline u).is_zero → SameZero l t u
+zeros Emptying t u e = e
+zeros l t u e = tt
+
+same_value : (l : Lead) (b : Bool) → Stands AsValue l b → (q : Seat) (t u : Tree) (ts : Trees) → SameZero l t u → SameOwn (Expr q) l t u ts
 same_value Not b s q t u ts z = refl
 same_value Plus b s q t u ts z = refl
 same_value Minus b s q t u ts z = refl
 same_value Tilde b s q t u ts z = refl
-same_value Emptying b s q t u ts z = ap (λ c. own_weight (Expr q) (shape.UnaryExpression Void) [] (record (outline t) { is_zero = c } ∷ outlines ts)) (z s)
+same_value Emptying b s q t u ts z = ap (λ c. own_weight (Expr q) (shape.UnaryExpression Void) [] (record (outline t) { is_zero = c } ∷ outlines ts)) z
 same_value (Beside p) b s q t u ts z = refl
 same_value (Deciding p) b s q t u ts z = refl
 same_value Choosing b s q t u ts z = refl
@@ -136,12 +141,12 @@ same_value (Storing o a) b s q t u ts z = refl
 same_value (Fielding g a) b s q t u ts z = refl
 same_value l b s q t u ts z = absurd s
 
-same_there : (l : Lead) (b : Bool) → Stands AsValue l b → (t u : Tree) (ts : Trees) → SameZero b t u → SameOwn Elsewhere l t u ts
+same_there : (l : Lead) (b : Bool) → Stands AsValue l b → (t u : Tree) (ts : Trees) → SameZero l t u → SameOwn Elsewhere l t u ts
 same_there Not b s t u ts z = refl
 same_there Plus b s t u ts z = refl
 same_there Minus b s t u ts z = refl
 same_there Tilde b s t u ts z = refl
-same_there Emptying b s t u ts z = ap (λ c. own_weight Elsewhere (shape.UnaryExpression Void) [] (record (outline t) { is_zero = c } ∷ outlines ts)) (z s)
+same_there Emptying b s t u ts z = ap (λ c. own_weight Elsewhere (shape.UnaryExpression Void) [] (record (outline t) { is_zero = c } ∷ outlines ts)) z
 same_there (Beside p) b s t u ts z = refl
 same_there (Deciding p) b s t u ts z = refl
 same_there Choosing b s t u ts z = refl
@@ -182,7 +187,7 @@ same_fields : (l : Lead) (b : Bool) → Stands AsValues l b → (t u : Tree) (ts
 same_fields (Listing ps) b s t u ts = ap (λ k. k + 0) (commas_put ps t u ts)
 same_fields l b s t u ts = absurd s
 
-same_own : (c : Asked) (l : Lead) (b : Bool) → Stands c l b → (p : Position) → Placed c p → (t u : Tree) (ts : Trees) → SameZero b t u → SameOwn p l t u ts
+same_own : (c : Asked) (l : Lead) (b : Bool) → Stands c l b → (p : Position) → Placed c p → (t u : Tree) (ts : Trees) → SameZero l t u → SameOwn p l t u ts
 same_own AsWholeItem l b s (Stmt q) a t u ts z = same_statement l b s q t u ts
 same_own AsValue l b s (Expr q) a t u ts z = same_value l b s q t u ts z
 same_own AsValue l b s Elsewhere a t u ts z = same_there l b s t u ts z
@@ -220,9 +225,8 @@ no_zero : (l : Lead) (ts : Trees) → (outline (node (shape_by (head_of l)) [] 0
 no_zero (Listing us) ts = refl
 no_zero l ts = refl
 
-same_zero : (ss : List Step) (t u : Tree) → SameZero (is_end ss) (led ss t) (led ss u)
-same_zero [] t u e = absurd (true≢false e)
-same_zero (s ∷ ss) t u e = no_zero s.lead (append (before s.lead) (led ss t ▸ s.rest)) ∙ sym (no_zero s.lead (append (before s.lead) (led ss u ▸ s.rest)))
+same_zero : (s : Step) (ss : List Step) (t u : Tree) → (outline (led (s ∷ ss) t)).is_zero ≡ (outline (led (s ∷ ss) u)).is_zero
+same_zero s ss t u = no_zero s.lead (append (before s.lead) (led ss t ▸ s.rest)) ∙ sym (no_zero s.lead (append (before s.lead) (led ss u ▸ s.rest)))
 
 -- where no expression stands there are no parentheses
 no_marks : (a b w : ℕ) → (a + 0) + w ≤ (a + b) + w
@@ -236,14 +240,61 @@ bare_falls (node h xs n ts) e = no_marks (text_weight h xs Elsewhere (outlines t
 name_there : (y : Name) → is_none y.symbol ≡ false → 2 ≤ weight Elsewhere (identifier y)
 name_there y e = let own = ap (λ b. if b then spelled_weight y.spelling else 2) e in omega (arith, own)
 
+-- a zero right under `void` is written as a value, which weighs one more beside an equality
+at_most_one : (b : Bool) → (if b then 1 else 0) ≤ 1
+at_most_one true = omega arith
+at_most_one false = omega arith
+
+zero_there : (t : Tree) → (outline t).is_zero ≡ true → weight (Expr (unary_operand_seat Void)) t ≤ weight (Expr argument_seat) t
+zero_there (node (shape.NumericLiteral (pos zero)) xs n ts) e = omega arith
+zero_there (node (shape.NumericLiteral m) xs n ts) e = absurd (true≢false (sym e))
+zero_there (node h xs n ts) e = absurd (true≢false (sym e))
+
+void_falls : (q : Seat) (r : Tree) (y : Name) (ts : Trees) → (outline r).is_zero ≡ true → weight (Expr q) (node (shape.UnaryExpression Void) [] 0 (r ▸ ts)) ≤ weight (Expr q) (node (shape.UnaryExpression Void) [] 0 (identifier y ▸ ts)) + (weight (Expr argument_seat) r + 3)
+void_falls q r y ts e =
+    let mark = at_most_one (is_awkward q (shape.UnaryExpression Void) (outlines (r ▸ ts))) in
+    let there = zero_there r e in
+    omega (arith, mark, there)
+
+void_falls_there : (r : Tree) (y : Name) (ts : Trees) → (outline r).is_zero ≡ true → weight Elsewhere (node (shape.UnaryExpression Void) [] 0 (r ▸ ts)) ≤ weight Elsewhere (node (shape.UnaryExpression Void) [] 0 (identifier y ▸ ts)) + (weight (Expr argument_seat) r + 3)
+void_falls_there r y ts e = let there = zero_there r e in omega (arith, there)
+
+-- what a step weighs, with r in the place of the name right under it
+module _ (r : Tree) (y : Name) (ts : Trees) where
+  abbrev Falls : Asked → Lead → Position → Type 0
+  Falls c l p = weight p (node (shape_by (head_of l)) [] 0 (append (before l) (r ▸ ts))) ≤ weight p (node (shape_by (head_of l)) [] 0 (append (before l) (identifier y ▸ ts))) + (weight (Expr argument_seat) r + 3)
+
+  abbrev FallsBelow : Lead → Position → Type 0
+  FallsBelow l p = (n : ℕ) → weight (child_position (shape_by (head_of l)) p n (count (before l))) r ≤ weight (child_position (shape_by (head_of l)) p n (count (before l))) (identifier y) + (weight (Expr argument_seat) r + 3)
+
+  emptying_falls : (c : Asked) → Stands c Emptying true → (p : Position) → Placed c p → (outline r).is_zero ≡ true → Falls c Emptying p
+  emptying_falls AsValue s (Expr q) a z = void_falls q r y ts z
+  emptying_falls AsValue s Elsewhere a z = void_falls_there r y ts z
+  emptying_falls AsValue s p a z = absurd a
+  emptying_falls c s p a z = absurd s
+
+  zero_falls : (l : Lead) (c : Asked) → Stands c l true → (p : Position) → Placed c p → (outline r).is_zero ≡ true → FallsBelow l p → Falls c l p
+  zero_falls Emptying c s p a z h = emptying_falls c s p a z
+  zero_falls l c s p a z h = node_falls p l (identifier y) r ts (weight (Expr argument_seat) r + 3) (same_own c l true s p a (identifier y) r ts tt) h
+
+  end_falls : (l : Lead) (c : Asked) → Stands c l true → (p : Position) → Placed c p → FallsBelow l p → Falls c l p
+  end_falls l c s p a h = by (outline r).is_zero refl
+    where
+      by : (b : Bool) → (outline r).is_zero ≡ b → Falls c l p
+      by true z = zero_falls l c s p a z h
+      by false z = node_falls p l (identifier y) r ts (weight (Expr argument_seat) r + 3) (same_own c l true s p a (identifier y) r ts (zeros l (identifier y) r (sym z))) h
+
 led_falls : (c : Asked) (ss : List Step) → Well c ss → (p : Position) → Placed c p → (r : Tree) → is_plain_part r ≡ true → (y : Name) → is_none y.symbol ≡ false → weight p (led ss r) ≤ weight p (led ss (identifier y)) + (weight (Expr argument_seat) r + 3)
 led_falls AsValue [] w (Expr s) a r f y e = let here = moved s argument_seat r f in let name = name_weighs s y e in omega (arith, here, name)
 led_falls AsValue [] w Elsewhere a r f y e = let bare = bare_falls r f in let here = moved (seat_of_level 0) argument_seat r f in let name = name_there y e in omega (arith, bare, here, name)
 led_falls AsValue [] w p a r f y e = absurd a
 led_falls c [] w p a r f y e = absurd w
-led_falls c (s ∷ ss) w p a r f y e =
-    node_falls p s.lead (led ss (identifier y)) (led ss r) s.rest (weight (Expr argument_seat) r + 3) (same_own c s.lead (is_end ss) w.0 p a (led ss (identifier y)) (led ss r) s.rest (same_zero ss (identifier y) r))
-    (λ n. led_falls (asked_below (head_of s.lead) c (place 0 (before s.lead))) ss w.1 (child_position (shape_by (head_of s.lead)) p n (count (before s.lead))) (placed_below c s.lead (is_end ss) w.0 p a n) r f y e)
+led_falls c (s ∷ []) w p a r f y e =
+    end_falls r y s.rest s.lead c w.0 p a
+    (λ n. led_falls (asked_below (head_of s.lead) c (place 0 (before s.lead))) [] w.1 (child_position (shape_by (head_of s.lead)) p n (count (before s.lead))) (placed_below c s.lead true w.0 p a n) r f y e)
+led_falls c (s ∷ (q ∷ ss)) w p a r f y e =
+    node_falls p s.lead (led (q ∷ ss) (identifier y)) (led (q ∷ ss) r) s.rest (weight (Expr argument_seat) r + 3) (same_own c s.lead false w.0 p a (led (q ∷ ss) (identifier y)) (led (q ∷ ss) r) s.rest (zeros s.lead (led (q ∷ ss) (identifier y)) (led (q ∷ ss) r) (same_zero q ss (identifier y) r)))
+    (λ n. led_falls (asked_below (head_of s.lead) c (place 0 (before s.lead))) (q ∷ ss) w.1 (child_position (shape_by (head_of s.lead)) p n (count (before s.lead))) (placed_below c s.lead false w.0 p a n) r f y e)
 
 some_symbol : (k : ℕ) (y : Option SymbolId) → is_same (Some (record { 0 = k })) y ≡ true → is_none y ≡ false
 some_symbol k (Some y) e = refl

@@ -53,7 +53,7 @@ use Rattle.mini_terms.specs.Reading.{is_plain_part}
 use Rattle.mini_rows.specs.Arranged.{Vanishes}
 use Rattle.mini_rows.specs.Lists.{block, declares_nothing, declaration, Each, EachIn, EachOf, each_loop}
 use Rattle.mini_rows.specs.Declarations.{binding, declarator}
-use Rattle.mini_rows.specs.Unused.{resolved, declared_one, any_names, is_idle, may_move, is_first, reads_head, BlockRow, declared_among, declared_left, put_first}
+use Rattle.mini_rows.specs.Unused.{resolved, declared_one, any_names, is_idle, may_move, is_first, reads_head, evaluated, BlockRow, declared_among, declared_left, put_first}
 use Rattle.mini_rows.proofs.ArrangedBodies.{quiet}
 use Rattle.mini_rows.proofs.FoldLawful.{vanishes}
 use Rattle.mini_rows.proofs.ListShapes.{declaration_anywhere, append_fits, both_fit, first_fits, more_fit}
@@ -63,7 +63,7 @@ use Rattle.mini_rows.proofs.HeadKept.{head_leaves, head_names}
 use Rattle.mini_rows.proofs.HeadMeaning.{row_71}
 use Rattle.mini_rows.proofs.ListKeptHeads.{Seat, Loop, Choice, seated}
 use Rattle.mini_rows.proofs.SingleUse.{Initial, Outside, Over, Heads, heads}
-use Rattle.mini_rows.proofs.SingleFits.{first_of, second_of, put_fits, put_initial, put_asked, put_begun}
+use Rattle.mini_rows.proofs.SingleFits.{MayStand, first_of, second_of, put_fits, put_initial, put_asked, put_begun}
 use Rattle.mini_rows.proofs.UnusedMeaning.{movable, lexical_alone, row_72, row_72_idle}
 use Rattle.mini_rows.proofs.NextKept.{next_leaves, next_names}
 use Rattle.mini_rows.proofs.NextMeaning.{row_71_next}
@@ -170,14 +170,14 @@ first_left_fits strict k (t ▸ first) e =
     ∙ both (nat_le 1 (count (t ▸ first))) (fill strict (each (one a_declarator)) (t ▸ first) && true) (le-leb 1 (count (t ▸ first)) (omega arith)) (both (fill strict (each (one a_declarator)) (t ▸ first)) true e refl)
 
 -- so does a declaration whose first initializer has another tree in it
-initial_fits : (strict : Bool) (x : Name) (head : Tree) (t : Initial x head) (r : Tree) → fits strict (one an_expression) r ≡ true → fits strict item head ≡ true → fits strict item (put_first x r head) ≡ true
-initial_fits strict x head t r f e =
+initial_fits : (strict : Bool) (x : Name) (head : Tree) (t : Initial x head) (r : Tree) → MayStand x r t.value → fits strict (one an_expression) r ≡ true → fits strict item head ≡ true → fits strict item (put_first x r head) ≡ true
+initial_fits strict x head t r p f e =
     let ds : Trees = declarator t.binds t.value ▸ t.last in
     let d = declarator t.binds (put_first x r t.value) in
     let all = (and_parts (nat_le 1 (count ds)) (fill strict (each (one a_declarator)) ds && true) (sym (declaration_anywhere strict nested t.kind ds) ∙ sym (ap (fits strict item) t.is) ∙ e)).1 in
     let (there, others) = first_fits strict (one a_declarator) (declarator t.binds t.value) t.last (left (fill strict (each (one a_declarator)) ds) true all) in
     let (bound, given) = and_parts (fits strict (one a_pattern) t.binds) (fits strict (one_or_absent an_expression) t.value && true) there in
-    let put = put_initial strict x t.value t.once r f (left (fits strict (one_or_absent an_expression) t.value) true given) in
+    let put = put_initial strict x t.value t.once r p f (left (fits strict (one_or_absent an_expression) t.value) true given) in
     let them = more_fit strict (one a_declarator) d t.last (both (fits strict (one a_pattern) t.binds) (fits strict (one_or_absent an_expression) (put_first x r t.value) && true) bound (both (fits strict (one_or_absent an_expression) (put_first x r t.value)) true put refl)) others in
     ap (fits strict item) (t.puts r) ∙ declaration_anywhere strict nested t.kind (d ▸ t.last) ∙ both (nat_le 1 (count (d ▸ t.last))) (fill strict (each (one a_declarator)) (d ▸ t.last) && true) (le-leb 1 (count (d ▸ t.last)) (omega arith)) (both (fill strict (each (one a_declarator)) (d ▸ t.last)) true them refl)
 
@@ -190,12 +190,16 @@ for_fits : (strict : Bool) (u v w a b : Tree) → (fits strict (one_or_absent an
 for_fits true u v w a b h e = first_of (fits true (one_or_absent an_init) a) (fits true (one_or_absent an_init) b) _ h e
 for_fits false u v w a b h e = first_of (fits false (one_or_absent an_init) a) (fits false (one_or_absent an_init) b) _ h e
 
-outside_fits : (strict : Bool) (x : Name) (head : Tree) (t : Outside x head) (r : Tree) → fits strict (one an_expression) r ≡ true → fits strict item head ≡ true → fits strict item (put_first x r head) ≡ true
-outside_fits strict x head t r f e = ap (fits strict item) (t.puts r) ∙ by t.seat (sym (ap (fits strict item) t.is) ∙ e)
+outside_fits : (strict : Bool) (x : Name) (head : Tree) (t : Outside x head) (r : Tree) → MayStand x r head → fits strict (one an_expression) r ≡ true → fits strict item head ≡ true → fits strict item (put_first x r head) ≡ true
+outside_fits strict x head t r p f e = ap (fits strict item) (t.puts r) ∙ by t.seat (sym (ap (fits strict item) t.is) ∙ e)
   where
+    below : MayStand x r head → MayStand x r t.value
+    below (inl n) = inl n
+    below (inr e) = inr (t.passed r e)
+
     by : (s : Seat) → fits strict item (seated s t.value) ≡ true → fits strict item (seated s (put_first x r t.value)) ≡ true
-    by (Choice cases) g = switch_fits strict cases t.value (put_first x r t.value) (put_asked strict x t.value t.once r f) g
-    by (Loop u v w) g = for_fits strict u v w t.value (put_first x r t.value) (put_begun strict x t.value t.once r f) g
+    by (Choice cases) g = switch_fits strict cases t.value (put_first x r t.value) (put_asked strict x t.value t.once r (below p) f) g
+    by (Loop u v w) g = for_fits strict u v w t.value (put_first x r t.value) (put_begun strict x t.value t.once r (below p) f) g
 
 -- and a loop over keys or values
 each_fits : (strict : Bool) (c : Each) (l w a b : Tree) → (fits strict (one an_expression) a ≡ true → fits strict (one an_expression) b ≡ true) → fits strict item (each_loop c l a w) ≡ true → fits strict item (each_loop c l b w) ≡ true
@@ -204,30 +208,30 @@ each_fits false EachIn l w a b h e = second_of (fits false (one (a_loop_left tru
 each_fits true EachOf l w a b h e = second_of (fits true (one (a_loop_left false)) l) (fits true (one an_expression) a) (fits true (one an_expression) b) _ h e
 each_fits false EachOf l w a b h e = second_of (fits false (one (a_loop_left false)) l) (fits false (one an_expression) a) (fits false (one an_expression) b) _ h e
 
-over_fits : (strict : Bool) (x : Name) (head : Tree) (t : Over x head) (r : Tree) → fits strict (one an_expression) r ≡ true → fits strict item head ≡ true → fits strict item (put_first x r head) ≡ true
-over_fits strict x head t r f e = ap (fits strict item) (t.puts r) ∙ each_fits strict t.kind t.left t.body t.value (put_first x r t.value) (put_asked strict x t.value t.once r f) (sym (ap (fits strict item) t.is) ∙ e)
+over_fits : (strict : Bool) (x : Name) (head : Tree) (t : Over x head) (r : Tree) → MayStand x r t.value → fits strict (one an_expression) r ≡ true → fits strict item head ≡ true → fits strict item (put_first x r head) ≡ true
+over_fits strict x head t r p f e = ap (fits strict item) (t.puts r) ∙ each_fits strict t.kind t.left t.body t.value (put_first x r t.value) (put_asked strict x t.value t.once r p f) (sym (ap (fits strict item) t.is) ∙ e)
 
-head_fits : (strict : Bool) (x : Name) (head : Tree) → reads_head x head ≡ true → (r : Tree) → fits strict (one an_expression) r ≡ true → fits strict item head ≡ true → fits strict item (put_first x r head) ≡ true
-head_fits strict x head once r f e = by (heads x head once)
+head_fits : (strict : Bool) (x : Name) (head : Tree) → reads_head x head ≡ true → (r : Tree) → MayStand x r (evaluated head) → fits strict (one an_expression) r ≡ true → fits strict item head ≡ true → fits strict item (put_first x r head) ≡ true
+head_fits strict x head once r g f e = by (heads x head once)
   where
     by : Heads x head → fits strict item (put_first x r head) ≡ true
-    by (inl (o, p)) = put_fits strict x head o r f e
-    by (inr (inl t)) = initial_fits strict x head t r f e
-    by (inr (inr (inl t))) = outside_fits strict x head t r f e
-    by (inr (inr (inr t))) = over_fits strict x head t r f e
+    by (inl (o, p)) = put_fits strict x head o r (subst (MayStand x r) p g) f e
+    by (inr (inl t)) = initial_fits strict x head t r (subst (MayStand x r) t.evaluates g) f e
+    by (inr (inr (inl t))) = outside_fits strict x head t r (subst (MayStand x r) t.evaluates g) f e
+    by (inr (inr (inr t))) = over_fits strict x head t r (subst (MayStand x r) t.evaluates g) f e
 
-pub single_fits : (strict : Bool) (k : VariableDeclarationKind) (x : Name) (first : Trees) (init head : Tree) → may_move init ≡ true → reads_head x head ≡ true → fits strict item (declared_among k x first init none) ≡ true → fits strict item head ≡ true → (fits strict item (declared_left k first) ≡ true) × (fits strict item (put_first x init head) ≡ true)
-single_fits strict k x first init head m r e f =
+pub single_fits : (strict : Bool) (k : VariableDeclarationKind) (x : Name) (first : Trees) (init head : Tree) → may_move init ≡ true → reads_head x head ≡ true → MayStand x init (evaluated head) → fits strict item (declared_among k x first init none) ≡ true → fits strict item head ≡ true → (fits strict item (declared_left k first) ≡ true) × (fits strict item (put_first x init head) ≡ true)
+single_fits strict k x first init head m r p e f =
     let ds : Trees = append first (declarator (binding x) init ▸ none) in
     let all = (and_parts (nat_le 1 (count ds)) (fill strict (each (one a_declarator)) ds && true) (sym (declaration_anywhere strict nested k ds) ∙ e)).1 in
     let (g, h) = both_fit strict (one a_declarator) first (declarator (binding x) init ▸ none) (left (fill strict (each (one a_declarator)) ds) true all) in
     let (one_fits, rest) = first_fits strict (one a_declarator) (declarator (binding x) init) none h in
     let (id, value) = and_parts (fits strict (one a_pattern) (binding x)) (fits strict (one_or_absent an_expression) init && true) one_fits in
     let moves = plain_there strict init (movable init m) (left (fits strict (one_or_absent an_expression) init) true value) in
-    (first_left_fits strict k first g, head_fits strict x head r init moves f)
+    (first_left_fits strict k first g, head_fits strict x head r init p moves f)
 
-pub next_fits : (strict : Bool) (k : VariableDeclarationKind) (x : Name) (first : Trees) (init binds value : Tree) (last : Trees) → may_move init ≡ true → is_first x false value ≡ true → fits strict item (declared_among k x first init (declarator binds value ▸ last)) ≡ true → fits strict item (declaration k (append first (declarator binds (put_first x init value) ▸ last))) ≡ true
-next_fits strict k x first init binds value last m once e =
+pub next_fits : (strict : Bool) (k : VariableDeclarationKind) (x : Name) (first : Trees) (init binds value : Tree) (last : Trees) → may_move init ≡ true → is_first x false value ≡ true → MayStand x init value → fits strict item (declared_among k x first init (declarator binds value ▸ last)) ≡ true → fits strict item (declaration k (append first (declarator binds (put_first x init value) ▸ last))) ≡ true
+next_fits strict k x first init binds value last m once p e =
     let d = declarator binds (put_first x init value) in
     let ds : Trees = append first (declarator (binding x) init ▸ (declarator binds value ▸ last)) in
     let all = (and_parts (nat_le 1 (count ds)) (fill strict (each (one a_declarator)) ds && true) (sym (declaration_anywhere strict nested k ds) ∙ e)).1 in
@@ -237,7 +241,7 @@ next_fits strict k x first init binds value last m once e =
     let (id, initial) = and_parts (fits strict (one a_pattern) (binding x)) (fits strict (one_or_absent an_expression) init && true) one_fits in
     let (bound, given) = and_parts (fits strict (one a_pattern) binds) (fits strict (one_or_absent an_expression) value && true) next_there in
     let moves = plain_there strict init (movable init m) (left (fits strict (one_or_absent an_expression) init) true initial) in
-    let put = put_initial strict x value once init moves (left (fits strict (one_or_absent an_expression) value) true given) in
+    let put = put_initial strict x value once init p moves (left (fits strict (one_or_absent an_expression) value) true given) in
     let there_now = both (fits strict (one a_pattern) binds) (fits strict (one_or_absent an_expression) (put_first x init value) && true) bound (both (fits strict (one_or_absent an_expression) (put_first x init value)) true put refl) in
     let them = append_fits strict (one a_declarator) first (d ▸ last) f (more_fit strict (one a_declarator) d last there_now others) in
     declaration_anywhere strict nested k (append first (d ▸ last)) ∙ both (nat_le 1 (count (append first (d ▸ last)))) (fill strict (each (one a_declarator)) (append first (d ▸ last)) && true) (some first) (both (fill strict (each (one a_declarator)) (append first (d ▸ last))) true them refl)
@@ -382,13 +386,13 @@ row_blocks q n w (inr (inr (inl r))) =
       second = append r.before (left ▸ (put_first x r.init r.head ▸ r.after));
       before = r.shape;
       after = r.written;
-      fitting = λ strict. two_items strict r.before r.after d r.head left (put_first x r.init r.head) (λ f g. single_fits strict r.kind x r.first r.init r.head r.moves r.once f g);
+      fitting = λ strict. two_items strict r.before r.after d r.head left (put_first x r.init r.head) (λ f g. single_fits strict r.kind x r.first r.init r.head r.moves r.once (inr r.passed) f g);
     }
 row_blocks q n w (inr (inr (inr r))) =
     let x = resolved r.spelling r.symbol in
     let d = declared_among r.kind x r.first r.init (declarator r.binds r.value ▸ r.last) in
     let left = declaration r.kind (append r.first (declarator r.binds (put_first x r.init r.value) ▸ r.last)) in
-    record { first = append r.before (d ▸ r.after); second = append r.before (left ▸ r.after); before = r.shape; after = r.written; fitting = λ strict. one_item strict r.before r.after d left (next_fits strict r.kind x r.first r.init r.binds r.value r.last r.moves r.once) }
+    record { first = append r.before (d ▸ r.after); second = append r.before (left ▸ r.after); before = r.shape; after = r.written; fitting = λ strict. one_item strict r.before r.after d left (next_fits strict r.kind x r.first r.init r.binds r.value r.last r.moves r.once (inr r.passed)) }
 
 -- of two blocks, whatever is told by their shape
 shaped : (n w : Tree) (P : Tree → Tree → Type 0) → ((first_list second_list : Trees) → P (block first_list) (block second_list)) → Blocks n w → P n w

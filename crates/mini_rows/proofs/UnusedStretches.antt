@@ -229,7 +229,7 @@ module _ (W : VariableSet) (K : VariableDeclarationKind) (s : List ℕ) (k : ℕ
         fits = λ o strict h.
             let (f, g) = first_fits strict (item_in o) d (head ▸ none) h in
             let (i, rest) = first_fits strict (item_in o) head none g in
-            let (v, w) = single_fits strict K x first init head moves once (sym (declaration_in o strict K (append first (declarator (binding x) init ▸ none))) ∙ f) (sym (there.head_in o strict) ∙ i) in
+            let (v, w) = single_fits strict K x first init head moves once (inr passed) (sym (declaration_in o strict K (append first (declarator (binding x) init ▸ none))) ∙ f) (sym (there.head_in o strict) ∙ i) in
             more_fit strict (item_in o) left (put ▸ none) (left_in o strict K first ∙ v) (more_fit strict (item_in o) put none (there.put_in o strict ∙ w) rest);
         ported = λ rest. there.head_ported rest ∙ sym (there.put_ported rest) ∙ left_ported K first (put ▸ rest);
       }
@@ -245,7 +245,7 @@ module _ (W : VariableSet) (K : VariableDeclarationKind) (s : List ℕ) (k : ℕ
         read = read_alone k d w (next_read K s k first last init binds value (put_first x init value));
         same = λ e u. next_same e s k u.unseen K init binds value last moves once passed (avoided x k refl binds other) avoids_last (may_write W K e k goes u) first;
         avoids = (next_avoids x k refl K first init binds value last once earlier initial other later, tt);
-        fits = λ o strict. one_fits o strict d w (next_fits strict K x first init binds value last moves once) (declaration_in o strict K (append first (declarator (binding x) init ▸ (declarator binds value ▸ last)))) (declaration_in o strict K (append first (declarator binds (put_first x init value) ▸ last)));
+        fits = λ o strict. one_fits o strict d w (next_fits strict K x first init binds value last moves once (inr passed)) (declaration_in o strict K (append first (declarator (binding x) init ▸ (declarator binds value ▸ last)))) (declaration_in o strict K (append first (declarator binds (put_first x init value) ▸ last)));
         ported = λ rest. refl;
       }
 

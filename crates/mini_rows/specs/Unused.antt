@@ -4,12 +4,14 @@ use Rattle.std.specs.Prelude.{◌≡◌, ◌<◌, ◌⊎◌, ◌||◌, ◌&&◌,
 use Rattle.mini_model.specs.declared.kind.PropertyKind.TheVariants.{Init}
 use Rattle.mini_model.specs.declared.kind.VariableDeclarationKind.{VariableDeclarationKind}
 use Rattle.mini_model.specs.declared.name.Name.{Name}
+use Rattle.mini_model.specs.declared.operator.AssignmentOperator.{AssignmentOperator}
+use Rattle.mini_model.specs.declared.operator.AssignmentOperator.TheVariants.{Assign}
 use Rattle.mini_model.specs.declared.operator.UnaryOperator.TheVariants.{LogicalNot, UnaryPlus, UnaryNegation, BitwiseNot, Void}
 use Rattle.mini_model.specs.declared.place.Position.{Position}
 use Rattle.mini_model.specs.declared.place.Position.TheVariants.{Expr, Stmt, Method, Elsewhere}
 use Rattle.mini_model.specs.declared.shape.Shape.{Shape}
 use Rattle.mini_model.specs.declared.shape.Shape.TheVariants as shape
-use Rattle.mini_model.specs.Tree.{Tree, Trees, node, none, ◌▸◌, absent, listed, count, shape_of, children, program, empty_statement, expression_statement}
+use Rattle.mini_model.specs.Tree.{Tree, Trees, node, none, ◌▸◌, absent, listed, count, child_or_absent, shape_of, children, program, empty_statement, expression_statement}
 use Rattle.mini_model.specs.Paths.{append}
 use Rattle.mini_model.specs.Weight.{same_text, weight}
 use Rattle.mini_laws.specs.Naming.{is_lexical}
@@ -108,14 +110,13 @@ pub record Row72Idle (W : VariableSet) (n w : Tree) : Type 0 where
 -- ---- a name that is read once, behind nothing but what may be evaluated after its initializer
 
 -- what evaluates its first part before all else, and asks for its value alone. A name that is called by itself isn't such a part:
--- of a member in its place the object would be `this`. Nor is one right under `-`, where with a number in its place it would be another
--- literal, or under `void`, whose 0 is a literal of its own
+-- of a member in its place the object would be `this`
 abbrev pub begins : Shape → Bool → Bool
 begins (shape.UnaryExpression LogicalNot) is_leaf = true
 begins (shape.UnaryExpression UnaryPlus) is_leaf = true
-begins (shape.UnaryExpression UnaryNegation) is_leaf = not is_leaf
+begins (shape.UnaryExpression UnaryNegation) is_leaf = true
 begins (shape.UnaryExpression BitwiseNot) is_leaf = true
-begins (shape.UnaryExpression Void) is_leaf = not is_leaf
+begins (shape.UnaryExpression Void) is_leaf = true
 begins (shape.BinaryExpression o) is_leaf = true
 begins (shape.LogicalExpression o) is_leaf = true
 begins shape.ConditionalExpression is_leaf = true
@@ -237,23 +238,79 @@ is_constant (node h ys n ts) = is_written_value h
 abbrev pub passes : Tree → Tree → Bool
 passes r t = is_constant r || (is_constant t || (is_effect_free r && (is_effect_free t && is_item t)))
 
+-- `=`
+abbrev pub is_plain_assignment : AssignmentOperator → Bool
+is_plain_assignment Assign = true
+is_plain_assignment o = false
+
+-- so may what is assigned to: a name, of which `=` reads nothing before the right side, and any other operator the value
+-- (ECMA-262, "Assignment Operators")
+abbrev pub passes_target : Tree → AssignmentOperator → Tree → Bool
+passes_target r o t = is_constant r || ((is_identifier t && is_effect_free t) && (is_plain_assignment o || is_effect_free r))
+
+-- a key that is written out
+abbrev pub is_word : Shape → Bool
+is_word (shape.IdentifierName s) = true
+is_word (shape.StringLiteral s) = true
+is_word (shape.NumericLiteral n) = true
+is_word h = false
+
+-- so may the key of a property
+abbrev pub passes_key : Tree → Bool → Tree → Bool
+passes_key r is_computed t = is_constant r || (not is_computed && is_word (shape_of t))
+
+-- so may the test of a conditional; where the second branch is evaluated, the first isn't
+abbrev pub passes_branch : Tree → ℕ → Tree → Bool
+passes_branch r zero t = passes r t
+passes_branch r (suc i) t = true
+
+-- so may what stands before the read, at a place of such a shape
+abbrev pub passes_at : Tree → Shape → ℕ → Tree → Bool
+passes_at r (shape.AssignmentExpression o) i t = passes_target r o t
+passes_at r shape.ConditionalExpression i t = passes_branch r i t
+passes_at r (shape.ObjectProperty k is_method is_shorthand is_computed) i t = passes_key r is_computed t
+passes_at r h i t = passes r t
+
+-- what evaluates the part behind its first one whatever that gives; where r has no effect, it may be left out. A key that stands in
+-- brackets is converted before
+abbrev pub is_sure : Bool → Shape → Bool
+is_sure is_free (shape.LogicalExpression o) = is_free
+is_sure is_free shape.ConditionalExpression = is_free
+is_sure is_free (shape.AssignmentExpression o) = is_plain_assignment o || is_free
+is_sure is_free (shape.ObjectProperty k is_method is_shorthand is_computed) = not is_computed && is_free
+is_sure is_free h = true
+
 -- the first of some parts mentions the name, or there is none
 abbrev pub begins_with : Name → Trees → Bool
 begins_with x none = true
 begins_with x (t ▸ ts) = names x t
 
--- the part that mentions the name is evaluated whatever those before it are; or it needn't be, since r is a constant
+-- the part that mentions the name is evaluated whatever those before it are; or it needn't be, since r is a constant or has no effect
 abbrev pub is_reached : Name → Tree → Shape → Trees → Bool
-is_reached x r h ts = is_constant r || (not (may_go_on h) || begins_with x ts)
+is_reached x r h ts = is_constant r || (is_sure (is_effect_free r) h || begins_with x ts)
 
--- each part that is evaluated before the variable is read may be evaluated before r, and the read is reached whatever they are
+abbrev pub is_number_shape : Shape → Bool
+is_number_shape (shape.NumericLiteral n) = true
+is_number_shape h = false
+
+abbrev pub is_minus : Shape → Bool
+is_minus (shape.UnaryExpression UnaryNegation) = true
+is_minus h = false
+
+-- r may stand right under it, where the read is its first part: a number under `-` would be another literal
+abbrev pub suits : Tree → Shape → Trees → Bool
+suits r h ts = not (is_minus h && (is_number_shape (shape_of r) && is_childless (child_or_absent ts 0)))
+
+-- each part that is evaluated before the variable is read may be evaluated before r, the read is reached whatever they are, and r may stand
+-- in its place
 abbrev mutual
   pub are_passed : Name → Tree → Tree → Bool
-  are_passed x r (node h ys n ts) = is_reached x r h ts && all_passed x r ts
+  are_passed x r (node h ys n ts) = suits r h ts && (is_reached x r h ts && all_passed x r h 0 ts)
 
-  pub all_passed : Name → Tree → Trees → Bool
-  all_passed x r none = true
-  all_passed x r (t ▸ ts) = if names x t then are_passed x r t else (passes r t && all_passed x r ts)
+  -- from a place on
+  pub all_passed : Name → Tree → Shape → ℕ → Trees → Bool
+  all_passed x r h i none = true
+  all_passed x r h i (t ▸ ts) = if names x t then are_passed x r t else (passes_at r h i t && all_passed x r h (suc i) ts)
 
 abbrev pub is_head_shape : Shape → Bool
 is_head_shape shape.ExpressionStatement = true

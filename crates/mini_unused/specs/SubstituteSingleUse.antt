@@ -8,7 +8,8 @@ use Rattle.mini_model.specs.Tree.{Tree, Trees, none, ◌▸◌, count, child_or_
 use Rattle.mini_laws.specs.ScopeList.{has_eval}
 use Rattle.mini_laws.specs.Value.{VariableSet}
 use Rattle.mini_node.specs.Children.{names_of, part, with_part, is_bare, is_nameless, first_children, rest_children}
-use Rattle.mini_rows.specs.Unused.{names, any_names, leads, is_childless, is_constant, may_go_on, is_head_shape, may_move, passes, are_passed, reads_head, evaluated}
+use Rattle.mini_terms.specs.Folds.{is_effect_free}
+use Rattle.mini_rows.specs.Unused.{names, any_names, leads, is_childless, is_constant, is_head_shape, may_move, passes_at, is_sure, suits, are_passed, reads_head, evaluated}
 use Rattle.mini_unused.specs.Chains.{Several}
 use Rattle.mini_unused.specs.SubstituteNext.{put_named, NextAt, NextGone}
 use Rattle.mini_unused.specs.RemoveUnusedDeclaration.{declares_name, declares_list, may_lose, is_free_at, list_at, let_left, list_left, UnusedAt}
@@ -22,19 +23,19 @@ mention_place x (t ▸ ts) = if names x t then 0 else suc (mention_place x ts)
 abbrev pub may_lead : Bool → Tree → ℕ → Bool
 may_lead in_list t i = leads in_list (shape_of t) i (is_childless (part t i)) && is_nameless t
 
--- each of them may be evaluated before r
-abbrev pub all_pass : Tree → Trees → Bool
-all_pass r none = true
-all_pass r (t ▸ ts) = passes r t && all_pass r ts
+-- each of them, from a place of such a shape on, may be evaluated before r
+abbrev pub all_pass : Tree → Shape → ℕ → Trees → Bool
+all_pass r h i none = true
+all_pass r h i (t ▸ ts) = passes_at r h i t && all_pass r h (suc i) ts
 
--- the part at the place is evaluated whatever those before it are, or r is a constant
+-- the part at the place is evaluated whatever those before it are, or r is a constant or has no effect
 abbrev pub is_reached_at : Tree → Shape → ℕ → Bool
 is_reached_at r h zero = true
-is_reached_at r h (suc i) = is_constant r || not (may_go_on h)
+is_reached_at r h (suc i) = is_constant r || is_sure (is_effect_free r) h
 
--- so it is, and those before it may be evaluated before r
+-- so it is, those before it may be evaluated before r, and r may stand there
 abbrev pub may_reach : Tree → Tree → ℕ → Bool
-may_reach r t i = is_reached_at r (shape_of t) i && all_pass r (first_children i (children t))
+may_reach r t i = suits r (shape_of t) (children t) && (is_reached_at r (shape_of t) i && all_pass r (shape_of t) 0 (first_children i (children t)))
 
 -- a statement that evaluates its first part before all else
 abbrev pub is_head : Tree → Bool

@@ -4,9 +4,10 @@
 //! no direct eval stands there.
 
 ghost use Rattle.std.specs.Prelude.{◌≡◌, ◌+◌, ◌<◌, ◌≤◌, ◌^◌, true, false, None, IfOk, if◌then◌else◌};
-ghost use Rattle.mini_model.specs.Tree.{child_or_absent, children, count, empty_statement};
+ghost use Rattle.mini_model.specs.Tree.{child_or_absent, children, count, empty_statement, shape_of};
 ghost use Rattle.mini_node.specs.Children.{first_children, names, part, with_part};
 ghost use Rattle.mini_node.specs.Kinds.{is_listed as is_it_listed, is_listed_shape as is_it_listed_shape};
+ghost use Rattle.mini_terms.specs.Folds.{is_effect_free as is_it_effect_free};
 ghost use Rattle.mini_rows.specs.Unused as reading;
 ghost use Rattle.mini_unused.specs.RemoveUnusedDeclaration.{list_at, marked, open_in, UnusedAt};
 ghost use Rattle.mini_unused.specs.SubstituteNext.{put_named as it_put_named, reads_in as it_reads_in};
@@ -22,7 +23,7 @@ use crate::mentions::{is_mentioned, is_mentioned_before, is_mentioned_from, is_s
 use crate::next_uses::{is_declarator, substitute_next_uses};
 use crate::sweeping::sweep;
 use mini_context::Scopes;
-use mini_model::{Name, OutOfMemory, PropertyKind, Shape, UnaryOperator};
+use mini_model::{AssignmentOperator, Name, OutOfMemory, PropertyKind, Shape, UnaryOperator};
 use mini_node::{Node, Nodes, discard, empty_statement, is_identifier, two};
 use mini_terms::{is_effect_free, is_item, is_plain_part};
 use std::alloc::Global;
@@ -33,7 +34,11 @@ fn begins(shape: &Shape, is_leaf: bool) -> bool
 {
     match shape {
         Shape::UnaryExpression(
-            UnaryOperator::LogicalNot | UnaryOperator::UnaryPlus | UnaryOperator::BitwiseNot,
+            UnaryOperator::LogicalNot
+            | UnaryOperator::UnaryPlus
+            | UnaryOperator::UnaryNegation
+            | UnaryOperator::BitwiseNot
+            | UnaryOperator::Void,
         )
         | Shape::BinaryExpression(_)
         | Shape::LogicalExpression(_)
@@ -45,8 +50,7 @@ fn begins(shape: &Shape, is_leaf: bool) -> bool
         | Shape::YieldExpression(_)
         | Shape::StaticMemberExpression(false)
         | Shape::ComputedMemberExpression(false) => true,
-        Shape::UnaryExpression(UnaryOperator::UnaryNegation | UnaryOperator::Void)
-        | Shape::CallExpression(false) => !is_leaf,
+        Shape::CallExpression(false) => !is_leaf,
         _ => false,
     }
 }
@@ -253,20 +257,90 @@ fn passes(init: &Node, node: &Node) -> bool
         || (is_effect_free(init, true) && (is_effect_free(node, true) && is_item(node)))
 }
 
+// `=`.
+fn is_plain_assignment(operator: &AssignmentOperator) -> bool
+    ensures { result ≡ reading.is_plain_assignment operator.now }
+{
+    matches!(operator, AssignmentOperator::Assign)
+}
+
+// So may what is assigned to: a name, of which `=` reads nothing before the right side.
+fn passes_target(init: &Node, operator: &AssignmentOperator, node: &Node) -> bool
+    ensures { result ≡ reading.passes_target init.now operator.now node.now }
+{
+    is_constant(init)
+        || ((is_identifier(node) && is_effect_free(node, true))
+            && (is_plain_assignment(operator) || is_effect_free(init, true)))
+}
+
+// A key that is written out.
+fn is_word(shape: &Shape) -> bool
+    ensures { result ≡ reading.is_word shape.now }
+{
+    matches!(
+        shape,
+        Shape::IdentifierName(_) | Shape::StringLiteral(_) | Shape::NumericLiteral(_)
+    )
+}
+
+// So may the key of a property.
+fn passes_key(init: &Node, is_computed: bool, node: &Node) -> bool
+    ensures { result ≡ reading.passes_key init.now is_computed node.now }
+{
+    is_constant(init) || (!is_computed && is_word(node.shape()))
+}
+
+// So may the test of a conditional; where the second branch is evaluated, the first isn't.
+#[tactic(auto, using(crate::proofs::SingleUses::branch_further))]
+fn passes_branch(init: &Node, at: usize, node: &Node) -> bool
+    ensures { result ≡ reading.passes_branch init.now at node.now }
+{
+    if at == 0 {
+        return passes(init, node);
+    }
+    true
+}
+
+// So may what stands before the read, at a place of such a shape.
+fn passes_at(init: &Node, shape: &Shape, at: usize, node: &Node) -> bool
+    ensures { result ≡ reading.passes_at init.now shape.now at node.now }
+{
+    match shape {
+        Shape::AssignmentExpression(operator) => passes_target(init, operator, node),
+        Shape::ConditionalExpression => passes_branch(init, at, node),
+        Shape::ObjectProperty(_, _, _, is_computed) => passes_key(init, *is_computed, node),
+        _ => passes(init, node),
+    }
+}
+
 // So may each of those before the place.
-fn all_pass(init: &Node, nodes: &Nodes, end: usize) -> bool
+fn all_pass(init: &Node, shape: &Shape, nodes: &Nodes, end: usize) -> bool
     requires { end ≤ count nodes.now }
-    ensures { result ≡ row.all_pass init.now (first_children end nodes.now) }
+    ensures { result ≡ row.all_pass init.now shape.now 0 (first_children end nodes.now) }
 {
     for at in 0..end {
-        if !passes(init, nodes.child(at)) {
+        if !passes_at(init, shape, at, nodes.child(at)) {
             return false;
         }
     }
     true
 }
 
-// The part at the place is evaluated whatever those before it are, or the initializer is a constant.
+// What evaluates the part behind its first one whatever that gives; where the initializer has no effect, it may be left out.
+fn is_sure(init: &Node, shape: &Shape) -> bool
+    ensures { result ≡ reading.is_sure (is_it_effect_free init.now) shape.now }
+{
+    match shape {
+        Shape::LogicalExpression(_) | Shape::ConditionalExpression => is_effect_free(init, true),
+        Shape::AssignmentExpression(operator) => {
+            is_plain_assignment(operator) || is_effect_free(init, true)
+        }
+        Shape::ObjectProperty(_, _, _, is_computed) => !*is_computed && is_effect_free(init, true),
+        _ => true,
+    }
+}
+
+// The part at the place is evaluated whatever those before it are, or the initializer is a constant or has no effect.
 #[tactic(auto, using(crate::proofs::SingleUses::reached_further))]
 fn is_reached(init: &Node, shape: &Shape, at: usize) -> bool
     ensures { result ≡ row.is_reached_at init.now shape.now at }
@@ -274,19 +348,50 @@ fn is_reached(init: &Node, shape: &Shape, at: usize) -> bool
     if at == 0 {
         return true;
     }
-    is_constant(init) || !may_go_on(shape)
+    is_constant(init) || is_sure(init, shape)
 }
 
-// So it is, and those before it may be evaluated before the initializer.
+fn is_minus(shape: &Shape) -> bool
+    ensures { result ≡ reading.is_minus shape.now }
+{
+    matches!(shape, Shape::UnaryExpression(UnaryOperator::UnaryNegation))
+}
+
+fn is_number(shape: &Shape) -> bool
+    ensures { result ≡ reading.is_number_shape shape.now }
+{
+    matches!(shape, Shape::NumericLiteral(_))
+}
+
+// Its first part has no parts, or there is none.
+#[tactic(auto, using(crate::proofs::SingleUses::no_leaf))]
+fn begins_with_leaf(node: &Node) -> bool
+    ensures { result ≡ reading.is_childless (child_or_absent (children node.now) 0) }
+{
+    if node.children().len() == 0 {
+        return true;
+    }
+    is_childless(node.child(0))
+}
+
+// The initializer may stand right under it: a number under `-` would be another literal.
+fn suits(init: &Node, node: &Node) -> bool
+    ensures { result ≡ reading.suits init.now (shape_of node.now) (children node.now) }
+{
+    !(is_minus(node.shape()) && (is_number(init.shape()) && begins_with_leaf(node)))
+}
+
+// The part at the place is reached, those before it may be evaluated before the initializer, which may stand there.
 fn may_reach(init: &Node, node: &Node, at: usize) -> bool
     requires { at ≤ count (children node.now) }
     ensures { result ≡ row.may_reach init.now node.now at }
 {
-    is_reached(init, node.shape(), at) && all_pass(init, node.children(), at)
+    suits(init, node)
+        && (is_reached(init, node.shape(), at) && all_pass(init, node.shape(), node.children(), at))
 }
 
-/// Each part that is evaluated before the variable is read may be evaluated before the initializer, and the read is reached whatever they
-/// are, or the initializer is a constant.
+/// Each part that is evaluated before the variable is read may be evaluated before the initializer, the read is reached whatever they
+/// are, or nothing is lost where it isn't, and the initializer may stand in its place.
 #[tactic(auto, using(crate::proofs::SingleUses::smaller_at))]
 pub fn are_passed(name: &Name, init: &Node, node: &Node) -> bool
     ensures { result ≡ reading.are_passed name.now init.now node.now }
