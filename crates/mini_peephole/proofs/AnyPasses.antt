@@ -1,5 +1,5 @@
 -- Passes of a lawful relation give a faithful answer.
-use Rattle.std.proofs.Common.{◌≡◌, ◌⊎◌, Bool, zero, suc, ◌+◌, ◌<◌, ◌≤◌, max, true, false, List, [], ◌∷◌, refl, sym, ap, ◌∙◌, subst, arith, true≢false}
+use Rattle.std.proofs.Common.{◌≡◌, ℕ, ◌⊎◌, Bool, zero, suc, ◌+◌, ◌<◌, ◌≤◌, max, true, false, List, [], ◌∷◌, refl, sym, ap, ◌∙◌, subst, arith, true≢false}
 use Rattle.std.proofs.lemmas.Bool.{eqb-true, eq-eqb, and_parts, or_parts, not-true}
 use Rattle.std.specs.Prelude.{Contains, None, not, ◌&&◌, nat_eq, length, slice_index_or}
 use Rattle.std.specs.List.{list_any}

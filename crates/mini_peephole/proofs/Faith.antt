@@ -7,7 +7,7 @@ use Rattle.mini_model.specs.declared.place.Position.{Position}
 use Rattle.mini_model.specs.declared.place.Position.TheVariants.{Elsewhere}
 use Rattle.mini_model.specs.Tree.{Tree, Trees, node}
 use Rattle.mini_model.specs.Weight.{weight, program_weight, capped}
-use Rattle.mini_model.specs.Rewriting.{EverywhereIn, Step, StepIn, here, inside, first, later, Reaches, done, more}
+use Rattle.mini_model.specs.Rewriting.{Everywhere, EverywhereIn, Step, StepIn, here, inside, first, later, Reaches, done, more}
 use Rattle.mini_laws.specs.Resolved.{resolved_program}
 use Rattle.mini_laws.specs.Value.{VariableSet}
 use Rattle.mini_laws.specs.Writable.{writable_in}

@@ -1,7 +1,7 @@
 -- The plain fields of a property.
 use Rattle.std.specs.Prelude.{Option, Some, codes}
 use Rattle.serde_json.specs.Data.{Data}
-use Rattle.mini_accept.specs.Fields.{flag_at}
+use Rattle.mini_accept.specs.Fields.{◌>>=◌, flag_at}
 use Rattle.mini_accept.specs.Words.{word_at, property_kinds}
 use Rattle.mini_plan.specs.declared.properties.PropertyFields.{PropertyFields}
 
