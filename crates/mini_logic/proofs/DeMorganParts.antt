@@ -4,7 +4,6 @@ use Rattle.std.specs.Prelude.{◌+◌, not, ◌&&◌, ◌||◌, nat_lt, Option, 
 use Rattle.std.proofs.lemmas.Bool.{and_parts}
 use borrow.Author.Tests.{ltb-true, ltb-false}
 use Rattle.mini_model.specs.declared.operator.LogicalOperator.{LogicalOperator}
-use Rattle.mini_model.specs.declared.operator.LogicalOperator.TheVariants.{Or, And, Coalesce}
 use Rattle.mini_model.specs.declared.place.Position.TheVariants.{Expr}
 use Rattle.mini_model.specs.declared.seat.Seat.{Seat}
 use Rattle.mini_model.specs.Paths.{append}
@@ -21,7 +20,7 @@ use Rattle.mini_rows.proofs.SequenceWeights.{part_changes, part_within}
 use Rattle.mini_tree.specs.Rule.{Applied}
 use Rattle.mini_tree.proofs.Reaching.{moves_once}
 use Rattle.mini_logic.specs.DeMorganForVoidExpr.{turned_over, turns, turns_by, is_turned, turned_by, turns_before_last, with_turned, Gives, Rests}
-use Rattle.mini_logic.proofs.DeMorganForVoidExpr.{made, made_same, row_same, not_so, asked}
+use Rattle.mini_logic.proofs.DeMorganForVoidExpr.{made, made_same, row_same, not_so, asked, same_in_part, or_true}
 
 pub put_twice : (ts : Trees) (i : ℕ) (x y : Tree) → with_child (with_child ts i x) i y ≡ with_child ts i y
 put_twice none i x y = refl
@@ -48,12 +47,6 @@ split (t ▸ none) zero y h = absurd (omega (arith, h))
 split (t ▸ none) (suc i) y h = absurd (omega (arith, h))
 split (t ▸ (u ▸ us)) zero y h = record { before = none; next = u; after = us; is = refl; put = refl }
 split (t ▸ (u ▸ us)) (suc i) y h = let r = split (u ▸ us) i y (omega (arith, h)) in record { before = t ▸ r.before; next = r.next; after = r.after; is = ap (λ vs. t ▸ vs) r.is; put = ap (λ vs. t ▸ vs) r.put }
-
--- a part weighs what it weighs as a statement
-same_in_part : (o : LogicalOperator) (a b : Tree) → weight (Expr passed_part_seat) (logical o a b) ≡ weight (Expr statement_expression_seat) (logical o a b)
-same_in_part Or a b = refl
-same_in_part And a b = refl
-same_in_part Coalesce a b = refl
 
 -- ---- what turns
 
@@ -116,10 +109,6 @@ part_applied s t i is h e = go (logical_operator (child_or_absent (children (par
     go None k e = absurd (true≢false (sym e))
 
 -- ---- where no row makes it lighter
-
-or_true : (b c : Bool) → c ≡ true → b || c ≡ true
-or_true true c e = refl
-or_true false c e = e
 
 found : (before : Trees) (x q : Tree) (qs : Trees) → is_turned x ≡ true → turns_before_last (append before (x ▸ (q ▸ qs))) ≡ true
 found none x q qs e = ap (λ b. b || turns_before_last (q ▸ qs)) e

@@ -17,10 +17,10 @@ use Rattle.mini_model.specs.declared.place.Position.TheVariants.{Expr}
 use Rattle.mini_model.specs.declared.seat.Seat.{Seat}
 use Rattle.mini_model.specs.declared.shape.Shape.{Shape}
 use Rattle.mini_model.specs.declared.shape.Shape.TheVariants as shape
-use Rattle.mini_model.specs.Tree.{Tree, Trees, node, none, ◌▸◌, leaf, is_absent, shape_of, unary, logical}
-use Rattle.mini_accept.specs.WellShaped.{Depth, in_module, in_body, nested, refused, Class, a_statement, a_key, a_private_or_key, an_inner_key, an_init, an_arrow_body, an_expression, a_link, an_argument, a_default_export, Slot, one, one_or_absent, is_safe, is_paired, has_names, has_its_number, has_plain_fields, has_its_parts, is_whole, class_of, is_function_body, spelling, has_optional, filling, is_strict_in, fits, fill}
+use Rattle.mini_model.specs.Tree.{Tree, Trees, node, none, ◌▸◌, count, children, leaf, is_absent, shape_of, unary, logical}
+use Rattle.mini_accept.specs.WellShaped.{Depth, in_module, in_body, nested, refused, Class, a_statement, a_key, a_private_or_key, an_inner_key, an_init, an_arrow_body, an_expression, a_link, an_argument, a_default_export, Slot, one, one_or_absent, is_safe, is_paired, has_names, has_its_number, has_plain_fields, has_its_parts, is_whole, class_of, is_function_body, spelling, has_optional, filling, is_strict_in, fits, fill, each}
 use Rattle.mini_node.specs.Children.{part}
-use Rattle.mini_node.specs.Kinds.{binary}
+use Rattle.mini_node.specs.Kinds.{binary, sequence}
 use Rattle.mini_laws.specs.Value.{Value, Undefined, Null, Boolean, Number, String, Symbol, Object, choose, truth, is_nullish}
 use Rattle.mini_laws.specs.Conversion.{Made, makes, raises, outside, both, text_of_boolean, to_text, to_number, signed}
 use Rattle.mini_laws.specs.Conversion as conversion
@@ -31,14 +31,15 @@ use Rattle.mini_kept.specs.KeepsFrames.{is_body_slot}
 use Rattle.mini_kept.specs.KeepsNames.{is_rewritten_place}
 use Rattle.mini_kept.specs.KeepsShapes.{AskedAlike, is_default}
 use Rattle.mini_kept.specs.Lawful.{Lawful}
+use Rattle.mini_kept.proofs.Bools.{left}
 use Rattle.mini_kept.proofs.Expressions.{refused_here, expression, TakesExpressionIn, TakesExpression, expression_taken}
 use Rattle.mini_kept.proofs.Expressions as kept_expressions
 use Rattle.mini_terms.specs.Const.{made, mapped, decided, binary_value, binary_const, logical_const, conditional_const}
-use Rattle.mini_terms.specs.Calculated.{undefined_if, leaf_value, as_number, over_number, calculated_unary, calculated_numbers, unary_value, value_within, operand_depth, operand_value, free_value, calculated}
+use Rattle.mini_terms.specs.Calculated.{undefined_if, leaf_value, as_number, over_number, calculated_unary, calculated_numbers, unary_value, last_value, value_within, operand_depth, operand_value, free_value, calculated}
 use Rattle.mini_terms.specs.Parts.{leaves_nothing}
 use Rattle.mini_terms.specs.Plain.{lit, void_zero}
 use Rattle.mini_terms.specs.Kind.{is_undefined_name}
-use Rattle.mini_terms.proofs.Calculated.{Form, of_unary, of_binary, Choice, of_logical, of_conditional, within, calculated_is}
+use Rattle.mini_terms.proofs.Calculated.{Form, of_unary, of_binary, Choice, of_logical, of_conditional, of_sequence, within, calculated_is}
 use Rattle.mini_rows.specs.Arranged.{KeptAt, Vanishes}
 use Rattle.mini_rows.specs.Sketches.{Null as NullHead, Number as NumberHead, String as StringHead, Unary, Binary, part as hole, under, end, ◌▹◌, Free}
 use Rattle.mini_rows.specs.Constants.{RowConstant, ConstantRow, ConstantContracts}
@@ -47,6 +48,7 @@ use Rattle.mini_rows.proofs.ArrangedLawful.{kept_is_lawful}
 use Rattle.mini_rows.proofs.ConstantMeaning.{nothing, constants_same}
 use Rattle.mini_rows.proofs.FoldLawful.{vanishes, first_dropped, no_number, expression_slot}
 use Rattle.mini_rows.proofs.FoldWeights.{not_a_number}
+use Rattle.mini_rows.proofs.ListShapes.{AllFit, first_fits}
 use Rattle.mini_rows.proofs.Surrogates.{is_paired_joined, numeral_paired}
 
 -- ---- all of it goes, and a literal is made
@@ -462,16 +464,26 @@ module _ (strict : Bool) where
     logical_fit : (o : LogicalOperator) (a b : Tree) → fits strict expression (logical o a b) ≡ true → (fits strict expression a ≡ true) × (fits strict expression b ≡ true)
     logical_fit o a b e = two_parts (is_whole an_expression (shape.LogicalExpression o) [] 0 (a ▸ b ▸ none)) (fits strict expression a) (fits strict expression b) e
 
-    chosen_at : Choice f t v → fits strict expression t ≡ true → Written v
-    chosen_at (of_logical o is e) k =
+    -- the parts of a sequence are expressions
+    items_fit : (ts : Trees) → fits strict expression (sequence ts) ≡ true → AllFit strict expression ts
+    items_fit ts e = left (fill strict (each expression) ts) true (and_parts (nat_le 2 (count ts)) (fill strict (each expression) ts && true) e).1
+
+    last_at : (ts : Trees) → last_value f ts ≡ Some v → AllFit strict expression ts → Written v
+    last_at none e k = nothing e
+    last_at (a ▸ none) e k = h a v e (first_fits strict expression a none k).0
+    last_at (a ▸ (b ▸ ts)) e k = last_at (b ▸ ts) e (first_fits strict expression a (b ▸ ts) k).1
+
+    chosen_at : (is_free : Bool) → Choice is_free f t v → fits strict expression t ≡ true → Written v
+    chosen_at is_free (of_logical o is e) k =
         let (first, second) = logical_fit o (part t 0) (part t 1) (subst (λ x. fits strict expression x ≡ true) is k) in
         by_sides o v (f (part t 0)) (f (part t 1)) (λ u g. h (part t 0) u g first) (λ u g. h (part t 1) u g second) e
-    chosen_at (of_conditional is e) k =
+    chosen_at is_free (of_sequence free is e) k = last_at (children (part t 0)) e (items_fit (children (part t 0)) (subst (λ x. fits strict expression x ≡ true) is k))
+    chosen_at is_free (of_conditional is e) k =
         let (takes, (first, second, third)) = kept_expressions.of_conditional strict expression (part t 0) (part t 1) (part t 2) (subst (λ x. fits strict expression x ≡ true) is k) in
         by_branches v (f (part t 0)) (f (part t 1)) (f (part t 2)) (λ u g. h (part t 1) u g second) (λ u g. h (part t 2) u g third) e
 
   value_written : (is_free : Bool) (k : ℕ) (t : Tree) (v : Value) → value_within is_free k t ≡ Some v → WrittenOf t v
-  value_written is_free k t v e = within WrittenOf is_free (leaf_written strict) (λ f h t v r fit. (operated_at f h t v expression is_free r fit).1) (λ f h t v r fit. chosen_at f h t v r fit) k t v e
+  value_written is_free k t v e = within WrittenOf is_free (leaf_written strict) (λ f h t v r fit. (operated_at f h t v expression is_free r fit).1) (λ f h t v r fit. chosen_at f h t v is_free r fit) k t v e
 
   pub operand_written : (t : Tree) (v : Value) → operand_value t ≡ Some v → WrittenOf t v
   operand_written t v e = value_written false operand_depth t v e

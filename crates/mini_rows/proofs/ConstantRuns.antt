@@ -1,5 +1,5 @@
 -- What is calculated does nothing but give its value.
-use Rattle.std.proofs.Common.{◌≡◌, ℕ, ℤ, List, [], Option, Some, None, refl, sym, ap, subst, ◌∙◌}
+use Rattle.std.proofs.Common.{◌≡◌, ℕ, ℤ, List, [], Option, Some, None, refl, sym, ap, subst, ◌∙◌, true≢false}
 use Rattle.std.specs.Prelude.{not, Bool, true, false}
 use Rattle.mini_model.specs.declared.name.Name.{Name}
 use Rattle.mini_model.specs.declared.operator.BinaryOperator.{BinaryOperator}
@@ -29,7 +29,7 @@ use Rattle.mini_terms.specs.Calculated.{undefined_if, leaf_value, as_number, ove
 use Rattle.mini_terms.specs.Const.{made, mapped, decided, binary_value, binary_const, logical_const, conditional_const}
 use Rattle.mini_terms.specs.Kind.{is_undefined_name}
 use Rattle.mini_terms.specs.Reading.{stands, by_value}
-use Rattle.mini_terms.proofs.Calculated.{Form, of_unary, of_binary, Choice, of_logical, of_conditional, within}
+use Rattle.mini_terms.proofs.Calculated.{Form, of_unary, of_binary, Choice, of_logical, of_conditional, of_sequence, within}
 use Rattle.mini_terms.proofs.Fine.{IsPrimitive}
 use Rattle.mini_terms.proofs.Opened.{negation_opened, and_opened, or_opened, coalesce_opened}
 use Rattle.mini_terms.proofs.Primitive.{leaf_primitive, unary_primitive, binary_primitive, decided_primitive, branch_primitive}
@@ -303,8 +303,9 @@ module _ (e : Environment) where
     operated (of_unary o is k) = subst (λ x. Settled x v) (sym is) (by_operand (part t 0) o v (f (part t 0)) (h (part t 0)) k)
     operated (of_binary o is k) = subst (λ x. Settled x v) (sym is) (by_operands o (part t 0) (part t 1) v (f (part t 0)) (f (part t 1)) (h (part t 0)) (h (part t 1)) k)
 
-    chosen : Choice f t v → Settled t v
+    chosen : Choice false f t v → Settled t v
     chosen (of_logical o is k) = subst (λ x. Settled x v) (sym is) (by_sides o (part t 0) (part t 1) v (f (part t 0)) (f (part t 1)) (h (part t 0)) (h (part t 1)) k)
+    chosen (of_sequence free is k) = absurd (true≢false (sym free))
     chosen (of_conditional is k) = subst (λ x. Settled x v) (sym is) (by_branches (part t 0) (part t 1) (part t 2) v (f (part t 0)) (f (part t 1)) (f (part t 2)) (h (part t 0)) (h (part t 1)) (h (part t 2)) k)
 
   pub operand_done : (t : Tree) (v : Value) → operand_value t ≡ Some v → (s : State) → value e t s ≡ ok v s

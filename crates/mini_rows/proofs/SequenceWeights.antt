@@ -342,6 +342,21 @@ part_within s before x q qs =
     let parts = all_append before (x ▸ (q ▸ qs)) in
     omega (arith, whole, parts)
 
+-- and so of the last
+pub end_changes : (s : Seat) (before : Trees) (x y : Tree) → weight (Expr s) (sequence (append before (x ▸ none))) + weight (Expr passed_part_seat) y ≡ weight (Expr s) (sequence (append before (y ▸ none))) + weight (Expr passed_part_seat) x
+end_changes s before x y =
+    let one = list_weighs s before x none in
+    let other = list_weighs s before y none in
+    let some = all_append before (x ▸ none) in
+    let others = all_append before (y ▸ none) in
+    omega (arith, one, other, some, others)
+
+pub end_within : (s : Seat) (before : Trees) (x : Tree) → weight (Expr passed_part_seat) x ≤ weight (Expr s) (sequence (append before (x ▸ none)))
+end_within s before x =
+    let whole = list_weighs s before x none in
+    let parts = all_append before (x ▸ none) in
+    omega (arith, whole, parts)
+
 -- ---- 21, of parts without effect: a comma goes, and the part
 
 idle_falls : (s : Seat) (before : Trees) (a q : Tree) (qs : Trees) → weight (Expr s) (sequence (append before (q ▸ qs))) < weight (Expr s) (sequence (append before (a ▸ (q ▸ qs))))

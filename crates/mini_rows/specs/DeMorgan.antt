@@ -5,7 +5,7 @@ use Rattle.mini_model.specs.declared.operator.LogicalOperator.{LogicalOperator}
 use Rattle.mini_model.specs.declared.place.Position.{Position}
 use Rattle.mini_model.specs.declared.place.Position.TheVariants.{Expr, Stmt}
 use Rattle.mini_model.specs.Paths.{append}
-use Rattle.mini_model.specs.Tree.{Tree, Trees, ◌▸◌, logical, expression_statement}
+use Rattle.mini_model.specs.Tree.{Tree, Trees, none, ◌▸◌, logical, expression_statement}
 use Rattle.mini_model.specs.Position.{is_and_or, statement_expression_seat, left_operand_seat}
 use Rattle.mini_model.specs.Terms.{turned}
 use Rattle.mini_model.specs.Weight.{weight}
@@ -29,17 +29,24 @@ void_of Alone x = expression_statement x
 void_of (Begins test update body) x = for_loop x test update body
 void_of (Turns init test body) x = for_loop init test x body
 
+-- an expression by itself, or as the last part of a sequence, whose value is that of the sequence (ECMA-262, "Comma Operator")
+abbrev pub ended : Trees → Tree → Tree
+ended none x = x
+ended (p ▸ ps) x = sequence (p ▸ append ps (x ▸ none))
+
 -- 50: `!a && b;` becomes `a || b;`, and `!a || b;` `a && b;` (De Morgan): which side is evaluated stays, and nobody asks for the value;
--- and `for (!a && b;;) c` becomes `for (a || b;;) c`. `a && (b && c);` is joined instead, which is lighter
+-- `for (!a && b;;) c` becomes `for (a || b;;) c`, and `a(), !b && c();` `a(), b || c();`. `a && (b && c);` is joined instead, which is
+-- lighter
 pub record Row50 (n w : Tree) : Type 0 where
   pub place : VoidPlace
+  pub before : Trees
   pub operator : LogicalOperator
   pub a : Tree
   pub b : Tree
   pub tells : is_and_or operator ≡ true
   pub apart : is_logical operator b ≡ false
-  pub shape : n ≡ void_of place (logical operator a b)
-  pub written : w ≡ void_of place (turned_logical operator a b)
+  pub shape : n ≡ void_of place (ended before (logical operator a b))
+  pub written : w ≡ void_of place (ended before (turned_logical operator a b))
 
 -- 50, of a part of a sequence but the last: `a(), !b && c(), d()` becomes `a(), b || c(), d()`
 pub record Row50Part (n w : Tree) : Type 0 where

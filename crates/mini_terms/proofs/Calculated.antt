@@ -1,25 +1,24 @@
 -- What is calculated of an expression is its constant.
-use Rattle.std.proofs.Common.{◌≡◌, ℕ, ℤ, zero, suc, Bool, true, false, List, Option, Some, None, refl, sym, ap, subst, ◌∙◌}
-use Rattle.std.specs.Prelude.{pos}
-use Rattle.mini_model.specs.declared.name.Name.{Name}
+use Rattle.std.proofs.Common.{◌≡◌, ℕ, ℤ, zero, suc, Bool, true, false, Option, Some, None, refl, sym, ap, subst, ◌∙◌}
+use Rattle.std.specs.Prelude.{◌&&◌}
+use Rattle.std.proofs.lemmas.Bool.{and_parts}
 use Rattle.mini_model.specs.declared.operator.BinaryOperator.{BinaryOperator}
 use Rattle.mini_model.specs.declared.operator.LogicalOperator.{LogicalOperator}
 use Rattle.mini_model.specs.declared.operator.UnaryOperator.{UnaryOperator}
 use Rattle.mini_model.specs.declared.operator.UnaryOperator.TheVariants as unary_operator
-use Rattle.mini_model.specs.declared.shape.Shape.{Shape}
 use Rattle.mini_model.specs.declared.shape.Shape.TheVariants as shape
-use Rattle.mini_model.specs.Tree.{Tree, Trees, node, unary, logical, conditional}
+use Rattle.mini_model.specs.Tree.{Tree, Trees, node, none, ◌▸◌, children, count, child_or_absent, unary, logical, conditional}
 use Rattle.mini_node.specs.Children.{part}
-use Rattle.mini_node.specs.Kinds.{binary, unary_operator as its_unary_operator, binary_operator as its_binary_operator, logical_operator as its_logical_operator, is_conditional}
-use Rattle.mini_node.specs.Made.{unary_is, binary_is, logical_is, conditional_is}
-use Rattle.mini_laws.specs.Value.{Value, Undefined, choose}
+use Rattle.mini_node.specs.Kinds.{binary, sequence, unary_operator as its_unary_operator, binary_operator as its_binary_operator, logical_operator as its_logical_operator, is_conditional, is_sequence}
+use Rattle.mini_node.specs.Made.{unary_is, binary_is, logical_is, conditional_is, sequence_is}
+use Rattle.mini_laws.specs.Value.{Value, choose}
 use Rattle.mini_laws.specs.Conversion.{Made, makes, raises, outside, is_safe, to_number}
 use Rattle.mini_laws.specs.Expressions.{first_kind}
 use Rattle.mini_laws.specs.Naming.{NameKind, UndefinedName, kinds}
 use Rattle.mini_laws.specs.Operators.{of_number}
-use Rattle.mini_terms.specs.Const.{made, name_const, of_operand, unary_const, binary_const, logical_const, conditional_const, const}
+use Rattle.mini_terms.specs.Const.{made, name_const, of_operand, unary_const, binary_const, logical_const, conditional_const, last_const, const, each_const}
 use Rattle.mini_terms.specs.Folds.{is_effect_free}
-use Rattle.mini_terms.specs.Calculated.{undefined_if, leaf_value, as_number, over_number, calculated_unary, unary_value, calculated_by, calculated_over, chosen_by, chosen_over, or_else, value_within, operand_depth, free_value, calculated, CalculatedIsConst}
+use Rattle.mini_terms.specs.Calculated.{undefined_if, leaf_value, as_number, over_number, calculated_unary, unary_value, calculated_by, calculated_over, last_value, chosen_by, chosen_over, or_else, value_within, operand_depth, free_value, calculated, CalculatedIsConst}
 use Rattle.mini_terms.specs.Kind.{is_undefined_name}
 use Rattle.mini_terms.specs.Reading.{stands, is_plain_part}
 
@@ -93,6 +92,15 @@ conditional_of a b c v (Some x) (Some y) None h k l e = nothing e
 conditional_of a b c v (Some x) None z h k l e = nothing e
 conditional_of a b c v None y z h k l e = nothing e
 
+-- a sequence's is that of its last part
+last_is : (t : Tree) (ts : Trees) → last_const (each_const (t ▸ ts)) ≡ const (child_or_absent (t ▸ ts) (count ts))
+last_is t none = refl
+last_is t (u ▸ us) = last_is u us
+
+sequence_of : (f : Tree → Option Value) → ((a : Tree) (u : Value) → f a ≡ Some u → const a ≡ Some u) → (ts : Trees) (v : Value) → last_value f ts ≡ Some v → const (sequence ts) ≡ Some v
+sequence_of f h none v e = nothing e
+sequence_of f h (t ▸ ts) v e = last_is t ts ∙ h (child_or_absent (t ▸ ts) (count ts)) v e
+
 -- ---- all
 
 -- a unary or binary operator over operands of these values
@@ -108,28 +116,30 @@ form is_free f t v e = go (its_unary_operator t) (its_binary_operator t) refl re
     go None (Some o) h k e = of_binary o (binary_is t o k) e
     go None None h k e = nothing e
 
--- a choice between operands of these values
-pub data Choice (f : Tree → Option Value) (t : Tree) (v : Value) : Type 0 where
-  of_logical : (o : LogicalOperator) → t ≡ logical o (part t 0) (part t 1) → logical_const o (f (part t 0)) (f (part t 1)) ≡ Some v → Choice f t v
-  of_conditional : t ≡ conditional (part t 0) (part t 1) (part t 2) → conditional_const (f (part t 0)) (f (part t 1)) (f (part t 2)) ≡ Some v → Choice f t v
+-- a choice between operands of these values, or a sequence that ends in one
+pub data Choice (is_free : Bool) (f : Tree → Option Value) (t : Tree) (v : Value) : Type 0 where
+  of_logical : (o : LogicalOperator) → t ≡ logical o (part t 0) (part t 1) → logical_const o (f (part t 0)) (f (part t 1)) ≡ Some v → Choice is_free f t v
+  of_conditional : t ≡ conditional (part t 0) (part t 1) (part t 2) → conditional_const (f (part t 0)) (f (part t 1)) (f (part t 2)) ≡ Some v → Choice is_free f t v
+  of_sequence : is_free ≡ true → t ≡ sequence (children (part t 0)) → last_value f (children (part t 0)) ≡ Some v → Choice is_free f t v
 
-pub choice : (f : Tree → Option Value) (t : Tree) (v : Value) → chosen_over f t ≡ Some v → Choice f t v
-choice f t v e = go (its_logical_operator t) (is_conditional t) refl refl e
+pub choice : (is_free : Bool) (f : Tree → Option Value) (t : Tree) (v : Value) → chosen_over is_free f t ≡ Some v → Choice is_free f t v
+choice is_free f t v e = go (its_logical_operator t) (is_conditional t) (is_free && is_sequence t) refl refl refl e
   where
-    go : (o : Option LogicalOperator) (b : Bool) → its_logical_operator t ≡ o → is_conditional t ≡ b → chosen_by f o b t ≡ Some v → Choice f t v
-    go (Some o) b h k e = of_logical o (logical_is t o h) e
-    go None true h k e = of_conditional (conditional_is t k) e
-    go None false h k e = nothing e
+    go : (o : Option LogicalOperator) (b c : Bool) → its_logical_operator t ≡ o → is_conditional t ≡ b → is_free && is_sequence t ≡ c → chosen_by f o b c t ≡ Some v → Choice is_free f t v
+    go (Some o) b c h k l e = of_logical o (logical_is t o h) e
+    go None true c h k l e = of_conditional (conditional_is t k) e
+    go None false true h k l e = let (free, listed) = and_parts is_free (is_sequence t) l in of_sequence free (sequence_is t listed) e
+    go None false false h k l e = nothing e
 
 -- What holds of literals, and of an operator where it holds of its operands, holds of each value that is calculated.
-module _ (P : Tree → Value → Type 0) (is_free : Bool) (leaves : (t : Tree) (v : Value) → leaf_value t ≡ Some v → P t v) (operators : (f : Tree → Option Value) → ((a : Tree) (u : Value) → f a ≡ Some u → P a u) → (t : Tree) (v : Value) → Form is_free f t v → P t v) (choices : (f : Tree → Option Value) → ((a : Tree) (u : Value) → f a ≡ Some u → P a u) → (t : Tree) (v : Value) → Choice f t v → P t v) where
-  last : (f : Tree → Option Value) → ((a : Tree) (u : Value) → f a ≡ Some u → P a u) → (t : Tree) (v : Value) (c : Option Value) → chosen_over f t ≡ c → or_else c (leaf_value t) ≡ Some v → P t v
-  last f h t v (Some u) k e = choices f h t v (choice f t v (k ∙ e))
+module _ (P : Tree → Value → Type 0) (is_free : Bool) (leaves : (t : Tree) (v : Value) → leaf_value t ≡ Some v → P t v) (operators : (f : Tree → Option Value) → ((a : Tree) (u : Value) → f a ≡ Some u → P a u) → (t : Tree) (v : Value) → Form is_free f t v → P t v) (choices : (f : Tree → Option Value) → ((a : Tree) (u : Value) → f a ≡ Some u → P a u) → (t : Tree) (v : Value) → Choice is_free f t v → P t v) where
+  last : (f : Tree → Option Value) → ((a : Tree) (u : Value) → f a ≡ Some u → P a u) → (t : Tree) (v : Value) (c : Option Value) → chosen_over is_free f t ≡ c → or_else c (leaf_value t) ≡ Some v → P t v
+  last f h t v (Some u) k e = choices f h t v (choice is_free f t v (k ∙ e))
   last f h t v None k e = leaves t v e
 
-  further : (f : Tree → Option Value) → ((a : Tree) (u : Value) → f a ≡ Some u → P a u) → (t : Tree) (v : Value) (c : Option Value) → calculated_over is_free f t ≡ c → or_else c (or_else (chosen_over f t) (leaf_value t)) ≡ Some v → P t v
+  further : (f : Tree → Option Value) → ((a : Tree) (u : Value) → f a ≡ Some u → P a u) → (t : Tree) (v : Value) (c : Option Value) → calculated_over is_free f t ≡ c → or_else c (or_else (chosen_over is_free f t) (leaf_value t)) ≡ Some v → P t v
   further f h t v (Some u) k e = operators f h t v (form is_free f t v (k ∙ e))
-  further f h t v None k e = last f h t v (chosen_over f t) refl e
+  further f h t v None k e = last f h t v (chosen_over is_free f t) refl e
 
   pub within : (k : ℕ) (t : Tree) (v : Value) → value_within is_free k t ≡ Some v → P t v
   within zero t v e = leaves t v e
@@ -143,9 +153,10 @@ module _ (is_free : Bool) (f : Tree → Option Value) (h : (a : Tree) (u : Value
   operated (of_unary o is e) = subst (λ x. Constant x v) (sym is) (of_operand_value (part t 0) v is_free o (f (part t 0)) (h (part t 0)) e)
   operated (of_binary o is e) = subst (λ x. Constant x v) (sym is) (record { constant = binary_of o (part t 0) (part t 1) v (f (part t 0)) (f (part t 1)) (its_const (part t 0)) (its_const (part t 1)) e; plain = refl })
 
-  chosen : Choice f t v → Constant t v
+  chosen : Choice is_free f t v → Constant t v
   chosen (of_logical o is e) = subst (λ x. Constant x v) (sym is) (record { constant = logical_of o (part t 0) (part t 1) v (f (part t 0)) (f (part t 1)) (its_const (part t 0)) (its_const (part t 1)) e; plain = refl })
   chosen (of_conditional is e) = subst (λ x. Constant x v) (sym is) (record { constant = conditional_of (part t 0) (part t 1) (part t 2) v (f (part t 0)) (f (part t 1)) (f (part t 2)) (its_const (part t 0)) (its_const (part t 1)) (its_const (part t 2)) e; plain = refl })
+  chosen (of_sequence free is e) = subst (λ x. Constant x v) (sym is) (record { constant = sequence_of f its_const (children (part t 0)) v e; plain = refl })
 
 free_is_constant : (t : Tree) (v : Value) → free_value t ≡ Some v → Constant t v
 free_is_constant t v e = within Constant true leaf_is (operated true) (chosen true) operand_depth t v e

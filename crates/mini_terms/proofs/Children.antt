@@ -10,7 +10,7 @@ use Rattle.mini_terms.specs.Kind.{is_primitive, Undetermined, nth_kind, last_kin
 use Rattle.mini_terms.specs.Effects.{nth_true, all_true, all_primitive, primitive_items, each_primitive, is_identifier, each_identifier, ef_by, ef, each_ef}
 use Rattle.mini_terms.specs.Reading.{is_plain_part_by, first_of, is_plain_part, are_plain_parts}
 use Rattle.mini_terms.specs.Parts.{leaves_nothing_by, leaves_nothing, leave_nothing, is_link, is_several, first_is_several, first_is_link, weighs_over, weighs}
-use Rattle.mini_terms.specs.Evident.{nth_truth, last_truth, primitive_truth_by, primitive_truth, each_primitive_truth}
+use Rattle.mini_terms.specs.Evident.{nth_number, number_by, whole_number, each_number, nth_truth, last_truth, primitive_truth_by, primitive_truth, each_primitive_truth}
 
 pub kind_is : (t : Tree) → kind t ≡ kind_by (shape_of t) (kinds (names_of t)) (each_kind (children t))
 kind_is (node h xs n ts) = refl
@@ -167,8 +167,29 @@ no_last_in (t ▸ ts) e = absurd (omega (arith, e))
 pub no_last_truth : (t : Tree) → count (children t) ≤ zero → last_truth (each_primitive_truth (children t)) ≡ None
 no_last_truth t e = no_last_in (children t) e
 
-pub truth_is : (t : Tree) → primitive_truth t ≡ primitive_truth_by (shape_of t) (kinds (names_of t)) (each_primitive_truth (children t))
+pub truth_is : (t : Tree) → primitive_truth t ≡ primitive_truth_by (shape_of t) (kinds (names_of t)) (each_primitive_truth (children t)) (each_number (children t))
 truth_is (node h xs n ts) = refl
+
+-- its number
+
+numbers_at : (ts : Trees) (i : ℕ) → nth_number (each_number ts) i ≡ whole_number (child_or_absent ts i)
+numbers_at none i = refl
+numbers_at (t ▸ ts) zero = refl
+numbers_at (t ▸ ts) (suc i) = numbers_at ts i
+
+pub number_at : (t : Tree) (i : ℕ) → nth_number (each_number (children t)) i ≡ whole_number (part t i)
+number_at t i = numbers_at (children t) i
+
+no_numbers : (ts : Trees) (i : ℕ) → count ts ≤ i → nth_number (each_number ts) i ≡ None
+no_numbers none i e = refl
+no_numbers (t ▸ ts) zero e = absurd (omega (arith, e))
+no_numbers (t ▸ ts) (suc i) e = no_numbers ts i (omega (arith, e))
+
+pub no_number_at : (t : Tree) (i : ℕ) → count (children t) ≤ i → nth_number (each_number (children t)) i ≡ None
+no_number_at t i e = no_numbers (children t) i e
+
+pub number_is : (t : Tree) → whole_number t ≡ number_by (shape_of t) (each_number (children t))
+number_is (node h xs n ts) = refl
 
 -- parts that stay, and parts that are dropped
 

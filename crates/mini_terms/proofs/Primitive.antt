@@ -12,12 +12,12 @@ use Rattle.mini_model.specs.declared.shape.Shape.TheVariants as shape
 use Rattle.mini_laws.specs.Value.{Value, Undefined, Null, Boolean, Number, String, choose, truth, is_nullish}
 use Rattle.mini_laws.specs.Conversion.{Made, makes, raises, outside, is_safe}
 use Rattle.mini_laws.specs.Expressions.{first_kind}
-use Rattle.mini_laws.specs.Naming.{NameKind, UndefinedName, kinds}
+use Rattle.mini_laws.specs.Naming.{kinds}
 use Rattle.mini_laws.specs.Operators.{of_number, of_primitives, loosely_equal, strictly_equal, type_text}
 use Rattle.mini_terms.specs.Calculated.{undefined_if, leaf_value, as_number, over_number, calculated_unary}
 use Rattle.mini_terms.specs.Const.{made, mapped, decided, binary_value}
 use Rattle.mini_terms.specs.Kind.{is_undefined_name}
-use Rattle.mini_terms.proofs.Made.{MadeIs, of_numbers_is, of_primitives_is, of_number_is}
+use Rattle.mini_terms.proofs.Made.{MadeIs, of_primitives_is, of_number_is}
 use Rattle.mini_terms.proofs.Fine.{IsPrimitive}
 use Rattle.mini_terms.proofs.ConstTable.{number_primitive, added_primitive, related_primitive}
 

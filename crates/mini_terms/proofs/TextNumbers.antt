@@ -1,6 +1,6 @@
 -- How the number of a text is read.
-use Rattle.std.proofs.Common.{◌≡◌, ℕ, ℤ, zero, suc, ◌+◌, ◌<◌, ◌≤◌, Bool, true, false, List, [], ◌∷◌, length, get_or, drop, take, Option, Some, None, refl, sym, ap, subst, ◌∙◌, true≢false, drop-cons, eqb-true, ltb-true, ltb-false, arith}
-use Rattle.std.specs.Prelude.{◌-◌, ◌*◌, ◌++◌, pos, negsuc, nat_lt, nat_eq, reverse}
+use Rattle.std.proofs.Common.{◌≡◌, ℕ, ℤ, zero, suc, ◌+◌, ◌<◌, ◌≤◌, Bool, true, false, List, [], ◌∷◌, length, get_or, drop, take, Option, Some, None, refl, sym, ap, ◌∙◌, true≢false, drop-cons, eqb-true, ltb-true, ltb-false, arith}
+use Rattle.std.specs.Prelude.{◌-◌, ◌*◌, pos, negsuc, nat_lt, nat_eq, reverse}
 use Rattle.std.proofs.Math.Seq.{take-suc}
 use Rattle.std.proofs.lemmas.List.{drop_all, reverse-append, reverse-reverse}
 use Rattle.mini_laws.specs.Value.{Value, Number, choose}

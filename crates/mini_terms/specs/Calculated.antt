@@ -1,5 +1,5 @@
 -- The constant of an operator over constants, as far as it is calculated.
-use Rattle.std.specs.Prelude.{◌≡◌, ℕ, ℤ, zero, suc, Bool, true, false, not, Option, Some, None}
+use Rattle.std.specs.Prelude.{◌≡◌, ℕ, ℤ, zero, suc, Bool, true, false, not, ◌&&◌, Option, Some, None}
 use Rattle.mini_model.specs.declared.operator.BinaryOperator.{BinaryOperator}
 use Rattle.mini_model.specs.declared.operator.BinaryOperator.TheVariants as binary
 use Rattle.mini_model.specs.declared.operator.LogicalOperator.{LogicalOperator}
@@ -7,14 +7,15 @@ use Rattle.mini_model.specs.declared.operator.UnaryOperator.{UnaryOperator}
 use Rattle.mini_model.specs.declared.operator.UnaryOperator.TheVariants as unary
 use Rattle.mini_model.specs.declared.shape.Shape.{Shape}
 use Rattle.mini_model.specs.declared.shape.Shape.TheVariants as shape
-use Rattle.mini_model.specs.Tree.{Tree, node}
+use Rattle.mini_model.specs.Tree.{Tree, Trees, node, none, ◌▸◌, children, count, child_or_absent}
 use Rattle.mini_node.specs.Children.{part}
-use Rattle.mini_node.specs.Kinds.{unary_operator, binary_operator, logical_operator, is_conditional}
+use Rattle.mini_node.specs.Kinds.{unary_operator, binary_operator, logical_operator, is_conditional, is_sequence}
 use Rattle.mini_laws.specs.Value.{Value, Undefined, Null, Boolean, Number, String, choose, truth}
-use Rattle.mini_laws.specs.Conversion.{to_number, is_safe}
+use Rattle.mini_laws.specs.Conversion.{to_number}
 use Rattle.mini_laws.specs.Expressions.{first_kind}
 use Rattle.mini_laws.specs.Naming.{NameKind, kinds}
-use Rattle.mini_laws.specs.Operators.{of_numbers, of_number, same_number, type_text}
+use Rattle.mini_laws.specs.Operators.{of_numbers, same_number, type_text}
+pub use Rattle.mini_terms.specs.Const.{over_number}
 use Rattle.mini_terms.specs.Const.{made, binary_const, logical_const, conditional_const, const}
 use Rattle.mini_terms.specs.Folds.{is_effect_free}
 use Rattle.mini_terms.specs.Kind.{is_undefined_name}
@@ -42,11 +43,6 @@ leaf_value (node h xs n ts) = leaf_by h (first_kind (kinds xs))
 -- the number of a value, if that is whole and safe: a text is read as one
 abbrev pub as_number : Value → Option ℤ
 as_number v = made (to_number v)
-
--- `+`, `-` and `~` of a safe number
-abbrev pub over_number : UnaryOperator → Option ℤ → Option Value
-over_number o (Some n) = choose (is_safe n) (made (of_number o n)) None
-over_number o None = None
 
 abbrev pub calculated_unary : UnaryOperator → Value → Option Value
 calculated_unary unary.Void v = Some Undefined
@@ -78,14 +74,21 @@ calculated_by is_free f None None t = None
 abbrev pub calculated_over : Bool → (Tree → Option Value) → Tree → Option Value
 calculated_over is_free f t = calculated_by is_free f (unary_operator t) (binary_operator t) t
 
--- of logical expressions and conditionals
-abbrev pub chosen_by : (Tree → Option Value) → Option LogicalOperator → Bool → Tree → Option Value
-chosen_by f (Some o) b t = logical_const o (f (part t 0)) (f (part t 1))
-chosen_by f None true t = conditional_const (f (part t 0)) (f (part t 1)) (f (part t 2))
-chosen_by f None false t = None
+-- of the last of some trees
+abbrev pub last_value : (Tree → Option Value) → Trees → Option Value
+last_value f none = None
+last_value f (t ▸ ts) = f (child_or_absent (t ▸ ts) (count ts))
 
-abbrev pub chosen_over : (Tree → Option Value) → Tree → Option Value
-chosen_over f t = chosen_by f (logical_operator t) (is_conditional t) t
+-- of logical expressions, conditionals and sequences
+abbrev pub chosen_by : (Tree → Option Value) → Option LogicalOperator → Bool → Bool → Tree → Option Value
+chosen_by f (Some o) b c t = logical_const o (f (part t 0)) (f (part t 1))
+chosen_by f None true c t = conditional_const (f (part t 0)) (f (part t 1)) (f (part t 2))
+chosen_by f None false true t = last_value f (children (part t 0))
+chosen_by f None false false t = None
+
+-- of a sequence that has to do nothing: the parts before the last needn't have a value then
+abbrev pub chosen_over : Bool → (Tree → Option Value) → Tree → Option Value
+chosen_over is_free f t = chosen_by f (logical_operator t) (is_conditional t) (is_free && is_sequence t) t
 
 abbrev pub or_else : Option Value → Option Value → Option Value
 or_else (Some v) c = Some v
@@ -94,7 +97,7 @@ or_else None c = c
 -- the value of a literal, or of operators over literals, of which at most so many lie one within another
 abbrev pub value_within : Bool → ℕ → Tree → Option Value
 value_within is_free zero t = leaf_value t
-value_within is_free (suc k) t = or_else (calculated_over is_free (value_within is_free k) t) (or_else (chosen_over (value_within is_free k) t) (leaf_value t))
+value_within is_free (suc k) t = or_else (calculated_over is_free (value_within is_free k) t) (or_else (chosen_over is_free (value_within is_free k) t) (leaf_value t))
 
 -- No further is looked into an operand. What is left of a constant weighs no more than its literal, so of a number there are hardly
 -- as many.

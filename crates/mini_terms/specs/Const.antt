@@ -11,7 +11,7 @@ use Rattle.mini_model.specs.declared.shape.Shape.TheVariants as shape
 use Rattle.mini_model.specs.Tree.{Tree, Trees, node, none, ◌▸◌}
 use Rattle.mini_model.specs.Weight.{same_text}
 use Rattle.mini_laws.specs.Value.{Value, Undefined, Null, Boolean, Number, String, choose, truth, is_nullish}
-use Rattle.mini_laws.specs.Conversion.{Made, makes, raises, outside, to_number, to_text}
+use Rattle.mini_laws.specs.Conversion.{Made, makes, raises, outside, to_number, to_text, is_safe}
 use Rattle.mini_laws.specs.Operators.{of_primitives, strictly_equal, loosely_equal, type_text, of_number}
 use Rattle.mini_laws.specs.Naming.{NameKind, UndefinedName, kinds, Facts, facts, texts_all}
 use Rattle.mini_laws.specs.Expressions.{first_kind, interleaved}
@@ -26,6 +26,11 @@ abbrev pub of_operand : UnaryOperator → Made ℤ → Made Value
 of_operand o (makes n) = of_number o n
 of_operand o raises = raises
 of_operand o outside = outside
+
+-- `+`, `-` and `~` of a safe number
+abbrev pub over_number : UnaryOperator → Option ℤ → Option Value
+over_number o (Some n) = choose (is_safe n) (made (of_number o n)) None
+over_number o None = None
 
 abbrev pub name_const : NameKind → Option Value
 name_const UndefinedName = Some Undefined

@@ -223,15 +223,25 @@ evident_void = refl
 evident_undefined : evident_truth (global (codes "undefined")) ≡ Some false
 evident_undefined = refl
 
--- `!1 || "a"`, `0 && x`, which is no Const either, and `1 + 1`, which has to be calculated
+-- `!1 || "a"`, `0 && x`, which is no Const either, `1 << 30` and `1 - 1`, which are calculated, `typeof 1`, and `"" + 1`, for which a text would
+-- have to be made
 evident_or : evident_truth (logical Or (negation (number 1)) (text (codes "a"))) ≡ Some true
 evident_or = refl
 
 evident_half_known : evident_truth (logical And (number 0) (local 0)) ≡ None
 evident_half_known = refl
 
-evident_sum : evident_truth (binary binary.Addition (number 1) (number 1)) ≡ None
-evident_sum = refl
+evident_shift : evident_truth (binary binary.ShiftLeft (number 1) (number 30)) ≡ Some true
+evident_shift = refl
+
+evident_difference : evident_truth (binary binary.Subtraction (number 1) (number 1)) ≡ Some false
+evident_difference = refl
+
+evident_type : evident_truth (tree.unary unary.Typeof (number 0)) ≡ Some true
+evident_type = refl
+
+evident_text : evident_truth (binary binary.Addition (text []) (number 1)) ≡ None
+evident_text = refl
 
 -- an array, and `![]`, whose operand is no primitive value
 evident_array : evident_truth (one shape.ArrayExpression (listed none)) ≡ Some true

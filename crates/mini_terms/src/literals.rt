@@ -1,10 +1,11 @@
 //! The value of operators over literals.
 
-ghost use Rattle.std.specs.Prelude.{◌≡◌, ◌++◌, false, not, Some, None, IfOk};
+ghost use Rattle.std.specs.Prelude.{◌≡◌, ◌<◌, ◌++◌, ◌&&◌, true, false, not, Some, None, IfOk};
 ghost use Rattle.mini_model.specs.declared.operator.BinaryOperator.TheVariants.{Addition};
 ghost use Rattle.mini_model.specs.Tree.{children, count};
 ghost use Rattle.mini_model.specs.Weight.{same_text};
 ghost use Rattle.mini_node.specs.Children.{part};
+ghost use Rattle.mini_node.specs.Kinds.{is_sequence as is_it_sequence};
 ghost use Rattle.mini_laws.specs.Value.{Boolean, Number, String, choose, truth, is_nullish as is_it_nullish};
 ghost use Rattle.mini_laws.specs.Conversion.{makes, to_text as text_of};
 ghost use Rattle.mini_laws.specs.Operators as operators;
@@ -23,7 +24,9 @@ use crate::values::ConstantValue;
 use mini_model::{
     BinaryOperator, LogicalOperator, OutOfMemory, Shape, Text, UnaryOperator, decimal,
 };
-use mini_node::{Node, binary_operator, is_conditional, logical_operator, unary_operator};
+use mini_node::{
+    Node, Nodes, binary_operator, is_conditional, is_sequence, logical_operator, unary_operator,
+};
 use std::alloc::Global;
 
 // The units of these words.
@@ -567,7 +570,33 @@ fn conditional_value(
     }
 }
 
-// Of a logical expression or a conditional.
+// Of the last of some nodes.
+#[cycle(operands)]
+#[tactic(auto, using(crate::proofs::Deep::last_of, crate::proofs::Deep::none_last))]
+fn last_value(
+    alloc: Global,
+    is_free: bool,
+    nodes: &Nodes,
+    depth: u32,
+) -> Result<Option<ConstantValue>, OutOfMemory>
+    ensures { IfOk result (λ v. value_in v ≡ term.last_value (term.value_within is_free depth) nodes.now) }
+{
+    let count = nodes.len();
+    if count == 0 {
+        return Ok(None);
+    }
+    value_within(alloc, is_free, nodes.child(count - 1), depth)
+}
+
+// Whether it is a sequence that has to do nothing.
+fn is_free_sequence(is_free: bool, node: &Node) -> bool
+    ensures kind { result ≡ is_free && is_it_sequence node.now }
+    ensures parts { result ≡ true → 0 < count (children node.now) }
+{
+    is_free && is_sequence(node)
+}
+
+// Of a logical expression, a conditional or a sequence.
 #[cycle(operands)]
 fn chosen_over(
     alloc: Global,
@@ -575,13 +604,16 @@ fn chosen_over(
     node: &Node,
     depth: u32,
 ) -> Result<Option<ConstantValue>, OutOfMemory>
-    ensures { IfOk result (λ v. value_in v ≡ term.chosen_over (term.value_within is_free depth) node.now) }
+    ensures { IfOk result (λ v. value_in v ≡ term.chosen_over is_free (term.value_within is_free depth) node.now) }
 {
     if let Some(operator) = logical_operator(node) {
         return logical_value(alloc, is_free, operator, node, depth);
     }
     if is_conditional(node) {
         return conditional_value(alloc, is_free, node, depth);
+    }
+    if is_free_sequence(is_free, node) {
+        return last_value(alloc, is_free, node.child(0).children(), depth);
     }
     Ok(None)
 }
@@ -594,7 +626,7 @@ fn other_value(
     node: &Node,
     depth: u32,
 ) -> Result<Option<ConstantValue>, OutOfMemory>
-    ensures { IfOk result (λ v. value_in v ≡ term.or_else (term.chosen_over (term.value_within is_free depth) node.now) (term.leaf_value node.now)) }
+    ensures { IfOk result (λ v. value_in v ≡ term.or_else (term.chosen_over is_free (term.value_within is_free depth) node.now) (term.leaf_value node.now)) }
 {
     match chosen_over(alloc, is_free, node, depth)? {
         Some(value) => Ok(Some(value)),

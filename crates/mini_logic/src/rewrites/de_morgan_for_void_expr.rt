@@ -1,6 +1,6 @@
 //! Row 50: `!a && b;` becomes `a || b;`, and `!a || b;` `a && b;`, where that is lighter; so of what a `for` begins with or does after
-//! each turn: `for (!a && b;;) c` becomes `for (a || b;;) c`; and of a part of a sequence but the last: `a(), !b && c(), d()` becomes
-//! `a(), b || c(), d()`.
+//! each turn: `for (!a && b;;) c` becomes `for (a || b;;) c`; of the last part of a sequence in one of these places: `a(), !b && c();` becomes
+//! `a(), b || c();`; and of a part of any sequence but the last: `f((!a && b(), c))` becomes `f((a || b(), c))`.
 
 ghost use Rattle.std.specs.Prelude.{◌≡◌, ◌+◌, ◌<◌, true, is_some, unwrap_or, OnOk, IfOk, IfSome};
 ghost use Rattle.mini_model.specs.declared.place.Position.TheVariants.{Expr};
@@ -14,7 +14,7 @@ ghost use Rattle.mini_tree.specs.Rule.{Applied};
 ghost use Rattle.mini_logic.specs.Lighter.{de_morgan_lighter};
 ghost use Rattle.mini_logic.specs.MinimizeForStatement.{is_for as is_it_for};
 ghost use Rattle.mini_logic.specs.MinimizeNegation.{told_lightest};
-ghost use Rattle.mini_logic.specs.DeMorganForVoidExpr.{turned_over as it_turned_over, turns as it_turns, written, begins_void as it_begins_void, turns_first as it_turns_first, turns_third as it_turns_third, turned_at as it_turned_at, is_turned as is_it_turned, turns_before_last, turned_part as it_turned_part, with_turned as it_with_turned, Gives, Rests};
+ghost use Rattle.mini_logic.specs.DeMorganForVoidExpr.{turned_over as it_turned_over, turns as it_turns, written, begins_void as it_begins_void, turns_first as it_turns_first, turns_third as it_turns_third, turned_at as it_turned_at, is_turned as is_it_turned, turns_before_last, turned_part as it_turned_part, with_turned as it_with_turned, turns_last as it_turns_last, turned_last as it_turned_last, turns_void as it_turns_void, turned_void as it_turned_void, Gives, Rests};
 
 use crate::rewrites::minimize_expression_in_boolean_context::is_and_or;
 use crate::terms::own_weight;
@@ -98,6 +98,61 @@ fn turned_part(alloc: Global, part: Node) -> Result<Node, OutOfMemory>
     }
 }
 
+// The sequence with the part at a place turned.
+#[tactic(auto, using(crate::proofs::DeMorganParts::put_twice))]
+fn with_turned(alloc: Global, node: Node, at: usize) -> Result<Node, OutOfMemory>
+    requires { at < count (children (part_of node 0)) }
+    ensures { IfOk result (λ w. w ≡ sequence_of (it_with_turned at (children (part_of node 0)))) }
+{
+    let mut parts = one(node).into_children();
+    let part = parts.take(at);
+    let turned = turned_part(alloc, part)?;
+    discard(parts.replace(at, turned));
+    sequence(alloc, parts)
+}
+
+// Whether it is a sequence of several parts of which the last turns.
+fn turns_last(node: &Node) -> bool
+    ensures kind { result ≡ it_turns_last node.now }
+    ensures list { result ≡ true → 0 < count (children node.now) }
+    ensures parts { result ≡ true → 0 < count (children (part_of node.now 0)) }
+{
+    if !is_sequence(node) {
+        return false;
+    }
+    let parts = node.child(0).children();
+    let count = parts.len();
+    count > 1 && is_turned(parts.child(count - 1))
+}
+
+// `a(), b || c()` of `a(), !b && c()`
+fn turned_last(alloc: Global, node: Node) -> Result<Node, OutOfMemory>
+    requires list { 0 < count (children node) }
+    requires parts { 0 < count (children (part_of node 0)) }
+    ensures { IfOk result (λ w. w ≡ it_turned_last node) }
+{
+    let last = node.child(0).children().len() - 1;
+    with_turned(alloc, node, last)
+}
+
+// Whether what nobody asks for turns, or its last part does.
+fn turns_void(node: &Node) -> bool
+    ensures { result ≡ it_turns_void node.now }
+{
+    turns_last(node) || is_turned(node)
+}
+
+// What is written for it then.
+fn turned_void(alloc: Global, node: Node) -> Result<Node, OutOfMemory>
+    ensures { IfOk result (λ w. w ≡ it_turned_void node) }
+{
+    if turns_last(&node) {
+        turned_last(alloc, node)
+    } else {
+        turned_part(alloc, node)
+    }
+}
+
 // Whether it is a `for`.
 fn is_for(node: &Node) -> bool
     ensures kind { result ≡ is_it_for node.now }
@@ -119,7 +174,7 @@ fn turns_first(node: &Node) -> bool
     ensures kind { result ≡ it_turns_first node.now }
     ensures parts { result ≡ true → 0 < count (children node.now) }
 {
-    begins_void(node) && is_turned(node.child(0))
+    begins_void(node) && turns_void(node.child(0))
 }
 
 // Whether what a `for` does after each turn does.
@@ -127,14 +182,14 @@ fn turns_third(node: &Node) -> bool
     ensures kind { result ≡ it_turns_third node.now }
     ensures parts { result ≡ true → 2 < count (children node.now) }
 {
-    is_for(node) && is_turned(node.child(2))
+    is_for(node) && turns_void(node.child(2))
 }
 
 // It turns.
 fn turn(alloc: Global, part: &mut Node) -> Result<(), OutOfMemory>
-    ensures { OnOk result (part.new ≡ it_turned_part part.old) }
+    ensures { OnOk result (part.new ≡ it_turned_void part.old) }
 {
-    *part = turned_part(alloc, taken(alloc, part))?;
+    *part = turned_void(alloc, taken(alloc, part))?;
     Ok(())
 }
 
@@ -148,7 +203,7 @@ fn turn_at(alloc: Global, node: &mut Node, at: usize) -> Result<(), OutOfMemory>
 }
 
 /// `!a && b;` becomes `a || b;`, and `!a || b;` `a && b;`, where that is lighter, and so do what a `for` begins with and what it does after each
-/// turn. The answer says whether one did; the only error is that memory runs out, and then the statement is fit only to be dropped.
+/// turn, and of a sequence there its last part. The answer says whether one did; the only error is that memory runs out, and then the statement is fit only to be dropped.
 pub fn de_morgan_for_void_expr(alloc: Global, node: &mut Node) -> Result<bool, OutOfMemory>
     ensures tree { OnOk result (node.new ≡ unwrap_or (written node.old) node.old) }
     ensures said { IfOk result (λ changed. changed ≡ is_some (written node.old)) }
@@ -176,19 +231,6 @@ fn turned_at(nodes: &Nodes) -> Option<usize>
         }
     }
     None
-}
-
-// The sequence with the part at a place turned.
-#[tactic(auto, using(crate::proofs::DeMorganParts::put_twice))]
-fn with_turned(alloc: Global, node: Node, at: usize) -> Result<Node, OutOfMemory>
-    requires { at < count (children (part_of node 0)) }
-    ensures { IfOk result (λ w. w ≡ sequence_of (it_with_turned at (children (part_of node 0)))) }
-{
-    let mut parts = one(node).into_children();
-    let part = parts.take(at);
-    let turned = turned_part(alloc, part)?;
-    discard(parts.replace(at, turned));
-    sequence(alloc, parts)
 }
 
 /// `a(), !b && c(), d()` becomes `a(), b || c(), d()`, where that is lighter: the value of a part but the last is asked by nobody (ECMA-262,

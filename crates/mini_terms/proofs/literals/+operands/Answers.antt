@@ -1,4 +1,4 @@
-use Rattle.std.proofs.Common.{◌≡◌, ◌∙◌, sym, ap}
+use Rattle.std.proofs.Common.{◌∙◌, sym, ap}
 use Rattle.mini_terms.specs.Values.{value, value_in}
 use Rattle.mini_terms.proofs.Deep.{calculated_first}
 use Rattle.mini_terms.proofs.literals.+operands.Goals as goal

@@ -33,3 +33,6 @@ decreases-conditional_value l = 8 * l.depth + 2
 
 abbrev pub decreases-branches_value : goal.decreases-branches_value
 decreases-branches_value l = 8 * l.depth + 1
+
+abbrev pub decreases-last_value : goal.decreases-last_value
+decreases-last_value l = 8 * l.depth + 1
