@@ -4,9 +4,9 @@ ghost use Rattle.mini_model.specs.Tree.{node};
 ghost use Rattle.mini_rows.specs.Cases as case;
 ghost use Rattle.mini_syntax.specs.CompressAssignmentTargetProperty as row_of_compress_assignment_target_property;
 ghost use Rattle.mini_syntax.specs.ConvertToDottedProperties.{written as written_of_convert_to_dotted_properties};
-ghost use Rattle.mini_syntax.specs.DropUnreachableSwitchCases.{written as written_of_drop_unreachable_switch_cases};
-ghost use Rattle.mini_syntax.specs.MinimizeSwitchStatements.{written as written_of_minimize_switch_statements};
-ghost use Rattle.mini_syntax.specs.MinimizeSwitchStatements as row_of_minimize_switch_statements;
+ghost use Rattle.mini_switch.specs.DropUnreachableSwitchCases.{written as written_of_drop_unreachable_switch_cases};
+ghost use Rattle.mini_switch.specs.MinimizeSwitchStatements.{written as written_of_minimize_switch_statements};
+ghost use Rattle.mini_switch.specs.MinimizeSwitchStatements as row_of_minimize_switch_statements;
 ghost use Rattle.mini_syntax.specs.SubstituteArrowExpression.{written as written_of_substitute_arrow_expression};
 ghost use Rattle.mini_syntax.specs.SubstituteBindingProperty.{declared_bare, declares_brackets};
 ghost use Rattle.mini_syntax.specs.SubstituteBoolean.{written};
@@ -245,7 +245,7 @@ impl PeepholeOptimizations {
         ensures tree { OnOk result (node.new ≡ unwrap_or (written_of_minimize_switch_statements node.old) node.old) }
         ensures said { IfOk result (λ changed. changed ≡ is_some (written_of_minimize_switch_statements node.old)) }
     {
-        mini_syntax::minimize_switch_statement(alloc, node)
+        mini_switch::minimize_switch_statement(alloc, node)
     }
 
     /// Of a `switch` over a value that is written out one case is left, with the statements that run. The answer says whether others
@@ -258,7 +258,7 @@ impl PeepholeOptimizations {
         ensures tree { OnOk result (node.new ≡ unwrap_or (written_of_drop_unreachable_switch_cases node.old) node.old) }
         ensures said { IfOk result (λ changed. changed ≡ is_some (written_of_drop_unreachable_switch_cases node.old)) }
     {
-        mini_syntax::drop_unreachable_switch_cases(alloc, node)
+        mini_switch::drop_unreachable_switch_cases(alloc, node)
     }
 
     /// Whether the statements of a case may stand in a branch: it has no test, or one that writes a value out, nothing in it is scoped,
@@ -266,6 +266,6 @@ impl PeepholeOptimizations {
     pub fn can_switch_case_be_inlined(&self, case: &Node) -> bool
         ensures { result ≡ row_of_minimize_switch_statements.can_be_inlined case.now }
     {
-        mini_syntax::can_switch_case_be_inlined(case)
+        mini_switch::can_switch_case_be_inlined(case)
     }
 }

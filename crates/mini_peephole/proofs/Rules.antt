@@ -21,7 +21,7 @@ use Rattle.mini_logic.specs.Joined as logic_law
 use Rattle.mini_logic.specs.MinimizeBody as bodies
 use Rattle.mini_logic.proofs.Joined as logic
 use Rattle.mini_syntax.specs.SubstituteReturnStatement as returns
-use Rattle.mini_syntax.specs.MinimizeSwitchStatements as switch
+use Rattle.mini_switch.specs.MinimizeSwitchStatements as switch
 use Rattle.mini_peephole.specs.Faithful.{switches}
 use Rattle.mini_peephole.specs.Rules.{Gives, Rests, AllGives, AllRests}
 

@@ -21,7 +21,7 @@ use Rattle.mini_syntax.specs.SubstituteArrowExpression as arrows
 use Rattle.mini_syntax.specs.SubstituteObjectProperty as keys
 use Rattle.mini_syntax.specs.SubstitutePropertyKey as held
 use Rattle.mini_syntax.specs.SubstituteReturnStatement as returns
-use Rattle.mini_syntax.specs.MinimizeSwitchStatements as switches
+use Rattle.mini_switch.specs.MinimizeSwitchStatements as switches
 use Rattle.mini_syntax.specs.SubstituteVariableDeclaration as declarations
 use Rattle.mini_rows.specs.Declarations.{DeclarationContracts}
 use Rattle.mini_rows.specs.Catches.{CatchContracts}

@@ -24,9 +24,10 @@ use mini_logic::{
     MinimizeUnary, MinimizeVoid,
 };
 use mini_stmt::{JoinLets, MinimizeStatements, TurnLoopGuards};
+use mini_switch::MinimizeSwitches;
 use mini_syntax::{
-    MinimizeSwitches, SubstituteArrows, SubstituteDeclarations, SubstituteKeys,
-    SubstitutePropertyKeys, SubstituteReturns, SubstituteSpellings,
+    SubstituteArrows, SubstituteDeclarations, SubstituteKeys, SubstitutePropertyKeys,
+    SubstituteReturns, SubstituteSpellings,
 };
 use mini_tree::{
     CompressOptions, Numbers, OutOfMemory, Passes, Position, Program, Then, discard, run_passes,

@@ -13,4 +13,6 @@ pub use rewrites::join_lets::{JoinLets, join_lets};
 pub use rewrites::turn_loop_guards::{TurnLoopGuards, turn_loop_guard};
 pub use statements::{MinimizeStatements, minimize_statements, no_row_reads_a_quiet_list};
 pub use terminated::IsTerminated;
-pub use terms::{join_sequence, statement_cares_about_scope};
+pub use terms::{
+    are_unscoped, declares_nothing, has_terminated, join_sequence, statement_cares_about_scope,
+};

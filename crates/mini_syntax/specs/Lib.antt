@@ -9,8 +9,6 @@ pub mod SubstituteTypeofUndefined
 pub mod SubstituteTemplateLiteral
 pub mod SubstituteYieldExpression
 pub mod SubstituteReturnStatement
-pub mod DropUnreachableSwitchCases
-pub mod MinimizeSwitchStatements
 pub mod SubstituteObjectProperty
 pub mod SubstituteBindingProperty
 pub mod CompressAssignmentTargetProperty

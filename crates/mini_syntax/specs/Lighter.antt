@@ -1,5 +1,5 @@
 -- A step of each rule makes the whole lighter.
-use Rattle.std.proofs.Common.{inl, inr}
+use Rattle.std.proofs.Common.{inl}
 use Rattle.mini_model.specs.declared.place.Position.TheVariants.{Stmt}
 use Rattle.mini_laws.proofs.Lighter.{any_step_lighter}
 use Rattle.mini_rows.specs.Branches.{BranchContracts}
@@ -17,7 +17,6 @@ use Rattle.mini_syntax.specs.SubstituteArrowExpression as arrow
 use Rattle.mini_syntax.specs.SubstituteObjectProperty as keyed
 use Rattle.mini_syntax.specs.SubstitutePropertyKey as holding
 use Rattle.mini_syntax.specs.SubstituteReturnStatement as returning
-use Rattle.mini_syntax.specs.MinimizeSwitchStatements as switching
 
 pub spellings_lighter : IsLighter Gives
 spellings_lighter = any_step_lighter Gives lightens
@@ -31,13 +30,6 @@ return_contracts p n w r = absurd r
 
 pub returns_lighter : IsLighter returning.Gives
 returns_lighter p t u s = any_step_lighter BranchContracts branches_lighten p t u (step_of returning.Gives BranchContracts return_contracts p t u s)
-
-pub switch_contracts : switching.GivesContracts
-switch_contracts (Stmt q) n w r = record { row = inl (inr r.0); lighter = r.1 }
-switch_contracts p n w r = absurd r
-
-pub switches_lighter : IsLighter switching.Gives
-switches_lighter p t u s = any_step_lighter BranchContracts branches_lighten p t u (step_of switching.Gives BranchContracts switch_contracts p t u s)
 
 pub declarations_lighter : IsLighter DeclarationContracts
 declarations_lighter = any_step_lighter DeclarationContracts declarations_lighten

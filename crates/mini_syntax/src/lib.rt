@@ -1,18 +1,14 @@
 //! Rewrites of spellings: each with its rule for the walk.
 #![tactic(auto)]
 
-mod ends;
 mod forms;
 mod laws;
 mod rewrites;
 
+pub use forms::{is_list_of, is_plain};
 pub use laws::{keys_are_rows, property_keys_are_rows, returns_are_rows, spellings_are_rows};
 pub use rewrites::compress_assignment_target_property::compress_assignment_target_property;
 pub use rewrites::convert_to_dotted_properties::convert_to_dotted_properties;
-pub use rewrites::drop_unreachable_switch_cases::drop_unreachable_switch_cases;
-pub use rewrites::minimize_switch_statements::{
-    MinimizeSwitches, can_switch_case_be_inlined, minimize_switch_statement,
-};
 pub use rewrites::substitute_arrow_expression::{SubstituteArrows, substitute_arrow_expression};
 pub use rewrites::substitute_binding_property::substitute_binding_property;
 pub use rewrites::substitute_boolean::substitute_boolean;

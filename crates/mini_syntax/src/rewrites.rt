@@ -1,7 +1,5 @@
 pub mod compress_assignment_target_property;
 pub mod convert_to_dotted_properties;
-pub mod drop_unreachable_switch_cases;
-pub mod minimize_switch_statements;
 pub mod substitute_arrow_expression;
 pub mod substitute_binding_property;
 pub mod substitute_boolean;

@@ -1,0 +1,3 @@
+pub mod DeadCases
+pub mod Switches
+pub mod DeadCaseRows

@@ -1,0 +1,3 @@
+pub mod MinimizeSwitchStatements
+pub mod DropUnreachableSwitchCases
+pub mod Lighter

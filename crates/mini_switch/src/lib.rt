@@ -1,0 +1,9 @@
+//! Rewrites of `switch`, with their rule for the walk.
+#![tactic(auto)]
+
+mod rewrites;
+
+pub use rewrites::drop_unreachable_switch_cases::drop_unreachable_switch_cases;
+pub use rewrites::minimize_switch_statements::{
+    MinimizeSwitches, can_switch_case_be_inlined, minimize_switch_statement,
+};

@@ -1,5 +1,0 @@
-use Rattle.mini_model.specs.Tree.{node_counts}
-use Rattle.mini_syntax.proofs.rewrites.drop_unreachable_switch_cases.+running.Given as goal
-
-abbrev pub decreases-running : goal.decreases-running
-decreases-running l = node_counts l.cases
