@@ -61,7 +61,7 @@ def fault(ended):
         return f"status {status}, and told {told!r}"
     if status == 0:
         answer = json.loads(output)
-        if sorted(answer) != ["kept", "passes", "program", "settled", "symbols"] or output[-1:] != b"\n":
+        if sorted(answer) != ["kept", "passes", "program", "settled", "steady", "symbols"] or output[-1:] != b"\n":
             return "no answer"
     return None
 

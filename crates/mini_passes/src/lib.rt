@@ -2,6 +2,7 @@
 #![tactic(auto)]
 
 mod copying;
+mod knowing;
 mod passes;
 mod renewing;
 

@@ -212,33 +212,21 @@ module _ (G : Tree → Position → Tree → Tree → Type 0) (D : Tree → Posi
 
 -- ---- where nothing rests on what is known of bodies
 
-pub none_in : (u : Tree) → PartEach none_steady (steady_in u)
+none_in : (u : Tree) → PartEach none_steady (steady_in u)
 none_in u = none_part (steady_in u)
 
 module _ (G : Tree → Position → Tree → Tree → Type 0) (D : Tree → Position → Tree → Type 0) (o : CompressOptions) (l : (q : Tree) → LawfulWith (let_go (switches o)) (writable_in q) (G q)) (d : Data) (m : Minified) (t : Tree) (read : Accepts d t) (r : IsWritten G D (resolved_program t) o.passes m) where
-  pub anyway : (q : Tree) → LawfulUnder (let_go (switches o)) (writable_in q) none_steady (G q)
+  anyway : (q : Tree) → LawfulUnder (let_go (switches o)) (writable_in q) none_steady (G q)
   anyway q = loose_is_steady (G q) (let_go (switches o)) (writable_in q) none_steady (l q)
 
-  pub nothing_asked : EachBegins (λ q. PartEach none_steady none_steady) r.passes.reached
+  nothing_asked : EachBegins (λ q. PartEach none_steady none_steady) r.passes.reached
   nothing_asked = each_begins (λ q. PartEach none_steady none_steady) (λ q. each_itself none_steady) r.passes.reached
 
-  pub start_of : IsRead t read.1
-  start_of = start G D o (λ q. none_steady) none_steady anyway d m t read r nothing_asked (none_in r.output)
-
-  abbrev pub again_of : (u : Tree) × Accepts (program_data r.output) u × (text u ≡ text r.output)
+  abbrev again_of : (u : Tree) × Accepts (program_data r.output) u × (text u ≡ text r.output)
   again_of = again G D o (λ q. none_steady) none_steady anyway d m t read r nothing_asked (none_in r.output)
 
-  pub answer_read_of : IsRead again_of.0 again_of.1.1
-  answer_read_of = answer_read G D o (λ q. none_steady) none_steady anyway d m t read r nothing_asked (none_in r.output)
-
-  pub written_of : Accepts (view m.program) again_of.0
-  written_of = written G D o (λ q. none_steady) none_steady anyway d m t read r nothing_asked (none_in r.output)
-
-  pub made_of : Made none_steady G D o m t r.output again_of.0
-  made_of = made G D o (λ q. none_steady) none_steady anyway d m t read r nothing_asked (none_in r.output)
-
   pub passes_faithful : early_fault t ≡ None → FaithfulWith (NothingLeft D) d o m
-  passes_faithful free = record { input = t; output = again_of.0; accepted = read; answered = written_of; faithful = faithful_there G D o (λ q. none_steady) none_steady anyway d m t read r nothing_asked (none_in r.output) free }
+  passes_faithful free = record { input = t; output = again_of.0; accepted = read; answered = written G D o (λ q. none_steady) none_steady anyway d m t read r nothing_asked (none_in r.output); faithful = faithful_there G D o (λ q. none_steady) none_steady anyway d m t read r nothing_asked (none_in r.output) free }
 
 -- ---- and where something does
 

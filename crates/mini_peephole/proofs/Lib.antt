@@ -1,5 +1,6 @@
 mod Chains
 mod Rules
+mod ToldWithin
 pub mod AnswerFloats
 pub mod Answered
 pub mod AnyPasses

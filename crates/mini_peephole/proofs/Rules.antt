@@ -1,16 +1,22 @@
 -- The rules together, and the rows.
-use Rattle.std.proofs.Common.{ℕ, zero, suc, ◌<◌, ◌^◌, inl, inr, arith}
+use Rattle.std.proofs.Common.{ℕ, zero, suc, ◌<◌, ◌^◌, Bool, true, false, inl, inr, arith}
 use Rattle.mini_model.specs.declared.place.Position.{Position}
-use Rattle.mini_model.specs.declared.place.Position.TheVariants.{Expr, Stmt}
+use Rattle.mini_model.specs.declared.place.Position.TheVariants.{Expr, Stmt, Elsewhere}
+use Rattle.mini_model.specs.declared.shape.Shape.{Shape}
 use Rattle.mini_model.specs.Tree.{Tree, Trees, node, none, ◌▸◌, count}
 use Rattle.mini_model.specs.Position.{child_position}
 use Rattle.mini_model.specs.Weight.{weight, weights}
 use Rattle.mini_model.specs.Redex as first
 use Rattle.mini_model.specs.Rewriting.{Everywhere, EverywhereIn}
 use Rattle.mini_tree.specs.declared.options.CompressOptions.{CompressOptions}
+use Rattle.mini_tree.specs.Rule.{Both}
+use Rattle.mini_passes.specs.Passes.{Where, GivesBoth, RestsBoth}
+use Rattle.mini_passes.proofs.Everywhere.{everywhere_with}
+use Rattle.mini_laws.specs.Value.{VariableSet}
 use Rattle.mini_laws.specs.Writable.{writable_in}
-use Rattle.mini_kept.specs.Loosely.{LawfulWith}
-use Rattle.mini_kept.proofs.Loosely.{loose_narrowed}
+use Rattle.mini_kept.specs.Loosely.{LawfulWith, LawfulUnder}
+use Rattle.mini_kept.specs.Without.{Assured, BodySets, none_steady}
+use Rattle.mini_kept.proofs.Loosely.{loose_narrowed, loose_is_steady, steady_wider, steady_join}
 use Rattle.mini_rows.specs.Switches.{Switches, let_go}
 use Rattle.mini_rows.specs.Branches.{BranchRow}
 use Rattle.mini_rows.specs.Turns.{TurnRow}
@@ -22,8 +28,13 @@ use Rattle.mini_logic.specs.MinimizeBody as bodies
 use Rattle.mini_logic.proofs.Joined as logic
 use Rattle.mini_syntax.specs.SubstituteReturnStatement as returns
 use Rattle.mini_switch.specs.MinimizeSwitchStatements as switch
-use Rattle.mini_peephole.specs.Faithful.{switches}
-use Rattle.mini_peephole.specs.Rules.{Gives, Rests, AllGives, AllRests}
+use Rattle.mini_rows.proofs.SteadyLawful.{steady_functions_lawful}
+use Rattle.mini_steady.specs.Told.{told_in}
+use Rattle.mini_peephole.specs.Environments.{steady_in}
+use Rattle.mini_peephole.specs.Faithful.{switches, known_of, IsRewrittenBy}
+use Rattle.mini_peephole.specs.Rules.{Gives, Rests, AllGives, AllRests, SteadyGives, SteadyRests}
+use Rattle.mini_passes.specs.Staying.{StaysTold, within_through}
+use Rattle.mini_peephole.proofs.ToldWithin.{told_within}
 
 -- the rows of the rules are among the rows
 
@@ -150,3 +161,48 @@ module _ (o : CompressOptions) (q : Tree) where
     rest_in : (π : ℕ → Position) (ts : Trees) → weights π ts < 2 ^ 64 → EverywhereIn (AllRests o q) π ts → EverywhereIn (IsSettled (switches o) (writable_in q)) π ts
     rest_in π none small r = tt
     rest_in π (t ▸ ts) small r = (rests_everywhere (π zero) t (omega (arith, small)) r.0, rest_in (λ i. π (suc i)) ts (omega (arith, small)) r.1)
+
+-- ---- of those that rest on what is known of bodies
+
+-- what is made where P is so, of which that is all that is asked
+where_lawful : (P : Type 0) (R : Position → Tree → Tree → Type 0) (K : Shape → Bool) (W : VariableSet) (S : BodySets) → (P → LawfulUnder K W S R) → LawfulUnder K W S (Where P R)
+where_lawful P R K W S l = record {
+  shapes = record { fitting = λ p n w r. (l r.0).shapes.fitting p n w r.1; asked = λ p n w r. (l r.0).shapes.asked p n w r.1 };
+  places = record {
+    names = record { places = λ p n w r. (l r.0).places.names.places p n w r.1; pieces = λ p n w r. (l r.0).places.names.pieces p n w r.1; keeps = λ p n w r. (l r.0).places.names.keeps p n w r.1 };
+    slots = λ p n w r. (l r.0).places.slots p n w r.1;
+    ports = λ p n w r. (l r.0).places.ports p n w r.1;
+    listed = λ p n w e r. (l r.0).places.listed p n w e r.1;
+    exported = λ p n w r. (l r.0).places.exported p n w r.1;
+  };
+  reads = λ p n w r. (l r.0).reads p n w r.1;
+  kind = λ p n w r. (l r.0).kind p n w r.1;
+  declared = λ p n w r. (l r.0).declared p n w r.1;
+  instances = λ p n w r. (l r.0).instances p n w r.1;
+}
+
+module _ (o : CompressOptions) (v : Tree) where
+  steady_lawful : (q : Tree) → StaysTold q v → LawfulUnder (let_go (switches o)) (writable_in q) (steady_in v) (SteadyGives o q)
+  steady_lawful q k =
+      let K = let_go (switches o) in
+      let W = writable_in q in
+      steady_wider (SteadyGives o q) K W W (told_in q) (steady_in v) (λ x h. h) (λ b. within_through (told_in q b) (told_in v b) (steady_in v b) (k b) (told_within v b)) (steady_functions_lawful K W (told_in q))
+
+  -- what passes make on the way to v
+  pub both_lawful : (b : Bool) (q : Tree) → LawfulUnder (let_go (switches o)) (writable_in q) (known_of b v) (GivesBoth (AllGives o) (SteadyGives o) StaysTold b v q)
+  both_lawful true q =
+      let K = let_go (switches o) in
+      let W = writable_in q in
+      let S = steady_in v in
+      let still = Where (StaysTold q v) (SteadyGives o q) in
+      steady_join (AllGives o q) still K W S (loose_is_steady (AllGives o q) K W S (gives_lawful o q)) (where_lawful (StaysTold q v) (SteadyGives o q) K W S (steady_lawful q))
+  both_lawful false q = loose_is_steady (AllGives o q) (let_go (switches o)) (writable_in q) none_steady (gives_lawful o q)
+
+-- where they all rest nothing is left
+pub both_rest : (o : CompressOptions) (b : Bool) (u : Tree) → weight Elsewhere u < 2 ^ 64 → Everywhere (RestsBoth (AllRests o) (SteadyRests o) b u) Elsewhere u → IsRewrittenBy b o u
+both_rest o true u small r =
+    let each = Both (AllRests o u) (SteadyRests o u) in (
+      rests_everywhere o u Elsewhere u small (everywhere_with each each (AllRests o u) (λ p t x y. x.0) Elsewhere u r r),
+      everywhere_with each each (SteadyRests o u) (λ p t x y. x.1) Elsewhere u r r,
+    )
+both_rest o false u small r = rests_everywhere o u Elsewhere u small r

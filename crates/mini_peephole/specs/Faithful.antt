@@ -2,7 +2,7 @@
 --
 -- Both are compared in the numbers and symbols of the earlier one: the later program is resolved, and each number and symbol
 -- in it is replaced by the one that it stands for.
-use Rattle.std.specs.Prelude.{◌≡◌, ℕ, suc, ◌+◌, ◌<◌, ◌≤◌, max, true, false, List, [], ◌∷◌, map, length, ◌⊎◌, Contains, Option, Some, None}
+use Rattle.std.specs.Prelude.{◌≡◌, ℕ, suc, ◌+◌, ◌<◌, ◌≤◌, max, Bool, true, false, List, [], ◌∷◌, map, length, ◌⊎◌, Contains, Option, Some, None}
 use Rattle.serde_json.specs.Data.{Data}
 use Rattle.serde_json.specs.View.{view}
 use Rattle.mini_model.specs.declared.name.Name.{Name}
@@ -31,6 +31,7 @@ use Rattle.mini_kept.specs.Without.{BodySets, none_steady}
 use Rattle.mini_rows.specs.Switches.{Switches, let_go}
 use Rattle.mini_rows.specs.Redex.{HasNoRedex}
 use Rattle.mini_peephole.specs.Environments.{shared_by, foreign_to, initialised_for, steady_in, environment_with}
+use Rattle.mini_peephole.specs.SteadyRows.{IsSteadilyRewritten}
 use Rattle.mini_peephole.specs.declared.minify.Minified.{Minified}
 
 -- the earlier program: each name has its symbol
@@ -121,32 +122,43 @@ pub record IsFaithfulUnder (S : BodySets) (Rests : Tree → Type 0) (o : Compres
 abbrev pub IsFaithfulWith : (Tree → Type 0) → CompressOptions → Minified → Tree → Tree → Type 0
 IsFaithfulWith = IsFaithfulUnder none_steady
 
--- the value is a program, the answer's value is one, and the later one is faithful to the earlier
-pub record FaithfulWith (Rests : Tree → Type 0) (d : Data) (o : CompressOptions) (m : Minified) : Type 0 where
+-- the value is a program, the answer's value is one, and the later one is faithful to the earlier, with what S says is known of the bodies of
+-- the later one
+pub record FaithfulUnder (S : Tree → BodySets) (Rests : Tree → Type 0) (d : Data) (o : CompressOptions) (m : Minified) : Type 0 where
   pub input : Tree
   pub output : Tree
   pub accepted : Accepts d input
   pub answered : Accepts (view m.program) output
-  pub faithful : IsFaithfulWith Rests o m input output
+  pub faithful : IsFaithfulUnder (S (later m output)) Rests o m input output
 
--- the same, with what is known of the bodies of the later one
-pub record FaithfulSteadily (Rests : Tree → Type 0) (d : Data) (o : CompressOptions) (m : Minified) : Type 0 where
-  pub input : Tree
-  pub output : Tree
-  pub accepted : Accepts d input
-  pub answered : Accepts (view m.program) output
-  pub faithful : IsFaithfulUnder (steady_in (later m output)) Rests o m input output
+-- whatever that is
+abbrev pub FaithfulWith : (Tree → Type 0) → Data → CompressOptions → Minified → Type 0
+FaithfulWith = FaithfulUnder (λ u. none_steady)
+
+-- and where it is what the program says of its bodies
+abbrev pub FaithfulSteadily : (Tree → Type 0) → Data → CompressOptions → Minified → Type 0
+FaithfulSteadily = FaithfulUnder steady_in
+
+-- that, where what was known of bodies stayed so, as an answer tells
+abbrev pub known_of : Bool → Tree → BodySets
+known_of true u = steady_in u
+known_of false u = none_steady
 
 -- nothing is left to rewrite in a program, with the variables that it mentions and lets be written
 abbrev pub IsRewritten : CompressOptions → Tree → Type 0
 IsRewritten o u = HasNoRedex (switches o) (writable_in u) Elsewhere u
 
+-- nothing is left at all, where what was known of bodies stayed so, and otherwise nothing but what rests on that
+abbrev pub IsRewrittenBy : Bool → CompressOptions → Tree → Type 0
+IsRewrittenBy true o u = IsRewritten o u × IsSteadilyRewritten u
+IsRewrittenBy false o u = IsRewritten o u
+
 -- of rewrites
 abbrev pub IsFaithful : CompressOptions → Minified → Tree → Tree → Type 0
-IsFaithful o = IsFaithfulWith (IsRewritten o) o
+IsFaithful o m t u = IsFaithfulUnder (known_of m.steady (later m u)) (IsRewrittenBy m.steady o) o m t u
 
 abbrev pub Faithful : Data → CompressOptions → Minified → Type 0
-Faithful d o = FaithfulWith (IsRewritten o) d o
+Faithful d o m = FaithfulUnder (known_of m.steady) (IsRewrittenBy m.steady o) d o m
 
 -- bounds on the passes, which tell more than Faithful does
 pub record PassesBounded (d : Data) (o : CompressOptions) (m : Minified) : Type 0 where
@@ -155,5 +167,7 @@ pub record PassesBounded (d : Data) (o : CompressOptions) (m : Minified) : Type 
   pub unsettled : m.settled ≡ false → m.passes ≡ pass_bound o
   -- a bound above the program's weight always settles
   pub enough : (t : Tree) → Accepts d t → program_weight (earlier t) < pass_bound o → m.settled ≡ true
-  -- a program without a redex stays as it is, after one pass
-  pub fixed : (t : Tree) → Accepts d t → IsRewritten o (earlier t) → Accepts (view m.program) t × (m.passes ≡ 1) × (m.settled ≡ true)
+  -- a program in which nothing is left to rewrite stays as it is, after one pass
+  pub fixed : (t : Tree) → Accepts d t → IsRewrittenBy true o (earlier t) → Accepts (view m.program) t × (m.passes ≡ 1) × (m.settled ≡ true)
+  -- where nothing that rests on what is known of bodies is left, that stayed so
+  pub steady : (u : Tree) → Accepts (view m.program) u → IsSteadilyRewritten (later m u) → m.steady ≡ true

@@ -1,4 +1,5 @@
 pub mod Environments
+pub mod SteadyRows
 pub mod Rules
 pub mod Minified
 pub mod Faithful

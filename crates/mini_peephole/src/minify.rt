@@ -23,16 +23,15 @@ use mini_logic::{
     MinimizeBodies, MinimizeConditional, MinimizeIf, MinimizeInBooleanContext, MinimizeNegations,
     MinimizeUnary, MinimizeVoid,
 };
+use mini_passes::{SteadyPasses, run_steady_passes};
+use mini_steady::MinimizeSteady;
 use mini_stmt::{JoinLets, MinimizeStatements, TurnLoopGuards};
 use mini_switch::MinimizeSwitches;
 use mini_syntax::{
     SubstituteArrows, SubstituteDeclarations, SubstituteKeys, SubstitutePropertyKeys,
     SubstituteReturns, SubstituteSpellings,
 };
-use mini_tree::{
-    CompressOptions, Numbers, OutOfMemory, Passes, Position, Program, Then, discard, run_passes,
-    weight,
-};
+use mini_tree::{CompressOptions, Numbers, OutOfMemory, Position, Program, Then, discard, weight};
 use mini_unused::{RemoveUnusedDeclarations, RemoveUnusedNames, SubstituteCatches};
 use mini_writer::write_program;
 use serde_json::Value;
@@ -51,6 +50,9 @@ pub struct Minified {
     pub passes: u32,
     /// Whether the last pass found nothing to rewrite.
     pub settled: bool,
+    /// Whether what was known of the bodies of functions as each pass began stayed so to the end. Where it didn't, no rewrite that rests on
+    /// that was made.
+    pub steady: bool,
 }
 
 // An answer, and what its program weighed before and after.
@@ -221,7 +223,18 @@ fn rewritten(
     ensures made { IfOk result (λ m. (r : IsRewriting tree.old options.now m) × (r.output ≡ tree.new)) }
     ensures plain { IfOk result (λ m. has_float (view m.program) ≡ false) }
 {
-    let Passes { passes, settled } = run_passes(&RULES, alloc, tree, options.passes, context)?;
+    let SteadyPasses {
+        passes,
+        settled,
+        steady,
+    } = run_steady_passes(
+        &RULES,
+        &MinimizeSteady,
+        alloc,
+        tree,
+        options.passes,
+        context,
+    )?;
     let program = write_program(alloc, tree)?;
     let kept = numbers_of(alloc, tree)?;
     let symbols = symbols_of(alloc, tree)?;
@@ -231,6 +244,7 @@ fn rewritten(
         symbols,
         passes,
         settled,
+        steady,
     })
 }
 

@@ -1,3 +1,4 @@
 pub mod MemberRows
 pub mod Owning
 pub mod FunctionSteps
+pub mod ArrowSteps

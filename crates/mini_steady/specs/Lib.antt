@@ -2,5 +2,8 @@ pub mod Chains
 pub mod MinimizeSteadyLogicalExpression
 pub mod Own
 pub mod Functions
+pub mod Arrows
 pub mod Lighter
 pub mod Told
+pub mod Telling
+pub mod Stays

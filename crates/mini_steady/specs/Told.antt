@@ -1,14 +1,50 @@
--- What the tables of a context tell of steady names.
-use Rattle.std.specs.Prelude.{ℕ, false}
-use Rattle.mini_laws.specs.Value.{Declared, Global, VariableSet, nothing}
+-- What a look at a program tells of its bodies, and what the tables of a context tell.
+use Rattle.std.specs.Prelude.{ℕ, Bool, false, not, ◌&&◌, ◌||◌}
+use Rattle.std.specs.List.{list_any}
+use Rattle.mini_model.specs.Tree.{Tree}
+use Rattle.mini_laws.specs.Bodies.{bodies_in}
+use Rattle.mini_laws.specs.Foreign.{all_writes, is_foreign, is_write, lexical_variables}
+use Rattle.mini_laws.specs.Mentions.{is_among}
+use Rattle.mini_laws.specs.Shared.{is_shared}
+use Rattle.mini_laws.specs.Value.{Declared, Global, VariableSet}
 use Rattle.mini_kept.specs.Without.{BodySets}
+use Rattle.mini_context.specs.Asking.{asks_as}
 use Rattle.mini_context.specs.Facts.{Facts}
-use Rattle.mini_context.specs.Steady.{is_steady}
+use Rattle.mini_context.specs.Steady.{has_this, is_initial, is_past, is_steady, is_unshared}
+use Rattle.mini_context.specs.Tables.{named}
 
--- of the body with a number, the variables with a symbol that nothing writes and that aren't foreign to it
-abbrev pub told_steady : Facts → ℕ → VariableSet
-told_steady f b (Declared s) = is_steady f s b
-told_steady f b (Global s) = false
+-- ---- of a program
 
-abbrev pub steady_told : Facts → BodySets
-steady_told f b = record { steady = told_steady f b; unshared = nothing; initial = nothing; has_this = false }
+-- something writes the symbol: a node does, or a `var` of it has a value
+abbrev pub is_written : Tree → ℕ → Bool
+is_written t s = list_any (is_write (named s)) (all_writes t)
+
+-- nothing writes it, and it isn't foreign to the body with a number
+abbrev pub stays_as_it_is : Tree → ℕ → ℕ → Bool
+stays_as_it_is t b s = not (is_written t s) && not (is_foreign t b (named s))
+
+-- of declared names alone
+abbrev pub of_symbols : (ℕ → Bool) → VariableSet
+of_symbols p (Declared s) = p s
+of_symbols p (Global s) = false
+
+-- Of the body with a number: no answer changes what nothing writes and what isn't foreign to it; no event shows what it doesn't share; of the former
+-- what is nowhere lexical is initialised as the body starts (ECMA-262, "FunctionDeclarationInstantiation", "GlobalDeclarationInstantiation"); and it
+-- has a `this` if no body of that number asks the world for it
+abbrev pub told_in : Tree → BodySets
+told_in t b = record {
+  steady = of_symbols (stays_as_it_is t b);
+  unshared = of_symbols (λ s. not (is_shared t b (named s)));
+  initial = of_symbols (λ s. stays_as_it_is t b s && not (is_among (named s) (lexical_variables false t)));
+  has_this = not (list_any (asks_as b) (bodies_in t));
+}
+
+-- ---- of tables
+
+abbrev pub told_by : Facts → BodySets
+told_by f b = record {
+  steady = of_symbols (λ s. is_past f s || is_steady f s b);
+  unshared = of_symbols (λ s. is_past f s || is_unshared f s b);
+  initial = of_symbols (λ s. is_past f s || is_initial f s b);
+  has_this = has_this f b;
+}

@@ -12,7 +12,8 @@ use mini_model::{Name, OutOfMemory, Position, Shape};
 use mini_node::Node;
 use std::alloc::Global;
 
-fn has_no_name(name: &Option<Name>) -> bool
+/// Whether a node has no name of its own.
+pub fn has_no_name(name: &Option<Name>) -> bool
     ensures { result ≡ row.are_no_names (names name.now) }
 {
     match name {

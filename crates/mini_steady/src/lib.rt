@@ -1,6 +1,7 @@
 //! Rewrites that rest on it that names are steady: in the own code of each function, over what tells which names are.
 #![tactic(auto)]
 
+mod arrows;
 mod functions;
 mod laws;
 mod members;
@@ -8,9 +9,10 @@ mod own;
 mod rule;
 mod steady;
 
+pub use arrows::minimize_steady_arrow;
 pub use functions::minimize_steady_function;
-pub use laws::steady_members_are_rows;
+pub use laws::{steady_members_are_rows, told_stays};
 pub use members::minimize_steady_logical_expression;
 pub use own::minimize_own_code;
-pub use rule::{MinimizeSteady, SteadyContext};
+pub use rule::{MinimizeSteady, MinimizeSteadyArrows, SteadyContext};
 pub use steady::SteadyNames;

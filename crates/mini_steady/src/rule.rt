@@ -6,22 +6,34 @@ ghost use Rattle.mini_kept.specs.Without.{BodySets};
 ghost use Rattle.mini_rows.specs.Steady.{SteadyFunction};
 ghost use Rattle.mini_tree.specs.declared.options.CompressOptions.{CompressOptions};
 ghost use Rattle.mini_steady.specs.Functions.{Rests, holds_function as may_hold_function};
-ghost use Rattle.mini_steady.specs.Lighter.{steady_lighter};
+ghost use Rattle.mini_steady.specs.Arrows.{holds_arrow as may_hold_arrow, ArrowRests, SteadyArrow};
+ghost use Rattle.mini_steady.specs.Lighter.{arrow_lighter, steady_lighter};
 
+use crate::arrows::minimize_steady_arrow;
 use crate::functions::minimize_steady_function;
 use crate::steady::SteadyNames;
+use mini_context::TraverseCtx;
 use mini_model::{OutOfMemory, Position};
 use mini_node::Node;
 use mini_tree::{Context, Rule};
 use std::alloc::Global;
 
-/// A context that tells which names are steady in the program that it knows.
+/// A context that tells what is known of the bodies of the program that it knows.
 pub trait SteadyContext: Context + SteadyNames {
-    /// In a program, by the number of a body, the variables that are steady there.
+    /// Of a program, by the number of a body, what is known of it.
     ghost steady: { Tree → BodySets };
 
-    /// It tells those of the program that it knows.
+    /// It tells that of the program that it knows.
     ghost told: { (c : Self) (o : CompressOptions) (q : Tree) → Self.knows c o q → Self.sets c ≡ steady q };
+}
+
+impl SteadyContext for TraverseCtx {
+    ghost use Rattle.mini_steady.specs.Told.{told_in};
+    ghost use Rattle.mini_steady.specs.Telling.{told_known};
+
+    ghost steady = { told_in };
+
+    ghost told = { told_known };
 }
 
 // Whether a function may stand there.
@@ -55,5 +67,36 @@ impl<C: SteadyContext> Rule<C> for MinimizeSteady {
             return Ok(false);
         }
         Ok(minimize_steady_function(alloc, node, &*context)?)
+    }
+}
+
+// Whether an arrow function may stand there.
+fn holds_arrow(place: Position) -> bool
+    ensures { result ≡ may_hold_arrow place }
+{
+    matches!(place, Position::Expr(_))
+}
+
+/// The same of each arrow function.
+pub struct MinimizeSteadyArrows;
+
+impl<C: SteadyContext> Rule<C> for MinimizeSteadyArrows {
+    ghost gives = { λ o q. SteadyArrow (C.steady q) };
+
+    ghost rests = { λ o q. ArrowRests (C.steady q) };
+
+    ghost lighter = { λ o q. arrow_lighter (C.steady q) };
+
+    fn apply(
+        &self,
+        alloc: Global,
+        node: &mut Node,
+        place: Position,
+        context: &mut C,
+    ) -> Result<bool, OutOfMemory> {
+        if !holds_arrow(place) {
+            return Ok(false);
+        }
+        Ok(minimize_steady_arrow(alloc, node, &*context)?)
     }
 }

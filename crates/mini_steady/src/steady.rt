@@ -1,28 +1,75 @@
-//! What tells which names are steady.
+//! What tells what is known of bodies.
 
 ghost use Rattle.std.specs.Prelude.{◌≡◌};
 ghost use Rattle.mini_laws.specs.Value.{Declared};
 ghost use Rattle.mini_kept.specs.Without.{BodySets};
 
-use mini_context::Scopes;
+use mini_context::{Scopes, TraverseCtx};
 use mini_model::SymbolId;
 
-/// What tells in which body which names are steady: no answer of the world changes them while it runs.
+/// What tells, by the number of a body, what is known of it: which names are steady there, so that no answer of the world changes them while it runs;
+/// which its events don't show; which are initialised as it starts; and whether it has a `this` for which it doesn't ask the world.
 pub trait SteadyNames {
-    /// By the number of a body, the variables that it says are steady there.
+    /// What it says is known.
     ghost sets: { Self → BodySets };
 
-    /// Whether the symbol is among those of the body with this number.
+    /// Whether the symbol is among those that are steady in the body with this number.
     fn is_steady(&self, symbol: SymbolId, body: u32) -> bool
         ensures { result ≡ (sets self.now body).steady (Declared symbol.0) };
+
+    /// Whether it is among those that the events of the body don't show.
+    fn is_unshared(&self, symbol: SymbolId, body: u32) -> bool
+        ensures { result ≡ (sets self.now body).unshared (Declared symbol.0) };
+
+    /// Whether it is among those that are initialised as the body starts.
+    fn is_initial(&self, symbol: SymbolId, body: u32) -> bool
+        ensures { result ≡ (sets self.now body).initial (Declared symbol.0) };
+
+    /// Whether the body with this number doesn't ask the world for `this`.
+    fn has_this(&self, body: u32) -> bool
+        ensures { result ≡ (sets self.now body).has_this };
 }
 
 impl SteadyNames for Scopes {
-    ghost use Rattle.mini_steady.specs.Told.{steady_told};
+    ghost use Rattle.mini_steady.specs.Told.{told_by};
 
-    ghost sets = { steady_told };
+    ghost sets = { told_by };
 
     fn is_steady(&self, symbol: SymbolId, body: u32) -> bool {
-        Scopes::is_steady(self, symbol, body)
+        self.is_past(symbol) || Scopes::is_steady(self, symbol, body)
+    }
+
+    fn is_unshared(&self, symbol: SymbolId, body: u32) -> bool {
+        self.is_past(symbol) || Scopes::is_unshared(self, symbol, body)
+    }
+
+    fn is_initial(&self, symbol: SymbolId, body: u32) -> bool {
+        self.is_past(symbol) || Scopes::is_initial(self, symbol, body)
+    }
+
+    fn has_this(&self, body: u32) -> bool {
+        Scopes::has_this(self, body)
+    }
+}
+
+impl SteadyNames for TraverseCtx {
+    ghost use Rattle.mini_steady.specs.Told.{told_by};
+
+    ghost sets = { λ c. told_by c.scopes };
+
+    fn is_steady(&self, symbol: SymbolId, body: u32) -> bool {
+        SteadyNames::is_steady(&self.scopes, symbol, body)
+    }
+
+    fn is_unshared(&self, symbol: SymbolId, body: u32) -> bool {
+        SteadyNames::is_unshared(&self.scopes, symbol, body)
+    }
+
+    fn is_initial(&self, symbol: SymbolId, body: u32) -> bool {
+        SteadyNames::is_initial(&self.scopes, symbol, body)
+    }
+
+    fn has_this(&self, body: u32) -> bool {
+        SteadyNames::has_this(&self.scopes, body)
     }
 }

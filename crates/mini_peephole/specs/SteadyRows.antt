@@ -1,0 +1,19 @@
+-- Which rows rest on what is known of the bodies of a program, S: those of the own code of functions.
+use Rattle.mini_model.specs.declared.place.Position.{Position}
+use Rattle.mini_model.specs.declared.place.Position.TheVariants.{Elsewhere}
+use Rattle.mini_model.specs.Tree.{Tree}
+use Rattle.mini_model.specs.Rewriting.{Everywhere}
+use Rattle.mini_kept.specs.Without.{BodySets}
+use Rattle.mini_rows.specs.Steady.{SteadyFunction}
+use Rattle.mini_steady.specs.Told.{told_in}
+
+abbrev pub SteadyRewrites : BodySets → Position → Tree → Tree → Type 0
+SteadyRewrites S = SteadyFunction S
+
+-- none reads a node in its place
+abbrev pub IsSteadilySettled : BodySets → Position → Tree → Type 0
+IsSteadilySettled S p n = (w : Tree) → SteadyRewrites S p n w → ⊥
+
+-- and nowhere in a program, by what a look at it tells of its bodies
+abbrev pub IsSteadilyRewritten : Tree → Type 0
+IsSteadilyRewritten u = Everywhere (IsSteadilySettled (told_in u)) Elsewhere u
