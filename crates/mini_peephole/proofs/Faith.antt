@@ -71,7 +71,8 @@ module _ (o : CompressOptions) (t : Tree) (f : IsRewrittenBy true o t) where
 
   neither : (p : Position) (n : Tree) → IsSettled (switches o) (writable_in t) p n → IsSteadilySettled (told_in t) p n → ReadsNothing AnyRow p n
   neither p n g h w (inl c) = g (record { to = w; contracts = c })
-  neither p n g h w (inr r) = h w r
+  neither p n g h w (inr (inl r)) = h.0 w r
+  neither p n g h w (inr (inr r)) = h.1 w r
 
   nowhere : Everywhere (ReadsNothing AnyRow) Elsewhere t
   nowhere = everywhere_with (IsSettled (switches o) (writable_in t)) (IsSteadilySettled (told_in t)) (ReadsNothing AnyRow) neither Elsewhere t f.0 f.1

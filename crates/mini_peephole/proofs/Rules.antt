@@ -28,7 +28,7 @@ use Rattle.mini_logic.specs.MinimizeBody as bodies
 use Rattle.mini_logic.proofs.Joined as logic
 use Rattle.mini_syntax.specs.SubstituteReturnStatement as returns
 use Rattle.mini_switch.specs.MinimizeSwitchStatements as switch
-use Rattle.mini_rows.proofs.SteadyLawful.{steady_functions_lawful}
+use Rattle.mini_rows.proofs.OwnArrowLawful.{steady_code_lawful}
 use Rattle.mini_steady.specs.Told.{told_in}
 use Rattle.mini_peephole.specs.Environments.{steady_in}
 use Rattle.mini_peephole.specs.Faithful.{switches, known_of, IsRewrittenBy}
@@ -186,7 +186,7 @@ module _ (o : CompressOptions) (v : Tree) where
   steady_lawful q k =
       let K = let_go (switches o) in
       let W = writable_in q in
-      steady_wider (SteadyGives o q) K W W (told_in q) (steady_in v) (λ x h. h) (λ b. within_through (told_in q b) (told_in v b) (steady_in v b) (k b) (told_within v b)) (steady_functions_lawful K W (told_in q))
+      steady_wider (SteadyGives o q) K W W (told_in q) (steady_in v) (λ x h. h) (λ b. within_through (told_in q b) (told_in v b) (steady_in v b) (k b) (told_within v b)) (steady_code_lawful K W (told_in q))
 
   -- what passes make on the way to v
   pub both_lawful : (b : Bool) (q : Tree) → LawfulUnder (let_go (switches o)) (writable_in q) (known_of b v) (GivesBoth (AllGives o) (SteadyGives o) StaysTold b v q)

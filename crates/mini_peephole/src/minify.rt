@@ -24,7 +24,7 @@ use mini_logic::{
     MinimizeUnary, MinimizeVoid,
 };
 use mini_passes::{SteadyPasses, run_steady_passes};
-use mini_steady::MinimizeSteady;
+use mini_steady::{MinimizeSteady, MinimizeSteadyArrows};
 use mini_stmt::{JoinLets, MinimizeStatements, TurnLoopGuards};
 use mini_switch::MinimizeSwitches;
 use mini_syntax::{
@@ -211,6 +211,12 @@ const RULES: Then<Keeping, Naming> = Then {
     },
 };
 
+// And those that rest on what is known of bodies, which act where no other does.
+const STEADY_RULES: Then<MinimizeSteady, MinimizeSteadyArrows> = Then {
+    first: MinimizeSteady,
+    second: MinimizeSteadyArrows,
+};
+
 // The answer for a resolved tree, which is rewritten in place.
 fn rewritten(
     alloc: Global,
@@ -227,14 +233,7 @@ fn rewritten(
         passes,
         settled,
         steady,
-    } = run_steady_passes(
-        &RULES,
-        &MinimizeSteady,
-        alloc,
-        tree,
-        options.passes,
-        context,
-    )?;
+    } = run_steady_passes(&RULES, &STEADY_RULES, alloc, tree, options.passes, context)?;
     let program = write_program(alloc, tree)?;
     let kept = numbers_of(alloc, tree)?;
     let symbols = symbols_of(alloc, tree)?;
