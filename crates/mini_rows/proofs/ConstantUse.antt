@@ -192,7 +192,7 @@ module _ (e : Environment) (k : ℕ) (z : Unseen (alone (Declared k)) e) (x : Na
   moves_there c ss w f p q u r s = by (is_constant init) refl
     where
       by : (b : Bool) → is_constant init ≡ b → Goes true (λ a. Agree (alone (Declared k))) (Agree (alone (Declared k))) (Agree (alone (Declared k))) (either (means e init (As Val) tt s) (λ v t. means e (led ss (identifier (resolved spelling k))) q r (after v t)) (λ y t. stop y t)) (means e (led ss init) q r s)
-      by false o = first_goes e k z x named spelling init plain item o c ss w f p q u r s
+      by false o = first_goes e k z x named spelling init plain item o false c ss w f p q u tt r s
       by true o =
           let (there, known) = value_there e init o in
           let (v, is) = known in

@@ -18,7 +18,7 @@ use Rattle.mini_rows.specs.Unused.{is_constant, resolved, names, any_names, decl
 use Rattle.mini_rows.proofs.FoldMeaning.{plain_read}
 use Rattle.mini_rows.proofs.NextKept.{next_unnamed}
 use Rattle.mini_rows.proofs.NextMeaning.{initial_goes}
-use Rattle.mini_rows.proofs.SingleUse.{surely, or_true, Lead, Doing, Giving, Raising, Testing, head_of, Step, led, is_end, Stands, Well, AllPass, Initial, heads, statement, unnamed, Outside, Over, Heads, path}
+use Rattle.mini_rows.proofs.SingleUse.{surely, or_true, Lead, Doing, Giving, Raising, Testing, head_of, Step, led, is_end, Stands, Well, AllPass, PassedIn, Initial, heads, statement, unnamed, Outside, Over, Heads, path}
 use Rattle.mini_rows.proofs.ListKeptHeads.{Seat, Loop, Choice, seated, rest}
 use Rattle.mini_rows.proofs.OpeningMeaning.{outside_goes}
 use Rattle.mini_rows.proofs.OverMeaning.{each_goes}
@@ -78,16 +78,16 @@ module _ (e : Environment) (spelling : List ℕ) (k : ℕ) (z : Unseen (alone (D
       let one = λ (u : Tree). led (step ∷ []) u in
       let there : head ≡ led steps (identifier (resolved reading.spelling k)) = t.is ∙ t.along t.inner ∙ ap one (t.path.is ∙ ap (led t.path.steps) read_as) in
       let put : put_first x init head ≡ led steps init = t.puts init ∙ t.along (put_first x init t.inner) ∙ ap one (t.path.puts init) in
-      let beside = subst (AllPass init (shape_by (head_of t.lead)) 0) (sym t.front) tt in
+      let beside = subst (AllPass false init (shape_by (head_of t.lead)) 0) (sym t.front) tt in
       subst₂ (λ h w. GoesWith e k init h w s) (sym there) (sym put)
-      (moves_there e k z x refl reading.spelling init (sym (plain_read init (movable init moves))) (plain_item init (movable init moves)) AsWholeItem steps (t.stands (is_end t.path.steps), subst (λ c. Well c t.path.steps) (sym (t.below AsWholeItem)) t.path.well) ((ap (any_names x) t.front, t.free), t.path.spared) ((beside, or_true (is_constant init) (surely (is_effect_free init) t.lead) (t.steady (is_effect_free init))), t.path.passed init (t.passed init passed)) (Stat None) tt [] s)
+      (moves_there e k z x refl reading.spelling init (sym (plain_read init (movable init moves))) (plain_item init (movable init moves)) AsWholeItem steps (t.stands (is_end t.path.steps), subst (λ c. Well c t.path.steps) (sym (t.below AsWholeItem)) t.path.well) ((ap (any_names x) t.front, t.free), t.path.spared) ((beside, or_true (is_constant init) (surely false (is_effect_free init) t.lead) (t.steady (is_effect_free init))), subst (λ m. PassedIn m init t.path.steps) (sym t.low) (t.path.passed_in false init (t.passed init passed))) (Stat None) tt [] s)
 
   scope_goes : (t : Outside x head) → are_passed x init head ≡ true → (s : State) → GoesWith e k init head (put_first x init head) s
   scope_goes t passed s =
       let p = path x false t.value t.once in
       let read_as : identifier p.read ≡ identifier (resolved p.read.spelling k) = ap (λ y. identifier (record { spelling = p.read.spelling; symbol = y })) (same_symbol k p.read.symbol p.same) in
       subst₂ (λ h w. GoesWith e k init h w s) (sym (t.is ∙ ap (seated t.seat) (p.is ∙ ap (led p.steps) read_as))) (sym (t.puts init ∙ ap (seated t.seat) (p.puts init)))
-      (outside_goes e k z x refl p.read.spelling init (sym (plain_read init (movable init moves))) (plain_item init (movable init moves)) p.steps p.well p.spared (p.passed init (t.passed init passed)) t.seat t.beside s)
+      (outside_goes e k z x refl p.read.spelling init (sym (plain_read init (movable init moves))) (plain_item init (movable init moves)) p.steps p.well p.spared (p.passed_in false init (t.passed init passed)) t.seat t.beside s)
 
   loop_goes : (t : Over x head) → are_passed x init t.value ≡ true → (s : State) → GoesWith e k init head (put_first x init head) s
   loop_goes t passed s =
@@ -95,7 +95,7 @@ module _ (e : Environment) (spelling : List ℕ) (k : ℕ) (z : Unseen (alone (D
       let read_as : identifier p.read ≡ identifier (resolved p.read.spelling k) = ap (λ y. identifier (record { spelling = p.read.spelling; symbol = y })) (same_symbol k p.read.symbol p.same) in
       let loops = λ (u : Tree). each_loop t.kind t.left u t.body in
       subst₂ (λ h w. GoesWith e k init h w s) (sym (t.is ∙ ap loops (p.is ∙ ap (led p.steps) read_as))) (sym (t.puts init ∙ ap loops (p.puts init)))
-      (each_goes e k z x refl p.read.spelling init (sym (plain_read init (movable init moves))) (plain_item init (movable init moves)) p.steps p.well p.spared (p.passed init passed) t.kind t.left t.body t.plain t.other t.later s)
+      (each_goes e k z x refl p.read.spelling init (sym (plain_read init (movable init moves))) (plain_item init (movable init moves)) p.steps p.well p.spared (p.passed_in false init passed) t.kind t.left t.body t.plain t.other t.later s)
 
   pub head_goes : reads_head x head ≡ true → are_passed x init (evaluated head) ≡ true → (s : State) → GoesWith e k init head (put_first x init head) s
   head_goes once passed s = by (heads x head once)

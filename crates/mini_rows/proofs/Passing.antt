@@ -3,30 +3,33 @@
 use Rattle.std.proofs.Common.{◌≡◌, ℕ, zero, Bool, true, false, List, [], ◌∷◌, ◌⊎◌, inl, inr, refl, sym, ap, ◌∙◌, subst, true≢false}
 use Rattle.std.specs.Prelude.{not, ◌&&◌, ◌||◌, None}
 use Rattle.std.proofs.lemmas.Bool.{and_parts}
+use Rattle.mini_model.specs.declared.kind.PropertyKind.TheVariants.{Init}
 use Rattle.mini_model.specs.declared.name.Name.{Name}
 use Rattle.mini_model.specs.declared.operator.UnaryOperator.TheVariants.{LogicalNot, Void}
 use Rattle.mini_model.specs.declared.shape.Shape.{Shape}
 use Rattle.mini_model.specs.declared.shape.Shape.TheVariants as shape
 use Rattle.mini_model.specs.Tree.{Tree, Trees, node, none, ◌▸◌, shape_of}
 use Rattle.mini_laws.specs.Value.{Value, Undefined, Null, Boolean, Number, String, Variable, VariableSet, truth, variables}
-use Rattle.mini_laws.specs.State.{Item, State, Completion, ok, stop, halt, out, either, Environment}
+use Rattle.mini_laws.specs.State.{Entry, Item, State, Completion, ok, stop, halt, out, either, Environment}
 use Rattle.mini_laws.specs.Demand.{Val, Demand, As, Callee, Target, AnEntry, Stat, Called, Reference, AName, Prepare, Fetch, Request, Reply, plain_call, says}
 use Rattle.mini_laws.specs.Command.{ret, act, Kids, run}
 use Rattle.mini_laws.specs.Naming.{NameKind, PlainName, EvalName, UndefinedName, NumberName, Summary, kinds, summaries, naming}
-use Rattle.mini_laws.specs.Expressions.{first_kind, get_identifier, is_eval}
+use Rattle.mini_laws.specs.Conversion.{key_value}
+use Rattle.mini_laws.specs.Expressions.{property_entry, first_kind, get_identifier, is_eval}
 use Rattle.mini_laws.specs.Step.{step, means, meaning}
 use Rattle.mini_laws.specs.Same.{Goes, Agree}
 use Rattle.mini_laws.specs.Truth.{told}
 use Rattle.mini_laws.specs.Congruence.{Avoids, Apart}
 use Rattle.mini_laws.proofs.Congruent.{insensitive}
-use Rattle.mini_laws.proofs.Runs.{run_bind, either_eta}
+use Rattle.mini_laws.proofs.Runs.{either_ok, run_bind, either_eta}
+use Rattle.mini_node.specs.Children.{part}
 use Rattle.mini_node.specs.Kinds.{is_identifier}
 use Rattle.mini_terms.specs.Folds.{is_effect_free}
 use Rattle.mini_terms.specs.Reading.{stands, is_item, by_value}
 use Rattle.mini_terms.specs.Sound.{Quiet}
 use Rattle.mini_terms.proofs.EffectsTable.{effect_free_sound}
 use Rattle.mini_terms.proofs.Reading.{read_by_value}
-use Rattle.mini_rows.specs.Unused.{is_written_value, is_value_operator, is_constant, is_word, passes}
+use Rattle.mini_rows.specs.Unused.{is_written_value, is_value_operator, is_constant, is_word, is_field, passes}
 use Rattle.mini_rows.proofs.ItemReads.{item_read}
 
 -- an expression is asked for its value, as a callee, or as an item of a list
@@ -141,6 +144,27 @@ module _ (e : Environment) where
   word_replies (node (shape.NumericLiteral m) xs n ts) c = (Number m, λ s. refl)
   word_replies (node h xs n ts) c = absurd (true≢false (sym c))
 
+  -- a property with such a key, as an entry: what its value does, and no more
+  field_mapped : (b : Bool) (xs : List Name) (n : ℕ) (key v : Tree) → is_word (shape_of key) ≡ true → (g : Value → Entry) × ((s : State) → means e (node (shape.ObjectProperty Init false b false) xs n (key ▸ (v ▸ none))) AnEntry tt s ≡ either (means e v (As Val) tt s) (λ w z. ok (g w) z) (λ y z. stop y z))
+  unfolding means meaning step either
+  field_mapped b xs n (node (shape.IdentifierName m) ys k ts) v c = (λ w. property_entry Init (not (false || b || false)) (key_value (String m)) w, λ s. refl)
+  field_mapped b xs n (node (shape.StringLiteral m) ys k ts) v c = (λ w. property_entry Init (not (false || b || false)) (key_value (String m)) w, λ s. refl)
+  field_mapped b xs n (node (shape.NumericLiteral m) ys k ts) v c = (λ w. property_entry Init (not (false || b || false)) (key_value (Number m)) w, λ s. refl)
+  field_mapped b xs n (node h ys k ts) v c = absurd (true≢false (sym c))
+
+  abbrev pub Mapped : Tree → Type 0
+  Mapped t = (g : Value → Entry) × ((s : State) → means e t AnEntry tt s ≡ either (means e (part t 1) (As Val) tt s) (λ w z. ok (g w) z) (λ y z. stop y z))
+
+  field_is : (t : Tree) → is_field t ≡ true → Mapped t
+  field_is (node (shape.ObjectProperty Init false b false) [] zero (key ▸ (v ▸ none))) c = field_mapped b [] 0 key v c
+  field_is t c = absurd (true≢false (sym c))
+
+  pub field_replies : (t : Tree) → is_field t ≡ true → Replying (As Val) (means e (part t 1) (As Val)) tt → Replying AnEntry (means e t AnEntry) tt
+  field_replies t c r =
+      let (g, is) = field_is t c in
+      let (v, known) = r in
+      (g v, λ s. is s ∙ ap (λ x. either x (λ w z. ok (g w) z) (λ y z. stop y z)) (known s) ∙ either_ok v s (λ w z. ok (g w) z) (λ y z. stop y z))
+
   -- a name that is assigned to, before it is
   pub target_replies : (t : Tree) → is_identifier t ≡ true → Replying Target (means e t Target) Prepare
   unfolding means step
@@ -223,6 +247,11 @@ module _ (e : Environment) where
 
   pub quietly : (D : VariableSet) → Apart e D → (t : Tree) → Avoids D t → is_effect_free t ≡ true → is_item t ≡ true → (q : Demand) → Replies q → (r : Request q) → Quietly D q (means e t q) r
   quietly D apart t a f i q u r = record { quiet = λ s. effect_free_quiet t f i q u r s; same = λ s z g. insensitive e D apart t a q r s z g }
+
+  pub field_quietly : (D : VariableSet) → Apart e D → (t : Tree) → Avoids D t → is_field t ≡ true → ((s : State) → Quiet s (means e (part t 1) (As Val) tt s)) → Quietly D AnEntry (means e t AnEntry) tt
+  field_quietly D apart t a c q =
+      let (g, is) = field_is e t c in
+      record { quiet = λ s. subst (Quiet s) (sym (is s)) (quiet_mapped g s (means e (part t 1) (As Val) tt s) (q s)); same = λ s z k. insensitive e D apart t a AnEntry tt s z k }
 
   pub fetched_quietly : (D : VariableSet) → Apart e D → (t : Tree) → Avoids D t → is_identifier t ≡ true → is_effect_free t ≡ true → (reference : Reference) → Quietly D Target (means e t Target) (Fetch reference)
   fetched_quietly D apart t a i f reference = record { quiet = λ s. fetched_quiet t i f reference s; same = λ s z g. insensitive e D apart t a Target (Fetch reference) s z g }

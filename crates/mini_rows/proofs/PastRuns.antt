@@ -142,11 +142,11 @@ module _ (e : Environment) (k : ℕ) (z : Unseen (alone (Declared k)) e) (init :
         let kids = λ (t : Tree). append ps (led ss t ▸ step_there.rest) in
         let is = summaries (kids read) in
         let σ = demand h (facts_all is) q in
-        let a = asks false c l (is_end ss) w.0 (facts_all is) (there_before e k z ps (led ss read) step_there.rest) q u r in
+        let a = asks false false c l (is_end ss) w.0 (facts_all is) (there_before e k z ps (led ss read) step_there.rest) q u tt r in
         let first = all_spared e k z x named ps f.0.0 in
         let last = all_spared e k z x named step_there.rest f.0.1 in
         let there = λ (y : State). node_is e k z h q r (kids read) y in
         let put : means e (led (step_there ∷ ss) init) q r s ≡ by_summaries e k z h q r is (kids init) s = node_is e k z h q r (kids init) s ∙ ap (λ i. by_summaries e k z h q r i (kids init) s) (sym (summaries_led step_there ss read init plain)) in
         subst₂ Go (sym (either_cong (means e init (As Val) tt s) _ _ _ _ (λ v y. there (after v y)) (λ y p. refl))) (sym put)
         (reach_goes h q is σ ps (led ss read) (led ss init) step_there.rest first last (held_front ps p.0.0 σ (subst (AllReply σ) (steady_valued l p.0.1) a.first))
-        (λ r'. past_goes (asked_below (head_of l) c (place 0 ps)) ss w.1 f.1 p.1 (σ (count ps)) a.below r') (step h [] (facts_all is) q r) (subst (λ us. Reaches false (count us) (count ps) (step h [] (facts_all is) q r)) (steady_earlier l p.0.1) (a.reaches (steady_sure false l p.0.1))))
+        (λ r'. past_goes (asked_below (head_of l) c (place 0 ps)) ss w.1 f.1 p.1 (σ (count ps)) a.below r') (step h [] (facts_all is) q r) (subst (λ us. Reaches false (count us) (count ps) (step h [] (facts_all is) q r)) (steady_earlier l p.0.1) (a.reaches (steady_sure false false l p.0.1))))

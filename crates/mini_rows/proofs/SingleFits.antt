@@ -236,7 +236,7 @@ suited_all r n (s ∷ ss) = (suited_lead r n s.lead (is_end ss), suited_all r n 
 
 stands_there : (x : Name) (c : Asked) (t : Tree) (p : Path x c t) (r : Tree) → MayStand x r t → Suited r p.steps
 stands_there x c t p r (inl n) = suited_all r n p.steps
-stands_there x c t p r (inr e) = p.suit r e
+stands_there x c t p r (inr e) = p.suit_in false r e
 
 number_constant : (t : Tree) → is_number_shape (shape_of t) ≡ true → is_constant t ≡ true
 number_constant (node (shape.NumericLiteral n) xs k none) e = refl

@@ -42,16 +42,17 @@ use Rattle.mini_laws.proofs.Runs.{either_cong, either_assoc, either_ok}
 use Rattle.mini_laws.proofs.Simulation.{goes_either}
 use Rattle.mini_laws.proofs.Truth.{coherent}
 use Rattle.mini_kept.specs.Without.{Unseen}
+use Rattle.mini_node.specs.Children.{part}
 use Rattle.mini_node.specs.Kinds.{is_identifier}
 use Rattle.mini_terms.specs.Folds.{is_effect_free}
 use Rattle.mini_terms.specs.Reading.{is_item, by_value}
 use Rattle.mini_terms.specs.Sound.{Quiet}
 use Rattle.mini_terms.proofs.Dropping.{weak}
 use Rattle.mini_rows.specs.Sketches.{shape_by, Asked, AsWholeItem, AsValue, AsValues, asked_below}
-use Rattle.mini_rows.specs.Unused.{any_names, resolved, is_constant, is_plain_assignment, is_word, passes, passes_target}
+use Rattle.mini_rows.specs.Unused.{any_names, resolved, is_constant, is_plain_assignment, is_word, is_field, passes, passes_target, passes_item, entries_below}
 use Rattle.mini_rows.proofs.ItemReads.{item_read}
-use Rattle.mini_rows.proofs.Passing.{Replies, Does, Mild, Replying, Quietly, constant_replies, word_replies, target_replies, quiet_there, quietly, fetched_quietly, passes_by}
-use Rattle.mini_rows.proofs.SingleUse.{Lead, Not, Plus, Minus, Tilde, Emptying, Beside, Deciding, Choosing, Passing, Called as CalledLead, Making, Waiting, Member, Keyed, Holding, Against, Given as GivenLead, Filling, Keying, Following, Branching, Failing, Storing, Gathering, Fielding, Listing, Doing, Giving, Raising, Testing, head_of, before, place, Step, led, is_end, is_steady, surely, Stands, Well, Spared, AllPass, Passed, summaries_led}
+use Rattle.mini_rows.proofs.Passing.{Replies, Does, Mild, Replying, Quietly, constant_replies, word_replies, target_replies, field_replies, field_quietly, quiet_there, quietly, fetched_quietly, passes_by}
+use Rattle.mini_rows.proofs.SingleUse.{Lead, Not, Plus, Minus, Tilde, Emptying, Beside, Deciding, Choosing, Passing, Called as CalledLead, Making, Waiting, Member, Keyed, Holding, Against, Given as GivenLead, Filling, Keying, Following, Branching, Failing, Storing, Gathering, Fielding, Listing, Doing, Giving, Raising, Testing, head_of, before, place, Step, led, is_end, is_steady, surely, Stands, Well, Spared, AllPass, PassedIn, summaries_led}
 use Rattle.mini_rows.proofs.UnusedNames.{all_avoided}
 
 -- ---- a command that doesn't ask a child any more
@@ -236,6 +237,13 @@ reach_passing f m i σ q u r c b = absurd u
 pub one : (f : Bool) (m i : ℕ) (σ : ℕ → Demand) (A : Type 0) (r : Request (σ i)) (g : Reply (σ i) r → Command σ A) → ((a : Reply (σ i) r) → Later i (g a)) → Reaches f m i {σ = σ} (kid i r ((then) g))
 one f m i σ A r g h = inr (inl (record { here = refl; stops = λ y. refl; later = h }))
 
+-- an entry, or a list of entries
+abbrev pub Entries : Bool → Demand → Type 0
+Entries false q = Unit {0}
+Entries true Items = Unit {0}
+Entries true AnEntry = Unit {0}
+Entries true q = ⊥
+
 module _ (f : Bool) where
   number_begins : (o : UnaryOperator) → Reaches f 0 0 (number_step o)
   number_begins o = one f 0 0 (λ i. As Val) Value tt _ (λ v. later_bind 0 (numeric v) (λ n. of_made (of_number o n)) (numeric_later 0 (λ i. As Val) v) (λ n. made_later 0 (λ i. As Val) (of_number o n)))
@@ -331,11 +339,13 @@ module _ (f : Bool) where
   stores o e = inl ((tt, tt), stored_by (assignment_kind o) e)
 
   -- the value of a property, behind a key that is written out
-  fields : (q : Demand) → Replies q → (r : Request q) → f ≡ true → Reaches f 1 1 (entry q r (property_step Init false false false))
-  fields (As w) u r e = (e, tt)
-  fields Callee u r e = (e, tt)
-  fields AnEntry u r e = reach_bind f 1 1 {σ = λ i. As Val} (property_step Init false false false) ret (inl ((tt, tt), λ key. one f 1 1 (λ i. As Val) Entry tt _ (λ v. tt))) (λ v. tt)
-  fields q u r e = absurd u
+  fields : (m : Bool) (q : Demand) → Replies q → Entries m q → (r : Request q) → (m || f) ≡ true → Reaches f 1 1 (entry q r (property_step Init false false false))
+  fields m AnEntry u n r e = reach_bind f 1 1 {σ = λ i. As Val} (property_step Init false false false) ret (inl ((tt, tt), λ key. one f 1 1 (λ i. As Val) Entry tt _ (λ v. tt))) (λ v. tt)
+  fields false (As w) u n r e = (e, tt)
+  fields false Callee u n r e = (e, tt)
+  fields false q u n r e = absurd u
+  fields true Items u n r e = absurd u
+  fields true q u n r e = absurd n
 
 -- what is asked where a step stands
 abbrev pub Suits : Asked → Demand → Bool → Type 0
@@ -367,20 +377,20 @@ abbrev pub AllReply : (ℕ → Demand) → Trees → Type 0
 AllReply σ none = Unit {0}
 AllReply σ (t ▸ ts) = Replies (σ 0) × AllReply (λ i. σ (suc i)) ts
 
-pub record Asks (f : Bool) (c : Asked) (l : Lead) (fs : List Facts) (q : Demand) (r : Request q) (at_end : Bool) : Type 0 where
-  pub reaches : surely f l ≡ true → Reaches f (count (earlier l)) (count (before l)) (step (shape_by (head_of l)) [] fs q r)
+pub record Asks (f m : Bool) (c : Asked) (l : Lead) (fs : List Facts) (q : Demand) (r : Request q) (at_end : Bool) : Type 0 where
+  pub reaches : surely m f l ≡ true → Reaches f (count (earlier l)) (count (before l)) (step (shape_by (head_of l)) [] fs q r)
   pub below : Suits (asked_below (head_of l) c (place 0 (before l))) (demand (shape_by (head_of l)) fs q (count (before l))) at_end
   pub first : AllReply (demand (shape_by (head_of l)) fs q) (valued_before l)
 
-value_asks : (f : Bool) (l : Lead) (b : Bool) → Stands AsValue l b → (fs : List Facts) (q : Demand) → Replies q → (r : Request q) → Asks f AsValue l fs q r b
+value_asks : (f m : Bool) (l : Lead) (b : Bool) → Stands AsValue l b → (fs : List Facts) (q : Demand) → Replies q → Entries m q → (r : Request q) → Asks f m AsValue l fs q r b
 unfolding step
-value_asks f Not b s fs q u r = record { reaches = λ y. reach_valued f 0 0 (λ i. As Test) q u r not_step (one f 0 0 (λ i. As Test) Value tt _ (λ v. tt)); below = tt; first = tt }
-value_asks f Plus b s fs q u r = record { reaches = λ y. reach_valued f 0 0 (λ i. As Val) q u r (number_step UnaryPlus) (number_begins f UnaryPlus); below = tt; first = tt }
-value_asks f Minus b s fs q u r = record { reaches = λ y. reach_valued f 0 0 (λ i. As Val) q u r (number_step UnaryNegation) (number_begins f UnaryNegation); below = tt; first = tt }
-value_asks f Tilde b s fs q u r = record { reaches = λ y. reach_valued f 0 0 (λ i. As Val) q u r (number_step BitwiseNot) (number_begins f BitwiseNot); below = tt; first = tt }
-value_asks f Emptying b s fs q u r = record { reaches = λ y. reach_valued f 0 0 (λ i. As Val) q u r void_step (one f 0 0 (λ i. As Val) Value tt _ (λ v. tt)); below = tt; first = tt }
-value_asks f (Beside o) b s fs q u r = record { reaches = λ y. reach_valued f 0 0 (λ i. As Val) q u r (binary_step o) (binary_begins f o); below = tt; first = tt }
-value_asks f (Deciding o) b s fs q u r = record { reaches = λ y. reach_passing f 0 0 (logical_demand o (pass q)) q u r (logical_step o (pass q)) (logical_begins f o (pass q)); below = left o (pass q); first = tt }
+value_asks f m Not b s fs q u n r = record { reaches = λ y. reach_valued f 0 0 (λ i. As Test) q u r not_step (one f 0 0 (λ i. As Test) Value tt _ (λ v. tt)); below = tt; first = tt }
+value_asks f m Plus b s fs q u n r = record { reaches = λ y. reach_valued f 0 0 (λ i. As Val) q u r (number_step UnaryPlus) (number_begins f UnaryPlus); below = tt; first = tt }
+value_asks f m Minus b s fs q u n r = record { reaches = λ y. reach_valued f 0 0 (λ i. As Val) q u r (number_step UnaryNegation) (number_begins f UnaryNegation); below = tt; first = tt }
+value_asks f m Tilde b s fs q u n r = record { reaches = λ y. reach_valued f 0 0 (λ i. As Val) q u r (number_step BitwiseNot) (number_begins f BitwiseNot); below = tt; first = tt }
+value_asks f m Emptying b s fs q u n r = record { reaches = λ y. reach_valued f 0 0 (λ i. As Val) q u r void_step (one f 0 0 (λ i. As Val) Value tt _ (λ v. tt)); below = tt; first = tt }
+value_asks f m (Beside o) b s fs q u n r = record { reaches = λ y. reach_valued f 0 0 (λ i. As Val) q u r (binary_step o) (binary_begins f o); below = tt; first = tt }
+value_asks f m (Deciding o) b s fs q u n r = record { reaches = λ y. reach_passing f 0 0 (logical_demand o (pass q)) q u r (logical_step o (pass q)) (logical_begins f o (pass q)); below = left o (pass q); first = tt }
   where
     left : (o : LogicalOperator) (w : Want) → Suits AsValue (logical_demand o w 0) b
     left And Val = tt
@@ -390,20 +400,20 @@ value_asks f (Deciding o) b s fs q u r = record { reaches = λ y. reach_passing 
     left Or Test = tt
     left Or Unused = tt
     left Coalesce w = tt
-value_asks f Choosing b s fs q u r = record { reaches = λ y. reach_passing f 0 0 (first_demand (As Test) (As (pass q))) q u r (conditional_step (pass q)) (conditional_begins f (pass q)); below = tt; first = tt }
-value_asks f Passing b s fs q u r = record { reaches = λ y. reach_passing f 0 0 (λ i. Parts (pass q)) q u r (sequence_step (pass q)) (one f 0 0 (λ i. Parts (pass q)) (Says (pass q)) tt _ (λ v. tt)); below = tt; first = tt }
-value_asks f CalledLead b s fs q u r = record { reaches = λ y. reach_valued f 0 0 (first_demand Callee Items) q u r (call_step false) (one f 0 0 (first_demand Callee Items) Value tt _ (λ f. (tt, (λ vs. call_later 0 (first_demand Callee Items) false f vs, λ y. tt)))); below = s; first = tt }
-value_asks f Making b s fs q u r = record { reaches = λ y. reach_valued f 0 0 (first_demand (As Val) Items) q u r new_step (one f 0 0 (first_demand (As Val) Items) Value tt _ (λ f. (tt, (λ vs. (λ v. tt, λ y. tt), λ y. tt)))); below = tt; first = tt }
-value_asks f (Waiting d) b s fs q u r = record { reaches = λ y. reach_valued f 0 0 (λ i. As Val) q u r (yield_step d) (one f 0 0 (λ i. As Val) Value tt _ (λ v. (λ a. tt, λ y. tt))); below = tt; first = tt }
-value_asks f Member b s fs q u r = record { reaches = λ y. as_member_reaches f 0 (member_begins f) q u r; below = tt; first = tt }
-value_asks f Keyed b s fs q u r = record { reaches = λ y. as_member_reaches f 0 (member_begins f) q u r; below = tt; first = tt }
-value_asks f Holding b s fs q u r = record { reaches = λ y. reach_valued f 0 0 (λ i. Items) q u r array_step (one f 0 0 (λ i. Items) Value tt _ (λ vs. (λ v. tt, λ y. tt))); below = tt; first = tt }
-value_asks f Gathering b s fs q u r = record { reaches = λ y. reach_valued f 0 0 (λ i. Items) q u r object_step (one f 0 0 (λ i. Items) Value tt _ (λ vs. (λ v. tt, λ y. tt))); below = tt; first = tt }
-value_asks f (Against o a) b s fs q u r = record { reaches = λ y. reach_valued f 1 1 (λ i. As Val) q u r (binary_step o) (binary_goes_on f o); below = tt; first = (tt, tt) }
-value_asks f (GivenLead a) b s fs q u r = record { reaches = λ y. reach_valued f 1 1 (first_demand Callee Items) q u r (call_step false) (call_goes_on f); below = tt; first = (tt, tt) }
-value_asks f (Filling a) b s fs q u r = record { reaches = λ y. reach_valued f 1 1 (first_demand (As Val) Items) q u r new_step (new_goes_on f); below = tt; first = (tt, tt) }
-value_asks f (Keying a) b s fs q u r = record { reaches = λ y. as_member_reaches f 1 (member_goes_on f) q u r; below = tt; first = (tt, tt) }
-value_asks f (Following o a) b s fs q u r = record { reaches = λ y. reach_passing f 1 1 (logical_demand o (pass q)) q u r (logical_step o (pass q)) (logical_follows f o (pass q) y); below = behind o (pass q); first = (ahead o (pass q), tt) }
+value_asks f m Choosing b s fs q u n r = record { reaches = λ y. reach_passing f 0 0 (first_demand (As Test) (As (pass q))) q u r (conditional_step (pass q)) (conditional_begins f (pass q)); below = tt; first = tt }
+value_asks f m Passing b s fs q u n r = record { reaches = λ y. reach_passing f 0 0 (λ i. Parts (pass q)) q u r (sequence_step (pass q)) (one f 0 0 (λ i. Parts (pass q)) (Says (pass q)) tt _ (λ v. tt)); below = tt; first = tt }
+value_asks f m CalledLead b s fs q u n r = record { reaches = λ y. reach_valued f 0 0 (first_demand Callee Items) q u r (call_step false) (one f 0 0 (first_demand Callee Items) Value tt _ (λ f. (tt, (λ vs. call_later 0 (first_demand Callee Items) false f vs, λ y. tt)))); below = s; first = tt }
+value_asks f m Making b s fs q u n r = record { reaches = λ y. reach_valued f 0 0 (first_demand (As Val) Items) q u r new_step (one f 0 0 (first_demand (As Val) Items) Value tt _ (λ f. (tt, (λ vs. (λ v. tt, λ y. tt), λ y. tt)))); below = tt; first = tt }
+value_asks f m (Waiting d) b s fs q u n r = record { reaches = λ y. reach_valued f 0 0 (λ i. As Val) q u r (yield_step d) (one f 0 0 (λ i. As Val) Value tt _ (λ v. (λ a. tt, λ y. tt))); below = tt; first = tt }
+value_asks f m Member b s fs q u n r = record { reaches = λ y. as_member_reaches f 0 (member_begins f) q u r; below = tt; first = tt }
+value_asks f m Keyed b s fs q u n r = record { reaches = λ y. as_member_reaches f 0 (member_begins f) q u r; below = tt; first = tt }
+value_asks f m Holding b s fs q u n r = record { reaches = λ y. reach_valued f 0 0 (λ i. Items) q u r array_step (one f 0 0 (λ i. Items) Value tt _ (λ vs. (λ v. tt, λ y. tt))); below = tt; first = tt }
+value_asks f m Gathering b s fs q u n r = record { reaches = λ y. reach_valued f 0 0 (λ i. Items) q u r object_step (one f 0 0 (λ i. Items) Value tt _ (λ vs. (λ v. tt, λ y. tt))); below = tt; first = tt }
+value_asks f m (Against o a) b s fs q u n r = record { reaches = λ y. reach_valued f 1 1 (λ i. As Val) q u r (binary_step o) (binary_goes_on f o); below = tt; first = (tt, tt) }
+value_asks f m (GivenLead a) b s fs q u n r = record { reaches = λ y. reach_valued f 1 1 (first_demand Callee Items) q u r (call_step false) (call_goes_on f); below = tt; first = (tt, tt) }
+value_asks f m (Filling a) b s fs q u n r = record { reaches = λ y. reach_valued f 1 1 (first_demand (As Val) Items) q u r new_step (new_goes_on f); below = tt; first = (tt, tt) }
+value_asks f m (Keying a) b s fs q u n r = record { reaches = λ y. as_member_reaches f 1 (member_goes_on f) q u r; below = tt; first = (tt, tt) }
+value_asks f m (Following o a) b s fs q u n r = record { reaches = λ y. reach_passing f 1 1 (logical_demand o (pass q)) q u r (logical_step o (pass q)) (logical_follows f o (pass q) y); below = behind o (pass q); first = (ahead o (pass q), tt) }
   where
     behind : (o : LogicalOperator) (w : Want) → Suits AsValue (logical_demand o w 1) b
     behind And Val = tt
@@ -422,20 +432,20 @@ value_asks f (Following o a) b s fs q u r = record { reaches = λ y. reach_passi
     ahead Or Test = tt
     ahead Or Unused = tt
     ahead Coalesce w = tt
-value_asks f (Branching a) b s fs q u r = record { reaches = λ y. reach_passing f 1 1 (first_demand (As Test) (As (pass q))) q u r (conditional_step (pass q)) (branch_follows f (pass q) y); below = tt; first = (tt, tt) }
-value_asks f (Failing a d) b s fs q u r = record { reaches = λ y. reach_passing f 1 2 (first_demand (As Test) (As (pass q))) q u r (conditional_step (pass q)) (other_follows f (pass q) y); below = tt; first = (tt, tt) }
-value_asks f (Storing o a) b s fs q u r = record { reaches = λ y. reach_valued f 1 1 AssignDemand q u r (assignment_step o) (stores f o y); below = tt; first = tt }
-value_asks f (Fielding false a) b s fs q u r = record { reaches = λ y. fields f q u r y; below = tt; first = (tt, tt) }
-value_asks f (Fielding true a) b s fs q u r = record { reaches = λ y. absurd (true≢false (sym y)); below = tt; first = (tt, tt) }
-value_asks f l b s fs q u r = absurd s
+value_asks f m (Branching a) b s fs q u n r = record { reaches = λ y. reach_passing f 1 1 (first_demand (As Test) (As (pass q))) q u r (conditional_step (pass q)) (branch_follows f (pass q) y); below = tt; first = (tt, tt) }
+value_asks f m (Failing a d) b s fs q u n r = record { reaches = λ y. reach_passing f 1 2 (first_demand (As Test) (As (pass q))) q u r (conditional_step (pass q)) (other_follows f (pass q) y); below = tt; first = (tt, tt) }
+value_asks f m (Storing o a) b s fs q u n r = record { reaches = λ y. reach_valued f 1 1 AssignDemand q u r (assignment_step o) (stores f o y); below = tt; first = tt }
+value_asks f m (Fielding false a) b s fs q u n r = record { reaches = λ y. fields f m q u n r y; below = tt; first = (tt, tt) }
+value_asks f m (Fielding true a) b s fs q u n r = record { reaches = λ y. absurd (true≢false (sym y)); below = tt; first = (tt, tt) }
+value_asks f m l b s fs q u n r = absurd s
 
-statement_asks : (f : Bool) (l : Lead) (b : Bool) → Stands AsWholeItem l b → (fs : List Facts) (r : Request (Stat None)) → Asks f AsWholeItem l fs (Stat None) r b
+statement_asks : (f m : Bool) (l : Lead) (b : Bool) → Stands AsWholeItem l b → (fs : List Facts) (r : Request (Stat None)) → Asks f m AsWholeItem l fs (Stat None) r b
 unfolding step
-statement_asks f Doing b s fs r = record { reaches = λ y. reach_statement f 0 0 {σ = λ i. As Unused} (kid 0 tt ((then) ret)) (one f 0 0 (λ i. As Unused) (Unit {0}) tt ret (λ v. tt)); below = tt; first = tt }
-statement_asks f Giving b s fs r = record { reaches = λ y. reach_statement f 0 0 return_step (one f 0 0 (λ i. As Val) (Unit {0}) tt _ (λ v. tt)); below = tt; first = tt }
-statement_asks f Raising b s fs r = record { reaches = λ y. reach_statement f 0 0 throw_step (one f 0 0 (λ i. As Val) (Unit {0}) tt _ (λ v. tt)); below = tt; first = tt }
-statement_asks f Testing b s fs r = record { reaches = λ y. reach_statement f 0 0 (if_step None) (one f 0 0 (first_demand (As Test) (Stat None)) (Unit {0}) tt _ (λ c. later_choose 0 {σ = first_demand (As Test) (Stat None)} c (kid 1 [] ((then) ret)) (kid 2 [] ((then) ret)) (tt, (λ u. tt, λ y. tt)) (tt, (λ u. tt, λ y. tt)))); below = tt; first = tt }
-statement_asks f l b s fs r = absurd s
+statement_asks f m Doing b s fs r = record { reaches = λ y. reach_statement f 0 0 {σ = λ i. As Unused} (kid 0 tt ((then) ret)) (one f 0 0 (λ i. As Unused) (Unit {0}) tt ret (λ v. tt)); below = tt; first = tt }
+statement_asks f m Giving b s fs r = record { reaches = λ y. reach_statement f 0 0 return_step (one f 0 0 (λ i. As Val) (Unit {0}) tt _ (λ v. tt)); below = tt; first = tt }
+statement_asks f m Raising b s fs r = record { reaches = λ y. reach_statement f 0 0 throw_step (one f 0 0 (λ i. As Val) (Unit {0}) tt _ (λ v. tt)); below = tt; first = tt }
+statement_asks f m Testing b s fs r = record { reaches = λ y. reach_statement f 0 0 (if_step None) (one f 0 0 (first_demand (As Test) (Stat None)) (Unit {0}) tt _ (λ c. later_choose 0 {σ = first_demand (As Test) (Stat None)} c (kid 1 [] ((then) ret)) (kid 2 [] ((then) ret)) (tt, (λ u. tt, λ y. tt)) (tt, (λ u. tt, λ y. tt)))); below = tt; first = tt }
+statement_asks f m l b s fs r = absurd s
 
 -- the parts of a sequence are asked nothing but the last, and items each for the item
 parts_asked : (i n : ℕ) (w : Want) (b : Bool) → Before i (suc n) → Suits AsValue (parts_demand n w i) b
@@ -457,36 +467,36 @@ entries_reply : (ts : Trees) → AllReply (λ i. AnEntry) ts
 entries_reply none = tt
 entries_reply (t ▸ ts) = (tt, entries_reply ts)
 
-list_asks : (f : Bool) (l : Lead) (b : Bool) → Stands AsValues l b → (fs : List Facts) → Before (count (before l)) (length fs) → (q : Demand) → Suits AsValues q false → (r : Request q) → Asks f AsValues l fs q r b
+list_asks : (f m : Bool) (l : Lead) (b : Bool) → Stands AsValues l b → (fs : List Facts) → Before (count (before l)) (length fs) → (q : Demand) → Suits AsValues q false → (r : Request q) → Asks f m AsValues l fs q r b
 unfolding step
-list_asks f (Listing ts) b s [] h q u r = absurd (none_less (count ts) h)
+list_asks f m (Listing ts) b s [] h q u r = absurd (none_less (count ts) h)
   where
     none_less : (i : ℕ) → Before i 0 → ⊥
     none_less zero h = h
     none_less (suc i) h = h
-list_asks f (Listing ts) b s (g ∷ fs) h (Parts w) u r = record { reaches = λ y. parts_reach f (count ts) (length fs) w h; below = parts_asked (count ts) (length fs) w b h; first = parts_reply (length fs) w ts }
-list_asks f (Listing ts) b s (g ∷ fs) h Items u r = record { reaches = λ y. entries_reach f (count ts) (suc (length fs)) h; below = tt; first = entries_reply ts }
-list_asks f (Listing ts) b s (g ∷ fs) h q u r = absurd u
-list_asks f l b s fs h q u r = absurd s
+list_asks f m (Listing ts) b s (g ∷ fs) h (Parts w) u r = record { reaches = λ y. parts_reach f (count ts) (length fs) w h; below = parts_asked (count ts) (length fs) w b h; first = parts_reply (length fs) w ts }
+list_asks f m (Listing ts) b s (g ∷ fs) h Items u r = record { reaches = λ y. entries_reach f (count ts) (suc (length fs)) h; below = tt; first = entries_reply ts }
+list_asks f m (Listing ts) b s (g ∷ fs) h q u r = absurd u
+list_asks f m l b s fs h q u r = absurd s
 
-pub asks : (f : Bool) (c : Asked) (l : Lead) (b : Bool) → Stands c l b → (fs : List Facts) → Before (count (before l)) (length fs) → (q : Demand) → Suits c q false → (r : Request q) → Asks f c l fs q r b
-asks f AsWholeItem l b s fs h (Stat None) u r = statement_asks f l b s fs r
-asks f AsValue l b s fs h q u r = value_asks f l b s fs q (replies q false u) r
-asks f AsValues l b s fs h q u r = list_asks f l b s fs h q u r
-asks f c l b s fs h q u r = absurd u
+pub asks : (f m : Bool) (c : Asked) (l : Lead) (b : Bool) → Stands c l b → (fs : List Facts) → Before (count (before l)) (length fs) → (q : Demand) → Suits c q false → Entries m q → (r : Request q) → Asks f m c l fs q r b
+asks f m AsWholeItem l b s fs h (Stat None) u n r = statement_asks f m l b s fs r
+asks f m AsValue l b s fs h q u n r = value_asks f m l b s fs q (replies q false u) n r
+asks f m AsValues l b s fs h q u n r = list_asks f m l b s fs h q u r
+asks f m c l b s fs h q u n r = absurd u
 
 -- what is asked of the part there
 pub suits_below : (c : Asked) (l : Lead) (b : Bool) → Stands c l b → (fs : List Facts) → Before (count (before l)) (length fs) → (q : Demand) → Suits c q false → (r : Request q) → Suits (asked_below (head_of l) c (place 0 (before l))) (demand (shape_by (head_of l)) fs q (count (before l))) b
-suits_below c l b s fs h q u r = (asks true c l b s fs h q u r).below
+suits_below c l b s fs h q u r = (asks true false c l b s fs h q u tt r).below
 
 -- one that is evaluated whatever is before it, which is asked for values
-pub steady_sure : (f : Bool) (l : Lead) → is_steady l ≡ true → surely f l ≡ true
-steady_sure f (Following o a) e = absurd (true≢false (sym e))
-steady_sure f (Branching a) e = absurd (true≢false (sym e))
-steady_sure f (Failing a b) e = absurd (true≢false (sym e))
-steady_sure f (Storing o a) e = absurd (true≢false (sym e))
-steady_sure f (Fielding c a) e = absurd (true≢false (sym e))
-steady_sure f l e = refl
+pub steady_sure : (m f : Bool) (l : Lead) → is_steady l ≡ true → surely m f l ≡ true
+steady_sure m f (Following o a) e = absurd (true≢false (sym e))
+steady_sure m f (Branching a) e = absurd (true≢false (sym e))
+steady_sure m f (Failing a b) e = absurd (true≢false (sym e))
+steady_sure m f (Storing o a) e = absurd (true≢false (sym e))
+steady_sure m f (Fielding c a) e = absurd (true≢false (sym e))
+steady_sure m f l e = refl
 
 pub steady_earlier : (l : Lead) → is_steady l ≡ true → earlier l ≡ before l
 steady_earlier (Failing a b) e = absurd (true≢false (sym e))
@@ -503,6 +513,17 @@ earlier_within (Failing t d) zero b = tt
 earlier_within (Failing t d) (suc zero) b = absurd b
 earlier_within (Failing t d) (suc (suc j)) b = absurd b
 earlier_within l j b = b
+
+-- what is asked below for entries
+entries_there : (m : Bool) (c : Asked) (l : Lead) (b : Bool) → Stands c l b → (fs : List Facts) (q : Demand) → Suits c q false → Entries m q → Entries (entries_below m (shape_by (head_of l))) (demand (shape_by (head_of l)) fs q (count (before l)))
+entries_there m c Holding b s fs q u n = tt
+entries_there m c Gathering b s fs q u n = tt
+entries_there true AsValues (Listing ts) b s fs Items u n = tt
+entries_there true AsValues (Listing ts) b s fs AnEntry u n = absurd u
+entries_there true AsValues (Listing ts) b s fs q u n = absurd n
+entries_there true c (Listing ts) b s fs q u n = absurd s
+entries_there true c l b s fs q u n = tt
+entries_there false c l b s fs q u n = tt
 
 -- ---- runs
 
@@ -645,12 +666,44 @@ module _ (e : Environment) (k : ℕ) (z : Unseen (alone (Declared k)) e) where
         by (inl c) = inl (constant_replies e t c q u r)
         by (inr (f, g, i)) = inr (f, quietly e D z.shared t a g i q u r)
 
-    calm_list : (i : ℕ) (ps : Trees) → AllPass init shape.Listed i ps → AllAvoid D ps → (σ : ℕ → Demand) → AllReply σ ps → AllCalm init (count ps) ps σ
+    first_or : (b : Bool) → (b || false) ≡ true → b ≡ true
+    first_or true e = refl
+    first_or false e = e
+
+    calm_list : (i : ℕ) (ps : Trees) → AllPass false init shape.Listed i ps → AllAvoid D ps → (σ : ℕ → Demand) → AllReply σ ps → AllCalm init (count ps) ps σ
     unfolding meaning
     calm_list i none p a σ u zero b r m = absurd b
     calm_list i none p a σ u (suc j) b r m = absurd b
     calm_list i (t ▸ ps) p a σ u (suc j) b r m = calm_list (suc i) ps p.1 a.1 (λ i. σ (suc i)) u.1 j b r m
-    calm_list i (t ▸ ps) p a σ u zero b r m = calm_part t p.0 a.0 (σ 0) u.0 r
+    calm_list i (t ▸ ps) p a σ u zero b r m = calm_part t (first_or (passes init t) p.0) a.0 (σ 0) u.0 r
+
+    -- a property, of an object, by its value
+    calm_field : (t : Tree) → is_field t ≡ true → passes init (part t 1) ≡ true → Avoids D t → Calm init AnEntry (means e t AnEntry) tt
+    calm_field t f p a = by (passes_by init (part t 1) varies p)
+      where
+        by : (is_constant (part t 1) ≡ true) ⊎ ((is_effect_free init ≡ true) × (is_effect_free (part t 1) ≡ true) × (is_item (part t 1) ≡ true)) → Calm init AnEntry (means e t AnEntry) tt
+        by (inl c) = inl (field_replies e t f (constant_replies e (part t 1) c (As Val) tt tt))
+        by (inr (g, h, i)) = inr (g, field_quietly e D z.shared t a f (λ s. quiet_there e (part t 1) h s))
+
+    calm_item : (t : Tree) → passes_item true init t ≡ true → Avoids D t → Calm init AnEntry (means e t AnEntry) tt
+    calm_item t p a = by (passes init t) refl p
+      where
+        by : (b : Bool) → passes init t ≡ b → (b || (is_field t && passes init (part t 1))) ≡ true → Calm init AnEntry (means e t AnEntry) tt
+        by true c p = calm_part t c a AnEntry tt tt
+        by false c p = let (f, g) = and_parts (is_field t) (passes init (part t 1)) p in calm_field t f g a
+
+    calm_items : (i : ℕ) (ps : Trees) → AllPass true init shape.Listed i ps → AllAvoid D ps → AllCalm init (count ps) ps (λ i. AnEntry)
+    unfolding meaning
+    calm_items i none p a zero b r m = absurd b
+    calm_items i none p a (suc j) b r m = absurd b
+    calm_items i (t ▸ ps) p a (suc j) b r m = calm_items (suc i) ps p.1 a.1 j b r m
+    calm_items i (t ▸ ps) p a zero b r m = calm_item t p.0 a.0
+
+    -- what is asked for nothing
+    calm_unasked : (ps : Trees) (σ : ℕ → Demand) → (Replies (σ 0) → ⊥) → AllReply σ ps → AllCalm init (count ps) ps σ
+    calm_unasked none σ n u zero b r m = absurd b
+    calm_unasked none σ n u (suc j) b r m = absurd b
+    calm_unasked (t ▸ ps) σ n u j b r m = absurd (n u.0)
 
     calm_one : (t : Tree) (ps : Trees) → passes init t ≡ true → Avoids D t → (σ : ℕ → Demand) → Replies (σ 0) → AllCalm init 1 (t ▸ ps) σ
     unfolding meaning
@@ -684,19 +737,22 @@ module _ (e : Environment) (k : ℕ) (z : Unseen (alone (Declared k)) e) where
     none_calm σ zero b r m = absurd b
     none_calm σ (suc j) b r m = absurd b
 
-    calm_before : (l : Lead) → AllPass init (shape_by (head_of l)) 0 (before l) → AllAvoid D (before l) → (fs : List Facts) (q : Demand) → AllReply (demand (shape_by (head_of l)) fs q) (valued_before l) → AllCalm init (count (earlier l)) (before l) (demand (shape_by (head_of l)) fs q)
-    calm_before (Against o t) p a fs q u = calm_one t none p.0 a.0 (λ i. As Val) u.0
-    calm_before (GivenLead t) p a fs q u = calm_one t none p.0 a.0 (first_demand Callee Items) u.0
-    calm_before (Filling t) p a fs q u = calm_one t none p.0 a.0 (first_demand (As Val) Items) u.0
-    calm_before (Keying t) p a fs q u = calm_one t none p.0 a.0 (λ i. As Val) u.0
-    calm_before (Following o t) p a fs q u = calm_one t none p.0 a.0 (logical_demand o (pass q)) u.0
-    calm_before (Branching t) p a fs q u = calm_one t none p.0 a.0 (first_demand (As Test) (As (pass q))) u.0
-    calm_before (Failing t d) p a fs q u = calm_one t (d ▸ none) p.0 a.0 (first_demand (As Test) (As (pass q))) u.0
-    calm_before (Storing o t) p a fs q u = calm_assigned o t p.0 a.0
-    calm_before (Fielding false t) p a fs q u = calm_key t (varied (is_word (shape_of t)) p.0)
-    calm_before (Fielding true t) p a fs q u = absurd (true≢false (sym (varied false p.0)))
-    calm_before (Listing ts) p a fs q u = calm_list 0 ts p a (demand shape.Listed fs q) u
-    calm_before l p a fs q u = none_calm (demand (shape_by (head_of l)) fs q)
+    calm_before : (m : Bool) (l : Lead) → AllPass m init (shape_by (head_of l)) 0 (before l) → AllAvoid D (before l) → (fs : List Facts) (q : Demand) → Entries m q → AllReply (demand (shape_by (head_of l)) fs q) (valued_before l) → AllCalm init (count (earlier l)) (before l) (demand (shape_by (head_of l)) fs q)
+    calm_before m (Against o t) p a fs q n u = calm_one t none p.0 a.0 (λ i. As Val) u.0
+    calm_before m (GivenLead t) p a fs q n u = calm_one t none p.0 a.0 (first_demand Callee Items) u.0
+    calm_before m (Filling t) p a fs q n u = calm_one t none p.0 a.0 (first_demand (As Val) Items) u.0
+    calm_before m (Keying t) p a fs q n u = calm_one t none p.0 a.0 (λ i. As Val) u.0
+    calm_before m (Following o t) p a fs q n u = calm_one t none p.0 a.0 (logical_demand o (pass q)) u.0
+    calm_before m (Branching t) p a fs q n u = calm_one t none p.0 a.0 (first_demand (As Test) (As (pass q))) u.0
+    calm_before m (Failing t d) p a fs q n u = calm_one t (d ▸ none) p.0 a.0 (first_demand (As Test) (As (pass q))) u.0
+    calm_before m (Storing o t) p a fs q n u = calm_assigned o t p.0 a.0
+    calm_before m (Fielding false t) p a fs q n u = calm_key t (varied (is_word (shape_of t)) p.0)
+    calm_before m (Fielding true t) p a fs q n u = absurd (true≢false (sym (varied false p.0)))
+    calm_before false (Listing ts) p a fs q n u = calm_list 0 ts p a (demand shape.Listed fs q) u
+    calm_before true (Listing ts) p a fs Items n u = calm_items 0 ts p a
+    calm_before true (Listing ts) p a fs AnEntry n u = calm_unasked ts (demand shape.Listed fs AnEntry) (λ r. r) u
+    calm_before true (Listing ts) p a fs q n u = absurd n
+    calm_before m l p a fs q n u = none_calm (demand (shape_by (head_of l)) fs q)
 
   module _ {A : Type 0} (init : Tree) (s : State) where
     abbrev Started : (Value → State → Completion A) → Completion A
@@ -797,24 +853,24 @@ module _ (e : Environment) (k : ℕ) (z : Unseen (alone (Declared k)) e) where
     abbrev read : Tree
     read = identifier (resolved spelling k)
 
-    pub first_goes : (c : Asked) (ss : List Step) → Well c ss → Spared x ss → Passed init ss → (q : Demand) → Suits c q (is_end ss) → (r : Request q) (s : State) → Go (next (means e init (As Val) tt s) (λ v t. means e (led ss read) q r (after v t))) (means e (led ss init) q r s)
-    first_goes AsValue [] w f p (As v) u r s = read_goes spelling init v s
-    first_goes AsValue [] w f p AnEntry u r s = entry_goes spelling init item s
-    first_goes AsValue [] w f p Callee u r s = absurd (true≢false u)
-    first_goes AsValue [] w f p q u r s = absurd u
-    first_goes c [] w f p q u r s = absurd w
-    first_goes c (s ∷ ss) w f p q u r z =
+    pub first_goes : (m : Bool) (c : Asked) (ss : List Step) → Well c ss → Spared x ss → PassedIn m init ss → (q : Demand) → Suits c q (is_end ss) → Entries m q → (r : Request q) (s : State) → Go (next (means e init (As Val) tt s) (λ v t. means e (led ss read) q r (after v t))) (means e (led ss init) q r s)
+    first_goes m AsValue [] w f p (As v) u n r s = read_goes spelling init v s
+    first_goes m AsValue [] w f p AnEntry u n r s = entry_goes spelling init item s
+    first_goes m AsValue [] w f p Callee u n r s = absurd (true≢false u)
+    first_goes m AsValue [] w f p q u n r s = absurd u
+    first_goes m c [] w f p q u n r s = absurd w
+    first_goes m c (s ∷ ss) w f p q u n r z =
         let h = shape_by (head_of s.lead) in
         let ps = before s.lead in
         let kids = λ (t : Tree). append ps (led ss t ▸ s.rest) in
         let is = summaries (kids read) in
         let σ = demand h (facts_all is) q in
-        let a = asks (is_effect_free init) c s.lead (is_end ss) w.0 (facts_all is) (there_before ps (led ss read) s.rest) q u r in
-        let sure = varied init varies (surely (is_effect_free init) s.lead) p.0.1 in
+        let a = asks (is_effect_free init) m c s.lead (is_end ss) w.0 (facts_all is) (there_before ps (led ss read) s.rest) q u n r in
+        let sure = varied init varies (surely m (is_effect_free init) s.lead) p.0.1 in
         let first = all_spared x named ps f.0.0 in
         let last = all_spared x named s.rest f.0.1 in
         let there = λ (y : State). node_is h q r (kids read) y in
         let put : means e (led (s ∷ ss) init) q r z ≡ by_summaries h q r is (kids init) z = node_is h q r (kids init) z ∙ ap (λ i. by_summaries h q r i (kids init) z) (sym (summaries_led s ss read init plain)) in
         subst₂ Go (sym (either_cong (means e init (As Val) tt z) _ _ _ _ (λ v y. there (after v y)) (λ y p. refl))) (sym put)
-        (reach_goes h q is σ ps (led ss read) (led ss init) s.rest init first last (count (earlier s.lead)) (earlier_within s.lead) (calm_before init varies s.lead p.0.0 first (facts_all is) q a.first)
-        (λ r' s'. first_goes (asked_below (head_of s.lead) c (place 0 ps)) ss w.1 f.1 p.1 (σ (count ps)) a.below r' s') (step h [] (facts_all is) q r) (a.reaches sure) z)
+        (reach_goes h q is σ ps (led ss read) (led ss init) s.rest init first last (count (earlier s.lead)) (earlier_within s.lead) (calm_before init varies m s.lead p.0.0 first (facts_all is) q n a.first)
+        (λ r' s'. first_goes (entries_below m h) (asked_below (head_of s.lead) c (place 0 ps)) ss w.1 f.1 p.1 (σ (count ps)) a.below (entries_there m c s.lead (is_end ss) w.0 (facts_all is) q u n) r' s') (step h [] (facts_all is) q r) (a.reaches sure) z)

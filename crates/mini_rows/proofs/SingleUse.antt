@@ -22,7 +22,7 @@ use Rattle.mini_terms.specs.Folds.{is_effect_free}
 use Rattle.mini_rows.specs.Sketches.{Head, AList, Array, Unary, Binary, Logical, Conditional, Sequence, Call, New, StaticMember, ComputedMember, Yield, Object, Property, Assignment, OfExpression, Throw, Return, If, shape_by, Asked, AsWholeItem, AsValue, AsValues, asked_below, Leap}
 use Rattle.mini_rows.specs.Lists.{declaration, Each, EachIn, EachOf, each_loop}
 use Rattle.mini_rows.specs.Declarations.{declarator}
-use Rattle.mini_rows.specs.Unused.{is_like_one, names, any_names, begins, goes_on, may_go_on, has_branches, leads, holds_list, is_childless, reads, is_first, leads_to, put_first, put_among, is_constant, passes_at, is_plain_assignment, is_sure, begins_with, is_reached, is_number_shape, suits, are_passed, all_passed, reads_first, is_declarator, declares_list, reads_declarator, reads_declarators, reads_initially, reads_outside, is_open_left, reads_over, reads_head, evaluated}
+use Rattle.mini_rows.specs.Unused.{is_like_one, names, any_names, begins, goes_on, may_go_on, has_branches, leads, holds_list, is_childless, reads, is_first, leads_to, put_first, put_among, is_constant, passes_at, is_plain_assignment, is_sure, entries_below, begins_with, is_reached, is_number_shape, suits, are_passed_in, are_passed, all_passed, reads_first, is_declarator, declares_list, reads_declarator, reads_declarators, reads_initially, reads_outside, is_open_left, reads_over, reads_head, evaluated}
 use Rattle.mini_rows.proofs.Arranging.{Plain, Below, sum_below, Local, Summed}
 use Rattle.mini_rows.proofs.ListKeptHeads.{Seat, Loop, Choice, seated, rest}
 
@@ -122,13 +122,13 @@ is_steady (Fielding c a) = false
 is_steady l = true
 
 -- it is evaluated whatever they are; where nothing is lost by it, it may be left out
-abbrev pub surely : Bool → Lead → Bool
-surely is_free (Following o a) = is_free
-surely is_free (Branching a) = is_free
-surely is_free (Failing a b) = is_free
-surely is_free (Storing o a) = is_plain_assignment o || is_free
-surely is_free (Fielding c a) = not c && is_free
-surely is_free l = true
+abbrev pub surely : Bool → Bool → Lead → Bool
+surely m is_free (Following o a) = is_free
+surely m is_free (Branching a) = is_free
+surely m is_free (Failing a b) = is_free
+surely m is_free (Storing o a) = is_plain_assignment o || is_free
+surely m is_free (Fielding c a) = not c && (m || is_free)
+surely m is_free l = true
 
 -- the place after some parts
 abbrev pub place : ℕ → Trees → ℕ
@@ -191,13 +191,13 @@ Spared x [] = Unit {0}
 Spared x (s ∷ ss) = ((any_names x (before s.lead) ≡ false) × (any_names x s.rest ≡ false)) × Spared x ss
 
 -- each of these, from a place on, may be evaluated before r
-abbrev pub AllPass : Tree → Shape → ℕ → Trees → Type 0
-AllPass r h i none = Unit {0}
-AllPass r h i (t ▸ ts) = (passes_at r h i t ≡ true) × AllPass r h (suc i) ts
+abbrev pub AllPass : Bool → Tree → Shape → ℕ → Trees → Type 0
+AllPass m r h i none = Unit {0}
+AllPass m r h i (t ▸ ts) = (passes_at m r h i t ≡ true) × AllPass m r h (suc i) ts
 
 -- it is evaluated whatever they are, or nothing is lost
-abbrev pub Sure : Tree → Lead → Type 0
-Sure r l = (is_constant r || surely (is_effect_free r) l) ≡ true
+abbrev pub Sure : Bool → Tree → Lead → Type 0
+Sure m r l = (is_constant r || surely m (is_effect_free r) l) ≡ true
 
 -- r may stand there
 abbrev pub suited : Tree → Lead → Bool → Bool
@@ -208,9 +208,12 @@ abbrev pub Suited : Tree → List Step → Type 0
 Suited r [] = Unit {0}
 Suited r (s ∷ ss) = (suited r s.lead (is_end ss) ≡ true) × Suited r ss
 
+abbrev pub PassedIn : Bool → Tree → List Step → Type 0
+PassedIn m r [] = Unit {0}
+PassedIn m r (s ∷ ss) = (AllPass m r (shape_by (head_of s.lead)) 0 (before s.lead) × Sure m r s.lead) × PassedIn (entries_below m (shape_by (head_of s.lead))) r ss
+
 abbrev pub Passed : Tree → List Step → Type 0
-Passed r [] = Unit {0}
-Passed r (s ∷ ss) = (AllPass r (shape_by (head_of s.lead)) 0 (before s.lead) × Sure r s.lead) × Passed r ss
+Passed = PassedIn false
 
 -- ---- a tree as such a path
 
@@ -223,8 +226,8 @@ pub record Path (x : Name) (c : Asked) (t : Tree) : Type 0 where
   pub is : t ≡ led steps (identifier read)
   pub puts : (r : Tree) → put_first x r t ≡ led steps r
   pub ends : is_end steps ≡ is_childless t
-  pub passed : (r : Tree) → are_passed x r t ≡ true → Passed r steps
-  pub suit : (r : Tree) → are_passed x r t ≡ true → Suited r steps
+  pub passed_in : (m : Bool) (r : Tree) → are_passed_in x m r t ≡ true → PassedIn m r steps
+  pub suit_in : (m : Bool) (r : Tree) → are_passed_in x m r t ≡ true → Suited r steps
 
 abbrev asked : Bool → Asked
 asked true = AsValues
@@ -240,7 +243,7 @@ record Leads (b c : Bool) (h : Shape) (ts : Trees) : Type 0 where
   front : before lead ≡ ts
   stands : Stands (asked b) lead c
   below : asked_below (head_of lead) (asked b) (place 0 (before lead)) ≡ asked (holds_list h (place 0 ts))
-  sure : (f : Bool) → (is_sure f h || is_empty ts) ≡ true → surely f lead ≡ true
+  sure : (m f : Bool) → (is_sure m f h || is_empty ts) ≡ true → surely m f lead ≡ true
   suit : (r t : Tree) (us : Trees) → is_childless t ≡ c → suits r h (append ts (t ▸ us)) ≡ true → suited r lead c ≡ true
 
 sure_there : (a : Bool) → (a || false) ≡ true → a ≡ true
@@ -252,37 +255,37 @@ not_leaf true e = absurd (true≢false (sym e))
 not_leaf false e = refl
 
 begun_by : (c : Bool) (h : Shape) → begins h c ≡ true → Leads false c h none
-begun_by c (shape.UnaryExpression LogicalNot) e = record { lead = Not; is = refl; front = refl; stands = tt; below = refl; sure = λ f q. refl; suit = λ r t us n e. refl }
-begun_by c (shape.UnaryExpression UnaryPlus) e = record { lead = Plus; is = refl; front = refl; stands = tt; below = refl; sure = λ f q. refl; suit = λ r t us n e. refl }
-begun_by c (shape.UnaryExpression UnaryNegation) e = record { lead = Minus; is = refl; front = refl; stands = tt; below = refl; sure = λ f q. refl; suit = λ r t us n e. ap (λ b. not (is_number_shape (shape_of r) && b)) (sym n) ∙ e }
-begun_by c (shape.UnaryExpression BitwiseNot) e = record { lead = Tilde; is = refl; front = refl; stands = tt; below = refl; sure = λ f q. refl; suit = λ r t us n e. refl }
-begun_by c (shape.UnaryExpression Void) e = record { lead = Emptying; is = refl; front = refl; stands = tt; below = refl; sure = λ f q. refl; suit = λ r t us n e. refl }
-begun_by c (shape.BinaryExpression o) e = record { lead = Beside o; is = refl; front = refl; stands = tt; below = refl; sure = λ f q. refl; suit = λ r t us n e. refl }
-begun_by c (shape.LogicalExpression o) e = record { lead = Deciding o; is = refl; front = refl; stands = tt; below = refl; sure = λ f q. refl; suit = λ r t us n e. refl }
-begun_by c shape.ConditionalExpression e = record { lead = Choosing; is = refl; front = refl; stands = tt; below = refl; sure = λ f q. refl; suit = λ r t us n e. refl }
-begun_by c shape.SequenceExpression e = record { lead = Passing; is = refl; front = refl; stands = tt; below = refl; sure = λ f q. refl; suit = λ r t us n e. refl }
-begun_by c (shape.CallExpression false) e = record { lead = Called; is = refl; front = refl; stands = not_leaf c e; below = refl; sure = λ f q. refl; suit = λ r t us n e. refl }
-begun_by c shape.NewExpression e = record { lead = Making; is = refl; front = refl; stands = tt; below = refl; sure = λ f q. refl; suit = λ r t us n e. refl }
-begun_by c shape.ArrayExpression e = record { lead = Holding; is = refl; front = refl; stands = tt; below = refl; sure = λ f q. refl; suit = λ r t us n e. refl }
-begun_by c shape.ObjectExpression e = record { lead = Gathering; is = refl; front = refl; stands = tt; below = refl; sure = λ f q. refl; suit = λ r t us n e. refl }
-begun_by c (shape.YieldExpression d) e = record { lead = Waiting d; is = refl; front = refl; stands = tt; below = refl; sure = λ f q. refl; suit = λ r t us n e. refl }
-begun_by c (shape.StaticMemberExpression false) e = record { lead = Member; is = refl; front = refl; stands = tt; below = refl; sure = λ f q. refl; suit = λ r t us n e. refl }
-begun_by c (shape.ComputedMemberExpression false) e = record { lead = Keyed; is = refl; front = refl; stands = tt; below = refl; sure = λ f q. refl; suit = λ r t us n e. refl }
+begun_by c (shape.UnaryExpression LogicalNot) e = record { lead = Not; is = refl; front = refl; stands = tt; below = refl; sure = λ m f q. refl; suit = λ r t us n e. refl }
+begun_by c (shape.UnaryExpression UnaryPlus) e = record { lead = Plus; is = refl; front = refl; stands = tt; below = refl; sure = λ m f q. refl; suit = λ r t us n e. refl }
+begun_by c (shape.UnaryExpression UnaryNegation) e = record { lead = Minus; is = refl; front = refl; stands = tt; below = refl; sure = λ m f q. refl; suit = λ r t us n e. ap (λ b. not (is_number_shape (shape_of r) && b)) (sym n) ∙ e }
+begun_by c (shape.UnaryExpression BitwiseNot) e = record { lead = Tilde; is = refl; front = refl; stands = tt; below = refl; sure = λ m f q. refl; suit = λ r t us n e. refl }
+begun_by c (shape.UnaryExpression Void) e = record { lead = Emptying; is = refl; front = refl; stands = tt; below = refl; sure = λ m f q. refl; suit = λ r t us n e. refl }
+begun_by c (shape.BinaryExpression o) e = record { lead = Beside o; is = refl; front = refl; stands = tt; below = refl; sure = λ m f q. refl; suit = λ r t us n e. refl }
+begun_by c (shape.LogicalExpression o) e = record { lead = Deciding o; is = refl; front = refl; stands = tt; below = refl; sure = λ m f q. refl; suit = λ r t us n e. refl }
+begun_by c shape.ConditionalExpression e = record { lead = Choosing; is = refl; front = refl; stands = tt; below = refl; sure = λ m f q. refl; suit = λ r t us n e. refl }
+begun_by c shape.SequenceExpression e = record { lead = Passing; is = refl; front = refl; stands = tt; below = refl; sure = λ m f q. refl; suit = λ r t us n e. refl }
+begun_by c (shape.CallExpression false) e = record { lead = Called; is = refl; front = refl; stands = not_leaf c e; below = refl; sure = λ m f q. refl; suit = λ r t us n e. refl }
+begun_by c shape.NewExpression e = record { lead = Making; is = refl; front = refl; stands = tt; below = refl; sure = λ m f q. refl; suit = λ r t us n e. refl }
+begun_by c shape.ArrayExpression e = record { lead = Holding; is = refl; front = refl; stands = tt; below = refl; sure = λ m f q. refl; suit = λ r t us n e. refl }
+begun_by c shape.ObjectExpression e = record { lead = Gathering; is = refl; front = refl; stands = tt; below = refl; sure = λ m f q. refl; suit = λ r t us n e. refl }
+begun_by c (shape.YieldExpression d) e = record { lead = Waiting d; is = refl; front = refl; stands = tt; below = refl; sure = λ m f q. refl; suit = λ r t us n e. refl }
+begun_by c (shape.StaticMemberExpression false) e = record { lead = Member; is = refl; front = refl; stands = tt; below = refl; sure = λ m f q. refl; suit = λ r t us n e. refl }
+begun_by c (shape.ComputedMemberExpression false) e = record { lead = Keyed; is = refl; front = refl; stands = tt; below = refl; sure = λ m f q. refl; suit = λ r t us n e. refl }
 begun_by c h e = absurd (true≢false (sym e))
 
 gone_on_by : (c : Bool) (h : Shape) (a : Tree) → (goes_on h || may_go_on h) ≡ true → Leads false c h (a ▸ none)
-gone_on_by c (shape.BinaryExpression o) a e = record { lead = Against o a; is = refl; front = refl; stands = tt; below = refl; sure = λ f q. refl; suit = λ r t us n e. refl }
-gone_on_by c (shape.CallExpression false) a e = record { lead = Given a; is = refl; front = refl; stands = tt; below = refl; sure = λ f q. refl; suit = λ r t us n e. refl }
-gone_on_by c shape.NewExpression a e = record { lead = Filling a; is = refl; front = refl; stands = tt; below = refl; sure = λ f q. refl; suit = λ r t us n e. refl }
-gone_on_by c (shape.ComputedMemberExpression false) a e = record { lead = Keying a; is = refl; front = refl; stands = tt; below = refl; sure = λ f q. refl; suit = λ r t us n e. refl }
-gone_on_by c (shape.LogicalExpression o) a e = record { lead = Following o a; is = refl; front = refl; stands = tt; below = refl; sure = λ f q. sure_there f q; suit = λ r t us n e. refl }
-gone_on_by c shape.ConditionalExpression a e = record { lead = Branching a; is = refl; front = refl; stands = tt; below = refl; sure = λ f q. sure_there f q; suit = λ r t us n e. refl }
-gone_on_by c (shape.AssignmentExpression o) a e = record { lead = Storing o a; is = refl; front = refl; stands = tt; below = refl; sure = λ f q. sure_there (is_plain_assignment o || f) q; suit = λ r t us n e. refl }
-gone_on_by c (shape.ObjectProperty Init false false d) a e = record { lead = Fielding d a; is = refl; front = refl; stands = tt; below = refl; sure = λ f q. sure_there (not d && f) q; suit = λ r t us n e. refl }
+gone_on_by c (shape.BinaryExpression o) a e = record { lead = Against o a; is = refl; front = refl; stands = tt; below = refl; sure = λ m f q. refl; suit = λ r t us n e. refl }
+gone_on_by c (shape.CallExpression false) a e = record { lead = Given a; is = refl; front = refl; stands = tt; below = refl; sure = λ m f q. refl; suit = λ r t us n e. refl }
+gone_on_by c shape.NewExpression a e = record { lead = Filling a; is = refl; front = refl; stands = tt; below = refl; sure = λ m f q. refl; suit = λ r t us n e. refl }
+gone_on_by c (shape.ComputedMemberExpression false) a e = record { lead = Keying a; is = refl; front = refl; stands = tt; below = refl; sure = λ m f q. refl; suit = λ r t us n e. refl }
+gone_on_by c (shape.LogicalExpression o) a e = record { lead = Following o a; is = refl; front = refl; stands = tt; below = refl; sure = λ m f q. sure_there f q; suit = λ r t us n e. refl }
+gone_on_by c shape.ConditionalExpression a e = record { lead = Branching a; is = refl; front = refl; stands = tt; below = refl; sure = λ m f q. sure_there f q; suit = λ r t us n e. refl }
+gone_on_by c (shape.AssignmentExpression o) a e = record { lead = Storing o a; is = refl; front = refl; stands = tt; below = refl; sure = λ m f q. sure_there (is_plain_assignment o || f) q; suit = λ r t us n e. refl }
+gone_on_by c (shape.ObjectProperty Init false false d) a e = record { lead = Fielding d a; is = refl; front = refl; stands = tt; below = refl; sure = λ m f q. sure_there (not d && (m || f)) q; suit = λ r t us n e. refl }
 gone_on_by c h a e = absurd (true≢false (sym e))
 
 branched_by : (c : Bool) (h : Shape) (a b : Tree) → has_branches h ≡ true → Leads false c h (a ▸ (b ▸ none))
-branched_by c shape.ConditionalExpression a b e = record { lead = Failing a b; is = refl; front = refl; stands = tt; below = refl; sure = λ f q. sure_there f q; suit = λ r t us n e. refl }
+branched_by c shape.ConditionalExpression a b e = record { lead = Failing a b; is = refl; front = refl; stands = tt; below = refl; sure = λ m f q. sure_there f q; suit = λ r t us n e. refl }
 branched_by c h a b e = absurd (true≢false (sym e))
 
 place_next : (i : ℕ) (ts : Trees) → place (suc i) ts ≡ suc (place i ts)
@@ -297,7 +300,7 @@ no_list_of zero = refl
 no_list_of (suc i) = refl
 
 lead_by : (b c : Bool) (h : Shape) (ts : Trees) → leads b h (place 0 ts) c ≡ true → Leads b c h ts
-lead_by true c shape.Listed ts e = record { lead = Listing ts; is = refl; front = refl; stands = tt; below = ap asked (sym (no_list_of (place 0 ts))); sure = λ f q. refl; suit = λ r t us n e. refl }
+lead_by true c shape.Listed ts e = record { lead = Listing ts; is = refl; front = refl; stands = tt; below = ap asked (sym (no_list_of (place 0 ts))); sure = λ m f q. refl; suit = λ r t us n e. refl }
 lead_by true c h ts e = absurd (true≢false (sym e))
 lead_by false c h none e = begun_by c h e
 lead_by false c h (a ▸ none) e = gone_on_by c h a e
@@ -323,7 +326,7 @@ record Among (x : Name) (b : Bool) (h : Shape) (i : ℕ) (ts : Trees) : Type 0 w
   leads : leads b h (place i first) (is_childless one) ≡ true
   path : Path x (asked (holds_list h (place i first))) one
   puts : (r : Tree) → put_among x r ts ≡ append first (put_first x r one ▸ rest)
-  passed : (r : Tree) → all_passed x r h i ts ≡ true → AllPass r h i first × (are_passed x r one ≡ true)
+  passed : (m : Bool) (r : Tree) → all_passed x m r h i ts ≡ true → AllPass m r h i first × (are_passed_in x (entries_below m h) r one ≡ true)
 
 this_one : (x : Name) (b : Bool) (h : Shape) (i : ℕ) (t : Tree) (ts : Trees) → names x t ≡ true → leads b h i (is_childless t) ≡ true → Path x (asked (holds_list h i)) t → any_names x ts ≡ false → Among x b h i (t ▸ ts)
 this_one x b h i t ts n l p f = record {
@@ -336,7 +339,7 @@ this_one x b h i t ts n l p f = record {
   leads = l;
   path = p;
   puts = λ r. ap (λ c. if c then put_first x r t ▸ ts else t ▸ put_among x r ts) n;
-  passed = λ r e. (tt, sym (ap (λ c. if c then are_passed x r t else (passes_at r h i t && all_passed x r h (suc i) ts)) n) ∙ e);
+  passed = λ m r e. (tt, sym (ap (λ c. if c then are_passed_in x (entries_below m h) r t else (passes_at m r h i t && all_passed x m r h (suc i) ts)) n) ∙ e);
 }
 
 later_one : (x : Name) (b : Bool) (h : Shape) (i : ℕ) (t : Tree) (ts : Trees) → names x t ≡ false → Among x b h (suc i) ts → Among x b h i (t ▸ ts)
@@ -350,9 +353,9 @@ later_one x b h i t ts n a = record {
   leads = a.leads;
   path = a.path;
   puts = λ r. ap (λ c. if c then put_first x r t ▸ ts else t ▸ put_among x r ts) n ∙ ap (λ us. t ▸ us) (a.puts r);
-  passed = λ r e.
-      let (p, q) = and_parts (passes_at r h i t) (all_passed x r h (suc i) ts) (sym (ap (λ c. if c then are_passed x r t else (passes_at r h i t && all_passed x r h (suc i) ts)) n) ∙ e) in
-      let (f, g) = a.passed r q in
+  passed = λ m r e.
+      let (p, q) = and_parts (passes_at m r h i t) (all_passed x m r h (suc i) ts) (sym (ap (λ c. if c then are_passed_in x (entries_below m h) r t else (passes_at m r h i t && all_passed x m r h (suc i) ts)) n) ∙ e) in
+      let (f, g) = a.passed m r q in
       ((p, f), g);
 }
 
@@ -370,23 +373,23 @@ at_front x true first one rest n e = refl
 at_front x false none one rest n e = refl
 at_front x false (p ▸ ps) one rest n e = absurd (true≢false (sym (first_true (names x p) (any_names x ps) e) ∙ n))
 
-sure_by : (x : Name) (r : Tree) (h : Shape) (first : Trees) (one : Tree) (rest : Trees) (s : Bool) → any_names x first ≡ false → ((is_sure (is_effect_free r) h || is_empty first) ≡ true → s ≡ true) → is_reached x r h (append first (one ▸ rest)) ≡ true → (is_constant r || s) ≡ true
-sure_by x r h first one rest s n f e = by (is_constant r) e
+sure_by : (x : Name) (m : Bool) (r : Tree) (h : Shape) (first : Trees) (one : Tree) (rest : Trees) (s : Bool) → any_names x first ≡ false → ((is_sure m (is_effect_free r) h || is_empty first) ≡ true → s ≡ true) → is_reached x m r h (append first (one ▸ rest)) ≡ true → (is_constant r || s) ≡ true
+sure_by x m r h first one rest s n f e = by (is_constant r) e
   where
-    by : (c : Bool) → (c || (is_sure (is_effect_free r) h || begins_with x (append first (one ▸ rest)))) ≡ true → (c || s) ≡ true
+    by : (c : Bool) → (c || (is_sure m (is_effect_free r) h || begins_with x (append first (one ▸ rest)))) ≡ true → (c || s) ≡ true
     by true e = refl
-    by false e = f (at_front x (is_sure (is_effect_free r) h) first one rest n e)
+    by false e = f (at_front x (is_sure m (is_effect_free r) h) first one rest n e)
 
 -- what is asked of the parts of a node
-record Parted (x : Name) (r : Tree) (h : Shape) (ts : Trees) : Type 0 where
+record Parted (x : Name) (m : Bool) (r : Tree) (h : Shape) (ts : Trees) : Type 0 where
   suit : suits r h ts ≡ true
-  reached : is_reached x r h ts ≡ true
-  all : all_passed x r h 0 ts ≡ true
+  reached : is_reached x m r h ts ≡ true
+  all : all_passed x m r h 0 ts ≡ true
 
-parted : (x : Name) (r : Tree) (h : Shape) (ts : Trees) → suits r h ts && (is_reached x r h ts && all_passed x r h 0 ts) ≡ true → Parted x r h ts
-parted x r h ts e =
-    let (p, q) = and_parts (suits r h ts) (is_reached x r h ts && all_passed x r h 0 ts) e in
-    let (a, b) = and_parts (is_reached x r h ts) (all_passed x r h 0 ts) q in
+parted : (x : Name) (m : Bool) (r : Tree) (h : Shape) (ts : Trees) → suits r h ts && (is_reached x m r h ts && all_passed x m r h 0 ts) ≡ true → Parted x m r h ts
+parted x m r h ts e =
+    let (p, q) = and_parts (suits r h ts) (is_reached x m r h ts && all_passed x m r h 0 ts) e in
+    let (a, b) = and_parts (is_reached x m r h ts) (all_passed x m r h 0 ts) q in
     record { suit = p; reached = a; all = b }
 
 one_step : (x : Name) (b : Bool) (h : Shape) (t : Tree) (ts : Trees) → Among x b h 0 (t ▸ ts) → Path x (asked b) (node h [] 0 (t ▸ ts))
@@ -404,16 +407,16 @@ one_step x b h t ts a =
       is = ap (node h [] 0) a.is ∙ along (identifier p.read) a.one p.is;
       puts = λ r. ap (node h [] 0) (a.puts r) ∙ along r (put_first x r a.one) (p.puts r);
       ends = refl;
-      passed = λ r e.
-          let d = parted x r h (t ▸ ts) e in
-          let (f, g) = a.passed r d.all in
-          let sure = sure_by x r h a.first a.one a.rest (surely (is_effect_free r) l.lead) a.earlier (l.sure (is_effect_free r)) (subst (λ us. is_reached x r h us ≡ true) a.is d.reached) in
-          ((subst₂ (λ k us. AllPass r k 0 us) (sym l.is) (sym l.front) f, sure), p.passed r g);
-      suit = λ r e.
-          let d = parted x r h (t ▸ ts) e in
-          let (f, g) = a.passed r d.all in
+      passed_in = λ m r e.
+          let d = parted x m r h (t ▸ ts) e in
+          let (f, g) = a.passed m r d.all in
+          let sure = sure_by x m r h a.first a.one a.rest (surely m (is_effect_free r) l.lead) a.earlier (l.sure m (is_effect_free r)) (subst (λ us. is_reached x m r h us ≡ true) a.is d.reached) in
+          ((subst₂ (λ k us. AllPass m r k 0 us) (sym l.is) (sym l.front) f, sure), subst (λ k. PassedIn (entries_below m k) r p.steps) (sym l.is) (p.passed_in (entries_below m h) r g));
+      suit_in = λ m r e.
+          let d = parted x m r h (t ▸ ts) e in
+          let (f, g) = a.passed m r d.all in
           let suit = l.suit r a.one a.rest refl (subst (λ us. suits r h us ≡ true) a.is d.suit) in
-          (ap (suited r l.lead) p.ends ∙ suit, p.suit r g);
+          (ap (suited r l.lead) p.ends ∙ suit, p.suit_in (entries_below m h) r g);
     }
 
 mutual
@@ -421,7 +424,7 @@ mutual
   path x true (node h ys n none) e = absurd (true≢false (sym e))
   path x false (node h ys n none) e =
       let (y, is, same) = read_is x (node h ys n none) e in
-      record { steps = []; read = y; well = tt; spared = tt; same = same; is = is; puts = λ r. refl; ends = refl; passed = λ r e. tt; suit = λ r e. tt }
+      record { steps = []; read = y; well = tt; spared = tt; same = same; is = is; puts = λ r. refl; ends = refl; passed_in = λ m r e. tt; suit_in = λ m r e. tt }
   path x b (node h [] zero (t ▸ ts)) e = one_step x b h t ts (among x b h 0 (t ▸ ts) e)
   path x b (node h [] (suc n) (t ▸ ts)) e = absurd (true≢false (sym e))
   path x b (node h (y ∷ ys) n (t ▸ ts)) e = absurd (true≢false (sym e))
@@ -459,7 +462,8 @@ pub record Statement (x : Name) (t : Tree) : Type 0 where
   pub lead : Lead
   pub stands : (b : Bool) → Stands AsWholeItem lead b
   pub front : before lead ≡ none
-  pub steady : (f : Bool) → surely f lead ≡ true
+  pub steady : (f : Bool) → surely false f lead ≡ true
+  pub low : entries_below false (shape_by (head_of lead)) ≡ false
   pub below : (c : Asked) → asked_below (head_of lead) c (place 0 (before lead)) ≡ AsValue
   pub inner : Tree
   pub rest : Trees
@@ -471,8 +475,8 @@ pub record Statement (x : Name) (t : Tree) : Type 0 where
   pub passed : (r : Tree) → are_passed x r t ≡ true → are_passed x r inner ≡ true
 
 -- of this lead
-stated : (x : Name) (l : Lead) (t : Tree) (ts : Trees) → ((b : Bool) → Stands AsWholeItem l b) → before l ≡ none → ((f : Bool) → surely f l ≡ true) → ((c : Asked) → asked_below (head_of l) c (place 0 (before l)) ≡ AsValue) → is_first x false t && not (any_names x ts) ≡ true → Statement x (node (shape_by (head_of l)) [] 0 (t ▸ ts))
-stated x l t ts s o d b e =
+stated : (x : Name) (l : Lead) (t : Tree) (ts : Trees) → ((b : Bool) → Stands AsWholeItem l b) → before l ≡ none → ((f : Bool) → surely false f l ≡ true) → entries_below false (shape_by (head_of l)) ≡ false → ((c : Asked) → asked_below (head_of l) c (place 0 (before l)) ≡ AsValue) → is_first x false t && not (any_names x ts) ≡ true → Statement x (node (shape_by (head_of l)) [] 0 (t ▸ ts))
+stated x l t ts s o d k b e =
     let (q, f) = and_parts (is_first x false t) (not (any_names x ts)) e in
     let n = mentioned x false t q in
     record {
@@ -480,6 +484,7 @@ stated x l t ts s o d b e =
       stands = s;
       front = o;
       steady = d;
+      low = k;
       below = b;
       inner = t;
       rest = ts;
@@ -488,15 +493,15 @@ stated x l t ts s o d b e =
       is = refl;
       puts = λ r. ap (λ c. node (shape_by (head_of l)) [] 0 (if c then put_first x r t ▸ ts else t ▸ put_among x r ts)) n;
       along = λ u. ap (λ us. node (shape_by (head_of l)) [] 0 (append us (u ▸ ts))) (sym o);
-      passed = λ r e. let h = shape_by (head_of l) in sym (ap (λ c. if c then are_passed x r t else (passes_at r h 0 t && all_passed x r h 1 ts)) n) ∙ (parted x r h (t ▸ ts) e).all;
+      passed = λ r e. let h = shape_by (head_of l) in sym (ap (λ m. are_passed_in x m r t) k) ∙ sym (ap (λ c. if c then are_passed_in x (entries_below false h) r t else (passes_at false r h 0 t && all_passed x false r h 1 ts)) n) ∙ (parted x false r h (t ▸ ts) e).all;
     }
 
 pub statement : (x : Name) (t : Tree) → reads_first x t ≡ true → Statement x t
 statement x (node h ys n none) e = absurd (true≢false (sym e))
-statement x (node shape.ExpressionStatement [] zero (t ▸ ts)) e = stated x Doing t ts (λ b. tt) refl (λ f. refl) (λ c. refl) e
-statement x (node shape.ReturnStatement [] zero (t ▸ ts)) e = stated x Giving t ts (λ b. tt) refl (λ f. refl) (λ c. refl) e
-statement x (node shape.ThrowStatement [] zero (t ▸ ts)) e = stated x Raising t ts (λ b. tt) refl (λ f. refl) (λ c. refl) e
-statement x (node shape.IfStatement [] zero (t ▸ ts)) e = stated x Testing t ts (λ b. tt) refl (λ f. refl) (λ c. refl) e
+statement x (node shape.ExpressionStatement [] zero (t ▸ ts)) e = stated x Doing t ts (λ b. tt) refl (λ f. refl) refl (λ c. refl) e
+statement x (node shape.ReturnStatement [] zero (t ▸ ts)) e = stated x Giving t ts (λ b. tt) refl (λ f. refl) refl (λ c. refl) e
+statement x (node shape.ThrowStatement [] zero (t ▸ ts)) e = stated x Raising t ts (λ b. tt) refl (λ f. refl) refl (λ c. refl) e
+statement x (node shape.IfStatement [] zero (t ▸ ts)) e = stated x Testing t ts (λ b. tt) refl (λ f. refl) refl (λ c. refl) e
 statement x t e = absurd (true≢false (sym e))
 
 -- a declaration does in its first initializer
@@ -577,8 +582,8 @@ pub record Outside (x : Name) (t : Tree) : Type 0 where
   pub evaluates : evaluated t ≡ t
   pub passed : (r : Tree) → are_passed x r t ≡ true → are_passed x r value ≡ true
 
-outside_of : (x : Name) (s : Seat) (h : Shape) (value : Tree) (ts : Trees) → ((u : Tree) → seated s u ≡ node h [] 0 (u ▸ ts)) → rest s ≡ ts → evaluated (seated s value) ≡ seated s value → is_first x false value && not (any_names x (rest_children 0 ts)) ≡ true → Outside x (seated s value)
-outside_of x s h value ts there same evaluates e =
+outside_of : (x : Name) (s : Seat) (h : Shape) (value : Tree) (ts : Trees) → ((u : Tree) → seated s u ≡ node h [] 0 (u ▸ ts)) → rest s ≡ ts → evaluated (seated s value) ≡ seated s value → entries_below false h ≡ false → is_first x false value && not (any_names x (rest_children 0 ts)) ≡ true → Outside x (seated s value)
+outside_of x s h value ts there same evaluates low e =
     let (a, b) = and_parts (is_first x false value) (not (any_names x (rest_children 0 ts))) e in
     let n = mentioned x false value a in
     record {
@@ -589,12 +594,12 @@ outside_of x s h value ts there same evaluates e =
       is = refl;
       puts = λ r. ap (put_first x r) (there value) ∙ ap (λ c. node h [] 0 (if c then put_first x r value ▸ ts else value ▸ put_among x r ts)) n ∙ sym (there (put_first x r value));
       evaluates = evaluates;
-      passed = λ r e. sym (ap (λ c. if c then are_passed x r value else (passes_at r h 0 value && all_passed x r h 1 ts)) n) ∙ (parted x r h (value ▸ ts) (sym (ap (are_passed x r) (there value)) ∙ e)).all;
+      passed = λ r e. sym (ap (λ m. are_passed_in x m r value) low) ∙ sym (ap (λ c. if c then are_passed_in x (entries_below false h) r value else (passes_at false r h 0 value && all_passed x false r h 1 ts)) n) ∙ (parted x false r h (value ▸ ts) (sym (ap (are_passed x r) (there value)) ∙ e)).all;
     }
 
 outside : (x : Name) (t : Tree) → reads_outside x t ≡ true → Outside x t
-outside x (node shape.SwitchStatement [] zero (value ▸ (cases ▸ none))) e = outside_of x (Choice cases) shape.SwitchStatement value (cases ▸ none) (λ u. refl) refl refl e
-outside x (node shape.ForStatement [] zero (value ▸ (u ▸ (v ▸ (w ▸ none))))) e = outside_of x (Loop u v w) shape.ForStatement value (u ▸ (v ▸ (w ▸ none))) (λ u. refl) refl refl e
+outside x (node shape.SwitchStatement [] zero (value ▸ (cases ▸ none))) e = outside_of x (Choice cases) shape.SwitchStatement value (cases ▸ none) (λ u. refl) refl refl refl e
+outside x (node shape.ForStatement [] zero (value ▸ (u ▸ (v ▸ (w ▸ none))))) e = outside_of x (Loop u v w) shape.ForStatement value (u ▸ (v ▸ (w ▸ none))) (λ u. refl) refl refl refl e
 outside x t e = absurd (true≢false (sym e))
 
 -- a loop over keys or values, and reads it in its right side

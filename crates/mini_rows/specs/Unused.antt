@@ -264,21 +264,43 @@ abbrev pub passes_branch : Tree → ℕ → Tree → Bool
 passes_branch r zero t = passes r t
 passes_branch r (suc i) t = true
 
--- so may what stands before the read, at a place of such a shape
-abbrev pub passes_at : Tree → Shape → ℕ → Tree → Bool
-passes_at r (shape.AssignmentExpression o) i t = passes_target r o t
-passes_at r shape.ConditionalExpression i t = passes_branch r i t
-passes_at r (shape.ObjectProperty k is_method is_shorthand is_computed) i t = passes_key r is_computed t
-passes_at r h i t = passes r t
+-- a property with a key that is written out
+abbrev pub is_field_shape : Shape → Bool
+is_field_shape (shape.ObjectProperty Init false is_shorthand false) = true
+is_field_shape h = false
 
--- what evaluates the part behind its first one whatever that gives; where r has no effect, it may be left out. A key that stands in
--- brackets is converted before
-abbrev pub is_sure : Bool → Shape → Bool
-is_sure is_free (shape.LogicalExpression o) = is_free
-is_sure is_free shape.ConditionalExpression = is_free
-is_sure is_free (shape.AssignmentExpression o) = is_plain_assignment o || is_free
-is_sure is_free (shape.ObjectProperty k is_method is_shorthand is_computed) = not is_computed && is_free
-is_sure is_free h = true
+abbrev pub is_field : Tree → Bool
+is_field t = is_field_shape (shape_of t) && (is_bare t 2 && is_word (shape_of (part t 0)))
+
+-- so may an item of a list, of which an entry is asked or isn't: of a property its value
+abbrev pub passes_item : Bool → Tree → Tree → Bool
+passes_item of_entries r t = passes r t || (of_entries && (is_field t && passes r (part t 1)))
+
+-- so may what stands before the read, at a place of such a shape
+abbrev pub passes_at : Bool → Tree → Shape → ℕ → Tree → Bool
+passes_at of_entries r (shape.AssignmentExpression o) i t = passes_target r o t
+passes_at of_entries r shape.ConditionalExpression i t = passes_branch r i t
+passes_at of_entries r (shape.ObjectProperty k is_method is_shorthand is_computed) i t = passes_key r is_computed t
+passes_at of_entries r shape.Listed i t = passes_item of_entries r t
+passes_at of_entries r h i t = passes r t
+
+-- what evaluates the part behind its first one whatever that gives; where r has no effect, it may be left out. A property does as an
+-- entry; a key that stands in brackets is converted before its value is evaluated
+abbrev pub is_sure : Bool → Bool → Shape → Bool
+is_sure of_entries is_free (shape.LogicalExpression o) = is_free
+is_sure of_entries is_free shape.ConditionalExpression = is_free
+is_sure of_entries is_free (shape.AssignmentExpression o) = is_plain_assignment o || is_free
+is_sure of_entries is_free (shape.ObjectProperty k is_method is_shorthand is_computed) = not is_computed && (of_entries || is_free)
+is_sure of_entries is_free h = true
+
+-- what asks its first part for entries: an array and an object; so does a list of which they are asked
+abbrev pub holds_entries : Shape → Bool
+holds_entries shape.ArrayExpression = true
+holds_entries shape.ObjectExpression = true
+holds_entries h = false
+
+abbrev pub entries_below : Bool → Shape → Bool
+entries_below of_entries h = holds_entries h || (of_entries && is_listed_shape h)
 
 -- the first of some parts mentions the name, or there is none
 abbrev pub begins_with : Name → Trees → Bool
@@ -286,8 +308,8 @@ begins_with x none = true
 begins_with x (t ▸ ts) = names x t
 
 -- the part that mentions the name is evaluated whatever those before it are; or it needn't be, since r is a constant or has no effect
-abbrev pub is_reached : Name → Tree → Shape → Trees → Bool
-is_reached x r h ts = is_constant r || (is_sure (is_effect_free r) h || begins_with x ts)
+abbrev pub is_reached : Name → Bool → Tree → Shape → Trees → Bool
+is_reached x of_entries r h ts = is_constant r || (is_sure of_entries (is_effect_free r) h || begins_with x ts)
 
 abbrev pub is_number_shape : Shape → Bool
 is_number_shape (shape.NumericLiteral n) = true
@@ -304,13 +326,17 @@ suits r h ts = not (is_minus h && (is_number_shape (shape_of r) && is_childless 
 -- each part that is evaluated before the variable is read may be evaluated before r, the read is reached whatever they are, and r may stand
 -- in its place
 abbrev mutual
-  pub are_passed : Name → Tree → Tree → Bool
-  are_passed x r (node h ys n ts) = suits r h ts && (is_reached x r h ts && all_passed x r h 0 ts)
+  pub are_passed_in : Name → Bool → Tree → Tree → Bool
+  are_passed_in x of_entries r (node h ys n ts) = suits r h ts && (is_reached x of_entries r h ts && all_passed x of_entries r h 0 ts)
 
   -- from a place on
-  pub all_passed : Name → Tree → Shape → ℕ → Trees → Bool
-  all_passed x r h i none = true
-  all_passed x r h i (t ▸ ts) = if names x t then are_passed x r t else (passes_at r h i t && all_passed x r h (suc i) ts)
+  pub all_passed : Name → Bool → Tree → Shape → ℕ → Trees → Bool
+  all_passed x of_entries r h i none = true
+  all_passed x of_entries r h i (t ▸ ts) = if names x t then are_passed_in x (entries_below of_entries h) r t else (passes_at of_entries r h i t && all_passed x of_entries r h (suc i) ts)
+
+-- of which no entry is asked
+abbrev pub are_passed : Name → Tree → Tree → Bool
+are_passed x = are_passed_in x false
 
 abbrev pub is_head_shape : Shape → Bool
 is_head_shape shape.ExpressionStatement = true

@@ -18,7 +18,7 @@ use Rattle.mini_node.specs.Walks.{next_child}
 use Rattle.mini_terms.specs.Folds.{is_effect_free}
 use Rattle.mini_rows.specs.Lists.{block, declaration}
 use Rattle.mini_rows.specs.Declarations.{binding, declarator}
-use Rattle.mini_rows.specs.Unused.{resolved, declared_among, declared_left, names, any_names, is_reached, leads, has_arguments, holds_list, is_childless, is_written_value, is_value_operator, is_constant, reads, is_first, leads_to, put_first, put_among, passes_branch, passes_at, is_sure, suits, are_passed, all_passed, is_head_shape, reads_first, reads_head, evaluated, may_move, lets_go, Row71}
+use Rattle.mini_rows.specs.Unused.{resolved, declared_among, declared_left, names, any_names, is_reached, leads, has_arguments, holds_list, is_childless, is_written_value, is_value_operator, is_constant, reads, is_first, leads_to, put_first, put_among, passes_branch, passes_at, is_sure, entries_below, suits, are_passed_in, are_passed, all_passed, is_head_shape, reads_first, reads_head, evaluated, may_move, lets_go, Row71}
 use Rattle.mini_unused.specs.RemoveUnusedDeclaration.{declares_name, is_lexical_shape, declares_list, may_lose, is_free_at, list_at}
 use Rattle.mini_unused.specs.SubstituteNext.{put_named}
 use Rattle.mini_unused.specs.SubstituteSingleUse.{mention_place, may_lead, all_pass, is_reached_at, may_reach, is_head, reads_here, last_place, is_declared_over, is_mentioned_around, reads_next, is_read_once, is_single_declarator, is_single, declaration_left, list_single}
@@ -57,9 +57,9 @@ pub no_leaf : (ts : Trees) → count ts ≡ 0 → is_childless (child_or_absent 
 no_leaf none e = refl
 no_leaf (t ▸ ts) e = absurd (omega (arith, e))
 
-pub reached_further : (r : Tree) (h : Shape) (i : ℕ) → (i ≡ 0 → ⊥) → is_reached_at r h i ≡ (is_constant r || is_sure (is_effect_free r) h)
-reached_further r h zero f = absurd (f refl)
-reached_further r h (suc i) f = refl
+pub reached_further : (m : Bool) (r : Tree) (h : Shape) (i : ℕ) → (i ≡ 0 → ⊥) → is_reached_at m r h i ≡ (is_constant r || is_sure m (is_effect_free r) h)
+reached_further m r h zero f = absurd (f refl)
+reached_further m r h (suc i) f = refl
 
 -- constants
 pub constant_literal : (t : Tree) → is_written_value (shape_of t) ≡ true → is_constant t ≡ true
@@ -190,63 +190,63 @@ place_within x (t ▸ ts) = by (names x t) refl (place_within x ts)
 
 -- ---- the parts before it
 
-pub all_start : (r : Tree) (h : Shape) (ts : Trees) → all_pass r h 0 (first_children 0 ts) ≡ true
-all_start r h none = refl
-all_start r h (t ▸ ts) = refl
+pub all_start : (m : Bool) (r : Tree) (h : Shape) (ts : Trees) → all_pass m r h 0 (first_children 0 ts) ≡ true
+all_start m r h none = refl
+all_start m r h (t ▸ ts) = refl
 
-pub all_step : (r : Tree) (h : Shape) (ts : Trees) (i : ℕ) (c : Tree) → i < count ts → c ≡ child_or_absent ts i → passes_at r h i c ≡ true → all_pass r h 0 (first_children i ts) ≡ true → all_pass r h 0 (first_children (i + 1) ts) ≡ true
-all_step r h ts i c l e p a = ap (λ j. all_pass r h 0 (first_children j ts)) (add-one i) ∙ go 0 ts i i (omega arith) l e p a
+pub all_step : (m : Bool) (r : Tree) (h : Shape) (ts : Trees) (i : ℕ) (c : Tree) → i < count ts → c ≡ child_or_absent ts i → passes_at m r h i c ≡ true → all_pass m r h 0 (first_children i ts) ≡ true → all_pass m r h 0 (first_children (i + 1) ts) ≡ true
+all_step m r h ts i c l e p a = ap (λ j. all_pass m r h 0 (first_children j ts)) (add-one i) ∙ go 0 ts i i (omega arith) l e p a
   where
-    go : (k : ℕ) (ts : Trees) (i j : ℕ) → j ≡ k + i → i < count ts → c ≡ child_or_absent ts i → passes_at r h j c ≡ true → all_pass r h k (first_children i ts) ≡ true → all_pass r h k (first_children (suc i) ts) ≡ true
+    go : (k : ℕ) (ts : Trees) (i j : ℕ) → j ≡ k + i → i < count ts → c ≡ child_or_absent ts i → passes_at m r h j c ≡ true → all_pass m r h k (first_children i ts) ≡ true → all_pass m r h k (first_children (suc i) ts) ≡ true
     go k none i j n l e p a = absurd (omega (arith, l))
-    go k (t ▸ ts) zero j n l e p a = and_both (passes_at r h k t) (all_pass r h (suc k) (first_children 0 ts)) (sym (λ m. passes_at r h (here m) (e m)) ∙ p) (start ts)
+    go k (t ▸ ts) zero j n l e p a = and_both (passes_at m r h k t) (all_pass m r h (suc k) (first_children 0 ts)) (sym (λ q. passes_at m r h (here q) (e q)) ∙ p) (start ts)
       where
         here : j ≡ k
         here = omega (arith, n)
 
-        start : (ts : Trees) → all_pass r h (suc k) (first_children 0 ts) ≡ true
+        start : (ts : Trees) → all_pass m r h (suc k) (first_children 0 ts) ≡ true
         start none = refl
         start (t ▸ ts) = refl
     go k (t ▸ ts) (suc i) j n l e p a =
-        let (x, y) = and_parts (passes_at r h k t) (all_pass r h (suc k) (first_children i ts)) a in
-        and_both (passes_at r h k t) (all_pass r h (suc k) (first_children (suc i) ts)) x (go (suc k) ts i j (omega (arith, n)) (omega (arith, l)) e p y)
+        let (x, y) = and_parts (passes_at m r h k t) (all_pass m r h (suc k) (first_children i ts)) a in
+        and_both (passes_at m r h k t) (all_pass m r h (suc k) (first_children (suc i) ts)) x (go (suc k) ts i j (omega (arith, n)) (omega (arith, l)) e p y)
 
-pub all_stopped : (r : Tree) (h : Shape) (ts : Trees) (i m : ℕ) (c : Tree) → i < count ts → i < m → c ≡ child_or_absent ts i → passes_at r h i c ≡ false → all_pass r h 0 (first_children m ts) ≡ false
-all_stopped r h ts i m c l k e p = go 0 ts i m i (omega arith) l k e p
+pub all_stopped : (m : Bool) (r : Tree) (h : Shape) (ts : Trees) (i w : ℕ) (c : Tree) → i < count ts → i < w → c ≡ child_or_absent ts i → passes_at m r h i c ≡ false → all_pass m r h 0 (first_children w ts) ≡ false
+all_stopped m r h ts i w c l k e p = go 0 ts i w i (omega arith) l k e p
   where
-    go : (n : ℕ) (ts : Trees) (i m j : ℕ) → j ≡ n + i → i < count ts → i < m → c ≡ child_or_absent ts i → passes_at r h j c ≡ false → all_pass r h n (first_children m ts) ≡ false
-    go n none i m j o l k e p = absurd (omega (arith, l))
+    go : (n : ℕ) (ts : Trees) (i w j : ℕ) → j ≡ n + i → i < count ts → i < w → c ≡ child_or_absent ts i → passes_at m r h j c ≡ false → all_pass m r h n (first_children w ts) ≡ false
+    go n none i w j o l k e p = absurd (omega (arith, l))
     go n (t ▸ ts) i zero j o l k e p = absurd (omega (arith, k))
-    go n (t ▸ ts) zero (suc m) j o l k e p = ap (λ b. b && all_pass r h (suc n) (first_children m ts)) (sym (λ q. passes_at r h (here q) (e q)) ∙ p)
+    go n (t ▸ ts) zero (suc w) j o l k e p = ap (λ b. b && all_pass m r h (suc n) (first_children w ts)) (sym (λ q. passes_at m r h (here q) (e q)) ∙ p)
       where
         here : j ≡ n
         here = omega (arith, o)
-    go n (t ▸ ts) (suc i) (suc m) j o l k e p = ap (λ b. passes_at r h n t && b) (go (suc n) ts i m j (omega (arith, o)) (omega (arith, l)) (omega (arith, k)) e p) ∙ and_false (passes_at r h n t)
+    go n (t ▸ ts) (suc i) (suc w) j o l k e p = ap (λ b. passes_at m r h n t && b) (go (suc n) ts i w j (omega (arith, o)) (omega (arith, l)) (omega (arith, k)) e p) ∙ and_false (passes_at m r h n t)
 
 -- up to a place, and there
-abbrev passed_there : Name → Tree → Shape → ℕ → Trees → ℕ → Bool
-passed_there x r h i ts p = all_pass r h i (first_children p ts) && are_passed x r (child_or_absent ts p)
+abbrev passed_there : Name → Bool → Tree → Shape → ℕ → Trees → ℕ → Bool
+passed_there x m r h i ts p = all_pass m r h i (first_children p ts) && are_passed_in x (entries_below m h) r (child_or_absent ts p)
 
-abbrev passed_one : Name → Tree → Shape → ℕ → Tree → Trees → Bool → Bool
-passed_one x r h i t ts c = if c then are_passed x r t else (passes_at r h i t && all_passed x r h (suc i) ts)
+abbrev passed_one : Name → Bool → Tree → Shape → ℕ → Tree → Trees → Bool → Bool
+passed_one x m r h i t ts c = if c then are_passed_in x (entries_below m h) r t else (passes_at m r h i t && all_passed x m r h (suc i) ts)
 
-passed_at : (x : Name) (r : Tree) (h : Shape) (i : ℕ) (ts : Trees) → mention_place x ts < count ts → all_passed x r h i ts ≡ passed_there x r h i ts (mention_place x ts)
-passed_at x r h i none l = absurd (omega (arith, l))
-passed_at x r h i (t ▸ ts) l = by (names x t) refl l (passed_at x r h (suc i) ts)
+passed_at : (x : Name) (m : Bool) (r : Tree) (h : Shape) (i : ℕ) (ts : Trees) → mention_place x ts < count ts → all_passed x m r h i ts ≡ passed_there x m r h i ts (mention_place x ts)
+passed_at x m r h i none l = absurd (omega (arith, l))
+passed_at x m r h i (t ▸ ts) l = by (names x t) refl l (passed_at x m r h (suc i) ts)
   where
-    by : (c : Bool) → names x t ≡ c → mention_place x (t ▸ ts) < count (t ▸ ts) → (mention_place x ts < count ts → all_passed x r h (suc i) ts ≡ passed_there x r h (suc i) ts (mention_place x ts)) → all_passed x r h i (t ▸ ts) ≡ passed_there x r h i (t ▸ ts) (mention_place x (t ▸ ts))
-    by true e l f = ap (passed_one x r h i t ts) e ∙ sym (ap (passed_there x r h i (t ▸ ts)) (place_here x t ts e))
+    by : (c : Bool) → names x t ≡ c → mention_place x (t ▸ ts) < count (t ▸ ts) → (mention_place x ts < count ts → all_passed x m r h (suc i) ts ≡ passed_there x m r h (suc i) ts (mention_place x ts)) → all_passed x m r h i (t ▸ ts) ≡ passed_there x m r h i (t ▸ ts) (mention_place x (t ▸ ts))
+    by true e l f = ap (passed_one x m r h i t ts) e ∙ sym (ap (passed_there x m r h i (t ▸ ts)) (place_here x t ts e))
     by false e l f =
         let later = place_later x t ts e in
-        ap (passed_one x r h i t ts) e ∙ ap (λ c. passes_at r h i t && c) (f (omega (arith, l, later))) ∙ and_assoc (passes_at r h i t) (all_pass r h (suc i) (first_children (mention_place x ts) ts)) (are_passed x r (child_or_absent ts (mention_place x ts))) ∙ sym (ap (passed_there x r h i (t ▸ ts)) later)
+        ap (passed_one x m r h i t ts) e ∙ ap (λ c. passes_at m r h i t && c) (f (omega (arith, l, later))) ∙ and_assoc (passes_at m r h i t) (all_pass m r h (suc i) (first_children (mention_place x ts) ts)) (are_passed_in x (entries_below m h) r (child_or_absent ts (mention_place x ts))) ∙ sym (ap (passed_there x m r h i (t ▸ ts)) later)
 
-passed_nowhere : (x : Name) (r : Tree) (h : Shape) (i : ℕ) (ts : Trees) → count ts ≤ mention_place x ts → all_passed x r h i ts ≡ all_pass r h i (first_children (count ts) ts)
-passed_nowhere x r h i none l = refl
-passed_nowhere x r h i (t ▸ ts) l = by (names x t) refl l (passed_nowhere x r h (suc i) ts)
+passed_nowhere : (x : Name) (m : Bool) (r : Tree) (h : Shape) (i : ℕ) (ts : Trees) → count ts ≤ mention_place x ts → all_passed x m r h i ts ≡ all_pass m r h i (first_children (count ts) ts)
+passed_nowhere x m r h i none l = refl
+passed_nowhere x m r h i (t ▸ ts) l = by (names x t) refl l (passed_nowhere x m r h (suc i) ts)
   where
-    by : (c : Bool) → names x t ≡ c → count (t ▸ ts) ≤ mention_place x (t ▸ ts) → (count ts ≤ mention_place x ts → all_passed x r h (suc i) ts ≡ all_pass r h (suc i) (first_children (count ts) ts)) → all_passed x r h i (t ▸ ts) ≡ (passes_at r h i t && all_pass r h (suc i) (first_children (count ts) ts))
+    by : (c : Bool) → names x t ≡ c → count (t ▸ ts) ≤ mention_place x (t ▸ ts) → (count ts ≤ mention_place x ts → all_passed x m r h (suc i) ts ≡ all_pass m r h (suc i) (first_children (count ts) ts)) → all_passed x m r h i (t ▸ ts) ≡ (passes_at m r h i t && all_pass m r h (suc i) (first_children (count ts) ts))
     by true e l f = let here = place_here x t ts e in absurd (omega (arith, l, here))
-    by false e l f = let later = place_later x t ts e in ap (passed_one x r h i t ts) e ∙ ap (λ c. passes_at r h i t && c) (f (omega (arith, l, later)))
+    by false e l f = let later = place_later x t ts e in ap (passed_one x m r h i t ts) e ∙ ap (λ c. passes_at m r h i t && c) (f (omega (arith, l, later)))
 
 -- the part that mentions the name, by its place
 or_all : (a b : Bool) → (a || (b || true)) ≡ true
@@ -259,60 +259,60 @@ or_none true b = refl
 or_none false true = refl
 or_none false false = refl
 
-reached_place : (x : Name) (r : Tree) (h : Shape) (ts : Trees) → is_reached x r h ts ≡ is_reached_at r h (mention_place x ts)
-reached_place x r h none = or_all (is_constant r) (is_sure (is_effect_free r) h)
-reached_place x r h (t ▸ ts) = by (names x t) refl
+reached_place : (x : Name) (m : Bool) (r : Tree) (h : Shape) (ts : Trees) → is_reached x m r h ts ≡ is_reached_at m r h (mention_place x ts)
+reached_place x m r h none = or_all (is_constant r) (is_sure m (is_effect_free r) h)
+reached_place x m r h (t ▸ ts) = by (names x t) refl
   where
-    by : (c : Bool) → names x t ≡ c → is_reached x r h (t ▸ ts) ≡ is_reached_at r h (mention_place x (t ▸ ts))
-    by true e = ap (λ c. is_constant r || (is_sure (is_effect_free r) h || c)) e ∙ or_all (is_constant r) (is_sure (is_effect_free r) h) ∙ sym (ap (is_reached_at r h) (place_here x t ts e))
-    by false e = ap (λ c. is_constant r || (is_sure (is_effect_free r) h || c)) e ∙ or_none (is_constant r) (is_sure (is_effect_free r) h) ∙ sym (ap (is_reached_at r h) (place_later x t ts e))
+    by : (c : Bool) → names x t ≡ c → is_reached x m r h (t ▸ ts) ≡ is_reached_at m r h (mention_place x (t ▸ ts))
+    by true e = ap (λ c. is_constant r || (is_sure m (is_effect_free r) h || c)) e ∙ or_all (is_constant r) (is_sure m (is_effect_free r) h) ∙ sym (ap (is_reached_at m r h) (place_here x t ts e))
+    by false e = ap (λ c. is_constant r || (is_sure m (is_effect_free r) h || c)) e ∙ or_none (is_constant r) (is_sure m (is_effect_free r) h) ∙ sym (ap (is_reached_at m r h) (place_later x t ts e))
 
-reached_by : (x : Name) (r : Tree) (h : Shape) (ts : Trees) (p : ℕ) → p ≡ mention_place x ts → is_reached x r h ts ≡ is_reached_at r h p
-reached_by x r h ts p e = reached_place x r h ts ∙ sym (ap (is_reached_at r h) e)
+reached_by : (x : Name) (m : Bool) (r : Tree) (h : Shape) (ts : Trees) (p : ℕ) → p ≡ mention_place x ts → is_reached x m r h ts ≡ is_reached_at m r h p
+reached_by x m r h ts p e = reached_place x m r h ts ∙ sym (ap (is_reached_at m r h) e)
 
-none_passed : (x : Name) (r : Tree) (h : Shape) (ts : Trees) (p : ℕ) → p ≡ mention_place x ts → all_pass r h 0 (first_children p ts) ≡ false → all_passed x r h 0 ts ≡ false
-none_passed x r h ts p e f = by (ltb p (count ts)) refl
+none_passed : (x : Name) (m : Bool) (r : Tree) (h : Shape) (ts : Trees) (p : ℕ) → p ≡ mention_place x ts → all_pass m r h 0 (first_children p ts) ≡ false → all_passed x m r h 0 ts ≡ false
+none_passed x m r h ts p e f = by (ltb p (count ts)) refl
   where
-    by : (b : Bool) → ltb p (count ts) ≡ b → all_passed x r h 0 ts ≡ false
+    by : (b : Bool) → ltb p (count ts) ≡ b → all_passed x m r h 0 ts ≡ false
     by true k =
         let less = ltb-true p (count ts) k in
-        passed_at x r h 0 ts (omega (arith, e, less)) ∙ sym (ap (passed_there x r h 0 ts) e) ∙ ap (λ c. c && are_passed x r (child_or_absent ts p)) f
+        passed_at x m r h 0 ts (omega (arith, e, less)) ∙ sym (ap (passed_there x m r h 0 ts) e) ∙ ap (λ c. c && are_passed_in x (entries_below m h) r (child_or_absent ts p)) f
     by false k =
         let more = ltb-false p (count ts) k in
         let within = place_within x ts in
         let same : count ts ≡ p = omega (arith, e, more, within) in
-        passed_nowhere x r h 0 ts (omega (arith, e, more)) ∙ ap (λ j. all_pass r h 0 (first_children j ts)) same ∙ f
+        passed_nowhere x m r h 0 ts (omega (arith, e, more)) ∙ ap (λ j. all_pass m r h 0 (first_children j ts)) same ∙ f
 
 -- what is asked of a node beside that
-abbrev before_passed : Name → Tree → Shape → Trees → Bool → Bool → Bool
-before_passed x r h ts a b = a && (b && all_passed x r h 0 ts)
+abbrev before_passed : Name → Bool → Tree → Shape → Trees → Bool → Bool → Bool
+before_passed x m r h ts a b = a && (b && all_passed x m r h 0 ts)
 
-pub passed_none : (x : Name) (r t : Tree) (p : ℕ) → p ≡ mention_place x (children t) → may_reach r t p ≡ false → are_passed x r t ≡ false
-passed_none x r (node h xs n ts) p e f = by (suits r h ts) (is_reached_at r h p) refl refl f
+pub passed_none : (x : Name) (m : Bool) (r t : Tree) (p : ℕ) → p ≡ mention_place x (children t) → may_reach m r t p ≡ false → are_passed_in x m r t ≡ false
+passed_none x m r (node h xs n ts) p e f = by (suits r h ts) (is_reached_at m r h p) refl refl f
   where
-    by : (a b : Bool) → suits r h ts ≡ a → is_reached_at r h p ≡ b → (a && (b && all_pass r h 0 (first_children p ts))) ≡ false → (suits r h ts && (is_reached x r h ts && all_passed x r h 0 ts)) ≡ false
-    by false b j k f = ap (λ c. c && (is_reached x r h ts && all_passed x r h 0 ts)) j
-    by true true j k f = (λ m. before_passed x r h ts (j m) ((reached_by x r h ts p e ∙ k) m)) ∙ none_passed x r h ts p e f
-    by true false j k f = λ m. before_passed x r h ts (j m) ((reached_by x r h ts p e ∙ k) m)
+    by : (a b : Bool) → suits r h ts ≡ a → is_reached_at m r h p ≡ b → (a && (b && all_pass m r h 0 (first_children p ts))) ≡ false → (suits r h ts && (is_reached x m r h ts && all_passed x m r h 0 ts)) ≡ false
+    by false b j k f = ap (λ c. c && (is_reached x m r h ts && all_passed x m r h 0 ts)) j
+    by true true j k f = (λ q. before_passed x m r h ts (j q) ((reached_by x m r h ts p e ∙ k) q)) ∙ none_passed x m r h ts p e f
+    by true false j k f = λ q. before_passed x m r h ts (j q) ((reached_by x m r h ts p e ∙ k) q)
 
 -- it is as what is asked of the parts before
-reached_all : (x : Name) (r : Tree) (h : Shape) (ts : Trees) (p : ℕ) → p ≡ mention_place x ts → (suits r h ts && (is_reached_at r h p && all_pass r h 0 (first_children p ts))) ≡ true → ((suits r h ts && (is_reached x r h ts && all_passed x r h 0 ts)) ≡ all_passed x r h 0 ts) × (all_pass r h 0 (first_children p ts) ≡ true)
-reached_all x r h ts p e f =
-    let (j, g) = and_parts (suits r h ts) (is_reached_at r h p && all_pass r h 0 (first_children p ts)) f in
-    let (k, a) = and_parts (is_reached_at r h p) (all_pass r h 0 (first_children p ts)) g in
-    (λ m. before_passed x r h ts (j m) ((reached_by x r h ts p e ∙ k) m), a)
+reached_all : (x : Name) (m : Bool) (r : Tree) (h : Shape) (ts : Trees) (p : ℕ) → p ≡ mention_place x ts → (suits r h ts && (is_reached_at m r h p && all_pass m r h 0 (first_children p ts))) ≡ true → ((suits r h ts && (is_reached x m r h ts && all_passed x m r h 0 ts)) ≡ all_passed x m r h 0 ts) × (all_pass m r h 0 (first_children p ts) ≡ true)
+reached_all x m r h ts p e f =
+    let (j, g) = and_parts (suits r h ts) (is_reached_at m r h p && all_pass m r h 0 (first_children p ts)) f in
+    let (k, a) = and_parts (is_reached_at m r h p) (all_pass m r h 0 (first_children p ts)) g in
+    (λ q. before_passed x m r h ts (j q) ((reached_by x m r h ts p e ∙ k) q), a)
 
-pub passed_all : (x : Name) (r t : Tree) (p : ℕ) → p ≡ mention_place x (children t) → count (children t) ≤ p → may_reach r t p ≡ true → are_passed x r t ≡ true
-passed_all x r (node h xs n ts) p e l f =
-    let (k, g) = reached_all x r h ts p e f in
+pub passed_all : (x : Name) (m : Bool) (r t : Tree) (p : ℕ) → p ≡ mention_place x (children t) → count (children t) ≤ p → may_reach m r t p ≡ true → are_passed_in x m r t ≡ true
+passed_all x m r (node h xs n ts) p e l f =
+    let (k, g) = reached_all x m r h ts p e f in
     let within = place_within x ts in
     let same : count ts ≡ p = omega (arith, e, l, within) in
-    k ∙ passed_nowhere x r h 0 ts (omega (arith, e, l)) ∙ ap (λ j. all_pass r h 0 (first_children j ts)) same ∙ g
+    k ∙ passed_nowhere x m r h 0 ts (omega (arith, e, l)) ∙ ap (λ j. all_pass m r h 0 (first_children j ts)) same ∙ g
 
-pub passed_below : (x : Name) (r t : Tree) (p : ℕ) → p ≡ mention_place x (children t) → p < count (children t) → may_reach r t p ≡ true → are_passed x r t ≡ are_passed x r (part t p)
-passed_below x r (node h xs n ts) p e l f =
-    let (k, g) = reached_all x r h ts p e f in
-    k ∙ passed_at x r h 0 ts (omega (arith, e, l)) ∙ sym (ap (passed_there x r h 0 ts) e) ∙ ap (λ c. c && are_passed x r (child_or_absent ts p)) g
+pub passed_below : (x : Name) (m : Bool) (r t : Tree) (p : ℕ) → p ≡ mention_place x (children t) → p < count (children t) → may_reach m r t p ≡ true → are_passed_in x m r t ≡ are_passed_in x (entries_below m (shape_of t)) r (part t p)
+passed_below x m r (node h xs n ts) p e l f =
+    let (k, g) = reached_all x m r h ts p e f in
+    k ∙ passed_at x m r h 0 ts (omega (arith, e, l)) ∙ sym (ap (passed_there x m r h 0 ts) e) ∙ ap (λ c. c && are_passed_in x (entries_below m h) r (child_or_absent ts p)) g
 
 -- of a statement
 

@@ -24,18 +24,18 @@ abbrev pub may_lead : Bool → Tree → ℕ → Bool
 may_lead in_list t i = leads in_list (shape_of t) i (is_childless (part t i)) && is_nameless t
 
 -- each of them, from a place of such a shape on, may be evaluated before r
-abbrev pub all_pass : Tree → Shape → ℕ → Trees → Bool
-all_pass r h i none = true
-all_pass r h i (t ▸ ts) = passes_at r h i t && all_pass r h (suc i) ts
+abbrev pub all_pass : Bool → Tree → Shape → ℕ → Trees → Bool
+all_pass m r h i none = true
+all_pass m r h i (t ▸ ts) = passes_at m r h i t && all_pass m r h (suc i) ts
 
 -- the part at the place is evaluated whatever those before it are, or r is a constant or has no effect
-abbrev pub is_reached_at : Tree → Shape → ℕ → Bool
-is_reached_at r h zero = true
-is_reached_at r h (suc i) = is_constant r || is_sure (is_effect_free r) h
+abbrev pub is_reached_at : Bool → Tree → Shape → ℕ → Bool
+is_reached_at m r h zero = true
+is_reached_at m r h (suc i) = is_constant r || is_sure m (is_effect_free r) h
 
 -- so it is, those before it may be evaluated before r, and r may stand there
-abbrev pub may_reach : Tree → Tree → ℕ → Bool
-may_reach r t i = suits r (shape_of t) (children t) && (is_reached_at r (shape_of t) i && all_pass r (shape_of t) 0 (first_children i (children t)))
+abbrev pub may_reach : Bool → Tree → Tree → ℕ → Bool
+may_reach m r t i = suits r (shape_of t) (children t) && (is_reached_at m r (shape_of t) i && all_pass m r (shape_of t) 0 (first_children i (children t)))
 
 -- a statement that evaluates its first part before all else
 abbrev pub is_head : Tree → Bool

@@ -301,25 +301,44 @@ fn passes_branch(init: &Node, at: usize, node: &Node) -> bool
     true
 }
 
+// A property with a key that is written out.
+fn is_field(node: &Node) -> bool
+    ensures field { result ≡ reading.is_field node.now }
+    ensures parts { result ≡ true → count (children node.now) ≡ 2 }
+{
+    matches!(
+        node.shape(),
+        Shape::ObjectProperty(PropertyKind::Init, false, _, false)
+    ) && (node.is_bare(2) && is_word(node.child(0).shape()))
+}
+
+// So may an item of a list, of which an entry is asked or isn't: of a property its value.
+fn passes_item(of_entries: bool, init: &Node, node: &Node) -> bool
+    ensures { result ≡ reading.passes_item of_entries init.now node.now }
+{
+    passes(init, node) || (of_entries && (is_field(node) && passes(init, node.child(1))))
+}
+
 // So may what stands before the read, at a place of such a shape.
-fn passes_at(init: &Node, shape: &Shape, at: usize, node: &Node) -> bool
-    ensures { result ≡ reading.passes_at init.now shape.now at node.now }
+fn passes_at(of_entries: bool, init: &Node, shape: &Shape, at: usize, node: &Node) -> bool
+    ensures { result ≡ reading.passes_at of_entries init.now shape.now at node.now }
 {
     match shape {
         Shape::AssignmentExpression(operator) => passes_target(init, operator, node),
         Shape::ConditionalExpression => passes_branch(init, at, node),
         Shape::ObjectProperty(_, _, _, is_computed) => passes_key(init, *is_computed, node),
+        Shape::Listed => passes_item(of_entries, init, node),
         _ => passes(init, node),
     }
 }
 
 // So may each of those before the place.
-fn all_pass(init: &Node, shape: &Shape, nodes: &Nodes, end: usize) -> bool
+fn all_pass(of_entries: bool, init: &Node, shape: &Shape, nodes: &Nodes, end: usize) -> bool
     requires { end ≤ count nodes.now }
-    ensures { result ≡ row.all_pass init.now shape.now 0 (first_children end nodes.now) }
+    ensures { result ≡ row.all_pass of_entries init.now shape.now 0 (first_children end nodes.now) }
 {
     for at in 0..end {
-        if !passes_at(init, shape, at, nodes.child(at)) {
+        if !passes_at(of_entries, init, shape, at, nodes.child(at)) {
             return false;
         }
     }
@@ -327,28 +346,30 @@ fn all_pass(init: &Node, shape: &Shape, nodes: &Nodes, end: usize) -> bool
 }
 
 // What evaluates the part behind its first one whatever that gives; where the initializer has no effect, it may be left out.
-fn is_sure(init: &Node, shape: &Shape) -> bool
-    ensures { result ≡ reading.is_sure (is_it_effect_free init.now) shape.now }
+fn is_sure(of_entries: bool, init: &Node, shape: &Shape) -> bool
+    ensures { result ≡ reading.is_sure of_entries (is_it_effect_free init.now) shape.now }
 {
     match shape {
         Shape::LogicalExpression(_) | Shape::ConditionalExpression => is_effect_free(init, true),
         Shape::AssignmentExpression(operator) => {
             is_plain_assignment(operator) || is_effect_free(init, true)
         }
-        Shape::ObjectProperty(_, _, _, is_computed) => !*is_computed && is_effect_free(init, true),
+        Shape::ObjectProperty(_, _, _, is_computed) => {
+            !*is_computed && (of_entries || is_effect_free(init, true))
+        }
         _ => true,
     }
 }
 
 // The part at the place is evaluated whatever those before it are, or the initializer is a constant or has no effect.
 #[tactic(auto, using(crate::proofs::SingleUses::reached_further))]
-fn is_reached(init: &Node, shape: &Shape, at: usize) -> bool
-    ensures { result ≡ row.is_reached_at init.now shape.now at }
+fn is_reached(of_entries: bool, init: &Node, shape: &Shape, at: usize) -> bool
+    ensures { result ≡ row.is_reached_at of_entries init.now shape.now at }
 {
     if at == 0 {
         return true;
     }
-    is_constant(init) || is_sure(init, shape)
+    is_constant(init) || is_sure(of_entries, init, shape)
 }
 
 fn is_minus(shape: &Shape) -> bool
@@ -382,28 +403,55 @@ fn suits(init: &Node, node: &Node) -> bool
 }
 
 // The part at the place is reached, those before it may be evaluated before the initializer, which may stand there.
-fn may_reach(init: &Node, node: &Node, at: usize) -> bool
+fn may_reach(of_entries: bool, init: &Node, node: &Node, at: usize) -> bool
     requires { at ≤ count (children node.now) }
-    ensures { result ≡ row.may_reach init.now node.now at }
+    ensures { result ≡ row.may_reach of_entries init.now node.now at }
 {
     suits(init, node)
-        && (is_reached(init, node.shape(), at) && all_pass(init, node.shape(), node.children(), at))
+        && (is_reached(of_entries, init, node.shape(), at)
+            && all_pass(of_entries, init, node.shape(), node.children(), at))
 }
 
-/// Each part that is evaluated before the variable is read may be evaluated before the initializer, the read is reached whatever they
-/// are, or nothing is lost where it isn't, and the initializer may stand in its place.
+// What asks its first part for entries: an array and an object.
+fn holds_entries(shape: &Shape) -> bool
+    ensures { result ≡ reading.holds_entries shape.now }
+{
+    matches!(shape, Shape::ArrayExpression | Shape::ObjectExpression)
+}
+
+// So does a list of which they are asked.
+fn entries_below(of_entries: bool, shape: &Shape) -> bool
+    ensures { result ≡ reading.entries_below of_entries shape.now }
+{
+    holds_entries(shape) || (of_entries && is_listed_shape(shape))
+}
+
+// Each part that is evaluated before the variable is read may be evaluated before the initializer, the read is reached whatever they
+// are, or nothing is lost where it isn't, and the initializer may stand in its place.
 #[tactic(auto, using(crate::proofs::SingleUses::smaller_at))]
-pub fn are_passed(name: &Name, init: &Node, node: &Node) -> bool
-    ensures { result ≡ reading.are_passed name.now init.now node.now }
+fn are_passed_in(name: &Name, of_entries: bool, init: &Node, node: &Node) -> bool
+    ensures { result ≡ reading.are_passed_in name.now of_entries init.now node.now }
 {
     let at = mention_place(name, node.children());
-    if !may_reach(init, node, at) {
+    if !may_reach(of_entries, init, node, at) {
         return false;
     }
     if at >= node.children().len() {
         return true;
     }
-    are_passed(name, init, node.child(at))
+    are_passed_in(
+        name,
+        entries_below(of_entries, node.shape()),
+        init,
+        node.child(at),
+    )
+}
+
+/// Of which no entry is asked.
+pub fn are_passed(name: &Name, init: &Node, node: &Node) -> bool
+    ensures { result ≡ reading.are_passed name.now init.now node.now }
+{
+    are_passed_in(name, false, init, node)
 }
 
 /// An expression reads the variable, after parts that pass the initializer.
