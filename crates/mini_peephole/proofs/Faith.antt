@@ -62,6 +62,16 @@ module _ (R : Position → Tree → Tree → Type 0) where
   stays (done p t) f = refl
   stays (more p t w u st r) f = absurd (no_step st f)
 
+-- a node on which the rows rest that rest on what is known of bodies is read by none of them
+read_by_none : (S : BodySets) (p : Position) (n : Tree) → IsSteadilySettled S p n → IsSteadilySettled S p n → ReadsNothing (SteadyRewrites S) p n
+read_by_none S p n x y w (inl c) = x.0 w c
+read_by_none S p n x y w (inr c) = x.1 w c
+
+nowhere_read : (u : Tree) → IsSteadilyRewritten u → Everywhere (ReadsNothing (SteadyRewrites (told_in u))) Elsewhere u
+nowhere_read u f =
+    let settled = IsSteadilySettled (told_in u) in
+    everywhere_with settled settled (ReadsNothing (SteadyRewrites (told_in u))) (read_by_none (told_in u)) Elsewhere u f f
+
 -- ---- the rules
 
 module _ (o : CompressOptions) (t : Tree) (f : IsRewrittenBy true o t) where
@@ -194,7 +204,7 @@ module _ (d : Data) (o : CompressOptions) (m : Minified) (t : Tree) (read : Acce
   still : (v : Tree) → Accepts (view m.program) v → IsSteadilyRewritten (faith.later m v) → m.steady ≡ true
   still v a f =
       let same : faith.later m v ≡ r.output = ap (faith.later m) (one_tree (view m.program) v again.0 a written) ∙ whole_is in
-      settles m.steady (λ s. let (w, moves) = (r.passes.lost s).1 in no_step (SteadyGives o r.output) moves.step (subst IsSteadilyRewritten same f))
+      settles m.steady (λ s. let (w, moves) = (r.passes.lost s).1 in no_step (SteadyGives o r.output) moves.step (nowhere_read r.output (subst IsSteadilyRewritten same f)))
 
   pub passes_bounded : PassesBounded d o m
   passes_bounded = record { settled = λ v w a b s. bounded v w a b; unsettled = λ s. (r.passes.made.stopped s).0; enough = enough; fixed = fixed; steady = still }
