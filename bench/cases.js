@@ -284,7 +284,6 @@ becomes(
   "new, spreads and sequences",
   "new (!a ? B : C)(...!d ? e : f); g(!h ? 1 : 2, ...i), !!(j, k) || l(); !!(m, n) && o();",
   "new (a ? C : B)(...d ? f : e), g(h ? 2 : 1, ...i), j, k || l(), m, n && o();",
-  { passes: 3 },
 );
 becomes("arrows that give objects", "x = () => ({ a: !b ? 1 : 2 }); y = (z, !w ? c : d);", "x = () => ({ a: b ? 2 : 1 }), y = (z, w ? d : c);", { kept: 2 });
 becomes(
