@@ -64,7 +64,8 @@ module _ (R : Position → Tree → Tree → Type 0) where
 
 -- a node on which the rows rest that rest on what is known of bodies is read by none of them
 read_by_none : (S : BodySets) (p : Position) (n : Tree) → IsSteadilySettled S p n → IsSteadilySettled S p n → ReadsNothing (SteadyRewrites S) p n
-read_by_none S p n x y w (inl c) = x.0 w c
+read_by_none S p n x y w (inl (inl c)) = x.0.0 w c
+read_by_none S p n x y w (inl (inr c)) = x.0.1 w c
 read_by_none S p n x y w (inr c) = x.1 w c
 
 nowhere_read : (u : Tree) → IsSteadilyRewritten u → Everywhere (ReadsNothing (SteadyRewrites (told_in u))) Elsewhere u
@@ -81,7 +82,8 @@ module _ (o : CompressOptions) (t : Tree) (f : IsRewrittenBy true o t) where
 
   neither : (p : Position) (n : Tree) → IsSettled (switches o) (writable_in t) p n → IsSteadilySettled (told_in t) p n → ReadsNothing AnyRow p n
   neither p n g h w (inl c) = g (record { to = w; contracts = c })
-  neither p n g h w (inr (inl r)) = h.0 w r
+  neither p n g h w (inr (inl (inl r))) = h.0.0 w r
+  neither p n g h w (inr (inl (inr r))) = h.0.1 w r
   neither p n g h w (inr (inr r)) = h.1 w r
 
   nowhere : Everywhere (ReadsNothing AnyRow) Elsewhere t

@@ -9,7 +9,7 @@ use Rattle.mini_model.specs.Weight.{weight, weights}
 use Rattle.mini_model.specs.Redex as first
 use Rattle.mini_model.specs.Rewriting.{Everywhere, EverywhereIn}
 use Rattle.mini_tree.specs.declared.options.CompressOptions.{CompressOptions}
-use Rattle.mini_tree.specs.Rule.{Both}
+use Rattle.mini_tree.specs.Rule.{Both, Either}
 use Rattle.mini_passes.specs.Passes.{Where, GivesBoth, RestsBoth}
 use Rattle.mini_passes.proofs.Everywhere.{everywhere_with}
 use Rattle.mini_laws.specs.Value.{VariableSet}
@@ -29,7 +29,11 @@ use Rattle.mini_logic.proofs.Joined as logic
 use Rattle.mini_syntax.specs.SubstituteReturnStatement as returns
 use Rattle.mini_switch.specs.MinimizeSwitchStatements as switch
 use Rattle.mini_rows.proofs.OwnArrowLawful.{steady_code_lawful}
+use Rattle.mini_rows.specs.Steady.{SteadyFunction}
+use Rattle.mini_steady.specs.Arrows.{SteadyArrow}
 use Rattle.mini_steady.specs.Told.{told_in}
+use Rattle.mini_past.specs.SubstitutePast.{HeadFunction}
+use Rattle.mini_past.proofs.Lawful.{head_lawful}
 use Rattle.mini_peephole.specs.Environments.{steady_in}
 use Rattle.mini_peephole.specs.Faithful.{switches, known_of, IsRewrittenBy}
 use Rattle.mini_peephole.specs.Rules.{Gives, Rests, AllGives, AllRests, SteadyGives, SteadyRests}
@@ -186,7 +190,9 @@ module _ (o : CompressOptions) (v : Tree) where
   steady_lawful q k =
       let K = let_go (switches o) in
       let W = writable_in q in
-      steady_wider (SteadyGives o q) K W W (told_in q) (steady_in v) (λ x h. h) (λ b. within_through (told_in q b) (told_in v b) (steady_in v b) (k b) (told_within v b)) (steady_code_lawful K W (told_in q))
+      let T = told_in q in
+      steady_wider (SteadyGives o q) K W W T (steady_in v) (λ x h. h) (λ b. within_through (told_in q b) (told_in v b) (steady_in v b) (k b) (told_within v b))
+      (steady_join (Either (SteadyFunction T) (SteadyArrow T)) (HeadFunction T) K W T (steady_code_lawful K W T) (head_lawful K W T))
 
   -- what passes make on the way to v
   pub both_lawful : (b : Bool) (q : Tree) → LawfulUnder (let_go (switches o)) (writable_in q) (known_of b v) (GivesBoth (AllGives o) (SteadyGives o) StaysTold b v q)

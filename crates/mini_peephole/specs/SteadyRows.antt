@@ -1,4 +1,5 @@
--- Which rows rest on what is known of the bodies of a program, S: those of the own code of functions and of arrow functions.
+-- Which rows rest on what is known of the bodies of a program, S: those of the own code of functions and of arrow functions, and those of a
+-- name of a function that is read once.
 use Rattle.mini_model.specs.declared.place.Position.{Position}
 use Rattle.mini_model.specs.declared.place.Position.TheVariants.{Elsewhere}
 use Rattle.mini_model.specs.Tree.{Tree}
@@ -9,13 +10,14 @@ use Rattle.mini_tree.specs.Rule.{Either, Both}
 use Rattle.mini_steady.specs.Arrows.{SteadyArrow, ArrowRests}
 use Rattle.mini_steady.specs.Functions.{Rests}
 use Rattle.mini_steady.specs.Told.{told_in}
+use Rattle.mini_past.specs.SubstitutePast.{HeadFunction, RestsPast}
 
 abbrev pub SteadyRewrites : BodySets → Position → Tree → Tree → Type 0
-SteadyRewrites S = Either (SteadyFunction S) (SteadyArrow S)
+SteadyRewrites S = Either (Either (SteadyFunction S) (SteadyArrow S)) (HeadFunction S)
 
 -- none reads a node in its place
 abbrev pub IsSteadilySettled : BodySets → Position → Tree → Type 0
-IsSteadilySettled S = Both (Rests S) (ArrowRests S)
+IsSteadilySettled S = Both (Both (Rests S) (ArrowRests S)) (RestsPast S)
 
 -- and nowhere in a program, by what a look at it tells of its bodies
 abbrev pub IsSteadilyRewritten : Tree → Type 0

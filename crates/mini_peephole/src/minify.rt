@@ -24,6 +24,7 @@ use mini_logic::{
     MinimizeUnary, MinimizeVoid,
 };
 use mini_passes::{SteadyPasses, run_steady_passes};
+use mini_past::SubstitutePast;
 use mini_steady::{MinimizeSteady, MinimizeSteadyArrows};
 use mini_stmt::{JoinLets, MinimizeStatements, TurnLoopGuards};
 use mini_switch::MinimizeSwitches;
@@ -212,9 +213,12 @@ const RULES: Then<Keeping, Naming> = Then {
 };
 
 // And those that rest on what is known of bodies, which act where no other does.
-const STEADY_RULES: Then<MinimizeSteady, MinimizeSteadyArrows> = Then {
-    first: MinimizeSteady,
-    second: MinimizeSteadyArrows,
+const STEADY_RULES: Then<Then<MinimizeSteady, MinimizeSteadyArrows>, SubstitutePast> = Then {
+    first: Then {
+        first: MinimizeSteady,
+        second: MinimizeSteadyArrows,
+    },
+    second: SubstitutePast,
 };
 
 // The answer for a resolved tree, which is rewritten in place.

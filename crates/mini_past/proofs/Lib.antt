@@ -1,0 +1,9 @@
+pub mod BoundNames
+pub mod PassedParts
+pub mod Places
+pub mod Lent
+pub mod Pairs
+pub mod PastRows
+pub mod InFunctions
+pub mod Written
+pub mod Lawful

@@ -1,0 +1,201 @@
+-- What is written is what the row says, and where nothing is written no row reads the statements.
+use Rattle.std.proofs.Common.{◌≡◌, ℕ, zero, suc, ◌<◌, Bool, true, false, List, [], ◌∷◌, refl, sym, ap, ◌∙◌, subst, inl, inr, true≢false, arith}
+use Rattle.std.specs.Prelude.{not, ◌⊎◌, ◌&&◌, ◌||◌, None}
+use Rattle.std.proofs.lemmas.Bool.{and_parts}
+use Rattle.mini_model.specs.declared.kind.VariableDeclarationKind.{VariableDeclarationKind}
+use Rattle.mini_model.specs.declared.name.Name.{Name}
+use Rattle.mini_model.specs.Tree.{Tree, Trees, none, ◌▸◌, listed, shape_of, children, count, child_or_absent}
+use Rattle.mini_model.specs.Paths.{append}
+use Rattle.mini_kept.specs.Without.{Assured}
+use Rattle.mini_laws.specs.Naming.{is_lexical}
+use Rattle.mini_laws.specs.ScopeList.{has_eval}
+use Rattle.mini_laws.specs.Value.{nothing}
+use Rattle.mini_node.specs.Children.{names_of, part, first_children, rest_children}
+use Rattle.mini_node.specs.Walks.{next_child}
+use Rattle.mini_rows.specs.Lists.{block, declaration}
+use Rattle.mini_rows.specs.Declarations.{binding, declarator}
+use Rattle.mini_rows.specs.Past.{held, are_past, Row71Past}
+use Rattle.mini_rows.specs.Unused.{resolved, declared_among, declared_left, names, any_names, is_constant, reads_first, put_first, may_move, lets_go}
+use Rattle.mini_unused.specs.RemoveUnusedDeclaration.{declares_name, declares_list, is_lexical_shape, list_at}
+use Rattle.mini_unused.specs.SubstituteNext.{put_named}
+use Rattle.mini_unused.specs.SubstituteSingleUse.{last_place, is_declared_over, is_mentioned_around, declaration_left, list_single}
+use Rattle.mini_unused.proofs.SingleUses.{last_is, next_there, rest_there, within_there}
+use Rattle.mini_unused.proofs.Unused.{parts_of, there_child, there_first, and_both, not_true, Declares, declares, a_declaration, left_is}
+use Rattle.mini_past.proofs.Pairs.{last_rest, last_there, none_after, with_two, neither}
+use Rattle.mini_past.specs.SubstitutePast.{reads_past, is_read_past, may_pass, declares_lexically, is_past_declarator, is_past, PastAt, PastGone}
+
+-- ---- what is written
+
+record Once (V : Assured) (x : Name) (o init : Tree) (ds : Trees) (j : ℕ) (ts : Trees) (i : ℕ) : Type 0 where
+  outer : names x o ≡ false
+  once : reads_first x (child_or_absent ts (suc i)) ≡ true
+  passed : are_past (held V ts) x init (child_or_absent ts (suc i)) ≡ true
+  initial : names x init ≡ false
+  declared_earlier : any_names x (first_children j ds) ≡ false
+  earlier : any_names x (first_children i ts) ≡ false
+  later : any_names x (rest_children (suc (suc i)) ts) ≡ false
+
+read_once : (V : Assured) (x : Name) (o init : Tree) (ds : Trees) (j : ℕ) (ts : Trees) (i : ℕ) → is_read_past V (x ∷ []) o init ds j ts i ≡ true → Once V x o init ds j ts i
+read_once V x o init ds j ts i e =
+    let a = reads_past (held V ts) x init (child_or_absent ts (suc i)) in
+    let (n, e) = and_parts (not (names x o)) (a && (not (is_declared_over x init ds j) && not (is_mentioned_around x ts i))) e in
+    let (p, q) = and_parts a (not (is_declared_over x init ds j) && not (is_mentioned_around x ts i)) e in
+    let (r, s) = and_parts (not (is_declared_over x init ds j)) (not (is_mentioned_around x ts i)) q in
+    let (t, u) = neither (names x init) (any_names x (first_children j ds)) r in
+    let (w, v) = neither (any_names x (rest_children (suc (suc i)) ts)) (any_names x (first_children i ts)) s in
+    let (f, g) = and_parts (reads_first x (child_or_absent ts (suc i))) (are_past (held V ts) x init (child_or_absent ts (suc i))) p in
+    record { outer = not_true (names x o) n; once = f; passed = g; initial = t; declared_earlier = u; earlier = v; later = w }
+
+module _ (V : Assured) (o : Tree) (ts : Trees) (i : ℕ) (next : suc i < count ts) (some : 0 < count (children (list_at ts i))) (past : is_past V o ts i ≡ true) (unseen : has_eval (block (o ▸ ts)) ≡ false) where
+  abbrev statement : Tree
+  statement = child_or_absent ts i
+
+  abbrev ds : Trees
+  ds = children (part statement 0)
+
+  abbrev j : ℕ
+  j = last_place ds
+
+  abbrev d : Tree
+  d = child_or_absent ds j
+
+  abbrev init : Tree
+  init = part d 1
+
+  abbrev head : Tree
+  head = child_or_absent ts (suc i)
+
+  abbrev before : Trees
+  before = first_children i ts
+
+  abbrev after : Trees
+  after = rest_children (suc (suc i)) ts
+
+  abbrev first : Trees
+  first = first_children j ds
+
+  abbrev once_there : Bool
+  once_there = is_read_past V (names_of (part d 0)) o init ds j ts i
+
+  tests : (declares_list statement ≡ true) × (is_lexical_shape (shape_of statement) ≡ true) × (declares_name d ≡ true) × (may_move init ≡ true) × (is_constant init ≡ false) × (once_there ≡ true)
+  tests =
+      let (a, p) = and_parts (declares_lexically statement) (declares_name d && (may_pass init && once_there)) past in
+      let (b, c) = and_parts (declares_list statement) (is_lexical_shape (shape_of statement)) a in
+      let (e, q) = and_parts (declares_name d) (may_pass init && once_there) p in
+      let (f, r) = and_parts (may_pass init) once_there q in
+      let (g, h) = and_parts (may_move init) (not (is_constant init)) f in
+      (b, c, e, g, not_true (is_constant init) h, r)
+
+  abbrev kind : VariableDeclarationKind
+  kind = (a_declaration statement tests.0).0
+
+  let_there : statement ≡ declaration kind ds
+  let_there = (a_declaration statement tests.0).1
+
+  abbrev one : Declares d
+  one = declares d tests.2
+
+  abbrev x : Name
+  x = resolved one.spelling one.symbol
+
+  goes : lets_go nothing kind one.symbol ≡ true
+  goes = ap (λ b. b || false) (sym (ap (λ t. is_lexical_shape (shape_of t)) let_there) ∙ tests.1)
+
+  reading : Once V x o init ds j ts i
+  reading = read_once V x o init ds j ts i (sym (ap (λ y. is_read_past V (names_of (part y 0)) o init ds j ts i) one.is) ∙ tests.5)
+
+  last_within : j < count ds
+  last_within = let same = last_is ds some in omega (arith, same)
+
+  statement_is : statement ≡ declared_among kind x first init none
+  statement_is = let_there ∙ ap (declaration kind) (parts_of ds j last_within ∙ ap (λ us. append first (d ▸ us)) (last_rest ds) ∙ ap (λ y. append first (y ▸ none)) one.is)
+
+  list_is : ts ≡ append before (declared_among kind x first init none ▸ (head ▸ after))
+  list_is = parts_of ts i (let within = next in omega (arith, within)) ∙ ap (λ us. append before (statement ▸ us)) (next_child ts (suc i) next) ∙ ap (λ y. append before (y ▸ (head ▸ after))) statement_is
+
+  left_there : declaration_left statement j ≡ declared_left kind first
+  left_there = ap (λ y. declaration_left y j) let_there ∙ left_is kind ds j last_within ∙ ap (λ us. declared_left kind (append first us)) (last_rest ds) ∙ ap (declared_left kind) (none_after first)
+
+  named_there : put_named (names_of (part d 0)) init head ≡ put_first x init head
+  named_there = ap (λ y. put_named (names_of (part y 0)) init head) one.is
+
+  written_is : children (list_single (listed ts) i j) ≡ append before (declared_left kind first ▸ (put_first x init head ▸ after))
+  written_is = with_two ts i (declaration_left statement j) (put_named (names_of (part d 0)) init head) next ∙ (λ k. append before (left_there k ▸ (named_there k ▸ after)))
+
+  pub row_there : Row71Past V nothing o ts (children (list_single (listed ts) i j))
+  row_there = record {
+    before = before;
+    kind = kind;
+    first = first;
+    spelling = one.spelling;
+    symbol = one.symbol;
+    init = init;
+    head = head;
+    after = after;
+    goes = goes;
+    moves = tests.3;
+    varies = tests.4;
+    once = reading.once;
+    passed = reading.passed;
+    outer = reading.outer;
+    earlier = reading.earlier;
+    declared_earlier = reading.declared_earlier;
+    initial = reading.initial;
+    later = reading.later;
+    unseen = unseen;
+    shape = list_is;
+    written = written_is;
+  }
+
+-- ---- where nothing is written no row reads it
+
+module _ (V : Assured) (o : Tree) (ts us : Trees) (r : Row71Past V nothing o ts us) where
+  abbrev named : Name
+  named = resolved r.spelling r.symbol
+
+  abbrev declared : Tree
+  declared = declarator (binding named) r.init
+
+  abbrev declarators : Trees
+  declarators = append r.first (declared ▸ none)
+
+  abbrev stated : Tree
+  stated = declaration r.kind declarators
+
+  abbrev statements : Trees
+  statements = append r.before (stated ▸ (r.head ▸ r.after))
+
+  once_is : is_read_past V (named ∷ []) o r.init declarators (count r.first) statements (count r.before) ≡ true
+  once_is =
+      let y = named in
+      let all = λ (n a b c d f : Bool). not n && (a && (not (b || c) && not (d || f))) in
+      let passed = sym (ap (λ ts. are_past (held V ts) y r.init r.head) r.shape) ∙ r.passed in
+      let head_there = ap (reads_past (held V statements) y r.init) (next_there r.before stated r.head r.after) ∙ and_both (reads_first y r.head) (are_past (held V statements) y r.init r.head) r.once passed in
+      let first_ds = ap (any_names y) (there_first r.first declared none) ∙ r.declared_earlier in
+      let first_ts = ap (any_names y) (there_first r.before stated (r.head ▸ r.after)) ∙ r.earlier in
+      let rest_ts = ap (any_names y) (rest_there r.before stated r.head r.after) ∙ r.later in
+      λ k. all (r.outer k) (head_there k) (r.initial k) (first_ds k) (rest_ts k) (first_ts k)
+
+  lexical : is_lexical r.kind ≡ true
+  lexical = by (is_lexical r.kind) r.goes
+    where
+      by : (b : Bool) → (b || false) ≡ true → b ≡ true
+      by true e = refl
+      by false e = e
+
+  past_there : is_past V o ts (count r.before) ≡ true
+  past_there =
+      let i = count r.before in
+      let passes = and_both (may_move r.init) (not (is_constant r.init)) r.moves (ap not r.varies) in
+      ap (λ v. is_past V o v i) r.shape
+      ∙ ap (λ c. declares_lexically c && is_past_declarator V (part c 0) (last_place (children (part c 0))) o statements i) (there_child r.before stated (r.head ▸ r.after))
+      ∙ and_both (is_lexical r.kind) (is_past_declarator V (part stated 0) (last_place declarators) o statements i) lexical
+      (ap (λ j. is_past_declarator V (part stated 0) j o statements i) (last_there r.first declared)
+      ∙ ap (λ c. declares_name c && (may_pass (part c 1) && is_read_past V (names_of (part c 0)) o (part c 1) declarators (count r.first) statements i)) (there_child r.first declared none)
+      ∙ and_both (may_pass r.init) (is_read_past V (named ∷ []) o r.init declarators (count r.first) statements i) passes once_is)
+
+  past_within : suc (count r.before) < count ts
+  past_within = subst (λ v. suc (count r.before) < count v) (sym r.shape) (within_there r.before stated r.head r.after)
+
+pub none_past : (V : Assured) (o : Tree) (ts : Trees) → ((i : ℕ) → suc i < count ts → is_past V o ts i ≡ false) → (us : Trees) → Row71Past V nothing o ts us → ⊥
+none_past V o ts f us r = true≢false (sym (past_there V o ts us r) ∙ f (count r.before) (past_within V o ts us r))

@@ -1,0 +1,2 @@
+pub mod SubstitutePast
+pub mod Lighter

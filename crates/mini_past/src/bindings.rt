@@ -1,0 +1,62 @@
+//! Whether a name with a symbol is declared in a tree.
+
+ghost use Rattle.std.specs.Prelude.{◌≡◌};
+ghost use Rattle.mini_node.specs.Children.{names};
+ghost use Rattle.mini_rows.specs.Past as reading;
+ghost use Rattle.mini_past.specs.SubstitutePast as row;
+
+use mini_model::{Name, Shape, SymbolId};
+use mini_node::{Node, Nodes};
+
+fn is_symbol(symbol: SymbolId, other: Option<SymbolId>) -> bool
+    ensures { result ≡ reading.is_symbol symbol.0 other }
+{
+    match other {
+        Some(other) => other.0 == symbol.0,
+        None => false,
+    }
+}
+
+#[tactic(auto, using(crate::proofs::BoundNames::or_none))]
+fn has_symbol(symbol: SymbolId, name: &Option<Name>) -> bool
+    ensures { result ≡ reading.has_symbol symbol.0 (names name.now) }
+{
+    match name {
+        Some(name) => is_symbol(symbol, name.symbol),
+        None => false,
+    }
+}
+
+fn is_binding(shape: &Shape) -> bool
+    ensures { result ≡ reading.is_binding shape.now }
+{
+    matches!(shape, Shape::BindingIdentifier)
+}
+
+// It declares one.
+fn declares(symbol: SymbolId, node: &Node) -> bool
+    ensures { result ≡ row.declares symbol.0 node.now }
+{
+    is_binding(node.shape()) && has_symbol(symbol, node.name())
+}
+
+/// Whether one is declared in a tree.
+#[cycle(bindings)]
+pub fn binds(symbol: SymbolId, node: &Node) -> bool
+    ensures { result ≡ reading.binds symbol.0 node.now }
+{
+    declares(symbol, node) || any_bind(symbol, node.children())
+}
+
+/// Whether one is declared in one of these nodes.
+#[cycle(bindings)]
+pub fn any_bind(symbol: SymbolId, nodes: &Nodes) -> bool
+    ensures { result ≡ reading.any_bind symbol.0 nodes.now }
+{
+    for at in 0..nodes.len() {
+        if binds(symbol, nodes.child(at)) {
+            return true;
+        }
+    }
+    false
+}

@@ -1,0 +1,142 @@
+//! What may be evaluated before an initializer, whatever that does: constants, and names that are steady and initialised.
+
+ghost use Rattle.std.specs.Prelude.{◌≡◌};
+ghost use Rattle.mini_laws.specs.Value.{Declared};
+ghost use Rattle.mini_node.specs.Children.{names as names_in};
+ghost use Rattle.mini_rows.specs.Past as reading;
+ghost use Rattle.mini_rows.specs.Past.{held};
+ghost use Rattle.mini_rows.specs.Unused.{begins_with as it_begins_with};
+ghost use Rattle.mini_past.specs.SubstitutePast as row;
+
+use crate::bindings::{any_bind, binds};
+use crate::reads::{is_constant, may_go_on};
+use crate::writing::writes;
+use mini_model::{Name, SymbolId};
+use mini_node::{Node, Nodes, is_identifier};
+use mini_steady::SteadyNames;
+use mini_unused::is_mentioned;
+
+// The initializer neither declares nor writes it.
+fn leaves(init: &Node, name: &Name, symbol: SymbolId) -> bool
+    ensures { result ≡ reading.leaves init.now name.now symbol.0 }
+{
+    !binds(symbol, init) && !writes(name, init)
+}
+
+// It keeps the value with which the body starts.
+fn is_held_variable<S: SteadyNames>(
+    symbol: SymbolId,
+    statements: &Nodes,
+    body: u32,
+    steady: &S,
+) -> bool
+    ensures { result ≡ held (S.sets steady.now body) statements.now (Declared symbol.0) }
+{
+    steady.is_steady(symbol, body)
+        && (steady.is_initial(symbol, body) && !any_bind(symbol, statements))
+}
+
+// So does the variable of the name, which the initializer leaves as it is.
+fn is_held_symbol<S: SteadyNames>(
+    name: &Name,
+    init: &Node,
+    statements: &Nodes,
+    body: u32,
+    steady: &S,
+) -> bool
+    ensures { result ≡ reading.is_held_symbol (held (S.sets steady.now body) statements.now) init.now name.now name.now.symbol }
+{
+    match name.symbol {
+        Some(symbol) => {
+            is_held_variable(symbol, statements, body, steady) && leaves(init, name, symbol)
+        }
+        None => false,
+    }
+}
+
+fn is_held_name<S: SteadyNames>(
+    name: &Option<Name>,
+    init: &Node,
+    statements: &Nodes,
+    body: u32,
+    steady: &S,
+) -> bool
+    ensures { result ≡ reading.is_held_name (held (S.sets steady.now body) statements.now) init.now (names_in name.now) }
+{
+    match name {
+        Some(name) => is_held_symbol(name, init, statements, body, steady),
+        None => false,
+    }
+}
+
+// It may be evaluated before the initializer.
+fn passes_any<S: SteadyNames>(
+    init: &Node,
+    node: &Node,
+    statements: &Nodes,
+    body: u32,
+    steady: &S,
+) -> bool
+    ensures { result ≡ reading.passes_any (held (S.sets steady.now body) statements.now) init.now node.now }
+{
+    is_constant(node)
+        || (is_identifier(node) && is_held_name(node.name(), init, statements, body, steady))
+}
+
+// The first of some parts mentions the name, or there is none.
+#[tactic(auto, using(crate::proofs::PassedParts::begins_none, crate::proofs::PassedParts::begins_some))]
+fn begins_with(name: &Name, nodes: &Nodes) -> bool
+    ensures { result ≡ it_begins_with name.now nodes.now }
+{
+    if nodes.len() == 0 {
+        return true;
+    }
+    is_mentioned(name, nodes.child(0))
+}
+
+// What mentions the name is evaluated whatever stands before it.
+fn is_certain(name: &Name, node: &Node) -> bool
+    ensures { result ≡ row.is_certain name.now node.now }
+{
+    !may_go_on(node.shape()) || begins_with(name, node.children())
+}
+
+/// Each part that is evaluated before the variable is read may be evaluated before the initializer, and the read is reached whatever they
+/// are.
+#[cycle(past)]
+pub fn are_past<S: SteadyNames>(
+    name: &Name,
+    init: &Node,
+    node: &Node,
+    statements: &Nodes,
+    body: u32,
+    steady: &S,
+) -> bool
+    ensures { result ≡ reading.are_past (held (S.sets steady.now body) statements.now) name.now init.now node.now }
+{
+    is_certain(name, node) && all_past(name, init, node.children(), statements, body, steady)
+}
+
+// So may each of some parts up to the one that mentions it.
+#[cycle(past)]
+fn all_past<S: SteadyNames>(
+    name: &Name,
+    init: &Node,
+    nodes: &Nodes,
+    statements: &Nodes,
+    body: u32,
+    steady: &S,
+) -> bool
+    ensures { result ≡ reading.all_past (held (S.sets steady.now body) statements.now) name.now init.now nodes.now }
+{
+    for at in 0..nodes.len() {
+        let part = nodes.child(at);
+        if is_mentioned(name, part) {
+            return are_past(name, init, part, statements, body, steady);
+        }
+        if !passes_any(init, part, statements, body, steady) {
+            return false;
+        }
+    }
+    true
+}

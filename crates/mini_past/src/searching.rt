@@ -1,0 +1,190 @@
+//! Row 71 past steady names in the statements of a body: `let x = a(); return g(x);` becomes `; return g(a());`, where g is steady there.
+
+ghost use Rattle.std.specs.Prelude.{◌≡◌, ◌+◌, ◌<◌, ◌^◌, true};
+ghost use Rattle.mini_model.specs.Tree.{child_or_absent, children, count};
+ghost use Rattle.mini_node.specs.Children.{names};
+ghost use Rattle.mini_node.specs.Kinds.{is_listed as is_it_listed};
+ghost use Rattle.mini_rows.specs.Past.{held};
+ghost use Rattle.mini_unused.specs.RemoveUnusedDeclaration.{list_at};
+ghost use Rattle.mini_past.specs.SubstitutePast as row;
+ghost use Rattle.mini_past.specs.SubstitutePast.{PastAt, PastRemoved};
+
+use crate::declared::{
+    declares_list, declares_name, either_has_eval, is_declared_over, is_lexical,
+    is_mentioned_around, last_declarator,
+};
+use crate::passing::are_past;
+use crate::putting::substitute_in_list;
+use crate::reads::{is_constant, may_move, reads_first};
+use mini_model::Name;
+use mini_node::{Node, Nodes};
+use mini_steady::SteadyNames;
+use mini_unused::is_mentioned;
+use std::alloc::Global;
+
+// A statement reads the name first, after parts that pass the initializer.
+fn reads_past<S: SteadyNames>(
+    name: &Name,
+    init: &Node,
+    node: &Node,
+    statements: &Nodes,
+    body: u32,
+    steady: &S,
+) -> bool
+    ensures { result ≡ row.reads_past (held (S.sets steady.now body) statements.now) name.now init.now node.now }
+{
+    reads_first(name, node) && are_past(name, init, node, statements, body, steady)
+}
+
+// The next statement does, and nothing else mentions it.
+#[tactic(auto, using(crate::proofs::Places::next_read))]
+fn is_read_past<S: SteadyNames>(
+    name: &Option<Name>,
+    outside: &Node,
+    init: &Node,
+    declarators: &Nodes,
+    which: usize,
+    statements: &Nodes,
+    at: usize,
+    body: u32,
+    steady: &S,
+) -> bool
+    requires declarator { which < count declarators.now }
+    requires next { at + 1 < count statements.now }
+    requires fits { at + 2 < 2 ^ 64 }
+    ensures { result ≡ row.is_read_past (S.sets steady.now body) (names name.now) outside.now init.now declarators.now which statements.now at }
+{
+    match name {
+        Some(name) => {
+            !is_mentioned(name, outside)
+                && reads_past(
+                    name,
+                    init,
+                    statements.child(at + 1),
+                    statements,
+                    body,
+                    steady,
+                )
+                && !is_declared_over(name, init, declarators, which)
+                && !is_mentioned_around(name, statements, at)
+        }
+        None => false,
+    }
+}
+
+// An initializer that may move, and is no constant.
+fn may_pass(init: &Node) -> bool
+    ensures { result ≡ row.may_pass init.now }
+{
+    may_move(init) && !is_constant(init)
+}
+
+fn is_past_declarator<S: SteadyNames>(
+    list: &Node,
+    which: usize,
+    outside: &Node,
+    statements: &Nodes,
+    at: usize,
+    body: u32,
+    steady: &S,
+) -> bool
+    requires declarator { which < count (children list.now) }
+    requires next { at + 1 < count statements.now }
+    requires fits { at + 2 < 2 ^ 64 }
+    ensures { result ≡ row.is_past_declarator (S.sets steady.now body) list.now which outside.now statements.now at }
+{
+    let declarator = list.child(which);
+    declares_name(declarator)
+        && may_pass(declarator.child(1))
+        && is_read_past(
+            declarator.child(0).name(),
+            outside,
+            declarator.child(1),
+            list.children(),
+            which,
+            statements,
+            at,
+            body,
+            steady,
+        )
+}
+
+// A declaration of a `let` or a `const`.
+fn declares_lexically(node: &Node) -> bool
+    ensures kind { result ≡ row.declares_lexically node.now }
+    ensures list { result ≡ true → count (children node.now) ≡ 1 }
+{
+    declares_list(node) && is_lexical(node.shape())
+}
+
+// The statement is one, whose last declarator is such a one.
+#[tactic(auto, using(crate::proofs::Places::no_declarator, crate::proofs::Places::last_is))]
+fn is_past<S: SteadyNames>(
+    outside: &Node,
+    statements: &Nodes,
+    at: usize,
+    body: u32,
+    steady: &S,
+) -> bool
+    requires next { at + 1 < count statements.now }
+    requires fits { at + 2 < 2 ^ 64 }
+    ensures past { result ≡ row.is_past (S.sets steady.now body) outside.now statements.now at }
+    ensures list { result ≡ true → 0 < count (children (child_or_absent statements.now at)) }
+    ensures declarators { result ≡ true → 0 < count (children (list_at statements.now at)) }
+{
+    let statement = statements.child(at);
+    if !declares_lexically(statement) {
+        return false;
+    }
+    let list = statement.child(0);
+    let count = list.children().len();
+    if count == 0 {
+        return false;
+    }
+    is_past_declarator(list, count - 1, outside, statements, at, body, steady)
+}
+
+// The first such statement.
+fn past_at<S: SteadyNames>(
+    outside: &Node,
+    statements: &Nodes,
+    body: u32,
+    steady: &S,
+) -> Option<usize>
+    ensures { PastAt (S.sets steady.now body) outside.now statements.now result }
+{
+    let count = statements.len();
+    if count == 0 {
+        return None;
+    }
+    for at in 0..count - 1 {
+        if is_past(outside, statements, at, body, steady) {
+            return Some(at);
+        }
+    }
+    None
+}
+
+/// Of a list of statements, which with what stands outside of them is the body with this number, `let x = a(); return g(x);` becomes
+/// `; return g(a());`, where g is steady in it and initialised. The answer says whether a name went.
+pub fn substitute_past<S: SteadyNames>(
+    alloc: Global,
+    outside: &Node,
+    list: &mut Node,
+    body: u32,
+    steady: &S,
+) -> bool
+    ensures { PastRemoved (S.sets steady.now body) outside.now list.old list.new result }
+{
+    match past_at(outside, list.children(), body, steady) {
+        Some(at) => {
+            if either_has_eval(outside, list) {
+                return false;
+            }
+            let which = last_declarator(list, at);
+            substitute_in_list(alloc, list, at, which);
+            true
+        }
+        None => false,
+    }
+}

@@ -1,0 +1,45 @@
+//! Whether a name stands in what writes it.
+
+ghost use Rattle.std.specs.Prelude.{◌≡◌};
+ghost use Rattle.mini_rows.specs.Past as reading;
+
+use mini_model::{Name, Shape};
+use mini_node::{Node, Nodes};
+use mini_unused::is_mentioned_from;
+
+// What writes a part of it.
+fn is_writer(shape: &Shape) -> bool
+    ensures { result ≡ reading.is_writer shape.now }
+{
+    matches!(
+        shape,
+        Shape::UpdateExpression(_, _)
+            | Shape::AssignmentExpression(_)
+            | Shape::ForInStatement
+            | Shape::ForOfStatement
+    )
+}
+
+/// Whether a name like it stands in such a node.
+#[cycle(writing)]
+pub fn writes(name: &Name, node: &Node) -> bool
+    ensures { result ≡ reading.writes name.now node.now }
+{
+    if is_writer(node.shape()) {
+        return is_mentioned_from(name, node.children(), 0);
+    }
+    any_write(name, node.children())
+}
+
+// Whether one does in one of these nodes.
+#[cycle(writing)]
+fn any_write(name: &Name, nodes: &Nodes) -> bool
+    ensures { result ≡ reading.any_write name.now nodes.now }
+{
+    for at in 0..nodes.len() {
+        if writes(name, nodes.child(at)) {
+            return true;
+        }
+    }
+    false
+}
