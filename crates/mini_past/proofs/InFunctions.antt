@@ -1,20 +1,20 @@
 -- What is done in the statements of a function is done in the function.
-use Rattle.std.proofs.Common.{◌≡◌, ℕ, suc, ◌<◌, Bool, true, false, List, [], ◌∷◌, refl, sym, ap, ◌∙◌, subst, inl, inr, true≢false}
+use Rattle.std.proofs.Common.{◌≡◌, ℕ, suc, Bool, true, false, List, [], ◌∷◌, refl, sym, ap, ◌∙◌, subst, inl, inr, true≢false}
 use Rattle.std.specs.Prelude.{not, ◌⊎◌, ◌&&◌, ◌||◌, None}
 use Rattle.mini_model.specs.declared.name.Name.{Name}
 use Rattle.mini_model.specs.declared.place.Position.{Position}
 use Rattle.mini_model.specs.declared.place.Position.TheVariants.{Expr, Stmt, Method, Elsewhere}
 use Rattle.mini_model.specs.declared.shape.Shape.TheVariants as shape
-use Rattle.mini_model.specs.Tree.{Tree, Trees, node, none, ◌▸◌, absent, listed, children, count, child_or_absent}
+use Rattle.mini_model.specs.Tree.{Tree, Trees, node, none, ◌▸◌, absent, listed, children, child_or_absent}
 use Rattle.mini_kept.specs.Without.{Assured, BodySets}
 use Rattle.mini_laws.specs.ScopeList.{has_eval, any_has_eval}
 use Rattle.mini_laws.specs.Value.{nothing}
 use Rattle.mini_node.specs.Children.{names_of, number_of, part, with_part}
 use Rattle.mini_rows.specs.Lists.{block}
-use Rattle.mini_rows.specs.Past.{held, PastRow, PastFunctionRow}
+use Rattle.mini_rows.specs.Past.{held, PastRow}
 use Rattle.mini_rows.specs.Unused.{names, any_names, function_with}
 use Rattle.mini_steady.specs.Functions.{holds_function}
-use Rattle.mini_tree.specs.Rule.{Moves, Applied}
+use Rattle.mini_tree.specs.Rule.{Applied}
 use Rattle.mini_tree.proofs.Reaching.{moves_once}
 use Rattle.mini_unused.specs.RemoveUnusedDeclaration.{is_function, declares_name, list_at}
 use Rattle.mini_unused.specs.SubstituteSingleUse.{last_place, is_declared_over, is_mentioned_around, list_single}
@@ -22,7 +22,7 @@ use Rattle.mini_past.proofs.BoundNames.{or_none}
 use Rattle.mini_past.proofs.Pairs.{function_is}
 pub use Rattle.mini_unused.proofs.Holders.{put_back}
 pub use Rattle.mini_unused.proofs.Unused.{same_parts, part_twice}
-use Rattle.mini_past.specs.SubstitutePast.{reads_past, is_read_past, may_pass, declares_lexically, is_past_declarator, is_past, PastAt, PastGone, PastRemoved, IsHead, HeadFunctionRow, HeadFunction, AppliedPast, RestsPast}
+use Rattle.mini_past.specs.SubstitutePast.{reads_past, is_read_past, may_pass, declares_lexically, is_past, PastAt, PastGone, PastRemoved, IsHead, HeadFunctionRow, HeadFunction, AppliedPast, RestsPast}
 use Rattle.mini_past.proofs.PastRows.{row_there, none_past}
 
 -- ---- what is outside of the statements mentions the same names

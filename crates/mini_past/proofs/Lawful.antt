@@ -1,7 +1,7 @@
 -- What is made of a function is lawful, whichever variables can be written.
-use Rattle.std.proofs.Common.{◌≡◌, ℕ, Bool, true, sym, true≢false}
+use Rattle.std.proofs.Common.{Bool, true, sym, true≢false}
 use Rattle.mini_model.specs.declared.shape.Shape.{Shape}
-use Rattle.mini_laws.specs.Value.{Variable, VariableSet, nothing}
+use Rattle.mini_laws.specs.Value.{VariableSet, nothing}
 use Rattle.mini_kept.specs.Loosely.{LawfulUnder}
 use Rattle.mini_kept.specs.Without.{BodySets}
 use Rattle.mini_kept.proofs.Loosely.{steady_narrowed, steady_wider}

@@ -1,6 +1,6 @@
 -- What is written is what the row says, and where nothing is written no row reads the statements.
-use Rattle.std.proofs.Common.{◌≡◌, ℕ, zero, suc, ◌<◌, Bool, true, false, List, [], ◌∷◌, refl, sym, ap, ◌∙◌, subst, inl, inr, true≢false, arith}
-use Rattle.std.specs.Prelude.{not, ◌⊎◌, ◌&&◌, ◌||◌, None}
+use Rattle.std.proofs.Common.{◌≡◌, ℕ, suc, ◌<◌, Bool, true, false, [], ◌∷◌, refl, sym, ap, ◌∙◌, subst, true≢false, arith}
+use Rattle.std.specs.Prelude.{not, ◌&&◌, ◌||◌}
 use Rattle.std.proofs.lemmas.Bool.{and_parts}
 use Rattle.mini_model.specs.declared.kind.VariableDeclarationKind.{VariableDeclarationKind}
 use Rattle.mini_model.specs.declared.name.Name.{Name}
@@ -22,7 +22,7 @@ use Rattle.mini_unused.specs.SubstituteSingleUse.{last_place, is_declared_over, 
 use Rattle.mini_unused.proofs.SingleUses.{last_is, next_there, rest_there, within_there}
 use Rattle.mini_unused.proofs.Unused.{parts_of, there_child, there_first, and_both, not_true, Declares, declares, a_declaration, left_is}
 use Rattle.mini_past.proofs.Pairs.{last_rest, last_there, none_after, with_two, neither}
-use Rattle.mini_past.specs.SubstitutePast.{reads_past, is_read_past, may_pass, declares_lexically, is_past_declarator, is_past, PastAt, PastGone}
+use Rattle.mini_past.specs.SubstitutePast.{reads_past, is_read_past, may_pass, declares_lexically, is_past_declarator, is_past}
 
 -- ---- what is written
 

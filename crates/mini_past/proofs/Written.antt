@@ -15,9 +15,6 @@ module _ (x : Name) where
   pub by_writer : (n : Tree) (b : Bool) → b ≡ is_writer (shape_of n) → b ≡ true → writes x n ≡ any_names x (rest_children 0 (children n))
   by_writer n b e f = opened n ∙ ap (λ c. if c then any_names x (children n) else any_write x (children n)) (sym e ∙ f) ∙ ap (any_names x) (sym (from_first (children n)))
 
-  pub by_parts : (n : Tree) (b : Bool) → b ≡ is_writer (shape_of n) → b ≡ false → writes x n ≡ any_write x (children n)
-  by_parts n b e f = opened n ∙ ap (λ c. if c then any_names x (children n) else any_write x (children n)) (sym e ∙ f)
-
   pub write_first : (ts : Trees) → any_write x ts ≡ any_write x (rest_children 0 ts)
   write_first ts = ap (any_write x) (sym (from_first ts))
 

@@ -9,7 +9,7 @@ use Rattle.mini_laws.specs.ScopeList.{has_eval}
 use Rattle.mini_laws.specs.Value.{VariableSet, nothing}
 use Rattle.mini_kept.specs.Without.{Assured, BodySets}
 use Rattle.mini_node.specs.Children.{names_of, part}
-use Rattle.mini_rows.specs.Past.{is_binding, has_symbol, held, are_past, PastRow, PastFunctionRow, PastFunction}
+use Rattle.mini_rows.specs.Past.{is_binding, has_symbol, held, are_past, PastRow, PastFunctionRow}
 use Rattle.mini_rows.specs.Unused.{names, may_go_on, begins_with, is_constant, may_move, reads_first}
 use Rattle.mini_unused.specs.RemoveUnusedDeclaration.{declares_name, declares_list, is_lexical_shape, list_at}
 use Rattle.mini_unused.specs.SubstituteSingleUse.{last_place, is_declared_over, is_mentioned_around, list_single}

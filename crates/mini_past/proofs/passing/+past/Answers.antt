@@ -1,7 +1,6 @@
-use Rattle.std.proofs.Common.{◌<◌, ◌≤◌, ◌+◌, ◌∙◌, sym, ap, arith}
-use Rattle.std.specs.Prelude.{◌&&◌}
+use Rattle.std.proofs.Common.{◌<◌, ◌≤◌, ◌∙◌, sym, arith}
 use Rattle.mini_model.specs.Tree.{count}
-use Rattle.mini_rows.specs.Past.{held, all_past}
+use Rattle.mini_rows.specs.Past.{held}
 use Rattle.mini_past.proofs.PassedParts.{past_first, past_there, past_stopped, past_step, past_end}
 use Rattle.mini_past.proofs.passing.+past.Goals as goal
 
