@@ -31,7 +31,7 @@ module _ (D : VariableSet) (R : Position → Tree → Tree → Type 0) (k : Keep
     step_summary (here p n w c) = k.reads p n w c
     step_summary (inside p h xs n ts us s) = ap (summary_of h (variables xs) n) (steps_summaries s)
 
-    steps_summaries : {π : ℕ → Position} {ts us : Trees} → StepIn R π ts us → summaries ts ≡ summaries us
+    pub steps_summaries : {π : ℕ → Position} {ts us : Trees} → StepIn R π ts us → summaries ts ≡ summaries us
     steps_summaries (first π t u ts s) = ap (λ i. i ∷ summaries ts) (step_summary s)
     steps_summaries (later π t ts us s) = ap (λ is. summary t ∷ is) (steps_summaries s)
 

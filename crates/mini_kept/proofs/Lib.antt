@@ -53,6 +53,7 @@ pub mod ReadBack
 pub mod Declared
 pub mod Lawful
 pub mod Gone
+pub mod FixedSteps
 pub mod Loosely
 pub mod Undeclared
 pub mod Refixed

@@ -193,3 +193,8 @@ pub children_within : (x : Option SymbolId) (o : Opening) (π : ℕ → Position
     → times x (declared_from (at_or_empty (scopes_by o us)) vs 0 us) ≤ times x (declared_from (at_or_empty (scopes_by o ts)) vs 0 ts)
 children_within x o π vs env ts us m k s a =
     all_within x π (at_or_empty (scopes_by o ts)) (at_or_empty (scopes_by o us)) (at_alike (scopes_by o ts) (scopes_by o us) (scopes_alike o π vs env ts us m k s a)) vs 0 env ts us k s a
+
+-- and no scope of it declares a symbol more often
+pub children_alike : (o : Opening) (π : ℕ → Position) (vs : ℕ → Use) (env : Environment) (ts us : Trees) → Merges o ts → AllKeep π 0 ts us → AllStand π vs 0 ts → AllScoped (at_or_empty (scopes_by o ts)) vs 0 env ts
+    → (i : ℕ) → Within (symbols_in (at_or_empty (scopes_by o us) i)) (symbols_in (at_or_empty (scopes_by o ts) i))
+children_alike o π vs env ts us m k s a i = (at_alike (scopes_by o ts) (scopes_by o us) (scopes_alike o π vs env ts us m k s a) i).within

@@ -27,6 +27,7 @@ use Rattle.mini_kept.proofs.BodySteps.{step_under, whole_stands}
 use Rattle.mini_kept.proofs.Declared.{reaches_declared}
 use Rattle.mini_laws.specs.Fixity.{fixed_by, written_in}
 use Rattle.mini_kept.proofs.Fixed.{step_fixed}
+use Rattle.mini_kept.proofs.FixedSteps.{fixed_anyway, program_fixed}
 use Rattle.mini_kept.specs.Frames.{frames, frames_in}
 use Rattle.mini_kept.specs.KeepsFrames.{KeepsPlaces, KeepsFramesBut}
 use Rattle.mini_kept.specs.Fixities.{KeepsFixitiesBut}
@@ -196,17 +197,14 @@ module _ (R : Position → Tree → Tree → Type 0) (K : Shape → Bool) (W : V
       by true q = absurd (true≢false (sym (f x q) ∙ e))
       by false q = q
 
-  staying_fixed : KeepsFixitiesBut nothing Staying
-  staying_fixed = record { reads = λ p n w r. l.reads p n w r.0; fixed = λ p n w r x d. r.1.fixed x }
-
   dropping_fixed : (k : ℕ) → KeepsFixitiesBut (alone (Declared k)) (Dropping k)
   dropping_fixed k = record { reads = λ p n w r. l.reads p n w r.0; fixed = λ p n w r. r.1.fixed }
 
-  step_fixities : (t u : Tree) → Step R Elsewhere t u → Distinct (declared_symbols t) → (x : Variable) → undeclared u x ≡ false → fixed_by t x ≡ fixed_by u x
-  step_fixities t u s d x h = by (told s)
+  step_fixities : (t u : Tree) → Step R Elsewhere t u → IsWellShaped t → Scoped Read [] t → Distinct (declared_symbols t) → (x : Variable) → undeclared u x ≡ false → fixed_by t x ≡ fixed_by u x
+  step_fixities t u s e v d x h = by (told s)
     where
       by : Step Staying Elsewhere t u ⊎ ((k : ℕ) × Step (Dropping k) Elsewhere t u) → fixed_by t x ≡ fixed_by u x
-      by (inl y) = step_fixed nothing Staying staying_fixed y x refl
+      by (inl y) = program_fixed x Staying (narrowed_places Staying (λ p n w r. r.0)).names (λ p n w r. l.reads p n w r.0) (λ p n w r. r.1.fixed) t u y e v d h
       by (inr (k, y)) = step_fixed (alone (Declared k)) (Dropping k) (dropping_fixed k) y x (not_part (alone (Declared k)) (undeclared u) (one_gone k u (dropped k t u y d)) x h)
 
   reaches_fixities : (p : Position) (t u : Tree) → Reaches R p t u → p ≡ Elsewhere → IsWellShaped t → Scoped Read [] t → Distinct (declared_symbols t) → (x : Variable) → undeclared u x ≡ false → fixed_by t x ≡ fixed_by u x
@@ -219,7 +217,7 @@ module _ (R : Position → Tree → Tree → Type 0) (K : Shape → Bool) (W : V
       let f = program_fits t u st e in
       let scoped = one_step.scoped e v in
       let still = not_part (undeclared u) (undeclared w) (still_gone u w (others.symbols f scoped)) x h in
-      step_fixities t u st d x still ∙ reaches_fixities p u w r q f scoped (one_step.distinct e v d) x h
+      step_fixities t u st e v d x still ∙ reaches_fixities p u w r q f scoped (one_step.distinct e v d) x h
 
   pub steadily_keeps : (t u : Tree) → Reaches R Elsewhere t u → IsWellShaped t → ProgramIsKeptUnder K W S t u
   steadily_keeps t u r e = record {
@@ -245,7 +243,7 @@ module _ (R : Position → Tree → Tree → Type 0) where
     reads = l.bodies.means.reads;
     kind = l.bodies.kind;
     declared = l.declared;
-    instances = λ p n w r. inl (record { same = record { by = λ e z. (l.bodies.means.same p n w r).by e nothing nothing }; fixed = l.fixed p n w r; frames = l.frames.frames p n w r; bodies = λ strict s q e a z. l.bodies.bodies p n w r strict s q e a z });
+    instances = λ p n w r. inl (record { same = record { by = λ e z. (l.bodies.means.same p n w r).by e nothing nothing }; fixed = fixed_anyway p n w (l.fixed p n w r); frames = l.frames.frames p n w r; bodies = λ strict s q e a z. l.bodies.bodies p n w r strict s q e a z });
   }
 
   same_wider : (V W : VariableSet) → Part V W → (p : Position) (n w : Tree) → SameWith V p n w → SameWith W p n w

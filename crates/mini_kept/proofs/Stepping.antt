@@ -208,7 +208,7 @@ module _ (R : Position → Tree → Tree → Type 0) (l : KeepsNames R) where
   no_steps g (later π t none us s) e = some_child R s refl
   no_steps g (later π t (v ▸ ts) us s) e = no_steps g s (right (is_quasi g false t) (are_quasis g (v ▸ ts)) e)
 
-  one_of : (p : Position) (strict : Bool) (s r : Slot) (b : Bool) (t : Tree) → fits_place p s ≡ true → fits_place p r ≡ true → (fits strict s t || (b && fits strict r t)) ≡ true → (q : Slot) × (fits_place p q ≡ true) × (fits strict q t ≡ true)
+  pub one_of : (p : Position) (strict : Bool) (s r : Slot) (b : Bool) (t : Tree) → fits_place p s ≡ true → fits_place p r ≡ true → (fits strict s t || (b && fits strict r t)) ≡ true → (q : Slot) × (fits_place p q ≡ true) × (fits strict q t ≡ true)
   one_of p strict s r b t x y e = by (fits strict s t) refl
     where
       by : (c : Bool) → fits strict s t ≡ c → (q : Slot) × (fits_place p q ≡ true) × (fits strict q t ≡ true)

@@ -111,7 +111,7 @@ swapped_targets g q n w s u f e =
 
 inner_swapped : (n w s u : Tree) → InnerKept n w → InnerKept (if_else n s u) (if_else w u s)
 inner_swapped n w s u (inl e) = inl (swapped_inner n w s u e)
-inner_swapped n w s u (inr m) = inr (ap (λ b. b || (has_member s || (has_member u || false))) m)
+inner_swapped n w s u (inr m) = inr refl
 
 swapped_as_body : (b : Bool) (q : Path) (n w s u : Tree) → IsQuiet n → IsQuiet w → NoMoreClash (body_declarations b q (if_else w u s)) (body_declarations b q (if_else n s u))
 unfolding body_declarations names_of

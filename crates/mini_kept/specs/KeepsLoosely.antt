@@ -17,9 +17,28 @@ use Rattle.mini_kept.specs.Frames.{unbracketed}
 use Rattle.mini_kept.specs.KeepsNames.{Stands, is_rewritten_place, NamesOnce, HasTargets, count_of}
 use Rattle.mini_kept.specs.SameNames.{SameNames, SameScope, NoMoreClash}
 
--- a member of a class, a property that is assigned to, or what declares names, which stands outside inner expressions. Among parameters
--- there is none (ECMA-262, "FormalParameters"), so what inner expressions stand in such a tree decides nothing about a function
+-- a statement (ECMA-262, "Statement"), a member of a class, a property that is assigned to, or what declares names, which stands outside
+-- inner expressions. Among parameters there is none (ECMA-262, "FormalParameters"), so what inner expressions stand in such a tree decides
+-- nothing about a function
 abbrev pub is_member : Shape → Bool
+is_member shape.ExpressionStatement = true
+is_member shape.EmptyStatement = true
+is_member shape.DebuggerStatement = true
+is_member shape.BlockStatement = true
+is_member shape.LabeledStatement = true
+is_member shape.BreakStatement = true
+is_member shape.ContinueStatement = true
+is_member shape.ReturnStatement = true
+is_member shape.ThrowStatement = true
+is_member shape.IfStatement = true
+is_member shape.SwitchStatement = true
+is_member shape.TryStatement = true
+is_member shape.WhileStatement = true
+is_member shape.DoWhileStatement = true
+is_member shape.ForStatement = true
+is_member shape.ForInStatement = true
+is_member shape.ForOfStatement = true
+is_member (shape.VariableDeclaration k) = true
 is_member (shape.MethodDefinition k is_computed is_static) = true
 is_member (shape.PropertyDefinition is_computed is_static) = true
 is_member (shape.AssignmentTargetPropertyProperty is_computed) = true

@@ -12,6 +12,7 @@ use Rattle.mini_accept.specs.WellShaped.{Slot, fits, IsWellShaped}
 use Rattle.mini_laws.specs.declared.names.Use.{Use}
 use Rattle.mini_laws.specs.declared.names.Use.TheVariants.{Read}
 use Rattle.mini_laws.specs.Edits.{Kept}
+use Rattle.mini_laws.specs.Resolved.{Environment as Bindings}
 use Rattle.mini_laws.specs.Scoped.{Scoped}
 use Rattle.mini_laws.specs.Symbols.{declared as declared_in, declared_symbols, times, Distinct}
 use Rattle.mini_laws.specs.Value.{Variable, Declared, Global, VariableSet, nothing}
@@ -28,6 +29,7 @@ use Rattle.mini_kept.specs.Declaring.{declared}
 use Rattle.mini_kept.specs.Frames.{frames, frames_in}
 use Rattle.mini_kept.specs.ShownFrames.{KeyGivenUnder, KeyGiven, no_key, none_gone, gone_from, FramesShown}
 use Rattle.mini_kept.specs.Kept.{over}
+use Rattle.mini_kept.specs.KeepsNames.{Stands as StandsAs}
 use Rattle.mini_kept.specs.KeepsFrames.{KeepsPlaces}
 use Rattle.mini_kept.specs.KeepsShapes.{KeepsShapes}
 use Rattle.mini_kept.specs.Lawful.{Lawful}
@@ -39,14 +41,29 @@ use Rattle.mini_kept.specs.Without.{BodySets, none_steady, Within, Permits, Bodi
 abbrev pub symbol : ℕ → Option SymbolId
 symbol k = Some (record { 0 = k })
 
+-- the symbol of a variable: of a name that has none, none
+abbrev pub symbol_for : Variable → Option SymbolId
+symbol_for (Declared k) = symbol k
+symbol_for (Global s) = None
+
+-- the scopes in the later tree declare a variable, or names without a symbol, less often than those in the earlier
+abbrev pub LessOften : Use → Variable → Tree → Tree → Type 0
+LessOften v x n w = times (symbol_for x) (declared_in v w) + 1 ≤ times (symbol_for x) (declared_in v n)
+
+-- What a write of each variable does stays, or one goes that declares it: where no symbol is declared twice, as in a program, nothing
+-- declares that variable then
+pub record FixedKept (p : Position) (n w : Tree) : Type 0 where
+  pub by : (strict : Bool) (s : Slot) → fits_place p s ≡ true → fits strict s n ≡ true → (v : Use) (env : Bindings) → StandsAs p v n → Scoped v env n → (x : Variable) → (fixed_by n x ≡ fixed_by w x) ⊎ LessOften v x n w
+
 -- the same wherever it stands, in any environment in which the variables W can be written
 pub record SameWith (W : VariableSet) (p : Position) (n w : Tree) : Type 0 where
   pub by : (e : Environment) → Permits W nothing e → (q : Demand) → Fits p q → Same e nothing nothing q n w
 
--- one node in the place of another that means the same there, with its bodies and frames, and what a write of each variable does
+-- one node in the place of another that means the same there, with its bodies and frames, and what a write of each variable does that is
+-- still declared
 pub record StaysWith (W : VariableSet) (p : Position) (n w : Tree) : Type 0 where
   pub same : SameWith W p n w
-  pub fixed : (x : Variable) → fixed_by n x ≡ fixed_by w x
+  pub fixed : FixedKept p n w
   pub frames : (strict : Bool) (s : Slot) → fits_place p s ≡ true → fits strict s n ≡ true → (a : Around) → FramesShown none_gone (KeyGiven nothing (bodies a n)) (frames None n) (frames None w)
   pub bodies : (strict : Bool) (s : Slot) → fits_place p s ≡ true → fits strict s n ≡ true → (a : Around) → Stands s p a → BodiesKept (bodies a n) (bodies a w)
 
@@ -79,7 +96,7 @@ Drops K = DropsWith K nothing
 -- One node in the place of another that means the same there, of which bodies may rest on what S says of a body with a number
 pub record SteadiesWith (W : VariableSet) (S : BodySets) (p : Position) (n w : Tree) : Type 0 where
   pub same : SameWith W p n w
-  pub fixed : (x : Variable) → fixed_by n x ≡ fixed_by w x
+  pub fixed : FixedKept p n w
   pub frames : (strict : Bool) (s : Slot) → fits_place p s ≡ true → fits strict s n ≡ true → (a : Around) → FramesShown none_gone (KeyGiven nothing (bodies a n)) (frames None n) (frames None w)
   pub bodies : (strict : Bool) (s : Slot) → fits_place p s ≡ true → fits strict s n ≡ true → (a : Around) → Stands s p a → BodiesUnder W S nothing (bodies a n) (bodies a w)
 
