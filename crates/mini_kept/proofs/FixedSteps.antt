@@ -1,8 +1,9 @@
 -- A step at any place of a tree keeps what a write of each variable does, or what declares it goes.
-use Rattle.std.specs.Prelude.{ℕ, zero, suc, ◌+◌, ◌≤◌, ◌≡◌, ◌⊎◌, refl, ◌||◌, ◌&&◌, Bool, true, false, List, [], ◌∷◌, ◌++◌}
-use Rattle.std.proofs.Common.{ap, ◌∙◌, sym, inl, inr, arith, true≢false}
+use Rattle.std.specs.Prelude.{ℕ, zero, suc, ◌+◌, ◌≤◌, ◌≡◌, ◌⊎◌, refl, ◌||◌, ◌&&◌, Bool, true, false, List, [], ◌∷◌, ◌++◌, Option, None}
+use Rattle.std.proofs.Common.{ap, ◌∙◌, sym, subst, inl, inr, arith, true≢false}
 use Rattle.std.proofs.lemmas.Bool.{eq-eqb}
 use Rattle.mini_model.specs.declared.name.Name.{Name}
+use Rattle.mini_model.specs.declared.name.SymbolId.{SymbolId}
 use Rattle.mini_model.specs.declared.place.Position.{Position}
 use Rattle.mini_model.specs.declared.place.Position.TheVariants.{Elsewhere}
 use Rattle.mini_model.specs.declared.shape.Shape.{Shape}
@@ -17,7 +18,7 @@ use Rattle.mini_laws.specs.DeclaredNames.{is_inner}
 use Rattle.mini_laws.specs.Scopes.{use_of, opening_of, opened}
 use Rattle.mini_laws.specs.Resolved.{Environment}
 use Rattle.mini_laws.specs.Scoped.{Scoped, AllScoped}
-use Rattle.mini_laws.specs.Symbols.{symbols_in, declared as declared_in, declared_from, declared_symbols, times, Distinct, Within}
+use Rattle.mini_laws.specs.Symbols.{symbols_in, declared as declared_in, declared_from, declared_symbols, times, most, Distinct, Within}
 use Rattle.mini_laws.specs.Value.{Variable, Declared, Global, choose, is_in}
 use Rattle.mini_laws.specs.State.{Writable}
 use Rattle.mini_laws.specs.Naming.{summary, summaries}
@@ -58,61 +59,71 @@ declared_on sc vs i (t ▸ ts) = ap (λ l. symbols_in (sc (suc i)) ++ (declared_
 
 -- ---- scopes that declare no symbol more often
 
-module _ (x : Variable) where
+module _ (k : Option SymbolId) where
   -- the same children
-  rest_within : (sc sc' : ℕ → List Binding) → ((j : ℕ) → Within (symbols_in (sc' j)) (symbols_in (sc j))) → (vs : ℕ → Use) (i : ℕ) (ts : Trees) → times (symbol_for x) (declared_from sc' vs i ts) ≤ times (symbol_for x) (declared_from sc vs i ts)
+  rest_within : (sc sc' : ℕ → List Binding) → ((j : ℕ) → Within (symbols_in (sc' j)) (symbols_in (sc j))) → (vs : ℕ → Use) (i : ℕ) (ts : Trees) → times k (declared_from sc' vs i ts) ≤ times k (declared_from sc vs i ts)
   unfolding declared_in
   rest_within sc sc' w vs i none = omega arith
   rest_within sc sc' w vs i (t ▸ ts) =
       omega (
         arith,
-        w i (symbol_for x),
-        times_three (symbol_for x) (symbols_in (sc i)) (declared_in (vs i) t) (declared_from sc vs (suc i) ts),
-        times_three (symbol_for x) (symbols_in (sc' i)) (declared_in (vs i) t) (declared_from sc' vs (suc i) ts),
+        w i k,
+        times_three k (symbols_in (sc i)) (declared_in (vs i) t) (declared_from sc vs (suc i) ts),
+        times_three k (symbols_in (sc' i)) (declared_in (vs i) t) (declared_from sc' vs (suc i) ts),
         rest_within sc sc' w vs (suc i) ts,
       )
 
+  first_less : (sc sc' : ℕ → List Binding) → ((j : ℕ) → Within (symbols_in (sc' j)) (symbols_in (sc j))) → (vs : ℕ → Use) (t u : Tree) (ts : Trees) → times k (declared_in (vs 0) u) + 1 ≤ times k (declared_in (vs 0) t)
+      → times k (declared_from sc' vs 0 (u ▸ ts)) + 1 ≤ times k (declared_from sc vs 0 (t ▸ ts))
+  unfolding declared_in
+  first_less sc sc' w vs t u ts less =
+      omega (
+        arith,
+        less,
+        w 0 k,
+        times_three k (symbols_in (sc 0)) (declared_in (vs 0) t) (declared_from sc vs 1 ts),
+        times_three k (symbols_in (sc' 0)) (declared_in (vs 0) u) (declared_from sc' vs 1 ts),
+        rest_within sc sc' w vs 1 ts,
+      )
+
+  later_less : (sc sc' : ℕ → List Binding) → ((j : ℕ) → Within (symbols_in (sc' j)) (symbols_in (sc j))) → (vs : ℕ → Use) (t : Tree) (ts us : Trees)
+      → times k (declared_from (λ j. sc' (suc j)) (λ j. vs (suc j)) 0 us) + 1 ≤ times k (declared_from (λ j. sc (suc j)) (λ j. vs (suc j)) 0 ts) → times k (declared_from sc' vs 0 (t ▸ us)) + 1 ≤ times k (declared_from sc vs 0 (t ▸ ts))
+  unfolding declared_in
+  later_less sc sc' w vs t ts us less =
+      omega (
+        arith,
+        less,
+        w 0 k,
+        ap (times k) (declared_on sc vs 0 ts),
+        ap (times k) (declared_on sc' vs 0 us),
+        times_three k (symbols_in (sc 0)) (declared_in (vs 0) t) (declared_from sc vs 1 ts),
+        times_three k (symbols_in (sc' 0)) (declared_in (vs 0) t) (declared_from sc' vs 1 us),
+      )
+
+module _ (x : Variable) where
   abbrev OrLess : Use → Tree → Tree → Type 0
   OrLess v t u = (fixed_by t x ≡ fixed_by u x) ⊎ LessOften v x t u
 
+  record AllLess (sc sc' : ℕ → List Binding) (vs : ℕ → Use) (ts us : Trees) : Type 0 where
+    declared : Option SymbolId
+    either : (declared ≡ symbol_for x) ⊎ (declared ≡ None)
+    less : times declared (declared_from sc' vs 0 us) + 1 ≤ times declared (declared_from sc vs 0 ts)
+
   abbrev AllOrLess : (ℕ → List Binding) → (ℕ → List Binding) → (ℕ → Use) → Trees → Trees → Type 0
-  AllOrLess sc sc' vs ts us = (fixed_by_any ts x ≡ fixed_by_any us x) ⊎ (times (symbol_for x) (declared_from sc' vs 0 us) + 1 ≤ times (symbol_for x) (declared_from sc vs 0 ts))
+  AllOrLess sc sc' vs ts us = (fixed_by_any ts x ≡ fixed_by_any us x) ⊎ AllLess sc sc' vs ts us
 
-  first_less : (sc sc' : ℕ → List Binding) → ((j : ℕ) → Within (symbols_in (sc' j)) (symbols_in (sc j))) → (vs : ℕ → Use) (t u : Tree) (ts : Trees) → OrLess (vs 0) t u → AllOrLess sc sc' vs (t ▸ ts) (u ▸ ts)
-  unfolding declared_in
-  first_less sc sc' w vs t u ts (inl e) = inl (ap (λ f. stricter f (fixed_by_any ts x)) e)
-  first_less sc sc' w vs t u ts (inr less) =
-      inr (
-      omega (
-        arith,
-        less,
-        w 0 (symbol_for x),
-        times_three (symbol_for x) (symbols_in (sc 0)) (declared_in (vs 0) t) (declared_from sc vs 1 ts),
-        times_three (symbol_for x) (symbols_in (sc' 0)) (declared_in (vs 0) u) (declared_from sc' vs 1 ts),
-        rest_within sc sc' w vs 1 ts,
-      )
-      )
+  first_or_less : (sc sc' : ℕ → List Binding) → ((j : ℕ) → Within (symbols_in (sc' j)) (symbols_in (sc j))) → (vs : ℕ → Use) (t u : Tree) (ts : Trees) → OrLess (vs 0) t u → AllOrLess sc sc' vs (t ▸ ts) (u ▸ ts)
+  first_or_less sc sc' w vs t u ts (inl e) = inl (ap (λ f. stricter f (fixed_by_any ts x)) e)
+  first_or_less sc sc' w vs t u ts (inr l) = inr (record { declared = l.declared; either = l.either; less = first_less l.declared sc sc' w vs t u ts l.less })
 
-  later_less : (sc sc' : ℕ → List Binding) → ((j : ℕ) → Within (symbols_in (sc' j)) (symbols_in (sc j))) → (vs : ℕ → Use) (t : Tree) (ts us : Trees) → AllOrLess (λ j. sc (suc j)) (λ j. sc' (suc j)) (λ j. vs (suc j)) ts us → AllOrLess sc sc' vs (t ▸ ts) (t ▸ us)
-  unfolding declared_in
-  later_less sc sc' w vs t ts us (inl e) = inl (ap (stricter (fixed_by t x)) e)
-  later_less sc sc' w vs t ts us (inr less) =
-      inr (
-      omega (
-        arith,
-        less,
-        w 0 (symbol_for x),
-        ap (times (symbol_for x)) (declared_on sc vs 0 ts),
-        ap (times (symbol_for x)) (declared_on sc' vs 0 us),
-        times_three (symbol_for x) (symbols_in (sc 0)) (declared_in (vs 0) t) (declared_from sc vs 1 ts),
-        times_three (symbol_for x) (symbols_in (sc' 0)) (declared_in (vs 0) t) (declared_from sc' vs 1 us),
-      )
-      )
+  later_or_less : (sc sc' : ℕ → List Binding) → ((j : ℕ) → Within (symbols_in (sc' j)) (symbols_in (sc j))) → (vs : ℕ → Use) (t : Tree) (ts us : Trees) → AllOrLess (λ j. sc (suc j)) (λ j. sc' (suc j)) (λ j. vs (suc j)) ts us → AllOrLess sc sc' vs (t ▸ ts) (t ▸ us)
+  later_or_less sc sc' w vs t ts us (inl e) = inl (ap (stricter (fixed_by t x)) e)
+  later_or_less sc sc' w vs t ts us (inr l) = inr (record { declared = l.declared; either = l.either; less = later_less l.declared sc sc' w vs t ts us l.less })
 
-  node_less : (v : Use) (h : Shape) (xs : List Name) (n : ℕ) (ts us : Trees) → summaries ts ≡ summaries us → AllOrLess (opened v h ts) (opened v h us) (use_of h v) ts us → OrLess v (node h xs n ts) (node h xs n us)
+  node_or_less : (v : Use) (h : Shape) (xs : List Name) (n : ℕ) (ts us : Trees) → summaries ts ≡ summaries us → AllOrLess (opened v h ts) (opened v h us) (use_of h v) ts us → OrLess v (node h xs n ts) (node h xs n us)
   unfolding declared_in
-  node_less v h xs n ts us i (inl e) = inl (λ j. stricter (choose (is_in x (declared_by h (i j))) (fixity_by h) Writable) (e j))
-  node_less v h xs n ts us i (inr less) = inr less
+  node_or_less v h xs n ts us i (inl e) = inl (λ j. stricter (choose (is_in x (declared_by h (i j))) (fixity_by h) Writable) (e j))
+  node_or_less v h xs n ts us i (inr l) = inr (record { declared = l.declared; either = l.either; less = l.less })
 
   -- ---- a step at any place
 
@@ -131,38 +142,41 @@ module _ (x : Variable) where
           let placed = placed_below strict s h p (count ts) q in
           let stand = all_stand strict s h xs n ts e p (count ts) v st in
           let kept = steps_keep R l z (is_strict_in strict h) (filling strict s h) placed below in
-          node_less v h xs n ts us (same_summaries z)
+          node_or_less v h xs n ts us (same_summaries z)
           (steps_less z (is_strict_in strict h) (filling strict s h) placed below (opened v h ts) (opened v h us) (children_alike (opening_of v h) π (use_of h v) env ts us (merges strict s h xs n ts e v) kept stand a.1) (use_of h v) env stand a.1)
 
       steps_less : {π : ℕ → Position} {ts us : Trees} → StepIn R π ts us → (strict : Bool) (g : Filling) → Placed π g → fill strict g ts ≡ true → (sc sc' : ℕ → List Binding) → ((j : ℕ) → Within (symbols_in (sc' j)) (symbols_in (sc j))) → (vs : ℕ → Use) (env : Environment) → AllStand π vs 0 ts → AllScoped sc vs 0 env ts → AllOrLess sc sc' vs ts us
       steps_less (first π t u ts z) strict refused q e sc sc' w vs env st a = absurd (cc e)
       steps_less (first π t u ts z) strict (these []) q e sc sc' w vs env st a = absurd (cc e)
-      steps_less (first π t u ts z) strict (these (s ∷ ss)) q e sc sc' w vs env st a = first_less sc sc' w vs t u ts (step_less z strict s q.0 (left (fits strict s t) (fill strict (these ss) ts) e) (vs 0) (env ++ sc 0) st.0 a.0)
-      steps_less (first π t u ts z) strict (each s) q e sc sc' w vs env st a = first_less sc sc' w vs t u ts (step_less z strict s (q 0) (left (fits strict s t) (fill strict (each s) ts) e) (vs 0) (env ++ sc 0) st.0 a.0)
+      steps_less (first π t u ts z) strict (these (s ∷ ss)) q e sc sc' w vs env st a = first_or_less sc sc' w vs t u ts (step_less z strict s q.0 (left (fits strict s t) (fill strict (these ss) ts) e) (vs 0) (env ++ sc 0) st.0 a.0)
+      steps_less (first π t u ts z) strict (each s) q e sc sc' w vs env st a = first_or_less sc sc' w vs t u ts (step_less z strict s (q 0) (left (fits strict s t) (fill strict (each s) ts) e) (vs 0) (env ++ sc 0) st.0 a.0)
       steps_less (first π t u ts z) strict (each_or_last s r) q e sc sc' w vs env st a =
           let (c, placed, fit) = one_of R l (π 0) strict s r (is_last ts) t (q 0).0 (q 0).1 (left (fits strict s t || (is_last ts && fits strict r t)) (fill strict (each_or_last s r) ts) e) in
-          first_less sc sc' w vs t u ts (step_less z strict c placed fit (vs 0) (env ++ sc 0) st.0 a.0)
+          first_or_less sc sc' w vs t u ts (step_less z strict c placed fit (vs 0) (env ++ sc 0) st.0 a.0)
       steps_less (first π t u ts z) strict (pieces g) q e sc sc' w vs env st a = absurd (no_steps R l g (first π t u ts z) e)
       steps_less (later π t ts us z) strict refused q e sc sc' w vs env st a = absurd (cc e)
       steps_less (later π t ts us z) strict (these []) q e sc sc' w vs env st a = absurd (cc e)
-      steps_less (later π t ts us z) strict (these (s ∷ ss)) q e sc sc' w vs env st a = later_less sc sc' w vs t ts us (steps_less z strict (these ss) q.1 (right (fits strict s t) (fill strict (these ss) ts) e) (λ j. sc (suc j)) (λ j. sc' (suc j)) (λ j. w (suc j)) (λ j. vs (suc j)) (env ++ sc 0) (stand_on π vs 0 ts st.1) (scoped_on sc vs 0 (env ++ sc 0) ts a.1))
-      steps_less (later π t ts us z) strict (each s) q e sc sc' w vs env st a = later_less sc sc' w vs t ts us (steps_less z strict (each s) (λ j. q (suc j)) (right (fits strict s t) (fill strict (each s) ts) e) (λ j. sc (suc j)) (λ j. sc' (suc j)) (λ j. w (suc j)) (λ j. vs (suc j)) (env ++ sc 0) (stand_on π vs 0 ts st.1) (scoped_on sc vs 0 (env ++ sc 0) ts a.1))
+      steps_less (later π t ts us z) strict (these (s ∷ ss)) q e sc sc' w vs env st a = later_or_less sc sc' w vs t ts us (steps_less z strict (these ss) q.1 (right (fits strict s t) (fill strict (these ss) ts) e) (λ j. sc (suc j)) (λ j. sc' (suc j)) (λ j. w (suc j)) (λ j. vs (suc j)) (env ++ sc 0) (stand_on π vs 0 ts st.1) (scoped_on sc vs 0 (env ++ sc 0) ts a.1))
+      steps_less (later π t ts us z) strict (each s) q e sc sc' w vs env st a = later_or_less sc sc' w vs t ts us (steps_less z strict (each s) (λ j. q (suc j)) (right (fits strict s t) (fill strict (each s) ts) e) (λ j. sc (suc j)) (λ j. sc' (suc j)) (λ j. w (suc j)) (λ j. vs (suc j)) (env ++ sc 0) (stand_on π vs 0 ts st.1) (scoped_on sc vs 0 (env ++ sc 0) ts a.1))
       steps_less (later π t ts us z) strict (each_or_last s r) q e sc sc' w vs env st a =
-          later_less sc sc' w vs t ts us (steps_less z strict (each_or_last s r) (λ j. q (suc j)) (right (fits strict s t || (is_last ts && fits strict r t)) (fill strict (each_or_last s r) ts) e) (λ j. sc (suc j)) (λ j. sc' (suc j)) (λ j. w (suc j)) (λ j. vs (suc j)) (env ++ sc 0) (stand_on π vs 0 ts st.1) (scoped_on sc vs 0 (env ++ sc 0) ts a.1))
+          later_or_less sc sc' w vs t ts us (steps_less z strict (each_or_last s r) (λ j. q (suc j)) (right (fits strict s t || (is_last ts && fits strict r t)) (fill strict (each_or_last s r) ts) e) (λ j. sc (suc j)) (λ j. sc' (suc j)) (λ j. w (suc j)) (λ j. vs (suc j)) (env ++ sc 0) (stand_on π vs 0 ts st.1) (scoped_on sc vs 0 (env ++ sc 0) ts a.1))
       steps_less (later π t ts us z) strict (pieces g) q e sc sc' w vs env st a = absurd (no_steps R l g (later π t ts us z) e)
 
     -- so in a program what a write of each variable does stays that is still declared
     pub program_fixed : (t u : Tree) → Step R Elsewhere t u → IsWellShaped t → Scoped Read [] t → Distinct (declared_symbols t) → undeclared u x ≡ false → fixed_by t x ≡ fixed_by u x
     program_fixed t u s e a d h = by (step_less s false (one a_program) refl e Read [] (also (is_inner (shape_of t)) true refl) a)
       where
+        -- each symbol is declared once, and no name without one
         gone : (y : Variable) → LessOften Read y t u → undeclared u y ≡ false → ⊥
-        gone (Declared m) less n =
-            let once : times (symbol_for (Declared m)) (declared_symbols t) ≤ 1 = d (symbol_for (Declared m)) in
-            let none_left : times (symbol_for (Declared m)) (declared_symbols u) ≡ 0 = omega (arith, less, once) in
-            true≢false (sym (eq-eqb (times (symbol_for (Declared m)) (declared_symbols u)) 0 none_left) ∙ n)
-        gone (Global g) less n =
-            let never : times (symbol_for (Global g)) (declared_symbols t) ≤ 0 = d (symbol_for (Global g)) in
-            absurd (omega (arith, less, never))
+        gone y l n = by_symbol y l.declared l.either l.less n
+          where
+            by_symbol : (z : Variable) (k : Option SymbolId) → (k ≡ symbol_for z) ⊎ (k ≡ None) → times k (declared_symbols u) + 1 ≤ times k (declared_symbols t) → undeclared u z ≡ false → ⊥
+            by_symbol z k (inr e) less n = let never : times k (declared_symbols t) ≤ 0 = subst (λ j. times k (declared_symbols t) ≤ most j) e (d k) in absurd (omega (arith, less, never))
+            by_symbol (Global s) k (inl e) less n = let never : times k (declared_symbols t) ≤ 0 = subst (λ j. times k (declared_symbols t) ≤ most j) e (d k) in absurd (omega (arith, less, never))
+            by_symbol (Declared m) k (inl e) less n =
+                let once : times k (declared_symbols t) ≤ 1 = subst (λ j. times k (declared_symbols t) ≤ most j) e (d k) in
+                let none_left : times k (declared_symbols u) ≡ 0 = omega (arith, less, once) in
+                true≢false (sym (eq-eqb (times (symbol_for (Declared m)) (declared_symbols u)) 0 (subst (λ j. times j (declared_symbols u) ≡ 0) e none_left)) ∙ n)
 
         by : OrLess Read t u → fixed_by t x ≡ fixed_by u x
         by (inl f) = f

@@ -47,8 +47,10 @@ symbol_for (Declared k) = symbol k
 symbol_for (Global s) = None
 
 -- the scopes in the later tree declare a variable, or names without a symbol, less often than those in the earlier
-abbrev pub LessOften : Use → Variable → Tree → Tree → Type 0
-LessOften v x n w = times (symbol_for x) (declared_in v w) + 1 ≤ times (symbol_for x) (declared_in v n)
+pub record LessOften (v : Use) (x : Variable) (n w : Tree) : Type 0 where
+  pub declared : Option SymbolId
+  pub either : (declared ≡ symbol_for x) ⊎ (declared ≡ None)
+  pub less : times declared (declared_in v w) + 1 ≤ times declared (declared_in v n)
 
 -- What a write of each variable does stays, or one goes that declares it: where no symbol is declared twice, as in a program, nothing
 -- declares that variable then

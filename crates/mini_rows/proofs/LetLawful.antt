@@ -10,6 +10,7 @@ use Rattle.mini_kept.specs.KeepsFrames.{is_body_slot}
 use Rattle.mini_kept.specs.KeepsNames.{is_rewritten_place}
 use Rattle.mini_kept.specs.KeepsShapes.{AskedAlike}
 use Rattle.mini_kept.specs.Placed.{fits_place}
+use Rattle.mini_kept.proofs.FixedSteps.{fixed_anyway}
 use Rattle.mini_kept.proofs.FrameSteps.{kept_are_shown}
 use Rattle.mini_rows.specs.Arranged.{KeptAt}
 use Rattle.mini_rows.specs.DeadCases.{known}
@@ -65,5 +66,5 @@ lets_lawful K W = record {
   declared = λ p n w c. (kept W p n w c.row).declared;
   instances = λ p n w c.
       let k = kept W p n w c.row in
-      inl (record { same = lets_same W p n w c.row; fixed = k.fixed; frames = λ strict s x e. kept_are_shown n w (k.frames strict s x e); bodies = k.bodies });
+      inl (record { same = lets_same W p n w c.row; fixed = fixed_anyway p n w k.fixed; frames = λ strict s x e. kept_are_shown n w (k.frames strict s x e); bodies = k.bodies });
 }

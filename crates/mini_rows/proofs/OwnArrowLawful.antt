@@ -36,6 +36,7 @@ use Rattle.mini_kept.specs.Lifted.{is_piece, KeepsRoot}
 use Rattle.mini_kept.specs.Loosely.{SteadiesWith, LawfulUnder}
 use Rattle.mini_kept.specs.Placed.{is_statement_list, fits_place}
 use Rattle.mini_kept.specs.Without.{Assured, BodySets, Steadies, BodiesUnder}
+use Rattle.mini_kept.proofs.FixedSteps.{fixed_anyway}
 use Rattle.mini_kept.proofs.Declared.{reaches_declared}
 use Rattle.mini_kept.proofs.Expressions.{TakesExpressionIn, TakesExpression, refused_here}
 use Rattle.mini_kept.proofs.Fixed.{step_fixed}
@@ -170,7 +171,7 @@ module _ (F : OwnRows) (keeps : (V : Assured) → KeepsOwn V (F V)) (S : BodySet
   whole_steadies : SteadiesWith W S p f f'
   whole_steadies = record {
     same = record { by = λ e z. (created_same ds k ps t u p).by e nothing nothing };
-    fixed = whole_fixed;
+    fixed = fixed_anyway p f f' whole_fixed;
     frames = λ strict c z e a. kept_are_shown f f' whole_frames a;
     bodies = λ strict c z e a st. whole_bodies a;
   }

@@ -17,6 +17,7 @@ use Rattle.mini_kept.specs.Loosely.{SameWith}
 use Rattle.mini_kept.specs.KeepsFrames.{is_body_slot}
 use Rattle.mini_kept.specs.KeepsNames.{is_rewritten_place}
 use Rattle.mini_kept.specs.KeepsShapes.{AskedAlike}
+use Rattle.mini_kept.proofs.FixedSteps.{fixed_anyway}
 use Rattle.mini_kept.proofs.Expressions.{expression, of_conditional, TakesExpression, expression_taken, two_fit}
 use Rattle.mini_kept.proofs.FrameSteps.{kept_are_shown}
 use Rattle.mini_rows.specs.Arranged.{KeptAt}
@@ -163,5 +164,5 @@ writes_lawful K W = record {
   declared = λ p n w c. (kept W p n w c.row).declared;
   instances = λ p n w c.
       let k = kept W p n w c.row in
-      inl (record { same = writes_same W p n w c.row; fixed = k.fixed; frames = λ strict s x e. kept_are_shown n w (k.frames strict s x e); bodies = k.bodies });
+      inl (record { same = writes_same W p n w c.row; fixed = fixed_anyway p n w k.fixed; frames = λ strict s x e. kept_are_shown n w (k.frames strict s x e); bodies = k.bodies });
 }
