@@ -29,7 +29,7 @@ both_scoped u env (x ∷ xs) ys a b = (a.0, both_scoped u env xs ys a.1 b)
 mutual
   unfolding names_of Scoped scopes_by
 
-  bound_scoped : (u : Use) (env : Environment) (t : Tree) → Scoped u env t → NamesScoped u env (names_of declared.Bound t)
+  pub bound_scoped : (u : Use) (env : Environment) (t : Tree) → Scoped u env t → NamesScoped u env (names_of declared.Bound t)
   bound_scoped u env (node shape.BindingIdentifier xs n ts) a = a.0
   bound_scoped u env (node shape.VariableDeclarator xs n ts) a = first_scoped u (use_of shape.VariableDeclarator u) env ts refl a.1
   bound_scoped u env (node shape.Listed xs n ts) a = all_bound_scoped u 0 env ts a.1

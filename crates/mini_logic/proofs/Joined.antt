@@ -10,9 +10,10 @@ use Rattle.mini_model.specs.Redex.{Contracts}
 use Rattle.mini_model.specs.Rewriting.{EverywhereIn}
 use Rattle.mini_kept.specs.Lawful.{Lawful}
 use Rattle.mini_kept.proofs.Lawful.{lawful_join, lawful_narrowed, rows_are_lawful}
+use Rattle.mini_rows.specs.Arranged.{WhereFixed}
 use Rattle.mini_rows.specs.Branches.{BranchContracts}
 use Rattle.mini_rows.specs.Turns.{TurnContracts}
-use Rattle.mini_rows.proofs.BranchLawful.{branches_lawful}
+use Rattle.mini_rows.proofs.BranchLawful.{branches_lawful, ifs_fixed}
 use Rattle.mini_rows.proofs.TurnLawful.{turns_lawful}
 use Rattle.mini_logic.specs.Joined as law
 use Rattle.mini_logic.specs.Joined.{LogicRow, LogicContracts, HaveNoRedex}
@@ -71,14 +72,14 @@ mutual
 -- ---- lawful
 
 abbrev OfOthers : Position → Tree → Tree → Type 0
-OfOthers p t u = BranchContracts p t u ⊎ TurnContracts p t u
+OfOthers p t u = WhereFixed BranchContracts p t u ⊎ TurnContracts p t u
 
 either_row : (p : Position) (t u : Tree) → LogicContracts p t u → Contracts p t u ⊎ OfOthers p t u
 either_row (Stmt q) t u c = go c.row
   where
     go : LogicRow (Stmt q) t u → Contracts (Stmt q) t u ⊎ OfOthers (Stmt q) t u
     go (inl r) = inl (record { row = r; lighter = c.lighter })
-    go (inr (inl r)) = inr (inl (record { row = inr (inr r); lighter = c.lighter }))
+    go (inr (inl r)) = inr (inl (record { row = inr (inr r); lighter = c.lighter }, ifs_fixed t u r))
     go (inr (inr r)) = inr (inr (record { row = r; lighter = c.lighter }))
 either_row (Expr s) t u c = go c.row
   where
@@ -88,4 +89,4 @@ either_row (Expr s) t u c = go c.row
 either_row p t u c = absurd c.row
 
 pub logic_lawful : Lawful LogicContracts
-logic_lawful = lawful_narrowed LogicContracts (λ p t u. Contracts p t u ⊎ OfOthers p t u) either_row (lawful_join Contracts OfOthers rows_are_lawful (lawful_join BranchContracts TurnContracts branches_lawful turns_lawful))
+logic_lawful = lawful_narrowed LogicContracts (λ p t u. Contracts p t u ⊎ OfOthers p t u) either_row (lawful_join Contracts OfOthers rows_are_lawful (lawful_join (WhereFixed BranchContracts) TurnContracts branches_lawful turns_lawful))

@@ -1,6 +1,7 @@
 -- All rows are lawful.
-use Rattle.std.proofs.Common.{◌⊎◌, inl, inr, ◌<◌}
+use Rattle.std.proofs.Common.{◌⊎◌, inl, inr, ◌<◌, Bool}
 use Rattle.mini_model.specs.declared.place.Position.{Position}
+use Rattle.mini_model.specs.declared.shape.Shape.{Shape}
 use Rattle.mini_model.specs.Tree.{Tree}
 use Rattle.mini_model.specs.Weight.{weight}
 use Rattle.mini_model.specs.Redex as first
@@ -8,9 +9,10 @@ use Rattle.mini_laws.specs.Value.{VariableSet, nothing}
 use Rattle.mini_kept.specs.Lawful.{Lawful}
 use Rattle.mini_kept.specs.Loosely.{LawfulWith, LawfulLoosely}
 use Rattle.mini_kept.proofs.Lawful.{lawful_join, lawful_narrowed, rows_are_lawful}
-use Rattle.mini_kept.proofs.Loosely.{lawful_is_loose, loose_join, loose_wider}
+use Rattle.mini_kept.proofs.Loosely.{lawful_is_loose, loose_join, loose_narrowed, loose_wider}
 use Rattle.mini_kept.proofs.WithoutLists.{nothing_part}
 use Rattle.mini_rows.specs.Switches.{Switches, let_go}
+use Rattle.mini_rows.specs.Arranged.{SameFixed, WhereFixed}
 use Rattle.mini_rows.specs.Spellings.{SpellingContracts}
 use Rattle.mini_rows.specs.Branches.{BranchContracts}
 use Rattle.mini_rows.specs.Lists.{ListContracts}
@@ -38,8 +40,8 @@ use Rattle.mini_rows.specs.Redex.{Row, Contracts, Rewrites}
 use Rattle.mini_rows.proofs.SpellKeyLawful as keys
 use Rattle.mini_rows.proofs.FoldRows.{foldings_lawful}
 use Rattle.mini_rows.proofs.SpellLawful as spellings
-use Rattle.mini_rows.proofs.BranchLawful.{branches_lawful}
-use Rattle.mini_rows.proofs.ListLawful.{lists_lawful}
+use Rattle.mini_rows.proofs.BranchLawful.{branches_lawful, branches_loose}
+use Rattle.mini_rows.proofs.ListLawful.{lists_lawful, lists_loose}
 use Rattle.mini_rows.proofs.ChoiceLawful as choices
 use Rattle.mini_rows.proofs.DeclarationLawful.{declarations_lawful}
 use Rattle.mini_rows.proofs.TurnLawful.{turns_lawful}
@@ -116,8 +118,41 @@ module _ (o : Switches) where
   abbrev pub Families : Position → Tree → Tree → Type 0
   Families p n w = first.Contracts p n w ⊎ Others p n w
 
-  families_lawful : Lawful Families
-  families_lawful = lawful_join first.Contracts Others rows_are_lawful (lawful_join SpellingContracts Late spellings.lawful (lawful_join BranchContracts Last branches_lawful (lawful_join (ListContracts o) Latest (lists_lawful o) (lawful_join KeyContracts Final keys.lawful (lawful_join ChoiceContracts Known choices.lawful (lawful_join DeclarationContracts End declarations_lawful (lawful_join FoldingContracts Functions foldings_lawful (lawful_join TurnContracts Ends turns_lawful (lawful_join ArrowContracts Newest arrows_lawful (lawful_join ConstantContracts Truths constants_lawful (lawful_join HeldKeyContracts Voids held_keys_lawful (lawful_join BooleanContracts Orders booleans_lawful (lawful_join DeMorganContracts Parted de_morgan_lawful (lawful_join SequenceContracts Answers sequences_lawful (lawful_join OperandContracts Texts operands_lawful (lawful_join NegationContracts Pieces negations_lawful (lawful_join TemplateContracts (LoopGuardContracts o) templates_lawful (loop_guards_lawful o))))))))))))))))))
+  latest_lawful : Lawful Latest
+  latest_lawful = lawful_join KeyContracts Final keys.lawful (lawful_join ChoiceContracts Known choices.lawful (lawful_join DeclarationContracts End declarations_lawful (lawful_join FoldingContracts Functions foldings_lawful (lawful_join TurnContracts Ends turns_lawful (lawful_join ArrowContracts Newest arrows_lawful (lawful_join ConstantContracts Truths constants_lawful (lawful_join HeldKeyContracts Voids held_keys_lawful (lawful_join BooleanContracts Orders booleans_lawful (lawful_join DeMorganContracts Parted de_morgan_lawful (lawful_join SequenceContracts Answers sequences_lawful (lawful_join OperandContracts Texts operands_lawful (lawful_join NegationContracts Pieces negations_lawful (lawful_join TemplateContracts (LoopGuardContracts o) templates_lawful (loop_guards_lawful o))))))))))))))
+
+  -- those that keep what a write of each variable does
+
+  abbrev FixedLast : Position → Tree → Tree → Type 0
+  FixedLast p n w = WhereFixed (ListContracts o) p n w ⊎ Latest p n w
+
+  abbrev FixedLate : Position → Tree → Tree → Type 0
+  FixedLate p n w = WhereFixed BranchContracts p n w ⊎ FixedLast p n w
+
+  abbrev FixedOthers : Position → Tree → Tree → Type 0
+  FixedOthers p n w = SpellingContracts p n w ⊎ FixedLate p n w
+
+  abbrev FixedFamilies : Position → Tree → Tree → Type 0
+  FixedFamilies p n w = first.Contracts p n w ⊎ FixedOthers p n w
+
+  fixed_lawful : Lawful FixedFamilies
+  fixed_lawful =
+      lawful_join first.Contracts FixedOthers rows_are_lawful
+      (lawful_join SpellingContracts FixedLate spellings.lawful (lawful_join (WhereFixed BranchContracts) FixedLast branches_lawful (lawful_join (WhereFixed (ListContracts o)) Latest (lists_lawful o) latest_lawful)))
+
+  where_fixed : (p : Position) (n w : Tree) → Families p n w → SameFixed p n w → FixedFamilies p n w
+  where_fixed p n w (inl c) f = inl c
+  where_fixed p n w (inr (inl c)) f = inr (inl c)
+  where_fixed p n w (inr (inr (inl c))) f = inr (inr (inl (c, f)))
+  where_fixed p n w (inr (inr (inr (inl c)))) f = inr (inr (inr (inl (c, f))))
+  where_fixed p n w (inr (inr (inr (inr c)))) f = inr (inr (inr (inr c)))
+
+  -- all of them, loosely
+  families_loose : (K : Shape → Bool) → LawfulLoosely K Families
+  families_loose K =
+      loose_join first.Contracts Others K nothing (lawful_is_loose first.Contracts K nothing rows_are_lawful)
+      (loose_join SpellingContracts Late K nothing (lawful_is_loose SpellingContracts K nothing spellings.lawful)
+      (loose_join BranchContracts Last K nothing (branches_loose K) (loose_join (ListContracts o) Latest K nothing (lists_loose o K) (lawful_is_loose Latest K nothing latest_lawful))))
 
   by_row : (p : Position) (n w : Tree) → Row o p n w → weight p w < weight p n → Families p n w
   by_row p n w (inl r) l = inl (record { row = r; lighter = l })
@@ -143,8 +178,11 @@ module _ (o : Switches) where
   pub by_family : (p : Position) (n w : Tree) → Contracts o p n w → Families p n w
   by_family p n w c = by_row p n w c.row c.lighter
 
-  pub all_lawful : Lawful (Contracts o)
-  all_lawful = lawful_narrowed (Contracts o) Families by_family families_lawful
+  pub all_lawful : Lawful (WhereFixed (Contracts o))
+  all_lawful = lawful_narrowed (WhereFixed (Contracts o)) FixedFamilies (λ p n w c. where_fixed p n w (by_family p n w c.0) c.1) fixed_lawful
+
+  contracts_loose : (K : Shape → Bool) → LawfulLoosely K (Contracts o)
+  contracts_loose K = loose_narrowed (Contracts o) Families K nothing by_family (families_loose K)
 
   module _ (W : VariableSet) where
     abbrev Written : Position → Tree → Tree → Type 0
@@ -165,7 +203,7 @@ module _ (o : Switches) where
     -- with those of names that nothing mentions, and of names that can be written
     pub all_loose : LawfulWith (let_go o) W (Rewrites o W)
     all_loose =
-        loose_join (Contracts o) Going (let_go o) W (lawful_is_loose (Contracts o) (let_go o) W all_lawful)
+        loose_join (Contracts o) Going (let_go o) W (wider (Contracts o) (contracts_loose (let_go o)))
         (loose_join (UnusedContracts W) Dropping (let_go o) W (unused_loose (let_go o) W)
         (loose_join (NameContracts o) Named (let_go o) W (wider (NameContracts o) (names_lawful o))
         (loose_join CatchContracts Written (let_go o) W (wider CatchContracts (catches_lawful (let_go o)))

@@ -1,5 +1,6 @@
 -- What is kept of a list of statements is kept where it is the list of a function's body.
 use Rattle.std.proofs.Common.{◌≡◌, true, refl}
+use Rattle.mini_model.specs.declared.place.Position.{Position}
 use Rattle.mini_model.specs.declared.place.Position.TheVariants.{StatementList, BodyList}
 use Rattle.mini_model.specs.Tree.{Tree}
 use Rattle.mini_accept.specs.WellShaped.{a_statement, Slot, one, one_or_absent, many, many_or_holes, many_and_rest, many_or_holes_and_rest, quasis}
@@ -11,7 +12,8 @@ use Rattle.mini_kept.specs.KeepsFrames.{is_body_slot}
 use Rattle.mini_kept.specs.KeepsLoosely.{KeepsLoosely}
 use Rattle.mini_kept.specs.Placed.{fits_place}
 use Rattle.mini_kept.specs.Standing.{stands_whole, Stands}
-use Rattle.mini_rows.specs.Arranged.{KeptAt}
+use Rattle.mini_kept.specs.Loosely.{FixedKept}
+use Rattle.mini_rows.specs.Arranged.{SameFixed, KeptBy, KeptAt, KeptLoosely}
 
 -- where it stands
 pub same_place : (s : Slot) → fits_place BodyList s ≡ true → fits_place StatementList s ≡ true
@@ -54,8 +56,8 @@ loosely n w k = record {
 }
 
 -- and all else
-pub body_kept : (n w : Tree) → KeptAt StatementList n w → KeptAt BodyList n w
-body_kept n w k = record {
+body_kept_by : (F : Position → Tree → Tree → Type 0) (n w : Tree) → (F StatementList n w → F BodyList n w) → KeptBy F StatementList n w → KeptBy F BodyList n w
+body_kept_by F n w f k = record {
   keeps = λ strict s o f. loosely n w (k.keeps strict s (same_place s o) f);
   piece = k.piece;
   kind = k.kind;
@@ -64,9 +66,15 @@ body_kept n w k = record {
   listed = λ l. k.listed refl;
   exported = k.exported;
   frames = λ strict s o f. k.frames strict s (same_place s o) f;
-  fixed = k.fixed;
+  fixed = f k.fixed;
   declared = k.declared;
 }
+
+pub body_kept : (n w : Tree) → KeptAt StatementList n w → KeptAt BodyList n w
+body_kept n w = body_kept_by SameFixed n w (λ f. f)
+
+pub body_loosely : (n w : Tree) → KeptLoosely StatementList n w → KeptLoosely BodyList n w
+body_loosely n w = body_kept_by FixedKept n w (λ f. record { by = λ strict s o e v env st a x. f.by strict s (same_place s o) e v env st a x })
 
 -- what it means, whichever end it has
 body_asked : (q : Demand) → Fits BodyList q → Fits StatementList q

@@ -1,8 +1,10 @@
 -- A statement keeps what it has to keep where a branch, or a body, is another that has the same in it.
-use Rattle.std.specs.Prelude.{ℕ, ◌≤◌, ◌≡◌, ◌⊎◌, refl, ◌&&◌, not, Bool, true, false, List, [], ◌∷◌, ◌++◌, Contains, None, if◌then◌else◌}
+use Rattle.std.specs.Prelude.{ℕ, ◌≤◌, ◌≡◌, ◌⊎◌, refl, ◌&&◌, not, Bool, true, false, List, [], ◌∷◌, ◌++◌, Contains, Option, None, if◌then◌else◌}
 use Rattle.std.proofs.Common.{ap, ◌∙◌, sym, arith, inl, inr}
 use Rattle.std.proofs.lemmas.List.Elements.{Contains-append_left, Contains-append_right, Contains-append_cases}
 use Rattle.mini_model.specs.declared.name.Name.{Name}
+use Rattle.mini_model.specs.declared.name.SymbolId.{SymbolId}
+use Rattle.mini_model.specs.declared.place.Position.{Position}
 use Rattle.mini_model.specs.declared.place.Position.TheVariants.{Stmt}
 use Rattle.mini_model.specs.declared.seat.StmtSeat.{StmtSeat}
 use Rattle.mini_model.specs.declared.shape.Shape.{Shape}
@@ -10,15 +12,17 @@ use Rattle.mini_model.specs.declared.shape.Shape.TheVariants as shape
 use Rattle.mini_model.specs.Tree.{Tree, node, none, ◌▸◌, shape_of}
 use Rattle.mini_accept.specs.WellShaped.{Slot, fits}
 use Rattle.mini_laws.specs.declared.names.Use.{Use}
+use Rattle.mini_laws.specs.declared.names.Declared.{Declared}
 use Rattle.mini_laws.specs.declared.names.Declared.TheVariants as declared
 use Rattle.mini_laws.specs.declared.names.Declaration.{Declaration}
 use Rattle.mini_laws.specs.declared.names.Targets.{Targets}
-use Rattle.mini_laws.specs.DeclaredNames.{names_of}
+use Rattle.mini_laws.specs.DeclaredNames.{names_of, body_names}
 use Rattle.mini_laws.specs.Scopes.{scopes_by}
 use Rattle.mini_laws.specs.Resolved.{Environment}
 use Rattle.mini_laws.specs.Scoped.{Scoped}
+use Rattle.mini_laws.specs.Symbols.{declared as declared_in, times}
 use Rattle.mini_laws.specs.Edits.{Kept}
-use Rattle.mini_laws.specs.Early.{Path, own_declarations, declarations, is_function_shape, holds_statements, scope_declarations, clashing, early_names, targets_of, early_jumps, is_loop_shape, is_labeled, is_loop, last_is_loop}
+use Rattle.mini_laws.specs.Early.{Path, body_declarations, own_declarations, declarations, is_function_shape, holds_statements, scope_declarations, clashing, early_names, targets_of, early_jumps, is_loop_shape, is_labeled, is_loop, last_is_loop}
 use Rattle.mini_laws.proofs.Changes.{as_it_is, below}
 use Rattle.mini_laws.specs.Body.{ArrowExpression}
 use Rattle.mini_laws.specs.Value.{Variable, choose, is_in}
@@ -30,14 +34,16 @@ use Rattle.mini_kept.specs.AlikeBodies.{BodiesKept}
 use Rattle.mini_kept.specs.Carried.{numbers}
 use Rattle.mini_kept.specs.Declaring.{declared as declared_names}
 use Rattle.mini_kept.specs.Frames.{is_declaration, is_port, Frame, frames, FramesKept}
+use Rattle.mini_kept.specs.KeepsLoosely.{InnerKept}
 use Rattle.mini_kept.specs.KeepsNames.{unplaced, count_of}
+use Rattle.mini_kept.specs.SameNames.{is_among, first_symbol}
 use Rattle.mini_kept.specs.Lifted.{is_piece}
 use Rattle.mini_kept.proofs.Below.{both_counts, empty_both, both_empty}
 use Rattle.mini_kept.proofs.BodyLists.{kept_itself, each_of as each_body}
 use Rattle.mini_kept.proofs.FrameLists.{each_of as each_frame}
-use Rattle.mini_kept.proofs.InOrder.{in_order}
+use Rattle.mini_kept.proofs.Clashes.{no_more_same}
 use Rattle.mini_kept.proofs.Unplaced.{unplaced_both, declared_same, as_statement, as_body, all_as_body, body_same, free_same}
-use Rattle.mini_rows.specs.Arranged.{KeptAt}
+use Rattle.mini_rows.specs.Arranged.{SameFixed, KeptBy, KeptAt}
 use Rattle.mini_rows.specs.Branches.{Surrounding, Consequent, Alternate, WhileBody, DoBody, ForBody, InBody, OfBody, around}
 use Rattle.mini_rows.proofs.BranchInside.{quiet, Inside, no_choice}
 
@@ -108,19 +114,54 @@ loop_is : (t : Tree) → is_plain (shape_of t) ≡ true → is_loop t ≡ is_loo
 unfolding is_loop
 loop_is (node h xs n ts) e = ap (λ b. if b then last_is_loop ts else is_loop_shape h) (plain_shape h e).labeled
 
-pub core_kept : (q : StmtSeat) (n w : Tree) → is_plain (shape_of n) ≡ true → is_plain (shape_of w) ≡ true → ((strict : Bool) (s : Slot) → fits strict s n ≡ true → Core n w) → Said n w → KeptAt (Stmt q) n w
-core_kept q n w e f core said = record {
-  keeps = λ strict s p fit. let c = core strict s fit in in_order (Stmt q) n w (record {
-    kept = c.kept;
+-- but for what is known of inner expressions
+pub record LooseCore (n w : Tree) : Type 0 where
+  pub names : (d : Declared) → names_of d w ≡ names_of d n
+  pub body : body_names w ≡ body_names n
+  pub inner : InnerKept n w
+  pub symbols : (v : Use) (x : Option SymbolId) → times x (declared_in v w) ≤ times x (declared_in v n)
+  pub scoped : (v : Use) (env : Environment) → Scoped v env n → Scoped v env w
+  pub numbers : (k : ℕ) → count_of k (numbers w) ≤ count_of k (numbers n)
+  pub once : (q : Path) → early_names q n ≡ [] → early_names q w ≡ []
+  pub targets : (a : Targets) (q : Path) → early_jumps a q n ≡ [] → early_jumps a q w ≡ []
+  pub loop : is_loop_shape (shape_of w) ≡ is_loop_shape (shape_of n)
+  pub bodies : (a : Around) → BodiesKept (bodies a n) (bodies a w)
+  pub frames : FramesKept (frames None n) (frames None w)
+
+pub core_loosely : (n w : Tree) → Core n w → LooseCore n w
+core_loosely n w c = record {
+  names = c.kept.names;
+  body = c.kept.body;
+  inner = inl c.kept.inner;
+  symbols = c.kept.symbols;
+  scoped = c.scoped;
+  numbers = c.numbers;
+  once = c.once;
+  targets = c.targets;
+  loop = c.loop;
+  bodies = c.bodies;
+  frames = c.frames;
+}
+
+pub core_kept_by : (F : Position → Tree → Tree → Type 0) (q : StmtSeat) (n w : Tree) → is_plain (shape_of n) ≡ true → is_plain (shape_of w) ≡ true → ((strict : Bool) (s : Slot) → fits strict s n ≡ true → LooseCore n w) → F (Stmt q) n w → Among (declared_names n) (declared_names w) → KeptBy F (Stmt q) n w
+core_kept_by F q n w e f core fixed said = record {
+  keeps = λ strict s p fit. let c = core strict s fit in record {
+    bound = c.names declared.Bound;
+    lexical = c.names declared.Lexical;
+    hoisted = λ x. ap (λ xs. is_among xs x) (c.names declared.Hoisted);
+    body = λ v env st r s. ap (first_symbol s) c.body;
+    inner = c.inner;
     scoped = λ v env st r. c.scoped v env r;
+    symbols = λ v env st r. c.symbols v;
     numbers = c.numbers;
-    declared_as_body = λ b q. body_same b q q n w (as_its_names b w f ∙ (λ i. own_declarations (not (b && false)) [] (c.kept.names declared.Lexical i) ++ own_declarations false [] (c.kept.names declared.Hoisted i)) ∙ sym (as_its_names b n e));
+    declared_as_body = λ b q. no_more_same (body_declarations b q n) (body_declarations b q w)
+        (body_same b q q n w (as_its_names b w f ∙ (λ i. own_declarations (not (b && false)) [] (c.names declared.Lexical i) ++ own_declarations false [] (c.names declared.Hoisted i)) ∙ sym (as_its_names b n e)));
     once = c.once;
     targets = c.targets;
     loop = loop_is w f ∙ c.loop ∙ sym (loop_is n e);
     root = λ p. absurd (cc p);
     block = λ p b q. absurd (cc p);
-  });
+  };
   piece = (plain_shape (shape_of n) e).piece;
   kind = λ strict s fit. (plain_shape (shape_of n) e).kind ∙ sym (plain_shape (shape_of w) f).kind;
   bodies = λ strict s p fit a st. (core strict s fit).bodies a;
@@ -128,9 +169,12 @@ core_kept q n w e f core said = record {
   listed = λ p. absurd (cc p);
   exported = λ strict fit. ((plain_shape (shape_of n) e).declaration, (plain_shape (shape_of w) f).declaration);
   frames = λ strict s p fit. (core strict s fit).frames;
-  fixed = said.fixed;
-  declared = said.declared;
+  fixed = fixed;
+  declared = said;
 }
+
+pub core_kept : (q : StmtSeat) (n w : Tree) → is_plain (shape_of n) ≡ true → is_plain (shape_of w) ≡ true → ((strict : Bool) (s : Slot) → fits strict s n ≡ true → Core n w) → Said n w → KeptAt (Stmt q) n w
+core_kept q n w e f core said = core_kept_by SameFixed q n w e f (λ strict s fit. core_loosely n w (core strict s fit)) said.fixed said.declared
 
 -- ---- one list in place of another, first or later
 

@@ -9,6 +9,7 @@ use Rattle.mini_model.specs.declared.operator.LogicalOperator.TheVariants.{Or, A
 use Rattle.mini_model.specs.declared.place.Position.{Position}
 use Rattle.mini_model.specs.declared.place.Position.TheVariants.{Stmt}
 use Rattle.mini_model.specs.declared.seat.StmtSeat.{StmtSeat}
+use Rattle.mini_model.specs.declared.seat.StmtSeat.TheVariants as stmt_seat
 use Rattle.mini_model.specs.declared.shape.Shape.{Shape}
 use Rattle.mini_model.specs.declared.shape.Shape.TheVariants as shape
 use Rattle.mini_model.specs.Paths.{append}
@@ -20,30 +21,34 @@ use Rattle.mini_kept.specs.KeepsFrames.{is_in_body, is_body_slot}
 use Rattle.mini_kept.specs.KeepsNames.{is_rewritten_place}
 use Rattle.mini_kept.specs.KeepsShapes.{is_default, AskedAlike, KeepsShapes}
 use Rattle.mini_kept.specs.Lawful.{Lawful}
+use Rattle.mini_kept.specs.Loosely.{FixedKept, LawfulLoosely}
+use Rattle.mini_kept.specs.Placed.{fits_place}
 use Rattle.mini_kept.proofs.Bools.{left, both}
 use Rattle.mini_kept.proofs.Expressions.{expression, refused_here, not_of_fits, two_fit}
 use Rattle.mini_kept.proofs.Quiet.{IsQuiet, expression_is_quiet}
 use Rattle.mini_kept.proofs.Rows.{statement, last_statement, TakesStatementIn, TakesStatement, IfFits, of_if, of_statement, of_last_statement}
 use Rattle.mini_terms.specs.Parts.{leaves_nothing}
+use Rattle.mini_laws.specs.Fixity.{fixed_by}
 use Rattle.mini_laws.specs.Rewritten.{MeansSame}
-use Rattle.mini_rows.specs.Arranged.{KeptAt, Vanishes}
+use Rattle.mini_laws.specs.Value.{Variable}
+use Rattle.mini_rows.specs.Arranged.{WhereFixed, KeptAt, KeptLoosely, Vanishes}
 use Rattle.mini_rows.specs.Lists.{block, switch, for_loop, return_statement, is_unscoped, are_unscoped, left_behind}
 use Rattle.mini_rows.specs.Sketches.{AbsentPart, Return, part, under, end, ◌▹◌}
 use Rattle.mini_rows.specs.Spellings.{IsUndefined, PlainForm, a_number, a_text, a_boolean, a_null, a_big_int, a_template, a_void, plain, binary}
 use Rattle.mini_rows.specs.Cases.{switch_case, one_case, ended, breaks_out, OneCaseRow}
 use Rattle.mini_rows.specs.Loops.{bare_break, is_test, Tested, test_of, is_tested, also, Leaving, leaves_by, goes_by, runs_on, is_loose, Leading, led}
 use Rattle.mini_rows.specs.DeadCases.{known, Choices, no_choices, choice, cases_of, before_others, left_all, left_cases, are_ended, running, DeadCaseRow}
-use Rattle.mini_rows.specs.Branches.{IsEmpty, IsIdleVoid, Row60, has_else, is_other_branch, as_consequent, Surrounding, Consequent, Alternate, WhileBody, DoBody, ForBody, InBody, OfBody, around, conjunct_seat, bare_continue, Row82Empty, after, with_not, without_not, Row82Ends, Row83, BodyRow, SwitchRow, BranchRow, BranchContracts}
-use Rattle.mini_rows.proofs.ArrangedLawful.{kept_is_lawful}
+use Rattle.mini_rows.specs.Branches.{IsEmpty, IsIdleVoid, Row60, has_else, is_other_branch, as_consequent, Surrounding, Consequent, Alternate, WhileBody, DoBody, ForBody, InBody, OfBody, around, conjunct_seat, bare_continue, Row82Empty, after, with_not, without_not, Row82Ends, Row83, IfRow, BodyRow, BranchRow, BranchContracts}
+use Rattle.mini_rows.proofs.ArrangedLawful.{kept_is_lawful, kept_is_loose, fixed_is_lawful, kept_loosely}
 use Rattle.mini_rows.proofs.ArrangedStatements.{statements_arranged}
 use Rattle.mini_rows.proofs.BranchInside.{Inside, unwrapped_inside, wrapped_inside}
-use Rattle.mini_rows.proofs.BranchAround.{is_plain, Core, Said, core_kept, around_core, around_said, around_plain}
+use Rattle.mini_rows.proofs.BranchAround.{is_plain, Core, Said, core_kept, core_kept_by, around_core, around_said, around_plain}
 use Rattle.mini_rows.proofs.BodyEnds.{continue_idle, break_idle, emptied, shortened}
 use Rattle.mini_rows.proofs.BranchEnds.{ending_written, ends_kept}
 use Rattle.mini_rows.proofs.BranchParts.{Value, core_then, said_then, value_itself, said_itself, value_not, said_not, empty_is_idle, turned_core, turned_said, chosen_core, chosen_said, tested_core, tested_said, nested_core, nested_said}
 use Rattle.mini_rows.proofs.BranchSame.{branches_same}
 use Rattle.mini_rows.proofs.CaseKept.{case_is_kept, case_says, default_is_kept, default_says}
-use Rattle.mini_rows.proofs.DeadCaseKept.{AllQuiet, CasesKept, over_core, over_said, left_case, taken_kept, none_kept}
+use Rattle.mini_rows.proofs.DeadCaseKept.{AllQuiet, CasesKept, kept_declared, over_core, over_fixed, left_case, taken_kept, none_kept}
 use Rattle.mini_rows.proofs.ListShapes.{left_fits}
 use Rattle.mini_rows.proofs.UnreachedNames.{names_named}
 use Rattle.mini_laws.specs.declared.names.Declared.TheVariants as names_declared
@@ -632,26 +637,6 @@ over_fits strict d cs e =
 fits_over : (strict : Bool) (d : Tree) (cs : Choices) → fits strict expression d ≡ true → AllFit strict cs → fits strict statement (switch d (listed (cases_of cs))) ≡ true
 fits_over strict d cs e a = both (fits strict expression d) (fits strict (many a_case) (listed (cases_of cs)) && true) e (both (fits strict (many a_case) (listed (cases_of cs))) true (fit_cases strict cs a) refl)
 
-over_kind : (d : Tree) (cs ds : Choices) → CasesKept cs ds → ((strict : Bool) → AllFit strict cs → AllFit strict ds) → Kind (switch d (listed (cases_of cs))) (switch d (listed (cases_of ds)))
-over_kind d cs ds k f = record {
-  read = refl;
-  before = refl;
-  after = refl;
-  fitting = λ strict e. let a = over_fits strict d cs e in fits_over strict d ds a.0 (f strict a.1);
-  core = λ strict e. over_core d cs ds k (all_quiet strict cs (over_fits strict d cs e).1);
-  said = over_said d cs ds k;
-}
-
-row_81 : (n w : Tree) → DeadCaseRow n w → Kind n w
-row_81 n w (inl r) = let cs = choice r.test r.statements r.after in
-    kind_along n _ w _ r.shape r.written (over_kind (known r.value) (before_others r.before cs) (left_case r.before r.test r.statements r.after) (taken_kept r.before r.test r.statements r.after r.loose r.dropped r.rest_dropped)
-    (λ strict a. let b = fit_later strict r.before cs a in ((b.0.0, fit_append strict (left_cases r.before) (running r.statements r.after) (fit_cases_left strict r.before (fit_earlier strict r.before cs a)) (fit_running strict r.statements r.after b.0.1 b.1)), tt)))
-row_81 n w (inr r) = kind_along n _ w _ r.shape r.written (over_kind (known r.value) (choice r.test r.statements r.after) (choice r.test (left_cases (choice r.test r.statements r.after)) no_choices) (none_kept r.test r.statements r.after r.loose r.dropped) (λ strict a. ((a.0.0, fit_cases_left strict (choice r.test r.statements r.after) a), tt)))
-
-switch_kind : (n w : Tree) → SwitchRow n w → Kind n w
-switch_kind n w (inl r) = row_80 n w r
-switch_kind n w (inr r) = row_81 n w r
-
 row_kind : (n w : Tree) → BodyRow n w ⊎ (Row82Empty n w ⊎ Row83 n w) → Kind n w
 row_kind n w (inl r) = body_kind n w r
 row_kind n w (inr (inl r)) = row_82 n w r
@@ -665,6 +650,47 @@ kind_kept q n w k = core_kept q n w k.before k.after (λ strict s e. k.core stri
 
 stood_along : (n n' w w' : Tree) → n ≡ n' → w ≡ w' → Stood n' w' → Stood n w
 stood_along n n' w w' e f k = subst (λ x. Stood x w) (sym e) (subst (λ y. Stood n' y) (sym f) k)
+
+-- of a `switch` over a value that is written out
+module _ (q : StmtSeat) (d : Tree) (cs ds : Choices) (k : CasesKept cs ds) (f : (strict : Bool) → AllFit strict cs → AllFit strict ds) where
+  abbrev this : Tree
+  this = switch d (listed (cases_of cs))
+
+  abbrev that : Tree
+  that = switch d (listed (cases_of ds))
+
+  over_stood : Stood this that
+  over_stood = record { read = refl; before = refl; after = refl; fitting = λ strict e. let a = over_fits strict d cs e in fits_over strict d ds a.0 (f strict a.1) }
+
+  quiet_there : (strict : Bool) (s : Slot) → fits strict s this ≡ true → AllQuiet cs
+  quiet_there strict s e = all_quiet strict cs (over_fits strict d cs (sym (alike strict s this refl (taken strict s this refl e)) ∙ e)).1
+
+  over_kept : KeptLoosely (Stmt q) this that
+  over_kept =
+      core_kept_by FixedKept q this that refl refl (λ strict s e. over_core d cs ds k (quiet_there strict s e))
+      (record { by = λ strict s o e v env st a x. over_fixed d cs ds k (quiet_there strict s e) v env a x })
+      (kept_declared d cs ds k)
+
+record Dead (q : StmtSeat) (n w : Tree) : Type 0 where
+  stood : Stood n w
+  kept : KeptLoosely (Stmt q) n w
+
+dead_over : (q : StmtSeat) (d : Tree) (cs ds : Choices) → CasesKept cs ds → ((strict : Bool) → AllFit strict cs → AllFit strict ds) → Dead q (switch d (listed (cases_of cs))) (switch d (listed (cases_of ds)))
+dead_over q d cs ds k f = record { stood = over_stood q d cs ds k f; kept = over_kept q d cs ds k f }
+
+dead_along : (q : StmtSeat) (n n' w w' : Tree) → n ≡ n' → w ≡ w' → Dead q n' w' → Dead q n w
+dead_along q n n' w w' e f k = subst (λ x. Dead q x w) (sym e) (subst (λ y. Dead q n' y) (sym f) k)
+
+row_81 : (q : StmtSeat) (n w : Tree) → DeadCaseRow n w → Dead q n w
+row_81 q n w (inl r) =
+    let cs = choice r.test r.statements r.after in
+    dead_along q n _ w _ r.shape r.written
+    (dead_over q (known r.value) (before_others r.before cs) (left_case r.before r.test r.statements r.after) (taken_kept r.before r.test r.statements r.after r.loose r.dropped r.rest_dropped) (λ strict a.
+    let b = fit_later strict r.before cs a in
+    ((b.0.0, fit_append strict (left_cases r.before) (running r.statements r.after) (fit_cases_left strict r.before (fit_earlier strict r.before cs a)) (fit_running strict r.statements r.after b.0.1 b.1)), tt)))
+row_81 q n w (inr r) =
+    let cs = choice r.test r.statements r.after in
+    dead_along q n _ w _ r.shape r.written (dead_over q (known r.value) cs (choice r.test (left_cases cs) no_choices) (none_kept r.test r.statements r.after r.loose r.dropped) (λ strict a. ((a.0.0, fit_cases_left strict cs a), tt)))
 
 -- where the test ends in a `!`
 ends_stood : (n w : Tree) → Row82Ends n w → Stood n w
@@ -690,7 +716,8 @@ ends_stood n w (inr r) = let c = after r.first r.others r.last in
 -- ---- all
 
 statement_row : (p : Position) (n w : Tree) → BranchRow p n w → Stood n w
-statement_row (Stmt q) n w (inl (inr r)) = kind_stood n w (switch_kind n w r)
+statement_row (Stmt q) n w (inl (inr (inl r))) = kind_stood n w (row_80 n w r)
+statement_row (Stmt q) n w (inl (inr (inr r))) = (row_81 q n w r).stood
 statement_row (Stmt q) n w (inl (inl r)) = subst (λ x. Stood x w) (sym r.shape) (subst (λ y. Stood (return_statement r.argument) y) (sym r.written) (returned r.argument))
 statement_row (Stmt q) n w (inr (inl r)) = kind_stood n w (row_kind n w (inl r))
 statement_row (Stmt q) n w (inr (inr (inl r))) = kind_stood n w (row_kind n w (inr (inl r)))
@@ -702,13 +729,21 @@ row_place : (p : Position) (n w : Tree) → BranchRow p n w → is_rewritten_pla
 row_place (Stmt q) n w r = refl
 row_place p n w r = absurd r
 
-row_kept : (p : Position) (n w : Tree) → BranchRow p n w → KeptAt p n w
-row_kept (Stmt q) n w (inl (inr r)) = kind_kept q n w (switch_kind n w r)
-row_kept (Stmt q) n w (inl (inl r)) = return_kept q n w r
-row_kept (Stmt q) n w (inr (inl r)) = kind_kept q n w (row_kind n w (inl r))
-row_kept (Stmt q) n w (inr (inr (inl r))) = kind_kept q n w (row_kind n w (inr (inl r)))
-row_kept (Stmt q) n w (inr (inr (inr (inl r)))) = kind_kept q n w (row_kind n w (inr (inr r)))
-row_kept (Stmt q) n w (inr (inr (inr (inr r)))) = ends_kept q n w r
+if_kept : (q : StmtSeat) (n w : Tree) → IfRow n w → KeptAt (Stmt q) n w
+if_kept q n w (inl r) = kind_kept q n w (row_kind n w (inr (inl r)))
+if_kept q n w (inr (inl r)) = kind_kept q n w (row_kind n w (inr (inr r)))
+if_kept q n w (inr (inr r)) = ends_kept q n w r
+
+-- what a write does stays where an `if` is written anew
+pub ifs_fixed : (n w : Tree) → IfRow n w → (x : Variable) → fixed_by n x ≡ fixed_by w x
+ifs_fixed n w r = (if_kept stmt_seat.List n w r).fixed
+
+row_kept : (p : Position) (n w : Tree) → BranchRow p n w → KeptLoosely p n w
+row_kept (Stmt q) n w (inl (inr (inl r))) = kept_loosely (Stmt q) n w (kind_kept q n w (row_80 n w r))
+row_kept (Stmt q) n w (inl (inr (inr r))) = (row_81 q n w r).kept
+row_kept (Stmt q) n w (inl (inl r)) = kept_loosely (Stmt q) n w (return_kept q n w r)
+row_kept (Stmt q) n w (inr (inl r)) = kept_loosely (Stmt q) n w (kind_kept q n w (row_kind n w (inl r)))
+row_kept (Stmt q) n w (inr (inr r)) = kept_loosely (Stmt q) n w (if_kept q n w r)
 row_kept p n w r = absurd r
 
 -- of statements a relation is lawful that means the same and of which each instance is kept so
@@ -741,13 +776,17 @@ kinds_lawful R same kind =
     (λ p n w c strict s f e. body_slot p s (taken strict s n (stood_at p n w (kind p n w c)).read e))
     (λ p n w c. kept_at p n w (kind p n w c))
 
-pub branches_lawful : Lawful BranchContracts
-branches_lawful =
-    kept_is_lawful BranchContracts branches_same
-    (record {
-      fitting = λ p n w c strict s f e. let k = statement_row p n w c.row in fits_there strict s n w k.read k.before k.after (k.fitting strict) e;
-      asked = λ p n w c. let k = statement_row p n w c.row in plain_asked p n w k.before k.after;
-    })
-    (λ p n w c. row_place p n w c.row)
-    (λ p n w c strict s f e. body_slot p s (taken strict s n (statement_row p n w c.row).read e))
-    (λ p n w c. row_kept p n w c.row)
+shapes_kept : KeepsShapes BranchContracts
+shapes_kept = record {
+  fitting = λ p n w c strict s f e. let k = statement_row p n w c.row in fits_there strict s n w k.read k.before k.after (k.fitting strict) e;
+  asked = λ p n w c. let k = statement_row p n w c.row in plain_asked p n w k.before k.after;
+}
+
+slots_kept : (p : Position) (n w : Tree) → BranchContracts p n w → (strict : Bool) (s : Slot) → fits_place p s ≡ true → fits strict s n ≡ true → is_body_slot p s ≡ true
+slots_kept p n w c strict s f e = body_slot p s (taken strict s n (statement_row p n w c.row).read e)
+
+pub branches_loose : (K : Shape → Bool) → LawfulLoosely K BranchContracts
+branches_loose = kept_is_loose BranchContracts branches_same shapes_kept (λ p n w c. row_place p n w c.row) slots_kept (λ p n w c. row_kept p n w c.row)
+
+pub branches_lawful : Lawful (WhereFixed BranchContracts)
+branches_lawful = fixed_is_lawful BranchContracts branches_same shapes_kept (λ p n w c. row_place p n w c.row) slots_kept (λ p n w c. row_kept p n w c.row)

@@ -1,6 +1,7 @@
 -- What is written for a `switch` over a value that is written out keeps what it has to keep of its parts.
 use Rattle.std.specs.Prelude.{ℕ, zero, suc, ◌+◌, ◌≤◌, ◌≡◌, ◌⊎◌, refl, ◌&&◌, ◌||◌, not, Bool, true, false, List, [], ◌∷◌, ◌++◌, Option, None, if◌then◌else◌}
-use Rattle.std.proofs.Common.{ap, ◌∙◌, sym, subst, arith, inl, inr, true≢false}
+use Rattle.std.proofs.Math.Nat.{eq-or-lt_of_le}
+use Rattle.std.proofs.Common.{◌<◌, ap, ◌∙◌, sym, subst, arith, inl, inr, true≢false}
 use Rattle.std.proofs.lemmas.Bool.{and_parts}
 use Rattle.std.proofs.lemmas.List.{append-nil}
 use Rattle.mini_model.specs.declared.kind.VariableDeclarationKind.TheVariants.{Var}
@@ -16,13 +17,14 @@ use Rattle.mini_laws.specs.declared.names.Declared.TheVariants as declared
 use Rattle.mini_laws.specs.declared.names.Place.{Place}
 use Rattle.mini_laws.specs.declared.names.Place.TheVariants as place
 use Rattle.mini_laws.specs.declared.names.Targets.{Targets}
-use Rattle.mini_laws.specs.DeclaredNames.{hoisted_place, names_by, names_of, first_names, all_names, body_names, has_inner, with_names}
+use Rattle.mini_laws.specs.DeclaredNames.{hoisted_place, names_by, names_of, first_names, all_names, body_names, with_names}
 use Rattle.mini_laws.specs.Scopes.{use_of, opened, scopes_by, lexical_scope}
 use Rattle.mini_laws.specs.Resolved.{Environment}
 use Rattle.mini_laws.specs.Scoped.{Scoped}
 use Rattle.mini_laws.specs.Symbols.{declared as declared_in, times}
 use Rattle.mini_laws.specs.Early.{Path, in_body, scope_declarations, clashing, early_names, all_early_names, holds_statements, own_declarations, targets_of, early_jumps}
 use Rattle.mini_laws.specs.Value.{Variable}
+use Rattle.mini_laws.specs.State.{Writable}
 use Rattle.mini_laws.specs.Fixity.{fixed_by}
 use Rattle.mini_laws.specs.Bodies.{Around, Body, bodies}
 use Rattle.mini_kept.specs.AlikeBodies.{BodiesKept}
@@ -30,6 +32,7 @@ use Rattle.mini_kept.specs.Carried.{numbers}
 use Rattle.mini_kept.specs.Declaring.{declared as declared_names}
 use Rattle.mini_kept.specs.Frames.{Frame, frames, FramesKept}
 use Rattle.mini_kept.specs.KeepsNames.{count_of}
+use Rattle.mini_kept.specs.Loosely.{symbol_for, LessOften}
 use Rattle.mini_kept.proofs.Anywhere.{targets_anywhere}
 use Rattle.mini_kept.proofs.Below.{empty_both, both_empty}
 use Rattle.mini_kept.proofs.BodyLists.{kept_itself}
@@ -37,22 +40,22 @@ use Rattle.mini_kept.proofs.Fixed.{of_children}
 use Rattle.mini_kept.proofs.Quiet.{is_quiet, IsQuiet, no_names}
 use Rattle.mini_kept.proofs.Unplaced.{as_statement, as_body, all_as_body, body_same, free_same}
 use Rattle.mini_rows.specs.DeadCases.{Choices, no_choices, choice, cases_of, before_others, are_loose, hoists_nothing, hoist_nothing, left_all, left_cases, cases_go, running, rest_goes}
-use Rattle.mini_rows.specs.Lists.{switch, is_var_shape, is_unscoped_shape, is_unscoped, are_unscoped, keeps_no_name, declared_bare, left_behind}
+use Rattle.mini_rows.specs.Lists.{switch, is_var_shape, is_unscoped_shape, is_unscoped, are_unscoped, encloses, declared_bare, left_behind}
 use Rattle.mini_rows.specs.Loops.{is_body_shape}
 use Rattle.mini_rows.specs.Sketches.{Asked, AsValue}
 use Rattle.mini_rows.proofs.Arranging.{Below, sum_below}
-use Rattle.mini_rows.proofs.ArrangedNames.{ScopedAs, scoped_below, below_scoped, symbol_times, symbols_below, number_times, numbers_below, InnerIf, inner_below, below_inner, Once, once_below, below_once, Aimed, aimed_below, below_aimed}
+use Rattle.mini_rows.proofs.ArrangedNames.{ScopedAs, scoped_below, below_scoped, symbol_times, symbols_below, number_times, numbers_below, Once, once_below, below_once, Aimed, aimed_below, below_aimed}
 use Rattle.mini_rows.proofs.ArrangedBodies.{HasBodies, bodies_below, below_bodies, HasFrames, frames_below, below_frames, Declares, declares_below, below_declares, rank, by_rank, FixedBy, fixed_below, below_fixed}
-use Rattle.mini_rows.proofs.ArrangedTrees.{both_same, itself}
-use Rattle.mini_rows.proofs.BranchAround.{Core, Said}
+use Rattle.mini_rows.proofs.BranchAround.{LooseCore}
 use Rattle.mini_rows.proofs.BranchInside.{quiet}
 use Rattle.mini_rows.proofs.CaseKept.{no_lexicals}
 use Rattle.mini_rows.proofs.DeadCaseMeaning.{left_loose, later_loose}
 use Rattle.mini_rows.proofs.ArrangedGather.{concat}
-use Rattle.mini_rows.proofs.DeadCaseParts.{AllQ, EachQ, Parted, cases_down, cases_up, append_all, second_all, left_each, run_all, earlier_each, later_each, gone_each, run_back, before_back, sum, each_sum, Summing, cases_sum, append_sum, left_sum, left_each_sum, run_sum, before_sum, all_of, each_of, append_of, left_each_of, run_of, before_of}
+use Rattle.mini_rows.proofs.DeadCaseParts.{AllQ, EachQ, Parted, cases_down, cases_up, append_all, second_all, left_each, run_all, earlier_each, later_each, case_goes, none_each, runs_less, gone_all, gone_each, run_back, before_back, each_two, each_apply, each_given, sum, each_sum, Summing, cases_sum, append_sum, left_sum, left_each_sum, run_sum, before_sum, all_of, each_of, append_of, left_each_of, run_of, before_of}
 use Rattle.mini_rows.proofs.ListKeptDeclarations.{names_if, names_are, declarations_are}
-use Rattle.mini_rows.proofs.ListKeptUnreached.{var, var_inner, var_fixed, var_declares, var_frames, var_bodies, var_once, var_targets, var_numbers, var_symbols, var_scoped, left_gives, loose}
-use Rattle.mini_rows.proofs.UnreachedNames.{nameless_vanishes, hoisted_there}
+use Rattle.mini_rows.proofs.ListKeptUnreached.{var, var_fixed, var_declares, var_frames, var_bodies, var_once, var_targets, var_numbers, var_symbols, var_scoped, left_gives, loose}
+use Rattle.mini_rows.proofs.Enclosing.{Declares as Encloses, enclosed}
+use Rattle.mini_rows.proofs.UnreachedNames.{hoisted_there}
 use Rattle.mini_kept.proofs.Hoisting.{hoisted_scoped}
 use Rattle.mini_model.specs.Paths.{append}
 
@@ -69,15 +72,6 @@ module _ (P : Asked → Tree → Type 0) where
 
 abbrev value : ℕ → Asked
 value j = AsValue
-
-inner_parted : (b : Bool) → Parted (InnerIf b AsValue)
-unfolding has_inner
-inner_parted b = record {
-  list_down = λ ts q. of_below (InnerIf b) 0 ts (inner_below b value 0 ts q);
-  list_up = λ ts a. below_inner b value 0 ts (to_below (InnerIf b) 0 ts a);
-  case_down = λ t ss q. let a = inner_below b value 0 (t ▸ (listed ss ▸ none)) q in (a.0, a.1.0);
-  case_up = λ t ss x y. below_inner b value 0 (t ▸ (listed ss ▸ none)) (x, (y, tt));
-}
 
 read_scope : (env : Environment) → Parted (ScopedAs Read env AsValue)
 unfolding Scoped scopes_by
@@ -292,7 +286,7 @@ left_declares t u = same_list (as_body false) (left_behind t) ∙ left_gives (as
 
 pub record CasesKept (cs ds : Choices) : Type 1 where
   pub forward : (Q : Tree → Type 0) → ((t : Tree) → Q t → AllQ Q (left_behind t)) → EachQ Q cs → EachQ Q ds
-  pub back : (Q : Tree → Type 0) → ((t : Tree) → keeps_no_name t ≡ true → Q t) → EachQ Q ds → EachQ Q cs
+  pub back : (Q : Tree → Type 0) (m : Tree → ℕ) → ((t : Tree) → sum m (left_behind t) ≡ 0) → ((t : Tree) → encloses false t ≡ true → m t ≤ 0 → Q t) → each_sum m cs ≤ each_sum m ds → EachQ Q ds → EachQ Q cs
   pub sums : (m : Tree → ℕ) → ((t : Tree) → sum m (left_behind t) ≤ m t) → each_sum m ds ≤ each_sum m cs
   pub loose : are_loose cs ≡ true
   pub loose_later : are_loose ds ≡ true
@@ -315,46 +309,19 @@ module _ (d : Tree) (cs ds : Choices) (k : CasesKept cs ds) where
   onward : (Q : Tree → Type 0) → Parted Q → ((t : Tree) → Q t → Q (var (names_of declared.Hoisted t))) → Q old → Q new
   onward Q p f q = cases_up Q p ds (k.forward Q (λ t x. left_holds Q (names_of declared.Hoisted t) (f t x)) (cases_down Q p cs q))
 
-  backward : (Q : Tree → Type 0) → Parted Q → ((t : Tree) → keeps_no_name t ≡ true → Q t) → Q new → Q old
-  backward Q p f q = cases_up Q p cs (k.back Q f (cases_down Q p ds q))
-
   fewer : (m : Tree → ℕ) → Summing m → ((xs : List Name) → m (var xs) ≡ 0) → m new ≤ m old
   fewer m p z = omega (arith, cases_sum m p cs, cases_sum m p ds, k.sums m (λ t. left_counts m z (names_of declared.Hoisted t) (m t)))
-
-  inner_if : (b : Bool) (c e : Tree) → (InnerIf b AsValue c → InnerIf b AsValue e) → InnerIf b AsValue (switch d c) → InnerIf b AsValue (switch d e)
-  unfolding has_inner
-  inner_if b c e f q = let a = inner_below b value 0 (d ▸ (c ▸ none)) q in below_inner b value 0 (d ▸ (e ▸ none)) (a.0, (f a.1.0, tt))
-
-  free_inner : (b : Bool) (t : Tree) → keeps_no_name t ≡ true → InnerIf b AsValue t
-  free_inner b t h = ap (λ c. c || b) (nameless_vanishes t h).inner
-
-  kept_inner : has_inner w ≡ has_inner n
-  kept_inner =
-      both_same (has_inner n) (has_inner w) (inner_if (has_inner n) old new (onward (InnerIf (has_inner n) AsValue) (inner_parted (has_inner n)) (λ t q. var_inner (names_of declared.Hoisted t) (has_inner n))) (itself (has_inner n)))
-      (inner_if (has_inner w) new old (backward (InnerIf (has_inner w) AsValue) (inner_parted (has_inner w)) (free_inner (has_inner w))) (itself (has_inner w)))
 
   fixed_if : (x : Variable) (j : ℕ) (c e : Tree) → (FixedBy x j AsValue c → FixedBy x j AsValue e) → FixedBy x j AsValue (switch d c) → FixedBy x j AsValue (switch d e)
   fixed_if x j c e f q =
       let a = fixed_below x j value 0 (d ▸ (c ▸ none)) (subst (λ g. rank g ≤ j) (of_children shape.SwitchStatement [] 0 (d ▸ (c ▸ none)) x refl) q) in
       subst (λ g. rank g ≤ j) (sym (of_children shape.SwitchStatement [] 0 (d ▸ (e ▸ none)) x refl)) (below_fixed x j value 0 (d ▸ (e ▸ none)) (a.0, (f a.1.0, tt)))
 
-  free_fixed : (x : Variable) (j : ℕ) (t : Tree) → keeps_no_name t ≡ true → FixedBy x j AsValue t
-  free_fixed x j t h = subst (λ g. rank g ≤ j) (sym ((nameless_vanishes t h).fixed x)) (omega arith)
-
-  kept_fixed : (x : Variable) → fixed_by n x ≡ fixed_by w x
-  kept_fixed x =
-      let i = rank (fixed_by n x) in
-      let j = rank (fixed_by w x) in
-      by_rank (fixed_by n x) (fixed_by w x) (fixed_if x j new old (backward (FixedBy x j AsValue) (fixed_parted x j) (free_fixed x j)) (omega arith)) (fixed_if x i old new (onward (FixedBy x i AsValue) (fixed_parted x i) (λ t q. var_fixed (names_of declared.Hoisted t) x i)) (omega arith))
-
-  kept_declared : Declares (declared_names n) AsValue w
+  pub kept_declared : Declares (declared_names n) AsValue w
   kept_declared =
       let all = declared_names n in
       let a = declares_below all value 0 (d ▸ (old ▸ none)) (λ x c. c) in
       below_declares all value 0 (d ▸ (new ▸ none)) (a.0, (onward (Declares all AsValue) (declares_parted all) (λ t q. var_declares (names_of declared.Hoisted t) all (λ y c. q y (hoisted_there t y c))) a.1.0, tt))
-
-  pub over_said : Said n w
-  over_said = record { fixed = kept_fixed; declared = kept_declared }
 
   kept_frames : FramesKept (frames None n) (frames None w)
   kept_frames =
@@ -435,9 +402,12 @@ module _ (d : Tree) (cs ds : Choices) (k : CasesKept cs ds) where
         (free_same (in_body false p (d ▸ (old ▸ none)) 1) (in_body false p (d ▸ (new ▸ none)) 1) (body_same false (p ++ 1 ∷ []) (p ++ 1 ∷ []) old new same_body) own)
         (below_once value p 0 (d ▸ (new ▸ none)) (a.0, (onward (Once AsValue) once_parted (λ t q. var_once (names_of declared.Hoisted t)) a.1.0, tt)))
 
-    pub over_core : Core n w
+    pub over_core : LooseCore n w
     over_core = record {
-      kept = record { names = kept_names; body = kept_body; inner = kept_inner; symbols = kept_symbols };
+      names = kept_names;
+      body = kept_body;
+      inner = inr refl;
+      symbols = kept_symbols;
       scoped = kept_scoped;
       numbers = kept_numbers;
       once = kept_once;
@@ -446,6 +416,76 @@ module _ (d : Tree) (cs ds : Choices) (k : CasesKept cs ds) where
       bodies = kept_bodies;
       frames = kept_frames;
     }
+
+    -- ---- what a write of a variable does, or one goes that declares it
+
+    module _ (u : Use) (env : Environment) (r : Scoped u env n) (x : Variable) where
+      abbrev ways : Option SymbolId → Tree → ℕ
+      ways z = symbol_times Read z AsValue
+
+      less_by : (z : Option SymbolId) → each_sum (ways z) ds < each_sum (ways z) cs → times z (declared_in u w) + 1 ≤ times z (declared_in u n)
+      unfolding declared_in
+      less_by z h =
+          let before = symbols_below Read z value (opened u shape.SwitchStatement (d ▸ (old ▸ none))) (no_scope cs q k.loose u) (use_of shape.SwitchStatement u) (uses u) 0 (d ▸ (old ▸ none)) in
+          let after = symbols_below Read z value (opened u shape.SwitchStatement (d ▸ (new ▸ none))) (no_scope ds (k.quiet_later q) k.loose_later u) (use_of shape.SwitchStatement u) (uses u) 0 (d ▸ (new ▸ none)) in
+          omega (arith, before, after, h, cases_sum (ways z) (symbols_summing z) cs, cases_sum (ways z) (symbols_summing z) ds)
+
+      left_nothing : (z : Option SymbolId) (t : Tree) → sum (ways z) (left_behind t) ≡ 0
+      left_nothing z t = let few = left_counts (ways z) (λ xs. var_symbols xs Read z) (names_of declared.Hoisted t) 0 in omega (arith, few)
+
+      abbrev both : Tree → ℕ
+      both t = ways (symbol_for x) t + ways None t
+
+      two_left : (ts : Trees) → sum (ways (symbol_for x)) ts ≡ 0 → sum (ways None) ts ≡ 0 → sum both ts ≡ 0
+      two_left none e f = refl
+      two_left (t ▸ ts) e f = let rest = two_left ts (omega (arith, e)) (omega (arith, f)) in omega (arith, rest, e, f)
+
+      its_scoped : EachQ (ScopedAs Read env AsValue) cs
+      unfolding Scoped
+      its_scoped =
+          let a = scoped_below Read env value (opened u shape.SwitchStatement (d ▸ (old ▸ none))) (no_scope cs q k.loose u) (use_of shape.SwitchStatement u) (uses u) 0 env refl (d ▸ (old ▸ none)) r.1 in
+          cases_down (ScopedAs Read env AsValue) (read_scope env) cs a.1.0
+
+      module _ (same : each_sum (ways (symbol_for x)) ds ≡ each_sum (ways (symbol_for x)) cs) (unnamed : each_sum (ways None) ds ≡ each_sum (ways None) cs) where
+        abbrev Freely : ℕ → Tree → Type 0
+        Freely j t = ScopedAs Read env AsValue t → FixedBy x j AsValue t
+
+        goes_freely : (j : ℕ) (t : Tree) → encloses false t ≡ true → both t ≤ 0 → Freely j t
+        goes_freely j t e z a = by (enclosed x Read env t e a)
+          where
+            by : (fixed_by t x ≡ Writable) ⊎ Encloses x (declared_in Read t) → FixedBy x j AsValue t
+            by (inl f) = subst (λ g. rank g ≤ j) (sym f) (omega arith)
+            by (inr c) = absurd (elim c.either [
+              | inl e ↦ let there : 1 ≤ times (symbol_for x) (declared_in Read t) = subst (λ o. 1 ≤ times o (declared_in Read t)) e c.there in omega (arith, there, z)
+              | inr e ↦ let there : 1 ≤ times None (declared_in Read t) = subst (λ o. 1 ≤ times o (declared_in Read t)) e c.there in omega (arith, there, z)
+            ])
+
+        as_many : each_sum both cs ≤ each_sum both ds
+        as_many = omega (arith, same, unnamed, each_two (ways (symbol_for x)) (ways None) cs, each_two (ways (symbol_for x)) (ways None) ds)
+
+        back_fixed : (j : ℕ) → FixedBy x j AsValue new → FixedBy x j AsValue old
+        back_fixed j f =
+            let later = each_given (ScopedAs Read env AsValue) (FixedBy x j AsValue) ds (cases_down (FixedBy x j AsValue) (fixed_parted x j) ds f) in
+            let earlier = k.back (Freely j) both (λ t. two_left (left_behind t) (left_nothing (symbol_for x) t) (left_nothing None t)) (goes_freely j) as_many later in
+            cases_up (FixedBy x j AsValue) (fixed_parted x j) cs (each_apply (ScopedAs Read env AsValue) (FixedBy x j AsValue) cs earlier its_scoped)
+
+        all_fixed : fixed_by n x ≡ fixed_by w x
+        all_fixed =
+            let i = rank (fixed_by n x) in
+            let j = rank (fixed_by w x) in
+            by_rank (fixed_by n x) (fixed_by w x) (fixed_if x j new old (back_fixed j) (omega arith)) (fixed_if x i old new (onward (FixedBy x i AsValue) (fixed_parted x i) (λ t q. var_fixed (names_of declared.Hoisted t) x i)) (omega arith))
+
+      fewer_of : (z : Option SymbolId) → each_sum (ways z) ds ≤ each_sum (ways z) cs
+      fewer_of z = k.sums (ways z) (λ t. left_counts (ways z) (λ xs. var_symbols xs Read z) (names_of declared.Hoisted t) (ways z t))
+
+      pub over_fixed : (fixed_by n x ≡ fixed_by w x) ⊎ LessOften u x n w
+      over_fixed = by (eq-or-lt_of_le (fewer_of (symbol_for x))) (eq-or-lt_of_le (fewer_of None))
+        where
+          by : (each_sum (ways (symbol_for x)) ds ≡ each_sum (ways (symbol_for x)) cs) ⊎ (each_sum (ways (symbol_for x)) ds < each_sum (ways (symbol_for x)) cs) → (each_sum (ways None) ds ≡ each_sum (ways None) cs) ⊎ (each_sum (ways None) ds < each_sum (ways None) cs)
+              → (fixed_by n x ≡ fixed_by w x) ⊎ LessOften u x n w
+          by (inl e) (inl f) = inl (all_fixed e f)
+          by (inr e) f = inr (record { declared = symbol_for x; either = inl refl; less = less_by (symbol_for x) e })
+          by (inl e) (inr f) = inr (record { declared = None; either = inr refl; less = less_by None f })
 
 -- ---- the rows
 
@@ -471,7 +511,13 @@ taken_kept bs t ss cs u h r = record {
   forward = λ Q l a.
       let b = later_each Q bs (choice t ss cs) a in
       ((b.0.0, append_all Q (left_cases bs) (running ss cs) (left_each Q l bs (earlier_each Q bs (choice t ss cs) a)) (run_all Q l ss cs b.0.1 b.1)), tt);
-  back = λ Q f a. let b = run_back Q f ss cs r (second_all Q (left_cases bs) (running ss cs) a.0.1) in before_back Q f bs (choice t ss cs) h ((a.0.0, b.0), b.1);
+  back = λ Q m z f h' a.
+      let parts = append_sum m (left_cases bs) (running ss cs) in
+      let whole = before_sum m bs (choice t ss cs) in
+      let nothing_left = none_each Q m z f bs in
+      let fewer = runs_less Q m z f ss cs in
+      let b = run_back Q m z f ss cs r (omega (arith, h', parts, whole, nothing_left)) (second_all Q (left_cases bs) (running ss cs) a.0.1) in
+      before_back Q m z f bs (choice t ss cs) h (omega (arith, h', parts, whole, nothing_left, fewer)) ((a.0.0, b.0), b.1);
   sums = λ m l. omega (arith, before_sum m bs (choice t ss cs), append_sum m (left_cases bs) (running ss cs), left_each_sum m l bs, run_sum m l ss cs);
   loose = u;
   loose_later = later_loose bs t ss cs u;
@@ -486,7 +532,10 @@ taken_kept bs t ss cs u h r = record {
 pub none_kept : (t : Tree) (ss : Trees) (cs : Choices) → are_loose (choice t ss cs) ≡ true → cases_go (choice t ss cs) ≡ true → CasesKept (choice t ss cs) (choice t (left_cases (choice t ss cs)) no_choices)
 none_kept t ss cs u h = record {
   forward = λ Q l a. ((a.0.0, left_each Q l (choice t ss cs) a), tt);
-  back = λ Q f a. gone_each Q f (choice t ss cs) h;
+  back = λ Q m z f h' a.
+      let c = case_goes t ss cs h in
+      let nothing_left = none_each Q m z f (choice t ss cs) in
+      ((a.0.0, gone_all Q m z f ss c.statements (omega (arith, h', nothing_left))), gone_each Q m z f cs c.others (omega (arith, h', nothing_left)));
   sums = λ m l. omega (arith, append_sum m (left_all ss) (left_cases cs), left_sum m l ss, left_each_sum m l cs);
   loose = u;
   loose_later = ap (λ c. c && true) (left_loose (choice t ss cs));

@@ -19,7 +19,7 @@ use Rattle.mini_model.specs.declared.kind.VariableDeclarationKind.TheVariants.{V
 use Rattle.mini_model.specs.declared.name.Name.{Name}
 use Rattle.mini_laws.specs.declared.names.Declared.TheVariants as declared
 use Rattle.mini_laws.specs.DeclaredNames.{names_of}
-use Rattle.mini_rows.specs.Lists.{are_unscoped, declares_nothing, declaration, are_bare_declarators, keeps_no_name, bare_declarators, declared_bare, left_behind}
+use Rattle.mini_rows.specs.Lists.{are_unscoped, declares_nothing, declaration, are_bare_declarators, encloses, bare_declarators, declared_bare, left_behind}
 use Rattle.mini_rows.specs.Cases.{switch_case}
 use Rattle.mini_rows.specs.DeadCases.{Known, a_number, a_text, a_truth, a_null, undefined, known, value_of, Choices, no_choices, choice, cases_of, before_others, switch_over, are_loose, all_go, left_all, left_cases, test_goes, cases_go, are_ended, running, rest_goes, AllMissed, AllPassed, Taken, DeadCaseRow}
 use Rattle.mini_rows.proofs.BranchMeaning.{SameStatement, equal_statement, replaced}
@@ -255,7 +255,7 @@ absent_idle (node shape.Absent xs n ts) h = record { lets = refl; functions = re
 absent_idle t h = absurd (true≢false (sym h))
 
 idle_test : (t : Tree) → test_goes t ≡ true → Idle t
-idle_test t h = go (is_absent t) refl (and_parts (keeps_no_name t) (is_absent t || declares_nothing t) h).1
+idle_test t h = go (is_absent t) refl (and_parts (encloses false t) (is_absent t || declares_nothing t) h).1
   where
     go : (b : Bool) → is_absent t ≡ b → (b || declares_nothing t) ≡ true → Idle t
     go true a k = absent_idle t a

@@ -7,15 +7,15 @@ use Rattle.mini_model.specs.Paths.{append}
 use Rattle.mini_model.specs.Tree.{Tree, Trees, none, ◌▸◌, listed, is_absent}
 use Rattle.mini_rows.specs.Cases.{switch_case}
 use Rattle.mini_rows.specs.DeadCases.{Choices, no_choices, choice, cases_of, before_others, are_loose, leaves_little, all_go, left_all, left_cases, test_goes, cases_go, are_ended, running, rest_goes}
-use Rattle.mini_rows.specs.Lists.{is_unscoped, are_unscoped, declares_nothing, keeps_no_name, left_behind}
+use Rattle.mini_rows.specs.Lists.{is_unscoped, are_unscoped, declares_nothing, encloses, left_behind}
 
 -- ---- what is said of parts that go
 
-pub test_left : (t : Tree) → test_goes t ≡ true → keeps_no_name t ≡ true
-test_left t h = (and_parts (keeps_no_name t) (is_absent t || declares_nothing t) h).0
+pub test_left : (t : Tree) → test_goes t ≡ true → encloses false t ≡ true
+test_left t h = (and_parts (encloses false t) (is_absent t || declares_nothing t) h).0
 
 pub record CaseGoes (t : Tree) (ss : Trees) (cs : Choices) : Type 0 where
-  pub test : keeps_no_name t ≡ true
+  pub test : encloses false t ≡ true
   pub statements : all_go ss ≡ true
   pub others : cases_go cs ≡ true
 
@@ -97,33 +97,6 @@ module _ (Q : Tree → Type 0) where
   later_each no_choices cs x = x
   later_each (choice t ss bs) cs x = later_each bs cs x.1
 
-  -- and back, where it holds of all that gives no name that can't be written
-  module _ (free : (t : Tree) → keeps_no_name t ≡ true → Q t) where
-    pub gone_all : (ss : Trees) → all_go ss ≡ true → AllQ ss
-    gone_all none h = tt
-    gone_all (t ▸ ss) h =
-        let (own, rest) = and_parts (keeps_no_name t && leaves_little t) (all_go ss) h in
-        (free t (and_parts (keeps_no_name t) (leaves_little t) own).0, gone_all ss rest)
-
-    pub gone_each : (cs : Choices) → cases_go cs ≡ true → EachQ cs
-    gone_each no_choices h = tt
-    gone_each (choice t ss cs) h = let c = case_goes t ss cs h in ((free t c.test, gone_all ss c.statements), gone_each cs c.others)
-
-    pub run_back : (ss : Trees) (cs : Choices) → rest_goes ss cs ≡ true → AllQ (running ss cs) → AllQ ss × EachQ cs
-    run_back ss no_choices h x = (x, tt)
-    run_back ss (choice t us cs) h x = go (are_ended ss) h x (λ k y. run_back us cs k y)
-      where
-        go : (b : Bool) → (if b then cases_go (choice t us cs) else test_goes t && rest_goes us cs) ≡ true → AllQ (if b then append ss (left_cases (choice t us cs)) else append ss (running us cs)) → (rest_goes us cs ≡ true → AllQ (running us cs) → AllQ us × EachQ cs) → AllQ ss × EachQ (choice t us cs)
-        go true h x f = (first_all ss (left_cases (choice t us cs)) x, gone_each (choice t us cs) h)
-        go false h x f =
-            let (test, rest) = and_parts (test_goes t) (rest_goes us cs) h in
-            let (own, others) = f rest (second_all ss (running us cs) x) in
-            (first_all ss (running us cs) x, ((free t (test_left t test), own), others))
-
-    pub before_back : (bs cs : Choices) → cases_go bs ≡ true → EachQ cs → EachQ (before_others bs cs)
-    before_back no_choices cs h x = x
-    before_back (choice t ss bs) cs h x = let c = case_goes t ss bs h in ((free t c.test, gone_all ss c.statements), before_back bs cs c.others x)
-
 -- ---- sums
 
 module _ (m : Tree → ℕ) where
@@ -170,6 +143,81 @@ module _ (m : Tree → ℕ) where
   pub before_sum : (bs cs : Choices) → each_sum (before_others bs cs) ≡ each_sum bs + each_sum cs
   before_sum no_choices cs = omega arith
   before_sum (choice t ss bs) cs = let rest = before_sum bs cs in omega (arith, rest)
+
+-- ---- and back
+
+-- it holds of what goes that none of a sum is of, where that is as great afterwards
+module _ (Q : Tree → Type 0) (m : Tree → ℕ) (none_left : (t : Tree) → sum m (left_behind t) ≡ 0) (free : (t : Tree) → encloses false t ≡ true → m t ≤ 0 → Q t) where
+  no_more : (t : Tree) → sum m (left_behind t) ≤ m t
+  no_more t = omega (arith, none_left t)
+
+  none_of : (ss : Trees) → sum m (left_all ss) ≡ 0
+  none_of none = refl
+  none_of (t ▸ ss) = omega (arith, none_left t, none_of ss, append_sum m (left_behind t) (left_all ss))
+
+  pub none_each : (cs : Choices) → sum m (left_cases cs) ≡ 0
+  none_each no_choices = refl
+  none_each (choice t ss cs) = omega (arith, none_of ss, none_each cs, append_sum m (left_all ss) (left_cases cs))
+
+  pub runs_less : (ss : Trees) (cs : Choices) → sum m (running ss cs) ≤ sum m ss + each_sum m cs
+  runs_less ss cs = run_sum m no_more ss cs
+
+  pub gone_all : (ss : Trees) → all_go ss ≡ true → sum m ss ≤ 0 → AllQ Q ss
+  gone_all none h z = tt
+  gone_all (t ▸ ss) h z =
+      let (own, rest) = and_parts (encloses false t && leaves_little t) (all_go ss) h in
+      (free t (and_parts (encloses false t) (leaves_little t) own).0 (omega (arith, z)), gone_all ss rest (omega (arith, z)))
+
+  pub gone_each : (cs : Choices) → cases_go cs ≡ true → each_sum m cs ≤ 0 → EachQ Q cs
+  gone_each no_choices h z = tt
+  gone_each (choice t ss cs) h z = let c = case_goes t ss cs h in ((free t c.test (omega (arith, z)), gone_all ss c.statements (omega (arith, z))), gone_each cs c.others (omega (arith, z)))
+
+  pub run_back : (ss : Trees) (cs : Choices) → rest_goes ss cs ≡ true → sum m ss + each_sum m cs ≤ sum m (running ss cs) → AllQ Q (running ss cs) → AllQ Q ss × EachQ Q cs
+  run_back ss no_choices h z x = (x, tt)
+  run_back ss (choice t us cs) h z x = go (are_ended ss) h z x (λ k y w. run_back us cs k y w)
+    where
+      go : (b : Bool) → (if b then cases_go (choice t us cs) else test_goes t && rest_goes us cs) ≡ true
+          → sum m ss + each_sum m (choice t us cs) ≤ sum m (if b then append ss (left_cases (choice t us cs)) else append ss (running us cs))
+          → AllQ Q (if b then append ss (left_cases (choice t us cs)) else append ss (running us cs)) → (rest_goes us cs ≡ true → sum m us + each_sum m cs ≤ sum m (running us cs) → AllQ Q (running us cs) → AllQ Q us × EachQ Q cs) → AllQ Q ss × EachQ Q (choice t us cs)
+      go true h z x f = (first_all Q ss (left_cases (choice t us cs)) x, gone_each (choice t us cs) h (omega (arith, z, append_sum m ss (left_cases (choice t us cs)), none_each (choice t us cs))))
+      go false h z x f =
+          let (test, rest) = and_parts (test_goes t) (rest_goes us cs) h in
+          let parts = append_sum m ss (running us cs) in
+          let fewer = runs_less us cs in
+          let (own, others) = f rest (omega (arith, z, parts)) (second_all Q ss (running us cs) x) in
+          (first_all Q ss (running us cs) x, ((free t (test_left t test) (omega (arith, z, parts, fewer)), own), others))
+
+  pub before_back : (bs cs : Choices) → cases_go bs ≡ true → each_sum m bs ≤ 0 → EachQ Q cs → EachQ Q (before_others bs cs)
+  before_back no_choices cs h z x = x
+  before_back (choice t ss bs) cs h z x = let c = case_goes t ss bs h in ((free t c.test (omega (arith, z)), gone_all ss c.statements (omega (arith, z))), before_back bs cs c.others (omega (arith, z)) x)
+
+-- two sums at once
+module _ (m k : Tree → ℕ) where
+  sum_two : (ts : Trees) → sum (λ t. m t + k t) ts ≡ sum m ts + sum k ts
+  sum_two none = refl
+  sum_two (t ▸ ts) = let rest = sum_two ts in omega (arith, rest)
+
+  pub each_two : (cs : Choices) → each_sum (λ t. m t + k t) cs ≡ each_sum m cs + each_sum k cs
+  each_two no_choices = refl
+  each_two (choice t ss cs) = omega (arith, sum_two ss, each_two cs)
+
+-- one thing of each part where another is said
+module _ (P Q : Tree → Type 0) where
+  all_apply : (ts : Trees) → AllQ (λ t. P t → Q t) ts → AllQ P ts → AllQ Q ts
+  all_apply none f a = tt
+  all_apply (t ▸ ts) f a = (f.0 a.0, all_apply ts f.1 a.1)
+
+  pub each_apply : (cs : Choices) → EachQ (λ t. P t → Q t) cs → EachQ P cs → EachQ Q cs
+  each_apply no_choices f a = tt
+  each_apply (choice t ss cs) f a = ((f.0.0 a.0.0, all_apply ss f.0.1 a.0.1), each_apply cs f.1 a.1)
+
+  all_given : (ts : Trees) → AllQ Q ts → AllQ (λ t. P t → Q t) ts
+  all_given none a = tt
+  all_given (t ▸ ts) a = (λ p. a.0, all_given ts a.1)
+
+  pub each_given : (cs : Choices) → EachQ Q cs → EachQ (λ t. P t → Q t) cs
+  each_given no_choices a = tt
+  each_given (choice t ss cs) a = ((λ p. a.0.0, all_given ss a.0.1), each_given cs a.1)
 
 -- ---- lists of what statements have
 

@@ -15,7 +15,7 @@ use Rattle.mini_model.specs.Weight.{outline, outlines, commas_weight, weight, we
 use Rattle.mini_laws.specs.declared.names.Declared.TheVariants as declared
 use Rattle.mini_laws.specs.DeclaredNames.{names_of, all_names}
 use Rattle.mini_rows.specs.DeadCases.{Known, known, Choices, no_choices, choice, cases_of, before_others, switch_over, hoists_nothing, are_plain_declarators, is_plain_var, leaves_little, all_go, left_all, left_cases, test_goes, cases_go, are_ended, running, rest_goes, are_several, DeadCaseRow}
-use Rattle.mini_rows.specs.Lists.{declaration, keeps_no_name, bare_declarators, declared_bare, left_behind, is_lighter_left}
+use Rattle.mini_rows.specs.Lists.{declaration, encloses, bare_declarators, declared_bare, left_behind, is_lighter_left}
 use Rattle.mini_rows.proofs.DeadCaseKept.{hoists_none}
 use Rattle.mini_rows.proofs.ListWeights.{total, list_is, total_append, capped_lighter}
 
@@ -88,8 +88,8 @@ left_falls t false false h p e = lighter_falls t e
 all_fall : (ss : Trees) → all_go ss ≡ true → total (left_all ss) ≤ total ss
 all_fall none e = omega arith
 all_fall (t ▸ ss) e =
-    let (own, rest) = and_parts (keeps_no_name t && leaves_little t) (all_go ss) e in
-    let first = left_falls t (hoists_nothing t) (is_plain_var t) refl refl (and_parts (keeps_no_name t) (leaves_little t) own).1 in
+    let (own, rest) = and_parts (encloses false t && leaves_little t) (all_go ss) e in
+    let first = left_falls t (hoists_nothing t) (is_plain_var t) refl refl (and_parts (encloses false t) (leaves_little t) own).1 in
     omega (arith, total_append (left_behind t) (left_all ss), first, all_fall ss rest)
 
 -- what runs weighs no more than the cases from there on, and if there are several 12 less

@@ -34,6 +34,7 @@ pub mod ListKeptBegun
 pub mod ListEach
 pub mod ListKeptEach
 pub mod ListKeptLeaps
+pub mod Enclosing
 pub mod UnreachedNames
 pub mod ListKeptUnreached
 pub mod ListLoops

@@ -1,9 +1,10 @@
 -- A list in which some neighbours are written for others is kept, if what is written keeps what the neighbours have.
 use Rattle.std.specs.Prelude.{ℕ, suc, ◌+◌, ◌≤◌, ◌≡◌, refl, ◌&&◌, Bool, true, false, List, [], ◌++◌, Option, None}
-use Rattle.std.proofs.Common.{ap, ◌∙◌, sym, subst, arith, append_assoc}
+use Rattle.std.proofs.Common.{ap, ◌∙◌, sym, subst, inl, arith, append_assoc}
 use Rattle.std.proofs.lemmas.Bool.{and_parts}
 use Rattle.mini_model.specs.declared.name.Name.{Name}
 use Rattle.mini_model.specs.declared.name.SymbolId.{SymbolId}
+use Rattle.mini_model.specs.declared.place.Position.{Position}
 use Rattle.mini_model.specs.declared.place.Position.TheVariants.{StatementList}
 use Rattle.mini_model.specs.declared.shape.Shape.TheVariants as shape
 use Rattle.mini_model.specs.Tree.{Tree, Trees, node, none, ◌▸◌, listed}
@@ -18,21 +19,23 @@ use Rattle.mini_laws.specs.declared.names.Targets.{Targets}
 use Rattle.mini_laws.specs.DeclaredNames.{has_inner, names_of, body_names}
 use Rattle.mini_laws.specs.Resolved.{Environment}
 use Rattle.mini_laws.specs.Scoped.{Scoped}
-use Rattle.mini_laws.specs.Early.{is_loop}
+use Rattle.mini_laws.specs.Early.{body_declarations, is_loop}
 use Rattle.mini_laws.specs.Value.{Variable}
 use Rattle.mini_laws.specs.Fixity.{fixed_by}
 use Rattle.mini_laws.specs.Bodies.{Around, Body, bodies, bodies_from}
 use Rattle.mini_kept.specs.AlikeBodies.{BodiesKept}
 use Rattle.mini_kept.specs.Declaring.{declared as names_declared}
 use Rattle.mini_kept.specs.Frames.{Frame, frames, ports as ports_of}
-use Rattle.mini_kept.specs.KeepsNames.{is_read, Keeps}
+use Rattle.mini_kept.specs.KeepsLoosely.{InnerKept, KeepsLoosely}
+use Rattle.mini_kept.specs.KeepsNames.{is_read}
+use Rattle.mini_kept.specs.SameNames.{is_among, first_symbol}
 use Rattle.mini_kept.proofs.Anywhere.{once_anywhere, targets_anywhere}
 use Rattle.mini_kept.proofs.BodyLists.{kept_itself}
-use Rattle.mini_kept.proofs.InOrder.{in_order}
+use Rattle.mini_kept.proofs.Clashes.{no_more_same}
 use Rattle.mini_kept.proofs.Placed.{statements_slot}
 use Rattle.mini_kept.proofs.Unplaced.{as_body, body_same}
 use Rattle.mini_rows.specs.Sketches.{AList, part, Asked, AsWholeList, AsWholeItem, Leap}
-use Rattle.mini_rows.specs.Arranged.{KeptAt}
+use Rattle.mini_rows.specs.Arranged.{SameFixed, KeptBy, KeptAt}
 use Rattle.mini_rows.proofs.Arranging.{All, Below, Any, Local, sum_all, sum_below, Summed}
 use Rattle.mini_rows.proofs.ArrangedNames.{ScopedAs, scoped_local, symbol_times, symbols_summed, number_times, numbers_summed, InnerIf, inner_local, Once, once_local, HasTarget, Aimed, aimed_local}
 use Rattle.mini_rows.proofs.ArrangedBodies.{quiet, HasBodies, bodies_local, HasFrames, frames_local, Declares, declares_local, FixedBy, fixed_local, rank, by_rank}
@@ -112,6 +115,19 @@ module _ (m : Asked → Tree → ℕ) (l : Summed m) where
         sum_append AsWholeItem b after,
       )
 
+  pub sum_shortened : (before after a b : Trees) → sum_all m AsWholeItem b + 1 ≤ sum_all m AsWholeItem a → m AsWholeList (listed (append before (append b after))) + 1 ≤ m AsWholeList (listed (append before (append a after)))
+  sum_shortened before after a b k =
+      omega (
+        arith,
+        k,
+        sum_list (append before (append a after)),
+        sum_list (append before (append b after)),
+        sum_append AsWholeItem before (append a after),
+        sum_append AsWholeItem before (append b after),
+        sum_append AsWholeItem a after,
+        sum_append AsWholeItem b after,
+      )
+
 concat_append : {A : Type 0} (g : Tree → List A) (ts us : Trees) → concat g (append ts us) ≡ concat g ts ++ concat g us
 concat_append g none us = refl
 concat_append g (t ▸ ts) us = ap (λ r. g t ++ r) (concat_append g ts us) ∙ sym (append_assoc (g t) (concat g ts) (concat g us))
@@ -147,6 +163,16 @@ pub record Stretched (a b : Trees) : Type 0 where
   pub targets : (g : Targets) → All (Aimed g) AsWholeItem a → All (Aimed g) AsWholeItem b
   pub numbers : (k : ℕ) → sum_all (number_times k) AsWholeItem b ≤ sum_all (number_times k) AsWholeItem a
 
+-- but for what is known of inner expressions, and of what a write does
+pub record StretchedBut (a b : Trees) : Type 0 where
+  pub named : (strict : Bool) (d : Depth) → fill strict (each (one (a_statement d))) a ≡ true → NamesStretched a b
+  pub calm : (strict : Bool) (d : Depth) → fill strict (each (one (a_statement d))) a ≡ true → All Valued AsWholeItem b
+  pub declares : (xs : List Name) → All (Declares xs) AsWholeItem a → All (Declares xs) AsWholeItem b
+  pub frames : (fs : List Frame) → All (HasFrames fs) AsWholeItem a → All (HasFrames fs) AsWholeItem b
+  pub bodies : (bs : List Body) (r : Around) → All (HasBodies bs r) AsWholeItem a → All (HasBodies bs r) AsWholeItem b
+  pub targets : (g : Targets) → All (Aimed g) AsWholeItem a → All (Aimed g) AsWholeItem b
+  pub numbers : (k : ℕ) → sum_all (number_times k) AsWholeItem b ≤ sum_all (number_times k) AsWholeItem a
+
 -- ---- the statements of a list
 
 both_fit : (strict : Bool) (s : Slot) (a b : Trees) → fill strict (each s) (append a b) ≡ true → (fill strict (each s) a ≡ true) × (fill strict (each s) b ≡ true)
@@ -173,27 +199,26 @@ calm_items : (a : Around) (i : ℕ) (ts : Trees) → All Valued AsWholeItem ts �
 calm_items a i none v = refl
 calm_items a i (t ▸ ts) v = λ x. calm_quiet a t v.0 x ++ calm_items a (suc i) ts v.1 x
 
-read_is : (u : Use) → is_read u ≡ true → u ≡ Read
+pub read_is : (u : Use) → is_read u ≡ true → u ≡ Read
 read_is Read e = refl
 read_is u e = absurd (cc e)
 
-module _ (before after a b : Trees) (k : Stretched a b) where
+-- of one variable
+pub fixed_stretched : (x : Variable) (before after a b : Trees) → ((k : ℕ) → All (FixedBy x k) AsWholeItem a → All (FixedBy x k) AsWholeItem b) → ((k : ℕ) → All (FixedBy x k) AsWholeItem b → All (FixedBy x k) AsWholeItem a)
+    → fixed_by (listed (append before (append a after))) x ≡ fixed_by (listed (append before (append b after))) x
+fixed_stretched x before after a b f g =
+    let n = listed (append before (append a after)) in
+    let w = listed (append before (append b after)) in
+    let i = rank (fixed_by n x) in
+    let j = rank (fixed_by w x) in
+    by_rank (fixed_by n x) (fixed_by w x) (stretched Any (FixedBy x j) (fixed_local x j) before after b a (g j) (omega arith)) (stretched Any (FixedBy x i) (fixed_local x i) before after a b (f i) (omega arith))
+
+module _ (before after a b : Trees) (k : StretchedBut a b) where
   abbrev n : Tree
   n = listed (append before (append a after))
 
   abbrev w : Tree
   w = listed (append before (append b after))
-
-  whole_inner : has_inner w ≡ has_inner n
-  whole_inner =
-      both_same (has_inner n) (has_inner w) (stretched Any (InnerIf (has_inner n)) (inner_local (has_inner n)) before after a b (k.inner (has_inner n)) (itself (has_inner n)))
-      (stretched Any (InnerIf (has_inner w)) (inner_local (has_inner w)) before after b a (k.inner_back (has_inner w)) (itself (has_inner w)))
-
-  whole_fixed : (x : Variable) → fixed_by n x ≡ fixed_by w x
-  whole_fixed x =
-      let i = rank (fixed_by n x) in
-      let j = rank (fixed_by w x) in
-      by_rank (fixed_by n x) (fixed_by w x) (stretched Any (FixedBy x j) (fixed_local x j) before after b a (k.fixed_back x j) (omega arith)) (stretched Any (FixedBy x i) (fixed_local x i) before after a b (k.fixed x i) (omega arith))
 
   module _ (c : NamesStretched a b) where
     whole_names : (d : Declared) → names_of d w ≡ names_of d n
@@ -208,17 +233,17 @@ module _ (before after a b : Trees) (k : Stretched a b) where
     unfolding is_loop
     same_loop = refl
 
-    whole_keeps : Keeps StatementList n w
-    whole_keeps = record {
-      kept = record {
-        names = whole_names;
-        body = fold_stretched Name body_names body_names (names_of declared.Hoisted) body_fold before after a b c.body;
-        inner = whole_inner;
-        symbols = λ u x. sum_stretched (symbol_times u x) (symbols_summed u x) before after a b (c.symbols u x);
-      };
+    whole_keeps : InnerKept n w → KeepsLoosely StatementList n w
+    whole_keeps i = record {
+      bound = whole_names declared.Bound;
+      lexical = whole_names declared.Lexical;
+      hoisted = λ x. ap (λ xs. is_among xs x) (whole_names declared.Hoisted);
+      body = λ v env e q r. ap (first_symbol r) (fold_stretched Name body_names body_names (names_of declared.Hoisted) body_fold before after a b c.body);
+      inner = i;
       scoped = λ v env e q. subst (λ u. Scoped u env w) (sym (read_is v e)) (whole_scoped env (subst (λ u. Scoped u env n) (read_is v e) q));
+      symbols = λ v env e q x. sum_stretched (symbol_times v x) (symbols_summed v x) before after a b (c.symbols v x);
       numbers = λ x. sum_stretched (number_times x) (numbers_summed x) before after a b (k.numbers x);
-      declared_as_body = λ o q. body_same o q q n w (fold_stretched Declaration (as_body o) (as_body o) hoists (declared_fold o) before after a b (c.as_body o));
+      declared_as_body = λ o q. no_more_same (body_declarations o q n) (body_declarations o q w) (body_same o q q n w (fold_stretched Declaration (as_body o) (as_body o) hoists (declared_fold o) before after a b (c.as_body o)));
       once = λ p q. once_anywhere [] p w (stretched Any Once once_local before after a b c.once (once_anywhere p [] n q));
       targets = λ g p q. targets_anywhere g [] p w (stretched (HasTarget g) (Aimed g) (aimed_local g) before after a b (k.targets g) (targets_anywhere g p [] n q));
       loop = same_loop;
@@ -243,9 +268,9 @@ module _ (before after a b : Trees) (k : Stretched a b) where
   whole_ports : (m : Bool) → NamesStretched a b → ports_of m (append before (append a after)) ≡ ports_of m (append before (append b after))
   whole_ports m c = sym (same_trees (ports_of m (append before (append b after))) (ports_of m (append before (append a after))) (fold_stretched Tree (ports_in m) (port m) (λ t. []) (ports_fold m) before after a b (c.ports m)))
 
-  pub stretch_kept : KeptAt StatementList n w
-  stretch_kept = record {
-    keeps = λ strict s o f. let (d, e, g) = statements_slot strict s [] 0 (append before (append a after)) o f in in_order StatementList n w (whole_keeps (k.named strict d (read_fits strict d g)));
+  pub stretch_kept_by : (F : Position → Tree → Tree → Type 0) → InnerKept n w → F StatementList n w → KeptBy F StatementList n w
+  stretch_kept_by F i fixed = record {
+    keeps = λ strict s o f. let (d, e, g) = statements_slot strict s [] 0 (append before (append a after)) o f in whole_keeps (k.named strict d (read_fits strict d g)) i;
     piece = refl;
     kind = λ strict s f. refl;
     bodies = λ strict s o f r st. let (d, e, g) = statements_slot strict s [] 0 (append before (append a after)) o f in whole_bodies r strict d g;
@@ -253,6 +278,20 @@ module _ (before after a b : Trees) (k : Stretched a b) where
     listed = λ l strict d f m. let (d', e, g) = statements_slot strict (many (a_statement d)) [] 0 (append before (append a after)) refl f in whole_ports m (k.named strict d' (read_fits strict d' g));
     exported = λ strict f. (refl, refl);
     frames = λ strict s o f. stretched Any (HasFrames (frames None n)) (frames_local (frames None n)) before after a b (k.frames (frames None n)) (λ x q. q);
-    fixed = whole_fixed;
+    fixed = fixed;
     declared = stretched Any (Declares (names_declared n)) (declares_local (names_declared n)) before after a b (k.declares (names_declared n)) (λ x q. q);
   }
+
+module _ (before after a b : Trees) (k : Stretched a b) where
+  whole_inner : has_inner (listed (append before (append b after))) ≡ has_inner (listed (append before (append a after)))
+  whole_inner =
+      let n = listed (append before (append a after)) in
+      let w = listed (append before (append b after)) in
+      both_same (has_inner n) (has_inner w) (stretched Any (InnerIf (has_inner n)) (inner_local (has_inner n)) before after a b (k.inner (has_inner n)) (itself (has_inner n)))
+      (stretched Any (InnerIf (has_inner w)) (inner_local (has_inner w)) before after b a (k.inner_back (has_inner w)) (itself (has_inner w)))
+
+  but : StretchedBut a b
+  but = record { named = k.named; calm = k.calm; declares = k.declares; frames = k.frames; bodies = k.bodies; targets = k.targets; numbers = k.numbers }
+
+  pub stretch_kept : KeptAt StatementList (listed (append before (append a after))) (listed (append before (append b after)))
+  stretch_kept = stretch_kept_by before after a b but SameFixed (inl whole_inner) (λ x. fixed_stretched x before after a b (k.fixed x) (k.fixed_back x))

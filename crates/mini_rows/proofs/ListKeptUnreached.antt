@@ -1,6 +1,6 @@
 -- A statement that never runs goes, and its `var` names are declared without initializers: nothing else of it is kept.
-use Rattle.std.specs.Prelude.{ℕ, ◌≤◌, ◌≡◌, refl, ◌||◌, Bool, true, false, List, [], ◌∷◌, ◌++◌, Contains, Option}
-use Rattle.std.proofs.Common.{◌<◌, ap, ◌∙◌, sym, subst, arith}
+use Rattle.std.specs.Prelude.{ℕ, ◌+◌, ◌≤◌, ◌≡◌, refl, ◌||◌, Bool, true, false, List, [], ◌∷◌, ◌++◌, Contains, Option}
+use Rattle.std.proofs.Common.{◌<◌, ap, ◌∙◌, sym, subst, inl, inr, ◌⊎◌, arith}
 use Rattle.std.proofs.lemmas.List.{append-nil}
 use Rattle.mini_model.specs.declared.kind.VariableDeclarationKind.TheVariants.{Var}
 use Rattle.mini_model.specs.declared.name.Name.{Name}
@@ -18,7 +18,7 @@ use Rattle.mini_laws.specs.DeclaredNames.{has_inner, names_of, all_names, body_n
 use Rattle.mini_laws.specs.Scopes.{scopes_by}
 use Rattle.mini_laws.specs.Resolved.{Environment, symbol_of}
 use Rattle.mini_laws.specs.Scoped.{NamesScoped, Scoped}
-use Rattle.mini_laws.specs.Symbols.{declared as declared_in}
+use Rattle.mini_laws.specs.Symbols.{declared as declared_in, times}
 use Rattle.mini_laws.specs.Early.{own_declarations, scope_declarations, early_names, targets_of, early_jumps}
 use Rattle.mini_laws.specs.Value.{Variable}
 use Rattle.mini_laws.specs.State.{Writable}
@@ -28,13 +28,15 @@ use Rattle.mini_kept.specs.AlikeBodies.{BodiesKept}
 use Rattle.mini_kept.specs.Carried.{numbers}
 use Rattle.mini_kept.specs.Declaring.{declared_all}
 use Rattle.mini_kept.specs.Frames.{Frame, FramesKept}
+use Rattle.mini_kept.specs.KeepsLoosely.{has_member, any_member}
 use Rattle.mini_kept.specs.KeepsNames.{count_of}
+use Rattle.mini_kept.specs.Loosely.{LessOften, FixedKept}
 use Rattle.mini_kept.proofs.Anywhere.{once_anywhere, targets_anywhere}
 use Rattle.mini_kept.proofs.Fixed.{of_children}
 use Rattle.mini_kept.proofs.Hoisting.{hoisted_scoped}
 use Rattle.mini_kept.proofs.Unplaced.{as_body}
-use Rattle.mini_rows.specs.Arranged.{KeptAt}
-use Rattle.mini_rows.specs.Lists.{is_unscoped, binding, declarator, keeps_no_name, bare_declarators, declared_bare, left_behind, Row77Unreached}
+use Rattle.mini_rows.specs.Arranged.{KeptLoosely}
+use Rattle.mini_rows.specs.Lists.{is_unscoped, binding, declarator, encloses, bare_declarators, declared_bare, left_behind, Row77Unreached}
 use Rattle.mini_rows.specs.Sketches.{AList, Asked, AsWholeList, AsWholeItem, Leap}
 use Rattle.mini_rows.proofs.Arranging.{All, Any, Local, sum_all, Summed}
 use Rattle.mini_rows.proofs.ArrangedNames.{ScopedAs, scoped_local, symbol_times, symbols_summed, number_times, numbers_summed, InnerIf, inner_local, Once, once_local, HasTarget, Aimed, aimed_local}
@@ -45,8 +47,9 @@ use Rattle.mini_rows.proofs.ArrangedGather.{concat}
 use Rattle.mini_rows.proofs.ArrangedValues.{Valued}
 use Rattle.mini_rows.proofs.ListKeptValues.{stricter_alone}
 use Rattle.mini_rows.proofs.ListKeptDeclarations.{over, names_if, names_are, body_are, declarations_are, scoped_up as var_scoped_up, symbols_are, inner_is, numbers_are, declared_are, frames_are, bodies_are, once_is, jumps_are}
-use Rattle.mini_rows.proofs.ListKeptStretch.{of_all, sum_items, NamesStretched, Stretched, stretch_kept}
-use Rattle.mini_rows.proofs.UnreachedNames.{nameless_vanishes, hoisted_there}
+use Rattle.mini_rows.proofs.Enclosing.{Declares as Encloses, enclosed}
+use Rattle.mini_rows.proofs.ListKeptStretch.{first_all, second_all, items_of, of_all, sum_items, sum_shortened, NamesStretched, StretchedBut, fixed_stretched, read_is, stretch_kept_by}
+use Rattle.mini_rows.proofs.UnreachedNames.{hoisted_there}
 
 none_in : {A : Type 0} {x : A} → Contains [] x → ⊥
 none_in c = let none : c.0 < 0 = c.1 in omega (arith, none)
@@ -209,7 +212,7 @@ loose t e = absurd (cc e)
 
 -- ---- it, and what is left of it
 
-module _ (t : Tree) (k : Loose t) (e : keeps_no_name t ≡ true) where
+module _ (t : Tree) (k : Loose t) where
   abbrev hoisted : List Name
   hoisted = names_of declared.Hoisted t
 
@@ -232,14 +235,10 @@ module _ (t : Tree) (k : Loose t) (e : keeps_no_name t ≡ true) where
     once = λ a. all_left Once hoisted (var_once hoisted);
   }
 
-  stretched : Stretched (t ▸ none) left
+  stretched : StretchedBut (t ▸ none) left
   stretched = record {
     named = λ strict d f. named;
     calm = λ strict d f. left_calm hoisted;
-    inner = λ b a. all_left (InnerIf b) hoisted (var_inner hoisted b);
-    inner_back = λ b a. (ap (λ c. c || b) (nameless_vanishes t e).inner, tt);
-    fixed = λ y i a. all_left (FixedBy y i) hoisted (var_fixed hoisted y i);
-    fixed_back = λ y i a. (subst (λ f. rank f ≤ i) (sym ((nameless_vanishes t e).fixed y)) (omega arith), tt);
     declares = λ all a. all_left (Declares all) hoisted (var_declares hoisted all (λ y c. a.0 y (hoisted_there t y c)));
     frames = λ fs a. all_left (HasFrames fs) hoisted (var_frames hoisted fs);
     bodies = λ bs r a. all_left (HasBodies bs r) hoisted (var_bodies hoisted bs r);
@@ -247,14 +246,70 @@ module _ (t : Tree) (k : Loose t) (e : keeps_no_name t ≡ true) where
     numbers = λ i. omega (arith, left_sum (number_times i) hoisted (var_numbers hoisted i));
   }
 
+  -- a constant in it goes with the scope that declares it
+  less : (before after : Trees) (z : Option SymbolId) → 1 ≤ times z (declared_in Read t) → times z (declared_in Read (listed (append before (append left after)))) + 1 ≤ times z (declared_in Read (listed (append before (append (t ▸ none) after))))
+  less before after z there = sum_shortened (symbol_times Read z) (symbols_summed Read z) before after (t ▸ none) left (let nothing_left = left_sum (symbol_times Read z) hoisted (var_symbols hoisted Read z) in omega (arith, there, nothing_left))
+
+  fixed_or_less : (before after : Trees) → encloses false t ≡ true → FixedKept StatementList (listed (append before (append (t ▸ none) after))) (listed (append before (append left after)))
+  fixed_or_less before after e = record { by = λ strict s o f v env st a x. subst (λ u. Told u x) (sym (read_is v st)) (told x env (subst (λ u. Scoped u env n) (read_is v st) a)) }
+    where
+      n : Tree
+      n = listed (append before (append (t ▸ none) after))
+
+      w : Tree
+      w = listed (append before (append left after))
+
+      Told : Use → Variable → Type 0
+      Told u x = (fixed_by n x ≡ fixed_by w x) ⊎ LessOften u x n w
+
+      told : (x : Variable) (env : Environment) → Scoped Read env n → Told Read x
+      told x env a = by (enclosed x Read env t e its)
+        where
+          its : Scoped Read env t
+          its = (first_all Any (ScopedAs Read env) AsWholeItem (t ▸ none) after (second_all Any (ScopedAs Read env) AsWholeItem before (append (t ▸ none) after) (items_of Any (ScopedAs Read env) (scoped_local Read env) (append before (append (t ▸ none) after)) a))).0
+
+          by : (fixed_by t x ≡ Writable) ⊎ Encloses x (declared_in Read t) → Told Read x
+          by (inl f) = inl (fixed_stretched x before after (t ▸ none) left (λ i b. all_left (FixedBy x i) hoisted (var_fixed hoisted x i)) (λ i b. (subst (λ g. rank g ≤ i) (sym f) (omega arith), tt)))
+          by (inr d) = inr (record { declared = d.symbol; either = d.either; less = less before after d.symbol d.there })
+
+-- it is a statement, and so no part of parameters
+pub unscoped_member : (t : Tree) → is_unscoped t ≡ true → has_member t ≡ true
+unscoped_member (node shape.ExpressionStatement xs n ts) e = refl
+unscoped_member (node shape.EmptyStatement xs n ts) e = refl
+unscoped_member (node shape.DebuggerStatement xs n ts) e = refl
+unscoped_member (node shape.BlockStatement xs n ts) e = refl
+unscoped_member (node shape.LabeledStatement xs n ts) e = refl
+unscoped_member (node shape.BreakStatement xs n ts) e = refl
+unscoped_member (node shape.ContinueStatement xs n ts) e = refl
+unscoped_member (node shape.ReturnStatement xs n ts) e = refl
+unscoped_member (node shape.ThrowStatement xs n ts) e = refl
+unscoped_member (node shape.IfStatement xs n ts) e = refl
+unscoped_member (node shape.SwitchStatement xs n ts) e = refl
+unscoped_member (node shape.TryStatement xs n ts) e = refl
+unscoped_member (node shape.WhileStatement xs n ts) e = refl
+unscoped_member (node shape.DoWhileStatement xs n ts) e = refl
+unscoped_member (node shape.ForStatement xs n ts) e = refl
+unscoped_member (node shape.ForInStatement xs n ts) e = refl
+unscoped_member (node shape.ForOfStatement xs n ts) e = refl
+unscoped_member (node (shape.VariableDeclaration Var) xs n ts) e = refl
+unscoped_member t e = absurd (cc e)
+
+member_among : (before : Trees) (t : Tree) (after : Trees) → has_member t ≡ true → any_member (append before (t ▸ after)) ≡ true
+member_among none t after e = ap (λ b. b || any_member after) e
+member_among (u ▸ before) t after e = ap (λ b. has_member u || b) (member_among before t after e) ∙ always (has_member u)
+  where
+    always : (b : Bool) → (b || true) ≡ true
+    always true = refl
+    always false = refl
+
 -- ---- in a list
 
 pub regrouped : (before : Trees) (t : Tree) (between last after : Trees) → append before (append (t ▸ append between last) after) ≡ append (append before (t ▸ between)) (append last after)
 regrouped before t between last after = ap (λ ts. append before (t ▸ ts)) (append_more between last after) ∙ sym (append_more before (t ▸ between) (append last after))
 
-pub unreached_kept : (before after : Trees) (n w : Tree) (a b : Trees) → Row77Unreached a b → n ≡ listed (append before (append a after)) → w ≡ listed (append before (append b after)) → KeptAt StatementList n w
+pub unreached_kept : (before after : Trees) (n w : Tree) (a b : Trees) → Row77Unreached a b → n ≡ listed (append before (append a after)) → w ≡ listed (append before (append b after)) → KeptLoosely StatementList n w
 unreached_kept before after n w a b r f g =
     let earlier = append before (r.first ▸ r.between) in
-    subst (λ t. KeptAt StatementList t w) (sym (f ∙ ap (λ ts. listed (append before (append ts after))) r.shape ∙ ap listed (regrouped before r.first r.between (r.gone ▸ none) after)))
-    (subst (KeptAt StatementList (listed (append earlier (append (r.gone ▸ none) after)))) (sym (g ∙ ap (λ ts. listed (append before (append ts after))) r.written ∙ ap listed (regrouped before r.first r.between (left_behind r.gone) after)))
-    (stretch_kept earlier after (r.gone ▸ none) (left_behind r.gone) (stretched r.gone (loose r.gone r.unscoped) r.dropped)))
+    subst (λ t. KeptLoosely StatementList t w) (sym (f ∙ ap (λ ts. listed (append before (append ts after))) r.shape ∙ ap listed (regrouped before r.first r.between (r.gone ▸ none) after)))
+    (subst (KeptLoosely StatementList (listed (append earlier (append (r.gone ▸ none) after)))) (sym (g ∙ ap (λ ts. listed (append before (append ts after))) r.written ∙ ap listed (regrouped before r.first r.between (left_behind r.gone) after)))
+    (stretch_kept_by earlier after (r.gone ▸ none) (left_behind r.gone) (stretched r.gone (loose r.gone r.unscoped)) FixedKept (inr (member_among earlier r.gone after (unscoped_member r.gone r.unscoped))) (fixed_or_less r.gone (loose r.gone r.unscoped) earlier after r.dropped)))

@@ -2,20 +2,22 @@
 use Rattle.std.proofs.Common.{◌≡◌, Bool, true, [], refl, sym, subst, ap, inl, inr}
 use Rattle.mini_model.specs.declared.place.Position.{Position}
 use Rattle.mini_model.specs.declared.place.Position.TheVariants.{StatementList, BodyList}
+use Rattle.mini_model.specs.declared.shape.Shape.{Shape}
 use Rattle.mini_model.specs.Tree.{Tree, Trees, listed}
 use Rattle.mini_model.specs.Paths.{append}
 use Rattle.mini_accept.specs.WellShaped.{Slot, fits}
 use Rattle.mini_kept.specs.KeepsFrames.{is_body_slot}
 use Rattle.mini_kept.specs.KeepsNames.{is_rewritten_place}
-use Rattle.mini_kept.specs.KeepsShapes.{AskedAlike}
+use Rattle.mini_kept.specs.KeepsShapes.{AskedAlike, KeepsShapes}
 use Rattle.mini_kept.specs.Lawful.{Lawful}
+use Rattle.mini_kept.specs.Loosely.{LawfulLoosely}
 use Rattle.mini_kept.specs.Placed.{fits_place}
 use Rattle.mini_kept.proofs.Placed.{listed_body_slot}
 use Rattle.mini_rows.specs.Switches.{Switches}
-use Rattle.mini_rows.specs.Arranged.{KeptAt}
+use Rattle.mini_rows.specs.Arranged.{WhereFixed, KeptAt, KeptLoosely}
 use Rattle.mini_rows.specs.Lists.{Head, Return, Throw, If, Switch, For, Row67, SequencesRow, LoopRow, JoinRow, StretchRow, InList, ListRow, ListContracts, NeighbourRow, EndRow, bare_return, EachIn, EachOf}
 use Rattle.mini_rows.specs.ListLaws.{opens_scope, PlainRow}
-use Rattle.mini_rows.proofs.ArrangedLawful.{kept_is_lawful}
+use Rattle.mini_rows.proofs.ArrangedLawful.{kept_is_loose, fixed_is_lawful, kept_loosely}
 use Rattle.mini_rows.proofs.ListEndsKept.{end_kept, end_fits}
 use Rattle.mini_rows.proofs.ListWeights.{end_in_list}
 use Rattle.mini_rows.proofs.ListKept.{plain_lists_kept, guards_kept, row_77_kept}
@@ -29,7 +31,7 @@ use Rattle.mini_rows.proofs.ListKeptVars.{free_kept, init_kept}
 use Rattle.mini_rows.proofs.ListKeptKeys.{keys_kept}
 use Rattle.mini_rows.proofs.ListMeanings.{lists_mean_same}
 use Rattle.mini_rows.proofs.ListShapes.{list_fits}
-use Rattle.mini_rows.proofs.BodyLists.{same_place, same_slot, body_kept}
+use Rattle.mini_rows.proofs.BodyLists.{same_place, same_slot, body_kept, body_loosely}
 
 -- ---- whichever row it is
 
@@ -68,17 +70,20 @@ module _ (o : Switches) (n w : Tree) (r : InList (NeighbourRow o) n w) where
   row_kept (inr (inr (inl m))) = joins_kept m
   row_kept (inr (inr (inr m))) = sequences_kept m.1
 
-  neighbours_kept : NeighbourRow o r.read r.put → KeptAt StatementList n w
-  neighbours_kept (inl m) = row_kept m
-  neighbours_kept (inr (inr (inr (inl m)))) = each_kept EachOf r.before r.after n w r.read r.put m r.shape r.written
-  neighbours_kept (inr (inr (inr (inr m)))) = each_kept EachIn r.before r.after n w r.read r.put m.1 r.shape r.written
-  neighbours_kept (inr (inr (inl m))) = begun_kept r.before r.after n w r.read r.put m r.shape r.written
-  neighbours_kept (inr (inl (s, inl m))) = guards_kept n w (record { before = r.before; read = r.read; put = r.put; after = r.after; row = m; shape = r.shape; written = r.written })
-  neighbours_kept (inr (inl (s, inr (inr (inl m))))) = leap_kept r.before r.after n w r.read r.put m r.shape r.written
-  neighbours_kept (inr (inl (s, inr (inr (inr m))))) = unreached_kept r.before r.after n w r.read r.put m r.shape r.written
-  neighbours_kept (inr (inl (s, inr (inl m)))) = subst (λ t. KeptAt StatementList t w) (sym r.shape) (subst (KeptAt StatementList (listed (append r.before (append r.read r.after)))) (sym r.written) (row_77_kept r.before r.after r.read r.put m))
+  strictly : KeptAt StatementList n w → KeptLoosely StatementList n w
+  strictly k = kept_loosely StatementList n w k
 
-  list_kept : KeptAt StatementList n w
+  neighbours_kept : NeighbourRow o r.read r.put → KeptLoosely StatementList n w
+  neighbours_kept (inl m) = strictly (row_kept m)
+  neighbours_kept (inr (inr (inr (inl m)))) = strictly (each_kept EachOf r.before r.after n w r.read r.put m r.shape r.written)
+  neighbours_kept (inr (inr (inr (inr m)))) = strictly (each_kept EachIn r.before r.after n w r.read r.put m.1 r.shape r.written)
+  neighbours_kept (inr (inr (inl m))) = strictly (begun_kept r.before r.after n w r.read r.put m r.shape r.written)
+  neighbours_kept (inr (inl (s, inl m))) = strictly (guards_kept n w (record { before = r.before; read = r.read; put = r.put; after = r.after; row = m; shape = r.shape; written = r.written }))
+  neighbours_kept (inr (inl (s, inr (inr (inl m))))) = strictly (leap_kept r.before r.after n w r.read r.put m r.shape r.written)
+  neighbours_kept (inr (inl (s, inr (inr (inr m))))) = unreached_kept r.before r.after n w r.read r.put m r.shape r.written
+  neighbours_kept (inr (inl (s, inr (inl m)))) = strictly (subst (λ t. KeptAt StatementList t w) (sym r.shape) (subst (KeptAt StatementList (listed (append r.before (append r.read r.after)))) (sym r.written) (row_77_kept r.before r.after r.read r.put m)))
+
+  list_kept : KeptLoosely StatementList n w
   list_kept = neighbours_kept r.row
 
 -- ---- what a parent asks of a list, and where lists stand
@@ -116,16 +121,17 @@ module _ (o : Switches) where
   asked BodyList n w (inr r) = list_asked (EndRow o bare_return) BodyList n w (end_in_list (EndRow o bare_return) n w r)
   asked p n w r = absurd r
 
-  kept : (p : Position) (n w : Tree) → ListRow o p n w → KeptAt p n w
+  kept : (p : Position) (n w : Tree) → ListRow o p n w → KeptLoosely p n w
   kept StatementList n w r = list_kept o n w r
-  kept BodyList n w (inl r) = body_kept n w (list_kept o n w r)
-  kept BodyList n w (inr r) = body_kept n w (end_kept o n w r)
+  kept BodyList n w (inl r) = body_loosely n w (list_kept o n w r)
+  kept BodyList n w (inr r) = kept_loosely BodyList n w (body_kept n w (end_kept o n w r))
   kept p n w r = absurd r
 
-  pub lists_lawful : Lawful (ListContracts o)
-  lists_lawful =
-      kept_is_lawful (ListContracts o) (lists_mean_same o)
-      (record { fitting = λ p n w c. fitting p n w c.row; asked = λ p n w c. asked p n w c.row })
-      (λ p n w c. place p n w c.row)
-      (λ p n w c. slot p n w c.row)
-      (λ p n w c. kept p n w c.row)
+  shapes_kept : KeepsShapes (ListContracts o)
+  shapes_kept = record { fitting = λ p n w c. fitting p n w c.row; asked = λ p n w c. asked p n w c.row }
+
+  pub lists_loose : (K : Shape → Bool) → LawfulLoosely K (ListContracts o)
+  lists_loose = kept_is_loose (ListContracts o) (lists_mean_same o) shapes_kept (λ p n w c. place p n w c.row) (λ p n w c. slot p n w c.row) (λ p n w c. kept p n w c.row)
+
+  pub lists_lawful : Lawful (WhereFixed (ListContracts o))
+  lists_lawful = fixed_is_lawful (ListContracts o) (lists_mean_same o) shapes_kept (λ p n w c. place p n w c.row) (λ p n w c. slot p n w c.row) (λ p n w c. kept p n w c.row)

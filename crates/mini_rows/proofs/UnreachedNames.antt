@@ -1,4 +1,4 @@
--- What goes where no name that can't be written goes with it, and the `var` names that are left of it.
+-- The `var` names that are left of what goes.
 use Rattle.std.specs.Prelude.{◌≡◌, refl, ◌&&◌, ◌||◌, Bool, true, false, List, [], ◌∷◌, ◌++◌, Contains}
 use Rattle.std.proofs.Common.{◌<◌, ap, ◌∙◌, sym, subst, inl, inr, ◌⊎◌, true≢false, arith}
 use Rattle.std.proofs.lemmas.Bool.{and_parts}
@@ -20,69 +20,6 @@ use Rattle.mini_laws.specs.Naming.{summary, summaries, lets_first}
 use Rattle.mini_laws.specs.Fixity.{fixity_by, declared_by as declares_by, stricter, fixed_by, fixed_by_any}
 use Rattle.mini_kept.specs.Declaring.{declared as names_declared, declared_all}
 use Rattle.mini_kept.proofs.Bools.{left}
-use Rattle.mini_rows.specs.Arranged.{Vanishes}
-use Rattle.mini_rows.specs.Lists.{first_is_absent, keeps_no_name_by, keeps_no_name, keep_no_name}
-
--- ---- no inner expression, and nothing that can't be written
-
-or_none : (a b : Bool) → a ≡ false → b ≡ false → a || b ≡ false
-or_none false b e f = f
-or_none true b e f = absurd (true≢false e)
-
-not_inner : (h : Shape) (b : Bool) → keeps_no_name_by h b ≡ true → is_inner h ≡ false
-not_inner shape.InnerExpression b e = absurd (true≢false (sym e))
-not_inner h b e = refl
-
-mutual
-  unfolding has_inner
-
-  no_inner : (t : Tree) → keeps_no_name t ≡ true → has_inner t ≡ false
-  no_inner (node h xs n ts) e = let (own, rest) = and_parts (keeps_no_name_by h (first_is_absent ts)) (keep_no_name ts) e in or_none (is_inner h) (any_inner ts) (not_inner h (first_is_absent ts) own) (none_inner ts rest)
-
-  none_inner : (ts : Trees) → keep_no_name ts ≡ true → any_inner ts ≡ false
-  none_inner none e = refl
-  none_inner (t ▸ ts) e = let (first, rest) = and_parts (keeps_no_name t) (keep_no_name ts) e in or_none (has_inner t) (any_inner ts) (no_inner t first) (none_inner ts rest)
-
--- no name stands there
-absent_lets : (t : Tree) → is_absent t ≡ true → (summary t).lets ≡ []
-absent_lets (node shape.Absent xs n us) e = refl
-absent_lets (node h xs n us) e = absurd (true≢false (sym e))
-
-no_first : (ts : Trees) → first_is_absent ts ≡ true → lets_first (summaries ts) ≡ []
-no_first none e = refl
-no_first (t ▸ ts) e = absent_lets t e
-
-freely : (b : Bool) → choose b Writable Writable ≡ Writable
-freely true = refl
-freely false = refl
-
-own_free : (h : Shape) (ts : Trees) (x : Variable) → keeps_no_name_by h (first_is_absent ts) ≡ true → choose (is_in x (declares_by h (summaries ts))) (fixity_by h) Writable ≡ Writable
-own_free (shape.VariableDeclaration Const) ts x e = absurd (true≢false (sym e))
-own_free (shape.VariableDeclaration k) ts x e = freely (is_in x (lets_first (summaries ts)))
-own_free (shape.Function false g ds) ts x e = ap (λ l. choose (is_in x l) (fixity_by (shape.Function false g ds)) Writable) (no_first ts e)
-own_free (shape.Function true g ds) ts x e = freely (is_in x (lets_first (summaries ts)))
-own_free (shape.Class false) ts x e = ap (λ l. choose (is_in x l) (fixity_by (shape.Class false)) Writable) (no_first ts e)
-own_free (shape.Class true) ts x e = absurd (true≢false (sym e))
-own_free shape.ImportSpecifier ts x e = absurd (true≢false (sym e))
-own_free shape.ImportDefaultSpecifier ts x e = absurd (true≢false (sym e))
-own_free shape.ImportNamespaceSpecifier ts x e = absurd (true≢false (sym e))
-own_free h ts x e = freely (is_in x (declares_by h (summaries ts)))
-
-both_writable : (f g : Fixed) → f ≡ Writable → g ≡ Writable → stricter f g ≡ Writable
-both_writable f g e h = ap (λ x. stricter x g) e ∙ h
-
-mutual
-  not_fixed : (t : Tree) → keeps_no_name t ≡ true → (x : Variable) → fixed_by t x ≡ Writable
-  not_fixed (node h xs n ts) e x =
-      let (own, rest) = and_parts (keeps_no_name_by h (first_is_absent ts)) (keep_no_name ts) e in
-      both_writable (choose (is_in x (declares_by h (summaries ts))) (fixity_by h) Writable) (fixed_by_any ts x) (own_free h ts x own) (none_fixed ts rest x)
-
-  none_fixed : (ts : Trees) → keep_no_name ts ≡ true → (x : Variable) → fixed_by_any ts x ≡ Writable
-  none_fixed none e x = refl
-  none_fixed (t ▸ ts) e x = let (first, rest) = and_parts (keeps_no_name t) (keep_no_name ts) e in both_writable (fixed_by t x) (fixed_by_any ts x) (not_fixed t first x) (none_fixed ts rest x)
-
-pub nameless_vanishes : (t : Tree) → keeps_no_name t ≡ true → Vanishes t
-nameless_vanishes t e = record { inner = no_inner t e; fixed = not_fixed t e }
 
 -- ---- what a tree declares it declares by binding identifiers
 

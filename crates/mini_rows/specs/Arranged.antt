@@ -29,13 +29,14 @@ use Rattle.mini_kept.specs.KeepsFrames.{is_body_slot}
 use Rattle.mini_kept.specs.KeepsShapes.{KeepsShapes}
 use Rattle.mini_kept.specs.Lawful.{Lawful}
 use Rattle.mini_kept.specs.Lifted.{is_piece}
+use Rattle.mini_kept.specs.Loosely.{FixedKept}
 use Rattle.mini_kept.specs.Placed.{is_statement_list, fits_place}
 use Rattle.mini_kept.specs.Standing.{Stands}
 use Rattle.mini_rows.specs.Lists.{is_unscoped, are_unscoped, return_statement, throw_statement, Row66Empty, Row66Joined, Row79, Row73, Row73Bare, Row76, InList}
 use Rattle.mini_rows.specs.Sketches.{Sketch, Items, Parts, Hole, Part, Stretch, Leaps, AsWhole, AsValue, parts_of, list_at, filled, items_filled, Free, rearranges_expression, rearranges_statement, rearranges_list, rearranges_list_once}
 
--- of one node and what is written for it: what a lawful relation keeps of it
-pub record KeptAt (p : Position) (n w : Tree) : Type 0 where
+-- of one node and what is written for it: what a lawful relation keeps of it, where F says what it keeps of what a write of a variable does
+pub record KeptBy (F : Position → Tree → Tree → Type 0) (p : Position) (n w : Tree) : Type 0 where
   pub keeps : (strict : Bool) (s : Slot) → fits_place p s ≡ true → fits strict s n ≡ true → KeepsLoosely p n w
   pub piece : is_piece (shape_of n) ≡ false
   pub kind : (strict : Bool) (s : Slot) → fits strict s n ≡ true → arrow_kind (shape_of n) ≡ arrow_kind (shape_of w)
@@ -44,8 +45,23 @@ pub record KeptAt (p : Position) (n w : Tree) : Type 0 where
   pub listed : is_statement_list p ≡ true → (strict : Bool) (d : Depth) → fits strict (many (a_statement d)) n ≡ true → (is_module : Bool) → ports_of is_module (children n) ≡ ports_of is_module (children w)
   pub exported : (strict : Bool) → fits strict (one a_default_export) n ≡ true → (is_declaration (shape_of n) ≡ false) × (is_declaration (shape_of w) ≡ false)
   pub frames : (strict : Bool) (s : Slot) → fits_place p s ≡ true → fits strict s n ≡ true → FramesKept (frames None n) (frames None w)
-  pub fixed : (x : Variable) → fixed_by n x ≡ fixed_by w x
+  pub fixed : F p n w
   pub declared : (x : Name) → Contains (declared w) x → Contains (declared n) x
+
+-- all of it
+abbrev pub SameFixed : Position → Tree → Tree → Type 0
+SameFixed p n w = (x : Variable) → fixed_by n x ≡ fixed_by w x
+
+abbrev pub KeptAt : Position → Tree → Tree → Type 0
+KeptAt = KeptBy SameFixed
+
+-- the instances of a relation that keep it
+abbrev pub WhereFixed : (Position → Tree → Tree → Type 0) → Position → Tree → Tree → Type 0
+WhereFixed R p n w = R p n w × SameFixed p n w
+
+-- what it does of variables that are still declared
+abbrev pub KeptLoosely : Position → Tree → Tree → Type 0
+KeptLoosely = KeptBy FixedKept
 
 -- ---- what is asked of parts that are moved or dropped
 

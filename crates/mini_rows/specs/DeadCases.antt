@@ -7,7 +7,7 @@ use Rattle.mini_model.specs.Tree.{Tree, Trees, node, none, ◌▸◌, leaf, abse
 use Rattle.mini_laws.specs.Value.{Value, Undefined, Null, Boolean, Number, String}
 use Rattle.mini_laws.specs.Operators.{strictly_equal}
 use Rattle.mini_rows.specs.Cases.{switch_case}
-use Rattle.mini_rows.specs.Lists.{switch, void_zero, is_var_shape, are_unscoped, declares_nothing, any, are_terminated, keeps_no_name, left_behind, is_lighter_left}
+use Rattle.mini_rows.specs.Lists.{switch, void_zero, is_var_shape, are_unscoped, declares_nothing, any, are_terminated, encloses, left_behind, is_lighter_left}
 use Rattle.mini_rows.specs.Loops.{is_body_shape}
 
 -- ---- values that are written out
@@ -93,10 +93,10 @@ is_plain_var _ = false
 abbrev pub leaves_little : Tree → Bool
 leaves_little t = (hoists_nothing t || is_plain_var t) || is_lighter_left t
 
--- statements that give no name that can't be written, and of which nothing is left behind but such names
+-- statements that take along each name that can't be written, and of which nothing is left behind but names of `var`s
 abbrev pub all_go : Trees → Bool
 all_go none = true
-all_go (t ▸ ts) = (keeps_no_name t && leaves_little t) && all_go ts
+all_go (t ▸ ts) = (encloses false t && leaves_little t) && all_go ts
 
 -- those names, each statement's in a `var` without initializers
 abbrev pub left_all : Trees → Trees
@@ -109,7 +109,7 @@ left_cases (choice test statements cs) = append (left_all statements) (left_case
 
 -- a test of which nothing is
 abbrev pub test_goes : Tree → Bool
-test_goes t = keeps_no_name t && (is_absent t || declares_nothing t)
+test_goes t = encloses false t && (is_absent t || declares_nothing t)
 
 abbrev pub cases_go : Choices → Bool
 cases_go no_choices = true

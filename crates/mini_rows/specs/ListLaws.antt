@@ -1,6 +1,7 @@
 -- What the rows of lists of statements keep.
 use Rattle.std.specs.Prelude.{◌≡◌, ◌⊎◌, Bool, true, false, None}
 use Rattle.mini_model.specs.declared.place.Position.TheVariants.{StatementList}
+use Rattle.mini_model.specs.declared.shape.Shape.{Shape}
 use Rattle.mini_model.specs.Tree.{Tree, Trees}
 use Rattle.mini_laws.specs.State.{State, ok, Environment}
 use Rattle.mini_laws.specs.Demand.{Stat, LabelSet}
@@ -8,8 +9,9 @@ use Rattle.mini_laws.specs.Step.{means}
 use Rattle.mini_laws.specs.Rewritten.{MeansSame}
 use Rattle.mini_laws.specs.Weights.{Lightens}
 use Rattle.mini_kept.specs.Lawful.{Lawful}
+use Rattle.mini_kept.specs.Loosely.{LawfulLoosely}
 use Rattle.mini_rows.specs.Switches.{Switches}
-use Rattle.mini_rows.specs.Arranged.{KeptAt, NeighboursRow}
+use Rattle.mini_rows.specs.Arranged.{WhereFixed, KeptAt, NeighboursRow}
 use Rattle.mini_rows.specs.Lists.{Head, Switch, For, Row67, Row67Absent, Row68, InList, ListContracts, is_terminated}
 
 -- the meaning
@@ -56,9 +58,13 @@ OpeningRow a b = OpeningHead a b ⊎ Row67Absent a b
 abbrev pub OpeningListsKept : Type 0
 OpeningListsKept = (n w : Tree) → InList OpeningRow n w → KeptAt StatementList n w
 
--- the rows of lists are lawful, whatever the options let happen
+-- the rows of lists are lawful, whatever the options let happen, where what a write of each variable does stays
 abbrev pub ListsLawful : Type 0
-ListsLawful = (o : Switches) → Lawful (ListContracts o)
+ListsLawful = (o : Switches) → Lawful (WhereFixed (ListContracts o))
+
+-- and loosely, where constants go that are declared in what goes
+abbrev pub ListsLoose : Type 0
+ListsLoose = (o : Switches) (K : Shape → Bool) → LawfulLoosely K (ListContracts o)
 
 -- ---- ends
 

@@ -407,32 +407,100 @@ pub record Row77Leap (a b : Trees) : Type 0 where
 
 -- What never runs
 
--- whether the first of some children is absent
-abbrev pub first_is_absent : Trees → Bool
-first_is_absent none = false
-first_is_absent (t ▸ ts) = is_absent t
+-- Where names that can't be written are declared: constants, and the names of function expressions and of classes (ECMA-262,
+-- "Runtime Semantics: InstantiateOrdinaryFunctionExpression", "ClassDefinitionEvaluation"). A statement that goes takes such a name along
+-- where a scope in it declares it
 
--- a node that is no inner expression, and gives no name that can't be written: no constant, and no function expression or class with a
--- name of its own (ECMA-262, "Runtime Semantics: InstantiateOrdinaryFunctionExpression", "ClassDefinitionEvaluation")
-abbrev pub keeps_no_name_by : Shape → Bool → Bool
-keeps_no_name_by shape.InnerExpression nameless = false
-keeps_no_name_by (shape.VariableDeclaration Const) nameless = false
-keeps_no_name_by (shape.Function false is_generator directives) nameless = nameless
-keeps_no_name_by (shape.Class false) nameless = nameless
-keeps_no_name_by (shape.Class true) nameless = false
-keeps_no_name_by shape.ImportSpecifier nameless = false
-keeps_no_name_by shape.ImportDefaultSpecifier nameless = false
-keeps_no_name_by shape.ImportNamespaceSpecifier nameless = false
-keeps_no_name_by h nameless = true
+-- a name, or nothing
+abbrev pub is_name_shape : Shape → Bool
+is_name_shape shape.BindingIdentifier = true
+is_name_shape shape.Absent = true
+is_name_shape _ = false
 
--- no node in it does
+-- `x = a`, of a name
+abbrev pub declares_name_by : Shape → Trees → Bool
+declares_name_by shape.VariableDeclarator ts = is_name_shape (shape_of (child_or_absent ts 0))
+declares_name_by _ ts = false
+
+abbrev pub declares_name : Tree → Bool
+declares_name d = declares_name_by (shape_of d) (children d)
+
+abbrev pub declare_names : Trees → Bool
+declare_names none = true
+declare_names (d ▸ ds) = declares_name d && declare_names ds
+
+abbrev pub is_list_shape : Shape → Bool
+is_list_shape shape.Listed = true
+is_list_shape _ = false
+
+-- the children of a `const` that declares names, and no patterns
+abbrev pub are_constants : Trees → Bool
+are_constants ts = nat_eq (count ts) 1 && (is_list_shape (shape_of (child_or_absent ts 0)) && declare_names (children (child_or_absent ts 0)))
+
+-- a node whose own name a scope declares that it opens itself, or one around it, where one holds it
+abbrev pub encloses_by : Bool → Shape → Trees → Bool
+encloses_by held (shape.VariableDeclaration Const) ts = held && are_constants ts
+encloses_by held (shape.Function false is_generator directives) ts = nat_eq (count ts) 3 && is_name_shape (shape_of (child_or_absent ts 0))
+encloses_by held (shape.Class false) ts = nat_eq (count ts) 4 && is_name_shape (shape_of (child_or_absent ts 0))
+encloses_by held (shape.Class true) ts = nat_eq (count ts) 4 && is_name_shape (shape_of (child_or_absent ts 3))
+encloses_by held shape.ImportSpecifier ts = false
+encloses_by held shape.ImportDefaultSpecifier ts = false
+encloses_by held shape.ImportNamespaceSpecifier ts = false
+encloses_by held h ts = true
+
+abbrev pub is_first : ℕ → Bool
+is_first zero = true
+is_first (suc i) = false
+
+abbrev pub is_second : ℕ → Bool
+is_second (suc zero) = true
+is_second i = false
+
+abbrev pub is_third : ℕ → Bool
+is_third (suc (suc zero)) = true
+is_third i = false
+
+-- a node opens a scope of the names that this child declares: a block, a `switch`, the head of a loop, a function
+abbrev pub scopes_child : Shape → ℕ → Bool
+scopes_child shape.BlockStatement i = is_first i
+scopes_child shape.StaticBlock i = is_first i
+scopes_child shape.ForStatement i = is_first i
+scopes_child shape.ForInStatement i = is_first i
+scopes_child shape.ForOfStatement i = is_first i
+scopes_child shape.SwitchStatement i = is_second i
+scopes_child (shape.ArrowFunctionExpression directives) i = is_second i
+scopes_child (shape.Function is_declaration is_generator directives) i = is_third i
+scopes_child h i = false
+
+-- it declares those names itself
+abbrev pub hands_on_child : Shape → ℕ → Bool
+hands_on_child shape.FunctionBody i = is_first i
+hands_on_child shape.SwitchCase i = is_second i
+hands_on_child shape.Listed i = true
+hands_on_child h i = false
+
+abbrev pub is_body_of_function : Shape → Bool
+is_body_of_function shape.FunctionBody = true
+is_body_of_function _ = false
+
+abbrev pub has_body : Shape → Bool
+has_body (shape.ArrowFunctionExpression directives) = true
+has_body (shape.Function is_declaration is_generator directives) = true
+has_body _ = false
+
+-- whether a scope has the names that the child at an index declares, a child of this shape: the node's, or one around it
+abbrev pub holds : Bool → Shape → ℕ → Shape → Bool
+holds held h i g = (scopes_child h i || (hands_on_child h i && held)) && (has_body h || not (is_body_of_function g))
+
+-- each such name in it is declared by a scope in it, or by one around, where one holds it
 abbrev mutual
-  pub keeps_no_name : Tree → Bool
-  keeps_no_name (node h xs n ts) = keeps_no_name_by h (first_is_absent ts) && keep_no_name ts
+  pub encloses : Bool → Tree → Bool
+  encloses held (node h xs n ts) = encloses_by held h ts && all_enclose held h 0 ts
 
-  pub keep_no_name : Trees → Bool
-  keep_no_name none = true
-  keep_no_name (t ▸ ts) = keeps_no_name t && keep_no_name ts
+  -- of children from an index on
+  pub all_enclose : Bool → Shape → ℕ → Trees → Bool
+  all_enclose held h i none = true
+  all_enclose held h i (t ▸ ts) = encloses (holds held h i (shape_of t)) t && all_enclose held h (suc i) ts
 
 -- `x, y`, each without an initializer
 abbrev pub bare_declarators : List Name → Trees
@@ -460,7 +528,7 @@ pub record Row77Unreached (a b : Trees) : Type 0 where
   pub gone : Tree
   pub terminated : is_terminated first ≡ true
   pub unscoped : is_unscoped gone ≡ true
-  pub dropped : keeps_no_name gone ≡ true
+  pub dropped : encloses false gone ≡ true
   pub lighter : is_lighter_left gone ≡ true
   pub shape : a ≡ first ▸ append between (gone ▸ none)
   pub written : b ≡ first ▸ append between (left_behind gone)

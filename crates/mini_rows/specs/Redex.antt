@@ -10,6 +10,7 @@ use Rattle.mini_laws.specs.Value.{VariableSet}
 use Rattle.mini_kept.specs.Lawful.{Lawful}
 use Rattle.mini_kept.specs.Loosely.{LawfulWith}
 use Rattle.mini_rows.specs.Switches.{Switches, let_go}
+use Rattle.mini_rows.specs.Arranged.{WhereFixed}
 use Rattle.mini_rows.specs.Spellings.{SpellingRow}
 use Rattle.mini_rows.specs.Branches.{BranchRow}
 use Rattle.mini_rows.specs.Lists.{ListRow}
@@ -64,10 +65,10 @@ IsSettled o W p n = Redex o W p n → ⊥
 abbrev pub HasNoRedex : Switches → VariableSet → Position → Tree → Type 0
 HasNoRedex o W p n = Everywhere (IsSettled o W) p n
 
--- what the rows make is lawful, whatever the options
+-- what the rows make is lawful, whatever the options, where what a write of each variable does stays
 abbrev pub RowsAreLawful : Type 0
-RowsAreLawful = (o : Switches) → Lawful (Contracts o)
+RowsAreLawful = (o : Switches) → Lawful (WhereFixed (Contracts o))
 
--- and loosely, where names go that nothing mentions, and those variables can be written
+-- and loosely, where constants go that are declared in what goes, and names that nothing mentions, and those variables can be written
 abbrev pub RowsAreLoose : Type 0
 RowsAreLoose = (o : Switches) (W : VariableSet) → LawfulWith (let_go o) W (Rewrites o W)
