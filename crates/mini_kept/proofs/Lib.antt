@@ -57,3 +57,5 @@ pub mod FixedSteps
 pub mod Loosely
 pub mod Undeclared
 pub mod Refixed
+pub mod ProgramPlaces
+pub mod Rooted

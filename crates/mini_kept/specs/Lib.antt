@@ -22,4 +22,5 @@ pub mod Declaring
 pub mod KeepsShapes
 pub mod Lawful
 pub mod Loosely
+pub mod Rooted
 pub mod Swaps

@@ -7,6 +7,7 @@ ghost use Rattle.mini_kept.specs.Kept.{EachBelowKept, EachKept, ReachesWellShape
 ghost use Rattle.mini_kept.specs.KeepsShapes.{AnyStepFits, AnyReachesWellShaped};
 ghost use Rattle.mini_kept.specs.Lawful.{LawfulKeeps, LawfulJoin, LawfulNarrowed, RowsAreLawful};
 ghost use Rattle.mini_kept.specs.Loosely.{LooselyKeeps, LawfulIsLoose, LooseIsSteady, LooseJoin, LooseNarrowed, LooseWider, SteadilyKeeps, SteadyJoin, SteadyNarrowed, SteadyWider};
+ghost use Rattle.mini_kept.specs.Rooted.{RootedJoin, RootedKeeps, RootedNarrowed, RootedWider, SteadyIsRooted};
 ghost use Rattle.mini_kept.specs.Swaps.{BranchesSwapped, NegationLeft};
 ghost use Rattle.mini_kept.specs.Lifted.{RowsKeepNames, ReachesKeepsNames};
 ghost use Rattle.mini_kept.specs.NameLaws.{ResolvedRenumbered, NumbersCarried, ProgramCarried};
@@ -150,6 +151,20 @@ pub fn steady_rules_join<R: Rewrites, S: Rewrites>()
     ensures joined { SteadyJoin R.gives S.gives }
     ensures narrowed { SteadyNarrowed R.gives S.gives }
     ensures wider { SteadyWider R.gives }
+{}
+
+/// So do those of a relation that may give a whole program other statements by what is known of its body: no node asks a program, so that
+/// it has to keep no meaning at a place. What is lawful at each node is so.
+pub fn rooted_rewriting_keeps<R: Rewrites>()
+    ensures keeps { RootedKeeps R.gives }
+    ensures steady { SteadyIsRooted R.gives }
+{}
+
+/// What one such relation makes, or another, is one, what makes no more than one is, and what rests on something may rest on more.
+pub fn rooted_rules_join<R: Rewrites, S: Rewrites>()
+    ensures joined { RootedJoin R.gives S.gives }
+    ensures narrowed { RootedNarrowed R.gives S.gives }
+    ensures wider { RootedWider R.gives }
 {}
 
 /// What the rows make is lawful.

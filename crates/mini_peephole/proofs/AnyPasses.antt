@@ -31,10 +31,12 @@ use Rattle.mini_kept.specs.Declaring.{declared}
 use Rattle.mini_kept.specs.Frames.{frames_in}
 use Rattle.mini_kept.specs.ShownFrames.{KeyGivenUnder, gone_from, FramesShown}
 use Rattle.mini_laws.specs.Writable.{writable_by, writable_in}
-use Rattle.mini_kept.specs.Loosely.{symbol, LawfulWith, LawfulUnder, undeclared, ProgramIsKeptUnder}
+use Rattle.mini_kept.specs.Loosely.{symbol, LawfulWith, undeclared, ProgramIsKeptUnder}
+use Rattle.mini_kept.specs.Rooted.{LawfulRooted}
 use Rattle.mini_kept.specs.Without.{BodySets, none_steady, Within, Steadies, Begins, Unseen, AlikeUnder}
 use Rattle.mini_kept.proofs.Gone.{avoids}
-use Rattle.mini_kept.proofs.Loosely.{steadily_keeps, loose_is_steady}
+use Rattle.mini_kept.proofs.Loosely.{loose_is_steady}
+use Rattle.mini_kept.proofs.Rooted.{rooted_keeps, steady_is_rooted}
 use Rattle.mini_kept.proofs.ReadBack.{IsRead, IsReadBack, read_back}
 use Rattle.mini_kept.proofs.Refixed.{avoids_all, roots_avoid, refixed}
 use Rattle.mini_kept.proofs.SameShape.{shaped_resolved}
@@ -179,7 +181,7 @@ module _ (S : BodySets) (G : Tree → Position → Tree → Tree → Type 0) (D 
       }
 
 -- what is lawful where T says what is known of the bodies of each program, and S says all of that
-module _ (G : Tree → Position → Tree → Tree → Type 0) (D : Tree → Position → Tree → Type 0) (o : CompressOptions) (T : Tree → BodySets) (S : BodySets) (l : (q : Tree) → LawfulUnder (let_go (switches o)) (writable_in q) (T q) (G q)) (d : Data) (m : Minified) (t : Tree) (read : Accepts d t) (r : IsWritten G D (resolved_program t) o.passes m) (begins : EachBegins (λ q. PartEach (T q) S) r.passes.reached) (part : PartEach S (steady_in r.output)) where
+module _ (G : Tree → Position → Tree → Tree → Type 0) (D : Tree → Position → Tree → Type 0) (o : CompressOptions) (T : Tree → BodySets) (S : BodySets) (l : (q : Tree) → LawfulRooted (let_go (switches o)) (writable_in q) (T q) (G q)) (d : Data) (m : Minified) (t : Tree) (read : Accepts d t) (r : IsWritten G D (resolved_program t) o.passes m) (begins : EachBegins (λ q. PartEach (T q) S) r.passes.reached) (part : PartEach S (steady_in r.output)) where
   pub start : IsRead t read.1
   start = is_read d read.0 read.1 t read.2
 
@@ -190,7 +192,7 @@ module _ (G : Tree → Position → Tree → Tree → Type 0) (D : Tree → Posi
   kept =
       let K = let_go (switches o) in
       let v = resolved_program t in
-      steadily_keeps (Any G K T S l v) K (writable_by v) S (any_lawful G K T S l v) v r.output (any_reach G K T S l v shaped (scoped Read [] 0 t) (resolved_distinct t) r.passes.reached begins refl) shaped
+      rooted_keeps (Any G K T S l v) K (writable_by v) S (any_lawful G K T S l v) v r.output (any_reach G K T S l v shaped (scoped Read [] 0 t) (resolved_distinct t) r.passes.reached begins refl) shaped
 
   pub again : (u : Tree) × Accepts (program_data r.output) u × (text u ≡ text r.output)
   again = read_again r.output (kept.names.shaped shaped)
@@ -216,8 +218,8 @@ none_in : (u : Tree) → PartEach none_steady (steady_in u)
 none_in u = none_part (steady_in u)
 
 module _ (G : Tree → Position → Tree → Tree → Type 0) (D : Tree → Position → Tree → Type 0) (o : CompressOptions) (l : (q : Tree) → LawfulWith (let_go (switches o)) (writable_in q) (G q)) (d : Data) (m : Minified) (t : Tree) (read : Accepts d t) (r : IsWritten G D (resolved_program t) o.passes m) where
-  anyway : (q : Tree) → LawfulUnder (let_go (switches o)) (writable_in q) none_steady (G q)
-  anyway q = loose_is_steady (G q) (let_go (switches o)) (writable_in q) none_steady (l q)
+  anyway : (q : Tree) → LawfulRooted (let_go (switches o)) (writable_in q) none_steady (G q)
+  anyway q = steady_is_rooted (G q) (let_go (switches o)) (writable_in q) none_steady (loose_is_steady (G q) (let_go (switches o)) (writable_in q) none_steady (l q))
 
   nothing_asked : EachBegins (λ q. PartEach none_steady none_steady) r.passes.reached
   nothing_asked = each_begins (λ q. PartEach none_steady none_steady) (λ q. each_itself none_steady) r.passes.reached

@@ -21,9 +21,10 @@ use Rattle.mini_tree.specs.Wider.{reaches_of}
 use Rattle.mini_tree.proofs.Reaching.{reaches_trans}
 use Rattle.mini_laws.specs.Writable.{is_open, writable_by, writable_in, mentions, any_mentions}
 use Rattle.mini_kept.specs.Loosely.{symbol, LawfulUnder, undeclared, ProgramIsKeptUnder}
+use Rattle.mini_kept.specs.Rooted.{Inner, LawfulRooted}
 use Rattle.mini_kept.specs.Without.{BodySets}
 use Rattle.mini_kept.proofs.Gone.{avoids}
-use Rattle.mini_kept.proofs.Loosely.{steadily_keeps, steady_wider}
+use Rattle.mini_kept.proofs.Rooted.{rooted_keeps, rooted_wider}
 use Rattle.mini_kept.proofs.WithoutLists.{Part, PartEach}
 use Rattle.mini_peephole.specs.AnyPasses.{EachBegins}
 
@@ -71,33 +72,36 @@ open_written false = refl
 pub open_in : (strict : Bool) (t : Tree) (x : Variable) → writable_by t x ≡ true → fixed_in strict t x ≡ Writable
 open_in strict t x e = ap (written_in strict) (open_is _ e) ∙ open_written strict
 
-module _ (G : Tree → Position → Tree → Tree → Type 0) (K : Shape → Bool) (T : Tree → BodySets) (S : BodySets) (l : (q : Tree) → LawfulUnder K (writable_in q) (T q) (G q)) (t : Tree) where
+module _ (G : Tree → Position → Tree → Tree → Type 0) (K : Shape → Bool) (T : Tree → BodySets) (S : BodySets) (l : (q : Tree) → LawfulRooted K (writable_in q) (T q) (G q)) (t : Tree) where
   -- what is made of a tree over some program in which nothing can be written that the first forbids to write, and nothing is steady but S
   abbrev pub Any : Position → Tree → Tree → Type 0
   Any p n w = (q : Tree) × Part (writable_in q) (writable_by t) × PartEach (T q) S × G q p n w
 
-  at_first : (q : Tree) → Part (writable_in q) (writable_by t) → PartEach (T q) S → LawfulUnder K (writable_by t) S (G q)
-  at_first q f g = steady_wider (G q) K (writable_in q) (writable_by t) (T q) S f g (l q)
+  at_first : (q : Tree) → Part (writable_in q) (writable_by t) → PartEach (T q) S → LawfulRooted K (writable_by t) S (G q)
+  at_first q f g = rooted_wider (G q) K (writable_in q) (writable_by t) (T q) S f g (l q)
 
-  each : {X : Position → Tree → Tree → Type 0} → ((q : Tree) (p : Position) (n w : Tree) → G q p n w → X p n w) → (p : Position) (n w : Tree) → Any p n w → X p n w
-  each f p n w r = f r.0 p n w r.3
+  each : {X : Position → Tree → Tree → Type 0} → ((q : Tree) (p : Position) (n w : Tree) → Inner (G q) p n w → X p n w) → (p : Position) (n w : Tree) → Inner Any p n w → X p n w
+  each f p n w r = f r.0.0 p n w (r.0.3, r.1)
+
+  inner_lawful : LawfulUnder K (writable_by t) S (Inner Any)
+  inner_lawful = record {
+    shapes = record { fitting = each (λ q. (l q).inner.shapes.fitting); asked = each (λ q. (l q).inner.shapes.asked) };
+    places = record {
+      names = record { places = each (λ q. (l q).inner.places.names.places); pieces = each (λ q. (l q).inner.places.names.pieces); keeps = each (λ q. (l q).inner.places.names.keeps) };
+      slots = each (λ q. (l q).inner.places.slots);
+      ports = each (λ q. (l q).inner.places.ports);
+      listed = λ p n w e r. (l r.0.0).inner.places.listed p n w e (r.0.3, r.1);
+      exported = each (λ q. (l q).inner.places.exported);
+    };
+    reads = each (λ q. (l q).inner.reads);
+    kind = each (λ q. (l q).inner.kind);
+    declared = each (λ q. (l q).inner.declared);
+    instances = λ p n w r. (at_first r.0.0 r.0.1 r.0.2).inner.instances p n w (r.0.3, r.1);
+  }
 
   -- what is lawful over every program is lawful over all together
-  pub any_lawful : LawfulUnder K (writable_by t) S Any
-  any_lawful = record {
-    shapes = record { fitting = each (λ q. (l q).shapes.fitting); asked = each (λ q. (l q).shapes.asked) };
-    places = record {
-      names = record { places = each (λ q. (l q).places.names.places); pieces = each (λ q. (l q).places.names.pieces); keeps = each (λ q. (l q).places.names.keeps) };
-      slots = each (λ q. (l q).places.slots);
-      ports = each (λ q. (l q).places.ports);
-      listed = λ p n w e r. (l r.0).places.listed p n w e r.3;
-      exported = each (λ q. (l q).places.exported);
-    };
-    reads = each (λ q. (l q).reads);
-    kind = each (λ q. (l q).kind);
-    declared = each (λ q. (l q).declared);
-    instances = λ p n w r. (at_first r.0 r.1 r.2).instances p n w r.3;
-  }
+  pub any_lawful : LawfulRooted K (writable_by t) S Any
+  any_lawful = record { inner = inner_lawful; whole = λ n w q r e. (at_first r.0 r.1 r.2).whole n w q r.3 e }
 
   module _ (shaped : IsWellShaped t) (scoped : Scoped Read [] t) (distinct : Distinct (declared_symbols t)) where
     -- what can be written in a later program can be in the first
@@ -105,7 +109,7 @@ module _ (G : Tree → Position → Tree → Tree → Type 0) (K : Shape → Boo
     writable_still u r = by
       where
         kept : ProgramIsKeptUnder K (writable_by t) S t u
-        kept = steadily_keeps Any K (writable_by t) S any_lawful t u r shaped
+        kept = rooted_keeps Any K (writable_by t) S any_lawful t u r shaped
 
         by : Part (writable_in u) (writable_by t)
         by (Declared k) h =

@@ -17,7 +17,7 @@ use Rattle.mini_tree.specs.Passes.{PassesReach, no_pass, one_more}
 use Rattle.mini_tree.specs.Wider.{reaches_of}
 use Rattle.mini_accept.specs.Accept.{Accepts}
 use Rattle.mini_accept.proofs.Depths.{one_tree}
-use Rattle.mini_kept.specs.Loosely.{LawfulUnder}
+use Rattle.mini_kept.specs.Rooted.{LawfulRooted}
 use Rattle.mini_kept.specs.Without.{BodySets}
 use Rattle.mini_kept.proofs.WithoutLists.{PartEach, none_part, each_itself}
 use Rattle.mini_kept.proofs.InPreorder.{preorder_same}
@@ -64,7 +64,8 @@ module _ (R : Position → Tree → Tree → Type 0) where
 
 -- a node on which the rows rest that rest on what is known of bodies is read by none of them
 read_by_none : (S : BodySets) (p : Position) (n : Tree) → IsSteadilySettled S p n → IsSteadilySettled S p n → ReadsNothing (SteadyRewrites S) p n
-read_by_none S p n x y w (inl (inl c)) = x.0.0 w c
+read_by_none S p n x y w (inl (inl (inl c))) = x.0.0.0 w c
+read_by_none S p n x y w (inl (inl (inr c))) = x.0.0.1 w c
 read_by_none S p n x y w (inl (inr c)) = x.0.1 w c
 read_by_none S p n x y w (inr c) = x.1 w c
 
@@ -82,7 +83,8 @@ module _ (o : CompressOptions) (t : Tree) (f : IsRewrittenBy true o t) where
 
   neither : (p : Position) (n : Tree) → IsSettled (switches o) (writable_in t) p n → IsSteadilySettled (told_in t) p n → ReadsNothing AnyRow p n
   neither p n g h w (inl c) = g (record { to = w; contracts = c })
-  neither p n g h w (inr (inl (inl r))) = h.0.0 w r
+  neither p n g h w (inr (inl (inl (inl r)))) = h.0.0.0 w r
+  neither p n g h w (inr (inl (inl (inr r)))) = h.0.0.1 w r
   neither p n g h w (inr (inl (inr r))) = h.0.1 w r
   neither p n g h w (inr (inr r)) = h.1 w r
 
@@ -137,7 +139,7 @@ module _ (d : Data) (o : CompressOptions) (m : Minified) (t : Tree) (read : Acce
   abbrev made_by : IsWritten G D (resolved_program t) o.passes m
   made_by = record { output = r.output; passes = r.passes.made; written = r.written; kept = r.kept; symbols = r.symbols }
 
-  lawful : (q : Tree) → LawfulUnder (let_go (switches o)) (writable_in q) S (G q)
+  lawful : (q : Tree) → LawfulRooted (let_go (switches o)) (writable_in q) S (G q)
   lawful = both_lawful o r.output m.steady
 
   begins : EachBegins (λ q. PartEach S S) r.passes.made.reached

@@ -15,8 +15,10 @@ use Rattle.mini_passes.proofs.Everywhere.{everywhere_with}
 use Rattle.mini_laws.specs.Value.{VariableSet}
 use Rattle.mini_laws.specs.Writable.{writable_in}
 use Rattle.mini_kept.specs.Loosely.{LawfulWith, LawfulUnder}
+use Rattle.mini_kept.specs.Rooted.{Inner, LawfulRooted}
 use Rattle.mini_kept.specs.Without.{Assured, BodySets, none_steady}
-use Rattle.mini_kept.proofs.Loosely.{loose_narrowed, loose_is_steady, steady_wider, steady_join}
+use Rattle.mini_kept.proofs.Loosely.{loose_narrowed, loose_is_steady, steady_join, steady_narrowed}
+use Rattle.mini_kept.proofs.Rooted.{steady_is_rooted, rooted_wider, rooted_join}
 use Rattle.mini_rows.specs.Switches.{Switches, let_go}
 use Rattle.mini_rows.specs.Branches.{BranchRow}
 use Rattle.mini_rows.specs.Turns.{TurnRow}
@@ -29,6 +31,8 @@ use Rattle.mini_logic.proofs.Joined as logic
 use Rattle.mini_syntax.specs.SubstituteReturnStatement as returns
 use Rattle.mini_switch.specs.MinimizeSwitchStatements as switch
 use Rattle.mini_rows.proofs.OwnArrowLawful.{steady_code_lawful}
+use Rattle.mini_rows.proofs.OwnProgramLawful.{steady_programs_lawful}
+use Rattle.mini_rows.specs.OwnPrograms.{SteadyProgram}
 use Rattle.mini_rows.specs.Steady.{SteadyFunction}
 use Rattle.mini_steady.specs.Arrows.{SteadyArrow}
 use Rattle.mini_steady.specs.Told.{told_in}
@@ -36,6 +40,7 @@ use Rattle.mini_past.specs.SubstitutePast.{HeadFunction}
 use Rattle.mini_past.proofs.Lawful.{head_lawful}
 use Rattle.mini_peephole.specs.Environments.{steady_in}
 use Rattle.mini_peephole.specs.Faithful.{switches, known_of, IsRewrittenBy}
+use Rattle.mini_peephole.specs.SteadyRows.{SteadyInside}
 use Rattle.mini_peephole.specs.Rules.{Gives, Rests, AllGives, AllRests, SteadyGives, SteadyRests}
 use Rattle.mini_passes.specs.Staying.{StaysTold, within_through}
 use Rattle.mini_peephole.proofs.ToldWithin.{told_within}
@@ -185,24 +190,35 @@ where_lawful P R K W S l = record {
   instances = λ p n w r. (l r.0).instances p n w r.1;
 }
 
+where_rooted : (P : Type 0) (R : Position → Tree → Tree → Type 0) (K : Shape → Bool) (W : VariableSet) (S : BodySets) → (P → LawfulRooted K W S R) → LawfulRooted K W S (Where P R)
+where_rooted P R K W S l = record {
+  inner = steady_narrowed (Inner (Where P R)) (Where P (Inner R)) K W S (λ p n w r. (r.0.0, (r.0.1, r.1))) (where_lawful P (Inner R) K W S (λ h. (l h).inner));
+  whole = λ t u q r e. (l r.0).whole t u q r.1 e;
+}
+
 module _ (o : CompressOptions) (v : Tree) where
-  steady_lawful : (q : Tree) → StaysTold q v → LawfulUnder (let_go (switches o)) (writable_in q) (steady_in v) (SteadyGives o q)
+  steady_lawful : (q : Tree) → StaysTold q v → LawfulRooted (let_go (switches o)) (writable_in q) (steady_in v) (SteadyGives o q)
   steady_lawful q k =
       let K = let_go (switches o) in
       let W = writable_in q in
       let T = told_in q in
-      steady_wider (SteadyGives o q) K W W T (steady_in v) (λ x h. h) (λ b. within_through (told_in q b) (told_in v b) (steady_in v b) (k b) (told_within v b))
-      (steady_join (Either (SteadyFunction T) (SteadyArrow T)) (HeadFunction T) K W T (steady_code_lawful K W T) (head_lawful K W T))
+      rooted_wider (SteadyGives o q) K W W T (steady_in v) (λ x h. h) (λ b. within_through (told_in q b) (told_in v b) (steady_in v b) (k b) (told_within v b))
+      (rooted_join (SteadyInside T) (SteadyProgram T) K W T
+      (steady_is_rooted (SteadyInside T) K W T (steady_join (Either (SteadyFunction T) (SteadyArrow T)) (HeadFunction T) K W T (steady_code_lawful K W T) (head_lawful K W T)))
+      (steady_programs_lawful K W T))
 
   -- what passes make on the way to v
-  pub both_lawful : (b : Bool) (q : Tree) → LawfulUnder (let_go (switches o)) (writable_in q) (known_of b v) (GivesBoth (AllGives o) (SteadyGives o) StaysTold b v q)
+  pub both_lawful : (b : Bool) (q : Tree) → LawfulRooted (let_go (switches o)) (writable_in q) (known_of b v) (GivesBoth (AllGives o) (SteadyGives o) StaysTold b v q)
   both_lawful true q =
       let K = let_go (switches o) in
       let W = writable_in q in
       let S = steady_in v in
       let still = Where (StaysTold q v) (SteadyGives o q) in
-      steady_join (AllGives o q) still K W S (loose_is_steady (AllGives o q) K W S (gives_lawful o q)) (where_lawful (StaysTold q v) (SteadyGives o q) K W S (steady_lawful q))
-  both_lawful false q = loose_is_steady (AllGives o q) (let_go (switches o)) (writable_in q) none_steady (gives_lawful o q)
+      rooted_join (AllGives o q) still K W S (steady_is_rooted (AllGives o q) K W S (loose_is_steady (AllGives o q) K W S (gives_lawful o q))) (where_rooted (StaysTold q v) (SteadyGives o q) K W S (steady_lawful q))
+  both_lawful false q =
+      let K = let_go (switches o) in
+      let W = writable_in q in
+      steady_is_rooted (AllGives o q) K W none_steady (loose_is_steady (AllGives o q) K W none_steady (gives_lawful o q))
 
 -- where they all rest nothing is left
 pub both_rest : (o : CompressOptions) (b : Bool) (u : Tree) → weight Elsewhere u < 2 ^ 64 → Everywhere (RestsBoth (AllRests o) (SteadyRests o) b u) Elsewhere u → IsRewrittenBy b o u

@@ -11,7 +11,8 @@ use Rattle.mini_scope.specs.Pointers.{early_fault}
 use Rattle.mini_tree.specs.declared.options.CompressOptions.{CompressOptions}
 use Rattle.mini_laws.specs.Writable.{writable_in}
 use Rattle.mini_kept.specs.Without.{Within}
-use Rattle.mini_kept.specs.Loosely.{LawfulWith, LawfulUnder}
+use Rattle.mini_kept.specs.Loosely.{LawfulWith}
+use Rattle.mini_kept.specs.Rooted.{LawfulRooted}
 use Rattle.mini_tree.specs.Passes.{PassesReach, no_pass, one_more}
 use Rattle.mini_rows.specs.Switches.{let_go}
 use Rattle.mini_peephole.specs.Environments.{steady_in}
@@ -30,9 +31,10 @@ abbrev pub LawfulFor : (CompressOptions → Tree → Position → Tree → Tree 
 LawfulFor G = (o : CompressOptions) (q : Tree) → LawfulWith (let_go (switches o)) (writable_in q) (G o q)
 
 -- What a rule makes may rest besides on what is known of each body of the program over which it makes it, as that no answer changes a name
--- while the body runs. What is lawful without that is so (`LooseIsSteady`, mini_kept).
+-- while the body runs; of the program itself it may give another, by what is known of its own body. What is lawful without that is so
+-- (`LooseIsSteady`, `SteadyIsRooted`, mini_kept).
 abbrev pub LawfulSteadily : (CompressOptions → Tree → Position → Tree → Tree → Type 0) → Type 0
-LawfulSteadily G = (o : CompressOptions) (q : Tree) → LawfulUnder (let_go (switches o)) (writable_in q) (steady_in q) (G o q)
+LawfulSteadily G = (o : CompressOptions) (q : Tree) → LawfulRooted (let_go (switches o)) (writable_in q) (steady_in q) (G o q)
 
 -- what holds of each program at which a pass begins
 abbrev pub EachBegins : (Tree → Type 0) → {G : Tree → Position → Tree → Tree → Type 0} {n : ℕ} {t u : Tree} → PassesReach G n t u → Type 0

@@ -25,7 +25,7 @@ use mini_logic::{
 };
 use mini_passes::{SteadyPasses, run_steady_passes};
 use mini_past::SubstitutePast;
-use mini_steady::{MinimizeSteady, MinimizeSteadyArrows};
+use mini_steady::{MinimizeSteady, MinimizeSteadyArrows, MinimizeSteadyPrograms};
 use mini_stmt::{JoinLets, MinimizeStatements, TurnLoopGuards};
 use mini_switch::MinimizeSwitches;
 use mini_syntax::{
@@ -213,12 +213,17 @@ const RULES: Then<Keeping, Naming> = Then {
 };
 
 // And those that rest on what is known of bodies, which act where no other does.
-const STEADY_RULES: Then<Then<MinimizeSteady, MinimizeSteadyArrows>, SubstitutePast> = Then {
+type Steady = Then<Then<MinimizeSteady, MinimizeSteadyArrows>, SubstitutePast>;
+
+const STEADY_RULES: Then<Steady, MinimizeSteadyPrograms> = Then {
     first: Then {
-        first: MinimizeSteady,
-        second: MinimizeSteadyArrows,
+        first: Then {
+            first: MinimizeSteady,
+            second: MinimizeSteadyArrows,
+        },
+        second: SubstitutePast,
     },
-    second: SubstitutePast,
+    second: MinimizeSteadyPrograms,
 };
 
 // The answer for a resolved tree, which is rewritten in place.

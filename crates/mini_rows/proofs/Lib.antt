@@ -253,3 +253,4 @@ pub mod LexicalScopes
 pub mod LexicalLoops
 pub mod LexicalMeaning
 pub mod LexicalKept
+pub mod OwnProgramLawful

@@ -32,6 +32,7 @@ pub mod Catches
 pub mod Writes
 pub mod Steady
 pub mod OwnArrows
+pub mod OwnPrograms
 pub mod Past
 pub mod Cases
 pub mod LoopGuards

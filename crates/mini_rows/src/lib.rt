@@ -20,6 +20,7 @@ mod names;
 mod negations;
 mod operands;
 mod past;
+mod programs;
 mod redexes;
 mod sequences;
 mod spellings;
@@ -49,6 +50,7 @@ pub use operands::{operands_are_lawful, operands_are_lighter, operands_mean_the_
 pub use past::{
     past_steady_names_are_lawful, past_steady_names_lighten, past_steady_names_run_alike,
 };
+pub use programs::{own_programs_are_lawful, own_programs_lighten};
 pub use redexes::rows_are_lawful;
 pub use sequences::{sequences_are_lawful, sequences_are_lighter, sequences_mean_the_same};
 pub use steady::{

@@ -2,3 +2,4 @@ pub mod MemberRows
 pub mod Owning
 pub mod FunctionSteps
 pub mod ArrowSteps
+pub mod ProgramSteps

@@ -3,6 +3,7 @@ pub mod MinimizeSteadyLogicalExpression
 pub mod Own
 pub mod Functions
 pub mod Arrows
+pub mod Programs
 pub mod Lighter
 pub mod Told
 pub mod Telling

@@ -1,4 +1,4 @@
-//! Rewrites that rest on it that names are steady: in the own code of each function, over what tells which names are.
+//! Rewrites that rest on it that names are steady: in the own code of each function and of the program, over what tells which names are.
 #![tactic(auto)]
 
 mod arrows;
@@ -6,6 +6,7 @@ mod functions;
 mod laws;
 mod members;
 mod own;
+mod programs;
 mod rule;
 mod steady;
 
@@ -14,5 +15,6 @@ pub use functions::minimize_steady_function;
 pub use laws::{steady_members_are_rows, told_stays};
 pub use members::minimize_steady_logical_expression;
 pub use own::minimize_own_code;
-pub use rule::{MinimizeSteady, MinimizeSteadyArrows, SteadyContext};
+pub use programs::minimize_steady_program;
+pub use rule::{MinimizeSteady, MinimizeSteadyArrows, MinimizeSteadyPrograms, SteadyContext};
 pub use steady::SteadyNames;

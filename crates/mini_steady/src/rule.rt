@@ -7,10 +7,13 @@ ghost use Rattle.mini_rows.specs.Steady.{SteadyFunction};
 ghost use Rattle.mini_tree.specs.declared.options.CompressOptions.{CompressOptions};
 ghost use Rattle.mini_steady.specs.Functions.{Rests, holds_function as may_hold_function};
 ghost use Rattle.mini_steady.specs.Arrows.{holds_arrow as may_hold_arrow, ArrowRests, SteadyArrow};
-ghost use Rattle.mini_steady.specs.Lighter.{arrow_lighter, steady_lighter};
+ghost use Rattle.mini_rows.specs.OwnPrograms.{SteadyProgram};
+ghost use Rattle.mini_steady.specs.Programs.{holds_program as may_hold_program, ProgramRests};
+ghost use Rattle.mini_steady.specs.Lighter.{arrow_lighter, program_lighter, steady_lighter};
 
 use crate::arrows::minimize_steady_arrow;
 use crate::functions::minimize_steady_function;
+use crate::programs::minimize_steady_program;
 use crate::steady::SteadyNames;
 use mini_context::TraverseCtx;
 use mini_model::{OutOfMemory, Position};
@@ -98,5 +101,36 @@ impl<C: SteadyContext> Rule<C> for MinimizeSteadyArrows {
             return Ok(false);
         }
         Ok(minimize_steady_arrow(alloc, node, &*context)?)
+    }
+}
+
+// Whether a root stands there.
+fn holds_program(place: Position) -> bool
+    ensures { result ≡ may_hold_program place }
+{
+    matches!(place, Position::Elsewhere)
+}
+
+/// The same of the program itself.
+pub struct MinimizeSteadyPrograms;
+
+impl<C: SteadyContext> Rule<C> for MinimizeSteadyPrograms {
+    ghost gives = { λ o q. SteadyProgram (C.steady q) };
+
+    ghost rests = { λ o q. ProgramRests (C.steady q) };
+
+    ghost lighter = { λ o q. program_lighter (C.steady q) };
+
+    fn apply(
+        &self,
+        alloc: Global,
+        node: &mut Node,
+        place: Position,
+        context: &mut C,
+    ) -> Result<bool, OutOfMemory> {
+        if !holds_program(place) {
+            return Ok(false);
+        }
+        Ok(minimize_steady_program(alloc, node, &*context)?)
     }
 }

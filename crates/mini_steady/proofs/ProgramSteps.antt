@@ -1,0 +1,64 @@
+-- What is done in the list of statements of a program is done in the program.
+use Rattle.std.proofs.Common.{◌≡◌, ℕ, Bool, true, false, List, [], refl, sym, ap, ◌∙◌, subst, arith}
+use Rattle.std.proofs.lemmas.Bool.{eqb-true, false≢true}
+use Rattle.mini_kept.specs.Without.{BodySets}
+use Rattle.mini_model.specs.declared.place.Position.{Position}
+use Rattle.mini_model.specs.declared.place.Position.TheVariants.{Elsewhere, StatementList}
+use Rattle.mini_model.specs.declared.shape.Shape.{Shape}
+use Rattle.mini_model.specs.declared.shape.Shape.TheVariants as shape
+use Rattle.mini_model.specs.Tree.{Tree, Trees, node, none, ◌▸◌, count, children, child_or_absent}
+use Rattle.mini_node.specs.Children.{part, number_of, with_child}
+use Rattle.mini_node.specs.Lends.{with_children}
+use Rattle.mini_rows.specs.OwnPrograms.{program_over, SteadyProgram}
+use Rattle.mini_rows.specs.Steady.{SteadyRow, OwnStep}
+use Rattle.mini_tree.specs.Rule.{Moves, Applied}
+use Rattle.mini_tree.proofs.Reaching.{moves_once, moves_trans}
+use Rattle.mini_steady.specs.Chains.{Several, once, again}
+use Rattle.mini_steady.specs.Own.{OwnWalked}
+use Rattle.mini_steady.specs.Programs.{is_program, AppliedInProgram, ProgramRests, SteadyProgramRow, holds_program}
+use Rattle.mini_steady.proofs.Owning.{several_over}
+
+module _ (S : BodySets) (m : Bool) (ds : List (List ℕ)) (k : ℕ) where
+  step_in : (t u : Tree) → OwnStep (SteadyRow (S k)) StatementList t u → SteadyProgramRow S (program_over m ds k t) (program_over m ds k u)
+  step_in t u s = record { is_module = m; directives = ds; number = k; before = t; after = u; step = s; shape = refl; written = refl }
+
+  walked_in : (t u : Tree) (b : Bool) → OwnWalked (SteadyRow (S k)) StatementList t u b → AppliedInProgram S (program_over m ds k t) (program_over m ds k u) b
+  walked_in t u true s = several_over (OwnStep (SteadyRow (S k)) StatementList) (SteadyProgramRow S) (program_over m ds k) step_in t u s
+  walked_in t u false (e, rests) =
+      (ap (program_over m ds k) e, λ w r. rests r.after (subst (λ z. OwnStep (SteadyRow (S k)) StatementList z r.after) (sym (ap (λ z. part z 0) r.shape)) (subst (λ n. OwnStep (SteadyRow (S n)) StatementList r.before r.after) (sym (ap number_of r.shape)) r.step)))
+
+-- a program has one part
+
+one : (ts : Trees) → count ts ≡ 1 → ts ≡ child_or_absent ts 0 ▸ none
+one none e = absurd (omega (arith, e))
+one (a ▸ none) e = refl
+one (a ▸ (b ▸ ts)) e = absurd (omega (arith, e))
+
+record IsProgram (t : Tree) : Type 0 where
+  is_module : Bool
+  directives : List (List ℕ)
+  is : t ≡ program_over is_module directives (number_of t) (part t 0)
+
+program_is : (t : Tree) → is_program t ≡ true → IsProgram t
+program_is (node (shape.Program m ds) [] n ts) e = record { is_module = m; directives = ds; is = ap (node (shape.Program m ds) [] n) (one ts (eqb-true (count ts) 1 e)) }
+program_is t e = absurd (false≢true e)
+
+pub walked_program : (S : BodySets) (t u x : Tree) (k : ℕ) (ts : Trees) (b : Bool) → is_program t ≡ true → k ≡ number_of t → ts ≡ children t → x ≡ child_or_absent ts 0 → OwnWalked (SteadyRow (S k)) StatementList x u b → AppliedInProgram S t (with_children t (with_child ts 0 u)) b
+walked_program S t u x k ts b f e these child s =
+    let P = program_is t f in
+    let numbered = subst (λ i. OwnWalked (SteadyRow (S i)) StatementList x u b) e s in
+    let inside = subst (λ z. OwnWalked (SteadyRow (S (number_of t))) StatementList z u b) (child ∙ ap (λ vs. child_or_absent vs 0) these) numbered in
+    subst (λ vs. AppliedInProgram S t (with_children t (with_child vs 0 u)) b) (sym these)
+    (subst (λ z. AppliedInProgram S z (with_children z (with_child (children z) 0 u)) b) (sym P.is)
+    (walked_in S P.is_module P.directives (number_of t) (part t 0) u b inside))
+
+-- ---- as steps of the rule, at a root
+
+moves : (S : BodySets) (t u : Tree) → Several (SteadyProgramRow S) t u → Moves (SteadyProgram S) Elsewhere t u
+moves S _ _ (once t u r) = moves_once (SteadyProgram S) Elsewhere t u r
+moves S _ _ (again t u v s r) = moves_trans (SteadyProgram S) (moves S t u s) (moves_once (SteadyProgram S) Elsewhere u v r)
+
+pub program_applied : (S : BodySets) (p : Position) (t u : Tree) (b : Bool) → holds_program p ≡ true → AppliedInProgram S t u b → Applied (SteadyProgram S) (ProgramRests S) p t u b
+program_applied S Elsewhere t u true e s = moves S t u s
+program_applied S Elsewhere t u false e (same, f) = (same, λ w r. f w r)
+program_applied S p t u b e a = absurd (false≢true e)
