@@ -23,7 +23,7 @@ use Rattle.mini_rows.proofs.SpellMeaning.{same_by}
 -- ---- the same
 
 -- the parts but the last, and then the last
-in_order : (e : Environment) (p : Tree) (ps : Trees) (q : Tree) (s : State) → value e (sequence (p ▸ append ps (q ▸ none))) s ≡ either (means e (of_parts p ps) (As Unused) tt s) (λ u z. value e q z) (λ x z. stop x z)
+pub in_order : (e : Environment) (p : Tree) (ps : Trees) (q : Tree) (s : State) → value e (sequence (p ▸ append ps (q ▸ none))) s ≡ either (means e (of_parts p ps) (As Unused) tt s) (λ u z. value e q z) (λ x z. stop x z)
 in_order e p ps q s = ap (λ t. value e t s) (sym (several p ps q)) ∙ joined_is e p ps q none Val s
 
 put_last : (e : Environment) (x : Name) (p : Tree) (ps : Trees) (b : Tree) (s : State) → value e (sequence (p ▸ append ps (assign x b ▸ none))) s ≡ puts e x (value e (sequence (p ▸ append ps (b ▸ none))) s)

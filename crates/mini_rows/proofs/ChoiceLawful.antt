@@ -35,7 +35,7 @@ use Rattle.mini_rows.specs.Sketches.{Unary, Binary, Logical, Conditional, Assign
 use Rattle.mini_model.specs.Paths.{append}
 use Rattle.mini_rows.specs.Lists.{sequence}
 use Rattle.mini_rows.specs.Spellings.{IsUndefined, void_zero, assignment}
-use Rattle.mini_rows.specs.Choices.{assign, deciding, strictly, loosely, joining, AreNullish, Row37, Row37After, asks_object, null_compared, held, ended, Row57, Row57Null, Key, Named, Spelled, Numbered, member_of, Row39, Row38, Row35, Row35Member, Row45, Row45Member, Row38Last, ChoiceRow, ChoiceContracts, Row46Equal, Row46Unequal, Row41Or, Row41And, Row42And, Row42Or, Row43Or, Row43And, Row43AndThen, Row43OrThen, Row49, Row13Both, LighterRow, OwnRow, HeldRow}
+use Rattle.mini_rows.specs.Choices.{assign, deciding, strictly, loosely, joining, AreNullish, Row37, Row37After, asks_object, null_compared, held, ended, Row57, Row57Null, Key, Named, Spelled, Numbered, member_on, member_of, Row39, Row38, Row35, Row35Member, Row45, Row45Member, Row38Last, ChoiceRow, ChoiceContracts, Row46Equal, Row46Unequal, Row41Or, Row41And, Row42And, Row42Or, Row43Or, Row43And, Row43AndThen, Row43OrThen, Row49, Row13Both, LighterRow, OwnRow, HeldRow}
 use Rattle.mini_rows.proofs.ChainLinkLawful.{chains_kept}
 use Rattle.mini_rows.proofs.ChainEndKept.{end_kept}
 use Rattle.mini_rows.proofs.ArrangedExpressions.{expressions_arranged, expressions_arranged_freely}
@@ -66,11 +66,11 @@ name_reads : (x : Name) → Reads (identifier x)
 unfolding declared_in
 name_reads x = record { declares = refl; scoped = name_scoped x }
 
-pub member_reads : (x : Name) (k : Key) → Reads (member_of x k)
+pub member_reads : (t : Tree) (k : Key) → Reads (member_on t k)
 unfolding declared_in Scoped
-member_reads x (Named s) = record { declares = refl; scoped = λ env a. a }
-member_reads x (Spelled s) = record { declares = refl; scoped = λ env a. a }
-member_reads x (Numbered n) = record { declares = refl; scoped = λ env a. a }
+member_reads t (Named s) = record { declares = refl; scoped = λ env a. a }
+member_reads t (Spelled s) = record { declares = refl; scoped = λ env a. a }
+member_reads t (Numbered n) = record { declares = refl; scoped = λ env a. a }
 
 retarget_scoped : (c : AssignmentOperator) (t b : Tree) → Reads t → (v : Use) (env : Environment) → Scoped v env (assignment Assign t b) → Scoped v env (assignment c t b)
 unfolding Scoped
@@ -173,7 +173,7 @@ computing_member_kept : (q : Seat) (n w : Tree) → Row35Member n w → KeptAt (
 computing_member_kept q n w r =
     let member : Tree = member_of r.name r.key in
     subst (KeptAt (Expr q) n) (sym r.written)
-    (retargeted_tree r.combined member r.b (member_reads r.name r.key) q n (expressions_arranged_freely first_dropped (record { trees = member ▸ r.b ▸ none; lists = [] }) (tt, tt, (member_vanishes r.name r.key, tt)) (assigns_first (under (Binary r.operator) (part 0 ▹ part 1 ▹ end))) (assigns_first (part 1)) refl q n (assignment Assign member r.b) r.shape refl))
+    (retargeted_tree r.combined member r.b (member_reads (identifier r.name) r.key) q n (expressions_arranged_freely first_dropped (record { trees = member ▸ r.b ▸ none; lists = [] }) (tt, tt, (member_vanishes r.name r.key, tt)) (assigns_first (under (Binary r.operator) (part 0 ▹ part 1 ▹ end))) (assigns_first (part 1)) refl q n (assignment Assign member r.b) r.shape refl))
 
 chosen_kept : (q : Seat) (n w : Tree) → Row45 q n w → KeptAt (Expr q) n w
 chosen_kept q n w r = by r.operator r.shape r.written

@@ -339,13 +339,13 @@ unfolding means step
 reading e x s = name_read e (naming shape.Identifier (As Val) (variables (x ∷ [])) 0 []) (λ i. Stat None) (λ i r z. meaning e none i (Stat None) r z) (variable_of x) refl (kind_of x) s
 
 -- so what follows it may know the value
-pub by_reading : (e : Environment) (x : Name) (s : State) (f g : Value → State → Completion Value) → ((v : Value) → value e (identifier x) s ≡ ok v s → f v s ≡ g v s) → either (value e (identifier x) s) f (λ x z. stop x z) ≡ either (value e (identifier x) s) g (λ x z. stop x z)
+pub by_told : (y : Completion Value) (s : State) → Reading y s → (f g : Value → State → Completion Value) → ((v : Value) → y ≡ ok v s → f v s ≡ g v s) → either y f (λ x z. stop x z) ≡ either y g (λ x z. stop x z)
 unfolding either
-by_reading e x s f g h = go (reading e x s)
-  where
-    go : Reading (value e (identifier x) s) s → either (value e (identifier x) s) f (λ x z. stop x z) ≡ either (value e (identifier x) s) g (λ x z. stop x z)
-    go (inl o) = ap (λ y. either y f (λ x z. stop x z)) o ∙ sym (ap (λ y. either y g (λ x z. stop x z)) o)
-    go (inr (v, k)) = ap (λ y. either y f (λ x z. stop x z)) k ∙ h v k ∙ sym (ap (λ y. either y g (λ x z. stop x z)) k)
+by_told y s (inl o) f g h = ap (λ y. either y f (λ x z. stop x z)) o ∙ sym (ap (λ y. either y g (λ x z. stop x z)) o)
+by_told y s (inr (v, k)) f g h = ap (λ y. either y f (λ x z. stop x z)) k ∙ h v k ∙ sym (ap (λ y. either y g (λ x z. stop x z)) k)
+
+pub by_reading : (e : Environment) (x : Name) (s : State) (f g : Value → State → Completion Value) → ((v : Value) → value e (identifier x) s ≡ ok v s → f v s ≡ g v s) → either (value e (identifier x) s) f (λ x z. stop x z) ≡ either (value e (identifier x) s) g (λ x z. stop x z)
+by_reading e x s = by_told (value e (identifier x) s) s (reading e x s)
 
 -- ---- what a strict comparison says of it
 

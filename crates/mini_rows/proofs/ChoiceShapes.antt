@@ -21,7 +21,7 @@ use Rattle.mini_model.specs.Paths.{append}
 use Rattle.mini_rows.specs.Lists.{sequence}
 use Rattle.mini_node.specs.Kinds.{computed_member}
 use Rattle.mini_rows.specs.Spellings.{binary, assignment}
-use Rattle.mini_rows.specs.Choices.{Key, Named, Spelled, Numbered, member_of, assign, joined, strictly, loosely, joining, asks_object, null_compared, held, ended, deciding, ChoiceRow, pair, argument, Row44, Row13Both, Row45Indexed, LighterRow, OwnRow, HeldRow}
+use Rattle.mini_rows.specs.Choices.{Key, Named, Spelled, Numbered, member_on, member_of, assign, joined, strictly, loosely, joining, asks_object, null_compared, held, ended, deciding, ChoiceRow, pair, argument, Row44, Row13Both, Row45Indexed, LighterRow, OwnRow, HeldRow}
 use Rattle.mini_rows.proofs.ChainLinkLawful.{chains_fit, chains_asked, chains_slot}
 use Rattle.mini_rows.proofs.ChainEnds.{end_fits, end_asked, end_slot}
 use Rattle.mini_rows.proofs.ChainLawful.{chain_row_fits, chain_row_asked, chain_row_slot}
@@ -106,18 +106,18 @@ module _ (strict : Bool) where
   of_assignment Assign x b e = let (y, z) = and_parts (fits strict (one a_target) (identifier x)) (fits strict expression b && true) e in (y, left (fits strict expression b) true z)
   of_assignment c x b e = let (y, z) = and_parts (fits strict (one a_simple_target) (identifier x)) (fits strict expression b && true) e in (y, left (fits strict expression b) true z)
 
-  -- and so a member of a name
-  pub of_member_assignment : (x : Name) (k : Key) (b : Tree) → Fits (assignment Assign (member_of x k) b) → (fits strict (one a_target) (member_of x k) ≡ true) × Fits b
-  of_member_assignment x k b e = let (y, z) = and_parts (fits strict (one a_target) (member_of x k)) (fits strict expression b && true) e in (y, left (fits strict expression b) true z)
+  -- and so a member
+  pub of_member_assignment : (t : Tree) (k : Key) (b : Tree) → Fits (assignment Assign (member_on t k) b) → (fits strict (one a_target) (member_on t k) ≡ true) × Fits b
+  of_member_assignment t k b e = let (y, z) = and_parts (fits strict (one a_target) (member_on t k)) (fits strict expression b && true) e in (y, left (fits strict expression b) true z)
 
-  simply_assigned : (x : Name) (k : Key) → fits strict (one a_target) (member_of x k) ≡ true → fits strict (one a_simple_target) (member_of x k) ≡ true
-  simply_assigned x (Named s) e = e
-  simply_assigned x (Spelled s) e = e
-  simply_assigned x (Numbered n) e = e
+  simply_assigned : (t : Tree) (k : Key) → fits strict (one a_target) (member_on t k) ≡ true → fits strict (one a_simple_target) (member_on t k) ≡ true
+  simply_assigned t (Named s) e = e
+  simply_assigned t (Spelled s) e = e
+  simply_assigned t (Numbered n) e = e
 
-  pub member_assignment_fits : (c : AssignmentOperator) (x : Name) (k : Key) (b : Tree) → fits strict (one a_target) (member_of x k) ≡ true → Fits b → Fits (assignment c (member_of x k) b)
-  member_assignment_fits Assign x k b e f = both (fits strict (one a_target) (member_of x k)) (fits strict expression b && true) e (both (fits strict expression b) true f refl)
-  member_assignment_fits c x k b e f = both (fits strict (one a_simple_target) (member_of x k)) (fits strict expression b && true) (simply_assigned x k e) (both (fits strict expression b) true f refl)
+  pub member_assignment_fits : (c : AssignmentOperator) (t : Tree) (k : Key) (b : Tree) → fits strict (one a_target) (member_on t k) ≡ true → Fits b → Fits (assignment c (member_on t k) b)
+  member_assignment_fits Assign t k b e f = both (fits strict (one a_target) (member_on t k)) (fits strict expression b && true) e (both (fits strict expression b) true f refl)
+  member_assignment_fits c t k b e f = both (fits strict (one a_simple_target) (member_on t k)) (fits strict expression b && true) (simply_assigned t k e) (both (fits strict expression b) true f refl)
 
   of_three : (a b c : Tree) → Fits (conditional a b c) → ThreeFit strict a b c
   of_three a b c e = (of_conditional strict expression a b c e).1
@@ -221,13 +221,13 @@ module _ (strict : Bool) where
         let yes : Tree = assignment Assign member r.b in
         let no : Tree = assignment Assign member r.c in
         let (here, (test, first, second)) = of_conditional strict s r.a yes no (subst Here r.shape e) in
-        let (target, b) = of_member_assignment r.name r.key r.b first in
-        subst Here (sym r.written) (expression_taken strict s (assignment Assign member (conditional r.a r.b r.c)) here (member_assignment_fits Assign r.name r.key (conditional r.a r.b r.c) target (three_fit strict r.a r.b r.c test b (of_member_assignment r.name r.key r.c second).1)))
+        let (target, b) = of_member_assignment (identifier r.name) r.key r.b first in
+        subst Here (sym r.written) (expression_taken strict s (assignment Assign member (conditional r.a r.b r.c)) here (member_assignment_fits Assign (identifier r.name) r.key (conditional r.a r.b r.c) target (three_fit strict r.a r.b r.c test b (of_member_assignment (identifier r.name) r.key r.c second).1)))
     lighter_fits q n w (inr (inr (inr (inr (inr (inr (inr (inr (inr (inr (inl r))))))))))) e =
         let member : Tree = member_of r.name r.key in
         let (here, fit) = choice_taken strict s (an_assignment Assign) (member ▸ binary r.operator member r.b ▸ none) refl (subst Here r.shape e) in
-        let (first, rest) = of_member_assignment r.name r.key (binary r.operator member r.b) fit in
-        subst Here (sym r.written) (expression_taken strict s (assignment r.combined member r.b) here (member_assignment_fits r.combined r.name r.key r.b first (of_two member r.b rest).1))
+        let (first, rest) = of_member_assignment (identifier r.name) r.key (binary r.operator member r.b) fit in
+        subst Here (sym r.written) (expression_taken strict s (assignment r.combined member r.b) here (member_assignment_fits r.combined (identifier r.name) r.key r.b first (of_two member r.b rest).1))
 
     both_sides_fit : (n w : Tree) → Row13Both n w → Here n → Here w
     both_sides_fit n w r e =

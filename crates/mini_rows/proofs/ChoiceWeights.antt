@@ -20,7 +20,7 @@ use Rattle.mini_model.specs.Weight.{Outline, outline, outlines, weight, place_we
 use Rattle.mini_laws.specs.Weights.{Lightens}
 use Rattle.mini_laws.proofs.Seats.{placed, placed_node}
 use Rattle.mini_rows.specs.Spellings.{binary, assignment}
-use Rattle.mini_rows.specs.Choices.{Key, Named, Spelled, Numbered, member_of, keeps_parentheses, asks_object, null_compared, held, ended, assign, is_same_operator, is_grouped, joined, strictly, loosely, joining, AreNullish, deciding, computing, LighterRow, OwnRow, HeldRow, ChoiceRow, ChoiceContracts, ChoicesLighter}
+use Rattle.mini_rows.specs.Choices.{Key, Named, Spelled, Numbered, member_on, keeps_parentheses, asks_object, null_compared, held, ended, assign, is_same_operator, is_grouped, joined, strictly, loosely, joining, AreNullish, deciding, computing, LighterRow, OwnRow, HeldRow, ChoiceRow, ChoiceContracts, ChoicesLighter}
 use Rattle.mini_rows.specs.Chains.{spine, chain, if_nullish}
 use Rattle.mini_rows.proofs.ChainLinkLawful.{chains_outline}
 use Rattle.mini_rows.proofs.ChainEnds.{end_outline}
@@ -63,6 +63,9 @@ name_heavy x = named (is_none x.symbol)
     named : (b : Bool) → 2 ≤ (if b then spelled_weight x.spelling else 2)
     named true = spelled' (same_text x.spelling (codes "undefined")) (same_text x.spelling (codes "Infinity")) (same_text x.spelling (codes "NaN"))
     named false = omega arith
+
+name_heavy_there : (x : Name) (s : Seat) → 1 ≤ weight (Expr s) (identifier x)
+name_heavy_there x s = omega (arith, name_heavy x)
 
 -- 39: what is no expression of the operator weighs no more on the right of it than on the left
 
@@ -165,30 +168,30 @@ computing_falls binary_operator.BitwiseXor c h s x b = subst (Falls s binary_ope
 computing_falls binary_operator.BitwiseOr c h s x b = subst (Falls s binary_operator.BitwiseOr x b) {x = assigning.BitwiseOr} {y = c} (cc h) (omega (arith, right_falls (binary_operand_seat binary_operator.BitwiseOr 1) refl b, name_heavy x, same_marks s assigning.BitwiseOr assigning.Assign (outlines (identifier x ▸ b ▸ none)) (outlines (identifier x ▸ binary binary_operator.BitwiseOr (identifier x) b ▸ none))))
 computing_falls o c h s x b = absurd (cc h)
 
--- 35: a member of a name goes
+-- 35: a member goes
 
-pub member_heavy : (s : Seat) (x : Name) (k : Key) → 1 ≤ weight (Expr s) (member_of x k)
-member_heavy s x (Named t) = omega arith
-member_heavy s x (Spelled t) = omega arith
-member_heavy s x (Numbered n) = omega arith
+pub member_heavy : (s : Seat) (t : Tree) (k : Key) → 1 ≤ weight (Expr s) (member_on t k)
+member_heavy s t (Named i) = omega arith
+member_heavy s t (Spelled i) = omega arith
+member_heavy s t (Numbered n) = omega arith
 
-abbrev MemberFalls : Seat → BinaryOperator → Name → Key → Tree → AssignmentOperator → Type 0
-MemberFalls s o x k b c = weight (Expr s) (assignment c (member_of x k) b) < weight (Expr s) (assignment assigning.Assign (member_of x k) (binary o (member_of x k) b))
+abbrev MemberFalls : Seat → BinaryOperator → Tree → Key → Tree → AssignmentOperator → Type 0
+MemberFalls s o t k b c = weight (Expr s) (assignment c (member_on t k) b) < weight (Expr s) (assignment assigning.Assign (member_on t k) (binary o (member_on t k) b))
 
-computing_member_falls : (o : BinaryOperator) (c : AssignmentOperator) → computing o ≡ Some c → (s : Seat) (x : Name) (k : Key) (b : Tree) → MemberFalls s o x k b c
-computing_member_falls binary_operator.Addition c h s x k b = subst (MemberFalls s binary_operator.Addition x k b) {x = assigning.Addition} {y = c} (cc h) (omega (arith, right_falls (binary_operand_seat binary_operator.Addition 1) refl b, member_heavy (binary_operand_seat binary_operator.Addition 0) x k, same_marks s assigning.Addition assigning.Assign (outlines (member_of x k ▸ b ▸ none)) (outlines (member_of x k ▸ binary binary_operator.Addition (member_of x k) b ▸ none))))
-computing_member_falls binary_operator.Subtraction c h s x k b = subst (MemberFalls s binary_operator.Subtraction x k b) {x = assigning.Subtraction} {y = c} (cc h) (omega (arith, right_falls (binary_operand_seat binary_operator.Subtraction 1) refl b, member_heavy (binary_operand_seat binary_operator.Subtraction 0) x k, same_marks s assigning.Subtraction assigning.Assign (outlines (member_of x k ▸ b ▸ none)) (outlines (member_of x k ▸ binary binary_operator.Subtraction (member_of x k) b ▸ none))))
-computing_member_falls binary_operator.Multiplication c h s x k b = subst (MemberFalls s binary_operator.Multiplication x k b) {x = assigning.Multiplication} {y = c} (cc h) (omega (arith, right_falls (binary_operand_seat binary_operator.Multiplication 1) refl b, member_heavy (binary_operand_seat binary_operator.Multiplication 0) x k, same_marks s assigning.Multiplication assigning.Assign (outlines (member_of x k ▸ b ▸ none)) (outlines (member_of x k ▸ binary binary_operator.Multiplication (member_of x k) b ▸ none))))
-computing_member_falls binary_operator.Division c h s x k b = subst (MemberFalls s binary_operator.Division x k b) {x = assigning.Division} {y = c} (cc h) (omega (arith, right_falls (binary_operand_seat binary_operator.Division 1) refl b, member_heavy (binary_operand_seat binary_operator.Division 0) x k, same_marks s assigning.Division assigning.Assign (outlines (member_of x k ▸ b ▸ none)) (outlines (member_of x k ▸ binary binary_operator.Division (member_of x k) b ▸ none))))
-computing_member_falls binary_operator.Remainder c h s x k b = subst (MemberFalls s binary_operator.Remainder x k b) {x = assigning.Remainder} {y = c} (cc h) (omega (arith, right_falls (binary_operand_seat binary_operator.Remainder 1) refl b, member_heavy (binary_operand_seat binary_operator.Remainder 0) x k, same_marks s assigning.Remainder assigning.Assign (outlines (member_of x k ▸ b ▸ none)) (outlines (member_of x k ▸ binary binary_operator.Remainder (member_of x k) b ▸ none))))
-computing_member_falls binary_operator.Exponential c h s x k b = subst (MemberFalls s binary_operator.Exponential x k b) {x = assigning.Exponential} {y = c} (cc h) (omega (arith, right_falls (binary_operand_seat binary_operator.Exponential 1) refl b, member_heavy (binary_operand_seat binary_operator.Exponential 0) x k, same_marks s assigning.Exponential assigning.Assign (outlines (member_of x k ▸ b ▸ none)) (outlines (member_of x k ▸ binary binary_operator.Exponential (member_of x k) b ▸ none))))
-computing_member_falls binary_operator.ShiftLeft c h s x k b = subst (MemberFalls s binary_operator.ShiftLeft x k b) {x = assigning.ShiftLeft} {y = c} (cc h) (omega (arith, right_falls (binary_operand_seat binary_operator.ShiftLeft 1) refl b, member_heavy (binary_operand_seat binary_operator.ShiftLeft 0) x k, same_marks s assigning.ShiftLeft assigning.Assign (outlines (member_of x k ▸ b ▸ none)) (outlines (member_of x k ▸ binary binary_operator.ShiftLeft (member_of x k) b ▸ none))))
-computing_member_falls binary_operator.ShiftRight c h s x k b = subst (MemberFalls s binary_operator.ShiftRight x k b) {x = assigning.ShiftRight} {y = c} (cc h) (omega (arith, right_falls (binary_operand_seat binary_operator.ShiftRight 1) refl b, member_heavy (binary_operand_seat binary_operator.ShiftRight 0) x k, same_marks s assigning.ShiftRight assigning.Assign (outlines (member_of x k ▸ b ▸ none)) (outlines (member_of x k ▸ binary binary_operator.ShiftRight (member_of x k) b ▸ none))))
-computing_member_falls binary_operator.ShiftRightZeroFill c h s x k b = subst (MemberFalls s binary_operator.ShiftRightZeroFill x k b) {x = assigning.ShiftRightZeroFill} {y = c} (cc h) (omega (arith, right_falls (binary_operand_seat binary_operator.ShiftRightZeroFill 1) refl b, member_heavy (binary_operand_seat binary_operator.ShiftRightZeroFill 0) x k, same_marks s assigning.ShiftRightZeroFill assigning.Assign (outlines (member_of x k ▸ b ▸ none)) (outlines (member_of x k ▸ binary binary_operator.ShiftRightZeroFill (member_of x k) b ▸ none))))
-computing_member_falls binary_operator.BitwiseAnd c h s x k b = subst (MemberFalls s binary_operator.BitwiseAnd x k b) {x = assigning.BitwiseAnd} {y = c} (cc h) (omega (arith, right_falls (binary_operand_seat binary_operator.BitwiseAnd 1) refl b, member_heavy (binary_operand_seat binary_operator.BitwiseAnd 0) x k, same_marks s assigning.BitwiseAnd assigning.Assign (outlines (member_of x k ▸ b ▸ none)) (outlines (member_of x k ▸ binary binary_operator.BitwiseAnd (member_of x k) b ▸ none))))
-computing_member_falls binary_operator.BitwiseXor c h s x k b = subst (MemberFalls s binary_operator.BitwiseXor x k b) {x = assigning.BitwiseXor} {y = c} (cc h) (omega (arith, right_falls (binary_operand_seat binary_operator.BitwiseXor 1) refl b, member_heavy (binary_operand_seat binary_operator.BitwiseXor 0) x k, same_marks s assigning.BitwiseXor assigning.Assign (outlines (member_of x k ▸ b ▸ none)) (outlines (member_of x k ▸ binary binary_operator.BitwiseXor (member_of x k) b ▸ none))))
-computing_member_falls binary_operator.BitwiseOr c h s x k b = subst (MemberFalls s binary_operator.BitwiseOr x k b) {x = assigning.BitwiseOr} {y = c} (cc h) (omega (arith, right_falls (binary_operand_seat binary_operator.BitwiseOr 1) refl b, member_heavy (binary_operand_seat binary_operator.BitwiseOr 0) x k, same_marks s assigning.BitwiseOr assigning.Assign (outlines (member_of x k ▸ b ▸ none)) (outlines (member_of x k ▸ binary binary_operator.BitwiseOr (member_of x k) b ▸ none))))
-computing_member_falls o c h s x k b = absurd (cc h)
+pub computing_member_falls : (o : BinaryOperator) (c : AssignmentOperator) → computing o ≡ Some c → (s : Seat) (t : Tree) (k : Key) (b : Tree) → MemberFalls s o t k b c
+computing_member_falls binary_operator.Addition c h s t k b = subst (MemberFalls s binary_operator.Addition t k b) {x = assigning.Addition} {y = c} (cc h) (omega (arith, right_falls (binary_operand_seat binary_operator.Addition 1) refl b, member_heavy (binary_operand_seat binary_operator.Addition 0) t k, same_marks s assigning.Addition assigning.Assign (outlines (member_on t k ▸ b ▸ none)) (outlines (member_on t k ▸ binary binary_operator.Addition (member_on t k) b ▸ none))))
+computing_member_falls binary_operator.Subtraction c h s t k b = subst (MemberFalls s binary_operator.Subtraction t k b) {x = assigning.Subtraction} {y = c} (cc h) (omega (arith, right_falls (binary_operand_seat binary_operator.Subtraction 1) refl b, member_heavy (binary_operand_seat binary_operator.Subtraction 0) t k, same_marks s assigning.Subtraction assigning.Assign (outlines (member_on t k ▸ b ▸ none)) (outlines (member_on t k ▸ binary binary_operator.Subtraction (member_on t k) b ▸ none))))
+computing_member_falls binary_operator.Multiplication c h s t k b = subst (MemberFalls s binary_operator.Multiplication t k b) {x = assigning.Multiplication} {y = c} (cc h) (omega (arith, right_falls (binary_operand_seat binary_operator.Multiplication 1) refl b, member_heavy (binary_operand_seat binary_operator.Multiplication 0) t k, same_marks s assigning.Multiplication assigning.Assign (outlines (member_on t k ▸ b ▸ none)) (outlines (member_on t k ▸ binary binary_operator.Multiplication (member_on t k) b ▸ none))))
+computing_member_falls binary_operator.Division c h s t k b = subst (MemberFalls s binary_operator.Division t k b) {x = assigning.Division} {y = c} (cc h) (omega (arith, right_falls (binary_operand_seat binary_operator.Division 1) refl b, member_heavy (binary_operand_seat binary_operator.Division 0) t k, same_marks s assigning.Division assigning.Assign (outlines (member_on t k ▸ b ▸ none)) (outlines (member_on t k ▸ binary binary_operator.Division (member_on t k) b ▸ none))))
+computing_member_falls binary_operator.Remainder c h s t k b = subst (MemberFalls s binary_operator.Remainder t k b) {x = assigning.Remainder} {y = c} (cc h) (omega (arith, right_falls (binary_operand_seat binary_operator.Remainder 1) refl b, member_heavy (binary_operand_seat binary_operator.Remainder 0) t k, same_marks s assigning.Remainder assigning.Assign (outlines (member_on t k ▸ b ▸ none)) (outlines (member_on t k ▸ binary binary_operator.Remainder (member_on t k) b ▸ none))))
+computing_member_falls binary_operator.Exponential c h s t k b = subst (MemberFalls s binary_operator.Exponential t k b) {x = assigning.Exponential} {y = c} (cc h) (omega (arith, right_falls (binary_operand_seat binary_operator.Exponential 1) refl b, member_heavy (binary_operand_seat binary_operator.Exponential 0) t k, same_marks s assigning.Exponential assigning.Assign (outlines (member_on t k ▸ b ▸ none)) (outlines (member_on t k ▸ binary binary_operator.Exponential (member_on t k) b ▸ none))))
+computing_member_falls binary_operator.ShiftLeft c h s t k b = subst (MemberFalls s binary_operator.ShiftLeft t k b) {x = assigning.ShiftLeft} {y = c} (cc h) (omega (arith, right_falls (binary_operand_seat binary_operator.ShiftLeft 1) refl b, member_heavy (binary_operand_seat binary_operator.ShiftLeft 0) t k, same_marks s assigning.ShiftLeft assigning.Assign (outlines (member_on t k ▸ b ▸ none)) (outlines (member_on t k ▸ binary binary_operator.ShiftLeft (member_on t k) b ▸ none))))
+computing_member_falls binary_operator.ShiftRight c h s t k b = subst (MemberFalls s binary_operator.ShiftRight t k b) {x = assigning.ShiftRight} {y = c} (cc h) (omega (arith, right_falls (binary_operand_seat binary_operator.ShiftRight 1) refl b, member_heavy (binary_operand_seat binary_operator.ShiftRight 0) t k, same_marks s assigning.ShiftRight assigning.Assign (outlines (member_on t k ▸ b ▸ none)) (outlines (member_on t k ▸ binary binary_operator.ShiftRight (member_on t k) b ▸ none))))
+computing_member_falls binary_operator.ShiftRightZeroFill c h s t k b = subst (MemberFalls s binary_operator.ShiftRightZeroFill t k b) {x = assigning.ShiftRightZeroFill} {y = c} (cc h) (omega (arith, right_falls (binary_operand_seat binary_operator.ShiftRightZeroFill 1) refl b, member_heavy (binary_operand_seat binary_operator.ShiftRightZeroFill 0) t k, same_marks s assigning.ShiftRightZeroFill assigning.Assign (outlines (member_on t k ▸ b ▸ none)) (outlines (member_on t k ▸ binary binary_operator.ShiftRightZeroFill (member_on t k) b ▸ none))))
+computing_member_falls binary_operator.BitwiseAnd c h s t k b = subst (MemberFalls s binary_operator.BitwiseAnd t k b) {x = assigning.BitwiseAnd} {y = c} (cc h) (omega (arith, right_falls (binary_operand_seat binary_operator.BitwiseAnd 1) refl b, member_heavy (binary_operand_seat binary_operator.BitwiseAnd 0) t k, same_marks s assigning.BitwiseAnd assigning.Assign (outlines (member_on t k ▸ b ▸ none)) (outlines (member_on t k ▸ binary binary_operator.BitwiseAnd (member_on t k) b ▸ none))))
+computing_member_falls binary_operator.BitwiseXor c h s t k b = subst (MemberFalls s binary_operator.BitwiseXor t k b) {x = assigning.BitwiseXor} {y = c} (cc h) (omega (arith, right_falls (binary_operand_seat binary_operator.BitwiseXor 1) refl b, member_heavy (binary_operand_seat binary_operator.BitwiseXor 0) t k, same_marks s assigning.BitwiseXor assigning.Assign (outlines (member_on t k ▸ b ▸ none)) (outlines (member_on t k ▸ binary binary_operator.BitwiseXor (member_on t k) b ▸ none))))
+computing_member_falls binary_operator.BitwiseOr c h s t k b = subst (MemberFalls s binary_operator.BitwiseOr t k b) {x = assigning.BitwiseOr} {y = c} (cc h) (omega (arith, right_falls (binary_operand_seat binary_operator.BitwiseOr 1) refl b, member_heavy (binary_operand_seat binary_operator.BitwiseOr 0) t k, same_marks s assigning.BitwiseOr assigning.Assign (outlines (member_on t k ▸ b ▸ none)) (outlines (member_on t k ▸ binary binary_operator.BitwiseOr (member_on t k) b ▸ none))))
+computing_member_falls o c h s t k b = absurd (cc h)
 
 -- 45: a name and its `=` go
 
@@ -210,17 +213,17 @@ chosen_falls s e o a x b c =
     let second = placed 0 (branch_seat argument_seat) argument_seat refl (λ h os. omega arith) c in
     omega (arith, marks, first, second, name_heavy x)
 
-target_heavy : (x : Name) (k : Key) → 1 ≤ weight Target (member_of x k)
-target_heavy x (Named t) = omega arith
-target_heavy x (Spelled t) = omega arith
-target_heavy x (Numbered n) = omega arith
+target_heavy : (t : Tree) (k : Key) → 1 ≤ weight Target (member_on t k)
+target_heavy t (Named i) = omega arith
+target_heavy t (Spelled i) = omega arith
+target_heavy t (Numbered n) = omega arith
 
-chosen_member_falls : (s : Seat) → nat_eq s.level conditional_level ≡ false → (a : Tree) (x : Name) (k : Key) (b c : Tree) → weight (Expr s) (assignment assigning.Assign (member_of x k) (conditional a b c)) < weight (Expr s) (conditional a (assignment assigning.Assign (member_of x k) b) (assignment assigning.Assign (member_of x k) c))
-chosen_member_falls s e a x k b c =
-    let marks = loose_marks s assigning.Assign (outlines (member_of x k ▸ conditional a b c ▸ none)) (outlines (a ▸ assignment assigning.Assign (member_of x k) b ▸ assignment assigning.Assign (member_of x k) c ▸ none)) e in
+pub chosen_member_falls : (s : Seat) → nat_eq s.level conditional_level ≡ false → (a : Tree) (t : Tree) (k : Key) (b c : Tree) → weight (Expr s) (assignment assigning.Assign (member_on t k) (conditional a b c)) < weight (Expr s) (conditional a (assignment assigning.Assign (member_on t k) b) (assignment assigning.Assign (member_on t k) c))
+chosen_member_falls s e a t k b c =
+    let marks = loose_marks s assigning.Assign (outlines (member_on t k ▸ conditional a b c ▸ none)) (outlines (a ▸ assignment assigning.Assign (member_on t k) b ▸ assignment assigning.Assign (member_on t k) c ▸ none)) e in
     let first = placed 0 (branch_seat argument_seat) argument_seat refl (λ h os. omega arith) b in
     let second = placed 0 (branch_seat argument_seat) argument_seat refl (λ h os. omega arith) c in
-    omega (arith, marks, first, second, target_heavy x k)
+    omega (arith, marks, first, second, target_heavy t k)
 
 -- 38, of what is assigned last: the name and the `=` go
 
@@ -233,34 +236,34 @@ pairs_at_most false b e = at_least b
     at_least true = omega arith
     at_least false = omega arith
 
-abbrev LastFalls : LogicalOperator → Seat → Name → Tree → Trees → Tree → Type 0
-LastFalls o s x p ps b = weight (Expr s) (assignment (deciding o) (identifier x) (sequence (p ▸ append ps (b ▸ none)))) < weight (Expr s) (logical o (identifier x) (sequence (p ▸ append ps (assign x b ▸ none))))
+abbrev pub LastFalls : LogicalOperator → Seat → Tree → Tree → Trees → Tree → Type 0
+LastFalls o s t p ps b = weight (Expr s) (assignment (deciding o) t (sequence (p ▸ append ps (b ▸ none)))) < weight (Expr s) (logical o t (sequence (p ▸ append ps (assignment assigning.Assign t b ▸ none))))
 
-last_falls : (o : LogicalOperator) (s : Seat) (x : Name) (p : Tree) (ps : Trees) (b : Tree) → keeps_parentheses o s ≡ true → LastFalls o s x p ps b
-last_falls Or s x p ps b e =
-    let before = sequence_weighs (right_operand_seat Or s) p (append ps (assign x b ▸ none)) in
+pub last_falls : (o : LogicalOperator) (s : Seat) (t : Tree) (p : Tree) (ps : Trees) (b : Tree) → keeps_parentheses o s ≡ true → ((s : Seat) → 1 ≤ weight (Expr s) t) → LastFalls o s t p ps b
+last_falls Or s t p ps b e h =
+    let before = sequence_weighs (right_operand_seat Or s) p (append ps (assignment assigning.Assign t b ▸ none)) in
     let after = sequence_weighs argument_seat p (append ps (b ▸ none)) in
-    let one = parts_append ps (assign x b) none in
+    let one = parts_append ps (assignment assigning.Assign t b) none in
     let other = parts_append ps b none in
     let moved = placed 0 passed_part_seat argument_seat refl (λ h os. omega arith) b in
     let less = pairs_at_most (is_parenthesized (shape.AssignmentExpression assigning.LogicalOr) s) (is_parenthesized (shape.LogicalExpression Or) s) e in
-    omega (arith, before, after, one, other, moved, less, name_heavy x, no_awkward s.eq_left s.cond_test s.lifted)
-last_falls And s x p ps b e =
-    let before = sequence_weighs (right_operand_seat And s) p (append ps (assign x b ▸ none)) in
+    omega (arith, before, after, one, other, moved, less, h (left_operand_seat Or s), no_awkward s.eq_left s.cond_test s.lifted)
+last_falls And s t p ps b e h =
+    let before = sequence_weighs (right_operand_seat And s) p (append ps (assignment assigning.Assign t b ▸ none)) in
     let after = sequence_weighs argument_seat p (append ps (b ▸ none)) in
-    let one = parts_append ps (assign x b) none in
+    let one = parts_append ps (assignment assigning.Assign t b) none in
     let other = parts_append ps b none in
     let moved = placed 0 passed_part_seat argument_seat refl (λ h os. omega arith) b in
     let less = pairs_at_most (is_parenthesized (shape.AssignmentExpression assigning.LogicalAnd) s) (is_parenthesized (shape.LogicalExpression And) s) e in
-    omega (arith, before, after, one, other, moved, less, name_heavy x, no_awkward s.eq_left s.cond_test s.lifted)
-last_falls Coalesce s x p ps b e =
-    let before = sequence_weighs (right_operand_seat Coalesce s) p (append ps (assign x b ▸ none)) in
+    omega (arith, before, after, one, other, moved, less, h (left_operand_seat And s), no_awkward s.eq_left s.cond_test s.lifted)
+last_falls Coalesce s t p ps b e h =
+    let before = sequence_weighs (right_operand_seat Coalesce s) p (append ps (assignment assigning.Assign t b ▸ none)) in
     let after = sequence_weighs argument_seat p (append ps (b ▸ none)) in
-    let one = parts_append ps (assign x b) none in
+    let one = parts_append ps (assignment assigning.Assign t b) none in
     let other = parts_append ps b none in
     let moved = placed 0 passed_part_seat argument_seat refl (λ h os. omega arith) b in
     let less = pairs_at_most (is_parenthesized (shape.AssignmentExpression assigning.LogicalNullish) s) (is_parenthesized (shape.LogicalExpression Coalesce) s) e in
-    omega (arith, before, after, one, other, moved, less, name_heavy x, no_awkward s.eq_left s.cond_test s.lifted)
+    omega (arith, before, after, one, other, moved, less, h (left_operand_seat Coalesce s), no_awkward s.eq_left s.cond_test s.lifted)
 
 -- 46: the comparison and the second name weigh more than a pair of parentheses round each
 
@@ -387,9 +390,9 @@ lighter s n w (inr (inr (inr (inr (inr (inr (inl r))))))) = falls_by (Expr s) n 
 lighter s n w (inr (inr (inr (inr (inr (inr (inr (inl r)))))))) = falls_by (Expr s) n w _ _ r.shape r.written (compared_after_falls s r.equal r.before r.name r.first r.second r.nullish)
 lighter s n w (inr (inr (inr (inr (inr (inr (inr (inr (inl r))))))))) = falls_by (Expr s) n w _ _ r.shape r.written (type_falls s r.there r.strict r.before r.name)
 lighter s n w (inr (inr (inr (inr (inr (inr (inr (inr (inr (inl r)))))))))) = falls_by (Expr s) n w _ _ r.shape r.written (null_type_falls s r.there r.strict r.before r.name)
-lighter s n w (inr (inr (inr (inr (inr (inr (inr (inr (inr (inr (inr (inr r)))))))))))) = falls_by (Expr s) n w _ _ r.shape r.written (last_falls r.operator s r.name r.first r.others r.b r.seated)
-lighter s n w (inr (inr (inr (inr (inr (inr (inr (inr (inr (inr (inr (inl r)))))))))))) = falls_by (Expr s) n w _ _ r.shape r.written (chosen_member_falls s r.seated r.a r.name r.key r.b r.c)
-lighter s n w (inr (inr (inr (inr (inr (inr (inr (inr (inr (inr (inl r))))))))))) = falls_by (Expr s) n w _ _ r.shape r.written (computing_member_falls r.operator r.combined r.computes s r.name r.key r.b)
+lighter s n w (inr (inr (inr (inr (inr (inr (inr (inr (inr (inr (inr (inr r)))))))))))) = falls_by (Expr s) n w _ _ r.shape r.written (last_falls r.operator s (identifier r.name) r.first r.others r.b r.seated (name_heavy_there r.name))
+lighter s n w (inr (inr (inr (inr (inr (inr (inr (inr (inr (inr (inr (inl r)))))))))))) = falls_by (Expr s) n w _ _ r.shape r.written (chosen_member_falls s r.seated r.a (identifier r.name) r.key r.b r.c)
+lighter s n w (inr (inr (inr (inr (inr (inr (inr (inr (inr (inr (inl r))))))))))) = falls_by (Expr s) n w _ _ r.shape r.written (computing_member_falls r.operator r.combined r.computes s (identifier r.name) r.key r.b)
 lighter s n w (inr (inr (inr (inr (inr (inl r)))))) = falls_by (Expr s) n w _ _ r.shape r.written (chosen_falls s r.seated r.operator r.a r.name r.b r.c)
 
 -- of none of these nodes a parent's weight reads more than that it is there

@@ -122,7 +122,9 @@ pub mod ChoiceLast
 pub mod ChoiceShapes
 mod ChoiceSpines
 pub mod ChoiceLawful
-mod SteadyMeaning
+mod KeptThis
+pub mod MemberRuns
+mod MemberKept
 pub mod SteadyKept
 pub mod SteadyLawful
 pub mod OwnArrowLawful

@@ -165,11 +165,15 @@ pub data Key : Type 0 where
   Spelled : List ℕ → Key
   Numbered : ℤ → Key
 
--- `x.k`, `x["a-b"]` or `x[0]`
+-- `t.k`, `t["a-b"]` or `t[0]`
+abbrev pub member_on : Tree → Key → Tree
+member_on t (Named s) = static_member t (leaf (shape.IdentifierName s))
+member_on t (Spelled s) = computed_member t (leaf (shape.StringLiteral s))
+member_on t (Numbered k) = computed_member t (leaf (shape.NumericLiteral k))
+
+-- of a name
 abbrev pub member_of : Name → Key → Tree
-member_of x (Named s) = static_member (identifier x) (leaf (shape.IdentifierName s))
-member_of x (Spelled s) = computed_member (identifier x) (leaf (shape.StringLiteral s))
-member_of x (Numbered k) = computed_member (identifier x) (leaf (shape.NumericLiteral k))
+member_of x k = member_on (identifier x) k
 
 -- 35: `x.k = x.k + b` becomes `x.k += b`, where a scope declares x: nothing happens between the two reads of it (ECMA-262, "Assignment
 -- Operators": the target is evaluated first), and a key that is written out is converted without an effect

@@ -30,6 +30,7 @@ pub mod Templates
 pub mod Names
 pub mod Catches
 pub mod Writes
+pub mod Members
 pub mod Steady
 pub mod OwnArrows
 pub mod OwnPrograms

@@ -1,15 +1,12 @@
--- Rows that rest on it that names are steady, as equations: each is a shape and what is written in its place, with the JavaScript before
--- and after. S has the variables that no answer of the world changes while the body runs in which the expression stands.
+-- Rows that rest on what is known of the body in which they stand, and the node that has the body.
 use Rattle.std.specs.Prelude.{◌≡◌, ℕ, zero, suc, Bool, true, false, List, Option, Contains}
 use Rattle.mini_model.specs.declared.kind.PropertyKind.{PropertyKind}
 use Rattle.mini_model.specs.declared.name.Name.{Name}
-use Rattle.mini_model.specs.declared.operator.AssignmentOperator.TheVariants.{Assign}
-use Rattle.mini_model.specs.declared.operator.LogicalOperator.{LogicalOperator}
 use Rattle.mini_model.specs.declared.place.Position.{Position}
 use Rattle.mini_model.specs.declared.place.Position.TheVariants.{Expr, Stmt, Method, Elsewhere}
 use Rattle.mini_model.specs.declared.shape.Shape.{Shape}
 use Rattle.mini_model.specs.declared.shape.Shape.TheVariants as shape
-use Rattle.mini_model.specs.Tree.{Tree, Trees, node, ◌▸◌, count, logical, shape_of}
+use Rattle.mini_model.specs.Tree.{Tree, Trees, node, ◌▸◌, count, shape_of}
 use Rattle.mini_model.specs.Position.{child_position}
 use Rattle.mini_laws.specs.Demand.{Demand}
 use Rattle.mini_laws.specs.Fits.{Fits}
@@ -28,26 +25,13 @@ use Rattle.mini_kept.specs.KeepsShapes.{KeepsShapes}
 use Rattle.mini_kept.specs.Lifted.{KeepsNames}
 use Rattle.mini_kept.specs.Loosely.{LawfulUnder}
 use Rattle.mini_kept.specs.Without.{Assured, BodySets, Steadies}
-use Rattle.mini_rows.specs.Choices.{Key, member_of, deciding}
 use Rattle.mini_rows.specs.Fading.{Fading}
 use Rattle.mini_rows.specs.Lexical.{LexicalRow}
-use Rattle.mini_rows.specs.Spellings.{assignment}
-use Rattle.mini_rows.specs.Unused.{resolved}
-
--- 38: `x.k || (x.k = b)` becomes `x.k ||= b`, and so of `&&` and `??`: x is read again after the property, whose getter may run any code
-pub record Row38Member (S : VariableSet) (n w : Tree) : Type 0 where
-  pub operator : LogicalOperator
-  pub spelling : List ℕ
-  pub symbol : ℕ
-  pub key : Key
-  pub b : Tree
-  pub steady : S (Declared symbol) ≡ true
-  pub shape : n ≡ logical operator (member_of (resolved spelling symbol) key) (assignment Assign (member_of (resolved spelling symbol) key) b)
-  pub written : w ≡ assignment (deciding operator) (member_of (resolved spelling symbol) key) b
+use Rattle.mini_rows.specs.Members.{MemberRow}
 
 -- a row reads n as w at this place, in a body of which this is known
 abbrev pub SteadyRow : Assured → Position → Tree → Tree → Type 0
-SteadyRow V (Expr s) n w = Row38Member V.steady n w
+SteadyRow V (Expr s) n w = MemberRow V s n w
 SteadyRow V _ n w = ⊥
 
 -- ---- rows of the code of a body

@@ -1,0 +1,94 @@
+-- Rows of members of what keeps its value while a body runs, `this` or a name that is steady, as equations: each is a shape and what is
+-- written in its place, with the JavaScript before and after. V says what is known of the body in which the expression stands.
+use Rattle.std.specs.Prelude.{◌≡◌, ◌⊎◌, ◌&&◌, not, ℕ, List, Bool, true, false, nat_eq, Some}
+use Rattle.mini_model.specs.declared.operator.AssignmentOperator.{AssignmentOperator}
+use Rattle.mini_model.specs.declared.operator.AssignmentOperator.TheVariants.{Assign}
+use Rattle.mini_model.specs.declared.operator.BinaryOperator.{BinaryOperator}
+use Rattle.mini_model.specs.declared.operator.LogicalOperator.{LogicalOperator}
+use Rattle.mini_model.specs.declared.seat.Seat.{Seat}
+use Rattle.mini_model.specs.declared.shape.Shape.TheVariants as shape
+use Rattle.mini_model.specs.Tree.{Tree, Trees, leaf, none, ◌▸◌, identifier, logical, conditional}
+use Rattle.mini_model.specs.Paths.{append}
+use Rattle.mini_model.specs.Position.{conditional_level}
+use Rattle.mini_laws.specs.Value.{Declared}
+use Rattle.mini_kept.specs.Without.{Assured}
+use Rattle.mini_rows.specs.Choices.{Key, member_on, computing, deciding, keeps_parentheses}
+use Rattle.mini_rows.specs.Lists.{of_parts, sequence}
+use Rattle.mini_rows.specs.Past.{leaves}
+use Rattle.mini_rows.specs.Spellings.{binary, assignment}
+use Rattle.mini_rows.specs.Unused.{resolved}
+
+-- `this`
+abbrev pub this : Tree
+this = leaf shape.ThisExpression
+
+-- what has members: `this`, or a name with a symbol
+pub data Object : Type 0 where
+  OfThis : Object
+  OfName : List ℕ → ℕ → Object
+
+abbrev pub object : Object → Tree
+object OfThis = this
+object (OfName spelling symbol) = identifier (resolved spelling symbol)
+
+-- its value stays as it is, whatever the world does: the body has a `this` for which it doesn't ask (ECMA-262, "ResolveThisBinding"), or no
+-- answer changes the name
+abbrev pub is_kept : Assured → Object → Bool
+is_kept V OfThis = V.has_this
+is_kept V (OfName spelling symbol) = V.steady (Declared symbol)
+
+-- and whatever this does: nothing writes `this`, and what neither declares nor writes a name leaves it as it is (ECMA-262, "PutValue")
+abbrev pub is_left : Object → Tree → Bool
+is_left OfThis t = true
+is_left (OfName spelling symbol) t = leaves t (resolved spelling symbol) symbol
+
+-- 38: `x.k || (x.k = b)` becomes `x.k ||= b`, and so of `&&` and `??`, and of `this.k`: the object is evaluated again after the property, whose
+-- getter may run any code
+pub record Row38Member (V : Assured) (n w : Tree) : Type 0 where
+  pub operator : LogicalOperator
+  pub of : Object
+  pub key : Key
+  pub b : Tree
+  pub kept : is_kept V of ≡ true
+  pub shape : n ≡ logical operator (member_on (object of) key) (assignment Assign (member_on (object of) key) b)
+  pub written : w ≡ assignment (deciding operator) (member_on (object of) key) b
+
+-- 38: `x.k || (a, x.k = b)` becomes `x.k ||= (a, b)`, and so of `this.k`
+pub record Row38MemberLast (V : Assured) (s : Seat) (n w : Tree) : Type 0 where
+  pub operator : LogicalOperator
+  pub of : Object
+  pub key : Key
+  pub first : Tree
+  pub others : Trees
+  pub b : Tree
+  pub kept : is_kept V of ≡ true
+  pub left : is_left of (of_parts first others) ≡ true
+  pub seated : keeps_parentheses operator s ≡ true
+  pub shape : n ≡ logical operator (member_on (object of) key) (sequence (first ▸ append others (assignment Assign (member_on (object of) key) b ▸ none)))
+  pub written : w ≡ assignment (deciding operator) (member_on (object of) key) (sequence (first ▸ append others (b ▸ none)))
+
+-- 35: `this.k = this.k + b` becomes `this.k += b`, and so of the other operators of numbers
+pub record Row35This (V : Assured) (n w : Tree) : Type 0 where
+  pub operator : BinaryOperator
+  pub combined : AssignmentOperator
+  pub key : Key
+  pub b : Tree
+  pub computes : computing operator ≡ Some combined
+  pub kept : V.has_this ≡ true
+  pub shape : n ≡ assignment Assign (member_on this key) (binary operator (member_on this key) b)
+  pub written : w ≡ assignment combined (member_on this key) b
+
+-- 45: `a ? this.k = b : this.k = c` becomes `this.k = a ? b : c`, whatever a does
+pub record Row45This (V : Assured) (s : Seat) (n w : Tree) : Type 0 where
+  pub a : Tree
+  pub key : Key
+  pub b : Tree
+  pub c : Tree
+  pub kept : V.has_this ≡ true
+  pub seated : nat_eq s.level conditional_level ≡ false
+  pub shape : n ≡ conditional a (assignment Assign (member_on this key) b) (assignment Assign (member_on this key) c)
+  pub written : w ≡ assignment Assign (member_on this key) (conditional a b c)
+
+-- a row reads n as w in this seat
+abbrev pub MemberRow : Assured → Seat → Tree → Tree → Type 0
+MemberRow V s n w = Row38Member V n w ⊎ (Row38MemberLast V s n w ⊎ (Row35This V n w ⊎ Row45This V s n w))
