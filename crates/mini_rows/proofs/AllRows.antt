@@ -53,7 +53,7 @@ use Rattle.mini_rows.proofs.NegationLawful.{negations_lawful}
 use Rattle.mini_rows.proofs.TemplateLawful.{templates_lawful}
 use Rattle.mini_rows.proofs.LoopGuardsKept.{loop_guards_lawful}
 use Rattle.mini_rows.proofs.BooleanLawful.{booleans_lawful}
-use Rattle.mini_rows.proofs.ConstantLawful.{constants_lawful}
+use Rattle.mini_rows.proofs.JoinedLawful.{constants_lawful}
 use Rattle.mini_rows.proofs.KeysJoined.{held_keys_lawful}
 use Rattle.mini_rows.proofs.CatchLawful.{catches_lawful}
 use Rattle.mini_rows.proofs.NameLawful.{names_lawful}

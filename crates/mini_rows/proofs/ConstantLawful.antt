@@ -34,12 +34,14 @@ use Rattle.mini_kept.specs.Lawful.{Lawful}
 use Rattle.mini_kept.proofs.Bools.{left}
 use Rattle.mini_kept.proofs.Expressions.{refused_here, expression, TakesExpressionIn, TakesExpression, expression_taken}
 use Rattle.mini_kept.proofs.Expressions as kept_expressions
-use Rattle.mini_terms.specs.Const.{made, mapped, decided, binary_value, binary_const, logical_const, conditional_const}
+use Rattle.mini_terms.specs.Const.{text_of, made, mapped, decided, binary_value, binary_const, logical_const, conditional_const}
 use Rattle.mini_terms.specs.Calculated.{undefined_if, leaf_value, as_number, over_number, calculated_unary, calculated_numbers, unary_value, last_value, value_within, operand_depth, operand_value, free_value, calculated}
 use Rattle.mini_terms.specs.Parts.{leaves_nothing}
 use Rattle.mini_terms.specs.Plain.{lit, void_zero}
 use Rattle.mini_terms.specs.Kind.{is_undefined_name}
-use Rattle.mini_terms.proofs.Calculated.{Form, of_unary, of_binary, Choice, of_logical, of_conditional, of_sequence, within, calculated_is}
+use Rattle.mini_terms.specs.Templates.{template, text_between, text_value}
+use Rattle.mini_terms.proofs.Calculated.{Form, of_unary, of_binary, Choice, of_logical, of_conditional, of_sequence, of_template, within, calculated_is}
+use Rattle.mini_terms.proofs.Joined.{text_is}
 use Rattle.mini_rows.specs.Arranged.{KeptAt, Vanishes}
 use Rattle.mini_rows.specs.Sketches.{Null as NullHead, Number as NumberHead, String as StringHead, Unary, Binary, part as hole, under, end, ◌▹◌, Free}
 use Rattle.mini_rows.specs.Constants.{RowConstant, ConstantRow, ConstantContracts}
@@ -50,10 +52,11 @@ use Rattle.mini_rows.proofs.FoldLawful.{vanishes, first_dropped, no_number, expr
 use Rattle.mini_rows.proofs.FoldWeights.{not_a_number}
 use Rattle.mini_rows.proofs.ListShapes.{AllFit, first_fits}
 use Rattle.mini_rows.proofs.Surrogates.{is_paired_joined, numeral_paired}
+use Rattle.mini_rows.proofs.TemplateFits.{template_made, text_paired as pieces_paired}
 
 -- ---- all of it goes, and a literal is made
 
-abbrev both_dropped : Free
+abbrev pub both_dropped : Free
 both_dropped = record { moved = []; lists_moved = []; dropped = 0 ∷ 1 ∷ [] }
 
 module _ (q : Seat) (n w : Tree) (o : UnaryOperator) (a : Tree) (is : n ≡ unary o a) (goes : Vanishes a) where
@@ -82,7 +85,7 @@ operand_goes o a e = vanishes a (and_parts (leaves_nothing a) true e).0
 operands_go : (o : BinaryOperator) (a b : Tree) → leaves_nothing (binary o a b) ≡ true → Vanishes a × Vanishes b
 operands_go o a b e = let (first, rest) = and_parts (leaves_nothing a) (leaves_nothing b && true) e in (vanishes a first, vanishes b (and_parts (leaves_nothing b) true rest).0)
 
-constant_kept : (q : Seat) (n w : Tree) → RowConstant q n w → KeptAt (Expr q) n w
+pub constant_kept : (q : Seat) (n w : Tree) → RowConstant q n w → KeptAt (Expr q) n w
 constant_kept q n w r = go (calculated_is n r.value r.known).made_of
   where
     go : Form true free_value n r.value → KeptAt (Expr q) n w
@@ -90,14 +93,6 @@ constant_kept q n w r = go (calculated_is n r.value r.known).made_of
     go (of_binary o is e) =
         let (first, second) = operands_go o (part n 0) (part n 1) (subst (λ x. leaves_nothing x ≡ true) is r.dropped) in
         binary_kept q n w o (part n 0) (part n 1) is first second r.value r.literal
-
-kept : (p : Position) (n w : Tree) → ConstantRow p n w → KeptAt p n w
-kept (Expr q) n w r = constant_kept q n w r
-kept p n w r = absurd r
-
-places : (p : Position) (n w : Tree) → ConstantRow p n w → is_rewritten_place p ≡ true
-places (Expr q) n w r = refl
-places p n w r = absurd r
 
 -- ---- what can be written
 
@@ -288,7 +283,7 @@ ordered_written binary_operator.LessEqualThan (String s) (String t) v e h = writ
 ordered_written binary_operator.GreaterEqualThan (String s) (String t) v e h = written_by (Boolean (not (is_text_less s t))) v e refl
 ordered_written o x y v e h = by_numbers_written o x y v e
 
-binary_written : (o : BinaryOperator) (x y v : Value) → binary_value o x y ≡ Some v → Written x → Written y → Written v
+pub binary_written : (o : BinaryOperator) (x y v : Value) → binary_value o x y ≡ Some v → Written x → Written y → Written v
 binary_written binary_operator.Equality x y v e h k = mapped_written (λ c. c) (loosely_equal x y) v e
 binary_written binary_operator.Inequality x y v e h k = mapped_written not (loosely_equal x y) v e
 binary_written binary_operator.StrictEquality x y v e h k = written_by (Boolean (strictly_equal x y)) v e refl
@@ -473,11 +468,31 @@ module _ (strict : Bool) where
     last_at (a ▸ none) e k = h a v e (first_fits strict expression a none k).0
     last_at (a ▸ (b ▸ ts)) e k = last_at (b ▸ ts) e (first_fits strict expression a (b ▸ ts) k).1
 
+    -- the text of a part
+    part_paired : (a : Tree) → fits strict expression a ≡ true → (s : List ℕ) → text_of (f a) ≡ Some s → is_paired s ≡ true
+    part_paired a fit s e = go (f a) refl e
+      where
+        of_text : (m : Made (List ℕ)) → Paired m → made m ≡ Some s → is_paired s ≡ true
+        of_text (makes r) p e = subst (λ x. is_paired x ≡ true) {x = r} {y = s} (cc e) p
+        of_text raises p e = nothing e
+        of_text outside p e = nothing e
+
+        go : (c : Option Value) → f a ≡ c → text_of c ≡ Some s → is_paired s ≡ true
+        go (Some u) g e = of_text (to_text u) (text_paired u (h a u g fit)) e
+        go None g e = nothing e
+
+    template_at : (ps ts : Trees) → text_value (text_between f ps ts) ≡ Some v → fits strict expression (template ps ts) ≡ true → Written v
+    template_at ps ts e k =
+        let fit = template_made strict ps ts k in
+        let (text, (known, same)) = text_is (text_between f ps ts) v e in
+        subst Written same (pieces_paired strict f part_paired ps ts fit.texts fit.parts text known)
+
     chosen_at : (is_free : Bool) → Choice is_free f t v → fits strict expression t ≡ true → Written v
     chosen_at is_free (of_logical o is e) k =
         let (first, second) = logical_fit o (part t 0) (part t 1) (subst (λ x. fits strict expression x ≡ true) is k) in
         by_sides o v (f (part t 0)) (f (part t 1)) (λ u g. h (part t 0) u g first) (λ u g. h (part t 1) u g second) e
     chosen_at is_free (of_sequence free is e) k = last_at (children (part t 0)) e (items_fit (children (part t 0)) (subst (λ x. fits strict expression x ≡ true) is k))
+    chosen_at is_free (of_template is e) k = template_at (children (part t 0)) (children (part t 1)) e (subst (λ x. fits strict expression x ≡ true) is k)
     chosen_at is_free (of_conditional is e) k =
         let (takes, (first, second, third)) = kept_expressions.of_conditional strict expression (part t 0) (part t 1) (part t 2) (subst (λ x. fits strict expression x ≡ true) is k) in
         by_branches v (f (part t 0)) (f (part t 1)) (f (part t 2)) (λ u g. h (part t 1) u g second) (λ u g. h (part t 2) u g third) e
@@ -503,20 +518,15 @@ lit_fits strict (Number n) w e h = subst (Fits strict) {x = leaf (shape.NumericL
 lit_fits strict (String s) w e h = subst (Fits strict) {x = leaf (shape.StringLiteral s)} {y = w} (cc e) (ap (λ a. (a && true) && true) h)
 lit_fits strict v w e h = nothing e
 
-constant_fits : (q : Seat) (n w : Tree) → RowConstant q n w → (strict : Bool) (s : Slot) → fits strict s n ≡ true → fits strict s w ≡ true
+pub constant_fits : (q : Seat) (n w : Tree) → RowConstant q n w → (strict : Bool) (s : Slot) → fits strict s n ≡ true → fits strict s w ≡ true
 constant_fits q n w r strict s e = let (takes, written) = value_at strict s n r.value r.known e in expression_taken strict s w takes (lit_fits strict r.value w r.literal written)
 
-row_fits : (p : Position) (n w : Tree) → ConstantRow p n w → (strict : Bool) (s : Slot) → fits strict s n ≡ true → fits strict s w ≡ true
-row_fits (Expr q) n w r strict s e = constant_fits q n w r strict s e
-row_fits p n w r strict s e = absurd r
-
-row_slot : (p : Position) (n w : Tree) → ConstantRow p n w → (strict : Bool) (s : Slot) → fits strict s n ≡ true → is_body_slot p s ≡ true
-row_slot (Expr q) n w r strict s e = expression_slot (Expr q) s (value_at strict s n r.value r.known e).0
-row_slot p n w r strict s e = absurd r
+pub constant_takes : (q : Seat) (n w : Tree) → RowConstant q n w → (strict : Bool) (s : Slot) → fits strict s n ≡ true → TakesExpression s
+constant_takes q n w r strict s e = (value_at strict s n r.value r.known e).0
 
 -- ---- what a parent asks of them
 
-constant_asked : (q : Seat) (n w : Tree) → RowConstant q n w → AskedAlike (Expr q) n w
+pub constant_asked : (q : Seat) (n w : Tree) → RowConstant q n w → AskedAlike (Expr q) n w
 constant_asked q n w r = go (calculated_is n r.value r.known).made_of
   where
     go : Form true free_value n r.value → AskedAlike (Expr q) n w
@@ -536,15 +546,3 @@ constant_asked q n w r = go (calculated_is n r.value r.known).made_of
       spelled = λ s e. absurd (cc (sym e ∙ ap spelling is));
       plain = ap (λ x. is_default (shape_of x)) is;
     }
-
-row_asked : (p : Position) (n w : Tree) → ConstantRow p n w → AskedAlike p n w
-row_asked (Expr q) n w r = constant_asked q n w r
-row_asked p n w r = absurd r
-
-pub constants_lawful : Lawful ConstantContracts
-constants_lawful =
-    kept_is_lawful ConstantContracts constants_same
-    (record { fitting = λ p n w c strict s k e. row_fits p n w c.row strict s e; asked = λ p n w c. row_asked p n w c.row })
-    (λ p n w c. places p n w c.row)
-    (λ p n w c strict s k e. row_slot p n w c.row strict s e)
-    (λ p n w c. kept p n w c.row)

@@ -1,5 +1,5 @@
 -- What is calculated does nothing but give its value.
-use Rattle.std.proofs.Common.{◌≡◌, ℕ, ℤ, List, [], Option, Some, None, refl, sym, ap, subst, ◌∙◌, true≢false}
+use Rattle.std.proofs.Common.{◌≡◌, ℕ, ℤ, List, [], ◌∷◌, ◌++◌, Option, Some, None, refl, sym, ap, subst, ◌∙◌, true≢false}
 use Rattle.std.specs.Prelude.{not, Bool, true, false}
 use Rattle.mini_model.specs.declared.name.Name.{Name}
 use Rattle.mini_model.specs.declared.operator.BinaryOperator.{BinaryOperator}
@@ -10,7 +10,7 @@ use Rattle.mini_model.specs.declared.operator.UnaryOperator.{UnaryOperator}
 use Rattle.mini_model.specs.declared.operator.UnaryOperator.TheVariants as unary_operator
 use Rattle.mini_model.specs.declared.shape.Shape.{Shape}
 use Rattle.mini_model.specs.declared.shape.Shape.TheVariants as shape
-use Rattle.mini_model.specs.Tree.{Tree, Trees, node, none, ◌▸◌, unary, logical, conditional}
+use Rattle.mini_model.specs.Tree.{Tree, Trees, node, none, ◌▸◌, children, unary, logical, conditional}
 use Rattle.mini_node.specs.Children.{part}
 use Rattle.mini_node.specs.Kinds.{binary}
 use Rattle.mini_laws.specs.Value.{Value, Undefined, Null, Boolean, Number, String, Symbol, Object, choose, truth, is_nullish}
@@ -18,23 +18,26 @@ use Rattle.mini_laws.specs.State.{State, Hint, Completion, ok, stop, either, Env
 use Rattle.mini_laws.specs.Command.{Naming, Command, Kids, ret, bind, run}
 use Rattle.mini_laws.specs.Conversion.{Made, makes, raises, outside, both, to_number, is_safe}
 use Rattle.mini_laws.specs.Demand.{Val, As, OfType}
-use Rattle.mini_laws.specs.Expressions.{first_kind, operate_by}
-use Rattle.mini_laws.specs.Naming.{NameKind, UndefinedName, naming, summaries, kinds}
+use Rattle.mini_laws.specs.Expressions.{first_kind, interleaved, operate_by}
+use Rattle.mini_laws.specs.Naming.{NameKind, UndefinedName, naming, summaries, kinds, facts, texts_all}
 use Rattle.mini_laws.specs.Operators.{of_number, of_numbers, by_numbers, of_primitives, loosely_equal, type_text}
 use Rattle.mini_laws.specs.Replies.{reply, numeric, primitive, hint_of, loosely, of_made, of_option}
 use Rattle.mini_laws.specs.Step.{step, means, meaning}
 use Rattle.mini_laws.specs.Truth.{told}
 use Rattle.mini_laws.proofs.Runs.{either_cong, either_eta, either_ok, run_bind}
 use Rattle.mini_terms.specs.Calculated.{undefined_if, leaf_value, as_number, over_number, calculated_unary, unary_value, operand_depth, operand_value}
-use Rattle.mini_terms.specs.Const.{made, mapped, decided, binary_value, binary_const, logical_const, conditional_const}
+use Rattle.mini_terms.specs.Const.{made, mapped, decided, binary_value, binary_const, logical_const, conditional_const, cons_text, text_of}
 use Rattle.mini_terms.specs.Kind.{is_undefined_name}
 use Rattle.mini_terms.specs.Reading.{stands, by_value}
-use Rattle.mini_terms.proofs.Calculated.{Form, of_unary, of_binary, Choice, of_logical, of_conditional, of_sequence, within}
+use Rattle.mini_terms.proofs.Calculated.{Form, of_unary, of_binary, Choice, of_logical, of_conditional, of_sequence, of_template, within}
+use Rattle.mini_terms.specs.Templates.{template, text_between, text_value}
 use Rattle.mini_terms.proofs.Fine.{IsPrimitive}
+use Rattle.mini_terms.proofs.Joined.{texts_by, Told, told as told_by, text_is}
 use Rattle.mini_terms.proofs.Opened.{negation_opened, and_opened, or_opened, coalesce_opened}
 use Rattle.mini_terms.proofs.Primitive.{leaf_primitive, unary_primitive, binary_primitive, decided_primitive, branch_primitive}
 use Rattle.mini_terms.proofs.Reading.{read_by_value}
 use Rattle.mini_rows.proofs.ChoiceRuns.{value, sides, binary_names, binary_value as binary_opened, conditional_value}
+use Rattle.mini_rows.proofs.TemplateRuns.{next, next_ok, known_text, in_turn, none_turn, one_turn, template_all}
 
 nothing : {A : Type 0} {a : A} {B : Type 0} → None ≡ Some a → B
 nothing e = cc e
@@ -296,6 +299,40 @@ module _ (e : Environment) where
   by_branches a b c v (Some x) None z h l m k = nothing k
   by_branches a b c v None y z h l m k = nothing k
 
+  -- ---- templates
+
+  module _ (f : Tree → Option Value) (h : (a : Tree) (u : Value) → f a ≡ Some u → Settled a u) where
+    -- a part whose text is known
+    part_turn : (t : Tree) (ts : Trees) (x : List ℕ) (xs : List (List ℕ)) (s : State) → text_of (f t) ≡ Some x → in_turn e ts s ≡ ok xs s → in_turn e (t ▸ ts) s ≡ ok (x ∷ xs) s
+    part_turn t ts x xs s k l = go (f t) refl k
+      where
+        go : (c : Option Value) → f t ≡ c → text_of c ≡ Some x → in_turn e (t ▸ ts) s ≡ ok (x ∷ xs) s
+        go (Some u) m k = one_turn e t ts u x xs s ((h t u m).gives s) (known_text e u x k s) l
+        go None m k = nothing k
+
+    turns : (ts : Trees) (xs : List (List ℕ)) → texts_by f ts ≡ Some xs → (s : State) → in_turn e ts s ≡ ok xs s
+    turns none xs k s = none_turn e s ∙ ap (λ ys. ok ys s) {x = []} {y = xs} (cc k)
+    turns (t ▸ ts) xs k s = go (text_of (f t)) (texts_by f ts) refl (λ ys l. turns ts ys l s) k
+      where
+        go : (a : Option (List ℕ)) (b : Option (List (List ℕ))) → text_of (f t) ≡ a → ((ys : List (List ℕ)) → b ≡ Some ys → in_turn e ts s ≡ ok ys s) → cons_text a b ≡ Some xs → in_turn e (t ▸ ts) s ≡ ok xs s
+        go (Some y) (Some ys) m l k = part_turn t ts y ys s m (l ys refl) ∙ ap (λ zs. ok zs s) {x = y ∷ ys} {y = xs} (cc k)
+        go (Some y) None m l k = nothing k
+        go None b m l k = nothing k
+
+    template_done : (ps ts : Trees) (text : List ℕ) → Told f ps ts text → (s : State) → value e (template ps ts) s ≡ ok (String text) s
+    template_done ps ts text r s =
+        let texts : List (List ℕ) = texts_all (facts ps) ++ (texts_all (facts ts) ++ []) in
+        template_all e ps ts s
+        ∙ ap (λ c. next (next c (λ xs z. ok (interleaved texts xs) z)) (λ x z. ok (String x) z)) (turns ts r.parts r.known s)
+        ∙ ap (λ c. next c (λ x z. ok (String x) z)) (next_ok r.parts s (λ xs z. ok (interleaved texts xs) z))
+        ∙ next_ok (interleaved texts r.parts) s (λ x z. ok (String x) z)
+        ∙ ap (λ x. ok (String x) s) (r.joined (texts_all (facts ts) ++ []))
+
+    by_parts : (ps ts : Trees) (v : Value) → text_value (text_between f ps ts) ≡ Some v → Settled (template ps ts) v
+    by_parts ps ts v k =
+        let (text, (known, same)) = text_is (text_between f ps ts) v k in
+        subst (Settled (template ps ts)) same (stays (template ps ts) (String text) refl (template_done ps ts text (told_by f ps ts text known)) tt)
+
   -- ---- all
 
   module _ (f : Tree → Option Value) (h : (a : Tree) (u : Value) → f a ≡ Some u → Settled a u) (t : Tree) (v : Value) where
@@ -305,6 +342,7 @@ module _ (e : Environment) where
 
     chosen : Choice false f t v → Settled t v
     chosen (of_logical o is k) = subst (λ x. Settled x v) (sym is) (by_sides o (part t 0) (part t 1) v (f (part t 0)) (f (part t 1)) (h (part t 0)) (h (part t 1)) k)
+    chosen (of_template is k) = subst (λ x. Settled x v) (sym is) (by_parts f h (children (part t 0)) (children (part t 1)) v k)
     chosen (of_sequence free is k) = absurd (true≢false (sym free))
     chosen (of_conditional is k) = subst (λ x. Settled x v) (sym is) (by_branches (part t 0) (part t 1) (part t 2) v (f (part t 0)) (f (part t 1)) (f (part t 2)) (h (part t 0)) (h (part t 1)) (h (part t 2)) k)
 

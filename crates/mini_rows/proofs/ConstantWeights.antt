@@ -54,15 +54,18 @@ constant_zero s n w r = go (lit_zero r.value w r.literal)
     go (inr e) = inr (subst (λ k. weight (Expr s) w + k ≤ weight (Expr s) n) (ap least_gain (sym e)) r.gains)
 
 kept_zero : (p : Position) (n w : Tree) → ConstantRow p n w → ((outline n).is_zero ≡ (outline w).is_zero) ⊎ (weight p w + 2 ≤ weight p n)
-kept_zero (Expr s) n w r = constant_zero s n w r
+kept_zero (Expr s) n w (inl r) = constant_zero s n w r
+kept_zero (Expr s) n w (inr r) = inl (ap (λ x. (outline x).is_zero) r.shape ∙ sym (ap (λ x. (outline x).is_zero) r.written))
 kept_zero p n w r = absurd r
 
 kept_absent : (p : Position) (n w : Tree) → ConstantRow p n w → (outline n).absent ≡ (outline w).absent
-kept_absent (Expr s) n w r = there n (calculated_plain n r.value r.known) ∙ sym (there w (plain_of s w r.stays))
+kept_absent (Expr s) n w (inr r) = ap (λ x. (outline x).absent) r.shape ∙ sym (ap (λ x. (outline x).absent) r.written)
+kept_absent (Expr s) n w (inl r) = there n (calculated_plain n r.value r.known) ∙ sym (there w (plain_of s w r.stays))
 kept_absent p n w r = absurd r
 
 kept_choice : (p : Position) (n w : Tree) → ConstantRow p n w → (outline n).chooses ≡ (outline w).chooses
-kept_choice (Expr s) n w r = no_choice n (calculated_plain n r.value r.known) ∙ sym (no_choice w (plain_of s w r.stays))
+kept_choice (Expr s) n w (inr r) = ap (λ x. (outline x).chooses) r.shape ∙ sym (ap (λ x. (outline x).chooses) r.written)
+kept_choice (Expr s) n w (inl r) = no_choice n (calculated_plain n r.value r.known) ∙ sym (no_choice w (plain_of s w r.stays))
 kept_choice p n w r = absurd r
 
 kept_items : (p : Position) (n w : Tree) → ConstantRow p n w → counts_items p ≡ true → (outline n).items ≡ (outline w).items

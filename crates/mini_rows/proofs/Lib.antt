@@ -205,6 +205,9 @@ pub mod TemplateRuns
 pub mod TemplateMeaning
 pub mod TemplateWeights
 mod TemplatePieces
+pub mod JoinedMeaning
+pub mod JoinedLawful
+pub mod TemplateFits
 pub mod TemplateLawful
 pub mod NameWeights
 pub mod NextKept

@@ -296,11 +296,11 @@ module _ (e : Environment) (m n : Naming) (K L : Kids (λ i. As Val)) (s t : Lis
       ∙ ap (λ c. either c (λ x y. run {q = λ i. As Val} e n L (of_made (of_primitives Addition x (String (s ++ t)))) y) (λ x y. stop x y)) (primitive_free e m n (λ i. As Val) (λ i. As Val) K L ForDefault v z)
       ∙ sym (run_bind e n (primitive ForDefault v) (λ x. of_made (of_primitives Addition x (String (s ++ t)))) L z)
 
-text_value_is : (t : List ℕ) (e : Environment) (z : State) → value e (text t) z ≡ ok (String t) z
+pub text_value_is : (t : List ℕ) (e : Environment) (z : State) → value e (text t) z ≡ ok (String t) z
 unfolding means step
 text_value_is t e z = refl
 
-number_value : (m : ℤ) (e : Environment) (z : State) → value e (numeral m) z ≡ ok (Number m) z
+pub number_value : (m : ℤ) (e : Environment) (z : State) → value e (numeral m) z ≡ ok (Number m) z
 unfolding means step
 number_value m e z = refl
 
@@ -314,7 +314,7 @@ module _ (e : Environment) (a : Tree) (s t : List ℕ) (k : Tree) (u : Value) (k
       binary_value e Addition a (text r) z
       ∙ either_cong (value e a z) _ _ _ _ (λ v y. ap (λ c. either c (λ w y. ends_with e Addition a (text r) v w y) (λ x y. stop x y)) (text_value_is r e y) ∙ either_ok (String r) y _ _) (λ x y. refl)
 
-  joined_value : (z : State) → value e (binary Addition (sum_of a s) k) z ≡ value e (sum_of a (s ++ t)) z
+  pub joined_value : (z : State) → value e (binary Addition (sum_of a s) k) z ≡ value e (sum_of a (s ++ t)) z
   joined_value z =
       binary_value e Addition (sum_of a s) k z
       ∙ either_cong (value e (sum_of a s) z) _ (λ v y. ends_with e Addition (sum_of a s) k v u y) _ (λ x y. stop x y) (λ v y. ap (λ c. either c (λ w y. ends_with e Addition (sum_of a s) k v w y) (λ x y. stop x y)) (known y) ∙ either_ok u y _ _) (λ x y. refl)

@@ -540,7 +540,7 @@ module _ (e : Environment) (o : BinaryOperator) (h : is_bitwise o ≡ true) (a :
         ∙ ap (λ k. either k (λ x y. run {q = λ i. As Val} e (binary_names o a (numeral r)) (sides e a (numeral r)) (of_made (of_numbers o x r)) y) (λ x y. stop x y)) (numeric_free e (binary_names o a (numeral c)) (binary_names o a (numeral r)) (λ i. As Val) (λ i. As Val) (sides e a (numeral c)) (sides e a (numeral r)) v z)
         ∙ sym (run_bind e (binary_names o a (numeral r)) (numeric v) (λ x. of_made (of_numbers o x r)) (sides e a (numeral r)) z)
 
-    masked_value : (s : State) → value e (binary o inner (numeral d)) s ≡ value e (binary o a (numeral r)) s
+    pub masked_value : (s : State) → value e (binary o inner (numeral d)) s ≡ value e (binary o a (numeral r)) s
     masked_value s =
         literal_last e o numeric_operator inner d s
         ∙ ap (λ k. either k again (λ x z. stop x z)) (opened on_right c s)

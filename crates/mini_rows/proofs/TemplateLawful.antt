@@ -30,6 +30,7 @@ use Rattle.mini_rows.proofs.ArrangedLawful.{kept_is_lawful}
 use Rattle.mini_rows.proofs.ConstantLawful.{Paired, operand_written, text_paired, binary_at}
 use Rattle.mini_rows.proofs.FoldLawful.{vanishes, first_dropped, expression_slot}
 use Rattle.mini_rows.proofs.ListShapes.{AllFit, append_fits, both_fit, first_fits}
+use Rattle.mini_rows.proofs.TemplateFits.{Made, template_made}
 use Rattle.mini_rows.proofs.TemplateMeaning.{nothing, Told, told_is, templates_same}
 use Rattle.mini_rows.proofs.TemplatePieces.{Whole, pair_whole, spelled_whole, piece_stands, stands_piece}
 use Rattle.mini_rows.proofs.TemplateRuns.{count_append}
@@ -183,27 +184,11 @@ module _ (strict : Bool) where
   abbrev Fits : Tree → Type 0
   Fits t = fits strict expression t ≡ true
 
-  -- what a template is made of
-  record Made (ps ts : Trees) : Type 0 where
-    counts : count ps ≡ suc (count ts)
-    texts : are_quasis untagged ps ≡ true
-    parts : AllFit strict expression ts
-
-  filled_quasis : (ps : Trees) → fill strict (pieces_filling untagged) ps ≡ true → are_quasis untagged ps ≡ true
-  filled_quasis none e = e
-  filled_quasis (p ▸ ps) e = e
-
   quasis_filled : (ps : Trees) → are_quasis untagged ps ≡ true → fill strict (pieces_filling untagged) ps ≡ true
   quasis_filled none e = e
   quasis_filled (p ▸ ps) e = e
 
-  template_made : (ps ts : Trees) → Fits (template ps ts) → Made ps ts
-  template_made ps ts e =
-      let (whole, rest) = and_parts (nat_eq (count ps) (suc (count ts))) (fill strict (pieces_filling untagged) ps && (fill strict (each expression) ts && true)) e in
-      let (texts, parts) = and_parts (fill strict (pieces_filling untagged) ps) (fill strict (each expression) ts && true) rest in
-      record { counts = eqb-true (count ps) (suc (count ts)) whole; texts = filled_quasis ps texts; parts = left (fill strict (each expression) ts) true parts }
-
-  made_template : (ps ts : Trees) → Made ps ts → Fits (template ps ts)
+  made_template : (ps ts : Trees) → Made strict ps ts → Fits (template ps ts)
   made_template ps ts m =
       both (nat_eq (count ps) (suc (count ts))) (fill strict (pieces_filling untagged) ps && (fill strict (each expression) ts && true)) (eq-eqb (count ps) (suc (count ts)) m.counts)
       (both (fill strict (pieces_filling untagged) ps) (fill strict (each expression) ts && true) (quasis_filled ps m.texts) (both (fill strict (each expression) ts) true m.parts refl))
@@ -248,7 +233,7 @@ module _ (strict : Bool) where
 
     inlined_fits : Fits (template (append (pieces before) (piece p ▸ (piece q ▸ pieces after))) (append earlier (a ▸ later))) → Fits (template (append (pieces before) (piece joined ▸ pieces after)) (append earlier later))
     inlined_fits e =
-        let is = template_made (append (pieces before) (piece p ▸ (piece q ▸ pieces after))) (append earlier (a ▸ later)) e in
+        let is = template_made strict (append (pieces before) (piece p ▸ (piece q ▸ pieces after))) (append earlier (a ▸ later)) e in
         let (firsts, rest) = both_fit strict expression earlier (a ▸ later) is.parts in
         let (fit, lasts) = first_fits strict expression a later rest in
         let text = told_paired a m k fit in
@@ -299,8 +284,8 @@ module _ (strict : Bool) where
 
   both_fits : (before : List Piece) (p : Piece) (earlier : Trees) (q : Piece) (after : List Piece) (later : Trees) → Fits (template (append (pieces before) (piece p ▸ none)) earlier) → Fits (template (piece q ▸ pieces after) later) → Fits (template (append (pieces before) (piece (pair p q) ▸ pieces after)) (append earlier later))
   both_fits before p earlier q after later e k =
-      let front = template_made (append (pieces before) (piece p ▸ none)) earlier e in
-      let other = template_made (piece q ▸ pieces after) later k in
+      let front = template_made strict (append (pieces before) (piece p ▸ none)) earlier e in
+      let other = template_made strict (piece q ▸ pieces after) later k in
       let counts = front.counts in
       let more = other.counts in
       let left = count_append (pieces before) (piece p ▸ none) in
@@ -311,7 +296,7 @@ module _ (strict : Bool) where
 
   after_fits : (before : List Piece) (p : Piece) (earlier : Trees) (t : Tree) (m : List ℕ) → told t ≡ Some m → Fits (template (append (pieces before) (piece p ▸ none)) earlier) → Fits t → Fits (template (append (pieces before) (piece (pair p (spelled m)) ▸ none)) earlier)
   after_fits before p earlier t m k e f =
-      let front = template_made (append (pieces before) (piece p ▸ none)) earlier e in
+      let front = template_made strict (append (pieces before) (piece p ▸ none)) earlier e in
       let text = told_paired t m k f in
       let counts = front.counts in
       let left = count_append (pieces before) (piece p ▸ none) in
@@ -321,7 +306,7 @@ module _ (strict : Bool) where
 
   before_fits : (t : Tree) (m : List ℕ) → told t ≡ Some m → (q : Piece) (after : List Piece) (later : Trees) → Fits t → Fits (template (piece q ▸ pieces after) later) → Fits (template (piece (pair (spelled m) q) ▸ pieces after) later)
   before_fits t m k q after later f e =
-      let other = template_made (piece q ▸ pieces after) later e in
+      let other = template_made strict (piece q ▸ pieces after) later e in
       let text = told_paired t m k f in
       made_template (piece (pair (spelled m) q) ▸ pieces after) later
       (record { counts = other.counts; texts = other_quasi [] q (pair (spelled m) q) (pieces after) (λ last x. joined_stands true (spelled m) q (pair (spelled m) q) (pair_whole (spelled m) q) refl last (spelled_stands m text) x) other.texts; parts = other.parts })

@@ -36,7 +36,7 @@ use Rattle.mini_rows.proofs.OperandMeaning.{added_twice}
 use Rattle.mini_rows.proofs.SequenceMeaning.{same_value}
 use Rattle.mini_rows.proofs.SpellAlike.{SameTree}
 use Rattle.mini_rows.proofs.SpellMeaning.{tree_same, same_by}
-use Rattle.mini_rows.proofs.TemplateRuns.{next, next_cong, next_assoc, next_ok, text_made, between, more, put_before, text_before, nothing_between, cookeds, count_append, template_value, in_a_row}
+use Rattle.mini_rows.proofs.TemplateRuns.{next, next_cong, next_assoc, next_ok, text_made, known_text, between, more, put_before, text_before, nothing_between, cookeds, count_append, template_value, in_a_row}
 
 pub nothing : {A : Type 0} {a : A} {B : Type 0} → None ≡ Some a → B
 nothing e = cc e
@@ -46,16 +46,6 @@ nothing e = cc e
 abbrev text_in : Option (List ℕ) → List ℕ
 text_in (Some t) = t
 text_in None = []
-
-text_done : (e : Environment) (v : Value) (t : List ℕ) → made (to_text v) ≡ Some t → (z : State) → text_made e v z ≡ ok t z
-unfolding text_made either
-text_done e Undefined t k z = ap (λ o. ok (text_in o) z) k
-text_done e Null t k z = ap (λ o. ok (text_in o) z) k
-text_done e (Boolean b) t k z = ap (λ o. ok (text_in o) z) k
-text_done e (Number n) t k z = ap (λ o. ok (text_in o) z) k
-text_done e (String s) t k z = ap (λ o. ok (text_in o) z) k
-text_done e (Symbol n) t k z = nothing k
-text_done e (Object n f) t k z = nothing k
 
 -- an expression whose value has this text
 pub record Told (p : Tree) (t : List ℕ) : Type 0 where
@@ -84,7 +74,7 @@ module _ (e : Environment) where
       more e [] (q ∷ cs) p ts s
       ∙ ap (λ c. next c (λ v z. next (text_made e v z) (λ x y. next (between e (q ∷ cs) ts y) (λ r u. ok (x ++ r) u)))) (operand_done e p t.its_value t.is s)
       ∙ next_ok t.its_value s _
-      ∙ ap (λ c. next c (λ x y. next (between e (q ∷ cs) ts y) (λ r u. ok (x ++ r) u))) (text_done e t.its_value m t.reads s)
+      ∙ ap (λ c. next c (λ x y. next (between e (q ∷ cs) ts y) (λ r u. ok (x ++ r) u))) (known_text e t.its_value m t.reads s)
       ∙ next_ok m s _
       ∙ sym (text_before e m q cs ts s)
 
@@ -129,7 +119,7 @@ inlined_same n w r = same_by n w _ _ r.shape r.written (same_value _ _ refl refl
 
 module _ (e : Environment) where
   -- what `+` does with a text and what writes a value out
-  with_tail : (a b : Tree) (x : List ℕ) (v : Value) (t : List ℕ) → made (to_text v) ≡ Some t → (z : State) → ends_with e a b (String x) v z ≡ ok (String (x ++ t)) z
+  pub with_tail : (a b : Tree) (x : List ℕ) (v : Value) (t : List ℕ) → made (to_text v) ≡ Some t → (z : State) → ends_with e a b (String x) v z ≡ ok (String (x ++ t)) z
   with_tail a b x Undefined t k z = ap (λ o. ok (String (x ++ text_in o)) z) k
   with_tail a b x Null t k z = ap (λ o. ok (String (x ++ text_in o)) z) k
   with_tail a b x (Boolean c) t k z = ap (λ o. ok (String (x ++ text_in o)) z) k

@@ -1,9 +1,9 @@
 -- What a template does: its parts are evaluated and made texts in order, and stand between its pieces of text.
-use Rattle.std.proofs.Common.{◌≡◌, ℕ, suc, ◌+◌, List, [], ◌∷◌, ◌++◌, length, length-append, append_assoc, refl, sym, ap, ◌∙◌, arith}
+use Rattle.std.proofs.Common.{◌≡◌, ℕ, suc, ◌+◌, List, [], ◌∷◌, ◌++◌, Option, Some, None, length, length-append, append_assoc, refl, sym, ap, ◌∙◌, arith}
 use Rattle.mini_model.specs.declared.shape.Shape.TheVariants as shape
 use Rattle.mini_model.specs.Paths.{append}
 use Rattle.mini_model.specs.Tree.{Tree, Trees, none, ◌▸◌, listed, count}
-use Rattle.mini_laws.specs.Value.{Value, String}
+use Rattle.mini_laws.specs.Value.{Value, Undefined, Null, Boolean, Number, String, Symbol, Object}
 use Rattle.mini_laws.specs.State.{ForString, State, Completion, ok, stop, either, Environment}
 use Rattle.mini_laws.specs.Demand.{Val, As, Texts}
 use Rattle.mini_laws.specs.Command.{Naming, Command, ret, bind, shift, run}
@@ -14,6 +14,7 @@ use Rattle.mini_laws.specs.Naming.{summaries, facts, texts_all, naming}
 use Rattle.mini_laws.specs.Replies.{primitive, of_made}
 use Rattle.mini_laws.specs.Step.{step, means, meaning}
 use Rattle.mini_laws.proofs.Runs.{either_cong, either_assoc, either_ok, either_stop, run_bind, run_shift}
+use Rattle.mini_terms.specs.Const.{made}
 use Rattle.mini_rows.specs.Templates.{Piece, piece, pieces, template}
 use Rattle.mini_rows.proofs.ChoiceRuns.{value, primitive_free, made_free}
 
@@ -55,6 +56,10 @@ count_append (t ▸ ts) us = let rest = count_append ts us in omega (arith, rest
 
 -- ---- the parts
 
+abbrev text_in : Option (List ℕ) → List ℕ
+text_in (Some t) = t
+text_in None = []
+
 module _ (e : Environment) where
   abbrev no_names : Naming
   no_names = naming shape.Listed Texts [] 0 []
@@ -62,6 +67,17 @@ module _ (e : Environment) where
   -- the text of a value (ECMA-262, "ToString")
   unfoldable pub text_made : Value → State → Completion (List ℕ)
   text_made v z = next (run {q = λ i. As Val} e no_names (λ i r z. meaning e none i (As Val) r z) (primitive ForString v) z) (λ x y. run {q = λ i. As Val} e no_names (λ i r z. meaning e none i (As Val) r z) (of_made (to_text x)) y)
+
+  -- of a primitive value it is made without an event
+  pub known_text : (v : Value) (t : List ℕ) → made (to_text v) ≡ Some t → (z : State) → text_made v z ≡ ok t z
+  unfolding text_made either
+  known_text Undefined t k z = ap (λ o. ok (text_in o) z) k
+  known_text Null t k z = ap (λ o. ok (text_in o) z) k
+  known_text (Boolean b) t k z = ap (λ o. ok (text_in o) z) k
+  known_text (Number n) t k z = ap (λ o. ok (text_in o) z) k
+  known_text (String s) t k z = ap (λ o. ok (text_in o) z) k
+  known_text (Symbol n) t k z = absurd (cc k)
+  known_text (Object n f) t k z = absurd (cc k)
 
   pub in_turn : Trees → State → Completion (List (List ℕ))
   in_turn none s = ok [] s
@@ -99,6 +115,22 @@ module _ (e : Environment) where
   unfolding meaning in_turn
   texts_run names none s = refl
   texts_run names (t ▸ ts) s = next_cong (value e t s) _ _ (part_done names t ts (texts_run names ts))
+
+  -- one part after the other, where what they give is known
+
+  pub none_turn : (s : State) → in_turn none s ≡ ok [] s
+  unfolding in_turn
+  none_turn s = refl
+
+  pub one_turn : (t : Tree) (ts : Trees) (v : Value) (x : List ℕ) (xs : List (List ℕ)) (s : State) → value e t s ≡ ok v s → text_made v s ≡ ok x s → in_turn ts s ≡ ok xs s → in_turn (t ▸ ts) s ≡ ok (x ∷ xs) s
+  unfolding in_turn
+  one_turn t ts v x xs s h k l =
+      ap (λ c. next c (λ v z. next (text_made v z) (λ x y. next (in_turn ts y) (λ xs u. ok (x ∷ xs) u)))) h
+      ∙ next_ok v s _
+      ∙ ap (λ c. next c (λ x y. next (in_turn ts y) (λ xs u. ok (x ∷ xs) u))) k
+      ∙ next_ok x s _
+      ∙ ap (λ c. next c (λ xs u. ok (x ∷ xs) u)) l
+      ∙ next_ok xs s _
 
   -- ---- the whole
 

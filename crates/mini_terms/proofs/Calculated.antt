@@ -21,6 +21,8 @@ use Rattle.mini_terms.specs.Folds.{is_effect_free}
 use Rattle.mini_terms.specs.Calculated.{undefined_if, leaf_value, as_number, over_number, calculated_unary, unary_value, calculated_by, calculated_over, last_value, chosen_by, chosen_over, or_else, value_within, operand_depth, free_value, calculated, CalculatedIsConst}
 use Rattle.mini_terms.specs.Kind.{is_undefined_name}
 use Rattle.mini_terms.specs.Reading.{stands, is_plain_part}
+use Rattle.mini_terms.specs.Templates.{template, is_template, template_value}
+use Rattle.mini_terms.proofs.Joined.{template_is, template_of}
 
 nothing : {A : Type 0} {a : A} {B : Type 0} → None ≡ Some a → B
 nothing e = cc e
@@ -116,20 +118,22 @@ form is_free f t v e = go (its_unary_operator t) (its_binary_operator t) refl re
     go None (Some o) h k e = of_binary o (binary_is t o k) e
     go None None h k e = nothing e
 
--- a choice between operands of these values, or a sequence that ends in one
+-- a choice between operands of these values, a sequence that ends in one, or a template with some
 pub data Choice (is_free : Bool) (f : Tree → Option Value) (t : Tree) (v : Value) : Type 0 where
   of_logical : (o : LogicalOperator) → t ≡ logical o (part t 0) (part t 1) → logical_const o (f (part t 0)) (f (part t 1)) ≡ Some v → Choice is_free f t v
   of_conditional : t ≡ conditional (part t 0) (part t 1) (part t 2) → conditional_const (f (part t 0)) (f (part t 1)) (f (part t 2)) ≡ Some v → Choice is_free f t v
   of_sequence : is_free ≡ true → t ≡ sequence (children (part t 0)) → last_value f (children (part t 0)) ≡ Some v → Choice is_free f t v
+  of_template : t ≡ template (children (part t 0)) (children (part t 1)) → template_value f t ≡ Some v → Choice is_free f t v
 
 pub choice : (is_free : Bool) (f : Tree → Option Value) (t : Tree) (v : Value) → chosen_over is_free f t ≡ Some v → Choice is_free f t v
-choice is_free f t v e = go (its_logical_operator t) (is_conditional t) (is_free && is_sequence t) refl refl refl e
+choice is_free f t v e = go (its_logical_operator t) (is_conditional t) (is_free && is_sequence t) (is_template t) refl refl refl refl e
   where
-    go : (o : Option LogicalOperator) (b c : Bool) → its_logical_operator t ≡ o → is_conditional t ≡ b → is_free && is_sequence t ≡ c → chosen_by f o b c t ≡ Some v → Choice is_free f t v
-    go (Some o) b c h k l e = of_logical o (logical_is t o h) e
-    go None true c h k l e = of_conditional (conditional_is t k) e
-    go None false true h k l e = let (free, listed) = and_parts is_free (is_sequence t) l in of_sequence free (sequence_is t listed) e
-    go None false false h k l e = nothing e
+    go : (o : Option LogicalOperator) (b c d : Bool) → its_logical_operator t ≡ o → is_conditional t ≡ b → is_free && is_sequence t ≡ c → is_template t ≡ d → chosen_by f o b c d t ≡ Some v → Choice is_free f t v
+    go (Some o) b c d h k l m e = of_logical o (logical_is t o h) e
+    go None true c d h k l m e = of_conditional (conditional_is t k) e
+    go None false true d h k l m e = let (free, listed) = and_parts is_free (is_sequence t) l in of_sequence free (sequence_is t listed) e
+    go None false false true h k l m e = of_template (template_is t m) e
+    go None false false false h k l m e = nothing e
 
 -- What holds of literals, and of an operator where it holds of its operands, holds of each value that is calculated.
 module _ (P : Tree → Value → Type 0) (is_free : Bool) (leaves : (t : Tree) (v : Value) → leaf_value t ≡ Some v → P t v) (operators : (f : Tree → Option Value) → ((a : Tree) (u : Value) → f a ≡ Some u → P a u) → (t : Tree) (v : Value) → Form is_free f t v → P t v) (choices : (f : Tree → Option Value) → ((a : Tree) (u : Value) → f a ≡ Some u → P a u) → (t : Tree) (v : Value) → Choice is_free f t v → P t v) where
@@ -156,6 +160,7 @@ module _ (is_free : Bool) (f : Tree → Option Value) (h : (a : Tree) (u : Value
   chosen : Choice is_free f t v → Constant t v
   chosen (of_logical o is e) = subst (λ x. Constant x v) (sym is) (record { constant = logical_of o (part t 0) (part t 1) v (f (part t 0)) (f (part t 1)) (its_const (part t 0)) (its_const (part t 1)) e; plain = refl })
   chosen (of_conditional is e) = subst (λ x. Constant x v) (sym is) (record { constant = conditional_of (part t 0) (part t 1) (part t 2) v (f (part t 0)) (f (part t 1)) (f (part t 2)) (its_const (part t 0)) (its_const (part t 1)) (its_const (part t 2)) e; plain = refl })
+  chosen (of_template is e) = subst (λ x. Constant x v) (sym is) (record { constant = template_of f its_const (children (part t 0)) (children (part t 1)) v e; plain = refl })
   chosen (of_sequence free is e) = subst (λ x. Constant x v) (sym is) (record { constant = sequence_of f its_const (children (part t 0)) v e; plain = refl })
 
 free_is_constant : (t : Tree) (v : Value) → free_value t ≡ Some v → Constant t v

@@ -1,5 +1,5 @@
 -- What is known of the children of a node.
-use Rattle.std.proofs.Common.{◌≡◌, ℕ, zero, suc, ◌<◌, ◌+◌, ◌≤◌, Bool, true, false, None, refl, sym, ap, ◌∙◌, arith}
+use Rattle.std.proofs.Common.{◌≡◌, ℕ, zero, suc, ◌<◌, ◌+◌, ◌≤◌, Bool, true, false, refl, sym, ap, ◌∙◌, arith}
 use Rattle.std.specs.Prelude.{◌-◌, ◌&&◌}
 use Rattle.mini_model.specs.declared.shape.Shape.TheVariants as shape
 use Rattle.mini_model.specs.Tree.{Tree, Trees, node, none, ◌▸◌, children, count, shape_of, child_or_absent, node_count, node_counts}
@@ -10,7 +10,6 @@ use Rattle.mini_terms.specs.Kind.{is_primitive, Undetermined, nth_kind, last_kin
 use Rattle.mini_terms.specs.Effects.{nth_true, all_true, all_primitive, primitive_items, each_primitive, is_identifier, each_identifier, ef_by, ef, each_ef}
 use Rattle.mini_terms.specs.Reading.{is_plain_part_by, first_of, is_plain_part, are_plain_parts}
 use Rattle.mini_terms.specs.Parts.{leaves_nothing_by, leaves_nothing, leave_nothing, is_link, is_several, first_is_several, first_is_link, weighs_over, weighs}
-use Rattle.mini_terms.specs.Evident.{nth_number, number_by, whole_number, each_number, nth_truth, last_truth, primitive_truth_by, primitive_truth, each_primitive_truth}
 
 pub kind_is : (t : Tree) → kind t ≡ kind_by (shape_of t) (kinds (names_of t)) (each_kind (children t))
 kind_is (node h xs n ts) = refl
@@ -128,68 +127,6 @@ ef_is asked (node h xs n ts) = refl
 
 pub below : (t : Tree) → node_counts (children t) + 1 ≡ node_count t
 below (node h xs n ts) = omega arith
-
--- the truth of a child
-
-truths_at : (ts : Trees) (i : ℕ) → nth_truth (each_primitive_truth ts) i ≡ primitive_truth (child_or_absent ts i)
-truths_at none i = refl
-truths_at (t ▸ ts) zero = refl
-truths_at (t ▸ ts) (suc i) = truths_at ts i
-
-pub truth_at : (t : Tree) (i : ℕ) → nth_truth (each_primitive_truth (children t)) i ≡ primitive_truth (part t i)
-truth_at t i = truths_at (children t) i
-
-no_truths : (ts : Trees) (i : ℕ) → count ts ≤ i → nth_truth (each_primitive_truth ts) i ≡ None
-no_truths none i e = refl
-no_truths (t ▸ ts) zero e = absurd (omega (arith, e))
-no_truths (t ▸ ts) (suc i) e = no_truths ts i (omega (arith, e))
-
-pub no_truth_at : (t : Tree) (i : ℕ) → count (children t) ≤ i → nth_truth (each_primitive_truth (children t)) i ≡ None
-no_truth_at t i e = no_truths (children t) i e
-
-last_truths : (t : Tree) (ts : Trees) → last_truth (each_primitive_truth (t ▸ ts)) ≡ primitive_truth (child_or_absent (t ▸ ts) (count ts))
-last_truths t none = refl
-last_truths t (u ▸ us) = last_truths u us
-
-last_truth_in : (ts : Trees) → zero < count ts → last_truth (each_primitive_truth ts) ≡ primitive_truth (child_or_absent ts (count ts - 1))
-last_truth_in none e = absurd (omega (arith, e))
-last_truth_in (t ▸ ts) e =
-    let same : count (t ▸ ts) - 1 ≡ count ts = omega arith in
-    last_truths t ts ∙ ap (λ k. primitive_truth (child_or_absent (t ▸ ts) k)) (sym same)
-
-pub last_truth_at : (t : Tree) → zero < count (children t) → last_truth (each_primitive_truth (children t)) ≡ primitive_truth (part t (count (children t) - 1))
-last_truth_at t e = last_truth_in (children t) e
-
-no_last_in : (ts : Trees) → count ts ≤ zero → last_truth (each_primitive_truth ts) ≡ None
-no_last_in none e = refl
-no_last_in (t ▸ ts) e = absurd (omega (arith, e))
-
-pub no_last_truth : (t : Tree) → count (children t) ≤ zero → last_truth (each_primitive_truth (children t)) ≡ None
-no_last_truth t e = no_last_in (children t) e
-
-pub truth_is : (t : Tree) → primitive_truth t ≡ primitive_truth_by (shape_of t) (kinds (names_of t)) (each_primitive_truth (children t)) (each_number (children t))
-truth_is (node h xs n ts) = refl
-
--- its number
-
-numbers_at : (ts : Trees) (i : ℕ) → nth_number (each_number ts) i ≡ whole_number (child_or_absent ts i)
-numbers_at none i = refl
-numbers_at (t ▸ ts) zero = refl
-numbers_at (t ▸ ts) (suc i) = numbers_at ts i
-
-pub number_at : (t : Tree) (i : ℕ) → nth_number (each_number (children t)) i ≡ whole_number (part t i)
-number_at t i = numbers_at (children t) i
-
-no_numbers : (ts : Trees) (i : ℕ) → count ts ≤ i → nth_number (each_number ts) i ≡ None
-no_numbers none i e = refl
-no_numbers (t ▸ ts) zero e = absurd (omega (arith, e))
-no_numbers (t ▸ ts) (suc i) e = no_numbers ts i (omega (arith, e))
-
-pub no_number_at : (t : Tree) (i : ℕ) → count (children t) ≤ i → nth_number (each_number (children t)) i ≡ None
-no_number_at t i e = no_numbers (children t) i e
-
-pub number_is : (t : Tree) → whole_number t ≡ number_by (shape_of t) (each_number (children t))
-number_is (node h xs n ts) = refl
 
 -- parts that stay, and parts that are dropped
 

@@ -7,6 +7,8 @@ pub mod ConstTable
 pub mod Truths
 pub mod Children
 pub mod ConstantNames
+pub mod Pieces
+pub mod Joined
 pub mod Opened
 pub mod Reading
 pub mod Evidence

@@ -21,6 +21,7 @@ use Rattle.mini_terms.specs.Folds.{is_effect_free}
 use Rattle.mini_terms.specs.Kind.{is_undefined_name}
 use Rattle.mini_terms.specs.Plain.{lit}
 use Rattle.mini_terms.specs.Reading.{SameWanted}
+use Rattle.mini_terms.specs.Templates.{is_template, template_value}
 
 abbrev pub undefined_if : Bool → Option Value
 undefined_if true = Some Undefined
@@ -79,16 +80,17 @@ abbrev pub last_value : (Tree → Option Value) → Trees → Option Value
 last_value f none = None
 last_value f (t ▸ ts) = f (child_or_absent (t ▸ ts) (count ts))
 
--- of logical expressions, conditionals and sequences
-abbrev pub chosen_by : (Tree → Option Value) → Option LogicalOperator → Bool → Bool → Tree → Option Value
-chosen_by f (Some o) b c t = logical_const o (f (part t 0)) (f (part t 1))
-chosen_by f None true c t = conditional_const (f (part t 0)) (f (part t 1)) (f (part t 2))
-chosen_by f None false true t = last_value f (children (part t 0))
-chosen_by f None false false t = None
+-- of logical expressions, conditionals, sequences and templates
+abbrev pub chosen_by : (Tree → Option Value) → Option LogicalOperator → Bool → Bool → Bool → Tree → Option Value
+chosen_by f (Some o) b c d t = logical_const o (f (part t 0)) (f (part t 1))
+chosen_by f None true c d t = conditional_const (f (part t 0)) (f (part t 1)) (f (part t 2))
+chosen_by f None false true d t = last_value f (children (part t 0))
+chosen_by f None false false true t = template_value f t
+chosen_by f None false false false t = None
 
 -- of a sequence that has to do nothing: the parts before the last needn't have a value then
 abbrev pub chosen_over : Bool → (Tree → Option Value) → Tree → Option Value
-chosen_over is_free f t = chosen_by f (logical_operator t) (is_conditional t) (is_free && is_sequence t) t
+chosen_over is_free f t = chosen_by f (logical_operator t) (is_conditional t) (is_free && is_sequence t) (is_template t) t
 
 abbrev pub or_else : Option Value → Option Value → Option Value
 or_else (Some v) c = Some v

@@ -223,8 +223,7 @@ evident_void = refl
 evident_undefined : evident_truth (global (codes "undefined")) ≡ Some false
 evident_undefined = refl
 
--- `!1 || "a"`, `0 && x`, which is no Const either, `1 << 30` and `1 - 1`, which are calculated, `typeof 1`, and `"" + 1`, for which a text would
--- have to be made
+-- `!1 || "a"`, `0 && x`, which is no Const either, `1 << 30` and `1 - 1`, which are calculated, and `typeof 1`
 evident_or : evident_truth (logical Or (negation (number 1)) (text (codes "a"))) ≡ Some true
 evident_or = refl
 
@@ -240,8 +239,28 @@ evident_difference = refl
 evident_type : evident_truth (tree.unary unary.Typeof (number 0)) ≡ Some true
 evident_type = refl
 
-evident_text : evident_truth (binary binary.Addition (text []) (number 1)) ≡ None
+-- `"" + 1`, `"" + ""`, `"1" << 30`, and `"1" < "2"`, whose units aren't looked at
+evident_text : evident_truth (binary binary.Addition (text []) (number 1)) ≡ Some true
 evident_text = refl
+
+evident_empty : evident_truth (binary binary.Addition (text []) (text [])) ≡ Some false
+evident_empty = refl
+
+evident_number : evident_truth (binary binary.ShiftLeft (text (codes "1")) (number 30)) ≡ Some true
+evident_number = refl
+
+evident_order : evident_truth (binary binary.LessThan (text (codes "1")) (text (codes "2"))) ≡ None
+evident_order = refl
+
+-- `` `${1}` ``, `` `${""}` ``, and `` `${x}` ``
+evident_template : evident_truth (template [] (number 1) []) ≡ Some true
+evident_template = refl
+
+evident_empty_template : evident_truth (template [] (text []) []) ≡ Some false
+evident_empty_template = refl
+
+evident_open_template : evident_truth (template (codes "a") (local 0) []) ≡ None
+evident_open_template = refl
 
 -- an array, and `![]`, whose operand is no primitive value
 evident_array : evident_truth (one shape.ArrayExpression (listed none)) ≡ Some true

@@ -8,6 +8,7 @@ pub mod Sound
 pub mod Reading
 pub mod Folds
 pub mod Parts
+pub mod Templates
 pub mod Calculated
 pub mod Texts
 pub mod Values

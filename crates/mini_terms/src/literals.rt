@@ -2,7 +2,7 @@
 
 ghost use Rattle.std.specs.Prelude.{◌≡◌, ◌<◌, ◌++◌, ◌&&◌, true, false, not, Some, None, IfOk};
 ghost use Rattle.mini_model.specs.declared.operator.BinaryOperator.TheVariants.{Addition};
-ghost use Rattle.mini_model.specs.Tree.{children, count};
+ghost use Rattle.mini_model.specs.Tree.{children, count, shape_of};
 ghost use Rattle.mini_model.specs.Weight.{same_text};
 ghost use Rattle.mini_node.specs.Children.{part};
 ghost use Rattle.mini_node.specs.Kinds.{is_sequence as is_it_sequence};
@@ -11,11 +11,14 @@ ghost use Rattle.mini_laws.specs.Conversion.{makes, to_text as text_of};
 ghost use Rattle.mini_laws.specs.Operators as operators;
 ghost use Rattle.mini_laws.specs.Operators.{is_text_less, type_text};
 ghost use Rattle.mini_terms.specs.Calculated as term;
-ghost use Rattle.mini_terms.specs.Const.{made, mapped, decided as chosen_of, binary_value as operated, binary_const, logical_const, conditional_const};
+ghost use Rattle.mini_terms.specs.Const.{text_of as text_in, made, mapped, decided as chosen_of, binary_value as operated, binary_const, logical_const, conditional_const};
+ghost use Rattle.mini_terms.specs.Templates as template;
+ghost use Rattle.mini_terms.specs.Templates.{is_template as is_it_template};
 ghost use Rattle.mini_terms.specs.Texts as order;
 ghost use Rattle.mini_terms.specs.Texts.{is_sum, equal_numbers, equal_present};
 ghost use Rattle.mini_terms.specs.Values.{value as value_of, value_in, is_text_value};
 
+use crate::evident::are_round;
 use crate::folds::has_no_effect;
 use crate::names::is_undefined_name;
 use crate::numbers::{is_same, of_numbers, over_number};
@@ -25,7 +28,8 @@ use mini_model::{
     BinaryOperator, LogicalOperator, OutOfMemory, Shape, Text, UnaryOperator, decimal,
 };
 use mini_node::{
-    Node, Nodes, binary_operator, is_conditional, is_sequence, logical_operator, unary_operator,
+    Node, Nodes, binary_operator, is_conditional, is_listed, is_sequence, logical_operator,
+    unary_operator,
 };
 use std::alloc::Global;
 
@@ -58,6 +62,16 @@ pub fn copied(alloc: Global, units: &[u16]) -> Result<Text, OutOfMemory>
         copy.push(*unit)?;
     }
     Ok(copy)
+}
+
+// A text with these units behind it.
+fn extended(mut text: Text, units: &[u16]) -> Result<Text, OutOfMemory>
+    ensures { IfOk result (λ whole. whole ≡ text ++ units.now) }
+{
+    for unit in units {
+        text.push(*unit)?;
+    }
+    Ok(text)
 }
 
 /// A text and another behind it.
@@ -588,6 +602,108 @@ fn last_value(
     value_within(alloc, is_free, nodes.child(count - 1), depth)
 }
 
+// ---- templates
+
+fn is_template(node: &Node) -> bool
+    ensures kind { result ≡ is_it_template node.now }
+    ensures parts { result ≡ true → count (children node.now) ≡ 2 }
+{
+    matches!(node.shape(), Shape::TemplateLiteral)
+        && node.is_bare(2)
+        && is_listed(node.child(0))
+        && is_listed(node.child(1))
+}
+
+// What is known up to here, with one more piece.
+fn with_piece(before: Option<Text>, piece: &Node) -> Result<Option<Text>, OutOfMemory>
+    ensures { IfOk result (λ t. t ≡ template.joined_text before (template.cooked_in (shape_of piece.now))) }
+{
+    match (before, piece.shape()) {
+        (Some(text), Shape::TemplateElement(_, _, Some(cooked))) => {
+            Ok(Some(extended(text, cooked.text().as_slice())?))
+        }
+        _ => Ok(None),
+    }
+}
+
+// A text with that of a value behind it.
+fn with_value(
+    alloc: Global,
+    before: Text,
+    value: Option<ConstantValue>,
+) -> Result<Option<Text>, OutOfMemory>
+    ensures { IfOk result (λ t. t ≡ template.joined_text (Some before) (text_in (value_in value))) }
+{
+    match value {
+        Some(known) => Ok(Some(extended(before, to_text(alloc, known)?.as_slice())?)),
+        None => Ok(None),
+    }
+}
+
+// With one more piece, and the part behind it.
+#[cycle(operands)]
+fn with_part(
+    alloc: Global,
+    is_free: bool,
+    before: Option<Text>,
+    piece: &Node,
+    part: &Node,
+    depth: u32,
+) -> Result<Option<Text>, OutOfMemory>
+    ensures { IfOk result (λ t. t ≡ template.joined_text (template.joined_text before (template.cooked_in (shape_of piece.now))) (text_in (term.value_within is_free depth part.now))) }
+{
+    match with_piece(before, piece)? {
+        Some(text) => with_value(alloc, text, value_within(alloc, is_free, part, depth)?),
+        None => Ok(None),
+    }
+}
+
+// The text of pieces with the values of the parts between them.
+#[cycle(operands)]
+#[tactic(auto, using(crate::proofs::Joined::none_round, crate::proofs::Joined::first_part, crate::proofs::Joined::one_more, crate::proofs::Joined::last_piece))]
+fn text_between(
+    alloc: Global,
+    is_free: bool,
+    pieces: &Nodes,
+    parts: &Nodes,
+    depth: u32,
+) -> Result<Option<Text>, OutOfMemory>
+    ensures { IfOk result (λ t. t ≡ template.text_between (term.value_within is_free depth) pieces.now parts.now) }
+{
+    if !are_round(pieces, parts) {
+        return Ok(None);
+    }
+    let mut text = Some(Text::new(alloc));
+    for at in 0..parts.len() {
+        text = with_part(
+            alloc,
+            is_free,
+            text,
+            pieces.child(at),
+            parts.child(at),
+            depth,
+        )?;
+    }
+    with_piece(text, pieces.child(parts.len()))
+}
+
+#[cycle(operands)]
+fn template_value(
+    alloc: Global,
+    is_free: bool,
+    node: &Node,
+    depth: u32,
+) -> Result<Option<ConstantValue>, OutOfMemory>
+    requires { count (children node.now) ≡ 2 }
+    ensures { IfOk result (λ v. value_in v ≡ template.template_value (term.value_within is_free depth) node.now) }
+{
+    let pieces = node.child(0).children();
+    match text_between(alloc, is_free, pieces, node.child(1).children(), depth)? {
+        Some(text) => Ok(Some(ConstantValue::String(text))),
+        None => Ok(None),
+    }
+}
+
 // Whether it is a sequence that has to do nothing.
 fn is_free_sequence(is_free: bool, node: &Node) -> bool
     ensures kind { result ≡ is_free && is_it_sequence node.now }
@@ -596,7 +712,7 @@ fn is_free_sequence(is_free: bool, node: &Node) -> bool
     is_free && is_sequence(node)
 }
 
-// Of a logical expression, a conditional or a sequence.
+// Of a logical expression, a conditional, a sequence or a template.
 #[cycle(operands)]
 fn chosen_over(
     alloc: Global,
@@ -614,6 +730,9 @@ fn chosen_over(
     }
     if is_free_sequence(is_free, node) {
         return last_value(alloc, is_free, node.child(0).children(), depth);
+    }
+    if is_template(node) {
+        return template_value(alloc, is_free, node, depth);
     }
     Ok(None)
 }

@@ -1,4 +1,4 @@
-use Rattle.mini_rows.proofs.ConstantLawful.{constants_lawful}
+use Rattle.mini_rows.proofs.JoinedLawful.{constants_lawful}
 use Rattle.mini_rows.proofs.constants.constants_are_lawful.Goals as goal
 
 pub returns : goal.returns

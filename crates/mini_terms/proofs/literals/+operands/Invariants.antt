@@ -1,4 +1,6 @@
 use Rattle.std.proofs.Common.{◌+◌, ◌*◌}
+use Rattle.mini_terms.specs.Calculated.{value_within}
+use Rattle.mini_terms.proofs.Joined.{Between}
 use Rattle.mini_terms.proofs.literals.+operands.Given as goal
 
 abbrev pub decreases-value_within : goal.decreases-value_within
@@ -36,3 +38,15 @@ decreases-branches_value l = 8 * l.depth + 1
 
 abbrev pub decreases-last_value : goal.decreases-last_value
 decreases-last_value l = 8 * l.depth + 1
+
+abbrev pub decreases-template_value : goal.decreases-template_value
+decreases-template_value l = 8 * l.depth + 3
+
+abbrev pub decreases-text_between : goal.decreases-text_between
+decreases-text_between l = 8 * l.depth + 2
+
+abbrev pub decreases-with_part : goal.decreases-with_part
+decreases-with_part l = 8 * l.depth + 1
+
+abbrev pub invariant-text_between-loop-at : goal.invariant-text_between-loop-at
+invariant-text_between-loop-at l = Between (value_within l.is_free l.depth) l.pieces l.parts l.at l.text
