@@ -10,7 +10,7 @@ use Rattle.mini_node.specs.Equal.{same_root, same_tree, same_trees}
 use Rattle.mini_node.specs.Kinds.{is_call_expression, is_conditional, is_identifier}
 use Rattle.mini_node.specs.Made.{call_expression_is, conditional_is}
 use Rattle.mini_node.specs.Walks.{from_first, next_child, no_rest}
-use Rattle.mini_node.proofs.Equality.{by_root, tree_itself, trees_same}
+use Rattle.mini_node.proofs.Equality.{by_root, tree_itself, tree_same, trees_same}
 use Rattle.mini_node.proofs.Equality as equality
 use Rattle.mini_terms.specs.Folds.{is_effect_free}
 use Rattle.mini_terms.specs.Reading.{is_item}
@@ -121,9 +121,9 @@ begun a ts us e = go (begins_with_item ts && begins_with_item us) refl e
         let (x, y) = and_parts (begins_with_spread ts) (begins_with_spread us) e in
         record { firsts = both_spread a (child_or_absent ts 0) (child_or_absent us 0) x y; some = some_spread ts x; others = some_spread us y }
 
--- a call of a name is of its first argument and of the others
-call_of : (t : Tree) → calls_name t ≡ true → 0 < count (children (part t 1)) → t ≡ call false (part t 0) (child_or_absent (children (part t 1)) 0 ▸ without (children (part t 1)) 0)
-call_of t e some = call_expression_is t (and_parts (is_call_expression t) (is_identifier (part t 0)) e).0 ∙ ap (call false (part t 0)) (begins (children (part t 1)) some)
+-- a call is of its first argument and of the others
+call_of : (t : Tree) → is_call_expression t ≡ true → 0 < count (children (part t 1)) → t ≡ call false (part t 0) (child_or_absent (children (part t 1)) 0 ▸ without (children (part t 1)) 0)
+call_of t e some = call_expression_is t e ∙ ap (call false (part t 0)) (begins (children (part t 1)) some)
 
 pub called_row : (n : Tree) → calls_either n ≡ true → Row44 n (called n)
 called_row n e =
@@ -131,30 +131,32 @@ called_row n e =
     let no = part n 2 in
     let first = children (part yes 1) in
     let second = children (part no 1) in
-    let (chooses, e1) = and_parts (is_conditional n) (calls_name yes && (calls_name no && (are_alike yes no && is_effect_free (part n 0)))) e in
-    let (left, e2) = and_parts (calls_name yes) (calls_name no && (are_alike yes no && is_effect_free (part n 0))) e1 in
-    let (right, e3) = and_parts (calls_name no) (are_alike yes no && is_effect_free (part n 0)) e2 in
+    let (chooses, e1) = and_parts (is_conditional n) (is_call_expression yes && (is_call_expression no && (are_alike yes no && is_effect_free (part n 0)))) e in
+    let (left, e2) = and_parts (is_call_expression yes) (is_call_expression no && (are_alike yes no && is_effect_free (part n 0))) e1 in
+    let (right, e3) = and_parts (is_call_expression no) (are_alike yes no && is_effect_free (part n 0)) e2 in
     let (alike, free) = and_parts (are_alike yes no) (is_effect_free (part n 0)) e3 in
-    let (begin, e4) = and_parts (begin_alike first second) (is_same_name (part yes 0) (part no 0) && (is_declared (part yes 0) && are_others_same first second)) alike in
-    let (same, e5) = and_parts (is_same_name (part yes 0) (part no 0)) (is_declared (part yes 0) && are_others_same first second) e4 in
-    let (declared, others) = and_parts (is_declared (part yes 0)) (are_others_same first second) e5 in
-    let one = one_name (part yes 0) (part no 0) same in
+    let (begin, e4) = and_parts (begin_alike first second) (same_tree (part yes 0) (part no 0) && (is_idle (part yes 0) && are_others_same first second)) alike in
+    let (same, e5) = and_parts (same_tree (part yes 0) (part no 0)) (is_idle (part yes 0) && are_others_same first second) e4 in
+    let (idle, others) = and_parts (is_idle (part yes 0)) (are_others_same first second) e5 in
+    let (plain, still) = and_parts (is_plain_part (part yes 0)) (is_effect_free (part yes 0)) idle in
+    let one = tree_same (part yes 0) (part no 0) same in
     let b = begun (part n 0) first second begin in
     let f = b.firsts in
     let rest = trees_same (without first 0) (without second 0) others in
     record {
       a = part n 0;
-      name = one.name;
+      callee = part yes 0;
       is_spread = f.is_spread;
       p = f.p;
       q = f.q;
       others = without first 0;
-      declared = not_true (is_none one.name.symbol) (sym (ap is_declared one.first) ∙ declared);
+      plain = plain;
+      idle = still;
       effect_free = free;
       first = f.first;
       second = f.second;
-      shape = conditional_is n chooses ∙ (λ i. conditional (part n 0) ((call_of yes left b.some ∙ (λ j. call false (one.first j) (f.first_is j ▸ without first 0))) i) ((call_of no right b.others ∙ (λ j. call false (one.second j) (f.second_is j ▸ sym rest j))) i));
-      written = λ i. call false (one.first i) ((inserted_first (without first 0) (chosen_first (part n 0) (first_or_absent first) (child_or_absent second 0)) ∙ ap (λ t. chosen_first (part n 0) t (child_or_absent second 0) ▸ without first 0) (first_is first) ∙ ap (λ t. t ▸ without first 0) f.chosen) i);
+      shape = conditional_is n chooses ∙ (λ i. conditional (part n 0) ((call_of yes left b.some ∙ (λ j. call false (part yes 0) (f.first_is j ▸ without first 0))) i) ((call_of no right b.others ∙ (λ j. call false (sym one j) (f.second_is j ▸ sym rest j))) i));
+      written = λ i. call false (part yes 0) ((inserted_first (without first 0) (chosen_first (part n 0) (first_or_absent first) (child_or_absent second 0)) ∙ ap (λ t. chosen_first (part n 0) t (child_or_absent second 0) ▸ without first 0) (first_is first) ∙ ap (λ t. t ▸ without first 0) f.chosen) i);
     }
 
 -- ---- and what the row reads is written
@@ -170,12 +172,11 @@ both_begin : (b : Bool) (p q : Tree) (ts : Trees) → b || is_item p ≡ true �
 both_begin false p q ts e f = ap (λ c. c || (begins_with_spread (p ▸ ts) && begins_with_spread (q ▸ ts))) (both_true (is_item p) (is_item q) e f)
 both_begin true p q ts e f = or_true (begins_with_item (argument true p ▸ ts) && begins_with_item (argument true q ▸ ts)) true refl
 
-pub called_passes : (n w : Tree) (r : Row44 n w) → calls_either (conditional r.a (call false (identifier r.name) (argument r.is_spread r.p ▸ r.others)) (call false (identifier r.name) (argument r.is_spread r.q ▸ r.others))) ≡ true
+pub called_passes : (n w : Tree) (r : Row44 n w) → calls_either (conditional r.a (call false r.callee (argument r.is_spread r.p ▸ r.others)) (call false r.callee (argument r.is_spread r.q ▸ r.others))) ≡ true
 called_passes n w r =
-    let x : Tree = identifier r.name in
     let ts : Trees = argument r.is_spread r.p ▸ r.others in
     let us : Trees = argument r.is_spread r.q ▸ r.others in
-    both_true (are_alike (call false x ts) (call false x us)) (is_effect_free r.a)
+    both_true (are_alike (call false r.callee ts) (call false r.callee us)) (is_effect_free r.a)
     (both_true (begin_alike ts us) _ (both_begin r.is_spread r.p r.q r.others r.first r.second)
-    (both_true (same_tree x x) _ (tree_itself x) (both_true (is_declared x) (same_trees r.others r.others) (ap not r.declared) (trees_itself r.others))))
+    (both_true (same_tree r.callee r.callee) _ (tree_itself r.callee) (both_true (is_idle r.callee) (same_trees r.others r.others) (both_true (is_plain_part r.callee) (is_effect_free r.callee) r.plain r.idle) (trees_itself r.others))))
     r.effect_free

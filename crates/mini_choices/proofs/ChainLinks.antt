@@ -13,13 +13,13 @@ use Rattle.mini_node.specs.Made.{listed_is, null_is}
 use Rattle.mini_terms.specs.Parts.{is_link, leaves_nothing}
 use Rattle.mini_terms.specs.Reading.{is_plain_part}
 use Rattle.mini_rows.specs.Chains.{is_calm, are_calm, Link, a_member, a_computed, a_call, linked, is_calm_link, chain}
-use Rattle.mini_rows.specs.ChainLinks.{is_there, Marked, marked, links_over, is_lone, are_calm_over, has_mark, chain_if, IsNothing, Row64, Row11, Row10, ChainRow}
+use Rattle.mini_rows.specs.ChainLinks.{is_there, Marked, marked, links_over, is_lone, are_calm_over, has_mark, chain_if, Row64, Row11, ChainRow}
 use Rattle.mini_rows.specs.Choices.{ChoiceContracts}
 use Rattle.mini_rows.proofs.ChainLinkLawful.{chains_fall}
 use Rattle.mini_rows.specs.Spellings.{void_zero}
 use Rattle.mini_choices.specs.Forms.{is_undefined}
 use Rattle.mini_choices.specs.MinimizeConditionalBranches.{is_lighter}
-use Rattle.mini_choices.specs.FoldChainExpr.{is_chain, ends_none, is_step, is_marked, link_shape, relinked, holds_link, is_value, folds_here, here, with_mark, outcome, outcome_in, folded, folded_in, wrapped, folded_written, is_nothing, ends_at_once, ends_in, may_end, written}
+use Rattle.mini_choices.specs.ChainLinks.{is_chain, ends_none, is_step, is_marked, link_shape, relinked, holds_link, is_value, folds_here, here, with_mark, outcome, outcome_in, folded, folded_in, wrapped, folded_written}
 use Rattle.mini_choices.proofs.FormsAre.{either_true, undefined_is, undefined_passes}
 use Rattle.mini_choices.proofs.Trials.{not_true, both_true, some_is, tried, first_true, later_true, lighter_test}
 
@@ -69,11 +69,11 @@ chain_is (node shape.ChainExpression [] zero (a ▸ none)) e = refl
 chain_is t e = absurd (cc e)
 
 -- a link, and the same link over another node, optional or not
-record Stepped (t : Tree) : Type 0 where
-  link : Link
-  calm : is_calm_link link ≡ true
-  is : t ≡ linked (is_marked (shape_of t)) link (part t 0)
-  over : (o : Bool) (a : Tree) → relinked (link_shape o (shape_of t)) a (part t 1) ≡ linked o link a
+pub record Stepped (t : Tree) : Type 0 where
+  pub link : Link
+  pub calm : is_calm_link link ≡ true
+  pub is : t ≡ linked (is_marked (shape_of t)) link (part t 0)
+  pub over : (o : Bool) (a : Tree) → relinked (link_shape o (shape_of t)) a (part t 1) ≡ linked o link a
 
 stepped_by : (t : Tree) → is_bare t 2 ≡ true → ends_none (shape_of t) (part t 1) ≡ true → Stepped t
 stepped_by (node (shape.StaticMemberExpression m) [] zero (a ▸ k ▸ none)) b e = record { link = a_member k; calm = e; is = refl; over = λ o u. refl }
@@ -87,7 +87,7 @@ stepped_by (node (shape.CallExpression m) [] zero (a ▸ k ▸ none)) b e =
 stepped_by (node (shape.CallExpression m) xs n ts) b e = absurd (false≢true b)
 stepped_by t b e = absurd (false≢true e)
 
-stepped_is : (t : Tree) → is_step t ≡ true → Stepped t
+pub stepped_is : (t : Tree) → is_step t ≡ true → Stepped t
 stepped_is t e = let (bare, ends) = and_parts (is_bare t 2) (ends_none (shape_of t) (part t 1)) e in stepped_by t bare ends
 
 -- ---- what is written
@@ -269,7 +269,7 @@ module _ (s : Seat) (n : Tree) where
   row_of stays c (inl j) = inl (of_joined stays c j)
   row_of stays c (inr j) = inr (of_closed stays c j)
 
-links_row : (s : Seat) (n w : Tree) → folded_written s n ≡ Some w → ChoiceContracts (Expr s) n w
+pub links_row : (s : Seat) (n w : Tree) → folded_written s n ≡ Some w → ChoiceContracts (Expr s) n w
 links_row s n w e = go (is_chain n) refl e
   where
     of : is_chain n ≡ true → (o : Option Bool) → outcome (may s n) (links s n) ≡ o → wrapped o (folded (may s n) (links s n)) ≡ Some w → ChoiceContracts (Expr s) n w
@@ -282,17 +282,17 @@ links_row s n w e = go (is_chain n) refl e
 
 -- ---- and what a row reads is written
 
-step_passes : (o : Bool) (l : Link) (t : Tree) → is_calm_link l ≡ true → is_step (linked o l t) ≡ true
+pub step_passes : (o : Bool) (l : Link) (t : Tree) → is_calm_link l ≡ true → is_step (linked o l t) ≡ true
 step_passes o (a_member k) t e = e
 step_passes o (a_computed k) t e = e
 step_passes o (a_call ts) t e = e
 
-first_of_link : (o : Bool) (l : Link) (t : Tree) → part (linked o l t) 0 ≡ t
+pub first_of_link : (o : Bool) (l : Link) (t : Tree) → part (linked o l t) 0 ≡ t
 first_of_link o (a_member k) t = refl
 first_of_link o (a_computed k) t = refl
 first_of_link o (a_call ts) t = refl
 
-mark_of_link : (o : Bool) (l : Link) (t : Tree) → is_marked (shape_of (linked o l t)) ≡ o
+pub mark_of_link : (o : Bool) (l : Link) (t : Tree) → is_marked (shape_of (linked o l t)) ≡ o
 mark_of_link o (a_member k) t = refl
 mark_of_link o (a_computed k) t = refl
 mark_of_link o (a_call ts) t = refl
@@ -329,7 +329,7 @@ is_written s c h = go (outcome (not s.new_callee) c) h
     go (Some stays) e = refl
     go None e = e
 
-links_pass : (s : Seat) (n w : Tree) → ChainRow s n w → is_some (folded_written s n) ≡ true
+pub links_pass : (s : Seat) (n w : Tree) → ChainRow s n w → is_some (folded_written s n) ≡ true
 links_pass s n w (inl r) =
     let d = not s.new_callee in
     ap (λ x. is_some (folded_written s x)) r.shape
@@ -345,135 +345,3 @@ links_pass s n w (inr r) =
     or_last : (b : Bool) {c : Bool} → c ≡ true → b || c ≡ true
     or_last true e = refl
     or_last false e = e
-
--- ---- a chain over null or undefined
-
-ends_first : (ts : Trees) → ends_in ts ≡ ends_at_once (child_or_absent ts 0)
-ends_first none = refl
-ends_first (t ▸ ts) = refl
-
-pub none_ends : (t : Tree) → is_step t ≡ false → ends_at_once t ≡ false
-none_ends (node h xs n ts) e = ap (λ b. b && ((is_marked h && is_nothing (child_or_absent ts 0)) || ends_in ts)) e
-
-pub below_ends : (t : Tree) → is_step t ≡ true → ends_at_once t ≡ ((is_marked (shape_of t) && is_nothing (part t 0)) || ends_at_once (part t 0))
-below_ends (node h xs n ts) e =
-    ap (λ b. b && ((is_marked h && is_nothing (child_or_absent ts 0)) || ends_in ts)) e
-    ∙ ap (λ b. (is_marked h && is_nothing (child_or_absent ts 0)) || b) (ends_first ts)
-
-nothing_is : (t : Tree) → is_nothing t ≡ true → IsNothing t
-nothing_is t e = go (either_true (is_null t) (is_undefined t) e)
-  where
-    go : (is_null t ≡ true) ⊎ (is_undefined t ≡ true) → IsNothing t
-    go (inl h) = inl (null_is t h)
-    go (inr h) = inr (undefined_is t h)
-
-nothing_passes : (t : Tree) → IsNothing t → is_nothing t ≡ true
-nothing_passes t (inl h) = ap is_nothing h
-nothing_passes t (inr h) = or_last (is_null t) (undefined_passes t h)
-  where
-    or_last : (b : Bool) {c : Bool} → c ≡ true → b || c ≡ true
-    or_last true e = refl
-    or_last false e = e
-
--- under links, one over that
-record Ended (t : Tree) : Type 0 where
-  others : List Marked
-  link : Link
-  base : Tree
-  known : IsNothing base
-  calm : is_calm_link link ≡ true
-  calm_others : are_calm_over others ≡ true
-  is : t ≡ links_over others (linked true link base)
-
-ended_here : (t : Tree) → Stepped t → is_marked (shape_of t) ≡ true → IsNothing (part t 0) → Ended t
-ended_here t p m o = record {
-  others = [];
-  link = p.link;
-  base = part t 0;
-  known = o;
-  calm = p.calm;
-  calm_others = refl;
-  is = p.is ∙ ap (λ b. linked b p.link (part t 0)) m;
-}
-
-ended_below : (t : Tree) → Stepped t → Ended (part t 0) → Ended t
-ended_below t p b = record {
-  others = marked (is_marked (shape_of t)) p.link ∷ b.others;
-  link = b.link;
-  base = b.base;
-  known = b.known;
-  calm = b.calm;
-  calm_others = both_true (is_calm_link p.link) (are_calm_over b.others) p.calm b.calm_others;
-  is = p.is ∙ ap (linked (is_marked (shape_of t)) p.link) b.is;
-}
-
-ended_by : (t : Tree) → (ends_at_once (part t 0) ≡ true → Ended (part t 0)) → ends_at_once t ≡ true → Ended t
-ended_by t below e = go (is_step t) refl
-  where
-    of : is_step t ≡ true → ((is_marked (shape_of t) && is_nothing (part t 0)) ≡ true) ⊎ (ends_at_once (part t 0) ≡ true) → Ended t
-    of p (inl h) = let (m, o) = and_parts (is_marked (shape_of t)) (is_nothing (part t 0)) h in ended_here t (stepped_is t p) m (nothing_is (part t 0) o)
-    of p (inr h) = ended_below t (stepped_is t p) (below h)
-
-    go : (b : Bool) → is_step t ≡ b → Ended t
-    go true p = of p (either_true (is_marked (shape_of t) && is_nothing (part t 0)) (ends_at_once (part t 0)) (sym (below_ends t p) ∙ e))
-    go false p = absurd (true≢false (sym e ∙ none_ends t p))
-
-mutual
-  ended_of : (t : Tree) → ends_at_once t ≡ true → Ended t
-  ended_of (node h xs n ts) e = ended_by (node h xs n ts) (ended_in ts) e
-
-  ended_in : (ts : Trees) → ends_at_once (child_or_absent ts 0) ≡ true → Ended (child_or_absent ts 0)
-  ended_in none e = absurd (true≢false (sym e))
-  ended_in (t ▸ ts) e = ended_of t e
-
-module _ (s : Seat) (n : Tree) where
-  end_row : may_end n && is_lighter s void_zero n ≡ true → ChoiceContracts (Expr s) n void_zero
-  end_row h =
-      let (may, less) = and_parts (may_end n) (is_lighter s void_zero n) h in
-      let (c, rest) = and_parts (is_chain n) (ends_at_once (part n 0) && leaves_nothing (part n 0)) may in
-      let (ends, goes) = and_parts (ends_at_once (part n 0)) (leaves_nothing (part n 0)) rest in
-      let o = ended_of (part n 0) ends in
-      let row : Row10 n void_zero = record {
-        others = o.others;
-        link = o.link;
-        base = o.base;
-        known = o.known;
-        calm = o.calm;
-        calm_others = o.calm_others;
-        dropped = subst (λ t. leaves_nothing t ≡ true) o.is goes;
-        shape = chain_is n c ∙ ap chain o.is;
-        written = refl;
-      } in
-      record { row = inr (inr (inr (inr (inr (inr (inl row)))))); lighter = omega (arith, ltb-true _ _ less) }
-
-pub folded_row : (s : Seat) (n w : Tree) → written s n ≡ Some w → ChoiceContracts (Expr s) n w
-folded_row s n w e = tried s n w (may_end n && is_lighter s void_zero n) void_zero (folded_written s n) (end_row s n) (links_row s n w) e
-
-pub folded_passes : (s : Seat) (n w : Tree) → ChainRow s n w → is_some (written s n) ≡ true
-folded_passes s n w r = later_true (may_end n && is_lighter s void_zero n) void_zero (folded_written s n) (links_pass s n w r)
-
-ends_passes : (ms : List Marked) (l : Link) (x : Tree) → IsNothing x → is_calm_link l ≡ true → are_calm_over ms ≡ true → ends_at_once (links_over ms (linked true l x)) ≡ true
-ends_passes [] l x k c d =
-    let t = linked true l x in
-    below_ends t (step_passes true l x c)
-    ∙ ap (λ b. b || ends_at_once (part t 0)) (both_true (is_marked (shape_of t)) (is_nothing (part t 0)) (mark_of_link true l x) (ap is_nothing (first_of_link true l x) ∙ nothing_passes x k))
-ends_passes (marked o m ∷ ms) l x k c d =
-    let (here, rest) = and_parts (is_calm_link m) (are_calm_over ms) d in
-    let below = links_over ms (linked true l x) in
-    let t = linked o m below in
-    below_ends t (step_passes o m below here)
-    ∙ or_last (is_marked (shape_of t) && is_nothing (part t 0)) (ap ends_at_once (first_of_link o m below) ∙ ends_passes ms l x k c rest)
-  where
-    or_last : (b : Bool) {c : Bool} → c ≡ true → b || c ≡ true
-    or_last true e = refl
-    or_last false e = e
-
-pub end_passes : (s : Seat) (n w : Tree) → Row10 n w → weight (Expr s) n < 2 ^ 64 → weight (Expr s) w < weight (Expr s) n → is_some (written s n) ≡ true
-end_passes s n w r small less =
-    let c : Tree = links_over r.others (linked true r.link r.base) in
-    let same = ap (weight (Expr s)) r.shape in
-    let made = ap (weight (Expr s)) r.written in
-    ap (λ t. is_some (written s t)) r.shape
-    ∙ first_true (may_end (chain c) && is_lighter s void_zero (chain c)) void_zero (folded_written s (chain c))
-    (both_true (may_end (chain c)) (is_lighter s void_zero (chain c)) (both_true (ends_at_once c) (leaves_nothing c) (ends_passes r.others r.link r.base r.known r.calm r.calm_others) r.dropped)
-    (lighter_test s void_zero (chain c) (omega (arith, small, same)) (omega (arith, less, same, made))))

@@ -46,7 +46,8 @@ use Rattle.mini_choices.specs.EvaluateBothSides as both
 use Rattle.mini_choices.proofs.CombinedAssignment.{one_member, member_there, combined_row, combined_passes, combined_member_passes}
 use Rattle.mini_choices.proofs.LogicalSequence.{last_row, last_passes}
 use Rattle.mini_choices.proofs.BothSides.{both_row, both_passes}
-use Rattle.mini_choices.proofs.ChainLinks.{end_passes, chain_is, folded_row, folded_passes}
+use Rattle.mini_choices.proofs.ChainLinks.{chain_is}
+use Rattle.mini_choices.proofs.ChainEnds.{end_passes, folded_row, folded_passes}
 use Rattle.mini_choices.proofs.OptionalChains.{chain_row, chain_passes}
 use Rattle.mini_choices.proofs.Trials.{some_is, not_true, both_true, tried, first_true, later_true, first_there, second_there, lighter_test}
 use Rattle.mini_choices.specs.SubstituteRotateLogicalExpression.{leftmost}
@@ -523,7 +524,7 @@ passes s n w (inr (inr (inr (inr (inr (inr (inr (inr r)))))))) small less =
     let u : Tree = conditional r.a (assignment Assign t r.b) (assignment Assign t r.c) in
     ap (λ t. is_some (written s t)) r.shape ∙ in_branches s u (by_indexed s u (indexed_passes s n w r))
 passes s n w (inr (inr (inr (inr (inl r))))) small less =
-    let t : Tree = conditional r.a (call false (identifier r.name) (argument r.is_spread r.p ▸ r.others)) (call false (identifier r.name) (argument r.is_spread r.q ▸ r.others)) in
+    let t : Tree = conditional r.a (call false r.callee (argument r.is_spread r.p ▸ r.others)) (call false r.callee (argument r.is_spread r.q ▸ r.others)) in
     ap (λ t. is_some (written s t)) r.shape ∙ in_branches s t (by_called s t (called_passes n w r))
 
 pub unwritten_rests : UnwrittenRests

@@ -11,6 +11,7 @@ pub mod Calls
 pub mod AssignedIndexed
 pub mod OptionalChains
 pub mod ChainLinks
+pub mod ChainEnds
 pub mod NullishComparison
 pub mod ObjectTest
 pub mod Choices

@@ -1,15 +1,14 @@
--- Tests of calls of names, and of two that differ in their first argument.
+-- Tests of calls, and of two that differ in their first argument.
 use Rattle.std.specs.Prelude.{Bool, true, false, ◌&&◌, ◌||◌, if◌then◌else◌}
 use Rattle.mini_model.specs.declared.shape.Shape.{Shape}
 use Rattle.mini_model.specs.declared.shape.Shape.TheVariants as shape
 use Rattle.mini_model.specs.Tree.{Tree, Trees, shape_of, call, conditional, children, child_or_absent, first_or_absent}
 use Rattle.mini_node.specs.Children.{part, is_bare, without, with_inserted}
-use Rattle.mini_node.specs.Equal.{same_trees}
-use Rattle.mini_node.specs.Kinds.{is_call_expression, is_conditional, is_identifier}
+use Rattle.mini_node.specs.Equal.{same_tree, same_trees}
+use Rattle.mini_node.specs.Kinds.{is_call_expression, is_conditional}
 use Rattle.mini_terms.specs.Folds.{is_effect_free}
-use Rattle.mini_terms.specs.Reading.{is_item}
+use Rattle.mini_terms.specs.Reading.{is_item, is_plain_part}
 use Rattle.mini_rows.specs.Choices.{spread}
-use Rattle.mini_choices.specs.Assigning.{is_same_name, is_declared}
 
 abbrev pub is_spread_shape : Shape → Bool
 is_spread_shape shape.SpreadElement = true
@@ -35,17 +34,17 @@ begin_alike ts us = (begins_with_item ts && begins_with_item us) || (begins_with
 abbrev pub are_others_same : Trees → Trees → Bool
 are_others_same ts us = same_trees (without ts 0) (without us 0)
 
--- `f(p, r)`, of a name
-abbrev pub calls_name : Tree → Bool
-calls_name t = is_call_expression t && is_identifier (part t 0)
+-- of an expression without an effect, which is the same function wherever it is asked
+abbrev pub is_idle : Tree → Bool
+is_idle f = is_plain_part f && is_effect_free f
 
--- of one name, which a scope declares, with the same arguments after the first, which both are expressions or both are spread
+-- of one such function, with the same arguments after the first, which both are expressions or both are spread
 abbrev pub are_alike : Tree → Tree → Bool
-are_alike t u = begin_alike (children (part t 1)) (children (part u 1)) && (is_same_name (part t 0) (part u 0) && (is_declared (part t 0) && are_others_same (children (part t 1)) (children (part u 1))))
+are_alike t u = begin_alike (children (part t 1)) (children (part u 1)) && (same_tree (part t 0) (part u 0) && (is_idle (part t 0) && are_others_same (children (part t 1)) (children (part u 1))))
 
 -- `a ? f(p, r) : f(q, r)`, where evaluating a has no effect
 abbrev pub calls_either : Tree → Bool
-calls_either t = is_conditional t && (calls_name (part t 1) && (calls_name (part t 2) && (are_alike (part t 1) (part t 2) && is_effect_free (part t 0))))
+calls_either t = is_conditional t && (is_call_expression (part t 1) && (is_call_expression (part t 2) && (are_alike (part t 1) (part t 2) && is_effect_free (part t 0))))
 
 -- another first one
 abbrev pub with_first : Trees → Tree → Trees

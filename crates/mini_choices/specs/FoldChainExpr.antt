@@ -1,108 +1,20 @@
--- 64, `substitute_chain_expression`, and 10 and 11, `fold_chain_expr`: `(a?.b)?.c` becomes `a?.b?.c`, `null?.a` becomes `void 0`, and
--- `[1]?.length` becomes `[1].length`, whatever links stand outside.
-use Rattle.std.specs.Prelude.{Bool, true, false, not, ◌&&◌, ◌||◌, [], Option, Some, None, if◌then◌else◌}
+-- 10, `fold_chain_expr`: `null?.a` becomes `void 0`, and `(void f())?.a.b.c.d` becomes `void f(), void 0`, whatever links stand outside;
+-- and 64 and 11 (`ChainLinks.antt`).
+use Rattle.std.specs.Prelude.{Bool, true, false, not, ◌&&◌, ◌||◌, Option, Some, if◌then◌else◌}
 use Rattle.mini_model.specs.declared.seat.Seat.{Seat}
-use Rattle.mini_model.specs.declared.shape.Shape.{Shape}
-use Rattle.mini_model.specs.declared.shape.Shape.TheVariants as shape
-use Rattle.mini_model.specs.Tree.{Tree, Trees, node, none, ◌▸◌, absent, children, child_or_absent, shape_of}
-use Rattle.mini_node.specs.Children.{part, is_bare}
-use Rattle.mini_node.specs.Kinds.{is_listed, is_null}
-use Rattle.mini_terms.specs.Parts.{is_link, leaves_nothing}
-use Rattle.mini_terms.specs.Reading.{is_plain_part}
+use Rattle.mini_model.specs.Tree.{Tree, Trees, node, none, ◌▸◌, absent, child_or_absent}
+use Rattle.mini_node.specs.Children.{part}
+use Rattle.mini_terms.specs.Folds.{is_effect_free}
+use Rattle.mini_terms.specs.Parts.{leaves_nothing}
+use Rattle.mini_terms.specs.Reading.{stands}
 use Rattle.mini_rows.specs.Spellings.{void_zero}
-use Rattle.mini_rows.specs.Chains.{is_word_shape, is_calm, are_calm}
-use Rattle.mini_rows.specs.ChainLinks.{is_there, is_lone, chain_if}
-use Rattle.mini_choices.specs.Forms.{is_undefined}
+use Rattle.mini_rows.specs.Chains.{is_calm}
+use Rattle.mini_rows.specs.ChainEnds.{is_nothing}
+use Rattle.mini_rows.specs.Choices.{pair}
+use Rattle.mini_choices.specs.ChainLinks.{is_chain, is_step, is_marked, folded_written}
 use Rattle.mini_choices.specs.MinimizeConditionalBranches.{is_lighter}
 
-abbrev pub is_chain_shape : Shape → Bool
-is_chain_shape shape.ChainExpression = true
-is_chain_shape h = false
-
--- a chain
-abbrev pub is_chain : Tree → Bool
-is_chain t = is_chain_shape (shape_of t) && is_bare t 1
-
--- of a link with this part, whether that ends no chain
-abbrev pub ends_none : Shape → Tree → Bool
-ends_none (shape.StaticMemberExpression is_optional) k = is_word_shape (shape_of k)
-ends_none (shape.ComputedMemberExpression is_optional) k = is_calm k
-ends_none (shape.CallExpression is_optional) k = is_listed k && are_calm (children k)
-ends_none h k = false
-
--- `a.k`, `a[k]` or `a(b, c)`, optional or not, whose key or arguments end no chain
-abbrev pub is_step : Tree → Bool
-is_step t = is_bare t 2 && ends_none (shape_of t) (part t 1)
-
--- an optional link
-abbrev pub is_marked : Shape → Bool
-is_marked (shape.StaticMemberExpression is_optional) = is_optional
-is_marked (shape.ComputedMemberExpression is_optional) = is_optional
-is_marked (shape.CallExpression is_optional) = is_optional
-is_marked h = false
-
--- the same link, optional or not
-abbrev pub link_shape : Bool → Shape → Shape
-link_shape o (shape.CallExpression is_optional) = shape.CallExpression o
-link_shape o (shape.StaticMemberExpression is_optional) = shape.StaticMemberExpression o
-link_shape o h = shape.ComputedMemberExpression o
-
--- a link of this shape
-abbrev pub relinked : Shape → Tree → Tree → Tree
-relinked h a k = node h [] 0 (a ▸ k ▸ none)
-
--- a chain of a member or a call
-abbrev pub holds_link : Tree → Bool
-holds_link c = is_chain c && is_link (shape_of (part c 0))
-
--- a value that is there, and is called with no `this`
-abbrev pub is_value : Tree → Bool
-is_value x = is_there x && (is_plain_part x && (is_lone x && is_calm x))
-
--- an optional link over a chain, or, where its mark may go, over a value that is there
-abbrev pub folds_here : Bool → Tree → Bool
-folds_here d t = is_marked (shape_of t) && (holds_link (part t 0) || (d && is_value (part t 0)))
-
--- over a chain it stays optional, and the chain goes; over a value its mark goes
-abbrev pub here : Tree → Tree
-here t = relinked (link_shape (holds_link (part t 0)) (shape_of t)) (if holds_link (part t 0) then part (part t 0) 0 else part t 0) (part t 1)
-
-abbrev pub with_mark : Bool → Option Bool → Option Bool
-with_mark o None = None
-with_mark o (Some stays) = Some (o || stays)
-
--- the outermost such link among links, if there is one: whether a link in the chain stays optional
-abbrev mutual
-  pub outcome : Bool → Tree → Option Bool
-  outcome d (node h xs n ts) = if is_step (node h xs n ts) then (if folds_here d (node h xs n ts) then Some (holds_link (child_or_absent ts 0)) else with_mark (is_marked h) (outcome_in d ts)) else None
-
-  pub outcome_in : Bool → Trees → Option Bool
-  outcome_in d none = None
-  outcome_in d (t ▸ ts) = outcome d t
-
--- and the links with it folded
-abbrev mutual
-  pub folded : Bool → Tree → Tree
-  folded d (node h xs n ts) = if is_step (node h xs n ts) then (if folds_here d (node h xs n ts) then here (node h xs n ts) else relinked (link_shape (is_marked h) h) (folded_in d ts) (child_or_absent ts 1)) else node h xs n ts
-
-  pub folded_in : Bool → Trees → Tree
-  folded_in d none = absent
-  folded_in d (t ▸ ts) = folded d t
-
-abbrev pub wrapped : Option Bool → Tree → Option Tree
-wrapped (Some stays) w = Some (chain_if stays w)
-wrapped None w = None
-
-abbrev pub folded_written : Seat → Tree → Option Tree
-folded_written s t = if is_chain t then wrapped (outcome (not s.new_callee) (part t 0)) (folded (not s.new_callee) (part t 0)) else None
-
--- ---- a chain over null or undefined
-
--- `null`, `void 0`, or `undefined`, which no scope declares
-abbrev pub is_nothing : Tree → Bool
-is_nothing t = is_null t || is_undefined t
-
--- one of the links is optional over that
+-- one of the links is optional over what is known to be null or undefined
 abbrev mutual
   pub ends_at_once : Tree → Bool
   ends_at_once (node h xs n ts) = is_step (node h xs n ts) && ((is_marked h && is_nothing (child_or_absent ts 0)) || ends_in ts)
@@ -111,9 +23,48 @@ abbrev mutual
   ends_in none = false
   ends_in (t ▸ ts) = ends_at_once t
 
--- of a chain that ends at once, nothing is left behind
+-- what stands before the links
+abbrev mutual
+  pub base_of : Tree → Tree
+  base_of (node h xs n ts) = if is_step (node h xs n ts) then base_in ts else node h xs n ts
+
+  pub base_in : Trees → Tree
+  base_in none = absent
+  base_in (t ▸ ts) = base_of t
+
+-- of the names, keys and arguments of the links nothing is left behind
+abbrev mutual
+  pub links_leave_nothing : Tree → Bool
+  links_leave_nothing (node h xs n ts) = not (is_step (node h xs n ts)) || (leaves_nothing (child_or_absent ts 1) && links_in ts)
+
+  pub links_in : Trees → Bool
+  links_in none = true
+  links_in (t ▸ ts) = links_leave_nothing t
+
+-- of links that end at once, over what has no effect, nothing is left behind
+abbrev pub ends_idly : Tree → Bool
+ends_idly t = ends_at_once t && (is_effect_free (base_of t) && leaves_nothing t)
+
 abbrev pub may_end : Tree → Bool
-may_end t = is_chain t && (ends_at_once (part t 0) && leaves_nothing (part t 0))
+may_end t = is_chain t && ends_idly (part t 0)
+
+-- it has an effect, is read by its value alone, and ends no chain
+abbrev pub acts : Tree → Bool
+acts x = not (is_effect_free x) && (stands x && is_calm x)
+
+-- of links that end at once, over what has an effect, that alone is left
+abbrev pub ends_after : Tree → Bool
+ends_after t = ends_at_once t && (acts (base_of t) && links_leave_nothing t)
+
+abbrev pub may_end_after : Tree → Bool
+may_end_after t = is_chain t && ends_after (part t 0)
+
+-- `void f(), void 0`
+abbrev pub base_then : Tree → Tree
+base_then t = pair (base_of (part t 0)) void_zero
+
+abbrev pub after_written : Seat → Tree → Option Tree
+after_written s t = if may_end_after t && is_lighter s (base_then t) t then Some (base_then t) else folded_written s t
 
 abbrev pub written : Seat → Tree → Option Tree
-written s t = if may_end t && is_lighter s void_zero t then Some void_zero else folded_written s t
+written s t = if may_end t && is_lighter s void_zero t then Some void_zero else after_written s t

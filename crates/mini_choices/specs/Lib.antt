@@ -16,6 +16,7 @@ pub mod MinimizeHeldBranches
 pub mod EvaluateBothSides
 pub mod InjectOptionalChaining
 pub mod InjectAssignedChaining
+pub mod ChainLinks
 pub mod FoldChainExpr
 pub mod Choices
 pub mod Writes

@@ -1,18 +1,17 @@
-//! Tests of calls of names, and of two that differ in their first argument.
+//! Tests of calls, and of two that differ in their first argument.
 
 ghost use Rattle.std.specs.Prelude.{◌≡◌, ◌<◌, true, IfOk};
 ghost use Rattle.mini_model.specs.Tree.{children, count};
 ghost use Rattle.mini_node.specs.Children.{part};
 ghost use Rattle.mini_rows.specs.Choices.{spread as spread_of};
-ghost use Rattle.mini_choices.specs.Calling.{is_spread as is_it_spread, begins_with_item as it_begins_with_item, begins_with_spread as it_begins_with_spread, begin_alike as they_begin_alike, chosen_first as first_chosen, are_others_same as are_its_others_same, calls_name as it_calls_name, are_alike as are_they_alike, calls_either as it_calls_either, called as called_of};
+ghost use Rattle.mini_choices.specs.Calling.{is_spread as is_it_spread, begins_with_item as it_begins_with_item, begins_with_spread as it_begins_with_spread, begin_alike as they_begin_alike, chosen_first as first_chosen, are_others_same as are_its_others_same, is_idle as is_it_idle, are_alike as are_they_alike, calls_either as it_calls_either, called as called_of};
 
-use crate::assigning::{is_declared, is_same_name};
 use mini_model::{OutOfMemory, Shape};
 use mini_node::{
     Node, Nodes, call_expression, conditional, discard, is_call_expression, is_conditional,
-    is_identifier, is_same_tree, of_one, one, take_first, three, two,
+    is_same_tree, of_one, one, take_first, three, two,
 };
-use mini_terms::{has_no_effect, is_item};
+use mini_terms::{has_no_effect, is_item, is_plain_part};
 use std::alloc::Global;
 
 // Whether it is `...p`.
@@ -69,33 +68,32 @@ fn are_others_same(first: &Nodes, second: &Nodes) -> bool
     true
 }
 
-// `f(p, r)`, of a name.
-fn calls_name(node: &Node) -> bool
-    ensures kind { result ≡ it_calls_name node.now }
-    ensures parts { result ≡ true → count (children node.now) ≡ 2 }
+// An expression without an effect, which is the same function wherever it is asked.
+fn is_idle(node: &Node) -> bool
+    ensures { result ≡ is_it_idle node.now }
 {
-    is_call_expression(node) && is_identifier(node.child(0))
+    is_plain_part(node) && has_no_effect(node)
 }
 
-// Whether two calls are of one name, which a scope declares, with the same arguments after the first, of which both are expressions or both spread.
+// Whether two calls are of one such function, with the same arguments after the first, of which both are expressions or both spread.
 fn are_alike(first: &Node, second: &Node) -> bool
     requires first_parts { count (children first.now) ≡ 2 }
     requires second_parts { count (children second.now) ≡ 2 }
     ensures { result ≡ are_they_alike first.now second.now }
 {
     begin_alike(first.child(1).children(), second.child(1).children())
-        && is_same_name(first.child(0), second.child(0))
-        && is_declared(first.child(0))
+        && is_same_tree(first.child(0), second.child(0))
+        && is_idle(first.child(0))
         && are_others_same(first.child(1).children(), second.child(1).children())
 }
 
-/// `a ? f(p, r) : f(q, r)`, where evaluating a has no effect.
+/// `a ? f(p, r) : f(q, r)`, where evaluating a has no effect, nor has f.
 pub fn calls_either(node: &Node) -> bool
     ensures { result ≡ it_calls_either node.now }
 {
     is_conditional(node)
-        && calls_name(node.child(1))
-        && calls_name(node.child(2))
+        && is_call_expression(node.child(1))
+        && is_call_expression(node.child(2))
         && are_alike(node.child(1), node.child(2))
         && has_no_effect(node.child(0))
 }

@@ -1,3 +1,4 @@
+pub mod chain_links;
 pub mod evaluate_both_sides;
 pub mod fold_chain_expr;
 pub mod inject_assigned_chaining;

@@ -32,7 +32,7 @@ false_is (Some false) h = refl
 false_is (Some true) h = absurd (true≢false (sym h))
 false_is None h = absurd (true≢false (sym h))
 
-nullish_of : (k : Kind) (v : Value) → is_nullish_kind k ≡ true → OfKind k v → is_nullish v ≡ true
+pub nullish_of : (k : Kind) (v : Value) → is_nullish_kind k ≡ true → OfKind k v → is_nullish v ≡ true
 nullish_of IsUndefined Undefined h p = refl
 nullish_of IsUndefined v h p = absurd p
 nullish_of IsNull Null h p = refl

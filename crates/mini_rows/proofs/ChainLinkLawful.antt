@@ -276,7 +276,7 @@ module _ (strict : Bool) where
   ends o (a_computed k) t e = e
   ends o (a_call ts) t e = e
 
-  over_links : (ms : List Marked) (o : Bool) (l : Link) (t : Tree) → Ends (links_over ms (linked o l t)) → Links (links_over ms (linked o l t))
+  pub over_links : (ms : List Marked) (o : Bool) (l : Link) (t : Tree) → Ends (links_over ms (linked o l t)) → Links (links_over ms (linked o l t))
   over_links [] o l t e = links o l t e
   over_links (marked p m ∷ ms) o l t e = links p m (links_over ms (linked o l t)) e
 
@@ -314,7 +314,7 @@ module _ (strict : Bool) where
   held_link (node h' xs n ts) h e = absurd (false≢true h)
 
   -- what is no link stands as an expression where it stands as one
-  outer_fits : (t : Tree) → is_link (shape_of t) ≡ false → Links t → Fits t
+  pub outer_fits : (t : Tree) → is_link (shape_of t) ≡ false → Links t → Fits t
   outer_fits (node (shape.CallExpression b) xs n ts) h e = absurd (true≢false h)
   outer_fits (node (shape.StaticMemberExpression b) xs n ts) h e = absurd (true≢false h)
   outer_fits (node (shape.ComputedMemberExpression b) xs n ts) h e = absurd (true≢false h)

@@ -1,26 +1,23 @@
--- Two calls of a name between which a conditional chooses, and which differ in their first argument alone: one call chooses that.
-use Rattle.std.proofs.Common.{◌≡◌, ◌<◌, ◌≤◌, Bool, true, false, List, [], ◌∷◌, refl, sym, ap, ◌∙◌, inl, inr, true≢false, arith}
+-- Two calls of one function between which a conditional chooses, and which differ in their first argument alone: one call chooses that.
+use Rattle.std.proofs.Common.{◌≡◌, ◌<◌, ◌≤◌, Bool, true, false, List, [], ◌∷◌, refl, sym, ap, ◌∙◌, true≢false, arith}
 use Rattle.std.specs.Prelude.{◌+◌, ◌&&◌, ◌||◌}
 use Rattle.std.proofs.lemmas.Bool.{and_parts}
-use Rattle.mini_model.specs.declared.name.Name.{Name}
 use Rattle.mini_model.specs.declared.place.Position.TheVariants.{Expr}
 use Rattle.mini_model.specs.declared.seat.Seat.{Seat}
 use Rattle.mini_model.specs.declared.shape.Shape.TheVariants as shape
-use Rattle.mini_model.specs.Tree.{Tree, Trees, node, none, ◌▸◌, listed, identifier, conditional, call}
+use Rattle.mini_model.specs.Tree.{Tree, Trees, node, none, ◌▸◌, listed, conditional, call}
 use Rattle.mini_model.specs.Position.{argument_seat, branch_seat}
 use Rattle.mini_model.specs.Weight.{Outline, outline, outlines, weight, place_weight, is_parenthesized, commas_weight}
 use Rattle.mini_accept.specs.WellShaped.{an_argument, one, many, fits, fill, each}
 use Rattle.mini_laws.specs.Value.{Value}
-use Rattle.mini_laws.specs.State.{State, Completion, ok, out, either, Environment}
+use Rattle.mini_laws.specs.State.{State, Completion, out, either, Environment}
 use Rattle.mini_laws.specs.Demand.{Demand, OfType, Called, Request}
-use Rattle.mini_laws.specs.Naming.{kind_of}
-use Rattle.mini_laws.specs.Expressions.{is_eval}
 use Rattle.mini_laws.proofs.Runs.{either_eta}
 use Rattle.mini_laws.proofs.Seats.{placed}
 use Rattle.mini_model.specs.Paths.{append}
 use Rattle.mini_node.specs.Walks.{append_none}
 use Rattle.mini_terms.specs.Folds.{is_effect_free}
-use Rattle.mini_terms.specs.Reading.{is_item, by_value}
+use Rattle.mini_terms.specs.Reading.{is_item, is_plain_part, by_value}
 use Rattle.mini_terms.proofs.Reading.{read_by_value}
 use Rattle.mini_kept.proofs.Bools.{left, both}
 use Rattle.mini_kept.proofs.Expressions.{expression, expression_taken, three_fit}
@@ -29,12 +26,15 @@ use Rattle.mini_rows.specs.Sketches.{Conditional, Call, Spread, Sketch, Parts, p
 use Rattle.mini_rows.specs.Chains.{a_call}
 use Rattle.mini_rows.specs.Choices.{argument, Row44, CallsLighter}
 use Rattle.mini_rows.proofs.ArrangedExpressions.{expressions_arranged}
-use Rattle.mini_rows.proofs.ChainRuns.{called, items, next, calls, named_call, value_is, name_called}
-use Rattle.mini_rows.proofs.ChoiceFree.{Told, free_told, chosen, goes_on_chosen, begins_alike}
+use Rattle.mini_rows.proofs.ChainRuns.{called, items, next, calls, value_is}
+use Rattle.mini_rows.proofs.ChoiceFree.{free_told, chosen, goes_on_chosen, begins_alike}
 use Rattle.mini_rows.proofs.ChoiceItems.{given, argument_read, nothing_given, gathers, items_split}
-use Rattle.mini_rows.proofs.ChoiceRuns.{value, asked, Tells, Reading, reading, conditional_tells, conditional_value}
+use Rattle.mini_rows.proofs.ChoiceRuns.{value, asked, Tells, conditional_tells, conditional_value}
 use Rattle.mini_rows.proofs.ChoiceRuns.{by_value as same_value}
-use Rattle.mini_rows.proofs.ChoiceWeights.{no_awkward, pair_of, name_heavy}
+use Rattle.mini_rows.proofs.ChoiceWeights.{no_awkward, pair_of}
+use Rattle.mini_rows.proofs.IdleCallees.{idle_called, callee_told}
+use Rattle.mini_rows.proofs.IdleWeights.{callee_heavy}
+use Rattle.mini_rows.proofs.PlainRead.{plain_read}
 use Rattle.mini_rows.proofs.SpellAlike.{SameTree}
 use Rattle.mini_rows.proofs.SpellMeaning.{same_by}
 use Rattle.mini_rows.proofs.SpellWeights.{falls_by}
@@ -54,20 +54,9 @@ or_right : (b : Bool) → b || true ≡ true
 or_right true = refl
 or_right false = refl
 
-module _ (e : Environment) (x : Name) (b : Bool) (a p q : Tree) (ts : Trees) (free : is_effect_free a ≡ true) (is_first : b || is_item p ≡ true) (is_second : b || is_item q ≡ true) (s : State) where
-  abbrev f : Tree
-  f = identifier x
-
+module _ (e : Environment) (f : Tree) (idle : is_effect_free f ≡ true) (b : Bool) (a p q : Tree) (ts : Trees) (free : is_effect_free a ≡ true) (is_first : b || is_item p ≡ true) (is_second : b || is_item q ≡ true) (s : State) where
   abbrev either_one : Tree
   either_one = conditional a p q
-
-  abbrev named : Value → Called
-  named v = named_call (is_eval (kind_of x)) v
-
-  name_told : Reading (value e f s) s → Told (called e f s) s
-  unfolding either
-  name_told (inl o) = inl (name_called e x s ∙ ap (λ y. next y (λ v z. ok (named v) z)) o)
-  name_told (inr (v, k)) = inr (named v, name_called e x s ∙ ap (λ y. next y (λ v z. ok (named v) z)) k)
 
   -- the call, after the function and the first argument's value
   abbrev goes_on : Called → Completion Value → Completion Value
@@ -94,17 +83,17 @@ module _ (e : Environment) (x : Name) (b : Bool) (a p q : Tree) (ts : Trees) (fr
   call_chosen : value e (conditional a (call false f (argument b p ▸ ts)) (call false f (argument b q ▸ ts))) s ≡ value e (call false f (argument b either_one ▸ ts)) s
   call_chosen =
       conditional_value e a (call false f (argument b p ▸ ts)) (call false f (argument b q ▸ ts)) s
-      ∙ begins_alike s (called e f s) (value e a s) (name_told (reading e x s)) (free_told e a free s) (follows p) (follows q) (follows either_one) follows_chosen (λ z. value e (call false f (argument b p ▸ ts)) z) (λ z. value e (call false f (argument b q ▸ ts)) z) (value_is e false (a_call (argument b p ▸ ts)) f s) (value_is e false (a_call (argument b q ▸ ts)) f s)
+      ∙ begins_alike s (called e f s) (value e a s) (callee_told e f idle (idle_called e f idle) s) (free_told e a free s) (follows p) (follows q) (follows either_one) follows_chosen (λ z. value e (call false f (argument b p ▸ ts)) z) (λ z. value e (call false f (argument b q ▸ ts)) z) (value_is e false (a_call (argument b p ▸ ts)) f s) (value_is e false (a_call (argument b q ▸ ts)) f s)
       ∙ sym (value_is e false (a_call (argument b either_one ▸ ts)) f s)
 
 -- 44 means the same
 pub calls_same : (n w : Tree) → Row44 n w → SameTree n w
 calls_same n w r =
-    let first : Tree = call false (identifier r.name) (argument r.is_spread r.p ▸ r.others) in
-    let second : Tree = call false (identifier r.name) (argument r.is_spread r.q ▸ r.others) in
+    let first : Tree = call false r.callee (argument r.is_spread r.p ▸ r.others) in
+    let second : Tree = call false r.callee (argument r.is_spread r.q ▸ r.others) in
     same_by n w _ _ r.shape r.written
-    (same_value _ _ (conditional_tells r.a first second) (call_tells (identifier r.name) (argument r.is_spread (conditional r.a r.p r.q) ▸ r.others)) refl
-    (λ e s. call_chosen e r.name r.is_spread r.a r.p r.q r.others r.effect_free r.first r.second s))
+    (same_value _ _ (conditional_tells r.a first second) (call_tells r.callee (argument r.is_spread (conditional r.a r.p r.q) ▸ r.others)) (sym (plain_read (call false r.callee (argument r.is_spread (conditional r.a r.p r.q) ▸ r.others)) r.plain))
+    (λ e s. call_chosen e r.callee r.idle r.is_spread r.a r.p r.q r.others r.effect_free r.first r.second s))
 
 -- ---- where it stands
 
@@ -140,33 +129,33 @@ module _ (strict : Bool) where
       both (fits strict expression f) (fits strict (many an_argument) (listed (argument b t ▸ ts)) && true) callee
       (both (fits strict (many an_argument) (listed (argument b t ▸ ts))) true (both (fits strict (one an_argument) (argument b t)) (fill strict (each (one an_argument)) ts) (given_fits b t first) others) refl)
 
-  pub calls_fit : (x : Name) (b : Bool) (a p q : Tree) (ts : Trees) → b || is_item p ≡ true → b || is_item q ≡ true → Fits a → Fits (call false (identifier x) (argument b p ▸ ts)) → Fits (call false (identifier x) (argument b q ▸ ts)) → Fits (call false (identifier x) (argument b (conditional a p q) ▸ ts))
-  calls_fit x b a p q ts i j test e f =
-      let (callee, (first, others)) = of_call (identifier x) b p ts i e in
-      let (again, (second, same)) = of_call (identifier x) b q ts j f in
-      call_fits (identifier x) b (conditional a p q) ts callee (three_fit strict a p q test first second) others
+  pub calls_fit : (f : Tree) (b : Bool) (a p q : Tree) (ts : Trees) → b || is_item p ≡ true → b || is_item q ≡ true → Fits a → Fits (call false f (argument b p ▸ ts)) → Fits (call false f (argument b q ▸ ts)) → Fits (call false f (argument b (conditional a p q) ▸ ts))
+  calls_fit f b a p q ts i j test e g =
+      let (callee, (first, others)) = of_call f b p ts i e in
+      let (again, (second, same)) = of_call f b q ts j g in
+      call_fits f b (conditional a p q) ts callee (three_fit strict a p q test first second) others
 
 -- ---- the same parts
 
 abbrev calls_part : Sketch → Sketch
 calls_part s = under (Call false) (part 0 ▹ list (item_of s (items_of 0 no_items)) ▹ end)
 
-abbrev call_parts : Name → Tree → Tree → Tree → Trees → Parts
-call_parts x a p q ts = record { trees = identifier x ▸ a ▸ p ▸ q ▸ none; lists = ts ∷ [] }
+abbrev call_parts : Tree → Tree → Tree → Tree → Trees → Parts
+call_parts f a p q ts = record { trees = f ▸ a ▸ p ▸ q ▸ none; lists = ts ∷ [] }
 
-chosen_kept : (b : Bool) (x : Name) (a p q : Tree) (ts : Trees) (s : Seat) (n w : Tree) → n ≡ conditional a (call false (identifier x) (argument b p ▸ append ts none)) (call false (identifier x) (argument b q ▸ append ts none)) → w ≡ call false (identifier x) (argument b (conditional a p q) ▸ append ts none) → KeptAt (Expr s) n w
-chosen_kept false x a p q ts s n w e f = expressions_arranged (call_parts x a p q ts) (under Conditional (part 1 ▹ calls_part (part 2) ▹ calls_part (part 3) ▹ end)) (calls_part (under Conditional (part 1 ▹ part 2 ▹ part 3 ▹ end))) refl s n w e f
-chosen_kept true x a p q ts s n w e f =
-    expressions_arranged (call_parts x a p q ts) (under Conditional (part 1 ▹ calls_part (under Spread (part 2 ▹ end)) ▹ calls_part (under Spread (part 3 ▹ end)) ▹ end)) (calls_part (under Spread (under Conditional (part 1 ▹ part 2 ▹ part 3 ▹ end) ▹ end))) refl s n w e f
+chosen_kept : (b : Bool) (f : Tree) (a p q : Tree) (ts : Trees) (s : Seat) (n w : Tree) → n ≡ conditional a (call false f (argument b p ▸ append ts none)) (call false f (argument b q ▸ append ts none)) → w ≡ call false f (argument b (conditional a p q) ▸ append ts none) → KeptAt (Expr s) n w
+chosen_kept false f a p q ts s n w e g = expressions_arranged (call_parts f a p q ts) (under Conditional (part 1 ▹ calls_part (part 2) ▹ calls_part (part 3) ▹ end)) (calls_part (under Conditional (part 1 ▹ part 2 ▹ part 3 ▹ end))) refl s n w e g
+chosen_kept true f a p q ts s n w e g =
+    expressions_arranged (call_parts f a p q ts) (under Conditional (part 1 ▹ calls_part (under Spread (part 2 ▹ end)) ▹ calls_part (under Spread (part 3 ▹ end)) ▹ end)) (calls_part (under Spread (under Conditional (part 1 ▹ part 2 ▹ part 3 ▹ end) ▹ end))) refl s n w e g
 
 pub calls_kept : (q : Seat) (n w : Tree) → Row44 n w → KeptAt (Expr q) n w
 calls_kept q n w r =
     let others = sym (append_none r.others) in
-    chosen_kept r.is_spread r.name r.a r.p r.q r.others q n w
-    (r.shape ∙ (λ i. conditional r.a (call false (identifier r.name) (argument r.is_spread r.p ▸ others i)) (call false (identifier r.name) (argument r.is_spread r.q ▸ others i))))
-    (r.written ∙ (λ i. call false (identifier r.name) (argument r.is_spread (conditional r.a r.p r.q) ▸ others i)))
+    chosen_kept r.is_spread r.callee r.a r.p r.q r.others q n w
+    (r.shape ∙ (λ i. conditional r.a (call false r.callee (argument r.is_spread r.p ▸ others i)) (call false r.callee (argument r.is_spread r.q ▸ others i))))
+    (r.written ∙ (λ i. call false r.callee (argument r.is_spread (conditional r.a r.p r.q) ▸ others i)))
 
--- ---- lighter: a call and a name go
+-- ---- lighter: a call and its function go
 
 call_marks : (s : Seat) (os : List Outline) → place_weight (Expr s) (shape.CallExpression false) os ≤ 4
 call_marks s os = let plain = no_awkward s.eq_left s.cond_test s.lifted in omega (arith, plain, pair_of (is_parenthesized (shape.CallExpression false) s))
@@ -185,16 +174,16 @@ given_least : (b : Bool) (t : Tree) → weight (Expr argument_seat) t ≤ weight
 given_least false t = omega arith
 given_least true t = omega arith
 
-call_falls : (s : Seat) (x : Name) (b : Bool) (a p q : Tree) (ts : Trees) → weight (Expr s) (call false (identifier x) (argument b (conditional a p q) ▸ ts)) < weight (Expr s) (conditional a (call false (identifier x) (argument b p ▸ ts)) (call false (identifier x) (argument b q ▸ ts)))
-call_falls s x b a p q ts =
+call_falls : (s : Seat) (f : Tree) → is_plain_part f ≡ true → is_effect_free f ≡ true → (b : Bool) (a p q : Tree) (ts : Trees) → weight (Expr s) (call false f (argument b (conditional a p q) ▸ ts)) < weight (Expr s) (conditional a (call false f (argument b p ▸ ts)) (call false f (argument b q ▸ ts)))
+call_falls s f i h b a p q ts =
     let one = argument b (conditional a p q) in
-    let marks = call_marks s (outlines (identifier x ▸ listed (one ▸ ts) ▸ none)) in
+    let marks = call_marks s (outlines (f ▸ listed (one ▸ ts) ▸ none)) in
     let first = placed 0 (branch_seat argument_seat) argument_seat refl (λ h os. omega arith) p in
     let second = placed 0 (branch_seat argument_seat) argument_seat refl (λ h os. omega arith) q in
     let commas = first_comma (outline one) (outline (argument b p)) (outlines ts) in
     let given = given_weighs b (conditional a p q) p in
     let least = given_least b q in
-    omega (arith, marks, first, second, commas, given, least, name_heavy x)
+    omega (arith, marks, first, second, commas, given, least, callee_heavy f i h)
 
 pub calls_lighter : CallsLighter
-calls_lighter s n w r = falls_by (Expr s) n w _ _ r.shape r.written (call_falls s r.name r.is_spread r.a r.p r.q r.others)
+calls_lighter s n w r = falls_by (Expr s) n w _ _ r.shape r.written (call_falls s r.callee r.plain r.idle r.is_spread r.a r.p r.q r.others)

@@ -261,7 +261,7 @@ module _ (strict : Bool) where
     held_fits n w (inr (inr (inr (inr (inr (inr r)))))) = for_choice n w _ _ _ r.shape (λ x y z. subst Fits (sym r.written) (pair_fits r.a r.b x y))
 
     called_fits : (n w : Tree) → Row44 n w → Here n → Here w
-    called_fits n w r = for_choice n w _ _ _ r.shape (λ x y z. subst Fits (sym r.written) (calls_fit strict r.name r.is_spread r.a r.p r.q r.others r.first r.second x y z))
+    called_fits n w r = for_choice n w _ _ _ r.shape (λ x y z. subst Fits (sym r.written) (calls_fit strict r.callee r.is_spread r.a r.p r.q r.others r.first r.second x y z))
 
     member_fits : (q : Seat) (n w : Tree) → Row45Indexed q n w → Here n → Here w
     member_fits q n w r = for_choice n w _ _ _ r.shape (λ x y z. subst Fits (sym r.written) (indexed_fit strict (computed_member (identifier r.name) r.key) r.a r.b r.c x y z))
@@ -337,7 +337,7 @@ held_choosing n w (inr (inr (inr (inr (inr (inl r)))))) = record { a = r.a; b = 
 held_choosing n w (inr (inr (inr (inr (inr (inr r)))))) = record { a = r.a; b = r.b; c = r.b; read = r.shape; number = ap is_not_positive_number r.written }
 
 called_choosing : (n w : Tree) → Row44 n w → Choosing n w
-called_choosing n w r = record { a = r.a; b = call false (identifier r.name) (argument r.is_spread r.p ▸ r.others); c = call false (identifier r.name) (argument r.is_spread r.q ▸ r.others); read = r.shape; number = ap is_not_positive_number r.written }
+called_choosing n w r = record { a = r.a; b = call false r.callee (argument r.is_spread r.p ▸ r.others); c = call false r.callee (argument r.is_spread r.q ▸ r.others); read = r.shape; number = ap is_not_positive_number r.written }
 
 -- ---- wherever rows are made
 

@@ -110,9 +110,12 @@ mod ForRowKept
 mod ForPartMeaning
 mod ForPartKept
 mod ChainEnds
+mod ChainRest
 mod ChainEndKept
 mod ChoiceItems
 mod ChoiceFree
+mod IdleCallees
+mod IdleWeights
 pub mod ChoiceWeights
 pub mod ChoiceCalls
 pub mod ChoiceIndexed

@@ -4,12 +4,11 @@ use Rattle.std.specs.Prelude.{◌≡◌, ◌⊎◌, Bool, true, false, not, ◌&
 use Rattle.mini_model.specs.declared.seat.Seat.{Seat}
 use Rattle.mini_model.specs.declared.shape.Shape.{Shape}
 use Rattle.mini_model.specs.declared.shape.Shape.TheVariants as shape
-use Rattle.mini_model.specs.Tree.{Tree, shape_of, null_literal}
+use Rattle.mini_model.specs.Tree.{Tree, shape_of}
 use Rattle.mini_terms.specs.Folds.{is_known}
 use Rattle.mini_terms.specs.Kind.{is_nullish_kind, kind}
-use Rattle.mini_terms.specs.Parts.{is_link, leaves_nothing}
+use Rattle.mini_terms.specs.Parts.{is_link}
 use Rattle.mini_terms.specs.Reading.{is_plain_part, stands_by}
-use Rattle.mini_rows.specs.Spellings.{IsUndefined, void_zero}
 use Rattle.mini_rows.specs.Chains.{is_calm, Link, linked, is_calm_link, chain}
 
 -- each value of it is known to be neither undefined nor null
@@ -79,22 +78,6 @@ pub record Row11 (s : Seat) (n w : Tree) : Type 0 where
   pub called : s.new_callee ≡ false
   pub shape : n ≡ chain (links_over others (linked true link base))
   pub written : w ≡ chain_if (has_mark others) (links_over others (linked false link base))
-
--- `null`, `void 0`, or `undefined`, which no scope declares
-abbrev pub IsNothing : Tree → Type 0
-IsNothing t = (t ≡ null_literal) ⊎ IsUndefined t
-
--- 10: `null?.a.b` and `undefined?.a` become `void 0`, since the chain ends at its first `?.`; where what goes leaves nothing behind
-pub record Row10 (n w : Tree) : Type 0 where
-  pub others : List Marked
-  pub link : Link
-  pub base : Tree
-  pub known : IsNothing base
-  pub calm : is_calm_link link ≡ true
-  pub calm_others : are_calm_over others ≡ true
-  pub dropped : leaves_nothing (links_over others (linked true link base)) ≡ true
-  pub shape : n ≡ chain (links_over others (linked true link base))
-  pub written : w ≡ void_zero
 
 abbrev pub ChainRow : Seat → Tree → Tree → Type 0
 ChainRow s n w = Row64 n w ⊎ Row11 s n w

@@ -19,11 +19,12 @@ use Rattle.mini_model.specs.Paths.{append}
 use Rattle.mini_model.specs.Weight.{is_parenthesized, weight}
 use Rattle.mini_node.specs.Kinds.{static_member, computed_member}
 use Rattle.mini_terms.specs.Folds.{is_effect_free, goes_on}
-use Rattle.mini_terms.specs.Reading.{is_item}
+use Rattle.mini_terms.specs.Reading.{is_item, is_plain_part}
 use Rattle.mini_rows.specs.Lists.{sequence}
 use Rattle.mini_rows.specs.Spellings.{IsUndefined, binary, text, assignment}
 use Rattle.mini_rows.specs.Chains.{Row46Chain}
-use Rattle.mini_rows.specs.ChainLinks.{ChainRow, Row10}
+use Rattle.mini_rows.specs.ChainLinks.{ChainRow}
+use Rattle.mini_rows.specs.ChainEnds.{EndRow}
 
 -- Reading definitions
 
@@ -361,21 +362,22 @@ abbrev pub argument : Bool → Tree → Tree
 argument false p = p
 argument true p = spread p
 
--- 44: `a ? f(p, r) : f(q, r)` becomes `f(a ? p : q, r)`, and `a ? f(...p, r) : f(...q, r)` becomes `f(...a ? p : q, r)`, where a scope declares
--- f, which is a name, and a has no effect; r may be of any number of arguments, and p and q are expressions
+-- 44: `a ? f(p, r) : f(q, r)` becomes `f(a ? p : q, r)`, and `a ? f(...p, r) : f(...q, r)` becomes `f(...a ? p : q, r)`, where neither a nor f has
+-- an effect, so that f is the same function before a and after it; r may be of any number of arguments, and f, p and q are expressions
 pub record Row44 (n w : Tree) : Type 0 where
   pub a : Tree
-  pub name : Name
+  pub callee : Tree
   pub is_spread : Bool
   pub p : Tree
   pub q : Tree
   pub others : Trees
-  pub declared : is_none name.symbol ≡ false
+  pub plain : is_plain_part callee ≡ true
+  pub idle : is_effect_free callee ≡ true
   pub effect_free : is_effect_free a ≡ true
   pub first : is_spread || is_item p ≡ true
   pub second : is_spread || is_item q ≡ true
-  pub shape : n ≡ conditional a (call false (identifier name) (argument is_spread p ▸ others)) (call false (identifier name) (argument is_spread q ▸ others))
-  pub written : w ≡ call false (identifier name) (argument is_spread (conditional a p q) ▸ others)
+  pub shape : n ≡ conditional a (call false callee (argument is_spread p ▸ others)) (call false callee (argument is_spread q ▸ others))
+  pub written : w ≡ call false callee (argument is_spread (conditional a p q) ▸ others)
 
 -- 13, and 15 of `??`: after a left side that lets the right one be evaluated, whatever it does besides, both are in order:
 -- `(x = []) && b` becomes `x = [], b`, and `void f() ?? b` becomes `void f(), b`
@@ -416,7 +418,7 @@ HeldRow n w = Row42And n w ⊎ (Row42Or n w ⊎ (Row43Or n w ⊎ (Row43And n w �
 
 -- a row of choices reads n as w at this place
 abbrev pub ChoiceRow : Position → Tree → Tree → Type 0
-ChoiceRow (Expr s) n w = LighterRow s n w ⊎ (OwnRow n w ⊎ (HeldRow n w ⊎ (Row46Chain s n w ⊎ (Row44 n w ⊎ (ChainRow s n w ⊎ (Row10 n w ⊎ (Row13Both n w ⊎ Row45Indexed s n w)))))))
+ChoiceRow (Expr s) n w = LighterRow s n w ⊎ (OwnRow n w ⊎ (HeldRow n w ⊎ (Row46Chain s n w ⊎ (Row44 n w ⊎ (ChainRow s n w ⊎ (EndRow n w ⊎ (Row13Both n w ⊎ Row45Indexed s n w)))))))
 ChoiceRow _ n w = ⊥
 
 -- what it writes, where it weighs less

@@ -14,6 +14,7 @@ pub mod Arranged
 pub mod Redex
 pub mod Chains
 pub mod ChainLinks
+pub mod ChainEnds
 pub mod Choices
 pub mod Decrements
 pub mod ForParts

@@ -1,224 +1,33 @@
-//! Rows 10, 11 and 64, of optional chains by what stands before a `?.` of theirs: `(a?.b)?.c` becomes `a?.b?.c`, and `[1]?.length`
-//! becomes `[1].length`, which is lighter in every seat; `null?.a` and `undefined?.a` become `void 0`, where that is lighter.
+//! Row 10, of optional chains over what is known to be null or undefined: `null?.a` becomes `void 0`, and `(void f())?.a.b.c.d` becomes
+//! `void f(), void 0`, where that is lighter; and rows 11 and 64.
 
-ghost use Rattle.std.specs.Prelude.{◌≡◌, [], true, is_some, unwrap_or, OnOk, IfOk};
-ghost use Rattle.mini_model.specs.Tree.{children, count, node as tree, none, ◌▸◌, shape_of};
+ghost use Rattle.std.specs.Prelude.{◌≡◌, true, is_some, unwrap_or, OnOk, IfOk};
+ghost use Rattle.mini_model.specs.Tree.{children, count};
+ghost use Rattle.mini_model.specs.Weight.{capped, weight};
 ghost use Rattle.mini_node.specs.Children.{part};
-ghost use Rattle.mini_terms.specs.Parts.{is_link as is_link_shape};
-ghost use Rattle.mini_rows.specs.ChainLinks.{is_there as is_it_there, is_lone as is_it_lone, chain_if};
+ghost use Rattle.mini_rows.specs.ChainEnds.{is_nothing as is_it_nothing};
 ghost use Rattle.mini_rows.specs.Spellings.{void_zero as void_zero_of};
-ghost use Rattle.mini_choices.specs.FoldChainExpr.{is_chain as is_it_chain, ends_none as ends_it_none, is_step as is_it_step, is_marked as is_it_marked, link_shape as shape_of_link, relinked as relinked_of, holds_link as holds_it_link, is_value as is_it_value, folds_here as folds_it_here, here, outcome as outcome_of, folded as folded_of, folded_written, is_nothing as is_it_nothing, ends_at_once as ends_it_at_once, may_end as may_it_end, written};
+ghost use Rattle.mini_choices.specs.FoldChainExpr.{ends_at_once as ends_it_at_once, base_of, links_leave_nothing as leave_its_links_nothing, ends_idly as ends_it_idly, may_end as may_it_end, acts as acts_it, ends_after as ends_it_after, may_end_after as may_it_end_after, base_then as base_then_of, after_written, written};
 
-use crate::forms::is_undefined;
-use crate::rewrites::inject_optional_chaining::{are_calm, is_calm, is_word};
-use mini_model::{LogicalOperator, OutOfMemory, Seat, Shape, UnaryOperator};
-use mini_node::{
-    Node, is_listed, is_null, numeric_literal, of_one, of_two, one, taken, two, unary,
-};
-use mini_terms::{is_plain_part, leaves_nothing, stands, stops};
+use crate::rewrites::chain_links::{fold_links, is_chain, is_marked, is_step};
+use crate::rewrites::inject_optional_chaining::is_calm;
+use crate::rewrites::minimize_held_branches::pair;
+use crate::weights::pair_weight;
+use mini_model::{LogicalOperator, OutOfMemory, Position, Seat, UnaryOperator};
+use mini_node::{Node, discard, numeric_literal, one, taken, two, unary};
+use mini_terms::{goes_on, has_no_effect, leaves_nothing, stands};
 use mini_tree::expr_weight;
 use std::alloc::Global;
 
-fn is_chain(node: &Node) -> bool
-    ensures kind { result ≡ is_it_chain node.now }
-    ensures parts { result ≡ true → count (children node.now) ≡ 1 }
-{
-    match node.shape() {
-        Shape::ChainExpression => node.is_bare(1),
-        _ => false,
-    }
-}
-
-// Of a link with this key or these arguments, whether they end no chain.
-fn ends_none(shape: &Shape, key: &Node) -> bool
-    ensures { result ≡ ends_it_none shape.now key.now }
-{
-    match shape {
-        Shape::StaticMemberExpression(_) => is_word(key),
-        Shape::ComputedMemberExpression(_) => is_calm(key),
-        Shape::CallExpression(_) => is_listed(key) && are_calm(key.children()),
-        _ => false,
-    }
-}
-
-// `a.k`, `a[k]` or `a(b, c)`, optional or not, whose key or arguments end no chain.
-fn is_step(node: &Node) -> bool
-    ensures kind { result ≡ is_it_step node.now }
-    ensures parts { result ≡ true → count (children node.now) ≡ 2 }
-{
-    node.is_bare(2) && ends_none(node.shape(), node.child(1))
-}
-
-// An optional link.
-fn is_marked(node: &Node) -> bool
-    ensures { result ≡ is_it_marked (shape_of node.now) }
-{
-    match node.shape() {
-        Shape::StaticMemberExpression(is_optional) => *is_optional,
-        Shape::ComputedMemberExpression(is_optional) => *is_optional,
-        Shape::CallExpression(is_optional) => *is_optional,
-        _ => false,
-    }
-}
-
-// A member or a call.
-fn is_link(node: &Node) -> bool
-    ensures { result ≡ is_link_shape (shape_of node.now) }
-{
-    matches!(
-        node.shape(),
-        Shape::CallExpression(_)
-            | Shape::StaticMemberExpression(_)
-            | Shape::ComputedMemberExpression(_)
-            | Shape::PrivateFieldExpression(_)
-    )
-}
-
-// A chain of one.
-fn holds_link(node: &Node) -> bool
-    ensures kind { result ≡ holds_it_link node.now }
-    ensures parts { result ≡ true → count (children node.now) ≡ 1 }
-{
-    is_chain(node) && is_link(node.child(0))
-}
-
-// Whether each value of it is known to be neither undefined nor null.
-fn is_there(node: &Node) -> bool
-    ensures { result ≡ is_it_there node.now }
-{
-    stops(LogicalOperator::Coalesce, node)
-}
-
-// What is called without a `this`: what is read by its value alone, a function, a class or a BigInt.
-fn is_lone(node: &Node) -> bool
-    ensures { result ≡ is_it_lone node.now }
-{
-    match node.shape() {
-        Shape::Function(false, _, _) | Shape::Class(false) | Shape::BigIntLiteral(_) => true,
-        _ => stands(node),
-    }
-}
-
-// A value that is there, and is called without a `this`.
-fn is_value(node: &Node) -> bool
-    ensures { result ≡ is_it_value node.now }
-{
-    is_there(node) && is_plain_part(node) && is_lone(node) && is_calm(node)
-}
-
-// An optional link over a chain, or, where its mark may go, over a value that is there.
-fn folds_here(may_close: bool, node: &Node) -> bool
-    requires { count (children node.now) ≡ 2 }
-    ensures { result ≡ folds_it_here may_close node.now }
-{
-    is_marked(node) && (holds_link(node.child(0)) || (may_close && is_value(node.child(0))))
-}
-
-// The outermost such link among links, if there is one: whether a link in the chain stays optional.
-#[tactic(auto, using(crate::proofs::ChainLinks::none_out, crate::proofs::ChainLinks::here_out, crate::proofs::ChainLinks::below_out))]
-fn outcome(may_close: bool, node: &Node) -> Option<bool>
-    ensures { result ≡ outcome_of may_close node.now }
-{
-    if !is_step(node) {
-        return None;
-    }
-    if folds_here(may_close, node) {
-        return Some(holds_link(node.child(0)));
-    }
-    match outcome(may_close, node.child(0)) {
-        Some(stays) => Some(is_marked(node) || stays),
-        None => None,
-    }
-}
-
-// The shape of a link, optional or not.
-fn link_shape(is_optional: bool, link: &Node) -> Shape
-    ensures { result ≡ shape_of_link is_optional (shape_of link.now) }
-{
-    match link.shape() {
-        Shape::CallExpression(_) => Shape::CallExpression(is_optional),
-        Shape::StaticMemberExpression(_) => Shape::StaticMemberExpression(is_optional),
-        _ => Shape::ComputedMemberExpression(is_optional),
-    }
-}
-
-// A link of this shape.
-fn relinked(alloc: Global, shape: Shape, before: Node, key: Node) -> Result<Node, OutOfMemory>
-    ensures { IfOk result (λ w. w ≡ relinked_of shape before key) }
-{
-    Ok(Node::new(shape, of_two(alloc, before, key)?))
-}
-
-// Over a chain it stays optional, and the chain goes; over a value its mark goes.
-fn folded_here(alloc: Global, node: Node) -> Result<Node, OutOfMemory>
-    requires { count (children node) ≡ 2 }
-    ensures { IfOk result (λ w. w ≡ here node) }
-{
-    let stays = holds_link(node.child(0));
-    let shape = link_shape(stays, &node);
-    let (before, key) = two(node);
-    if stays {
-        relinked(alloc, shape, one(before), key)
-    } else {
-        relinked(alloc, shape, before, key)
-    }
-}
-
-// The links with it folded.
-#[tactic(auto, using(crate::proofs::ChainLinks::none_folds, crate::proofs::ChainLinks::here_folds, crate::proofs::ChainLinks::below_folds))]
-fn folded(alloc: Global, may_close: bool, node: Node) -> Result<Node, OutOfMemory>
-    ensures { IfOk result (λ w. w ≡ folded_of may_close node) }
-{
-    if !is_step(&node) {
-        return Ok(node);
-    }
-    if folds_here(may_close, &node) {
-        return folded_here(alloc, node);
-    }
-    let shape = link_shape(is_marked(&node), &node);
-    let (before, key) = two(node);
-    let other = folded(alloc, may_close, before)?;
-    relinked(alloc, shape, other, key)
-}
-
-// A chain of these links, as long as one is optional.
-fn wrapped(alloc: Global, stays: bool, links: Node) -> Result<Node, OutOfMemory>
-    ensures { IfOk result (λ w. w ≡ chain_if stays links) }
-{
-    if stays {
-        return Ok(Node::new(Shape::ChainExpression, of_one(alloc, links)?));
-    }
-    Ok(links)
-}
-
-// `(a?.b)?.c` becomes `a?.b?.c`, and `[1]?.length` becomes `[1].length`.
-fn fold_links(alloc: Global, node: &mut Node, seat: Seat) -> Result<bool, OutOfMemory>
-    ensures tree { OnOk result (node.new ≡ unwrap_or (folded_written seat node.old) node.old) }
-    ensures said { IfOk result (λ changed. changed ≡ is_some (folded_written seat node.old)) }
-{
-    if !is_chain(node) {
-        return Ok(false);
-    }
-    let may_close = !seat.new_callee;
-    match outcome(may_close, node.child(0)) {
-        Some(stays) => {
-            let links = folded(alloc, may_close, one(taken(alloc, node)))?;
-            *node = wrapped(alloc, stays, links)?;
-            Ok(true)
-        }
-        None => Ok(false),
-    }
-}
-
-// `null`, `void 0`, or `undefined`, which no scope declares.
+// Known to be null or undefined.
 fn is_nothing(node: &Node) -> bool
     ensures { result ≡ is_it_nothing node.now }
 {
-    is_null(node) || is_undefined(node)
+    goes_on(LogicalOperator::Coalesce, node)
 }
 
 // One of the links is optional over that.
-#[tactic(auto, using(crate::proofs::ChainLinks::none_ends, crate::proofs::ChainLinks::below_ends))]
+#[tactic(auto, using(crate::proofs::ChainEnds::none_ends, crate::proofs::ChainEnds::below_ends))]
 fn ends_at_once(node: &Node) -> bool
     ensures { result ≡ ends_it_at_once node.now }
 {
@@ -229,11 +38,73 @@ fn ends_at_once(node: &Node) -> bool
     (is_marked(node) && is_nothing(before)) || ends_at_once(before)
 }
 
-// Of a chain that ends at once, nothing is left behind.
+// What stands before the links.
+#[tactic(auto, using(crate::proofs::ChainEnds::none_before, crate::proofs::ChainEnds::below_before))]
+fn base(node: &Node) -> &Node
+    ensures { result.now ≡ base_of node.now }
+{
+    if !is_step(node) {
+        return node;
+    }
+    base(node.child(0))
+}
+
+// The same, taken out of them.
+#[tactic(auto, using(crate::proofs::ChainEnds::none_before, crate::proofs::ChainEnds::below_before))]
+fn taken_base(node: Node) -> Node
+    ensures { result ≡ base_of node }
+{
+    if !is_step(&node) {
+        return node;
+    }
+    let (before, key) = two(node);
+    discard(key);
+    taken_base(before)
+}
+
+// Of the names, keys and arguments of the links nothing is left behind.
+#[tactic(auto, using(crate::proofs::ChainEnds::none_leave, crate::proofs::ChainEnds::below_leave))]
+fn links_leave_nothing(node: &Node) -> bool
+    ensures { result ≡ leave_its_links_nothing node.now }
+{
+    if !is_step(node) {
+        return true;
+    }
+    leaves_nothing(node.child(1)) && links_leave_nothing(node.child(0))
+}
+
+// Of links that end at once, over what has no effect, nothing is left behind.
+fn ends_idly(node: &Node) -> bool
+    ensures { result ≡ ends_it_idly node.now }
+{
+    ends_at_once(node) && has_no_effect(base(node)) && leaves_nothing(node)
+}
+
 fn may_end(node: &Node) -> bool
     ensures { result ≡ may_it_end node.now }
 {
-    is_chain(node) && ends_at_once(node.child(0)) && leaves_nothing(node.child(0))
+    is_chain(node) && ends_idly(node.child(0))
+}
+
+// It has an effect, is read by its value alone, and ends no chain.
+fn acts(node: &Node) -> bool
+    ensures { result ≡ acts_it node.now }
+{
+    !has_no_effect(node) && stands(node) && is_calm(node)
+}
+
+// Of links that end at once, over what has an effect, that alone is left.
+fn ends_after(node: &Node) -> bool
+    ensures { result ≡ ends_it_after node.now }
+{
+    ends_at_once(node) && acts(base(node)) && links_leave_nothing(node)
+}
+
+fn may_end_after(node: &Node) -> bool
+    ensures kind { result ≡ may_it_end_after node.now }
+    ensures parts { result ≡ true → count (children node.now) ≡ 1 }
+{
+    is_chain(node) && ends_after(node.child(0))
 }
 
 fn void_zero(alloc: Global) -> Result<Node, OutOfMemory>
@@ -242,9 +113,40 @@ fn void_zero(alloc: Global) -> Result<Node, OutOfMemory>
     unary(alloc, UnaryOperator::Void, numeric_literal(alloc, 0))
 }
 
-/// `(a?.b)?.c` becomes `a?.b?.c`; `[1]?.length` becomes `[1].length`, where what stands before `?.` is known to be neither undefined nor
-/// null; and `null?.a` becomes `void 0`, where that is lighter; whatever links stand outside. The answer says whether it did; the only
-/// error is that memory runs out, and then the expression is fit only to be dropped.
+// `void f(), void 0`
+fn base_then(alloc: Global, node: Node) -> Result<Node, OutOfMemory>
+    ensures { IfOk result (λ w. w ≡ base_then_of node) }
+{
+    let first = taken_base(one(node));
+    let last = void_zero(alloc)?;
+    pair(alloc, first, last)
+}
+
+// The weight of that.
+fn weight_then(alloc: Global, node: &Node, seat: Seat) -> Result<u64, OutOfMemory>
+    requires { count (children node.now) ≡ 1 }
+    ensures { IfOk result (λ w. w ≡ capped (weight (Position.Expr seat) (base_then_of node.now))) }
+{
+    let last = void_zero(alloc)?;
+    Ok(pair_weight(base(node.child(0)), &last, seat))
+}
+
+// `(void f())?.a.b.c.d` becomes `void f(), void 0`.
+fn end_after(alloc: Global, node: &mut Node, seat: Seat) -> Result<bool, OutOfMemory>
+    ensures tree { OnOk result (node.new ≡ unwrap_or (after_written seat node.old) node.old) }
+    ensures said { IfOk result (λ changed. changed ≡ is_some (after_written seat node.old)) }
+{
+    if may_end_after(node) && weight_then(alloc, node, seat)? < expr_weight(node, seat) {
+        *node = base_then(alloc, taken(alloc, node))?;
+        return Ok(true);
+    }
+    fold_links(alloc, node, seat)
+}
+
+/// `null?.a` becomes `void 0`, where what stands before `?.` is known to be null or undefined, and where it has an effect, it stays:
+/// `(void f())?.a.b.c.d` becomes `void f(), void 0`, each where it is lighter; `(a?.b)?.c` becomes `a?.b?.c`; and `[1]?.length` becomes
+/// `[1].length`, where what stands before `?.` is known to be neither; whatever links stand outside. The answer says whether it did; the
+/// only error is that memory runs out, and then the expression is fit only to be dropped.
 pub fn fold_chain_expr(alloc: Global, node: &mut Node, seat: Seat) -> Result<bool, OutOfMemory>
     ensures tree { OnOk result (node.new ≡ unwrap_or (written seat node.old) node.old) }
     ensures said { IfOk result (λ changed. changed ≡ is_some (written seat node.old)) }
@@ -256,5 +158,5 @@ pub fn fold_chain_expr(alloc: Global, node: &mut Node, seat: Seat) -> Result<boo
             return Ok(true);
         }
     }
-    fold_links(alloc, node, seat)
+    end_after(alloc, node, seat)
 }

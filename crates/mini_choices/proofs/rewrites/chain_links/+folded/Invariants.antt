@@ -1,5 +1,5 @@
 use Rattle.mini_model.specs.Tree.{node_count}
-use Rattle.mini_choices.proofs.rewrites.fold_chain_expr.+folded.Given as goal
+use Rattle.mini_choices.proofs.rewrites.chain_links.+folded.Given as goal
 
 abbrev pub decreases-folded : goal.decreases-folded
 decreases-folded l = node_count l.node
