@@ -43,14 +43,15 @@ use Rattle.mini_kept.proofs.InOrder.{in_order}
 use Rattle.mini_kept.proofs.ShownFrames.{kept_shown}
 use Rattle.mini_kept.proofs.WithoutLists as without
 use Rattle.mini_kept.proofs.WithoutLists.{from_kept}
-use Rattle.mini_rows.specs.Unused.{resolved, statements, arrow_with, ArrowBodyRow}
+use Rattle.mini_rows.specs.Unused.{resolved, statements, arrow_with}
 use Rattle.mini_rows.proofs.ArrangedBodies.{quiet}
 use Rattle.mini_rows.proofs.FunctionBodyKept.{arrow_less, arrow_keeps, arrow_fixed, frames_behind, bodies_behind, arrow_declares}
+use Rattle.mini_rows.proofs.HeldStretches.{ArrowStretch}
 use Rattle.mini_rows.proofs.ListShapes.{append_fits, both_fit}
 use Rattle.mini_rows.proofs.UnusedKept.{all_append}
 use Rattle.mini_rows.proofs.UnusedMeaning.{statements_same}
 use Rattle.mini_rows.proofs.UnusedNames.{all_avoided, all_unmentioned}
-use Rattle.mini_rows.proofs.UnusedStretches.{item_in, body_item, Stretch, row_stretch}
+use Rattle.mini_rows.proofs.UnusedStretches.{item_in, body_item, Stretch}
 
 -- ---- it does the same
 
@@ -223,9 +224,9 @@ module _ (W : VariableSet) (s : Seat) (ds : List (List ℕ)) (number : ℕ) (ps 
     declared_there = arrow_declares (listed ps) x t.before t.after t.d t.w t.loses.leaves t.loses.declares t.outside t.earlier t.later ds number;
   }
 
-instance : (W : VariableSet) (s : Seat) (n w : Tree) → ArrowBodyRow W n w → Instance W (Expr s) n w
+instance : (W : VariableSet) (s : Seat) (n w : Tree) → ArrowStretch W n w → Instance W (Expr s) n w
 instance W s n w r =
-    let t = row_stretch W (listed r.parameters) r.before r.after refl r.row in
+    let t = r.there in
     let first = r.shape ∙ ap (arrow_with r.directives r.number r.parameters) t.read_is in
     let second = r.written ∙ ap (arrow_with r.directives r.number r.parameters) t.written_is in
     subst (λ v. Instance W (Expr s) v w) (sym first)
@@ -235,21 +236,21 @@ instance W s n w r =
 
 -- of an expression
 abbrev pub OfArrow : VariableSet → Position → Tree → Tree → Type 0
-OfArrow W (Expr s) n w = ArrowBodyRow W n w
+OfArrow W (Expr s) n w = ArrowStretch W n w
 OfArrow W p n w = ⊥
 
 -- whatever is told by the shape
-shaped : {W : VariableSet} (P : Tree → Tree → Type 0) → ((ds : List (List ℕ)) (k : ℕ) (ps a b : Trees) → P (arrow_with ds k ps a) (arrow_with ds k ps b)) → (n w : Tree) → ArrowBodyRow W n w → P n w
+shaped : {W : VariableSet} (P : Tree → Tree → Type 0) → ((ds : List (List ℕ)) (k : ℕ) (ps a b : Trees) → P (arrow_with ds k ps a) (arrow_with ds k ps b)) → (n w : Tree) → ArrowStretch W n w → P n w
 shaped P f n w r = subst (λ v. P v w) (sym r.shape) (subst (P (arrow_with r.directives r.number r.parameters r.before)) (sym r.written) (f r.directives r.number r.parameters r.before r.after))
 
-stands : (W : VariableSet) (n w : Tree) → ArrowBodyRow W n w → (strict : Bool) (s : Slot) → fits strict s n ≡ true → TakesExpression s × (fits strict s w ≡ true)
+stands : (W : VariableSet) (n w : Tree) → ArrowStretch W n w → (strict : Bool) (s : Slot) → fits strict s n ≡ true → TakesExpression s × (fits strict s w ≡ true)
 stands W n w r strict s e =
-    let t = row_stretch W (listed r.parameters) r.before r.after refl r.row in
+    let t = r.there in
     let (takes, f) = in_slot r.directives r.number r.parameters r.before r.after (list_fits (listed r.parameters) r.before r.after t in_body) strict s (sym (ap (fits strict s) r.shape) ∙ e) in
     (takes, ap (fits strict s) r.written ∙ f)
 
 -- whichever place it is
-at_arrow : {W : VariableSet} (P : Position → Tree → Tree → Type 0) → ((s : Seat) (n w : Tree) → ArrowBodyRow W n w → P (Expr s) n w) → (p : Position) (n w : Tree) → OfArrow W p n w → P p n w
+at_arrow : {W : VariableSet} (P : Position → Tree → Tree → Type 0) → ((s : Seat) (n w : Tree) → ArrowStretch W n w → P (Expr s) n w) → (p : Position) (n w : Tree) → OfArrow W p n w → P p n w
 at_arrow P f (Expr s) n w r = f s n w r
 at_arrow P f p n w r = absurd r
 

@@ -38,7 +38,7 @@ use Rattle.mini_kept.proofs.Loosely.{loose_join, loose_narrowed, loose_wider}
 use Rattle.mini_kept.proofs.ShownFrames.{kept_shown}
 use Rattle.mini_kept.proofs.WithoutLists as without
 use Rattle.mini_kept.proofs.WithoutLists.{nothing_part, from_kept}
-use Rattle.mini_rows.specs.Unused.{resolved, names, any_names, statements, function_with, FunctionBodyRow, UnusedRow, UnusedContracts, UnusedAreLawful}
+use Rattle.mini_rows.specs.Unused.{resolved, names, any_names, statements, function_with, UnusedRow, UnusedContracts, UnusedAreLawful}
 use Rattle.mini_rows.proofs.ArrangedBodies.{quiet}
 use Rattle.mini_rows.proofs.ArrowBodyLawful.{Instance, list_fits, none_mention, statements_run, OfArrow, arrows_loose}
 use Rattle.mini_rows.proofs.FunctionBodyKept.{function_less, function_keeps, function_fixed, statements_frames, function_frames, function_bodies, function_declares}
@@ -48,7 +48,8 @@ use Rattle.mini_rows.proofs.StaticBlockLawful.{OfStaticBlock, static_blocks_loos
 use Rattle.mini_rows.proofs.SwitchLawful.{OfSwitch, switches_loose}
 use Rattle.mini_rows.proofs.UnusedLawful.{OfBlock, blocks_loose}
 use Rattle.mini_rows.proofs.UnusedNames.{or_parts}
-use Rattle.mini_rows.proofs.UnusedStretches.{body_item, Stretch, row_stretch}
+use Rattle.mini_rows.proofs.UnusedStretches.{body_item, Stretch}
+use Rattle.mini_rows.proofs.HeldStretches.{FunctionStretch, arrow_stretch, function_stretch, module_stretch, static_stretch}
 
 -- ---- it does the same
 
@@ -224,12 +225,12 @@ module _ (W : VariableSet) (p : Position) (d g : Bool) (ds : List (List ℕ)) (n
 
 -- of a row
 
-module _ (W : VariableSet) (n w : Tree) (r : FunctionBodyRow W n w) where
+module _ (W : VariableSet) (n w : Tree) (r : FunctionStretch W n w) where
   abbrev with_statements : Trees → Tree
   with_statements = function_with r.is_declared r.is_generator r.directives r.number r.name r.parameters
 
   there : Stretch W (listed (r.name ▸ r.parameters)) r.before r.after
-  there = row_stretch W (listed (r.name ▸ r.parameters)) r.before r.after refl r.row
+  there = r.there
 
   instance : (p : Position) → Instance W p n w
   instance p =
@@ -279,8 +280,8 @@ is_function_place Method = true
 is_function_place Elsewhere = true
 is_function_place p = false
 
-abbrev OfFunction : VariableSet → Position → Tree → Tree → Type 0
-OfFunction W p n w = (is_function_place p ≡ true) × FunctionBodyRow W n w
+abbrev pub OfFunction : VariableSet → Position → Tree → Tree → Type 0
+OfFunction W p n w = (is_function_place p ≡ true) × FunctionStretch W n w
 
 pub rooted : (p : Position) → is_function_place p ≡ true → (is_rewritten_place p ≡ true) ⊎ (is_rooted_place p ≡ true)
 rooted (Stmt q) z = inl refl
@@ -327,17 +328,17 @@ functions_loose K W = record {
 -- ---- all of them
 
 -- of what holds statements and no parameters
-abbrev OfList : VariableSet → Position → Tree → Tree → Type 0
+abbrev pub OfList : VariableSet → Position → Tree → Tree → Type 0
 OfList W p n w = OfModule W p n w ⊎ OfStaticBlock W p n w
 
-abbrev OfBody : VariableSet → Position → Tree → Tree → Type 0
+abbrev pub OfBody : VariableSet → Position → Tree → Tree → Type 0
 OfBody W p n w = OfFunction W p n w ⊎ OfList W p n w
 
 -- of what holds statements and is no body
-abbrev OfInner : Position → Tree → Tree → Type 0
+abbrev pub OfInner : Position → Tree → Tree → Type 0
 OfInner p n w = OfBlock p n w ⊎ (OfSwitch p n w ⊎ OfFor p n w)
 
-abbrev OfUnused : VariableSet → Position → Tree → Tree → Type 0
+abbrev pub OfUnused : VariableSet → Position → Tree → Tree → Type 0
 OfUnused W p n w = OfInner p n w ⊎ (OfArrow W p n w ⊎ OfBody W p n w)
 
 either_holder : (W : VariableSet) (p : Position) (n w : Tree) → UnusedContracts W p n w → OfUnused W p n w
@@ -345,17 +346,20 @@ either_holder W p n w c = by p c.row
   where
     by : (p : Position) → UnusedRow W p n w → OfUnused W p n w
     by (Stmt q) (inl r) = inl (inl r)
-    by (Stmt q) (inr (inl r)) = inr (inr (inl (refl, r)))
+    by (Stmt q) (inr (inl r)) = inr (inr (inl (refl, function_stretch W n w r)))
     by (Stmt q) (inr (inr r)) = inl (inr r)
-    by (Expr s) (inl r) = inr (inl r)
-    by (Expr s) (inr r) = inr (inr (inl (refl, r)))
-    by Method r = inr (inr (inl (refl, r)))
-    by Elsewhere (inl r) = inr (inr (inl (refl, r)))
-    by Elsewhere (inr (inl r)) = inr (inr (inr (inl r)))
-    by Elsewhere (inr (inr r)) = inr (inr (inr (inr r)))
+    by (Expr s) (inl r) = inr (inl (arrow_stretch W n w r))
+    by (Expr s) (inr r) = inr (inr (inl (refl, function_stretch W n w r)))
+    by Method r = inr (inr (inl (refl, function_stretch W n w r)))
+    by Elsewhere (inl r) = inr (inr (inl (refl, function_stretch W n w r)))
+    by Elsewhere (inr (inl r)) = inr (inr (inr (inl (module_stretch W n w r))))
+    by Elsewhere (inr (inr r)) = inr (inr (inr (inr (static_stretch W n w r))))
     by p r = absurd r
 
+-- each of them
+pub held_loose : (K : Shape → Bool) (W : VariableSet) → LawfulWith K W (OfUnused W)
+held_loose K W =
+    loose_join OfInner (λ p n w. OfArrow W p n w ⊎ OfBody W p n w) K W (loose_wider OfInner K nothing W (nothing_part W) (loose_join OfBlock (λ p n w. OfSwitch p n w ⊎ OfFor p n w) K nothing (blocks_loose K) (loose_join OfSwitch OfFor K nothing (switches_loose K) (heads_loose K)))) (loose_join (OfArrow W) (OfBody W) K W (arrows_loose K W) (loose_join (OfFunction W) (OfList W) K W (functions_loose K W) (loose_join (OfModule W) (OfStaticBlock W) K W (modules_loose K W) (static_blocks_loose K W))))
+
 pub unused_loose : UnusedAreLawful
-unused_loose K W =
-    loose_narrowed (UnusedContracts W) (OfUnused W) K W (either_holder W)
-    (loose_join OfInner (λ p n w. OfArrow W p n w ⊎ OfBody W p n w) K W (loose_wider OfInner K nothing W (nothing_part W) (loose_join OfBlock (λ p n w. OfSwitch p n w ⊎ OfFor p n w) K nothing (blocks_loose K) (loose_join OfSwitch OfFor K nothing (switches_loose K) (heads_loose K)))) (loose_join (OfArrow W) (OfBody W) K W (arrows_loose K W) (loose_join (OfFunction W) (OfList W) K W (functions_loose K W) (loose_join (OfModule W) (OfStaticBlock W) K W (modules_loose K W) (static_blocks_loose K W)))))
+unused_loose K W = loose_narrowed (UnusedContracts W) (OfUnused W) K W (either_holder W) (held_loose K W)

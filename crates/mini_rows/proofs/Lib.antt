@@ -172,6 +172,7 @@ pub mod UnusedLawful
 pub mod UnusedWeights
 pub mod UnusedStretches
 pub mod FunctionBodyKept
+pub mod HeldStretches
 pub mod ArrowBodyLawful
 pub mod ModuleKept
 pub mod ModuleLawful
@@ -262,3 +263,9 @@ pub mod LexicalLoops
 pub mod LexicalMeaning
 pub mod LexicalKept
 pub mod OwnProgramLawful
+pub mod InsideStages
+pub mod InsideKept
+pub mod InsideNames
+pub mod InsideLoses
+pub mod InsideLawful
+pub mod InsideWeights

@@ -40,14 +40,15 @@ use Rattle.mini_kept.proofs.FrameSteps.{module_frames}
 use Rattle.mini_kept.proofs.ShownFrames.{kept_shown}
 use Rattle.mini_kept.proofs.WithoutLists as without
 use Rattle.mini_kept.proofs.WithoutLists.{from_kept}
-use Rattle.mini_rows.specs.Unused.{resolved, ModuleRow}
+use Rattle.mini_rows.specs.Unused.{resolved}
 use Rattle.mini_rows.proofs.ArrangedBodies.{quiet}
 use Rattle.mini_rows.proofs.ArrowBodyLawful.{Instance, list_fits, none_mention}
 use Rattle.mini_rows.proofs.ModuleKept.{module_less, module_kept, module_keeps, module_fixed, module_declares}
 use Rattle.mini_rows.proofs.UnusedKept.{list_frames, list_bodies}
 use Rattle.mini_rows.proofs.UnusedMeaning.{module_same}
 use Rattle.mini_rows.proofs.UnusedNames.{all_avoided}
-use Rattle.mini_rows.proofs.UnusedStretches.{item_in, Stretch, row_stretch}
+use Rattle.mini_rows.proofs.UnusedStretches.{item_in, Stretch}
+use Rattle.mini_rows.proofs.HeldStretches.{ModuleStretch}
 
 -- ---- where it stands
 
@@ -160,9 +161,9 @@ module _ (W : VariableSet) (ds : List (List ℕ)) (a b : Trees) (t : Stretch W (
 
 -- of a row
 
-module _ (W : VariableSet) (n w : Tree) (r : ModuleRow W n w) where
+module _ (W : VariableSet) (n w : Tree) (r : ModuleStretch W n w) where
   there : Stretch W (listed none) r.before r.after
-  there = row_stretch W (listed none) r.before r.after refl r.row
+  there = r.there
 
   first : n ≡ program true r.directives (append there.before (append there.d there.after))
   first = r.shape ∙ ap (program true r.directives) there.read_is
@@ -187,15 +188,15 @@ module _ (W : VariableSet) (n w : Tree) (r : ModuleRow W n w) where
 
 -- of a program
 abbrev pub OfModule : VariableSet → Position → Tree → Tree → Type 0
-OfModule W Elsewhere n w = ModuleRow W n w
+OfModule W Elsewhere n w = ModuleStretch W n w
 OfModule W p n w = ⊥
 
 -- whatever is told by the shape
-shaped : {W : VariableSet} (P : Tree → Tree → Type 0) → ((ds : List (List ℕ)) (a b : Trees) → P (program true ds a) (program true ds b)) → (n w : Tree) → ModuleRow W n w → P n w
+shaped : {W : VariableSet} (P : Tree → Tree → Type 0) → ((ds : List (List ℕ)) (a b : Trees) → P (program true ds a) (program true ds b)) → (n w : Tree) → ModuleStretch W n w → P n w
 shaped P f n w r = subst (λ v. P v w) (sym r.shape) (subst (P (program true r.directives r.before)) (sym r.written) (f r.directives r.before r.after))
 
 -- whichever place it is
-at_module : {W : VariableSet} (P : Position → Tree → Tree → Type 0) → ((n w : Tree) → ModuleRow W n w → P Elsewhere n w) → (p : Position) (n w : Tree) → OfModule W p n w → P p n w
+at_module : {W : VariableSet} (P : Position → Tree → Tree → Type 0) → ((n w : Tree) → ModuleStretch W n w → P Elsewhere n w) → (p : Position) (n w : Tree) → OfModule W p n w → P p n w
 at_module P f Elsewhere n w r = f n w r
 at_module P f p n w r = absurd r
 

@@ -40,14 +40,15 @@ use Rattle.mini_kept.proofs.FrameSteps.{its_number}
 use Rattle.mini_kept.proofs.ShownFrames.{kept_shown, shows_itself}
 use Rattle.mini_kept.proofs.WithoutLists as without
 use Rattle.mini_kept.proofs.WithoutLists.{from_kept}
-use Rattle.mini_rows.specs.Unused.{resolved, static_block, StaticBlockRow}
+use Rattle.mini_rows.specs.Unused.{resolved, static_block}
 use Rattle.mini_rows.proofs.ArrangedBodies.{quiet}
 use Rattle.mini_rows.proofs.ArrowBodyLawful.{Instance, list_fits, none_mention}
 use Rattle.mini_rows.proofs.StaticBlockKept.{static_less, static_kept, static_keeps, static_fixed, static_declares}
 use Rattle.mini_rows.proofs.UnusedKept.{list_frames, list_bodies}
 use Rattle.mini_rows.proofs.UnusedMeaning.{static_same}
 use Rattle.mini_rows.proofs.UnusedNames.{all_avoided}
-use Rattle.mini_rows.proofs.UnusedStretches.{body_item, Stretch, row_stretch}
+use Rattle.mini_rows.proofs.UnusedStretches.{body_item, Stretch}
+use Rattle.mini_rows.proofs.HeldStretches.{StaticStretch}
 
 -- ---- where it stands
 
@@ -173,9 +174,9 @@ module _ (W : VariableSet) (number : ℕ) (a b : Trees) (t : Stretch W (listed n
 
 -- of a row
 
-module _ (W : VariableSet) (n w : Tree) (r : StaticBlockRow W n w) where
+module _ (W : VariableSet) (n w : Tree) (r : StaticStretch W n w) where
   there : Stretch W (listed none) r.before r.after
-  there = row_stretch W (listed none) r.before r.after refl r.row
+  there = r.there
 
   instance : Instance W Elsewhere n w
   instance =
@@ -197,15 +198,15 @@ module _ (W : VariableSet) (n w : Tree) (r : StaticBlockRow W n w) where
 
 -- of what stands in a class
 abbrev pub OfStaticBlock : VariableSet → Position → Tree → Tree → Type 0
-OfStaticBlock W Elsewhere n w = StaticBlockRow W n w
+OfStaticBlock W Elsewhere n w = StaticStretch W n w
 OfStaticBlock W p n w = ⊥
 
 -- whatever is told by the shape
-shaped : {W : VariableSet} (P : Tree → Tree → Type 0) → ((k : ℕ) (a b : Trees) → P (static_block k a) (static_block k b)) → (n w : Tree) → StaticBlockRow W n w → P n w
+shaped : {W : VariableSet} (P : Tree → Tree → Type 0) → ((k : ℕ) (a b : Trees) → P (static_block k a) (static_block k b)) → (n w : Tree) → StaticStretch W n w → P n w
 shaped P f n w r = subst (λ v. P v w) (sym r.shape) (subst (P (static_block r.number r.before)) (sym r.written) (f r.number r.before r.after))
 
 -- whichever place it is
-at_class : {W : VariableSet} (P : Position → Tree → Tree → Type 0) → ((n w : Tree) → StaticBlockRow W n w → P Elsewhere n w) → (p : Position) (n w : Tree) → OfStaticBlock W p n w → P p n w
+at_class : {W : VariableSet} (P : Position → Tree → Tree → Type 0) → ((n w : Tree) → StaticStretch W n w → P Elsewhere n w) → (p : Position) (n w : Tree) → OfStaticBlock W p n w → P p n w
 at_class P f Elsewhere n w r = f n w r
 at_class P f p n w r = absurd r
 

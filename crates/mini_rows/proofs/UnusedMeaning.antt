@@ -287,7 +287,7 @@ module _ (e : Environment) (spelling : List ℕ) (k : ℕ) (z : Unseen (alone (D
     joined : (ts : Trees) → first.append before (first.append ts after) ≡ append before (append ts after)
     joined ts = same_append before (first.append ts after) ∙ ap (append before) (same_append ts after)
 
-    list_same : (t : Option Tail) → Same e D nothing (Stat t) (listed A) (listed B)
+    pub list_same : (t : Option Tail) → Same e D nothing (Stat t) (listed A) (listed B)
     list_same t = subst₂ (λ first_list second_list. Same e D nothing (Stat t) (listed first_list) (listed second_list)) (joined d) (joined w) (stretch_anywhere e D z.shared before d w after t nothing nothing avoids (no_off (hidden_all before)) (no_within _) same)
 
   only_both : (xs ys : List Variable) → only e.shared (xs ++ ys) ≡ only e.shared xs ++ only e.shared ys

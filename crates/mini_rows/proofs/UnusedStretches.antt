@@ -77,17 +77,17 @@ behind (t ▸ ts) = ts
 abbrev list_of : Tree → Trees
 list_of t = children (child_or_absent (children t) 0)
 
-record Split (p : Tree) (ts before rest : Trees) : Type 0 where
-  left : Trees
-  front : before ≡ p ▸ left
-  is : ts ≡ append left rest
+pub record Split (p : Tree) (ts before rest : Trees) : Type 0 where
+  pub left : Trees
+  pub front : before ≡ p ▸ left
+  pub is : ts ≡ append left rest
 
-split : (p : Tree) (ts before : Trees) (d : Tree) (rest : Trees) → is_listed_shape (shape_of p) ≡ true → is_listed_shape (shape_of d) ≡ false → p ▸ ts ≡ append before (d ▸ rest) → Split p ts before (d ▸ rest)
+pub split : (p : Tree) (ts before : Trees) (d : Tree) (rest : Trees) → is_listed_shape (shape_of p) ≡ true → is_listed_shape (shape_of d) ≡ false → p ▸ ts ≡ append before (d ▸ rest) → Split p ts before (d ▸ rest)
 split p ts none d rest e f g = absurd (true≢false (sym e ∙ ap (λ us. is_listed_shape (shape_of (child_or_absent us 0))) g ∙ f))
 split p ts (b ▸ left) d rest e f g = record { left = left; front = ap (λ t. t ▸ left) (sym (ap (λ us. child_or_absent us 0) g)); is = ap behind g }
 
 module _ (W : VariableSet) (p : Tree) (earlier_list later_list : Trees) (listed_there : is_listed_shape (shape_of p) ≡ true) where
-  stretch : (s : List ℕ) (k : ℕ) (before after : Trees) (d : Tree) (ds w : Trees) → is_listed_shape (shape_of d) ≡ false → Loses W s k (d ▸ ds) w → any_names (resolved s k) before ≡ false → any_names (resolved s k) after ≡ false
+  unfoldable pub stretch : (s : List ℕ) (k : ℕ) (before after : Trees) (d : Tree) (ds w : Trees) → is_listed_shape (shape_of d) ≡ false → Loses W s k (d ▸ ds) w → any_names (resolved s k) before ≡ false → any_names (resolved s k) after ≡ false
       → p ▸ earlier_list ≡ append before (d ▸ append ds after) → p ▸ later_list ≡ append before (append w after) → Stretch W p earlier_list later_list
   stretch s k before after d ds w f l earlier later a b =
       let t = split p earlier_list before d (append ds after) listed_there f a in
@@ -185,7 +185,7 @@ module _ (W : VariableSet) (K : VariableDeclarationKind) (s : List ℕ) (k : ℕ
   abbrev x : Name
   x = resolved s k
 
-  of_72 : (init : Tree) → declares_nothing init ≡ true → names x init ≡ false → Loses W s k (declared_one K x init ▸ none) (expression_statement init ▸ none)
+  pub of_72 : (init : Tree) → declares_nothing init ≡ true → names x init ≡ false → Loses W s k (declared_one K x init ▸ none) (expression_statement init ▸ none)
   of_72 init present initial =
       let d = declared_one K x init in
       let w = expression_statement init in
@@ -199,7 +199,7 @@ module _ (W : VariableSet) (K : VariableDeclarationKind) (s : List ℕ) (k : ℕ
         ported = λ rest. refl;
       }
 
-  of_72_idle : (first : Trees) (init : Tree) (last : Trees) → is_idle init ≡ true → any_names x first ≡ false → any_names x last ≡ false → Loses W s k (declared_among K x first init last ▸ none) (declared_left K (append first last) ▸ none)
+  pub of_72_idle : (first : Trees) (init : Tree) (last : Trees) → is_idle init ≡ true → any_names x first ≡ false → any_names x last ≡ false → Loses W s k (declared_among K x first init last ▸ none) (declared_left K (append first last) ▸ none)
   of_72_idle first init last idle earlier later =
       let d = declared_among K x first init last in
       let w = declared_left K (append first last) in
@@ -214,7 +214,7 @@ module _ (W : VariableSet) (K : VariableDeclarationKind) (s : List ℕ) (k : ℕ
         ported = left_ported K (append first last);
       }
 
-  of_71 : (first : Trees) (init head : Tree) → may_move init ≡ true → reads_head x head ≡ true → are_passed x init (evaluated head) ≡ true → names x init ≡ false → any_names x first ≡ false → Loses W s k (declared_among K x first init none ▸ (head ▸ none)) (declared_left K first ▸ (put_first x init head ▸ none))
+  pub of_71 : (first : Trees) (init head : Tree) → may_move init ≡ true → reads_head x head ≡ true → are_passed x init (evaluated head) ≡ true → names x init ≡ false → any_names x first ≡ false → Loses W s k (declared_among K x first init none ▸ (head ▸ none)) (declared_left K first ▸ (put_first x init head ▸ none))
   of_71 first init head moves once passed initial earlier =
       let d = declared_among K x first init none in
       let left = declared_left K first in
@@ -234,7 +234,7 @@ module _ (W : VariableSet) (K : VariableDeclarationKind) (s : List ℕ) (k : ℕ
         ported = λ rest. there.head_ported rest ∙ sym (there.put_ported rest) ∙ left_ported K first (put ▸ rest);
       }
 
-  of_next : (first : Trees) (init binds value : Tree) (last : Trees) → may_move init ≡ true → is_first x false value ≡ true → are_passed x init value ≡ true → names x binds ≡ false → names x init ≡ false → any_names x first ≡ false → any_names x last ≡ false → Loses W s k (declared_among K x first init (declarator binds value ▸ last) ▸ none) (declaration K (append first (declarator binds (put_first x init value) ▸ last)) ▸ none)
+  pub of_next : (first : Trees) (init binds value : Tree) (last : Trees) → may_move init ≡ true → is_first x false value ≡ true → are_passed x init value ≡ true → names x binds ≡ false → names x init ≡ false → any_names x first ≡ false → any_names x last ≡ false → Loses W s k (declared_among K x first init (declarator binds value ▸ last) ▸ none) (declaration K (append first (declarator binds (put_first x init value) ▸ last)) ▸ none)
   of_next first init binds value last moves once passed other initial earlier later =
       let d = declared_among K x first init (declarator binds value ▸ last) in
       let w = declaration K (append first (declarator binds (put_first x init value) ▸ last)) in
@@ -249,7 +249,7 @@ module _ (W : VariableSet) (K : VariableDeclarationKind) (s : List ℕ) (k : ℕ
         ported = λ rest. refl;
       }
 
-pub row_stretch : (W : VariableSet) (p : Tree) (earlier_list later_list : Trees) → is_listed_shape (shape_of p) ≡ true → BlockRow W (block (p ▸ earlier_list)) (block (p ▸ later_list)) → Stretch W p earlier_list later_list
+unfoldable pub row_stretch : (W : VariableSet) (p : Tree) (earlier_list later_list : Trees) → is_listed_shape (shape_of p) ≡ true → BlockRow W (block (p ▸ earlier_list)) (block (p ▸ later_list)) → Stretch W p earlier_list later_list
 row_stretch W p a b e (inl r) =
     let x = resolved r.spelling r.symbol in
     stretch W p a b e r.spelling r.symbol r.before r.after (declared_one r.kind x r.init) none (expression_statement r.init ▸ none) refl (of_72 W r.kind r.spelling r.symbol r.goes r.init r.present r.unused.initial) r.unused.earlier r.unused.later (ap list_of r.shape) (ap list_of r.written)

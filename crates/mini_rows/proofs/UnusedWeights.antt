@@ -52,13 +52,13 @@ idle_falls K x none none init = alone_falls K x init
 idle_falls K x none (t ▸ last) init = among_falls K x none (t ▸ last) init
 idle_falls K x (t ▸ first) last init = among_falls K x (t ▸ first) last init
 
-same_chooses : (K : VariableDeclarationKind) (x : Name) (first last : Trees) (init : Tree) → (outline (declared_among K x first init last)).chooses ≡ (outline (declared_left K (append first last))).chooses
+pub same_chooses : (K : VariableDeclarationKind) (x : Name) (first last : Trees) (init : Tree) → (outline (declared_among K x first init last)).chooses ≡ (outline (declared_left K (append first last))).chooses
 same_chooses K x none none init = refl
 same_chooses K x none (t ▸ last) init = refl
 same_chooses K x (t ▸ first) last init = refl
 
 -- whether a block holds one `if` with `else` alone
-same_choice : (before after : Trees) (d w : Tree) → (outline d).chooses ≡ (outline w).chooses → one_chooses (outlines (append before (d ▸ after))) ≡ one_chooses (outlines (append before (w ▸ after)))
+pub same_choice : (before after : Trees) (d w : Tree) → (outline d).chooses ≡ (outline w).chooses → one_chooses (outlines (append before (d ▸ after))) ≡ one_chooses (outlines (append before (w ▸ after)))
 same_choice none none d w h = h
 same_choice none (t ▸ after) d w h = refl
 same_choice (t ▸ none) after d w h = refl
@@ -70,7 +70,7 @@ block_falls q before after d w h less =
     let braces = ap (braces_weight q) (same_choice before after d w h) in
     omega (arith, falls, braces)
 
-block_lighter : {W : VariableSet} (q : StmtSeat) (n w : Tree) → BlockRow W n w → weight (Stmt q) w < weight (Stmt q) n
+pub block_lighter : {W : VariableSet} (q : StmtSeat) (n w : Tree) → BlockRow W n w → weight (Stmt q) w < weight (Stmt q) n
 block_lighter q n w (inl r) =
     let falls = block_falls q r.before r.after (declared_one r.kind (resolved r.spelling r.symbol) r.init) (expression_statement r.init) refl (value_falls r.kind r.spelling r.symbol r.init) in
     omega (arith, falls, ap (weight (Stmt q)) r.shape, ap (weight (Stmt q)) r.written)

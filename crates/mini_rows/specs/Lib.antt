@@ -21,6 +21,7 @@ pub mod ForParts
 pub mod Folding
 pub mod Booleans
 pub mod Unused
+pub mod Inside
 pub mod Constants
 pub mod DeMorgan
 pub mod Negations

@@ -1,0 +1,298 @@
+-- A statement without a `var` further inside: what it keeps, and that it means the same but for what that variable holds.
+use Rattle.std.specs.Prelude.{ℕ, zero, suc, ◌≤◌, ◌≡◌, refl, ◌||◌, Bool, true, false, List, [], ◌∷◌, ◌++◌, length, Option, Some, None}
+use Rattle.std.proofs.Common.{ap, ◌∙◌, sym, subst, inr, true≢false, arith}
+use Rattle.std.proofs.lemmas.List.{append-nil}
+use Rattle.mini_model.specs.declared.name.Name.{Name}
+use Rattle.mini_model.specs.declared.shape.Shape.{Shape}
+use Rattle.mini_model.specs.declared.shape.Shape.TheVariants as shape
+use Rattle.mini_model.specs.Tree.{Tree, Trees, node, none, ◌▸◌, absent, listed, count, shape_of}
+use Rattle.mini_model.specs.Paths.{append}
+use Rattle.mini_accept.specs.WellShaped.{Depth, Slot, each, fits, fill}
+use Rattle.mini_laws.specs.declared.names.Declared.TheVariants as declared
+use Rattle.mini_laws.specs.declared.names.Use.TheVariants.{Read}
+use Rattle.mini_laws.specs.Asking.{demand, list_demand, tail_demand, last_tail}
+use Rattle.mini_laws.specs.Congruence.{NoneIn, Avoids, AllAvoid, PathAvoids, demand_at}
+use Rattle.mini_laws.specs.DeclaredNames.{names_of, body_names}
+use Rattle.mini_laws.specs.Demand.{Tail, Demand, Stat}
+use Rattle.mini_laws.specs.Naming.{Facts, facts, summary}
+use Rattle.mini_laws.specs.Scoped.{Unmentioned}
+use Rattle.mini_laws.specs.Path.{Path, here, inside, join, plug}
+use Rattle.mini_laws.specs.Same.{Same}
+use Rattle.mini_laws.specs.State.{Environment}
+use Rattle.mini_laws.specs.Substitution.{alone}
+use Rattle.mini_laws.specs.Value.{Declared, VariableSet, nothing}
+use Rattle.mini_laws.proofs.Congruent.{congruent_same, weaker, no_within, no_off}
+use Rattle.mini_laws.proofs.Simulation.{within_refl}
+use Rattle.mini_kept.specs.Frames.{is_port, ports}
+use Rattle.mini_kept.specs.Without.{Permits}
+use Rattle.mini_kept.proofs.Clashes.{no_more_same, no_more_both}
+use Rattle.mini_kept.proofs.Unplaced.{as_body}
+use Rattle.mini_rows.specs.Inside.{Way, a_statement, the_statements, the_cases, a_case, a_catch, way_in, is_way}
+use Rattle.mini_rows.specs.Lists.{block}
+use Rattle.mini_rows.specs.Unused.{resolved, names, any_names, is_like_one, BlockRow}
+use Rattle.mini_rows.proofs.ListShapes.{first_fits, more_fit}
+use Rattle.mini_rows.proofs.InsideKept.{slot, Keeping, step}
+use Rattle.mini_rows.proofs.InsideNames.{VarThere, list_keeps}
+use Rattle.mini_rows.proofs.InsideStages.{Stage, Braces, Then, Else, While, Doing, For, ForIn, ForOf, Labeled, Tried, Caught, Finally, Switched, Items, Cases, Case, Handler, from, to, head, before, over, view, View, hoists}
+use Rattle.mini_rows.proofs.UnusedKept.{LeavesThere, DeclaresThere}
+use Rattle.mini_rows.proofs.UnusedMeaning.{ReadAs, ReadThere, read_alone, list_read, list_same, all_join}
+use Rattle.mini_rows.proofs.UnusedNames.{or_parts, all_avoided}
+use Rattle.mini_rows.proofs.UnusedStretches.{item_in, Loses, Stretch}
+
+-- ---- nothing beside the place mentions it
+
+joined_unnamed : (x : Name) (pre : Trees) (c : Tree) (post : Trees) → any_names x (join pre c post) ≡ false → (any_names x pre ≡ false) × (names x c ≡ false) × (any_names x post ≡ false)
+joined_unnamed x none c post e = let (a, b) = or_parts (names x c) (any_names x post) e in (refl, a, b)
+joined_unnamed x (t ▸ pre) c post e =
+    let (a, b) = or_parts (names x t) (any_names x (join pre c post)) e in
+    let (f, g, h) = joined_unnamed x pre c post b in
+    (ap (λ q. q || any_names x pre) a ∙ f, g, h)
+
+-- ---- along the way
+
+pub no_way : (p : Path) → is_way None p ≡ true → ⊥
+no_way here e = true≢false (sym e)
+no_way (inside h [] zero pre p post) e = true≢false (sym e)
+no_way (inside h [] (suc n) pre p post) e = true≢false (sym e)
+no_way (inside h (y ∷ ys) n pre p post) e = true≢false (sym e)
+
+-- a step of it
+module _ (s : List ℕ) (k : ℕ) where
+  abbrev x : Name
+  x = resolved s k
+
+  abbrev Along : Way → Path → Tree → Tree → Type 0
+  Along w p a b = is_way (Some w) p ≡ true → names x (plug p absent) ≡ false → Keeping s k the_statements a b → Keeping s k w (plug p a) (plug p b)
+
+  one_step : (w : Way) (h : Shape) (pre post : Trees) (r : Way) (c d : Tree) → way_in w h (count pre) ≡ Some r → any_names x pre ≡ false → any_names x post ≡ false → Keeping s k r c d → Keeping s k w (node h [] 0 (join pre c post)) (node h [] 0 (join pre d post))
+  one_step w h pre post r c d e f g kept =
+      let v = view w h pre r e in
+      subst (λ w. Keeping s k w (node h [] 0 (join pre c post)) (node h [] 0 (join pre d post))) v.from_is
+      (subst (λ h. Keeping s k (from v.stage) (node h [] 0 (join pre c post)) (node h [] 0 (join pre d post))) v.head_is
+      (subst (λ pre. Keeping s k (from v.stage) (node (head v.stage) [] 0 (join pre c post)) (node (head v.stage) [] 0 (join pre d post))) v.before_is
+      (step s k v.stage c d post (ap (any_names x) v.before_is ∙ f) g (subst (λ r. Keeping s k r c d) (sym v.to_is) kept))))
+
+  by_way : (w : Way) (h : Shape) (pre post : Trees) (p : Path) (c d : Tree) (r : Option Way) → way_in w h (count pre) ≡ r → any_names x pre ≡ false → any_names x post ≡ false → ((r : Way) → is_way (Some r) p ≡ true → Keeping s k r c d) → is_way r p ≡ true → Keeping s k w (node h [] 0 (join pre c post)) (node h [] 0 (join pre d post))
+  by_way w h pre post p c d None q f g kept e = absurd (no_way p e)
+  by_way w h pre post p c d (Some r) q f g kept e = one_step w h pre post r c d q f g (kept r e)
+
+  pub along : (w : Way) (p : Path) (a b : Tree) → Along w p a b
+  along the_statements here a b e f kept = kept
+  along a_statement here a b e f kept = absurd (true≢false (sym e))
+  along the_cases here a b e f kept = absurd (true≢false (sym e))
+  along a_case here a b e f kept = absurd (true≢false (sym e))
+  along a_catch here a b e f kept = absurd (true≢false (sym e))
+  along w (inside h [] zero pre p post) a b e f kept =
+      let (earlier, own, later) = joined_unnamed x pre (plug p absent) post f in
+      by_way w h pre post p (plug p a) (plug p b) (way_in w h (count pre)) refl earlier later (λ r g. along r p a b g own kept) e
+  along w (inside h [] (suc n) pre p post) a b e f kept = absurd (true≢false (sym e))
+  along w (inside h (y ∷ ys) n pre p post) a b e f kept = absurd (true≢false (sym e))
+
+  -- no node beside it mentions the variable
+
+  avoids_by : (pre post : Trees) (p : Path) (r : Option Way) → any_names x pre ≡ false → any_names x post ≡ false → ((r : Way) → is_way (Some r) p ≡ true → PathAvoids (alone (Declared k)) p) → (h : Shape) → is_way r p ≡ true → PathAvoids (alone (Declared k)) (inside h [] zero pre p post)
+  avoids_by pre post p None f g rest h e = absurd (no_way p e)
+  avoids_by pre post p (Some r) f g rest h e = (tt, all_avoided x k refl pre f, rest r e, all_avoided x k refl post g)
+
+  pub path_avoids : (w : Way) (p : Path) → is_way (Some w) p ≡ true → names x (plug p absent) ≡ false → PathAvoids (alone (Declared k)) p
+  path_avoids w here e f = tt
+  path_avoids w (inside h [] zero pre p post) e f =
+      let (earlier, own, later) = joined_unnamed x pre (plug p absent) post f in
+      avoids_by pre post p (way_in w h (count pre)) earlier later (λ r g. path_avoids r p g own) h e
+  path_avoids w (inside h [] (suc n) pre p post) e f = absurd (true≢false (sym e))
+  path_avoids w (inside h (y ∷ ys) n pre p post) e f = absurd (true≢false (sym e))
+
+-- ---- what is asked of it
+
+-- of a statement and of a list of them, that it is run
+abbrev Runs : Demand → Type 0
+Runs q = (t : Option Tail) × (q ≡ Stat t)
+
+abbrev Asked : Way → Demand → Type 0
+Asked a_statement q = Runs q
+Asked the_statements q = Runs q
+Asked w q = Unit {0}
+
+tails : (n : ℕ) (t : Option Tail) (i : ℕ) → Runs (tail_demand n t i)
+tails zero t i = (None, refl)
+tails (suc n) t zero = (last_tail n t, refl)
+tails (suc n) t (suc i) = tails n t i
+
+items_run : (n : ℕ) (q : Demand) (i : ℕ) → Runs q → Runs (list_demand n q i)
+items_run n q i (t, e) = subst (λ q. Runs (list_demand n q i)) (sym e) (tails n t i)
+
+asked : (g : Stage) (fs : List Facts) (q : Demand) → Asked (from g) q → Asked (to g) (demand (head g) fs q (count (before g)))
+asked Braces fs q (t, e) = subst (λ q. Runs (demand shape.BlockStatement fs q 0)) (sym e) (t, refl)
+asked (Then a) fs q (t, e) = subst (λ q. Runs (demand shape.IfStatement fs q 1)) (sym e) (t, refl)
+asked (Else a b) fs q (t, e) = subst (λ q. Runs (demand shape.IfStatement fs q 2)) (sym e) (t, refl)
+asked (While a) fs q r = (_, refl)
+asked Doing fs q r = (_, refl)
+asked (For a b c) fs q r = (_, refl)
+asked (ForIn a b) fs q r = (_, refl)
+asked (ForOf a b) fs q r = (_, refl)
+asked (Labeled a) fs q r = (_, refl)
+asked Tried fs q r = (_, refl)
+asked (Caught a) fs q r = tt
+asked (Finally a b) fs q r = (_, refl)
+asked (Switched a) fs q r = tt
+asked (Items pre) fs q r = items_run (length fs) q (count pre) r
+asked (Cases pre) fs q r = tt
+asked (Case a) fs q r = (_, refl)
+asked (Handler a) fs q r = (_, refl)
+
+step_asked : (w : Way) (h : Shape) (pre : Trees) (r : Way) (fs : List Facts) (q : Demand) → way_in w h (count pre) ≡ Some r → Asked w q → Asked r (demand h fs q (count pre))
+step_asked w h pre r fs q e a =
+    let v = view w h pre r e in
+    subst (λ pre. Asked r (demand h fs q (count pre))) v.before_is
+    (subst (λ h. Asked r (demand h fs q (count (before v.stage)))) v.head_is
+    (subst (λ r. Asked r (demand (head v.stage) fs q (count (before v.stage)))) v.to_is (asked v.stage fs q (subst (λ w. Asked w q) (sym v.from_is) a))))
+
+runs_by : (w : Way) (h : Shape) (pre : Trees) (p : Path) (fs : List Facts) (q : Demand) (P : Demand → Type 0) (r : Option Way) → way_in w h (count pre) ≡ r → Asked w q → ((r : Way) → is_way (Some r) p ≡ true → Asked r (demand h fs q (count pre)) → P (demand h fs q (count pre))) → is_way r p ≡ true → P (demand h fs q (count pre))
+runs_by w h pre p fs q P None z a rest e = absurd (no_way p e)
+runs_by w h pre p fs q P (Some r) z a rest e = rest r e (step_asked w h pre r fs q z a)
+
+runs_at : (w : Way) (p : Path) (c : Tree) (q : Demand) → is_way (Some w) p ≡ true → Asked w q → Runs (demand_at p c q)
+runs_at the_statements here c q e a = a
+runs_at a_statement here c q e a = absurd (true≢false (sym e))
+runs_at the_cases here c q e a = absurd (true≢false (sym e))
+runs_at a_case here c q e a = absurd (true≢false (sym e))
+runs_at a_catch here c q e a = absurd (true≢false (sym e))
+runs_at w (inside h [] zero pre p post) c q e a =
+    let fs = facts (join pre (plug p c) post) in
+    runs_by w h pre p fs q (λ z. Runs (demand_at p c z)) (way_in w h (count pre)) refl a (λ r g b. runs_at r p c (demand h fs q (count pre)) g b) e
+runs_at w (inside h [] (suc n) pre p post) c q e a = absurd (true≢false (sym e))
+runs_at w (inside h (y ∷ ys) n pre p post) c q e a = absurd (true≢false (sym e))
+
+-- ---- a statement on it: what is read of it
+
+abbrev StatedAs : Tree → Tree → Type 0
+StatedAs t u = (k : ℕ) → ReadAs k t u
+
+record States (t u : Tree) : Type 0 where
+  read : (k : ℕ) → ReadAs k t u
+  body_first : body_names t ≡ names_of declared.Hoisted t
+  body_second : body_names u ≡ names_of declared.Hoisted u
+  ported : (rest : Trees) → ports true (t ▸ rest) ≡ ports true (u ▸ rest)
+
+stated : (g : Stage) → from g ≡ a_statement → (c d : Tree) (post : Trees) → States (over g c post) (over g d post)
+unfolding body_names names_of
+stated (Items pre) e c d post = absurd (cc e)
+stated (Cases pre) e c d post = absurd (cc e)
+stated (Case a) e c d post = absurd (cc e)
+stated (Handler a) e c d post = absurd (cc e)
+stated Braces e c d post = record { read = λ k. record { lets = inr refl; functions = refl; facts = refl; texts = refl }; body_first = refl; body_second = refl; ported = λ rest. refl }
+stated g e c d post = record { read = λ k. record { lets = inr refl; functions = refl; facts = refl; texts = refl }; body_first = refl; body_second = refl; ported = λ rest. refl }
+
+step_stated : (h : Shape) (pre post : Trees) (r : Way) (c d : Tree) → way_in a_statement h (count pre) ≡ Some r → States (node h [] 0 (join pre c post)) (node h [] 0 (join pre d post))
+step_stated h pre post r c d e =
+    let v = view a_statement h pre r e in
+    subst (λ h. States (node h [] 0 (join pre c post)) (node h [] 0 (join pre d post))) v.head_is (subst (λ pre. States (node (head v.stage) [] 0 (join pre c post)) (node (head v.stage) [] 0 (join pre d post))) v.before_is (stated v.stage v.from_is c d post))
+
+states_by : (h : Shape) (pre post : Trees) (p : Path) (c d : Tree) (r : Option Way) → way_in a_statement h (count pre) ≡ r → is_way r p ≡ true → States (node h [] 0 (join pre c post)) (node h [] 0 (join pre d post))
+states_by h pre post p c d None z e = absurd (no_way p e)
+states_by h pre post p c d (Some r) z e = step_stated h pre post r c d z
+
+states : (p : Path) (a b : Tree) → is_way (Some a_statement) p ≡ true → States (plug p a) (plug p b)
+states here a b e = absurd (true≢false (sym e))
+states (inside h [] zero pre p post) a b e = states_by h pre post p (plug p a) (plug p b) (way_in a_statement h (count pre)) refl e
+states (inside h [] (suc n) pre p post) a b e = absurd (true≢false (sym e))
+states (inside h (y ∷ ys) n pre p post) a b e = absurd (true≢false (sym e))
+
+-- ---- it loses the name
+
+module _ (W : VariableSet) (q : Tree) (list left : Trees) (t : Stretch W q list left) (v : VarThere (resolved t.spelling t.symbol) t.d t.w) (p : Path) (way : is_way (Some a_statement) p ≡ true) (free : names (resolved t.spelling t.symbol) (plug p absent) ≡ false) where
+  abbrev name : Name
+  name = resolved t.spelling t.symbol
+
+  abbrev D : VariableSet
+  D = alone (Declared t.symbol)
+
+  abbrev read : Tree
+  read = plug p (listed list)
+
+  abbrev written : Tree
+  written = plug p (listed left)
+
+  kept : Keeping t.spelling t.symbol a_statement read written
+  kept = along t.spelling t.symbol a_statement p (listed list) (listed left) way free (list_keeps W q list left t v)
+
+  known : States read written
+  known = states p (listed list) (listed left) way
+
+  leaves : LeavesThere name (read ▸ none) (written ▸ none)
+  unfolding Unmentioned
+  leaves = record {
+    inner = λ b a. (ap (λ c. c || b) kept.inner ∙ a.0, tt);
+    inner_back = λ b a. (ap (λ c. c || b) (sym kept.inner) ∙ a.0, tt);
+    scoped = λ env a. (kept.scoped Read env tt a.0, tt);
+    unmentioned = (kept.unmentioned, tt);
+    symbols = λ y. let s = kept.symbols Read y tt in omega (arith, s);
+    numbered = λ n. let s = kept.numbered n in omega (arith, s);
+    once = λ a. (kept.once a.0, tt);
+    targets = λ g a. (kept.targets g a.0, tt);
+    framed = λ all a. (kept.framed all a.0, tt);
+    bodied = λ all r a. (kept.bodied all r a.0, tt);
+    fixed = λ y j a. (kept.fixed y j a.0, tt);
+    fixed_back = λ y j o a. (kept.fixed_back y j o a.0, tt);
+    declares = λ all a. (kept.declares all a.0, tt);
+  }
+
+  declares : DeclaresThere name (read ▸ none) (written ▸ none)
+  unfolding body_names
+  declares = record {
+    first = kept.first;
+    last = kept.last;
+    names = append-nil (body_names read) ∙ known.body_first ∙ kept.hoisted;
+    left = append-nil (body_names written) ∙ known.body_second ∙ kept.left;
+    others_first = kept.others_first;
+    others_last = kept.others_last;
+    clash = λ o. no_more_both (as_body o read) (as_body o written) [] [] (kept.clash o) (no_more_same [] [] refl);
+  }
+
+  -- the lists alone
+
+  abbrev list_before : Trees
+  list_before = append t.before (append t.d t.after)
+
+  abbrev list_after : Trees
+  list_after = append t.before (append t.w t.after)
+
+  avoids_list : AllAvoid D list_after
+  avoids_list = all_join D t.before (append t.w t.after) (all_avoided name t.symbol refl t.before t.earlier) (all_join D t.w t.after t.loses.avoids (all_avoided name t.symbol refl t.after t.later))
+
+  abbrev around : Path
+  around = inside shape.Listed [] 0 none p none
+
+  same_plugged : (e : Environment) → Permits W D e → Same e D nothing (Stat None) (listed (plug p (listed list_before) ▸ none)) (listed (plug p (listed list_after) ▸ none))
+  same_plugged e u =
+      let (r, is) = runs_at a_statement p (listed list_before) (Stat None) way (None, refl) in
+      let lists = list_same e t.spelling t.symbol u.unseen t.before t.after t.d t.w (all_avoided name t.symbol refl t.after t.later) (t.loses.same e u) r in
+      congruent_same e D u.unseen.shared around (listed list_before) (listed list_after) (tt, tt, path_avoids t.spelling t.symbol a_statement p way free, tt) (tt, avoids_list) (list_read e t.spelling t.symbol u.unseen t.before t.after t.d t.w t.loses.read) nothing (Stat None) (no_off _)
+      (weaker e D D nothing _ (within_refl D) (no_within _) (demand_at around (listed list_before) (Stat None)) (listed list_before) (listed list_after) (subst (λ q. Same e D nothing q (listed list_before) (listed list_after)) (sym is) lists))
+
+  same : (e : Environment) → Permits W D e → Same e D nothing (Stat None) (listed (read ▸ none)) (listed (written ▸ none))
+  same e u =
+      subst (λ ts. Same e D nothing (Stat None) (listed (plug p (listed ts) ▸ none)) (listed (written ▸ none))) (sym t.read_is)
+      (subst (λ ts. Same e D nothing (Stat None) (listed (plug p (listed list_before) ▸ none)) (listed (plug p (listed ts) ▸ none))) (sym t.written_is) (same_plugged e u))
+
+  among : (pre post : Trees) (c : Tree) → AllAvoid D pre → Avoids D c → AllAvoid D post → AllAvoid D (join pre c post)
+  among none post c f g h = (g, h)
+  among (u ▸ pre) post c f g h = (f.0, among pre post c f.1 g h)
+
+  plug_avoids : (p : Path) (c : Tree) → PathAvoids D p → Avoids D c → Avoids D (plug p c)
+  plug_avoids here c a b = b
+  plug_avoids (inside h xs n pre p post) c a b = (a.0, among pre post (plug p c) a.1 (plug_avoids p c a.2 b) a.3)
+
+  avoids : Avoids D written
+  avoids = plug_avoids p (listed left) (path_avoids t.spelling t.symbol a_statement p way free) (tt, subst (AllAvoid D) (sym t.written_is) avoids_list)
+
+  pub loses : Loses W t.spelling t.symbol (read ▸ none) (written ▸ none)
+  loses = record {
+    leaves = leaves;
+    declares = declares;
+    read = read_alone t.symbol read written (known.read t.symbol);
+    same = same;
+    avoids = (avoids, tt);
+    fits = λ o strict h. let (f, rest) = first_fits strict (item_in o) read none h in more_fit strict (item_in o) written none (kept.fits_there strict false false o f) rest;
+    ported = λ rest. known.ported rest;
+  }

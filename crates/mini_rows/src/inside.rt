@@ -1,0 +1,15 @@
+//! The rows of a `var` that stands further inside the body that it belongs to.
+
+ghost use Rattle.mini_rows.specs.Inside.{InsideIsLawful, InsideLightens, InsideLighter};
+
+/// What the row writes keeps all that a program has to keep, but a name that nothing mentions: it means the same where nobody
+/// else sees that variable, and those can be written for which it acts.
+pub fn inside_is_lawful()
+    ensures { InsideIsLawful }
+{}
+
+/// What the row writes is lighter wherever the body stands, and makes the whole lighter.
+pub fn inside_lightens()
+    ensures lighter { InsideLighter }
+    ensures anywhere { InsideLightens }
+{}
