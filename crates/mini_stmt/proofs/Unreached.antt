@@ -9,32 +9,10 @@ use Rattle.mini_model.specs.Paths.{append}
 use Rattle.mini_node.specs.Children.{first_children, rest_children, without}
 use Rattle.mini_node.specs.Walks.{next_child, no_rest, append_none, append_one}
 use Rattle.mini_rows.specs.Switches.{Switches}
-use Rattle.mini_rows.specs.Lists.{declaration, binding, declarator, is_terminated, is_unscoped, first_is_absent, keeps_no_name_by, keeps_no_name, keep_no_name, bare_declarators, declared_bare, left_behind, is_lighter_left, Row77Unreached}
+use Rattle.mini_rows.specs.Lists.{declaration, binding, declarator, is_terminated, is_unscoped, encloses, bare_declarators, declared_bare, left_behind, is_lighter_left, Row77Unreached}
 use Rattle.mini_stmt.specs.MinimizeStatements.{Changes}
 use Rattle.mini_stmt.specs.DropUnreached.{may_go, goes, left_of, all_left, some_go, after_jump, is_reached, PutLeft, Left, EndsAt, Dropped}
 use Rattle.mini_stmt.proofs.Stepping.{neighbours_in, steps_on, changes_on}
-
--- ---- names that can't be written
-
-pub first_is : (ts : Trees) → 0 < count ts → first_is_absent ts ≡ is_absent_shape (shape_of (child_or_absent ts 0))
-first_is none h = absurd (omega (arith, h))
-first_is (node h xs n us ▸ ts) i = refl
-
-pub no_first : (ts : Trees) → count ts ≤ 0 → first_is_absent ts ≡ false
-no_first none h = refl
-no_first (t ▸ ts) h = absurd (omega (arith, h))
-
-pub keeping_is : (t : Tree) → keeps_no_name t ≡ keeps_no_name_by (shape_of t) (first_is_absent (children t)) && keep_no_name (children t)
-keeping_is (node h xs n ts) = refl
-
-pub keeping_stops : (ts : Trees) (i : ℕ) → i < count ts → keeps_no_name (child_or_absent ts i) ≡ false → keep_no_name (rest_children i ts) ≡ keep_no_name ts → false ≡ keep_no_name ts
-keeping_stops ts i h e inv = sym (ap (λ b. b && keep_no_name (rest_children (suc i) ts)) e) ∙ sym (ap keep_no_name (next_child ts i h)) ∙ inv
-
-pub keeping_goes_on : (ts : Trees) (i : ℕ) → i < count ts → keeps_no_name (child_or_absent ts i) ≡ true → keep_no_name (rest_children i ts) ≡ keep_no_name ts → keep_no_name (rest_children (i + 1) ts) ≡ keep_no_name ts
-keeping_goes_on ts i h e inv = let next : i + 1 ≡ suc i = omega arith in ap (λ k. keep_no_name (rest_children k ts)) next ∙ sym (ap (λ b. b && keep_no_name (rest_children (suc i) ts)) e) ∙ sym (ap keep_no_name (next_child ts i h)) ∙ inv
-
-pub keeping_ends : (ts : Trees) (i : ℕ) → count ts ≤ i → keep_no_name (rest_children i ts) ≡ keep_no_name ts → true ≡ keep_no_name ts
-keeping_ends ts i h inv = sym (ap keep_no_name (no_rest ts i h)) ∙ inv
 
 -- ---- what is left of a statement
 
@@ -107,7 +85,7 @@ all_stay (t ▸ ts) e = let (own, rest) = neither (goes t) (some_go ts) e in one
 gone_row : (first : Tree) (between : Trees) (t : Tree) → is_terminated first ≡ true → goes t ≡ true → Row77Unreached (first ▸ append between (t ▸ none)) (first ▸ append between (left_behind t))
 gone_row first between t e f =
     let (may, lighter) = and_parts (may_go t) (is_lighter_left t) f in
-    let (unscoped, dropped) = and_parts (is_unscoped t) (keeps_no_name t) may in
+    let (unscoped, dropped) = and_parts (is_unscoped t) (encloses false t) may in
     record { first = first; between = between; gone = t; terminated = e; unscoped = unscoped; dropped = dropped; lighter = lighter; shape = refl; written = refl }
 
 module _ (o : Switches) (s : o.sequences ≡ true) (before : Trees) (first : Tree) (e : is_terminated first ≡ true) where
@@ -233,6 +211,6 @@ and_true false b e f = absurd (false≢true e)
 
 pub unreached_goes : (ts before read put after : Trees) → Row77Unreached read put → ts ≡ append before (append read after) → is_reached ts ≡ false
 unreached_goes ts before read put after r e =
-    let gone : goes r.gone ≡ true = and_true (may_go r.gone) (is_lighter_left r.gone) (and_true (is_unscoped r.gone) (keeps_no_name r.gone) r.unscoped r.dropped) r.lighter in
+    let gone : goes r.gone ≡ true = and_true (may_go r.gone) (is_lighter_left r.gone) (and_true (is_unscoped r.gone) (encloses false r.gone) r.unscoped r.dropped) r.lighter in
     let is = e ∙ ap (λ x. append before (append x after)) r.shape ∙ ap (λ x. append before (r.first ▸ x)) (append_one r.between r.gone after) in
     ap (λ x. not (some_go (after_jump x))) is ∙ ap not (some_behind before r.first r.between r.gone after r.terminated gone)

@@ -4,12 +4,12 @@ use Rattle.mini_model.specs.Tree.{Tree, Trees, none, ◌▸◌, count, child_or_
 use Rattle.mini_model.specs.Paths.{append}
 use Rattle.mini_node.specs.Children.{rest_children}
 use Rattle.mini_rows.specs.Switches.{Switches}
-use Rattle.mini_rows.specs.Lists.{is_unscoped, is_terminated, keeps_no_name, left_behind, is_lighter_left}
+use Rattle.mini_rows.specs.Lists.{is_unscoped, is_terminated, encloses, left_behind, is_lighter_left}
 use Rattle.mini_stmt.specs.MinimizeStatements.{Changes}
 
--- a statement that declares nothing else in its list, and in which nothing gives a name that can't be written
+-- a statement that declares nothing else in its list, and takes along each name in it that can't be written
 abbrev pub may_go : Tree → Bool
-may_go t = is_unscoped t && keeps_no_name t
+may_go t = is_unscoped t && encloses false t
 
 -- what is left of it, as a list
 abbrev pub left_list : Tree → Tree

@@ -8,6 +8,7 @@ ghost use Rattle.mini_rows.specs.Lists as list;
 ghost use Rattle.mini_stmt.specs.DropUnreached as row;
 ghost use Rattle.mini_stmt.specs.DropUnreached.{Dropped, EndsAt, Left, PutLeft};
 
+use crate::held_names::takes_names_along;
 use crate::statements::put_reversed;
 use crate::terms::{is_terminated, statement_cares_about_scope};
 use mini_laws::Declared;
@@ -17,51 +18,6 @@ use mini_scope::push_names;
 use mini_tree::{stmt_weight, weight};
 use std::alloc::Global;
 use std::mem;
-
-// Whether the first of the nodes is absent.
-#[tactic(auto, using(crate::proofs::Unreached::first_is, crate::proofs::Unreached::no_first))]
-fn is_first_absent(nodes: &Nodes) -> bool
-    ensures { result ≡ list.first_is_absent nodes.now }
-{
-    nodes.len() > 0 && matches!(nodes.child(0).shape(), Shape::Absent)
-}
-
-// Whether the node is no inner expression, and gives no name that can't be written.
-fn keeps_no_name_itself(node: &Node) -> bool
-    ensures { result ≡ list.keeps_no_name_by (shape_of node.now) (list.first_is_absent (children node.now)) }
-{
-    match node.shape() {
-        Shape::InnerExpression
-        | Shape::VariableDeclaration(VariableDeclarationKind::Const)
-        | Shape::Class(true)
-        | Shape::ImportSpecifier
-        | Shape::ImportDefaultSpecifier
-        | Shape::ImportNamespaceSpecifier => false,
-        Shape::Function(false, _, _) | Shape::Class(false) => is_first_absent(node.children()),
-        _ => true,
-    }
-}
-
-#[cycle(keeping)]
-fn keep_no_name(nodes: &Nodes) -> bool
-    ensures { result ≡ list.keep_no_name nodes.now }
-{
-    for at in 0..nodes.len() {
-        if !keeps_no_name(nodes.child(at)) {
-            return false;
-        }
-    }
-    true
-}
-
-/// Whether nothing in the node gives a name that can't be written, and it holds no inner expression.
-#[cycle(keeping)]
-#[tactic(auto, using(crate::proofs::Unreached::keeping_is, crate::proofs::Parts::below))]
-pub fn keeps_no_name(node: &Node) -> bool
-    ensures { result ≡ list.keeps_no_name node.now }
-{
-    keeps_no_name_itself(node) && keep_no_name(node.children())
-}
 
 // The `var` names of a statement.
 fn hoisted_names(alloc: Global, node: &Node) -> Result<Vec<Name>, OutOfMemory>
@@ -134,11 +90,11 @@ pub fn is_left_lighter(alloc: Global, node: &Node) -> Result<bool, OutOfMemory>
     Ok(lighter)
 }
 
-// Whether the statement declares nothing else in its list, and nothing in it gives a name that can't be written.
+// Whether the statement declares nothing else in its list, and takes along each name in it that can't be written.
 fn may_go(node: &Node) -> bool
     ensures { result ≡ row.may_go node.now }
 {
-    !statement_cares_about_scope(node) && keeps_no_name(node)
+    !statement_cares_about_scope(node) && takes_names_along(node)
 }
 
 // Puts what is left of a statement that may go after the others, if that is lighter, or else the statement.

@@ -19,7 +19,7 @@ use mini_node::{
     taken, two, unary_operator,
 };
 use mini_stmt::{
-    are_unscoped, declares_nothing, has_terminated, is_left_lighter, keeps_no_name, left_behind,
+    are_unscoped, declares_nothing, has_terminated, is_left_lighter, left_behind, takes_names_along,
 };
 use mini_syntax::is_plain;
 use std::alloc::Global;
@@ -273,11 +273,11 @@ fn leaves_little(alloc: Global, node: &Node) -> Result<bool, OutOfMemory>
     }
 }
 
-// Whether nothing is left behind of the statement but such names.
+// Whether the statement takes along each name in it that can't be written, and nothing is left behind but names of `var`s.
 fn goes(alloc: Global, statement: &Node) -> Result<bool, OutOfMemory>
-    ensures { IfOk result (λ gone. gone ≡ (list.keeps_no_name statement.now && dead.leaves_little statement.now)) }
+    ensures { IfOk result (λ gone. gone ≡ (list.encloses false statement.now && dead.leaves_little statement.now)) }
 {
-    if keeps_no_name(statement) {
+    if takes_names_along(statement) {
         leaves_little(alloc, statement)
     } else {
         Ok(false)
@@ -308,7 +308,7 @@ fn is_absent(node: &Node) -> bool
 fn test_goes(test: &Node) -> bool
     ensures { result ≡ dead.test_goes test.now }
 {
-    keeps_no_name(test) && (is_absent(test) || declares_nothing(test))
+    takes_names_along(test) && (is_absent(test) || declares_nothing(test))
 }
 
 // Whether nothing is left behind of the cases.

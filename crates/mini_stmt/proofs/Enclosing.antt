@@ -1,0 +1,32 @@
+-- Names that can't be written, in a statement that goes.
+use Rattle.std.proofs.Common.{◌≡◌, ℕ, suc, ◌+◌, ◌<◌, ◌≤◌, Bool, true, false, refl, sym, ap, ◌∙◌, arith}
+use Rattle.std.specs.Prelude.{◌&&◌}
+use Rattle.mini_model.specs.declared.shape.Shape.{Shape}
+use Rattle.mini_model.specs.Tree.{Tree, Trees, node, none, ◌▸◌, count, shape_of, child_or_absent, children}
+use Rattle.mini_node.specs.Children.{rest_children}
+use Rattle.mini_node.specs.Walks.{next_child, no_rest}
+use Rattle.mini_rows.specs.Lists.{is_name_shape, encloses_by, holds, encloses, all_enclose}
+
+pub no_name : (ts : Trees) → count ts ≤ 0 → is_name_shape (shape_of (child_or_absent ts 0)) ≡ true
+no_name none h = refl
+no_name (t ▸ ts) h = absurd (omega (arith, h))
+
+pub enclosing_is : (held : Bool) (t : Tree) → encloses held t ≡ encloses_by held (shape_of t) (children t) && all_enclose held (shape_of t) 0 (children t)
+enclosing_is held (node h xs n ts) = refl
+
+-- ---- of children from an index on
+
+module _ (held : Bool) (h : Shape) (ts : Trees) (i : ℕ) where
+  abbrev here : Tree
+  here = child_or_absent ts i
+
+  pub stops : i < count ts → encloses (holds held h i (shape_of here)) here ≡ false → all_enclose held h i (rest_children i ts) ≡ all_enclose held h 0 ts → false ≡ all_enclose held h 0 ts
+  stops w e inv = sym (ap (λ b. b && all_enclose held h (suc i) (rest_children (suc i) ts)) e) ∙ sym (ap (all_enclose held h i) (next_child ts i w)) ∙ inv
+
+  pub goes_on : i < count ts → encloses (holds held h i (shape_of here)) here ≡ true → all_enclose held h i (rest_children i ts) ≡ all_enclose held h 0 ts → all_enclose held h (i + 1) (rest_children (i + 1) ts) ≡ all_enclose held h 0 ts
+  goes_on w e inv =
+      let next : i + 1 ≡ suc i = omega arith in
+      ap (λ k. all_enclose held h k (rest_children k ts)) next ∙ sym (ap (λ b. b && all_enclose held h (suc i) (rest_children (suc i) ts)) e) ∙ sym (ap (all_enclose held h i) (next_child ts i w)) ∙ inv
+
+  pub ends : count ts ≤ i → all_enclose held h i (rest_children i ts) ≡ all_enclose held h 0 ts → true ≡ all_enclose held h 0 ts
+  ends w inv = sym (ap (all_enclose held h i) (no_rest ts i w)) ∙ inv
