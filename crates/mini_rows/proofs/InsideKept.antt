@@ -1,18 +1,17 @@
 -- What a node on the way to a `var` further inside a body keeps where that goes.
-use Rattle.std.specs.Prelude.{ℕ, zero, suc, ◌+◌, ◌≤◌, ◌≡◌, refl, ◌||◌, ◌&&◌, not, Bool, true, false, List, [], ◌∷◌, ◌++◌, Option, Some, None, if◌then◌else◌}
+use Rattle.std.specs.Prelude.{ℕ, suc, ◌≤◌, ◌≡◌, refl, ◌||◌, ◌&&◌, not, Bool, true, false, List, [], ◌∷◌, ◌++◌, Option, Some, None, if◌then◌else◌}
 use Rattle.std.proofs.Common.{ap, ◌∙◌, sym, subst, arith, append_assoc, true≢false}
 use Rattle.mini_model.specs.declared.kind.PropertyKind.{PropertyKind}
 use Rattle.mini_model.specs.declared.name.Name.{Name}
 use Rattle.mini_model.specs.declared.name.SymbolId.{SymbolId}
-use Rattle.mini_model.specs.declared.shape.Shape.{Shape}
 use Rattle.mini_model.specs.declared.shape.Shape.TheVariants as shape
 use Rattle.mini_model.specs.Tree.{Tree, Trees, node, none, ◌▸◌, shape_of, child_or_absent, is_absent}
-use Rattle.mini_accept.specs.WellShaped.{Depth, nested, Class, a_statement as statement_class, a_block, a_case as case_class, a_catch as catch_class, an_expression, an_init, a_label, a_loop_left, a_pattern, Slot, one, one_or_absent, many, Filling, these, each, is_whole, filling, fits, fill}
+use Rattle.mini_accept.specs.WellShaped.{Depth, nested, a_statement as statement_class, a_block, a_case as case_class, a_catch as catch_class, an_expression, an_init, a_label, a_loop_left, a_pattern, Slot, one, one_or_absent, many, these, each, is_whole, fits, fill}
 use Rattle.mini_laws.specs.declared.names.Binding.{Binding}
 use Rattle.mini_laws.specs.declared.names.Declared.TheVariants as declared
 use Rattle.mini_laws.specs.declared.names.Targets.{Targets}
 use Rattle.mini_laws.specs.declared.names.Use.{Use}
-use Rattle.mini_laws.specs.Bodies.{Around, Body, below, body_of, bodies, bodies_from}
+use Rattle.mini_laws.specs.Bodies.{Around, Body, below, bodies, bodies_from}
 use Rattle.mini_laws.specs.DeclaredNames.{names_of, all_names, is_inner, has_inner, any_inner}
 use Rattle.mini_laws.specs.Early.{Path, own_declarations, scope_declarations, clashing, early_names, all_early_names, targets_of, turned, turn_of, is_bad_jump, is_bad, jump_of, early_jumps, all_early_jumps, is_loop}
 use Rattle.mini_laws.specs.declared.names.Turn.{Turn}
@@ -21,14 +20,14 @@ use Rattle.mini_laws.specs.Fixity.{fixed_by, fixed_by_any}
 use Rattle.mini_laws.specs.Path.{join}
 use Rattle.mini_laws.specs.Resolved.{Environment}
 use Rattle.mini_laws.specs.Scoped.{Scoped, AllScoped, Unmentioned, AllUnmentioned}
-use Rattle.mini_laws.specs.Scopes.{use_of, opened, opening_of, scopes_by, at_or_empty}
+use Rattle.mini_laws.specs.Scopes.{use_of, opened, at_or_empty}
 use Rattle.mini_laws.specs.Symbols.{symbols_in, declared as declared_in, declared_from, times}
 use Rattle.mini_laws.specs.Value.{Variable, variable_eq, variable_of}
 use Rattle.mini_laws.proofs.Changes.{times_three}
 use Rattle.mini_kept.specs.AlikeBodies.{BodiesKept}
 use Rattle.mini_kept.specs.Carried.{numbers, all_numbers}
-use Rattle.mini_kept.specs.Declaring.{declared as names_declared, declared_all, declared_by}
-use Rattle.mini_kept.specs.Frames.{Frame, frames, frames_from, frame_of, outline, globals, property_below, FramesKept}
+use Rattle.mini_kept.specs.Declaring.{declared as names_declared, declared_all}
+use Rattle.mini_kept.specs.Frames.{Frame, frames, frames_from, outline, globals, property_below, FramesKept}
 use Rattle.mini_kept.specs.KeepsNames.{count_of}
 use Rattle.mini_kept.specs.SameNames.{NoMoreClash}
 use Rattle.mini_kept.proofs.Anywhere.{once_anywhere, targets_anywhere}
@@ -40,26 +39,27 @@ use Rattle.mini_kept.proofs.Expressions.{refused_here}
 use Rattle.mini_kept.proofs.Fixed.{of_children}
 use Rattle.mini_kept.proofs.FrameLists.{both_of as both_frames}
 use Rattle.mini_kept.proofs.Unplaced.{as_body}
-use Rattle.mini_rows.specs.Inside.{Way, a_statement, the_statements, the_cases, a_case, a_catch}
+use Rattle.mini_rows.specs.declared.inside.Way.{Way}
+use Rattle.mini_rows.specs.declared.inside.Way.TheVariants as way
 use Rattle.mini_rows.specs.Unused.{resolved, any_names}
 use Rattle.mini_rows.specs.Sketches.{AsWhole}
 use Rattle.mini_rows.proofs.ArrangedBodies.{quiet, split_bodies, split_frames, Among, split_names, both_names, rank, FixedBy, fixed_below, below_fixed}
 use Rattle.mini_rows.proofs.Arranging.{Below}
-use Rattle.mini_rows.proofs.InsideStages.{Stage, Braces, Then, Else, While, Doing, For, ForIn, ForOf, Labeled, Tried, Caught, Finally, Switched, Items, Cases, Case, Handler, from, to, head, before, over, joined_names, joined_all, hoists, lexical, scopes, behind, Fine, fine, writes, frameless, propertyless, bodyless, around, undeclaring, same_label, same_label_for, loops, hoisted_less, BlockLess, scope_less, body_less, block_less}
+use Rattle.mini_rows.proofs.InsideStages.{Stage, Braces, Then, Else, While, Doing, For, ForIn, ForOf, Labeled, Tried, Caught, Finally, Switched, Items, Cases, Case, Handler, from, to, head, before, over, joined_all, hoists, lexical, scopes, behind, Fine, fine, writes, frameless, propertyless, bodyless, around, undeclaring, same_label, same_label_for, loops, hoisted_less, BlockLess, scope_less, body_less, block_less}
 use Rattle.mini_rows.proofs.UnusedNames.{Other, other_both, all_unmentioned, all_other}
 
 -- ---- where it stands
 
 -- what it fills: a statement may have to be a block, and may be missing
 abbrev pub slot : Way → Bool → Bool → Depth → Slot
-slot a_statement false false o = one (statement_class o)
-slot a_statement false true o = one_or_absent (statement_class o)
-slot a_statement true false o = one a_block
-slot a_statement true true o = one_or_absent a_block
-slot the_statements b m o = many (statement_class o)
-slot the_cases b m o = many case_class
-slot a_case b m o = one case_class
-slot a_catch b m o = one_or_absent catch_class
+slot way.Statement false false o = one (statement_class o)
+slot way.Statement false true o = one_or_absent (statement_class o)
+slot way.Statement true false o = one a_block
+slot way.Statement true true o = one_or_absent a_block
+slot way.Statements b m o = many (statement_class o)
+slot way.Cases b m o = many case_class
+slot way.Case b m o = one case_class
+slot way.Catch b m o = one_or_absent catch_class
 
 -- ---- what is kept
 
@@ -86,7 +86,7 @@ pub record Keeping (s : List ℕ) (k : ℕ) (w : Way) (t u : Tree) : Type 0 wher
   pub fixed_back : (y : Variable) (j : ℕ) → variable_eq (variable_of (resolved s k)) y ≡ false → rank (fixed_by u y) ≤ j → rank (fixed_by t y) ≤ j
   pub declares : (all : List Name) → Among all (names_declared t) → Among all (names_declared u)
   pub clash : (o : Bool) → NoMoreClash (as_body o u) (as_body o t)
-  pub block : w ≡ a_statement → BlockLess t u
+  pub block : w ≡ way.Statement → BlockLess t u
   pub fits_there : (strict b m : Bool) (o : Depth) → fits strict (slot w b m o) t ≡ true → fits strict (slot w b m o) u ≡ true
 
 -- ---- what some children keep, of which one does

@@ -1,21 +1,19 @@
 -- What the row of a `var` further inside a body writes is loosely lawful.
-use Rattle.std.specs.Prelude.{ℕ, ◌≡◌, ◌⊎◌, refl, ◌||◌, Bool, true, false, List, []}
-use Rattle.std.proofs.Common.{ap, ◌∙◌, sym, subst, inl, inr, true≢false}
+use Rattle.std.specs.Prelude.{◌≡◌, refl, ◌||◌, Bool, true, false}
+use Rattle.std.proofs.Common.{ap, ◌∙◌, inl, inr, true≢false}
 use Rattle.mini_model.specs.declared.name.Name.{Name}
 use Rattle.mini_model.specs.declared.place.Position.{Position}
 use Rattle.mini_model.specs.declared.place.Position.TheVariants.{Expr, Stmt, Method, Elsewhere}
 use Rattle.mini_model.specs.Tree.{Tree, Trees, none, ◌▸◌, absent, listed}
 use Rattle.mini_model.specs.Paths.{append}
-use Rattle.mini_laws.specs.Path.{Path, plug}
+use Rattle.mini_laws.specs.Path.{plug}
 use Rattle.mini_laws.specs.Value.{VariableSet}
 use Rattle.mini_kept.proofs.Loosely.{loose_narrowed}
-use Rattle.mini_rows.specs.Inside.{a_statement, is_way, Holder, Arrow, Function, Module, Static, held, stands_at, declares_var, InsideRow, InsideContracts, InsideIsLawful}
-use Rattle.mini_rows.specs.Lists.{block}
-use Rattle.mini_rows.specs.Unused.{resolved, names, any_names, BlockRow}
+use Rattle.mini_rows.specs.Inside.{above, Holder, Arrow, Function, Module, Static, over, stands_at, InsideRow, InsideContracts, InsideIsLawful}
+use Rattle.mini_rows.specs.Unused.{resolved, names, any_names}
 use Rattle.mini_rows.proofs.FunctionBodyLawful.{OfUnused, held_loose}
-use Rattle.mini_rows.proofs.HeldStretches.{ArrowStretch, FunctionStretch, ModuleStretch, StaticStretch}
 use Rattle.mini_rows.proofs.InsideLoses.{loses}
-use Rattle.mini_rows.proofs.InsideNames.{row_vars}
+use Rattle.mini_rows.proofs.InsideNames.{row_vars, row_plain}
 use Rattle.mini_rows.proofs.UnusedNames.{or_parts}
 use Rattle.mini_rows.proofs.UnusedStretches.{Stretch, row_stretch}
 
@@ -32,29 +30,26 @@ once : (b : Bool) → (b || false) ≡ false → b ≡ false
 once true e = absurd (true≢false e)
 once false e = refl
 
--- of its holder nothing does, nor of its statements
+-- nor of its holder
 abbrev front : Holder → Tree
 front (Arrow directives n parameters) = listed parameters
 front (Function is_declared is_generator directives n name parameters) = listed (name ▸ parameters)
 front (Module directives) = listed none
 front (Static n) = listed none
 
-parts : (x : Name) (o : Holder) (ts : Trees) → names x (held o ts) ≡ false → (names x (front o) ≡ false) × (any_names x ts ≡ false)
-parts x (Arrow ds n ps) ts e =
-    let (a, b) = or_parts (any_names x ps) (((any_names x ts || false)) || false) e in
-    (a, once (any_names x ts) (once (any_names x ts || false) b))
-parts x (Function d g ds n name ps) ts e =
-    let (a, b) = or_parts (names x name) (any_names x ps || ((any_names x ts || false) || false)) e in
-    let (c, f) = or_parts (any_names x ps) ((any_names x ts || false) || false) b in
-    (ap (λ q. q || any_names x ps) a ∙ c, once (any_names x ts) (once (any_names x ts || false) f))
-parts x (Module ds) ts e = (refl, once (any_names x ts) e)
-parts x (Static n) ts e = (refl, once (any_names x ts) e)
+in_front : (x : Name) (o : Holder) → names x (over o absent) ≡ false → names x (front o) ≡ false
+in_front x (Arrow ds n ps) e = once (any_names x ps) e
+in_front x (Function d g ds n name ps) e =
+    let (a, b) = or_parts (names x name) (any_names x ps || false) e in
+    ap (λ q. q || any_names x ps) a ∙ once (any_names x ps) b
+in_front x (Module ds) e = refl
+in_front x (Static n) e = refl
 
 -- ---- so its statements lose the name
 
 module _ (W : VariableSet) (n w : Tree) (r : InsideRow W n w) where
   abbrev whole : Tree
-  whole = listed (held r.holder (append r.first (plug r.place absent ▸ r.last)) ▸ none)
+  whole = listed (over r.holder absent ▸ (listed (append r.first (absent ▸ r.last)) ▸ above r.place))
 
   abbrev inner : Stretch W whole r.list r.left
   inner = row_stretch W whole r.list r.left refl r.row
@@ -70,8 +65,9 @@ module _ (W : VariableSet) (n w : Tree) (r : InsideRow W n w) where
 
   stretch : Stretch W (front r.holder) earlier later
   stretch =
-      let (outside, within) = parts x r.holder (append r.first (plug r.place absent ▸ r.last)) (once (names x (held r.holder (append r.first (plug r.place absent ▸ r.last)))) inner.outside) in
-      let (before, own, after) = appended x r.first (plug r.place absent) r.last within in
+      let (held_free, rest) = or_parts (names x (over r.holder absent)) (any_names x (listed (append r.first (absent ▸ r.last)) ▸ above r.place)) inner.outside in
+      let (list_free, own) = or_parts (any_names x (append r.first (absent ▸ r.last))) (any_names x (above r.place)) rest in
+      let (before, none_there, after) = appended x r.first absent r.last list_free in
       record {
         spelling = inner.spelling;
         symbol = inner.symbol;
@@ -79,8 +75,8 @@ module _ (W : VariableSet) (n w : Tree) (r : InsideRow W n w) where
         after = r.last;
         d = plug r.place (listed r.list) ▸ none;
         w = plug r.place (listed r.left) ▸ none;
-        loses = loses W whole r.list r.left inner (row_vars W whole r.list r.left refl r.row r.hoisted) r.place r.way own;
-        outside = outside;
+        loses = loses W whole r.list r.left inner (row_vars W whole r.list r.left refl r.row (row_plain W whole r.list r.left refl r.row r.plain)) r.place r.there own;
+        outside = in_front x r.holder held_free;
         earlier = before;
         later = after;
         read_is = refl;
@@ -92,7 +88,7 @@ module _ (W : VariableSet) (n w : Tree) (r : InsideRow W n w) where
 either_holder : (W : VariableSet) (p : Position) (n w : Tree) → InsideContracts W p n w → OfUnused W p n w
 either_holder W p n w c = by c.row.holder p c.stands (stretch W n w c.row) c.row.shape c.row.written
   where
-    by : (o : Holder) (p : Position) → stands_at o p ≡ true → {a b : Trees} → Stretch W (front o) a b → n ≡ held o a → w ≡ held o b → OfUnused W p n w
+    by : (o : Holder) (p : Position) → stands_at o p ≡ true → {a b : Trees} → Stretch W (front o) a b → n ≡ over o (listed a) → w ≡ over o (listed b) → OfUnused W p n w
     by (Arrow ds k ps) (Expr s) e {a} {b} t f g = inr (inl (record { directives = ds; number = k; parameters = ps; before = a; after = b; there = t; shape = f; written = g }))
     by (Arrow ds k ps) p e t f g = absurd (cc e)
     by (Function d g ds k name ps) (Stmt q) e {a} {b} t f h = inr (inr (inl (refl, record { is_declared = d; is_generator = g; directives = ds; number = k; name = name; parameters = ps; before = a; after = b; there = t; shape = f; written = h })))

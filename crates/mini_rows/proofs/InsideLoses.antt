@@ -1,20 +1,19 @@
 -- A statement without a `var` further inside: what it keeps, and that it means the same but for what that variable holds.
-use Rattle.std.specs.Prelude.{ℕ, zero, suc, ◌≤◌, ◌≡◌, refl, ◌||◌, Bool, true, false, List, [], ◌∷◌, ◌++◌, length, Option, Some, None}
+use Rattle.std.specs.Prelude.{ℕ, zero, suc, ◌≡◌, refl, ◌||◌, true, false, List, [], ◌∷◌, length, Option, Some, None}
 use Rattle.std.proofs.Common.{ap, ◌∙◌, sym, subst, inr, true≢false, arith}
 use Rattle.std.proofs.lemmas.List.{append-nil}
 use Rattle.mini_model.specs.declared.name.Name.{Name}
 use Rattle.mini_model.specs.declared.shape.Shape.{Shape}
 use Rattle.mini_model.specs.declared.shape.Shape.TheVariants as shape
-use Rattle.mini_model.specs.Tree.{Tree, Trees, node, none, ◌▸◌, absent, listed, count, shape_of}
+use Rattle.mini_model.specs.Tree.{Tree, Trees, node, none, ◌▸◌, absent, listed, count}
 use Rattle.mini_model.specs.Paths.{append}
-use Rattle.mini_accept.specs.WellShaped.{Depth, Slot, each, fits, fill}
 use Rattle.mini_laws.specs.declared.names.Declared.TheVariants as declared
 use Rattle.mini_laws.specs.declared.names.Use.TheVariants.{Read}
 use Rattle.mini_laws.specs.Asking.{demand, list_demand, tail_demand, last_tail}
-use Rattle.mini_laws.specs.Congruence.{NoneIn, Avoids, AllAvoid, PathAvoids, demand_at}
+use Rattle.mini_laws.specs.Congruence.{Avoids, AllAvoid, PathAvoids, demand_at}
 use Rattle.mini_laws.specs.DeclaredNames.{names_of, body_names}
 use Rattle.mini_laws.specs.Demand.{Tail, Demand, Stat}
-use Rattle.mini_laws.specs.Naming.{Facts, facts, summary}
+use Rattle.mini_laws.specs.Naming.{Facts, facts}
 use Rattle.mini_laws.specs.Scoped.{Unmentioned}
 use Rattle.mini_laws.specs.Path.{Path, here, inside, join, plug}
 use Rattle.mini_laws.specs.Same.{Same}
@@ -23,19 +22,20 @@ use Rattle.mini_laws.specs.Substitution.{alone}
 use Rattle.mini_laws.specs.Value.{Declared, VariableSet, nothing}
 use Rattle.mini_laws.proofs.Congruent.{congruent_same, weaker, no_within, no_off}
 use Rattle.mini_laws.proofs.Simulation.{within_refl}
-use Rattle.mini_kept.specs.Frames.{is_port, ports}
+use Rattle.mini_kept.specs.Frames.{ports}
 use Rattle.mini_kept.specs.Without.{Permits}
 use Rattle.mini_kept.proofs.Clashes.{no_more_same, no_more_both}
 use Rattle.mini_kept.proofs.Unplaced.{as_body}
-use Rattle.mini_rows.specs.Inside.{Way, a_statement, the_statements, the_cases, a_case, a_catch, way_in, is_way}
-use Rattle.mini_rows.specs.Lists.{block}
-use Rattle.mini_rows.specs.Unused.{resolved, names, any_names, is_like_one, BlockRow}
+use Rattle.mini_rows.specs.declared.inside.Way.{Way}
+use Rattle.mini_rows.specs.declared.inside.Way.TheVariants as way
+use Rattle.mini_rows.specs.Inside.{way_in, above, is_way}
+use Rattle.mini_rows.specs.Unused.{resolved, names, any_names}
 use Rattle.mini_rows.proofs.ListShapes.{first_fits, more_fit}
-use Rattle.mini_rows.proofs.InsideKept.{slot, Keeping, step}
+use Rattle.mini_rows.proofs.InsideKept.{Keeping, step}
 use Rattle.mini_rows.proofs.InsideNames.{VarThere, list_keeps}
-use Rattle.mini_rows.proofs.InsideStages.{Stage, Braces, Then, Else, While, Doing, For, ForIn, ForOf, Labeled, Tried, Caught, Finally, Switched, Items, Cases, Case, Handler, from, to, head, before, over, view, View, hoists}
+use Rattle.mini_rows.proofs.InsideStages.{Stage, Braces, Then, Else, While, Doing, For, ForIn, ForOf, Labeled, Tried, Caught, Finally, Switched, Items, Cases, Case, Handler, from, to, head, before, over, view}
 use Rattle.mini_rows.proofs.UnusedKept.{LeavesThere, DeclaresThere}
-use Rattle.mini_rows.proofs.UnusedMeaning.{ReadAs, ReadThere, read_alone, list_read, list_same, all_join}
+use Rattle.mini_rows.proofs.UnusedMeaning.{ReadAs, read_alone, list_read, list_same, all_join}
 use Rattle.mini_rows.proofs.UnusedNames.{or_parts, all_avoided}
 use Rattle.mini_rows.proofs.UnusedStretches.{item_in, Loses, Stretch}
 
@@ -62,7 +62,7 @@ module _ (s : List ℕ) (k : ℕ) where
   x = resolved s k
 
   abbrev Along : Way → Path → Tree → Tree → Type 0
-  Along w p a b = is_way (Some w) p ≡ true → names x (plug p absent) ≡ false → Keeping s k the_statements a b → Keeping s k w (plug p a) (plug p b)
+  Along w p a b = is_way (Some w) p ≡ true → any_names x (above p) ≡ false → Keeping s k way.Statements a b → Keeping s k w (plug p a) (plug p b)
 
   one_step : (w : Way) (h : Shape) (pre post : Trees) (r : Way) (c d : Tree) → way_in w h (count pre) ≡ Some r → any_names x pre ≡ false → any_names x post ≡ false → Keeping s k r c d → Keeping s k w (node h [] 0 (join pre c post)) (node h [] 0 (join pre d post))
   one_step w h pre post r c d e f g kept =
@@ -77,13 +77,14 @@ module _ (s : List ℕ) (k : ℕ) where
   by_way w h pre post p c d (Some r) q f g kept e = one_step w h pre post r c d q f g (kept r e)
 
   pub along : (w : Way) (p : Path) (a b : Tree) → Along w p a b
-  along the_statements here a b e f kept = kept
-  along a_statement here a b e f kept = absurd (true≢false (sym e))
-  along the_cases here a b e f kept = absurd (true≢false (sym e))
-  along a_case here a b e f kept = absurd (true≢false (sym e))
-  along a_catch here a b e f kept = absurd (true≢false (sym e))
+  along way.Statements here a b e f kept = kept
+  along way.Statement here a b e f kept = absurd (true≢false (sym e))
+  along way.Cases here a b e f kept = absurd (true≢false (sym e))
+  along way.Case here a b e f kept = absurd (true≢false (sym e))
+  along way.Catch here a b e f kept = absurd (true≢false (sym e))
   along w (inside h [] zero pre p post) a b e f kept =
-      let (earlier, own, later) = joined_unnamed x pre (plug p absent) post f in
+      let (here_free, own) = or_parts (any_names x (join pre absent post)) (any_names x (above p)) f in
+      let (earlier, none_there, later) = joined_unnamed x pre absent post here_free in
       by_way w h pre post p (plug p a) (plug p b) (way_in w h (count pre)) refl earlier later (λ r g. along r p a b g own kept) e
   along w (inside h [] (suc n) pre p post) a b e f kept = absurd (true≢false (sym e))
   along w (inside h (y ∷ ys) n pre p post) a b e f kept = absurd (true≢false (sym e))
@@ -94,10 +95,11 @@ module _ (s : List ℕ) (k : ℕ) where
   avoids_by pre post p None f g rest h e = absurd (no_way p e)
   avoids_by pre post p (Some r) f g rest h e = (tt, all_avoided x k refl pre f, rest r e, all_avoided x k refl post g)
 
-  pub path_avoids : (w : Way) (p : Path) → is_way (Some w) p ≡ true → names x (plug p absent) ≡ false → PathAvoids (alone (Declared k)) p
+  pub path_avoids : (w : Way) (p : Path) → is_way (Some w) p ≡ true → any_names x (above p) ≡ false → PathAvoids (alone (Declared k)) p
   path_avoids w here e f = tt
   path_avoids w (inside h [] zero pre p post) e f =
-      let (earlier, own, later) = joined_unnamed x pre (plug p absent) post f in
+      let (here_free, own) = or_parts (any_names x (join pre absent post)) (any_names x (above p)) f in
+      let (earlier, none_there, later) = joined_unnamed x pre absent post here_free in
       avoids_by pre post p (way_in w h (count pre)) earlier later (λ r g. path_avoids r p g own) h e
   path_avoids w (inside h [] (suc n) pre p post) e f = absurd (true≢false (sym e))
   path_avoids w (inside h (y ∷ ys) n pre p post) e f = absurd (true≢false (sym e))
@@ -109,8 +111,8 @@ abbrev Runs : Demand → Type 0
 Runs q = (t : Option Tail) × (q ≡ Stat t)
 
 abbrev Asked : Way → Demand → Type 0
-Asked a_statement q = Runs q
-Asked the_statements q = Runs q
+Asked way.Statement q = Runs q
+Asked way.Statements q = Runs q
 Asked w q = Unit {0}
 
 tails : (n : ℕ) (t : Option Tail) (i : ℕ) → Runs (tail_demand n t i)
@@ -152,11 +154,11 @@ runs_by w h pre p fs q P None z a rest e = absurd (no_way p e)
 runs_by w h pre p fs q P (Some r) z a rest e = rest r e (step_asked w h pre r fs q z a)
 
 runs_at : (w : Way) (p : Path) (c : Tree) (q : Demand) → is_way (Some w) p ≡ true → Asked w q → Runs (demand_at p c q)
-runs_at the_statements here c q e a = a
-runs_at a_statement here c q e a = absurd (true≢false (sym e))
-runs_at the_cases here c q e a = absurd (true≢false (sym e))
-runs_at a_case here c q e a = absurd (true≢false (sym e))
-runs_at a_catch here c q e a = absurd (true≢false (sym e))
+runs_at way.Statements here c q e a = a
+runs_at way.Statement here c q e a = absurd (true≢false (sym e))
+runs_at way.Cases here c q e a = absurd (true≢false (sym e))
+runs_at way.Case here c q e a = absurd (true≢false (sym e))
+runs_at way.Catch here c q e a = absurd (true≢false (sym e))
 runs_at w (inside h [] zero pre p post) c q e a =
     let fs = facts (join pre (plug p c) post) in
     runs_by w h pre p fs q (λ z. Runs (demand_at p c z)) (way_in w h (count pre)) refl a (λ r g b. runs_at r p c (demand h fs q (count pre)) g b) e
@@ -174,7 +176,7 @@ record States (t u : Tree) : Type 0 where
   body_second : body_names u ≡ names_of declared.Hoisted u
   ported : (rest : Trees) → ports true (t ▸ rest) ≡ ports true (u ▸ rest)
 
-stated : (g : Stage) → from g ≡ a_statement → (c d : Tree) (post : Trees) → States (over g c post) (over g d post)
+stated : (g : Stage) → from g ≡ way.Statement → (c d : Tree) (post : Trees) → States (over g c post) (over g d post)
 unfolding body_names names_of
 stated (Items pre) e c d post = absurd (cc e)
 stated (Cases pre) e c d post = absurd (cc e)
@@ -183,24 +185,24 @@ stated (Handler a) e c d post = absurd (cc e)
 stated Braces e c d post = record { read = λ k. record { lets = inr refl; functions = refl; facts = refl; texts = refl }; body_first = refl; body_second = refl; ported = λ rest. refl }
 stated g e c d post = record { read = λ k. record { lets = inr refl; functions = refl; facts = refl; texts = refl }; body_first = refl; body_second = refl; ported = λ rest. refl }
 
-step_stated : (h : Shape) (pre post : Trees) (r : Way) (c d : Tree) → way_in a_statement h (count pre) ≡ Some r → States (node h [] 0 (join pre c post)) (node h [] 0 (join pre d post))
+step_stated : (h : Shape) (pre post : Trees) (r : Way) (c d : Tree) → way_in way.Statement h (count pre) ≡ Some r → States (node h [] 0 (join pre c post)) (node h [] 0 (join pre d post))
 step_stated h pre post r c d e =
-    let v = view a_statement h pre r e in
+    let v = view way.Statement h pre r e in
     subst (λ h. States (node h [] 0 (join pre c post)) (node h [] 0 (join pre d post))) v.head_is (subst (λ pre. States (node (head v.stage) [] 0 (join pre c post)) (node (head v.stage) [] 0 (join pre d post))) v.before_is (stated v.stage v.from_is c d post))
 
-states_by : (h : Shape) (pre post : Trees) (p : Path) (c d : Tree) (r : Option Way) → way_in a_statement h (count pre) ≡ r → is_way r p ≡ true → States (node h [] 0 (join pre c post)) (node h [] 0 (join pre d post))
+states_by : (h : Shape) (pre post : Trees) (p : Path) (c d : Tree) (r : Option Way) → way_in way.Statement h (count pre) ≡ r → is_way r p ≡ true → States (node h [] 0 (join pre c post)) (node h [] 0 (join pre d post))
 states_by h pre post p c d None z e = absurd (no_way p e)
 states_by h pre post p c d (Some r) z e = step_stated h pre post r c d z
 
-states : (p : Path) (a b : Tree) → is_way (Some a_statement) p ≡ true → States (plug p a) (plug p b)
+states : (p : Path) (a b : Tree) → is_way (Some way.Statement) p ≡ true → States (plug p a) (plug p b)
 states here a b e = absurd (true≢false (sym e))
-states (inside h [] zero pre p post) a b e = states_by h pre post p (plug p a) (plug p b) (way_in a_statement h (count pre)) refl e
+states (inside h [] zero pre p post) a b e = states_by h pre post p (plug p a) (plug p b) (way_in way.Statement h (count pre)) refl e
 states (inside h [] (suc n) pre p post) a b e = absurd (true≢false (sym e))
 states (inside h (y ∷ ys) n pre p post) a b e = absurd (true≢false (sym e))
 
 -- ---- it loses the name
 
-module _ (W : VariableSet) (q : Tree) (list left : Trees) (t : Stretch W q list left) (v : VarThere (resolved t.spelling t.symbol) t.d t.w) (p : Path) (way : is_way (Some a_statement) p ≡ true) (free : names (resolved t.spelling t.symbol) (plug p absent) ≡ false) where
+module _ (W : VariableSet) (q : Tree) (list left : Trees) (t : Stretch W q list left) (v : VarThere (resolved t.spelling t.symbol) t.d t.w) (p : Path) (route : is_way (Some way.Statement) p ≡ true) (free : any_names (resolved t.spelling t.symbol) (above p) ≡ false) where
   abbrev name : Name
   name = resolved t.spelling t.symbol
 
@@ -213,11 +215,11 @@ module _ (W : VariableSet) (q : Tree) (list left : Trees) (t : Stretch W q list 
   abbrev written : Tree
   written = plug p (listed left)
 
-  kept : Keeping t.spelling t.symbol a_statement read written
-  kept = along t.spelling t.symbol a_statement p (listed list) (listed left) way free (list_keeps W q list left t v)
+  kept : Keeping t.spelling t.symbol way.Statement read written
+  kept = along t.spelling t.symbol way.Statement p (listed list) (listed left) route free (list_keeps W q list left t v)
 
   known : States read written
-  known = states p (listed list) (listed left) way
+  known = states p (listed list) (listed left) route
 
   leaves : LeavesThere name (read ▸ none) (written ▸ none)
   unfolding Unmentioned
@@ -265,9 +267,9 @@ module _ (W : VariableSet) (q : Tree) (list left : Trees) (t : Stretch W q list 
 
   same_plugged : (e : Environment) → Permits W D e → Same e D nothing (Stat None) (listed (plug p (listed list_before) ▸ none)) (listed (plug p (listed list_after) ▸ none))
   same_plugged e u =
-      let (r, is) = runs_at a_statement p (listed list_before) (Stat None) way (None, refl) in
+      let (r, is) = runs_at way.Statement p (listed list_before) (Stat None) route (None, refl) in
       let lists = list_same e t.spelling t.symbol u.unseen t.before t.after t.d t.w (all_avoided name t.symbol refl t.after t.later) (t.loses.same e u) r in
-      congruent_same e D u.unseen.shared around (listed list_before) (listed list_after) (tt, tt, path_avoids t.spelling t.symbol a_statement p way free, tt) (tt, avoids_list) (list_read e t.spelling t.symbol u.unseen t.before t.after t.d t.w t.loses.read) nothing (Stat None) (no_off _)
+      congruent_same e D u.unseen.shared around (listed list_before) (listed list_after) (tt, tt, path_avoids t.spelling t.symbol way.Statement p route free, tt) (tt, avoids_list) (list_read e t.spelling t.symbol u.unseen t.before t.after t.d t.w t.loses.read) nothing (Stat None) (no_off _)
       (weaker e D D nothing _ (within_refl D) (no_within _) (demand_at around (listed list_before) (Stat None)) (listed list_before) (listed list_after) (subst (λ q. Same e D nothing q (listed list_before) (listed list_after)) (sym is) lists))
 
   same : (e : Environment) → Permits W D e → Same e D nothing (Stat None) (listed (read ▸ none)) (listed (written ▸ none))
@@ -284,7 +286,7 @@ module _ (W : VariableSet) (q : Tree) (list left : Trees) (t : Stretch W q list 
   plug_avoids (inside h xs n pre p post) c a b = (a.0, among pre post (plug p c) a.1 (plug_avoids p c a.2 b) a.3)
 
   avoids : Avoids D written
-  avoids = plug_avoids p (listed left) (path_avoids t.spelling t.symbol a_statement p way free) (tt, subst (AllAvoid D) (sym t.written_is) avoids_list)
+  avoids = plug_avoids p (listed left) (path_avoids t.spelling t.symbol way.Statement p route free) (tt, subst (AllAvoid D) (sym t.written_is) avoids_list)
 
   pub loses : Loses W t.spelling t.symbol (read ▸ none) (written ▸ none)
   loses = record {

@@ -1,11 +1,10 @@
 -- A list of statements without a `var` that nothing else mentions: which names it declares, and what it keeps.
-use Rattle.std.specs.Prelude.{ℕ, ◌≡◌, ◌⊎◌, ◌≤◌, refl, ◌||◌, not, Bool, true, false, List, [], ◌∷◌, ◌++◌}
+use Rattle.std.specs.Prelude.{◌≡◌, ◌≤◌, refl, not, Bool, true, false, List, [], ◌∷◌, ◌++◌}
 use Rattle.std.proofs.Common.{ap, ◌∙◌, sym, subst, inl, inr, true≢false, append_assoc}
 use Rattle.std.proofs.lemmas.List.{append-nil}
 use Rattle.mini_model.specs.declared.kind.VariableDeclarationKind.{VariableDeclarationKind}
 use Rattle.mini_model.specs.declared.kind.VariableDeclarationKind.TheVariants.{Var, Let, Const}
 use Rattle.mini_model.specs.declared.name.Name.{Name}
-use Rattle.mini_model.specs.declared.shape.Shape.TheVariants as shape
 use Rattle.mini_model.specs.Tree.{Tree, Trees, none, ◌▸◌, listed, shape_of, expression_statement}
 use Rattle.mini_model.specs.Paths.{append}
 use Rattle.mini_accept.specs.WellShaped.{Depth, each, fill}
@@ -16,11 +15,9 @@ use Rattle.mini_laws.specs.declared.names.Use.TheVariants.{Read}
 use Rattle.mini_laws.specs.DeclaredNames.{names_of, all_names}
 use Rattle.mini_laws.specs.Early.{is_loop}
 use Rattle.mini_laws.specs.Naming.{is_lexical}
-use Rattle.mini_laws.specs.Resolved.{Environment}
 use Rattle.mini_laws.specs.Scoped.{Scoped, Unmentioned}
 use Rattle.mini_laws.specs.Symbols.{declared as declared_in, times}
 use Rattle.mini_laws.specs.Value.{VariableSet}
-use Rattle.mini_kept.specs.Declaring.{declared as names_declared}
 use Rattle.mini_kept.specs.KeepsNames.{is_read}
 use Rattle.mini_kept.specs.SameNames.{NoMoreClash}
 use Rattle.mini_kept.proofs.Clashes.{no_more_same, no_more_both}
@@ -28,11 +25,11 @@ use Rattle.mini_kept.proofs.SameScopes.{text_itself}
 use Rattle.mini_kept.proofs.Unplaced.{as_body, all_as_body}
 use Rattle.mini_model.specs.Weight.{same_text}
 use Rattle.mini_node.specs.Kinds.{is_listed_shape}
-use Rattle.mini_terms.specs.Reading.{is_plain_part}
 use Rattle.mini_rows.specs.Declarations.{binding, declarator}
-use Rattle.mini_rows.specs.Inside.{Way, a_statement, the_statements, declares_var}
+use Rattle.mini_rows.specs.declared.inside.Way.TheVariants as way
+use Rattle.mini_rows.specs.Inside.{is_lexical_shape, has_lexical}
 use Rattle.mini_rows.specs.Lists.{block, declaration}
-use Rattle.mini_rows.specs.Unused.{resolved, names, any_names, declared_one, declared_among, declared_left, put_first, is_first, reads_head, BlockRow}
+use Rattle.mini_rows.specs.Unused.{resolved, names, any_names, declared_one, declared_among, declared_left, put_first, BlockRow}
 use Rattle.mini_rows.proofs.Arranging.{Any}
 use Rattle.mini_rows.proofs.ArrangedBodies.{HasBodies, bodies_local, HasFrames, frames_local, Declares, declares_local, FixedBy, fixed_local}
 use Rattle.mini_rows.proofs.ArrowBodyLawful.{list_fits, none_mention}
@@ -44,7 +41,7 @@ use Rattle.mini_rows.proofs.ListKeptDeclarations.{all_both}
 use Rattle.mini_rows.proofs.ListKeptStretch.{stretched}
 use Rattle.mini_rows.proofs.UnusedKept.{NamesThere, list_inner, list_scoped, list_symbols, list_numbers, list_once, list_targets}
 use Rattle.mini_rows.proofs.UnusedMeaning.{movable}
-use Rattle.mini_rows.proofs.UnusedNames.{Other, other_both, all_other, declared_other}
+use Rattle.mini_rows.proofs.UnusedNames.{or_parts, Other, other_both, all_other, declared_other}
 use Rattle.mini_rows.proofs.UnusedStretches.{item_in, Stretch, stretch, row_stretch}
 
 -- ---- the names of the statements that go and of those that are written
@@ -144,6 +141,33 @@ head_vars x first init head put f o h =
       others_last = subst (Other x) (sym (append-nil (names_of declared.Hoisted put))) o;
     }
 
+-- ---- what goes is a `var`, where no `let` and no `const` stands in the list
+
+abbrev pub declares_var : {W : VariableSet} {n w : Tree} → BlockRow W n w → Bool
+declares_var (inl r) = not (is_lexical r.kind)
+declares_var (inr (inl r)) = not (is_lexical r.kind)
+declares_var (inr (inr (inl r))) = not (is_lexical r.kind)
+declares_var (inr (inr (inr r))) = not (is_lexical r.kind)
+
+among_plain : (before rest : Trees) (K : VariableDeclarationKind) (ds : Trees) → has_lexical (append before (declaration K ds ▸ rest)) ≡ false → not (is_lexical K) ≡ true
+among_plain none rest K ds e = ap not (or_parts (is_lexical K) (has_lexical rest) e).0
+among_plain (t ▸ before) rest K ds e = among_plain before rest K ds (or_parts (is_lexical_shape (shape_of t)) (has_lexical (append before (declaration K ds ▸ rest))) e).1
+
+pub row_plain : (W : VariableSet) (p : Tree) (a b : Trees) (e : is_listed_shape (shape_of p) ≡ true) (r : BlockRow W (block (p ▸ a)) (block (p ▸ b))) → has_lexical a ≡ false → declares_var r ≡ true
+unfolding row_stretch stretch
+row_plain W p a b e (inl r) f =
+    let t = row_stretch W p a b e (inl r) in
+    among_plain t.before r.after r.kind (declarator (binding (resolved r.spelling r.symbol)) r.init ▸ none) (sym (ap has_lexical t.read_is) ∙ f)
+row_plain W p a b e (inr (inl r)) f =
+    let t = row_stretch W p a b e (inr (inl r)) in
+    among_plain t.before r.after r.kind (append r.first (declarator (binding (resolved r.spelling r.symbol)) r.init ▸ r.last)) (sym (ap has_lexical t.read_is) ∙ f)
+row_plain W p a b e (inr (inr (inl r))) f =
+    let t = row_stretch W p a b e (inr (inr (inl r))) in
+    among_plain t.before (r.head ▸ r.after) r.kind (append r.first (declarator (binding (resolved r.spelling r.symbol)) r.init ▸ none)) (sym (ap has_lexical t.read_is) ∙ f)
+row_plain W p a b e (inr (inr (inr r))) f =
+    let t = row_stretch W p a b e (inr (inr (inr r))) in
+    among_plain t.before r.after r.kind (append r.first (declarator (binding (resolved r.spelling r.symbol)) r.init ▸ (declarator r.binds r.value ▸ r.last))) (sym (ap has_lexical t.read_is) ∙ f)
+
 -- ---- of a row
 
 pub row_vars : (W : VariableSet) (p : Tree) (a b : Trees) (e : is_listed_shape (shape_of p) ≡ true) (r : BlockRow W (block (p ▸ a)) (block (p ▸ b))) → declares_var r ≡ true → let t = row_stretch W p a b e r in VarThere (resolved t.spelling t.symbol) t.d t.w
@@ -211,11 +235,11 @@ module _ (W : VariableSet) (p : Tree) (a b : Trees) (t : Stretch W p a b) (v : V
   items_fit : (strict : Bool) (o : Depth) → fill strict (each (item_in o)) (around t.d) ≡ true → fill strict (each (item_in o)) (around t.w) ≡ true
   items_fit strict o e = sym (ap (fill strict (each (item_in o))) t.written_is) ∙ list_fits p a b t o strict (ap (fill strict (each (item_in o))) t.read_is ∙ e)
 
-  pub list_keeps : Keeping t.spelling t.symbol the_statements (listed a) (listed b)
+  pub list_keeps : Keeping t.spelling t.symbol way.Statements (listed a) (listed b)
   list_keeps =
       let l = t.loses.leaves in
-      subst (λ ts. Keeping t.spelling t.symbol the_statements (listed ts) (listed b)) (sym t.read_is)
-      (subst (λ ts. Keeping t.spelling t.symbol the_statements (listed (around t.d)) (listed ts)) (sym t.written_is)
+      subst (λ ts. Keeping t.spelling t.symbol way.Statements (listed ts) (listed b)) (sym t.read_is)
+      (subst (λ ts. Keeping t.spelling t.symbol way.Statements (listed (around t.d)) (listed ts)) (sym t.written_is)
       (record {
         shape = refl;
         lexical = lexical_around;

@@ -1,32 +1,31 @@
 -- The nodes on the way to a `var` further inside a body, each with what stands before the place in it, and what they do to names and scopes.
-use Rattle.std.specs.Prelude.{ℕ, zero, suc, ◌+◌, ◌≤◌, ◌≡◌, refl, ◌&&◌, not, Bool, true, false, List, [], ◌∷◌, ◌++◌, Option, Some, None, unwrap_or, if◌then◌else◌}
+use Rattle.std.specs.Prelude.{ℕ, suc, ◌≡◌, refl, Bool, true, false, List, [], ◌∷◌, ◌++◌, Option, Some, None, unwrap_or, if◌then◌else◌}
 use Rattle.std.proofs.Common.{ap, ◌∙◌, sym, subst, arith, append_assoc}
-use Rattle.mini_model.specs.declared.kind.PropertyKind.{PropertyKind}
 use Rattle.mini_model.specs.declared.name.Name.{Name}
 use Rattle.mini_model.specs.declared.shape.Shape.{Shape}
 use Rattle.mini_model.specs.declared.shape.Shape.TheVariants as shape
 use Rattle.mini_model.specs.Tree.{Tree, Trees, node, none, ◌▸◌, shape_of, count, child_or_absent}
-use Rattle.mini_laws.specs.declared.names.Binding.{Binding}
 use Rattle.mini_laws.specs.declared.names.Declaration.{Declaration}
 use Rattle.mini_laws.specs.declared.names.Declared.{Declared}
 use Rattle.mini_laws.specs.declared.names.Declared.TheVariants as declared
-use Rattle.mini_laws.specs.declared.names.Label.{Label}
 use Rattle.mini_laws.specs.declared.names.Use.{Use}
-use Rattle.mini_laws.specs.Bodies.{Around, Body, below, body_of}
+use Rattle.mini_laws.specs.Bodies.{Around, below, body_of}
 use Rattle.mini_laws.specs.DeclaredNames.{names_of, all_names}
-use Rattle.mini_laws.specs.Early.{Path, own_declarations, declarations, scope_declarations, at_child, in_param, label_by, label_in, label_for, is_loop, last_is_loop, last_by, is_labeled, is_loop_shape, children_of_node, is_function_shape}
+use Rattle.mini_laws.specs.Early.{Path, own_declarations, declarations, scope_declarations, at_child, in_param, label_by, label_in, label_for, is_loop, last_is_loop, last_by, is_labeled, is_loop_shape, children_of_node}
 use Rattle.mini_laws.specs.Fixity.{fixity_by}
 use Rattle.mini_laws.specs.Path.{join}
 use Rattle.mini_laws.specs.Scopes.{use_of, opening_of, scopes_by, lexical_scope}
 use Rattle.mini_laws.specs.State.{Writable}
 use Rattle.mini_kept.specs.Declaring.{declared_by}
-use Rattle.mini_kept.specs.Frames.{Frame, frame_of, property_below}
+use Rattle.mini_kept.specs.Frames.{frame_of, property_below}
 use Rattle.mini_kept.specs.KeepsNames.{is_read}
 use Rattle.mini_kept.specs.SameNames.{NoMoreClash}
 use Rattle.mini_kept.proofs.Clashes.{counted_unplaced, no_more_same, no_more_both}
 use Rattle.mini_kept.proofs.Unplaced.{as_body, all_as_body, declared_is, own_both}
 use Rattle.mini_kept.specs.SameNames.{counted}
-use Rattle.mini_rows.specs.Inside.{Way, a_statement, the_statements, the_cases, a_case, a_catch, way_in}
+use Rattle.mini_rows.specs.declared.inside.Way.{Way}
+use Rattle.mini_rows.specs.declared.inside.Way.TheVariants as way
+use Rattle.mini_rows.specs.Inside.{way_in}
 use Rattle.mini_rows.proofs.ArrangedBodies.{quiet}
 use Rattle.mini_rows.proofs.FunctionBodyKept.{clash_there}
 
@@ -53,20 +52,20 @@ pub data Stage : Type 0 where
 
 -- what each stands as
 abbrev pub from : Stage → Way
-from (Items ts) = the_statements
-from (Cases ts) = the_cases
-from (Case t) = a_case
-from (Handler t) = a_catch
-from g = a_statement
+from (Items ts) = way.Statements
+from (Cases ts) = way.Cases
+from (Case t) = way.Case
+from (Handler t) = way.Catch
+from g = way.Statement
 
 -- and what stands in it
 abbrev pub to : Stage → Way
-to Braces = the_statements
-to (Caught t) = a_catch
-to (Switched t) = the_cases
-to (Cases ts) = a_case
-to (Case t) = the_statements
-to g = a_statement
+to Braces = way.Statements
+to (Caught t) = way.Catch
+to (Switched t) = way.Cases
+to (Cases ts) = way.Case
+to (Case t) = way.Statements
+to g = way.Statement
 
 abbrev pub head : Stage → Shape
 head Braces = shape.BlockStatement
@@ -118,59 +117,59 @@ pub record View (s : Way) (h : Shape) (pre : Trees) (r : Way) : Type 0 where
   pub to_is : to stage ≡ r
 
 abbrev given : Option Way → Way
-given None = a_case
+given None = way.Case
 given (Some r) = r
 
 at : (g : Stage) (r : Way) → Some (to g) ≡ Some r → View (from g) (head g) (before g) r
 at g r e = record { stage = g; from_is = refl; head_is = refl; before_is = refl; to_is = ap given e }
 
+none_some : {A : Type 0} {x : A} → None ≡ Some x → ⊥
+none_some e = cc e
+
 pub view : (s : Way) (h : Shape) (pre : Trees) (r : Way) → way_in s h (count pre) ≡ Some r → View s h pre r
-view a_statement shape.BlockStatement none r e = at Braces r e
-view a_statement shape.BlockStatement (a ▸ pre) r e = absurd (cc e)
-view a_statement shape.IfStatement none r e = absurd (cc e)
-view a_statement shape.IfStatement (a ▸ none) r e = at (Then a) r e
-view a_statement shape.IfStatement (a ▸ (b ▸ none)) r e = at (Else a b) r e
-view a_statement shape.IfStatement (a ▸ (b ▸ (c ▸ pre))) r e = absurd (cc e)
-view a_statement shape.WhileStatement none r e = absurd (cc e)
-view a_statement shape.WhileStatement (a ▸ none) r e = at (While a) r e
-view a_statement shape.WhileStatement (a ▸ (b ▸ pre)) r e = absurd (cc e)
-view a_statement shape.DoWhileStatement none r e = at Doing r e
-view a_statement shape.DoWhileStatement (a ▸ pre) r e = absurd (cc e)
-view a_statement shape.ForStatement none r e = absurd (cc e)
-view a_statement shape.ForStatement (a ▸ none) r e = absurd (cc e)
-view a_statement shape.ForStatement (a ▸ (b ▸ none)) r e = absurd (cc e)
-view a_statement shape.ForStatement (a ▸ (b ▸ (c ▸ none))) r e = at (For a b c) r e
-view a_statement shape.ForStatement (a ▸ (b ▸ (c ▸ (d ▸ pre)))) r e = absurd (cc e)
-view a_statement shape.ForInStatement none r e = absurd (cc e)
-view a_statement shape.ForInStatement (a ▸ none) r e = absurd (cc e)
-view a_statement shape.ForInStatement (a ▸ (b ▸ none)) r e = at (ForIn a b) r e
-view a_statement shape.ForInStatement (a ▸ (b ▸ (c ▸ pre))) r e = absurd (cc e)
-view a_statement shape.ForOfStatement none r e = absurd (cc e)
-view a_statement shape.ForOfStatement (a ▸ none) r e = absurd (cc e)
-view a_statement shape.ForOfStatement (a ▸ (b ▸ none)) r e = at (ForOf a b) r e
-view a_statement shape.ForOfStatement (a ▸ (b ▸ (c ▸ pre))) r e = absurd (cc e)
-view a_statement shape.LabeledStatement none r e = absurd (cc e)
-view a_statement shape.LabeledStatement (a ▸ none) r e = at (Labeled a) r e
-view a_statement shape.LabeledStatement (a ▸ (b ▸ pre)) r e = absurd (cc e)
-view a_statement shape.TryStatement none r e = at Tried r e
-view a_statement shape.TryStatement (a ▸ none) r e = at (Caught a) r e
-view a_statement shape.TryStatement (a ▸ (b ▸ none)) r e = at (Finally a b) r e
-view a_statement shape.TryStatement (a ▸ (b ▸ (c ▸ pre))) r e = absurd (cc e)
-view a_statement shape.SwitchStatement none r e = absurd (cc e)
-view a_statement shape.SwitchStatement (a ▸ none) r e = at (Switched a) r e
-view a_statement shape.SwitchStatement (a ▸ (b ▸ pre)) r e = absurd (cc e)
-view the_statements shape.Listed pre r e = at (Items pre) r e
-view the_cases shape.Listed pre r e = at (Cases pre) r e
-view a_case shape.SwitchCase none r e = absurd (cc e)
-view a_case shape.SwitchCase (a ▸ none) r e = at (Case a) r e
-view a_case shape.SwitchCase (a ▸ (b ▸ pre)) r e = absurd (cc e)
-view a_catch shape.CatchClause none r e = absurd (cc e)
-view a_catch shape.CatchClause (a ▸ none) r e = at (Handler a) r e
-view a_catch shape.CatchClause (a ▸ (b ▸ pre)) r e = absurd (cc e)
+view way.Statement shape.BlockStatement none r e = at Braces r e
+view way.Statement shape.BlockStatement (a ▸ pre) r e = absurd (none_some e)
+view way.Statement shape.IfStatement none r e = absurd (none_some e)
+view way.Statement shape.IfStatement (a ▸ none) r e = at (Then a) r e
+view way.Statement shape.IfStatement (a ▸ (b ▸ none)) r e = at (Else a b) r e
+view way.Statement shape.IfStatement (a ▸ (b ▸ (c ▸ pre))) r e = absurd (none_some e)
+view way.Statement shape.WhileStatement none r e = absurd (none_some e)
+view way.Statement shape.WhileStatement (a ▸ none) r e = at (While a) r e
+view way.Statement shape.WhileStatement (a ▸ (b ▸ pre)) r e = absurd (none_some e)
+view way.Statement shape.DoWhileStatement none r e = at Doing r e
+view way.Statement shape.DoWhileStatement (a ▸ pre) r e = absurd (none_some e)
+view way.Statement shape.ForStatement none r e = absurd (none_some e)
+view way.Statement shape.ForStatement (a ▸ none) r e = absurd (none_some e)
+view way.Statement shape.ForStatement (a ▸ (b ▸ none)) r e = absurd (none_some e)
+view way.Statement shape.ForStatement (a ▸ (b ▸ (c ▸ none))) r e = at (For a b c) r e
+view way.Statement shape.ForStatement (a ▸ (b ▸ (c ▸ (d ▸ pre)))) r e = absurd (none_some e)
+view way.Statement shape.ForInStatement none r e = absurd (none_some e)
+view way.Statement shape.ForInStatement (a ▸ none) r e = absurd (none_some e)
+view way.Statement shape.ForInStatement (a ▸ (b ▸ none)) r e = at (ForIn a b) r e
+view way.Statement shape.ForInStatement (a ▸ (b ▸ (c ▸ pre))) r e = absurd (none_some e)
+view way.Statement shape.ForOfStatement none r e = absurd (none_some e)
+view way.Statement shape.ForOfStatement (a ▸ none) r e = absurd (none_some e)
+view way.Statement shape.ForOfStatement (a ▸ (b ▸ none)) r e = at (ForOf a b) r e
+view way.Statement shape.ForOfStatement (a ▸ (b ▸ (c ▸ pre))) r e = absurd (none_some e)
+view way.Statement shape.LabeledStatement none r e = absurd (none_some e)
+view way.Statement shape.LabeledStatement (a ▸ none) r e = at (Labeled a) r e
+view way.Statement shape.LabeledStatement (a ▸ (b ▸ pre)) r e = absurd (none_some e)
+view way.Statement shape.TryStatement none r e = at Tried r e
+view way.Statement shape.TryStatement (a ▸ none) r e = at (Caught a) r e
+view way.Statement shape.TryStatement (a ▸ (b ▸ none)) r e = at (Finally a b) r e
+view way.Statement shape.TryStatement (a ▸ (b ▸ (c ▸ pre))) r e = absurd (none_some e)
+view way.Statement shape.SwitchStatement none r e = absurd (none_some e)
+view way.Statement shape.SwitchStatement (a ▸ none) r e = at (Switched a) r e
+view way.Statement shape.SwitchStatement (a ▸ (b ▸ pre)) r e = absurd (none_some e)
+view way.Statements shape.Listed pre r e = at (Items pre) r e
+view way.Cases shape.Listed pre r e = at (Cases pre) r e
+view way.Case shape.SwitchCase none r e = absurd (none_some e)
+view way.Case shape.SwitchCase (a ▸ none) r e = at (Case a) r e
+view way.Case shape.SwitchCase (a ▸ (b ▸ pre)) r e = absurd (none_some e)
+view way.Catch shape.CatchClause none r e = absurd (none_some e)
+view way.Catch shape.CatchClause (a ▸ none) r e = at (Handler a) r e
+view way.Catch shape.CatchClause (a ▸ (b ▸ pre)) r e = absurd (none_some e)
 view s h pre r e = absurd (none_some e)
-  where
-    none_some : {A : Type 0} {x : A} → None ≡ Some x → ⊥
-    none_some e = cc e
 
 -- ---- names
 
@@ -211,7 +210,7 @@ behind i (t ▸ pre) = behind (suc i) pre
 
 -- a list of statements is read
 abbrev pub Fine : Way → Use → Type 0
-Fine the_statements v = is_read v ≡ true
+Fine way.Statements v = is_read v ≡ true
 Fine s v = Unit {0}
 
 pub fine : (g : Stage) (v : Use) → Fine (from g) v → Fine (to g) (use_of (head g) v (behind 0 (before g)))
@@ -296,7 +295,7 @@ declared_less p c d less =
 abbrev pub BlockLess : Tree → Tree → Type 0
 BlockLess c d = NoMoreClash (as_body false (child_or_absent (children_of_node d) 0)) (as_body false (child_or_absent (children_of_node c) 0))
 
-pub scope_less : (g : Stage) (c d : Tree) (post : Trees) → NoMoreClash (as_body false d) (as_body false c) → (to g ≡ a_statement → BlockLess c d) → NoMoreClash (own_declarations false [] (names_of declared.Hoisted d)) (own_declarations false [] (names_of declared.Hoisted c))
+pub scope_less : (g : Stage) (c d : Tree) (post : Trees) → NoMoreClash (as_body false d) (as_body false c) → (to g ≡ way.Statement → BlockLess c d) → NoMoreClash (own_declarations false [] (names_of declared.Hoisted d)) (own_declarations false [] (names_of declared.Hoisted c))
     → NoMoreClash (scope_declarations (head g) [] (join (before g) d post)) (scope_declarations (head g) [] (join (before g) c post))
 unfolding scope_declarations
 scope_less Braces c d post b k h = clash_there false (0 ∷ []) c d b
@@ -328,7 +327,7 @@ body_less (Case a) o c d post b h = joined_less o (a ▸ none) c d post b
 body_less (Handler a) o c d post b h = h
 body_less g o c d post b h = h
 
-pub block_less : (g : Stage) → from g ≡ a_statement → (c d : Tree) (post : Trees) → NoMoreClash (as_body false d) (as_body false c) → BlockLess (over g c post) (over g d post)
+pub block_less : (g : Stage) → from g ≡ way.Statement → (c d : Tree) (post : Trees) → NoMoreClash (as_body false d) (as_body false c) → BlockLess (over g c post) (over g d post)
 block_less Braces s c d post b = b
 block_less Doing s c d post b = b
 block_less Tried s c d post b = b

@@ -1,25 +1,25 @@
 -- What the row of a `var` further inside a body writes is lighter.
-use Rattle.std.specs.Prelude.{ℕ, zero, suc, ◌+◌, ◌<◌, ◌≤◌, ◌≡◌, refl, not, Bool, true, false, List, [], ◌∷◌, length, Option, Some, None}
+use Rattle.std.specs.Prelude.{ℕ, zero, suc, ◌+◌, ◌<◌, ◌≤◌, ◌≡◌, refl, true, [], ◌∷◌, length, Option, Some, None}
 use Rattle.std.proofs.Common.{ap, ◌∙◌, sym, subst, inl, inr, true≢false, arith}
-use Rattle.mini_model.specs.declared.kind.VariableDeclarationKind.{VariableDeclarationKind}
 use Rattle.mini_model.specs.declared.place.Position.{Position}
-use Rattle.mini_model.specs.declared.place.Position.TheVariants.{Expr, Stmt, Method, StatementList, Elsewhere}
+use Rattle.mini_model.specs.declared.place.Position.TheVariants.{Expr, Stmt, StatementList, Elsewhere}
 use Rattle.mini_model.specs.declared.seat.StmtSeat.TheVariants as stmt_seat
 use Rattle.mini_model.specs.declared.shape.Shape.{Shape}
-use Rattle.mini_model.specs.Tree.{Tree, Trees, node, none, ◌▸◌, absent, listed, count, expression_statement}
+use Rattle.mini_model.specs.Tree.{Tree, Trees, none, ◌▸◌, absent, listed, count, expression_statement}
 use Rattle.mini_model.specs.Paths.{append}
 use Rattle.mini_model.specs.Position.{child_position}
-use Rattle.mini_model.specs.Weight.{Outline, plain_outline, outline, outlines, one_chooses, weight}
-use Rattle.mini_laws.specs.Path.{Path, here, inside, join, count_joined, plug, position_at}
+use Rattle.mini_model.specs.Weight.{plain_outline, outline, outlines, one_chooses, weight}
+use Rattle.mini_laws.specs.Path.{Path, here, inside, count_joined, plug, position_at}
 use Rattle.mini_laws.specs.Value.{VariableSet}
-use Rattle.mini_laws.specs.Weights.{own_above}
 use Rattle.mini_laws.proofs.Weights.{replacement, own_kept}
-use Rattle.mini_rows.specs.Declarations.{binding, declarator}
-use Rattle.mini_rows.specs.Inside.{Way, a_statement, the_statements, the_cases, a_case, a_catch, way_in, is_way, Holder, Arrow, Function, Module, Static, held, stands_at, InsideRow, InsideContracts, InsideLighter, InsideLightens}
+use Rattle.mini_rows.specs.Declarations.{declarator}
+use Rattle.mini_rows.specs.declared.inside.Way.{Way}
+use Rattle.mini_rows.specs.declared.inside.Way.TheVariants as way
+use Rattle.mini_rows.specs.Inside.{above, way_in, is_way, Holder, Arrow, Function, Module, Static, over, stands_at, InsideRow, InsideLighter, InsideLightens}
 use Rattle.mini_rows.specs.Lists.{block, declaration}
 use Rattle.mini_rows.specs.Unused.{resolved, declared_one, declared_among, declared_left, put_first, BlockRow}
 use Rattle.mini_rows.proofs.InsideLoses.{no_way}
-use Rattle.mini_rows.proofs.InsideStages.{Stage, Braces, Case, to, from, head, before, view}
+use Rattle.mini_rows.proofs.InsideStages.{Stage, Braces, Case, to, head, before, view}
 use Rattle.mini_rows.proofs.ListWeights.{total, list_is, body_is, in_list}
 use Rattle.mini_rows.proofs.UnusedStretches.{Stretch, stretch, row_stretch}
 use Rattle.mini_rows.proofs.UnusedWeights.{same_choice, same_chooses, block_lighter}
@@ -54,24 +54,24 @@ behind (t ▸ ts) = ts
 stretched_outline : (W : VariableSet) (p : Tree) (a b : Trees) (t : Stretch W p a b) → outline (listed (append t.before (append t.d t.after))) ≡ outline (listed (append t.before (append t.w t.after))) → outline (listed a) ≡ outline (listed b)
 stretched_outline W p a b t e = ap (λ ts. outline (listed ts)) t.read_is ∙ e ∙ sym (ap (λ ts. outline (listed ts)) t.written_is)
 
-row_outline : (W : VariableSet) (p : Tree) (a b : Trees) → (r : BlockRow W (block (listed (p ▸ none) ▸ a)) (block (listed (p ▸ none) ▸ b))) → let t = row_stretch W (listed (p ▸ none)) a b refl r in outline (listed (append t.before (append t.d t.after))) ≡ outline (listed (append t.before (append t.w t.after)))
+row_outline : (W : VariableSet) (p : Trees) (a b : Trees) → (r : BlockRow W (block (listed p ▸ a)) (block (listed p ▸ b))) → let t = row_stretch W (listed p) a b refl r in outline (listed (append t.before (append t.d t.after))) ≡ outline (listed (append t.before (append t.w t.after)))
 unfolding row_stretch stretch
-row_outline W p a b (inl r) = let t = row_stretch W (listed (p ▸ none)) a b refl (inl r) in one_outline t.before r.after (declared_one r.kind (resolved r.spelling r.symbol) r.init) (expression_statement r.init) refl
+row_outline W p a b (inl r) = let t = row_stretch W (listed p) a b refl (inl r) in one_outline t.before r.after (declared_one r.kind (resolved r.spelling r.symbol) r.init) (expression_statement r.init) refl
 row_outline W p a b (inr (inl r)) =
-    let t = row_stretch W (listed (p ▸ none)) a b refl (inr (inl r)) in
+    let t = row_stretch W (listed p) a b refl (inr (inl r)) in
     one_outline t.before r.after (declared_among r.kind (resolved r.spelling r.symbol) r.first r.init r.last) (declared_left r.kind (append r.first r.last)) (same_chooses r.kind (resolved r.spelling r.symbol) r.first r.last r.init)
 row_outline W p a b (inr (inr (inl r))) =
-    let t = row_stretch W (listed (p ▸ none)) a b refl (inr (inr (inl r))) in
+    let t = row_stretch W (listed p) a b refl (inr (inr (inl r))) in
     two_outlines t.before r.after (declared_among r.kind (resolved r.spelling r.symbol) r.first r.init none) r.head (declared_left r.kind r.first) (put_first (resolved r.spelling r.symbol) r.init r.head)
 row_outline W p a b (inr (inr (inr r))) =
-    let t = row_stretch W (listed (p ▸ none)) a b refl (inr (inr (inr r))) in
+    let t = row_stretch W (listed p) a b refl (inr (inr (inr r))) in
     let x = resolved r.spelling r.symbol in
     one_outline t.before r.after (declared_among r.kind x r.first r.init (declarator r.binds r.value ▸ r.last)) (declaration r.kind (append r.first (declarator r.binds (put_first x r.init r.value) ▸ r.last))) refl
 
 -- ---- where it stands
 
 abbrev Placed : Way → Position → Type 0
-Placed the_statements p = p ≡ StatementList
+Placed way.Statements p = p ≡ StatementList
 Placed w p = Unit {0}
 
 placed : (g : Stage) (p : Position) (m : ℕ) → Placed (to g) (child_position (head g) p m (count (before g)))
@@ -89,11 +89,11 @@ placed_by w h pre k p m P None z rest e = absurd (no_way k e)
 placed_by w h pre k p m P (Some r) z rest e = rest r e (step_placed w h pre r p m z)
 
 list_placed : (w : Way) (k : Path) (p : Position) → is_way (Some w) k ≡ true → Placed w p → position_at k p ≡ StatementList
-list_placed the_statements here p e f = f
-list_placed a_statement here p e f = absurd (true≢false (sym e))
-list_placed the_cases here p e f = absurd (true≢false (sym e))
-list_placed a_case here p e f = absurd (true≢false (sym e))
-list_placed a_catch here p e f = absurd (true≢false (sym e))
+list_placed way.Statements here p e f = f
+list_placed way.Statement here p e f = absurd (true≢false (sym e))
+list_placed way.Cases here p e f = absurd (true≢false (sym e))
+list_placed way.Case here p e f = absurd (true≢false (sym e))
+list_placed way.Catch here p e f = absurd (true≢false (sym e))
 list_placed w (inside h [] zero pre k post) p e f =
     placed_by w h pre k p (count_joined pre post) (λ z. position_at k z ≡ StatementList) (way_in w h (count pre)) refl (λ r g b. list_placed r k (child_position h p (count_joined pre post) (count pre)) g b) e
 list_placed w (inside h [] (suc n) pre k post) p e f = absurd (true≢false (sym e))
@@ -102,24 +102,24 @@ list_placed w (inside h (y ∷ ys) n pre k post) p e f = absurd (true≢false (s
 -- ---- the body
 
 module _ (W : VariableSet) (n w : Tree) (r : InsideRow W n w) where
-  abbrev whole : Tree
-  whole = held r.holder (append r.first (plug r.place absent ▸ r.last))
+  abbrev whole : Trees
+  whole = over r.holder absent ▸ (listed (append r.first (absent ▸ r.last)) ▸ above r.place)
 
   lists_fall : total r.left + 1 ≤ total r.list
   lists_fall =
-      let front = listed (whole ▸ none) in
+      let front = listed whole in
       let less = block_lighter stmt_seat.List (block (front ▸ r.list)) (block (front ▸ r.left)) r.row in
       omega (arith, less, list_is (front ▸ r.list), list_is (front ▸ r.left))
 
   same_outline : outline (listed r.list) ≡ outline (listed r.left)
-  same_outline = let front = listed (whole ▸ none) in stretched_outline W front r.list r.left (row_stretch W front r.list r.left refl r.row) (row_outline W whole r.list r.left r.row)
+  same_outline = let front = listed whole in stretched_outline W front r.list r.left (row_stretch W front r.list r.left refl r.row) (row_outline W whole r.list r.left r.row)
 
   statement_falls : total (plug r.place (listed r.left) ▸ none) + 1 ≤ total (plug r.place (listed r.list) ▸ none)
   statement_falls =
       let at = Stmt stmt_seat.List in
       let whole = replacement r.place (listed r.list) (listed r.left) at in
       let above = own_kept r.place (listed r.list) (listed r.left) at same_outline in
-      let there = list_placed a_statement r.place at r.way tt in
+      let there = list_placed way.Statement r.place at r.there tt in
       let old = ap (λ q. weight q (listed r.list)) there in
       let new = ap (λ q. weight q (listed r.left)) there in
       omega (arith, whole, above, old, new, lists_fall, list_is r.list, list_is r.left)
@@ -133,7 +133,7 @@ module _ (W : VariableSet) (n w : Tree) (r : InsideRow W n w) where
   body_falls : total later + 1 ≤ total earlier
   body_falls = let less = in_list r.first (plug r.place (listed r.list) ▸ none) (plug r.place (listed r.left) ▸ none) r.last 1 statement_falls in omega (arith, less, list_is earlier, list_is later)
 
-held_lighter : (o : Holder) (p : Position) (a b : Trees) → stands_at o p ≡ true → total b + 1 ≤ total a → weight p (held o b) < weight p (held o a)
+held_lighter : (o : Holder) (p : Position) (a b : Trees) → stands_at o p ≡ true → total b + 1 ≤ total a → weight p (over o (listed b)) < weight p (over o (listed a))
 held_lighter (Arrow ds n ps) (Expr s) a b e f = omega (arith, f, body_is a, body_is b)
 held_lighter (Arrow ds n ps) p a b e f = absurd (cc e)
 held_lighter (Function d g ds n name ps) p a b e f = omega (arith, f, body_is a, body_is b)
@@ -147,7 +147,7 @@ inside_lighter W p n w r s =
     let less = held_lighter r.holder p (earlier W n w r) (later W n w r) s (body_falls W n w r) in
     omega (arith, less, ap (weight p) r.shape, ap (weight p) r.written)
 
-held_outline : (o : Holder) (a b : Trees) → outline (held o a) ≡ outline (held o b)
+held_outline : (o : Holder) (a b : Trees) → outline (over o (listed a)) ≡ outline (over o (listed b))
 held_outline (Arrow ds n ps) a b = refl
 held_outline (Function d g ds n name ps) a b = refl
 held_outline (Module ds) a b = refl

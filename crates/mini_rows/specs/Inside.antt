@@ -1,75 +1,103 @@
 -- Rows 71 and 72 of a `var` that stands further inside the body that it belongs to, with the JavaScript before and after.
-use Rattle.std.specs.Prelude.{◌≡◌, ◌<◌, not, ℕ, zero, suc, Bool, true, false, List, [], ◌∷◌, Option, Some, None}
-use Rattle.std.proofs.Common.{inl, inr}
-use Rattle.mini_model.specs.declared.name.Name.{Name}
+use Rattle.std.specs.Prelude.{◌≡◌, ◌<◌, ◌||◌, ℕ, zero, suc, Bool, true, false, List, [], Option, Some, None, if◌then◌else◌}
 use Rattle.mini_model.specs.declared.place.Position.{Position}
 use Rattle.mini_model.specs.declared.place.Position.TheVariants.{Expr, Stmt, Method, Elsewhere}
 use Rattle.mini_model.specs.declared.shape.Shape.{Shape}
 use Rattle.mini_model.specs.declared.shape.Shape.TheVariants as shape
-use Rattle.mini_model.specs.Tree.{Tree, Trees, none, ◌▸◌, absent, listed, count, program}
+use Rattle.mini_model.specs.Tree.{Tree, Trees, node, none, ◌▸◌, absent, listed, count, shape_of}
 use Rattle.mini_model.specs.Paths.{append}
 use Rattle.mini_model.specs.Weight.{weight}
 use Rattle.mini_laws.specs.Naming.{is_lexical}
-use Rattle.mini_laws.specs.Path.{Path, here, inside, plug}
+use Rattle.mini_laws.specs.Path.{Path, here, inside, join, plug}
 use Rattle.mini_laws.specs.Value.{VariableSet}
 use Rattle.mini_laws.specs.Weights.{Lightens}
 use Rattle.mini_kept.specs.Loosely.{LawfulWith}
+use Rattle.mini_node.specs.Kinds.{is_listed_shape}
+use Rattle.mini_rows.specs.declared.inside.Way.{Way}
+use Rattle.mini_rows.specs.declared.inside.Way.TheVariants as way
 use Rattle.mini_rows.specs.Lists.{block}
-use Rattle.mini_rows.specs.Unused.{arrow_with, function_with, static_block, BlockRow}
+use Rattle.mini_rows.specs.Unused.{BlockRow}
 
 -- ---- the way to it
 
--- what stands at a place on it: a statement, a list of statements, the cases of a switch, one of them, or a `catch`
-pub data Way : Type 0 where
-  a_statement : Way
-  the_statements : Way
-  the_cases : Way
-  a_case : Way
-  a_catch : Way
+-- one at a place
+abbrev pub at_place : ℕ → Way → ℕ → Option Way
+at_place zero w zero = Some w
+at_place (suc n) w (suc i) = at_place n w i
+at_place n w i = None
 
--- what stands at the child of such a node, where a `var` in it is one of what is around the node (ECMA-262, "Static Semantics:
+abbrev pub first_of : Option Way → Option Way → Option Way
+first_of (Some w) o = Some w
+first_of None o = o
+
+-- in the branches of an `if`, and in a `try`: its block, its handler and what runs finally
+abbrev pub branch_way : ℕ → Option Way
+branch_way i = first_of (at_place 1 way.Statement i) (at_place 2 way.Statement i)
+
+abbrev pub try_way : ℕ → Option Way
+try_way i = first_of (at_place 1 way.Catch i) (first_of (at_place 0 way.Statement i) (at_place 2 way.Statement i))
+
+-- what stands at the child of a statement, where a `var` in it is one of what is around the statement (ECMA-262, "Static Semantics:
 -- VarDeclaredNames"): none goes into a function or a class
+abbrev pub statement_way : Shape → ℕ → Option Way
+statement_way shape.BlockStatement i = at_place 0 way.Statements i
+statement_way shape.IfStatement i = branch_way i
+statement_way shape.WhileStatement i = at_place 1 way.Statement i
+statement_way shape.DoWhileStatement i = at_place 0 way.Statement i
+statement_way shape.ForStatement i = at_place 3 way.Statement i
+statement_way shape.ForInStatement i = at_place 2 way.Statement i
+statement_way shape.ForOfStatement i = at_place 2 way.Statement i
+statement_way shape.LabeledStatement i = at_place 1 way.Statement i
+statement_way shape.TryStatement i = try_way i
+statement_way shape.SwitchStatement i = at_place 1 way.Cases i
+statement_way h i = None
+
+abbrev pub is_case_shape : Shape → Bool
+is_case_shape shape.SwitchCase = true
+is_case_shape h = false
+
+abbrev pub is_catch_shape : Shape → Bool
+is_catch_shape shape.CatchClause = true
+is_catch_shape h = false
+
+-- and at that of what else stands on the way
 abbrev pub way_in : Way → Shape → ℕ → Option Way
-way_in a_statement shape.BlockStatement zero = Some the_statements
-way_in a_statement shape.IfStatement (suc zero) = Some a_statement
-way_in a_statement shape.IfStatement (suc (suc zero)) = Some a_statement
-way_in a_statement shape.WhileStatement (suc zero) = Some a_statement
-way_in a_statement shape.DoWhileStatement zero = Some a_statement
-way_in a_statement shape.ForStatement (suc (suc (suc zero))) = Some a_statement
-way_in a_statement shape.ForInStatement (suc (suc zero)) = Some a_statement
-way_in a_statement shape.ForOfStatement (suc (suc zero)) = Some a_statement
-way_in a_statement shape.LabeledStatement (suc zero) = Some a_statement
-way_in a_statement shape.TryStatement zero = Some a_statement
-way_in a_statement shape.TryStatement (suc zero) = Some a_catch
-way_in a_statement shape.TryStatement (suc (suc zero)) = Some a_statement
-way_in a_statement shape.SwitchStatement (suc zero) = Some the_cases
-way_in the_statements shape.Listed i = Some a_statement
-way_in the_cases shape.Listed i = Some a_case
-way_in a_case shape.SwitchCase (suc zero) = Some the_statements
-way_in a_catch shape.CatchClause (suc zero) = Some a_statement
-way_in s h i = None
+way_in way.Statement h i = statement_way h i
+way_in way.Statements h i = if is_listed_shape h then Some way.Statement else None
+way_in way.Cases h i = if is_listed_shape h then Some way.Case else None
+way_in way.Case h i = if is_case_shape h then at_place 1 way.Statements i else None
+way_in way.Catch h i = if is_catch_shape h then at_place 1 way.Statement i else None
 
 -- the place is a list of statements that is reached so
 abbrev pub is_way : Option Way → Path → Bool
-is_way (Some the_statements) here = true
+is_way (Some way.Statements) here = true
 is_way s here = false
 is_way (Some s) (inside h [] zero pre k post) = is_way (way_in s h (count pre)) k
 is_way s (inside h xs n pre k post) = false
 
+-- the nodes on the way to it, each without what the way goes into
+abbrev pub above : Path → Trees
+above here = none
+above (inside h xs n pre k post) = node h xs n (join pre absent post) ▸ above k
+
 -- ---- the body that it belongs to
 
--- an arrow function, any other function, a module, and a static block, each with all but its statements
+-- an arrow function, any other function, a module, and a static block, each with all but its list of statements
 pub data Holder : Type 0 where
   Arrow : List (List ℕ) → ℕ → Trees → Holder
   Function : Bool → Bool → List (List ℕ) → ℕ → Tree → Trees → Holder
   Module : List (List ℕ) → Holder
   Static : ℕ → Holder
 
-abbrev pub held : Holder → Trees → Tree
-held (Arrow directives n parameters) ts = arrow_with directives n parameters ts
-held (Function is_declared is_generator directives n name parameters) ts = function_with is_declared is_generator directives n name parameters ts
-held (Module directives) ts = program true directives ts
-held (Static n) ts = static_block n ts
+-- `{ .. }`, as a body over such a list
+abbrev pub body_over : Tree → Tree
+body_over l = node shape.FunctionBody [] 0 (l ▸ none)
+
+abbrev pub over : Holder → Tree → Tree
+over (Arrow directives n parameters) l = node (shape.ArrowFunctionExpression directives) [] n (listed parameters ▸ (body_over l ▸ none))
+over (Function is_declared is_generator directives n name parameters) l = node (shape.Function is_declared is_generator directives) [] n (name ▸ (listed parameters ▸ (body_over l ▸ none)))
+over (Module directives) l = node (shape.Program true directives) [] 0 (l ▸ none)
+over (Static n) l = node shape.StaticBlock [] n (l ▸ none)
 
 -- where it stands
 abbrev pub stands_at : Holder → Position → Bool
@@ -84,17 +112,19 @@ stands_at o p = false
 
 -- ---- the rows
 
--- what goes is a `var`
-abbrev pub declares_var : {W : VariableSet} {n w : Tree} → BlockRow W n w → Bool
-declares_var (inl r) = not (is_lexical r.kind)
-declares_var (inr (inl r)) = not (is_lexical r.kind)
-declares_var (inr (inr (inl r))) = not (is_lexical r.kind)
-declares_var (inr (inr (inr r))) = not (is_lexical r.kind)
+-- a `let` or a `const` stands in a list
+abbrev pub is_lexical_shape : Shape → Bool
+is_lexical_shape (shape.VariableDeclaration k) = is_lexical k
+is_lexical_shape h = false
+
+abbrev pub has_lexical : Trees → Bool
+has_lexical none = false
+has_lexical (t ▸ ts) = is_lexical_shape (shape_of t) || has_lexical ts
 
 -- `function f(a) { if (a) { var x = b(); return x.c; } }` becomes `function f(a) { if (a) { ; return b().c; } }`, and
 -- `function f(a) { for (;;) { var x = a(); b(); } }` becomes `function f(a) { for (;;) { a(); b(); } }`. All else that stands in the body, with
 -- what it belongs to, is read like what stands before the declaration in a block. Each turn of a loop runs the list anew, so what reads
--- the name right behind its declaration reads what that has written
+-- the name right behind its declaration reads what that has written. In the list stands no `let` and no `const`, so that what goes is a `var`
 pub record InsideRow (W : VariableSet) (n w : Tree) : Type 0 where
   pub holder : Holder
   pub first : Trees
@@ -102,11 +132,11 @@ pub record InsideRow (W : VariableSet) (n w : Tree) : Type 0 where
   pub last : Trees
   pub list : Trees
   pub left : Trees
-  pub row : BlockRow W (block (listed (held holder (append first (plug place absent ▸ last)) ▸ none) ▸ list)) (block (listed (held holder (append first (plug place absent ▸ last)) ▸ none) ▸ left))
-  pub hoisted : declares_var row ≡ true
-  pub way : is_way (Some a_statement) place ≡ true
-  pub shape : n ≡ held holder (append first (plug place (listed list) ▸ last))
-  pub written : w ≡ held holder (append first (plug place (listed left) ▸ last))
+  pub row : BlockRow W (block (listed (over holder absent ▸ (listed (append first (absent ▸ last)) ▸ above place)) ▸ list)) (block (listed (over holder absent ▸ (listed (append first (absent ▸ last)) ▸ above place)) ▸ left))
+  pub plain : has_lexical list ≡ false
+  pub there : is_way (Some way.Statement) place ≡ true
+  pub shape : n ≡ over holder (listed (append first (plug place (listed list) ▸ last)))
+  pub written : w ≡ over holder (listed (append first (plug place (listed left) ▸ last)))
 
 -- at this place, where it weighs less
 pub record InsideContracts (W : VariableSet) (p : Position) (n w : Tree) : Type 0 where

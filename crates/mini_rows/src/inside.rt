@@ -2,6 +2,18 @@
 
 ghost use Rattle.mini_rows.specs.Inside.{InsideIsLawful, InsideLightens, InsideLighter};
 
+/// What stands on the way to a `var` further inside the body that it belongs to.
+#[derive(Clone, Copy)]
+pub enum Way {
+    Statement,
+    /// A list of statements.
+    Statements,
+    /// Those of a switch, in a list.
+    Cases,
+    Case,
+    Catch,
+}
+
 /// What the row writes keeps all that a program has to keep, but a name that nothing mentions: it means the same where nobody
 /// else sees that variable, and those can be written for which it acts.
 pub fn inside_is_lawful()

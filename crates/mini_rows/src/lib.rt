@@ -39,7 +39,7 @@ pub use constants::{constants_are_lawful, constants_lighten, constants_mean_the_
 pub use de_morgan::{de_morgan_is_lawful, de_morgan_lightens, de_morgan_means_the_same};
 pub use declarations::{declarations_are_lawful, declarations_lighten, declarations_same};
 pub use foldings::{foldings_are_lawful, foldings_are_lighter, foldings_mean_the_same};
-pub use inside::{inside_is_lawful, inside_lightens};
+pub use inside::{Way, inside_is_lawful, inside_lightens};
 pub use lets::{lets_are_lawful, lets_lighten};
 pub use lexical::{
     each_tree_fades, lexical_functions_are_lawful, lexical_names_lighten,
