@@ -1,9 +1,11 @@
 pub mod BoundNames
 pub mod PassedParts
 pub mod Places
-pub mod Lent
-pub mod Pairs
+pub mod NextPlaces
 pub mod PastRows
-pub mod InFunctions
+pub mod NextRows
+pub mod Swept
+pub mod Holders
+pub mod Steps
 pub mod Written
 pub mod Lawful

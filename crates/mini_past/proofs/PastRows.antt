@@ -9,20 +9,20 @@ use Rattle.mini_model.specs.Paths.{append}
 use Rattle.mini_kept.specs.Without.{Assured}
 use Rattle.mini_laws.specs.Naming.{is_lexical}
 use Rattle.mini_laws.specs.ScopeList.{has_eval}
-use Rattle.mini_laws.specs.Value.{nothing}
+use Rattle.mini_laws.specs.Value.{VariableSet}
 use Rattle.mini_node.specs.Children.{names_of, part, first_children, rest_children}
 use Rattle.mini_node.specs.Walks.{next_child}
 use Rattle.mini_rows.specs.Lists.{block, declaration}
 use Rattle.mini_rows.specs.Declarations.{binding, declarator}
 use Rattle.mini_rows.specs.Past.{held, are_past, Row71Past}
 use Rattle.mini_rows.specs.Unused.{resolved, declared_among, declared_left, names, any_names, is_constant, reads_first, put_first, may_move, lets_go}
-use Rattle.mini_unused.specs.RemoveUnusedDeclaration.{declares_name, declares_list, is_lexical_shape, list_at}
+use Rattle.mini_unused.specs.RemoveUnusedDeclaration.{declares_name, declares_list, is_free_at, is_lexical_shape, list_at, may_lose}
 use Rattle.mini_unused.specs.SubstituteNext.{put_named}
 use Rattle.mini_unused.specs.SubstituteSingleUse.{last_place, is_declared_over, is_mentioned_around, declaration_left, list_single}
-use Rattle.mini_unused.proofs.SingleUses.{last_is, next_there, rest_there, within_there}
+use Rattle.mini_unused.proofs.SingleUses.{last_is, last_rest, last_there, neither, next_there, none_after, rest_there, with_two, within_there}
 use Rattle.mini_unused.proofs.Unused.{parts_of, there_child, there_first, and_both, not_true, Declares, declares, a_declaration, left_is}
-use Rattle.mini_past.proofs.Pairs.{last_rest, last_there, none_after, with_two, neither}
-use Rattle.mini_past.specs.SubstitutePast.{reads_past, is_read_past, may_pass, declares_lexically, is_past_declarator, is_past}
+use Rattle.mini_past.proofs.NextPlaces.{passing}
+use Rattle.mini_past.specs.SubstitutePast.{reads_past, is_read_past, may_pass, may_pass_by, is_past_declarator, is_past}
 
 -- ---- what is written
 
@@ -46,7 +46,7 @@ read_once V x o init ds j ts i e =
     let (f, g) = and_parts (reads_first x (child_or_absent ts (suc i))) (are_past (held V ts) x init (child_or_absent ts (suc i))) p in
     record { outer = not_true (names x o) n; once = f; passed = g; initial = t; declared_earlier = u; earlier = v; later = w }
 
-module _ (V : Assured) (o : Tree) (ts : Trees) (i : ℕ) (next : suc i < count ts) (some : 0 < count (children (list_at ts i))) (past : is_past V o ts i ≡ true) (unseen : has_eval (block (o ▸ ts)) ≡ false) where
+module _ (V : Assured) (W : VariableSet) (o : Tree) (ts : Trees) (i : ℕ) (next : suc i < count ts) (some : 0 < count (children (list_at ts i))) (past : is_past V W o ts i ≡ true) (unseen : has_eval (block (o ▸ ts)) ≡ false) where
   abbrev statement : Tree
   statement = child_or_absent ts i
 
@@ -77,14 +77,13 @@ module _ (V : Assured) (o : Tree) (ts : Trees) (i : ℕ) (next : suc i < count t
   abbrev once_there : Bool
   once_there = is_read_past V (names_of (part d 0)) o init ds j ts i
 
-  tests : (declares_list statement ≡ true) × (is_lexical_shape (shape_of statement) ≡ true) × (declares_name d ≡ true) × (may_move init ≡ true) × (is_constant init ≡ false) × (once_there ≡ true)
+  tests : (declares_list statement ≡ true) × (declares_name d ≡ true) × (may_lose (is_free_at ts i) W (names_of (part d 0)) ≡ true) × (may_move init ≡ true) × (is_constant init ≡ false) × (once_there ≡ true)
   tests =
-      let (a, p) = and_parts (declares_lexically statement) (declares_name d && (may_pass init && once_there)) past in
-      let (b, c) = and_parts (declares_list statement) (is_lexical_shape (shape_of statement)) a in
-      let (e, q) = and_parts (declares_name d) (may_pass init && once_there) p in
-      let (f, r) = and_parts (may_pass init) once_there q in
-      let (g, h) = and_parts (may_move init) (not (is_constant init)) f in
-      (b, c, e, g, not_true (is_constant init) h, r)
+      let passes = may_pass_by (is_free_at ts i) W d in
+      let (a, p) = and_parts (declares_list statement) (passes && once_there) past in
+      let (b, q) = and_parts passes once_there p in
+      let (c, f, g, h) = passing (is_free_at ts i) W d b in
+      (a, c, f, g, h, q)
 
   abbrev kind : VariableDeclarationKind
   kind = (a_declaration statement tests.0).0
@@ -93,13 +92,13 @@ module _ (V : Assured) (o : Tree) (ts : Trees) (i : ℕ) (next : suc i < count t
   let_there = (a_declaration statement tests.0).1
 
   abbrev one : Declares d
-  one = declares d tests.2
+  one = declares d tests.1
 
   abbrev x : Name
   x = resolved one.spelling one.symbol
 
-  goes : lets_go nothing kind one.symbol ≡ true
-  goes = ap (λ b. b || false) (sym (ap (λ t. is_lexical_shape (shape_of t)) let_there) ∙ tests.1)
+  goes : lets_go W kind one.symbol ≡ true
+  goes = sym (λ k. may_lose (is_lexical_shape (shape_of (let_there k))) W (names_of (part (one.is k) 0))) ∙ tests.2
 
   reading : Once V x o init ds j ts i
   reading = read_once V x o init ds j ts i (sym (ap (λ y. is_read_past V (names_of (part y 0)) o init ds j ts i) one.is) ∙ tests.5)
@@ -122,7 +121,7 @@ module _ (V : Assured) (o : Tree) (ts : Trees) (i : ℕ) (next : suc i < count t
   written_is : children (list_single (listed ts) i j) ≡ append before (declared_left kind first ▸ (put_first x init head ▸ after))
   written_is = with_two ts i (declaration_left statement j) (put_named (names_of (part d 0)) init head) next ∙ (λ k. append before (left_there k ▸ (named_there k ▸ after)))
 
-  pub row_there : Row71Past V nothing o ts (children (list_single (listed ts) i j))
+  pub row_there : Row71Past V W o ts (children (list_single (listed ts) i j))
   row_there = record {
     before = before;
     kind = kind;
@@ -149,7 +148,7 @@ module _ (V : Assured) (o : Tree) (ts : Trees) (i : ℕ) (next : suc i < count t
 
 -- ---- where nothing is written no row reads it
 
-module _ (V : Assured) (o : Tree) (ts us : Trees) (r : Row71Past V nothing o ts us) where
+module _ (V : Assured) (W : VariableSet) (o : Tree) (ts us : Trees) (r : Row71Past V W o ts us) where
   abbrev named : Name
   named = resolved r.spelling r.symbol
 
@@ -176,26 +175,19 @@ module _ (V : Assured) (o : Tree) (ts us : Trees) (r : Row71Past V nothing o ts 
       let rest_ts = ap (any_names y) (rest_there r.before stated r.head r.after) ∙ r.later in
       λ k. all (r.outer k) (head_there k) (r.initial k) (first_ds k) (rest_ts k) (first_ts k)
 
-  lexical : is_lexical r.kind ≡ true
-  lexical = by (is_lexical r.kind) r.goes
-    where
-      by : (b : Bool) → (b || false) ≡ true → b ≡ true
-      by true e = refl
-      by false e = e
-
-  past_there : is_past V o ts (count r.before) ≡ true
+  past_there : is_past V W o ts (count r.before) ≡ true
   past_there =
       let i = count r.before in
+      let read = is_read_past V (named ∷ []) o r.init declarators (count r.first) statements i in
       let passes = and_both (may_move r.init) (not (is_constant r.init)) r.moves (ap not r.varies) in
-      ap (λ v. is_past V o v i) r.shape
-      ∙ ap (λ c. declares_lexically c && is_past_declarator V (part c 0) (last_place (children (part c 0))) o statements i) (there_child r.before stated (r.head ▸ r.after))
-      ∙ and_both (is_lexical r.kind) (is_past_declarator V (part stated 0) (last_place declarators) o statements i) lexical
-      (ap (λ j. is_past_declarator V (part stated 0) j o statements i) (last_there r.first declared)
-      ∙ ap (λ c. declares_name c && (may_pass (part c 1) && is_read_past V (names_of (part c 0)) o (part c 1) declarators (count r.first) statements i)) (there_child r.first declared none)
-      ∙ and_both (may_pass r.init) (is_read_past V (named ∷ []) o r.init declarators (count r.first) statements i) passes once_is)
+      ap (λ v. is_past V W o v i) r.shape
+      ∙ ap (λ c. declares_list c && is_past_declarator V (is_lexical_shape (shape_of c)) W (part c 0) (last_place (children (part c 0))) o statements i) (there_child r.before stated (r.head ▸ r.after))
+      ∙ ap (λ j. is_past_declarator V (is_lexical r.kind) W (part stated 0) j o statements i) (last_there r.first declared)
+      ∙ ap (λ c. may_pass_by (is_lexical r.kind) W c && is_read_past V (names_of (part c 0)) o (part c 1) declarators (count r.first) statements i) (there_child r.first declared none)
+      ∙ and_both (lets_go W r.kind r.symbol && may_pass r.init) read (and_both (lets_go W r.kind r.symbol) (may_pass r.init) r.goes passes) once_is
 
   past_within : suc (count r.before) < count ts
   past_within = subst (λ v. suc (count r.before) < count v) (sym r.shape) (within_there r.before stated r.head r.after)
 
-pub none_past : (V : Assured) (o : Tree) (ts : Trees) → ((i : ℕ) → suc i < count ts → is_past V o ts i ≡ false) → (us : Trees) → Row71Past V nothing o ts us → ⊥
-none_past V o ts f us r = true≢false (sym (past_there V o ts us r) ∙ f (count r.before) (past_within V o ts us r))
+pub none_past : (V : Assured) (W : VariableSet) (o : Tree) (ts : Trees) → ((i : ℕ) → suc i < count ts → is_past V W o ts i ≡ false) → (us : Trees) → Row71Past V W o ts us → ⊥
+none_past V W o ts f us r = true≢false (sym (past_there V W o ts us r) ∙ f (count r.before) (past_within V W o ts us r))

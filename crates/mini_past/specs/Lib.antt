@@ -1,2 +1,3 @@
 pub mod SubstitutePast
 pub mod Lighter
+pub mod Writing

@@ -1,17 +1,21 @@
--- 71 past steady names, `substitute_past`: `function f(g) { let x = a(); return g(x); }` becomes `function f(g) { ; return g(a()); }`.
+-- 71 past steady names, `substitute_past`: `function f(g) { let x = a(); return g(x); }` becomes `function f(g) { ; return g(a()); }`, and
+-- `function f(g) { let x = a(), y = g(x); return y; }` becomes `function f(g) { let y = g(a()); return y; }`; so do each `var` whose name can be
+-- written, and the statements of an arrow function.
 use Rattle.std.specs.Prelude.{◌≡◌, ◌<◌, ◌^◌, ◌⊎◌, ℕ, suc, Bool, true, false, not, ◌&&◌, ◌||◌, List, [], ◌∷◌, Option, Some, None}
-use Rattle.std.proofs.Common.{inl, inr}
 use Rattle.mini_model.specs.declared.name.Name.{Name}
 use Rattle.mini_model.specs.declared.place.Position.{Position}
-use Rattle.mini_model.specs.declared.place.Position.TheVariants.{Expr, Stmt, Method, Elsewhere}
 use Rattle.mini_model.specs.Tree.{Tree, Trees, count, child_or_absent, children, shape_of}
-use Rattle.mini_laws.specs.ScopeList.{has_eval}
-use Rattle.mini_laws.specs.Value.{VariableSet, nothing}
 use Rattle.mini_kept.specs.Without.{Assured, BodySets}
+use Rattle.mini_laws.specs.ScopeList.{has_eval}
+use Rattle.mini_laws.specs.Value.{VariableSet}
 use Rattle.mini_node.specs.Children.{names_of, part}
-use Rattle.mini_rows.specs.Past.{is_binding, has_symbol, held, are_past, PastRow, PastFunctionRow}
-use Rattle.mini_rows.specs.Unused.{names, may_go_on, begins_with, is_constant, may_move, reads_first}
-use Rattle.mini_unused.specs.RemoveUnusedDeclaration.{declares_name, declares_list, is_lexical_shape, list_at}
+use Rattle.mini_node.specs.Kinds.{is_listed}
+use Rattle.mini_rows.specs.Past.{is_binding, has_symbol, held, are_past, PastFunctionRow, PastFunction}
+use Rattle.mini_rows.specs.PastArrows.{PastArrowRow, PastArrow}
+use Rattle.mini_rows.specs.Unused.{names, may_go_on, begins_with, is_constant, is_first, may_move, reads_first}
+use Rattle.mini_unused.specs.Chains.{Chain, Several}
+use Rattle.mini_unused.specs.RemoveUnusedDeclaration.{declares_name, declares_list, is_free_at, list_at, may_lose}
+use Rattle.mini_unused.specs.SubstituteNext.{is_declarator, is_mentioned_beside, is_mentioned_elsewhere, list_next}
 use Rattle.mini_unused.specs.SubstituteSingleUse.{last_place, is_declared_over, is_mentioned_around, list_single}
 
 -- a node declares a name with the symbol
@@ -22,72 +26,125 @@ declares k t = is_binding (shape_of t) && has_symbol k (names_of t)
 abbrev pub is_certain : Name → Tree → Bool
 is_certain x t = not (may_go_on (shape_of t)) || begins_with x (children t)
 
--- a statement reads the name first, after parts that pass the initializer r
+-- of a declarator the initializer may move, and is no constant, and the name is free to go, or one of these variables
+abbrev pub may_pass : Tree → Bool
+may_pass init = may_move init && not (is_constant init)
+
+abbrev pub may_pass_by : Bool → VariableSet → Tree → Bool
+may_pass_by free W d = declares_name d && (may_lose free W (names_of (part d 0)) && may_pass (part d 1))
+
+-- ---- the next statement reads the name
+
+-- first, after parts that pass the initializer r
 abbrev pub reads_past : VariableSet → Name → Tree → Tree → Bool
 reads_past H x r t = reads_first x t && are_past H x r t
 
--- the next statement does, and no name like it stands elsewhere, nor in what is outside of the statements
+-- and no name like it stands elsewhere, nor in what is outside of the statements
 abbrev pub is_read_past : Assured → List Name → Tree → Tree → Trees → ℕ → Trees → ℕ → Bool
 is_read_past V [] o init ds j ts i = false
 is_read_past V (x ∷ xs) o init ds j ts i = not (names x o) && (reads_past (held V ts) x init (child_or_absent ts (suc i)) && (not (is_declared_over x init ds j) && not (is_mentioned_around x ts i)))
 
--- an initializer that may move, and is no constant
-abbrev pub may_pass : Tree → Bool
-may_pass init = may_move init && not (is_constant init)
-
 -- so is the name of the declarator at the place
-abbrev pub is_past_declarator : Assured → Tree → ℕ → Tree → Trees → ℕ → Bool
-is_past_declarator V l j o ts i = declares_name (part l j) && (may_pass (part (part l j) 1) && is_read_past V (names_of (part (part l j) 0)) o (part (part l j) 1) (children l) j ts i)
+abbrev pub is_past_declarator : Assured → Bool → VariableSet → Tree → ℕ → Tree → Trees → ℕ → Bool
+is_past_declarator V free W l j o ts i = may_pass_by free W (part l j) && is_read_past V (names_of (part (part l j) 0)) o (part (part l j) 1) (children l) j ts i
 
--- a `let` or a `const`
-abbrev pub declares_lexically : Tree → Bool
-declares_lexically t = declares_list t && is_lexical_shape (shape_of t)
-
--- the statement at the place is one, whose last declarator is such a one
-abbrev pub is_past : Assured → Tree → Trees → ℕ → Bool
-is_past V o ts i = declares_lexically (child_or_absent ts i) && is_past_declarator V (list_at ts i) (last_place (children (list_at ts i))) o ts i
+-- the statement at the place is a declaration, whose last declarator is such a one
+abbrev pub is_past : Assured → VariableSet → Tree → Trees → ℕ → Bool
+is_past V W o ts i = declares_list (child_or_absent ts i) && is_past_declarator V (is_free_at ts i) W (list_at ts i) (last_place (children (list_at ts i))) o ts i
 
 -- the place of such a statement, or there is none
-abbrev pub PastAt : Assured → Tree → Trees → Option ℕ → Type 0
-PastAt V o ts (Some i) = (suc i < count ts) × (suc i < 2 ^ 64) × (0 < count (children (child_or_absent ts i))) × (0 < count (children (list_at ts i))) × (is_past V o ts i ≡ true)
-PastAt V o ts None = (i : ℕ) → suc i < count ts → is_past V o ts i ≡ false
+abbrev pub PastAt : Assured → VariableSet → Tree → Trees → Option ℕ → Type 0
+PastAt V W o ts (Some i) = (suc i < count ts) × (suc i < 2 ^ 64) × (0 < count (children (child_or_absent ts i))) × (0 < count (children (list_at ts i))) × (is_past V W o ts i ≡ true)
+PastAt V W o ts None = (i : ℕ) → suc i < count ts → is_past V W o ts i ≡ false
 
--- of a list of statements and what is outside of them such a name is gone, which no direct eval sees
-pub record PastGone (V : Assured) (o l m : Tree) : Type 0 where
+-- ---- the next declarator does
+
+-- its initializer reads it first, after such parts
+abbrev pub reads_past_in : VariableSet → Name → Tree → Tree → Bool
+reads_past_in H x r v = is_first x false v && are_past H x r v
+
+abbrev pub is_read_past_then : Assured → List Name → Tree → Tree → Tree → Trees → ℕ → Trees → ℕ → Bool
+is_read_past_then V [] d e o ds j ts i = false
+is_read_past_then V (x ∷ xs) d e o ds j ts i = reads_past_in (held V ts) x (part d 1) (part e 1) && (not (is_mentioned_beside x d e ds j) && (not (names x o) && not (is_mentioned_elsewhere x ts i)))
+
+abbrev pub is_past_by : Assured → Bool → VariableSet → Tree → Tree → Tree → Trees → ℕ → Trees → ℕ → Bool
+is_past_by V free W d e o ds j ts i = is_declarator e && (may_pass_by free W d && is_read_past_then V (names_of (part d 0)) d e o ds j ts i)
+
+-- of a list the declarator at the place is such a one
+abbrev pub is_past_by_next : Assured → Bool → VariableSet → Tree → ℕ → Tree → Trees → ℕ → Bool
+is_past_by_next V free W l j o ts i = is_past_by V free W (part l j) (part l (suc j)) o (children l) j ts i
+
+-- the statement at the place is a declaration, whose declarator at the other place is
+abbrev pub is_past_next : Assured → VariableSet → Tree → Trees → ℕ → ℕ → Bool
+is_past_next V W o ts i j = declares_list (child_or_absent ts i) && is_past_by_next V (is_free_at ts i) W (list_at ts i) j o ts i
+
+-- the place of one in a list, or there is none
+abbrev pub PastNextIn : Assured → Bool → VariableSet → Tree → Tree → Trees → ℕ → Option ℕ → Type 0
+PastNextIn V free W l o ts i (Some j) = (suc j < count (children l)) × (is_past_by_next V free W l j o ts i ≡ true)
+PastNextIn V free W l o ts i None = (j : ℕ) → suc j < count (children l) → is_past_by_next V free W l j o ts i ≡ false
+
+-- of one statement
+abbrev pub PastNextOf : Assured → VariableSet → Tree → Trees → ℕ → Option ℕ → Type 0
+PastNextOf V W o ts i (Some j) = (0 < count (children (child_or_absent ts i))) × (suc j < count (children (list_at ts i))) × (is_past_next V W o ts i j ≡ true)
+PastNextOf V W o ts i None = (j : ℕ) → suc j < count (children (list_at ts i)) → is_past_next V W o ts i j ≡ false
+
+-- of all
+abbrev pub PastNextAt : Assured → VariableSet → Tree → Trees → Option (ℕ × ℕ) → Type 0
+PastNextAt V W o ts (Some p) = (p.0 < count ts) × PastNextOf V W o ts p.0 (Some p.1)
+PastNextAt V W o ts None = (i : ℕ) → i < count ts → PastNextOf V W o ts i None
+
+-- ---- names that go from a list of statements, with what is outside of them
+
+-- one that the next statement read
+pub record ReadPast (V : Assured) (W : VariableSet) (o l m : Tree) : Type 0 where
   pub at : ℕ
-  pub unseen : (has_eval o || has_eval l) ≡ false
   pub next : suc at < count (children l)
   pub declares : 0 < count (children (list_at (children l) at))
-  pub there : is_past V o (children l) at ≡ true
+  pub there : is_past V W o (children l) at ≡ true
   pub left : m ≡ list_single l at (last_place (children (list_at (children l) at)))
 
--- so it is; or there is none, or a direct eval sees it
-abbrev pub PastRemoved : Assured → Tree → Tree → Tree → Bool → Type 0
-PastRemoved V o l m true = PastGone V o l m
-PastRemoved V o l m false = (m ≡ l) × (((has_eval o || has_eval l) ≡ true) ⊎ PastAt V o (children l) None)
+-- one that the next declarator did
+pub record NextPast (V : Assured) (W : VariableSet) (o l m : Tree) : Type 0 where
+  pub at : ℕ
+  pub which : ℕ
+  pub there : PastNextAt V W o (children l) (Some (at, which))
+  pub left : m ≡ list_next l at which
+
+-- either, which no direct eval sees
+pub record PastGone (V : Assured) (W : VariableSet) (o l m : Tree) : Type 0 where
+  pub unseen : (has_eval o || has_eval l) ≡ false
+  pub name : ReadPast V W o l m ⊎ NextPast V W o l m
+
+-- a list without a direct eval, and with none in what is outside of it
+pub record Calm (o l : Tree) : Type 0 where
+  pub is_list : is_listed l ≡ true
+  pub unseen : (has_eval o || has_eval l) ≡ false
+
+-- it has lost some names
+pub record Swept (V : Assured) (W : VariableSet) (o l m : Tree) : Type 0 where
+  pub gone : Chain (PastGone V W o) l m
+  pub calm : Calm o m
+
+-- some names are gone, one after another; or there is none, or a direct eval sees it
+abbrev pub PastRemoved : Assured → VariableSet → Tree → Tree → Tree → Bool → Type 0
+PastRemoved V W o l m true = Several (PastGone V W o) l m
+PastRemoved V W o l m false = (m ≡ l) × (((has_eval o || has_eval l) ≡ true) ⊎ (PastAt V W o (children l) None × PastNextAt V W o (children l) None))
 
 -- ---- of a function
 
--- the row is that of a name which the next statement reads, and a `let` or a `const` declares
-abbrev pub IsHead : {V : Assured} {W : VariableSet} {o : Tree} {ts us : Trees} → PastRow V W o ts us → Type 0
-IsHead (inl r) = Unit {0}
-IsHead (inr r) = ⊥
+-- one call of it: steps, one after another, or none, and then no row reads it
+abbrev pub AppliedPast : BodySets → VariableSet → Tree → Tree → Bool → Type 0
+AppliedPast S W t u true = Several (PastFunctionRow S W) t u
+AppliedPast S W t u false = (u ≡ t) × ((w : Tree) → PastFunctionRow S W t w → ⊥)
 
-pub record HeadFunctionRow (S : BodySets) (n w : Tree) : Type 0 where
-  pub function : PastFunctionRow S nothing n w
-  pub head : IsHead function.row
+abbrev pub RestsPast : BodySets → VariableSet → Position → Tree → Type 0
+RestsPast S W p t = (w : Tree) → PastFunction S W p t w → ⊥
 
-abbrev pub HeadFunction : BodySets → Position → Tree → Tree → Type 0
-HeadFunction S (Stmt q) n w = HeadFunctionRow S n w
-HeadFunction S (Expr s) n w = HeadFunctionRow S n w
-HeadFunction S Method n w = HeadFunctionRow S n w
-HeadFunction S Elsewhere n w = HeadFunctionRow S n w
-HeadFunction S _ n w = ⊥
+-- ---- of an arrow function
 
--- one call of it: a step, or none, and then no row reads it
-abbrev pub AppliedPast : BodySets → Tree → Tree → Bool → Type 0
-AppliedPast S t u true = HeadFunctionRow S t u
-AppliedPast S t u false = (u ≡ t) × ((w : Tree) → HeadFunctionRow S t w → ⊥)
+abbrev pub AppliedPastArrow : BodySets → VariableSet → Tree → Tree → Bool → Type 0
+AppliedPastArrow S W t u true = Several (PastArrowRow S W) t u
+AppliedPastArrow S W t u false = (u ≡ t) × ((w : Tree) → PastArrowRow S W t w → ⊥)
 
-abbrev pub RestsPast : BodySets → Position → Tree → Type 0
-RestsPast S p t = (w : Tree) → HeadFunction S p t w → ⊥
+abbrev pub RestsPastArrow : BodySets → VariableSet → Position → Tree → Type 0
+RestsPastArrow S W p t = (w : Tree) → PastArrow S W p t w → ⊥

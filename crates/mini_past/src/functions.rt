@@ -1,23 +1,23 @@
-//! Of a function.
+//! Of a function and of an arrow function.
 
 ghost use Rattle.std.specs.Prelude.{◌≡◌};
-ghost use Rattle.mini_past.specs.SubstitutePast.{AppliedPast};
+ghost use Rattle.mini_past.specs.SubstitutePast.{AppliedPast, AppliedPastArrow};
 
-use crate::owners::{is_function, put_child, take_child};
+use crate::names::PastNames;
 use crate::searching::substitute_past;
 use mini_node::Node;
-use mini_steady::SteadyNames;
+use mini_unused::{has_statements, is_function, put_child, take_child};
 use std::alloc::Global;
 
 /// Of a function with statements that is no arrow function, as `function f(g) { let x = a(); return g(x); }`, which becomes
 /// `function f(g) { ; return g(a()); }`, wherever it stands. The answer says whether a name went.
-#[tactic(auto, using(crate::proofs::InFunctions::same_parts, crate::proofs::InFunctions::part_twice))]
-pub fn substitute_past_in_function<S: SteadyNames>(
+#[tactic(auto, using(crate::proofs::Holders::same_parts, crate::proofs::Holders::part_twice))]
+pub fn substitute_past_in_function<S: PastNames>(
     alloc: Global,
     node: &mut Node,
     steady: &S,
 ) -> bool
-    ensures { AppliedPast (S.sets steady.now) node.old node.new result }
+    ensures { AppliedPast (S.sets steady.now) (S.writable steady.now) node.old node.new result }
 {
     if !is_function(node) {
         return false;
@@ -28,5 +28,23 @@ pub fn substitute_past_in_function<S: SteadyNames>(
     let changed = substitute_past(alloc, node, &mut list, number, steady);
     put_child(&mut body, 0, list);
     put_child(node, 2, body);
+    changed
+}
+
+/// Of an arrow function with statements, as `g => { let x = a(); return g(x); }`, which becomes `g => { ; return g(a()); }`. The answer
+/// says whether a name went.
+#[tactic(auto, using(crate::proofs::Holders::same_parts, crate::proofs::Holders::part_twice))]
+pub fn substitute_past_in_arrow<S: PastNames>(alloc: Global, node: &mut Node, steady: &S) -> bool
+    ensures { AppliedPastArrow (S.sets steady.now) (S.writable steady.now) node.old node.new result }
+{
+    if !has_statements(node) {
+        return false;
+    }
+    let number = node.number();
+    let mut body = take_child(node, 1);
+    let mut list = take_child(&mut body, 0);
+    let changed = substitute_past(alloc, node, &mut list, number, steady);
+    put_child(&mut body, 0, list);
+    put_child(node, 1, body);
     changed
 }

@@ -4,17 +4,18 @@
 mod bindings;
 mod declared;
 mod functions;
-mod owners;
+mod names;
+mod next_declarators;
 mod passing;
-mod putting;
-mod reads;
 mod rule;
 mod searching;
+mod sweeping;
 mod writing;
 
 pub use bindings::{any_bind, binds};
-pub use functions::substitute_past_in_function;
+pub use functions::{substitute_past_in_arrow, substitute_past_in_function};
+pub use names::{PastContext, PastNames};
 pub use passing::are_past;
-pub use rule::SubstitutePast;
+pub use rule::{SubstitutePast, SubstitutePastArrows};
 pub use searching::substitute_past;
 pub use writing::writes;

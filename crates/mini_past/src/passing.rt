@@ -9,12 +9,11 @@ ghost use Rattle.mini_rows.specs.Unused.{begins_with as it_begins_with};
 ghost use Rattle.mini_past.specs.SubstitutePast as row;
 
 use crate::bindings::{any_bind, binds};
-use crate::reads::{is_constant, may_go_on};
 use crate::writing::writes;
 use mini_model::{Name, SymbolId};
 use mini_node::{Node, Nodes, is_identifier};
 use mini_steady::SteadyNames;
-use mini_unused::is_mentioned;
+use mini_unused::{is_constant, is_mentioned, may_go_on};
 
 // The initializer neither declares nor writes it.
 fn leaves(init: &Node, name: &Name, symbol: SymbolId) -> bool

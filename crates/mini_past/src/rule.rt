@@ -1,14 +1,17 @@
-//! The rule over them.
+//! The rules over them.
 
 ghost use Rattle.std.specs.Prelude.{◌≡◌};
+ghost use Rattle.mini_rows.specs.Past.{PastFunction};
+ghost use Rattle.mini_rows.specs.PastArrows.{PastArrow};
+ghost use Rattle.mini_steady.specs.Arrows.{holds_arrow as may_hold_arrow};
 ghost use Rattle.mini_steady.specs.Functions.{holds_function as may_hold_function};
-ghost use Rattle.mini_past.specs.Lighter.{past_lighter};
-ghost use Rattle.mini_past.specs.SubstitutePast.{HeadFunction, RestsPast};
+ghost use Rattle.mini_past.specs.Lighter.{past_arrow_lighter, past_lighter};
+ghost use Rattle.mini_past.specs.SubstitutePast.{RestsPast, RestsPastArrow};
 
-use crate::functions::substitute_past_in_function;
+use crate::functions::{substitute_past_in_arrow, substitute_past_in_function};
+use crate::names::PastContext;
 use mini_model::{OutOfMemory, Position};
 use mini_node::Node;
-use mini_steady::SteadyContext;
 use mini_tree::Rule;
 use std::alloc::Global;
 
@@ -23,15 +26,15 @@ fn holds_function(place: Position) -> bool
 }
 
 /// Row 71 past steady names as a rule: of each function with statements that is no arrow function. Its context says what is known of each
-/// body.
+/// body, and which names can be written.
 pub struct SubstitutePast;
 
-impl<C: SteadyContext> Rule<C> for SubstitutePast {
-    ghost gives = { λ o q. HeadFunction (C.steady q) };
+impl<C: PastContext> Rule<C> for SubstitutePast {
+    ghost gives = { λ o q. PastFunction (C.steady q) (C.writes q) };
 
-    ghost rests = { λ o q. RestsPast (C.steady q) };
+    ghost rests = { λ o q. RestsPast (C.steady q) (C.writes q) };
 
-    ghost lighter = { λ o q. past_lighter (C.steady q) };
+    ghost lighter = { λ o q. past_lighter (C.steady q) (C.writes q) };
 
     fn apply(
         &self,
@@ -44,5 +47,36 @@ impl<C: SteadyContext> Rule<C> for SubstitutePast {
             return Ok(false);
         }
         Ok(substitute_past_in_function(alloc, node, &*context))
+    }
+}
+
+// Whether an arrow function may stand there.
+fn holds_arrow(place: Position) -> bool
+    ensures { result ≡ may_hold_arrow place }
+{
+    matches!(place, Position::Expr(_))
+}
+
+/// The same of each arrow function with statements.
+pub struct SubstitutePastArrows;
+
+impl<C: PastContext> Rule<C> for SubstitutePastArrows {
+    ghost gives = { λ o q. PastArrow (C.steady q) (C.writes q) };
+
+    ghost rests = { λ o q. RestsPastArrow (C.steady q) (C.writes q) };
+
+    ghost lighter = { λ o q. past_arrow_lighter (C.steady q) (C.writes q) };
+
+    fn apply(
+        &self,
+        alloc: Global,
+        node: &mut Node,
+        place: Position,
+        context: &mut C,
+    ) -> Result<bool, OutOfMemory> {
+        if !holds_arrow(place) {
+            return Ok(false);
+        }
+        Ok(substitute_past_in_arrow(alloc, node, &*context))
     }
 }

@@ -1,6 +1,6 @@
 //! Row 71 past steady names in the statements of a body: `let x = a(); return g(x);` becomes `; return g(a());`, where g is steady there.
 
-ghost use Rattle.std.specs.Prelude.{◌≡◌, ◌+◌, ◌<◌, ◌^◌, true};
+ghost use Rattle.std.specs.Prelude.{◌≡◌, ◌+◌, ◌<◌, ◌^◌, true, None};
 ghost use Rattle.mini_model.specs.Tree.{child_or_absent, children, count};
 ghost use Rattle.mini_node.specs.Children.{names};
 ghost use Rattle.mini_node.specs.Kinds.{is_listed as is_it_listed};
@@ -9,17 +9,18 @@ ghost use Rattle.mini_unused.specs.RemoveUnusedDeclaration.{list_at};
 ghost use Rattle.mini_past.specs.SubstitutePast as row;
 ghost use Rattle.mini_past.specs.SubstitutePast.{PastAt, PastRemoved};
 
-use crate::declared::{
-    declares_list, declares_name, either_has_eval, is_declared_over, is_lexical,
-    is_mentioned_around, last_declarator,
-};
+use crate::declared::may_pass_by;
+use crate::names::PastNames;
+use crate::next_declarators::substitute_next_past;
 use crate::passing::are_past;
-use crate::putting::substitute_in_list;
-use crate::reads::{is_constant, may_move, reads_first};
+use crate::sweeping::sweep;
 use mini_model::Name;
 use mini_node::{Node, Nodes};
 use mini_steady::SteadyNames;
-use mini_unused::is_mentioned;
+use mini_unused::{
+    declares_list, either_has_eval, is_declared_over, is_lexical, is_mentioned, is_mentioned_around,
+    last_declarator, reads_first, substitute_in_list,
+};
 use std::alloc::Global;
 
 // A statement reads the name first, after parts that pass the initializer.
@@ -72,14 +73,8 @@ fn is_read_past<S: SteadyNames>(
     }
 }
 
-// An initializer that may move, and is no constant.
-fn may_pass(init: &Node) -> bool
-    ensures { result ≡ row.may_pass init.now }
-{
-    may_move(init) && !is_constant(init)
-}
-
-fn is_past_declarator<S: SteadyNames>(
+fn is_past_declarator<S: PastNames>(
+    is_free: bool,
     list: &Node,
     which: usize,
     outside: &Node,
@@ -91,11 +86,10 @@ fn is_past_declarator<S: SteadyNames>(
     requires declarator { which < count (children list.now) }
     requires next { at + 1 < count statements.now }
     requires fits { at + 2 < 2 ^ 64 }
-    ensures { result ≡ row.is_past_declarator (S.sets steady.now body) list.now which outside.now statements.now at }
+    ensures { result ≡ row.is_past_declarator (S.sets steady.now body) is_free (S.writable steady.now) list.now which outside.now statements.now at }
 {
     let declarator = list.child(which);
-    declares_name(declarator)
-        && may_pass(declarator.child(1))
+    may_pass_by(is_free, declarator, steady)
         && is_read_past(
             declarator.child(0).name(),
             outside,
@@ -109,17 +103,9 @@ fn is_past_declarator<S: SteadyNames>(
         )
 }
 
-// A declaration of a `let` or a `const`.
-fn declares_lexically(node: &Node) -> bool
-    ensures kind { result ≡ row.declares_lexically node.now }
-    ensures list { result ≡ true → count (children node.now) ≡ 1 }
-{
-    declares_list(node) && is_lexical(node.shape())
-}
-
-// The statement is one, whose last declarator is such a one.
+/// The statement is a declaration, whose last declarator is such a one.
 #[tactic(auto, using(crate::proofs::Places::no_declarator, crate::proofs::Places::last_is))]
-fn is_past<S: SteadyNames>(
+pub fn is_past<S: PastNames>(
     outside: &Node,
     statements: &Nodes,
     at: usize,
@@ -128,12 +114,12 @@ fn is_past<S: SteadyNames>(
 ) -> bool
     requires next { at + 1 < count statements.now }
     requires fits { at + 2 < 2 ^ 64 }
-    ensures past { result ≡ row.is_past (S.sets steady.now body) outside.now statements.now at }
+    ensures past { result ≡ row.is_past (S.sets steady.now body) (S.writable steady.now) outside.now statements.now at }
     ensures list { result ≡ true → 0 < count (children (child_or_absent statements.now at)) }
     ensures declarators { result ≡ true → 0 < count (children (list_at statements.now at)) }
 {
     let statement = statements.child(at);
-    if !declares_lexically(statement) {
+    if !declares_list(statement) {
         return false;
     }
     let list = statement.child(0);
@@ -141,17 +127,18 @@ fn is_past<S: SteadyNames>(
     if count == 0 {
         return false;
     }
-    is_past_declarator(list, count - 1, outside, statements, at, body, steady)
+    let is_free = is_lexical(statement.shape());
+    is_past_declarator(is_free, list, count - 1, outside, statements, at, body, steady)
 }
 
 // The first such statement.
-fn past_at<S: SteadyNames>(
+fn past_at<S: PastNames>(
     outside: &Node,
     statements: &Nodes,
     body: u32,
     steady: &S,
 ) -> Option<usize>
-    ensures { PastAt (S.sets steady.now body) outside.now statements.now result }
+    ensures { PastAt (S.sets steady.now body) (S.writable steady.now) outside.now statements.now result }
 {
     let count = statements.len();
     if count == 0 {
@@ -166,15 +153,17 @@ fn past_at<S: SteadyNames>(
 }
 
 /// Of a list of statements, which with what stands outside of them is the body with this number, `let x = a(); return g(x);` becomes
-/// `; return g(a());`, where g is steady in it and initialised. The answer says whether a name went.
-pub fn substitute_past<S: SteadyNames>(
+/// `; return g(a());`, and `let x = a(), y = g(x);` becomes `let y = g(a());`, where g is steady in it and initialised, as often as there is
+/// one. The answer says whether there was.
+pub fn substitute_past<S: PastNames>(
     alloc: Global,
     outside: &Node,
     list: &mut Node,
     body: u32,
     steady: &S,
 ) -> bool
-    ensures { PastRemoved (S.sets steady.now body) outside.now list.old list.new result }
+    requires { is_it_listed list.old ≡ true }
+    ensures { PastRemoved (S.sets steady.now body) (S.writable steady.now) outside.now list.old list.new result }
 {
     match past_at(outside, list.children(), body, steady) {
         Some(at) => {
@@ -183,8 +172,9 @@ pub fn substitute_past<S: SteadyNames>(
             }
             let which = last_declarator(list, at);
             substitute_in_list(alloc, list, at, which);
+            sweep(alloc, outside, list, at, body, steady);
             true
         }
-        None => false,
+        None => substitute_next_past(alloc, outside, list, body, steady),
     }
 }

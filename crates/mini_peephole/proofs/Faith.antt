@@ -10,6 +10,7 @@ use Rattle.mini_model.specs.Weight.{weight, program_weight, capped}
 use Rattle.mini_model.specs.Rewriting.{Everywhere, EverywhereIn, Step, StepIn, here, inside, first, later, Reaches, done, more}
 use Rattle.mini_laws.specs.Resolved.{resolved_program}
 use Rattle.mini_laws.specs.Writable.{writable_in}
+use Rattle.mini_laws.specs.Value.{VariableSet}
 use Rattle.mini_scope.specs.Pointers.{early_fault}
 use Rattle.mini_tree.specs.declared.options.CompressOptions.{CompressOptions}
 use Rattle.mini_tree.specs.Rule.{Either}
@@ -17,7 +18,7 @@ use Rattle.mini_tree.specs.Passes.{PassesReach, no_pass, one_more}
 use Rattle.mini_tree.specs.Wider.{reaches_of}
 use Rattle.mini_accept.specs.Accept.{Accepts}
 use Rattle.mini_accept.proofs.Depths.{one_tree}
-use Rattle.mini_kept.specs.Rooted.{LawfulRooted}
+use Rattle.mini_kept.specs.Loosely.{LawfulUnder}
 use Rattle.mini_kept.specs.Without.{BodySets}
 use Rattle.mini_kept.proofs.WithoutLists.{PartEach, none_part, each_itself}
 use Rattle.mini_kept.proofs.InPreorder.{preorder_same}
@@ -63,33 +64,33 @@ module _ (R : Position → Tree → Tree → Type 0) where
   stays (more p t w u st r) f = absurd (no_step st f)
 
 -- a node on which the rows rest that rest on what is known of bodies is read by none of them
-read_by_none : (S : BodySets) (p : Position) (n : Tree) → IsSteadilySettled S p n → IsSteadilySettled S p n → ReadsNothing (SteadyRewrites S) p n
-read_by_none S p n x y w (inl (inl (inl c))) = x.0.0.0 w c
-read_by_none S p n x y w (inl (inl (inr c))) = x.0.0.1 w c
-read_by_none S p n x y w (inl (inr c)) = x.0.1 w c
-read_by_none S p n x y w (inr c) = x.1 w c
+read_by_none : (S : BodySets) (W : VariableSet) (p : Position) (n : Tree) → IsSteadilySettled S W p n → IsSteadilySettled S W p n → ReadsNothing (SteadyRewrites S W) p n
+read_by_none S W p n x y w (inl (inl c)) = x.0.0 w c
+read_by_none S W p n x y w (inl (inr c)) = x.0.1 w c
+read_by_none S W p n x y w (inr (inl c)) = x.1.0 w c
+read_by_none S W p n x y w (inr (inr c)) = x.1.1 w c
 
-nowhere_read : (u : Tree) → IsSteadilyRewritten u → Everywhere (ReadsNothing (SteadyRewrites (told_in u))) Elsewhere u
+nowhere_read : (u : Tree) → IsSteadilyRewritten u → Everywhere (ReadsNothing (SteadyRewrites (told_in u) (writable_in u))) Elsewhere u
 nowhere_read u f =
-    let settled = IsSteadilySettled (told_in u) in
-    everywhere_with settled settled (ReadsNothing (SteadyRewrites (told_in u))) (read_by_none (told_in u)) Elsewhere u f f
+    let settled = IsSteadilySettled (told_in u) (writable_in u) in
+    everywhere_with settled settled (ReadsNothing (SteadyRewrites (told_in u) (writable_in u))) (read_by_none (told_in u) (writable_in u)) Elsewhere u f f
 
 -- ---- the rules
 
 module _ (o : CompressOptions) (t : Tree) (f : IsRewrittenBy true o t) where
   -- what reads something in it, were there anything
   abbrev AnyRow : Position → Tree → Tree → Type 0
-  AnyRow = Either (Rewrites (switches o) (writable_in t)) (SteadyRewrites (told_in t))
+  AnyRow = Either (Rewrites (switches o) (writable_in t)) (SteadyRewrites (told_in t) (writable_in t))
 
-  neither : (p : Position) (n : Tree) → IsSettled (switches o) (writable_in t) p n → IsSteadilySettled (told_in t) p n → ReadsNothing AnyRow p n
+  neither : (p : Position) (n : Tree) → IsSettled (switches o) (writable_in t) p n → IsSteadilySettled (told_in t) (writable_in t) p n → ReadsNothing AnyRow p n
   neither p n g h w (inl c) = g (record { to = w; contracts = c })
-  neither p n g h w (inr (inl (inl (inl r)))) = h.0.0.0 w r
-  neither p n g h w (inr (inl (inl (inr r)))) = h.0.0.1 w r
+  neither p n g h w (inr (inl (inl r))) = h.0.0 w r
   neither p n g h w (inr (inl (inr r))) = h.0.1 w r
-  neither p n g h w (inr (inr r)) = h.1 w r
+  neither p n g h w (inr (inr (inl r))) = h.1.0 w r
+  neither p n g h w (inr (inr (inr r))) = h.1.1 w r
 
   nowhere : Everywhere (ReadsNothing AnyRow) Elsewhere t
-  nowhere = everywhere_with (IsSettled (switches o) (writable_in t)) (IsSteadilySettled (told_in t)) (ReadsNothing AnyRow) neither Elsewhere t f.0 f.1
+  nowhere = everywhere_with (IsSettled (switches o) (writable_in t)) (IsSteadilySettled (told_in t) (writable_in t)) (ReadsNothing AnyRow) neither Elsewhere t f.0 f.1
 
   made_by_row : (b : Bool) (v : Tree) (p : Position) (n w : Tree) → GivesBoth (AllGives o) (SteadyGives o) StaysTold b v t p n w → AnyRow p n w
   made_by_row true v p n w (inl r) = inl (all_contract o t p n w r)
@@ -139,7 +140,7 @@ module _ (d : Data) (o : CompressOptions) (m : Minified) (t : Tree) (read : Acce
   abbrev made_by : IsWritten G D (resolved_program t) o.passes m
   made_by = record { output = r.output; passes = r.passes.made; written = r.written; kept = r.kept; symbols = r.symbols }
 
-  lawful : (q : Tree) → LawfulRooted (let_go (switches o)) (writable_in q) S (G q)
+  lawful : (q : Tree) → LawfulUnder (let_go (switches o)) (writable_in q) S (G q)
   lawful = both_lawful o r.output m.steady
 
   begins : EachBegins (λ q. PartEach S S) r.passes.made.reached

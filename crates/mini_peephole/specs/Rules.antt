@@ -31,6 +31,7 @@ use Rattle.mini_stmt.specs.JoinLets as lets
 use Rattle.mini_unused.specs.RemoveUnusedDeclaration as unused
 use Rattle.mini_unused.specs.RemoveUnusedName as names
 use Rattle.mini_unused.specs.SubstituteCatchClause as catches
+use Rattle.mini_laws.specs.Writable.{writable_in}
 use Rattle.mini_steady.specs.Told.{told_in}
 use Rattle.mini_peephole.specs.SteadyRows.{SteadyRewrites, IsSteadilySettled}
 
@@ -50,7 +51,7 @@ AllRests o q = Both (Rests o q) (Both (unused.Rests q) (Both (names.RestsUnder o
 
 -- and of those that rest on what is known of the bodies of the program, which act where no other does
 abbrev pub SteadyGives : CompressOptions → Tree → Position → Tree → Tree → Type 0
-SteadyGives o q = SteadyRewrites (told_in q)
+SteadyGives o q = SteadyRewrites (told_in q) (writable_in q)
 
 abbrev pub SteadyRests : CompressOptions → Tree → Position → Tree → Type 0
-SteadyRests o q = IsSteadilySettled (told_in q)
+SteadyRests o q = IsSteadilySettled (told_in q) (writable_in q)

@@ -64,7 +64,7 @@ created ds k ps a b e Deleted r s = refl
 created ds k ps a b e AnEntry r s = refl
 created ds k ps a b e q r s = refl
 
-same_at : (ds : List (List ℕ)) (k : ℕ) (ps a b : Trees) (p : Position) → SameAt p (arrow_with ds k ps a) (arrow_with ds k ps b)
+pub same_at : (ds : List (List ℕ)) (k : ℕ) (ps a b : Trees) (p : Position) → SameAt p (arrow_with ds k ps a) (arrow_with ds k ps b)
 same_at ds k ps a b p = equal_same p (arrow_with ds k ps a) (arrow_with ds k ps b) (record { by = λ e q z r s. created ds k ps a b e q r s })
 
 -- ---- where it stands, and what stands in its body
@@ -96,7 +96,7 @@ module _ (ds : List (List ℕ)) (k : ℕ) (ps a b : Trees) (h : (strict : Bool) 
   abbrev Here : Bool → Class → Trees → Type 0
   Here strict c ts = (whole c && (params strict && (fits (inner strict) (one an_arrow_body) (statements ts) && true))) ≡ true
 
-  abbrev Stands : Bool → Slot → Type 0 → Type 0
+  abbrev pub Stands : Bool → Slot → Type 0 → Type 0
   Stands strict s takes = takes × (fits strict s (arrow_with ds k ps b) ≡ true)
 
   body_fits : (strict : Bool) → fits strict (one an_arrow_body) (statements a) ≡ true → fits strict (one an_arrow_body) (statements b) ≡ true
@@ -119,7 +119,7 @@ module _ (ds : List (List ℕ)) (k : ℕ) (ps a b : Trees) (h : (strict : Bool) 
   arrow_in strict (an_inner_key true) e = absurd (refused_here strict (one (an_inner_key true)) (shape.ArrowFunctionExpression ds) [] k (listed ps ▸ (statements a ▸ none)) refl e)
   arrow_in strict c e = absurd (refused_here strict (one c) (shape.ArrowFunctionExpression ds) [] k (listed ps ▸ (statements a ▸ none)) refl e)
 
-  in_slot : (strict : Bool) (s : Slot) → fits strict s (arrow_with ds k ps a) ≡ true → Stands strict s (TakesExpression s)
+  pub in_slot : (strict : Bool) (s : Slot) → fits strict s (arrow_with ds k ps a) ≡ true → Stands strict s (TakesExpression s)
   in_slot strict (one c) e = arrow_in strict c e
   in_slot strict (one_or_absent c) e = let (takes, f) = arrow_in strict c e in (takes, f)
   in_slot strict s e = absurd (refused_here strict s (shape.ArrowFunctionExpression ds) [] k (listed ps ▸ (statements a ▸ none)) refl e)

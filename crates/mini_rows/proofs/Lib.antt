@@ -139,6 +139,7 @@ pub mod PastMeaning
 pub mod PastNext
 pub mod PastStretches
 pub mod PastLawful
+pub mod PastArrowLawful
 pub mod FoldEqualities
 mod FoldBranches
 pub mod FoldMeaning

@@ -51,13 +51,13 @@ use Rattle.mini_rows.proofs.UnusedWeights.{block_falls}
 -- ---- statements
 
 module _ (V : Assured) (W : VariableSet) (outside : Tree) (a b : Trees) (t : Behind V W outside a b) where
-  list_fits : (strict : Bool) → fill strict (each body_item) a ≡ true → fill strict (each body_item) b ≡ true
+  pub list_fits : (strict : Bool) → fill strict (each body_item) a ≡ true → fill strict (each body_item) b ≡ true
   list_fits strict e =
       let (x, y) = both_fit strict body_item t.before (append t.d t.after) (sym (ap (fill strict (each body_item)) t.read_is) ∙ e) in
       let (z, v) = both_fit strict body_item t.d t.after y in
       ap (fill strict (each body_item)) t.written_is ∙ append_fits strict body_item t.before (append t.w t.after) x (append_fits strict body_item t.w t.after (t.fits strict z) v)
 
-  none_mention : AllUnmentioned (record { name = resolved t.spelling t.symbol; hoists = false }) (append t.before (append t.w t.after))
+  pub none_mention : AllUnmentioned (record { name = resolved t.spelling t.symbol; hoists = false }) (append t.before (append t.w t.after))
   none_mention =
       let x = resolved t.spelling t.symbol in
       all_append (record { name = x; hoists = false }) t.before (append t.w t.after) (all_unmentioned x t.symbol refl t.before t.earlier) (all_append (record { name = x; hoists = false }) t.w t.after t.leaves.unmentioned (all_unmentioned x t.symbol refl t.after t.later))
@@ -227,7 +227,7 @@ module _ (S : BodySets) (W : VariableSet) where
 
   -- ---- lighter
 
-  list_lighter : (V : Assured) (outside : Tree) (ts us : Trees) → PastRow V W outside ts us → weight (Stmt stmt_seat.List) (block us) + 1 ≤ weight (Stmt stmt_seat.List) (block ts)
+  pub list_lighter : (V : Assured) (outside : Tree) (ts us : Trees) → PastRow V W outside ts us → weight (Stmt stmt_seat.List) (block us) + 1 ≤ weight (Stmt stmt_seat.List) (block ts)
   list_lighter V outside ts us (inl r) =
       let falls = single_falls stmt_seat.List r.before r.kind r.first r.spelling r.symbol r.init r.head r.after (movable r.init r.moves) (first_true (reads_first (resolved r.spelling r.symbol) r.head) _ r.once) in
       omega (arith, falls, ap (λ l. weight (Stmt stmt_seat.List) (block l)) r.shape, ap (λ l. weight (Stmt stmt_seat.List) (block l)) r.written)

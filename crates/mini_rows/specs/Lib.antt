@@ -37,6 +37,7 @@ pub mod Steady
 pub mod OwnArrows
 pub mod OwnPrograms
 pub mod Past
+pub mod PastArrows
 pub mod Cases
 pub mod LoopGuards
 pub mod DeadCases

@@ -1,6 +1,7 @@
 //! Row 71 past steady names.
 
 ghost use Rattle.mini_rows.specs.Past.{PastIsLawful, PastLightens, PastRunsAlike};
+ghost use Rattle.mini_rows.specs.PastArrows.{PastArrowIsLawful, PastArrowLightens};
 
 /// A body runs as before where the initializer goes past names that are held, from each start that initialises what is known to be
 /// initialised, in any environment in which that is so which is known, where nobody else sees the name that goes.
@@ -17,4 +18,14 @@ pub fn past_steady_names_lighten()
 /// those variables can be written for which it acts.
 pub fn past_steady_names_are_lawful()
     ensures { PastIsLawful }
+{}
+
+/// So is what is written of an arrow function lighter.
+pub fn past_steady_names_lighten_arrows()
+    ensures { PastArrowLightens }
+{}
+
+/// And it keeps all that, where that is so which is known of the arrow function's body.
+pub fn past_steady_names_are_lawful_in_arrows()
+    ensures { PastArrowIsLawful }
 {}

@@ -443,7 +443,7 @@ arrow_parts (node (shape.ArrowFunctionExpression directives) [] n (a ▸ none)) 
 arrow_parts (node (shape.ArrowFunctionExpression directives) [] n (a ▸ (b ▸ (c ▸ ts)))) e f g = let two = eqb-true (count (a ▸ (b ▸ (c ▸ ts)))) 2 g in absurd (omega (arith, two))
 arrow_parts t e f g = absurd (true≢false (sym e))
 
-arrow_is : (t : Tree) → has_statements t ≡ true → (directives : List (List ℕ)) × (t ≡ arrow_with directives (number_of t) (children (part t 0)) (children (part (part t 1) 0)))
+pub arrow_is : (t : Tree) → has_statements t ≡ true → (directives : List (List ℕ)) × (t ≡ arrow_with directives (number_of t) (children (part t 0)) (children (part (part t 1) 0)))
 arrow_is t e =
     let (a, p) = and_parts (is_arrow_shape (shape_of t)) (are_no_names (names_of t) && (nat_eq (count (children t)) 2 && (is_listed (part t 0) && are_statements (part t 1)))) e in
     let (b, q) = and_parts (are_no_names (names_of t)) (nat_eq (count (children t)) 2 && (is_listed (part t 0) && are_statements (part t 1))) p in
@@ -471,7 +471,7 @@ function_parts (node (shape.Function d g directives) [] n (a ▸ (b ▸ none))) 
 function_parts (node (shape.Function d g directives) [] n (a ▸ (b ▸ (c ▸ (u ▸ ts))))) e f h = let three = eqb-true (count (a ▸ (b ▸ (c ▸ (u ▸ ts))))) 3 h in absurd (omega (arith, three))
 function_parts t e f h = absurd (true≢false (sym e))
 
-function_is : (t : Tree) → is_function t ≡ true → (d : Bool) × (g : Bool) × (directives : List (List ℕ)) × (t ≡ function_with d g directives (number_of t) (part t 0) (children (part t 1)) (children (part (part t 2) 0)))
+pub function_is : (t : Tree) → is_function t ≡ true → (d : Bool) × (g : Bool) × (directives : List (List ℕ)) × (t ≡ function_with d g directives (number_of t) (part t 0) (children (part t 1)) (children (part (part t 2) 0)))
 function_is t e =
     let (a, p) = and_parts (is_function_shape (shape_of t)) (are_no_names (names_of t) && (nat_eq (count (children t)) 3 && (is_listed (part t 1) && are_statements (part t 2)))) e in
     let (b, q) = and_parts (are_no_names (names_of t)) (nat_eq (count (children t)) 3 && (is_listed (part t 1) && are_statements (part t 2))) p in

@@ -400,17 +400,17 @@ single_by W o ts i statement l n free r s e f g z h =
     h ∙ (λ k. is_single_declarator (is_free k) W (there k) ((g ∙ ap (λ t. last_place (children t)) there) k) o ts i)
     ∙ sym (ap (λ b. b && is_single_declarator (is_free_at ts i) W (list_at ts i) (last_place (children (list_at ts i))) o ts i) (ap declares_list (sym s) ∙ e))
 
-last_rest : (ts : Trees) → rest_children (suc (last_place ts)) ts ≡ none
+pub last_rest : (ts : Trees) → rest_children (suc (last_place ts)) ts ≡ none
 last_rest none = refl
 last_rest (t ▸ none) = refl
 last_rest (t ▸ (u ▸ ts)) = last_rest (u ▸ ts)
 
-last_there : (ts : Trees) (d : Tree) → last_place (append ts (d ▸ none)) ≡ count ts
+pub last_there : (ts : Trees) (d : Tree) → last_place (append ts (d ▸ none)) ≡ count ts
 last_there none d = refl
 last_there (t ▸ none) d = refl
 last_there (t ▸ (u ▸ ts)) d = ap suc (last_there (u ▸ ts) d)
 
-none_after : (ts : Trees) → append ts none ≡ ts
+pub none_after : (ts : Trees) → append ts none ≡ ts
 none_after none = refl
 none_after (t ▸ ts) = ap (λ us. t ▸ us) (none_after ts)
 
@@ -424,7 +424,7 @@ next_part (node h xs n ts) i x = go ts i
     go (t ▸ ts) zero = refl
     go (t ▸ ts) (suc i) = go ts i
 
-with_two : (ts : Trees) (i : ℕ) (x y : Tree) → suc i < count ts → with_child (with_child ts i x) (suc i) y ≡ append (first_children i ts) (x ▸ (y ▸ rest_children (suc (suc i)) ts))
+pub with_two : (ts : Trees) (i : ℕ) (x y : Tree) → suc i < count ts → with_child (with_child ts i x) (suc i) y ≡ append (first_children i ts) (x ▸ (y ▸ rest_children (suc (suc i)) ts))
 with_two none i x y h = absurd (omega (arith, h))
 with_two (t ▸ none) i x y h = absurd (omega (arith, h))
 with_two (t ▸ (u ▸ ts)) zero x y h = ap (λ us. x ▸ (y ▸ us)) (sym (no_first ts))
@@ -452,7 +452,7 @@ record Once (x : Name) (init : Tree) (ds : Trees) (j : ℕ) (ts : Trees) (i : �
   earlier : any_names x (first_children i ts) ≡ false
   later : any_names x (rest_children (suc (suc i)) ts) ≡ false
 
-neither : (a b : Bool) → not (a || b) ≡ true → (a ≡ false) × (b ≡ false)
+pub neither : (a b : Bool) → not (a || b) ≡ true → (a ≡ false) × (b ≡ false)
 neither true b e = absurd (true≢false (sym e))
 neither false true e = absurd (true≢false (sym e))
 neither false false e = (refl, refl)

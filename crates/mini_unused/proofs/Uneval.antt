@@ -64,7 +64,7 @@ child_of none i e = absent_there
 child_of (t ▸ ts) zero e = (first_and_others t ts e).0
 child_of (t ▸ ts) (suc i) e = child_of ts i (first_and_others t ts e).1
 
-part_of : (t : Tree) (i : ℕ) → has_eval t ≡ false → has_eval (part t i) ≡ false
+pub part_of : (t : Tree) (i : ℕ) → has_eval t ≡ false → has_eval (part t i) ≡ false
 part_of t i e = child_of (children t) i (below t e)
 
 with_one : (ts : Trees) (i : ℕ) (x : Tree) → any_has_eval ts ≡ false → has_eval x ≡ false → any_has_eval (with_child ts i x) ≡ false
@@ -108,7 +108,7 @@ statement_without t j d e =
     (chosen (is_bare (part t 0) 1) empty_statement (let_left t j) no_statement (let_without t j d e))
     (by_expression init (part_of (part (part t 0) j) 1 (part_of (part t 0) j (part_of t 0 e))))
 
-declaration_without : (t : Tree) (j : ℕ) → declares_list t ≡ true → has_eval t ≡ false → has_eval (declaration_left t j) ≡ false
+pub declaration_without : (t : Tree) (j : ℕ) → declares_list t ≡ true → has_eval t ≡ false → has_eval (declaration_left t j) ≡ false
 declaration_without t j d e = chosen (is_bare (part t 0) 1) empty_statement (let_left t j) no_statement (let_without t j d e)
 
 -- ---- what has another tree in the place of what is read first: no callee that is a name
@@ -171,7 +171,7 @@ no_callee h t ts e = (either_not (is_eval_call h (t ▸ ts)) (any_has_eval (t �
     either_not false b e = (refl, e)
 
 mutual
-  put_there : (x : Name) (b : Bool) (r t : Tree) → is_first x b t ≡ true → has_eval r ≡ false → has_eval t ≡ false → has_eval (put_first x r t) ≡ false
+  pub put_there : (x : Name) (b : Bool) (r t : Tree) → is_first x b t ≡ true → has_eval r ≡ false → has_eval t ≡ false → has_eval (put_first x r t) ≡ false
   put_there x b r (node h ys n none) f e g = e
   put_there x b r (node h [] zero (t ▸ ts)) f e g =
       let (a, c) = put_in x b h 0 r (t ▸ ts) f e (below (node h [] 0 (t ▸ ts)) g) in
@@ -202,7 +202,7 @@ no_call : (h : Shape) → is_head_shape h ≡ true → (ts : Trees) → is_eval_
 no_call (shape.CallExpression false) e ts = absurd (true≢false (sym e))
 no_call h e ts = refl
 
-put_in_head : (x : Name) (r t : Tree) → reads_first x t ≡ true → has_eval r ≡ false → has_eval t ≡ false → has_eval (put_first x r t) ≡ false
+pub put_in_head : (x : Name) (r t : Tree) → reads_first x t ≡ true → has_eval r ≡ false → has_eval t ≡ false → has_eval (put_first x r t) ≡ false
 put_in_head x r (node h ys n none) f e g = e
 put_in_head x r (node h ys n (t ▸ ts)) f e g =
     let (l, p) = and_parts (is_head_shape h) (is_nameless (node h ys n (t ▸ ts)) && (is_first x false t && not (any_names x ts))) f in
@@ -255,7 +255,7 @@ declarator_with d v n g f =
     let shaped : with_part d 1 v ≡ declarator id v = ap (λ t. with_part t 1 v) (is ∙ ap (λ t. declarator t (part d 1)) (sym (ap (λ t. part t 0) is))) in
     ap has_eval shaped ∙ over (declarator id v) refl (all_of id (v ▸ none) (part_of d 0 g) (all_of v none f nothing_there))
 
-next_without : (t : Tree) (j : ℕ) → declares_list t ≡ true → is_declarator (part (part t 0) (suc j)) ≡ true → has_eval (put_named (names_of (part (part (part t 0) j) 0)) (part (part (part t 0) j) 1) (part (part (part t 0) (suc j)) 1)) ≡ false → has_eval t ≡ false → has_eval (with_part t 0 (declarators_next (part t 0) j)) ≡ false
+pub next_without : (t : Tree) (j : ℕ) → declares_list t ≡ true → is_declarator (part (part t 0) (suc j)) ≡ true → has_eval (put_named (names_of (part (part (part t 0) j) 0)) (part (part (part t 0) j) 1) (part (part (part t 0) (suc j)) 1)) ≡ false → has_eval t ≡ false → has_eval (with_part t 0 (declarators_next (part t 0) j)) ≡ false
 next_without t j d n f e =
     let (k, is) = a_declaration t d in
     let ds = children (part t 0) in
@@ -277,13 +277,13 @@ pub record Unseen (o l : Tree) : Type 0 where
   pub is_list : is_listed l ≡ true
   pub unseen : (has_eval o || has_eval l) ≡ false
 
-unseen_with : (o l : Tree) (i : ℕ) (x : Tree) → Unseen o l → has_eval x ≡ false → Unseen o (with_part l i x)
+pub unseen_with : (o l : Tree) (i : ℕ) (x : Tree) → Unseen o l → has_eval x ≡ false → Unseen o (with_part l i x)
 unseen_with o l i x c f =
     let (a, b) = neither (has_eval o) (has_eval l) c.unseen in
     let (d, e) = list_with l i x c.is_list b f in
     record { is_list = e; unseen = both_not (has_eval o) (has_eval (with_part l i x)) a d }
 
-in_list : (o l : Tree) (i : ℕ) → Unseen o l → has_eval (part l i) ≡ false
+pub in_list : (o l : Tree) (i : ℕ) → Unseen o l → has_eval (part l i) ≡ false
 in_list o l i c = part_of l i (neither (has_eval o) (has_eval l) c.unseen).1
 
 once_put : (xs : List Name) (o init : Tree) (ds : Trees) (j : ℕ) (ts : Trees) (i : ℕ) → is_read_once xs o init ds j ts i ≡ true → has_eval init ≡ false → has_eval (child_or_absent ts (suc i)) ≡ false → has_eval (put_named xs init (child_or_absent ts (suc i))) ≡ false

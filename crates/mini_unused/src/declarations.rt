@@ -51,7 +51,7 @@ pub fn is_resolved_binding(node: &Node) -> bool
         && has_symbol(node.name())
 }
 
-// `x = a()` or `x`, as a declarator
+/// `x = a()` or `x`, as a declarator.
 pub fn declares_name(node: &Node) -> bool
     ensures kind { result ≡ it_declares_name node.now }
     ensures parts { result ≡ true → count (children node.now) ≡ 2 }
@@ -544,8 +544,8 @@ fn are_statements(node: &Node) -> bool
     matches!(node.shape(), Shape::FunctionBody) && node.is_bare(1) && is_listed(node.child(0))
 }
 
-// An arrow function with statements.
-fn has_statements(node: &Node) -> bool
+/// An arrow function with statements.
+pub fn has_statements(node: &Node) -> bool
     ensures kind { result ≡ row.has_statements node.now }
     ensures parts { result ≡ true → count (children node.now) ≡ 2 }
     ensures list { result ≡ true → count (children (part node.now 1)) ≡ 1 }
@@ -578,8 +578,8 @@ pub fn remove_unused_in_arrow(
     changed
 }
 
-// Any other function.
-fn is_function(node: &Node) -> bool
+/// Any other function.
+pub fn is_function(node: &Node) -> bool
     ensures kind { result ≡ row.is_function node.now }
     ensures parts { result ≡ true → count (children node.now) ≡ 3 }
     ensures list { result ≡ true → count (children (part node.now 2)) ≡ 1 }

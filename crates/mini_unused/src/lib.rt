@@ -14,10 +14,18 @@ mod tallies;
 
 pub use catches::{SubstituteCatches, substitute_catch_clause};
 pub use declarations::{
-    RemoveUnusedDeclarations, remove_unused_declaration, remove_unused_in_arrow,
-    remove_unused_in_function, remove_unused_in_module,
+    RemoveUnusedDeclarations, declares_list, declares_name, has_statements, is_function,
+    is_lexical, put_child, remove_unused_declaration, remove_unused_in_arrow,
+    remove_unused_in_function, remove_unused_in_module, take_child,
 };
-pub use evals::has_eval;
+pub use evals::{either_has_eval, has_eval};
 pub use mentions::{is_mentioned, is_mentioned_before, is_mentioned_from};
 pub use names::{RemoveUnusedNames, remove_unused_name};
-pub use single_uses::substitute_single_uses;
+pub use next_uses::{
+    is_declarator, is_mentioned_beside, is_mentioned_elsewhere, substitute_next,
+};
+pub use single_uses::{
+    is_constant, is_declared_over, is_first, is_mentioned_around, last_declarator, may_go_on,
+    may_move, reads_first, substitute_in_list, substitute_single_uses,
+};
+pub use sweeping::{declarators_at, has_next};

@@ -31,8 +31,8 @@ pub fn is_declarator(node: &Node) -> bool
     matches!(node.shape(), Shape::VariableDeclarator) && node.is_bare(2)
 }
 
-// Whether the name stands in the initializer, in what the next declarator declares, or in another declarator.
-fn is_mentioned_beside(
+/// Whether the name stands in the initializer, in what the next declarator declares, or in another declarator.
+pub fn is_mentioned_beside(
     name: &Name,
     declarator: &Node,
     next: &Node,
@@ -51,8 +51,8 @@ fn is_mentioned_beside(
         || is_mentioned_from(name, declarators, which + 2)
 }
 
-// Whether it stands in another statement.
-fn is_mentioned_elsewhere(name: &Name, statements: &Nodes, at: usize) -> bool
+/// Whether it stands in another statement.
+pub fn is_mentioned_elsewhere(name: &Name, statements: &Nodes, at: usize) -> bool
     requires statement { at < count statements.now }
     requires fits { at + 1 < 2 ^ 64 }
     ensures { result ≡ row.is_mentioned_elsewhere name.now statements.now at }

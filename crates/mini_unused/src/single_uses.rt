@@ -68,9 +68,9 @@ fn goes_on(shape: &Shape) -> bool
     )
 }
 
-// What evaluates its first part, or what is assigned to, or a key, and then, if at all, the second, and asks for the second's value
-// alone. A property that is shorthand isn't such a part.
-fn may_go_on(shape: &Shape) -> bool
+/// What evaluates its first part, or what is assigned to, or a key, and then, if at all, the second, and asks for the second's value
+/// alone. A property that is shorthand isn't such a part.
+pub fn may_go_on(shape: &Shape) -> bool
     ensures { result ≡ reading.may_go_on shape.now }
 {
     matches!(
@@ -231,9 +231,9 @@ fn is_value_operator(shape: &Shape) -> bool
     )
 }
 
-// The same value whenever it is evaluated.
+/// The same value whenever it is evaluated.
 #[tactic(auto, using(crate::proofs::SingleUses::constant_literal, crate::proofs::SingleUses::constant_operator, crate::proofs::SingleUses::no_operator, crate::proofs::SingleUses::no_constant))]
-fn is_constant(node: &Node) -> bool
+pub fn is_constant(node: &Node) -> bool
     ensures { result ≡ reading.is_constant node.now }
 {
     if is_written_value(node.shape()) {
@@ -475,9 +475,9 @@ fn is_head(node: &Node) -> bool
     has_shape && node.is_nameless()
 }
 
-// So does a statement.
+/// So does a statement.
 #[tactic(auto, using(crate::proofs::SingleUses::no_part, crate::proofs::SingleUses::no_head))]
-fn reads_first(name: &Name, node: &Node) -> bool
+pub fn reads_first(name: &Name, node: &Node) -> bool
     ensures { result ≡ reading.reads_first name.now node.now }
 {
     if node.children().len() == 0 {
@@ -603,16 +603,16 @@ pub fn may_move(node: &Node) -> bool
     is_plain_part(node) && !is_definition(node.shape())
 }
 
-// Whether the name stands in the initializer, or in a declarator before it.
-fn is_declared_over(name: &Name, init: &Node, declarators: &Nodes, which: usize) -> bool
+/// Whether the name stands in the initializer, or in a declarator before it.
+pub fn is_declared_over(name: &Name, init: &Node, declarators: &Nodes, which: usize) -> bool
     requires { which < count declarators.now }
     ensures { result ≡ row.is_declared_over name.now init.now declarators.now which }
 {
     is_mentioned(name, init) || is_mentioned_before(name, declarators, which)
 }
 
-// Whether it stands after the next statement, where it mostly does if anywhere, or before the declaration.
-fn is_mentioned_around(name: &Name, statements: &Nodes, at: usize) -> bool
+/// Whether it stands after the next statement, where it mostly does if anywhere, or before the declaration.
+pub fn is_mentioned_around(name: &Name, statements: &Nodes, at: usize) -> bool
     requires next { at + 1 < count statements.now }
     requires fits { at + 2 < 2 ^ 64 }
     ensures { result ≡ row.is_mentioned_around name.now statements.now at }

@@ -1,9 +1,6 @@
 //! Where one name has gone from a list of statements, the others are looked for from there on: each declarator once, so that no look
 //! begins anew.
 
-//! Where one name has gone from a list of statements, the others are looked for from there on: each declarator once, so that no look
-//! begins anew.
-
 ghost use Rattle.std.specs.Prelude.{◌≡◌, ◌+◌, ◌<◌, ◌^◌, ◌||◌, true, false, Some, OnOk};
 ghost use Rattle.mini_model.specs.Tree.{child_or_absent, children, count, listed};
 ghost use Rattle.mini_laws.specs.ScopeList.{has_eval};
@@ -102,8 +99,8 @@ fn is_unused_there(
     is_alone_there(outside, statements, at, list, which, tallies)
 }
 
-// A statement comes after the place.
-fn has_next(list: &Node, at: usize) -> bool
+/// A statement comes after the place.
+pub fn has_next(list: &Node, at: usize) -> bool
     requires { at + 1 < 2 ^ 64 }
     ensures next { result ≡ true → at + 1 < count (children list.now) }
     ensures fits { result ≡ true → at + 2 < 2 ^ 64 }
@@ -111,8 +108,8 @@ fn has_next(list: &Node, at: usize) -> bool
     at + 1 < list.children().len()
 }
 
-// How many declarators the statement at the place has.
-fn declarators_at(list: &Node, at: usize) -> usize {
+/// How many declarators the statement at the place has.
+pub fn declarators_at(list: &Node, at: usize) -> usize {
     if at >= list.children().len() {
         return 0;
     }

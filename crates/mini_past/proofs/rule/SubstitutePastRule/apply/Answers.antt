@@ -1,11 +1,12 @@
-use Rattle.std.proofs.Common.{◌∙◌, sym, subst}
+use Rattle.std.proofs.Common.{◌∙◌, sym, subst₂}
 use Rattle.mini_tree.specs.Rule.{Applied}
-use Rattle.mini_past.specs.SubstitutePast.{HeadFunction, RestsPast}
-use Rattle.mini_past.proofs.InFunctions.{applied}
+use Rattle.mini_rows.specs.Past.{PastFunction}
+use Rattle.mini_past.specs.SubstitutePast.{RestsPast}
+use Rattle.mini_past.proofs.Steps.{applied, stays_elsewhere}
 use Rattle.mini_past.proofs.rule.SubstitutePastRule.apply.Goals as goal
 
 pub returns-clause-applied : goal.returns-clause-applied
 returns-clause-applied g c = λ o q k.
     let made = c.substitute_past_in_function in
-    subst (λ S. Applied (HeadFunction S) (RestsPast S) c.args.place c.args.node.now made.new.node made.result) (g.met.C.SteadyContext.told c.args.context.now o q k)
-    (applied (g.C.SteadyNames.sets c.args.context.now) c.args.place c.args.node.now made.new.node made.result (sym c.holds_function.ensures ∙ c.if-not-holds_function.false) made.ensures)
+    subst₂ (λ S W. Applied (PastFunction S W) (RestsPast S W) c.args.place c.args.node.now made.new.node made.result) (g.met.C.SteadyContext.told c.args.context.now o q k) (g.met.C.PastContext.says c.args.context.now o q k)
+    (applied (g.C.SteadyNames.sets c.args.context.now) (g.C.PastNames.writable c.args.context.now) c.args.place c.args.node.now made.new.node made.result (sym c.holds_function.ensures ∙ c.if-not-holds_function.false) made.ensures)

@@ -1,0 +1,199 @@
+-- What is done in the statements of a function or of an arrow function is done in it.
+use Rattle.std.proofs.Common.{◌≡◌, ℕ, suc, Bool, true, false, List, [], ◌∷◌, refl, sym, ap, ◌∙◌, subst, inl, inr, true≢false}
+use Rattle.std.specs.Prelude.{not, ◌⊎◌, ◌&&◌, ◌||◌, None, Some}
+use Rattle.mini_model.specs.declared.name.Name.{Name}
+use Rattle.mini_model.specs.declared.shape.Shape.TheVariants as shape
+use Rattle.mini_model.specs.Tree.{Tree, Trees, node, none, ◌▸◌, absent, listed, children, child_or_absent}
+use Rattle.mini_kept.specs.Without.{Assured, BodySets}
+use Rattle.mini_laws.specs.ScopeList.{has_eval, any_has_eval}
+use Rattle.mini_laws.specs.Value.{VariableSet}
+use Rattle.mini_node.specs.Children.{names_of, number_of, part, with_part}
+use Rattle.mini_rows.specs.Lists.{block}
+use Rattle.mini_rows.specs.Past.{held, PastRow, PastFunctionRow}
+use Rattle.mini_rows.specs.PastArrows.{PastArrowRow}
+use Rattle.mini_rows.specs.Unused.{names, any_names, arrow_with, function_with}
+use Rattle.mini_unused.specs.Chains.{Several}
+use Rattle.mini_unused.specs.RemoveUnusedDeclaration.{declares_list, has_statements, is_free_at, is_function, list_at}
+use Rattle.mini_unused.specs.SubstituteNext.{is_declarator, is_mentioned_beside, is_mentioned_elsewhere}
+use Rattle.mini_unused.specs.SubstituteSingleUse.{last_place, is_declared_over, is_mentioned_around}
+use Rattle.mini_unused.proofs.Chains.{several_over}
+use Rattle.mini_unused.proofs.Holders.{or_none, arrow_is, function_is}
+pub use Rattle.mini_unused.proofs.Holders.{put_back}
+pub use Rattle.mini_unused.proofs.Swept.{in_arrow, in_function}
+pub use Rattle.mini_unused.proofs.Unused.{same_parts, part_twice}
+use Rattle.mini_past.proofs.NextRows.{next_row, none_next}
+use Rattle.mini_past.proofs.PastRows.{row_there, none_past}
+use Rattle.mini_past.specs.SubstitutePast.{may_pass_by, reads_past, reads_past_in, is_read_past, is_read_past_then, is_past, is_past_next, PastAt, PastNextOf, PastNextAt, ReadPast, NextPast, PastGone, PastRemoved, AppliedPast, AppliedPastArrow}
+
+-- ---- the rows of a list, with what is outside of it
+
+-- a direct eval in them
+seen_there : (o : Tree) (ts : Trees) → has_eval (block (o ▸ ts)) ≡ (has_eval o || has_eval (listed ts))
+unfolding has_eval
+seen_there o ts = or_none (has_eval o || any_has_eval ts)
+
+module _ (V : Assured) (W : VariableSet) (o : Tree) where
+  row_of : (ts : Trees) (m : Tree) → PastGone V W o (listed ts) m → PastRow V W o ts (children m)
+  row_of ts m r = by r.name
+    where
+      by : ReadPast V W o (listed ts) m ⊎ NextPast V W o (listed ts) m → PastRow V W o ts (children m)
+      by (inl g) = subst (λ u. PastRow V W o ts (children u)) (sym g.left) (inl (row_there V W o ts g.at g.next g.declares g.there (seen_there o ts ∙ r.unseen)))
+      by (inr g) = subst (λ u. PastRow V W o ts (children u)) (sym g.left) (inr (next_row V W o ts g.at g.which g.there.0 g.there.1.1 g.there.1.2 (seen_there o ts ∙ r.unseen)))
+
+  none_here : (ts us : Trees) → ((has_eval o || has_eval (listed ts)) ≡ true) ⊎ (PastAt V W o ts None × PastNextAt V W o ts None) → PastRow V W o ts us → ⊥
+  none_here ts us (inl e) (inl r) = true≢false (sym e ∙ sym (seen_there o ts) ∙ r.unseen)
+  none_here ts us (inl e) (inr r) = true≢false (sym e ∙ sym (seen_there o ts) ∙ r.unseen)
+  none_here ts us (inr f) (inl r) = none_past V W o ts f.0 us r
+  none_here ts us (inr f) (inr r) = none_next V W o ts f.1 us r
+
+-- what is left of a list is one
+left_listed : (V : Assured) (W : VariableSet) (o : Tree) (ts : Trees) (m : Tree) → PastGone V W o (listed ts) m → m ≡ listed (children m)
+left_listed V W o ts m r = by r.name
+  where
+    by : ReadPast V W o (listed ts) m ⊎ NextPast V W o (listed ts) m → m ≡ listed (children m)
+    by (inl g) = g.left ∙ sym (ap (λ l. listed (children l)) g.left)
+    by (inr g) = g.left ∙ sym (ap (λ l. listed (children l)) g.left)
+
+-- ---- what is outside of the statements mentions the same names
+
+module _ (V : Assured) (W : VariableSet) (o q : Tree) (mentions : (x : Name) → names x o ≡ names x q) (evals : has_eval o ≡ has_eval q) (ts : Trees) where
+  read_alike : (xs : List Name) (init : Tree) (ds : Trees) (j i : ℕ) → is_read_past V xs o init ds j ts i ≡ is_read_past V xs q init ds j ts i
+  read_alike [] init ds j i = refl
+  read_alike (x ∷ xs) init ds j i = ap (λ b. not b && (reads_past (held V ts) x init (child_or_absent ts (suc i)) && (not (is_declared_over x init ds j) && not (is_mentioned_around x ts i)))) (mentions x)
+
+  past_alike : (i : ℕ) → is_past V W o ts i ≡ is_past V W q ts i
+  past_alike i =
+      let l = list_at ts i in
+      let j = last_place (children l) in
+      ap (λ b. declares_list (child_or_absent ts i) && (may_pass_by (is_free_at ts i) W (part l j) && b)) (read_alike (names_of (part (part l j) 0)) (part (part l j) 1) (children l) j i)
+
+  then_alike : (xs : List Name) (d e : Tree) (ds : Trees) (j i : ℕ) → is_read_past_then V xs d e o ds j ts i ≡ is_read_past_then V xs d e q ds j ts i
+  then_alike [] d e ds j i = refl
+  then_alike (x ∷ xs) d e ds j i = ap (λ b. reads_past_in (held V ts) x (part d 1) (part e 1) && (not (is_mentioned_beside x d e ds j) && (not b && not (is_mentioned_elsewhere x ts i)))) (mentions x)
+
+  next_alike : (i j : ℕ) → is_past_next V W o ts i j ≡ is_past_next V W q ts i j
+  next_alike i j =
+      let l = list_at ts i in
+      let d = part l j in
+      let e = part l (suc j) in
+      ap (λ b. declares_list (child_or_absent ts i) && (is_declarator e && (may_pass_by (is_free_at ts i) W d && b))) (then_alike (names_of (part d 0)) d e (children l) j i)
+
+  seen_alike : (has_eval o || has_eval (listed ts)) ≡ (has_eval q || has_eval (listed ts))
+  seen_alike = ap (λ b. b || has_eval (listed ts)) evals
+
+  gone_alike : (m : Tree) → PastGone V W o (listed ts) m → PastGone V W q (listed ts) m
+  gone_alike m r = record { unseen = sym seen_alike ∙ r.unseen; name = by r.name }
+    where
+      by : ReadPast V W o (listed ts) m ⊎ NextPast V W o (listed ts) m → ReadPast V W q (listed ts) m ⊎ NextPast V W q (listed ts) m
+      by (inl g) = inl (record { at = g.at; next = g.next; declares = g.declares; there = sym (past_alike g.at) ∙ g.there; left = g.left })
+      by (inr g) = inr (record { at = g.at; which = g.which; there = (g.there.0, (g.there.1.0, g.there.1.1, sym (next_alike g.at g.which) ∙ g.there.1.2)); left = g.left })
+
+  rests_alike : ((has_eval o || has_eval (listed ts)) ≡ true) ⊎ (PastAt V W o ts None × PastNextAt V W o ts None) → ((has_eval q || has_eval (listed ts)) ≡ true) ⊎ (PastAt V W q ts None × PastNextAt V W q ts None)
+  rests_alike (inl e) = inl (sym seen_alike ∙ e)
+  rests_alike (inr f) = inr (λ i h. sym (past_alike i) ∙ f.0 i h, λ i h j g. sym (next_alike i j) ∙ f.1 i h j g)
+
+-- ---- what holds the statements
+
+-- Q is what a row of the statements makes of what holds them, over them; o is that without them
+module _ (V : Assured) (W : VariableSet) (o q : Tree) (mentions : (x : Name) → names x o ≡ names x q) (evals : has_eval o ≡ has_eval q) (Q : Tree → Tree → Type 0) (over : Tree → Tree) (held_row : (ts us : Trees) → PastRow V W q ts us → Q (over (listed ts)) (over (listed us))) where
+  abbrev is_list : Tree → Type 0
+  is_list l = l ≡ listed (children l)
+
+  one_over : (t u : Tree) → is_list t → PastGone V W o t u → Q (over t) (over u) × is_list u
+  one_over t u i r =
+      let ts = children t in
+      let there = gone_alike V W o q mentions evals ts u (subst (λ v. PastGone V W o v u) i r) in
+      let left = left_listed V W q ts u there in
+      (subst (λ v. Q (over v) (over u)) (sym i) (subst (λ v. Q (over (listed ts)) (over v)) (sym left) (held_row ts (children u) (row_of V W q ts u there))), left)
+
+  -- names that go one after another go so from what holds them
+  several_held : (ts : Trees) (m : Tree) → Several (PastGone V W o) (listed ts) m → Several Q (over (listed ts)) (over m)
+  several_held ts m = several_over (PastGone V W o) Q is_list over one_over (listed ts) m refl
+
+  none_held : (ts us : Trees) (m : Tree) → PastRemoved V W o (listed ts) m false → PastRow V W q ts us → ⊥
+  none_held ts us m r = none_here V W q ts us (rests_alike V W o q mentions evals ts r.1)
+
+-- ---- a function
+
+-- no such row reads it
+abbrev Unread : BodySets → VariableSet → Tree → Type 0
+Unread S W t = (us : Trees) → PastRow (S (number_of t)) W (listed (part t 0 ▸ children (part t 1))) (children (part (part t 2) 0)) us → ⊥
+
+module _ (S : BodySets) (W : VariableSet) (d g : Bool) (directives : List (List ℕ)) (number : ℕ) (name : Tree) (ps : Trees) where
+  abbrev before_function : Tree
+  before_function = listed (name ▸ ps)
+
+  abbrev emptied : Tree
+  emptied = node (shape.Function d g directives) [] number (name ▸ (listed ps ▸ (absent ▸ none)))
+
+  function_mentions : (x : Name) → names x emptied ≡ names x before_function
+  function_mentions x = ap (λ b. names x name || b) (or_none (any_names x ps))
+
+  function_evals : has_eval emptied ≡ has_eval before_function
+  unfolding has_eval
+  function_evals = ap (λ b. has_eval name || b) (or_none (any_has_eval ps))
+
+  abbrev with_list : Tree → Tree
+  with_list m = node (shape.Function d g directives) [] number (name ▸ (listed ps ▸ (node shape.FunctionBody [] 0 (m ▸ none) ▸ none)))
+
+  function_row : (ts us : Trees) → PastRow (S number) W before_function ts us → PastFunctionRow S W (with_list (listed ts)) (with_list (listed us))
+  function_row ts us r = record { is_declared = d; is_generator = g; directives = directives; number = number; name = name; parameters = ps; before = ts; after = us; row = r; shape = refl; written = refl }
+
+  function_applied : (ts : Trees) (m : Tree) (c : Bool) → PastRemoved (S number) W emptied (listed ts) m c → AppliedPast S W (function_with d g directives number name ps ts) (with_list m) c
+  function_applied ts m true r = several_held (S number) W emptied before_function function_mentions function_evals (PastFunctionRow S W) with_list function_row ts m r
+  function_applied ts m false r =
+      (ap with_list r.0, λ w row. subst (Unread S W) row.shape (λ us. none_held (S number) W emptied before_function function_mentions function_evals (PastFunctionRow S W) with_list function_row ts us m r) row.after row.row)
+
+pub of_function : (S : BodySets) (W : VariableSet) (t m : Tree) (c : Bool) → is_function t ≡ true → PastRemoved (S (number_of t)) W (with_part t 2 absent) (part (part t 2) 0) m c → (u : Tree) → u ≡ with_part t 2 (with_part (part t 2) 0 m) → AppliedPast S W t u c
+of_function S W t m c h r u f =
+    let (d, g, directives, is) = function_is t h in
+    let n = number_of t in
+    let name = part t 0 in
+    let ps = children (part t 1) in
+    let ts = children (part (part t 2) 0) in
+    let there = subst (λ v. PastRemoved (S n) W (with_part v 2 absent) (part (part v 2) 0) m c) is r in
+    subst (λ v. AppliedPast S W v u c) (sym is)
+    (subst (λ v. AppliedPast S W (function_with d g directives n name ps ts) v c) (sym (f ∙ ap (λ v. with_part v 2 (with_part (part v 2) 0 m)) is)) (function_applied S W d g directives n name ps ts m c there))
+
+pub no_function : (S : BodySets) (W : VariableSet) (t : Tree) → is_function t ≡ false → AppliedPast S W t t false
+no_function S W t e = (refl, λ w r. true≢false (sym (ap is_function r.shape) ∙ e))
+
+-- ---- an arrow function
+
+abbrev UnreadArrow : BodySets → VariableSet → Tree → Type 0
+UnreadArrow S W t = (us : Trees) → PastRow (S (number_of t)) W (listed (children (part t 0))) (children (part (part t 1) 0)) us → ⊥
+
+module _ (S : BodySets) (W : VariableSet) (directives : List (List ℕ)) (number : ℕ) (ps : Trees) where
+  abbrev emptied_arrow : Tree
+  emptied_arrow = node (shape.ArrowFunctionExpression directives) [] number (listed ps ▸ (absent ▸ none))
+
+  arrow_mentions : (x : Name) → names x emptied_arrow ≡ names x (listed ps)
+  arrow_mentions x = or_none (any_names x ps)
+
+  arrow_evals : has_eval emptied_arrow ≡ has_eval (listed ps)
+  unfolding has_eval
+  arrow_evals = or_none (any_has_eval ps)
+
+  abbrev arrow_over : Tree → Tree
+  arrow_over m = node (shape.ArrowFunctionExpression directives) [] number (listed ps ▸ (node shape.FunctionBody [] 0 (m ▸ none) ▸ none))
+
+  arrow_row : (ts us : Trees) → PastRow (S number) W (listed ps) ts us → PastArrowRow S W (arrow_over (listed ts)) (arrow_over (listed us))
+  arrow_row ts us r = record { directives = directives; number = number; parameters = ps; before = ts; after = us; row = r; shape = refl; written = refl }
+
+  arrow_applied : (ts : Trees) (m : Tree) (c : Bool) → PastRemoved (S number) W emptied_arrow (listed ts) m c → AppliedPastArrow S W (arrow_with directives number ps ts) (arrow_over m) c
+  arrow_applied ts m true r = several_held (S number) W emptied_arrow (listed ps) arrow_mentions arrow_evals (PastArrowRow S W) arrow_over arrow_row ts m r
+  arrow_applied ts m false r =
+      (ap arrow_over r.0, λ w row. subst (UnreadArrow S W) row.shape (λ us. none_held (S number) W emptied_arrow (listed ps) arrow_mentions arrow_evals (PastArrowRow S W) arrow_over arrow_row ts us m r) row.after row.row)
+
+pub of_arrow : (S : BodySets) (W : VariableSet) (t m : Tree) (c : Bool) → has_statements t ≡ true → PastRemoved (S (number_of t)) W (with_part t 1 absent) (part (part t 1) 0) m c → (u : Tree) → u ≡ with_part t 1 (with_part (part t 1) 0 m) → AppliedPastArrow S W t u c
+of_arrow S W t m c h r u f =
+    let (directives, is) = arrow_is t h in
+    let n = number_of t in
+    let ps = children (part t 0) in
+    let ts = children (part (part t 1) 0) in
+    let there = subst (λ v. PastRemoved (S n) W (with_part v 1 absent) (part (part v 1) 0) m c) is r in
+    subst (λ v. AppliedPastArrow S W v u c) (sym is)
+    (subst (λ v. AppliedPastArrow S W (arrow_with directives n ps ts) v c) (sym (f ∙ ap (λ v. with_part v 1 (with_part (part v 1) 0 m)) is)) (arrow_applied S W directives n ps ts m c there))
+
+pub no_arrow : (S : BodySets) (W : VariableSet) (t : Tree) → has_statements t ≡ false → AppliedPastArrow S W t t false
+no_arrow S W t e = (refl, λ w r. true≢false (sym (ap has_statements r.shape) ∙ e))

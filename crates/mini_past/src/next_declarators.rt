@@ -1,0 +1,234 @@
+//! Row 71 past steady names in one declaration: `let x = a(), y = g(x);` becomes `let y = g(a());`, where g is steady in the body.
+
+ghost use Rattle.std.specs.Prelude.{◌≡◌, ◌+◌, ◌<◌, ◌^◌, true, None};
+ghost use Rattle.mini_model.specs.Tree.{children, count};
+ghost use Rattle.mini_node.specs.Children.{names};
+ghost use Rattle.mini_node.specs.Kinds.{is_listed as is_it_listed};
+ghost use Rattle.mini_rows.specs.Past.{held};
+ghost use Rattle.mini_past.specs.SubstitutePast as row;
+ghost use Rattle.mini_past.specs.SubstitutePast.{PastAt, PastNextAt, PastNextIn, PastNextOf, PastRemoved};
+
+use crate::declared::may_pass_by;
+use crate::names::PastNames;
+use crate::passing::are_past;
+use crate::sweeping::sweep;
+use mini_model::Name;
+use mini_node::{Node, Nodes};
+use mini_steady::SteadyNames;
+use mini_unused::{
+    declares_list, either_has_eval, is_declarator, is_first, is_lexical, is_mentioned,
+    is_mentioned_beside, is_mentioned_elsewhere, substitute_next,
+};
+use std::alloc::Global;
+
+// An initializer reads the name first, after parts that pass the other.
+fn reads_past_in<S: SteadyNames>(
+    name: &Name,
+    init: &Node,
+    value: &Node,
+    statements: &Nodes,
+    body: u32,
+    steady: &S,
+) -> bool
+    ensures { result ≡ row.reads_past_in (held (S.sets steady.now body) statements.now) name.now init.now value.now }
+{
+    is_first(name, false, value) && are_past(name, init, value, statements, body, steady)
+}
+
+// The next declarator does, and nothing else mentions it.
+fn is_read_past_then<S: SteadyNames>(
+    name: &Option<Name>,
+    declarator: &Node,
+    next: &Node,
+    outside: &Node,
+    declarators: &Nodes,
+    which: usize,
+    statements: &Nodes,
+    at: usize,
+    body: u32,
+    steady: &S,
+) -> bool
+    requires parts { 1 < count (children declarator.now) }
+    requires next_parts { 1 < count (children next.now) }
+    requires next { which + 1 < count declarators.now }
+    requires statement { at < count statements.now }
+    requires fits { which + 2 < 2 ^ 64 }
+    requires fits_too { at + 1 < 2 ^ 64 }
+    ensures { result ≡ row.is_read_past_then (S.sets steady.now body) (names name.now) declarator.now next.now outside.now declarators.now which statements.now at }
+{
+    match name {
+        Some(name) => {
+            reads_past_in(
+                name,
+                declarator.child(1),
+                next.child(1),
+                statements,
+                body,
+                steady,
+            ) && !is_mentioned_beside(name, declarator, next, declarators, which)
+                && !is_mentioned(name, outside)
+                && !is_mentioned_elsewhere(name, statements, at)
+        }
+        None => false,
+    }
+}
+
+// Such a declarator, whose initializer may move.
+fn is_past_by<S: PastNames>(
+    is_free: bool,
+    declarator: &Node,
+    next: &Node,
+    outside: &Node,
+    declarators: &Nodes,
+    which: usize,
+    statements: &Nodes,
+    at: usize,
+    body: u32,
+    steady: &S,
+) -> bool
+    requires next { which + 1 < count declarators.now }
+    requires statement { at < count statements.now }
+    requires fits { which + 2 < 2 ^ 64 }
+    requires fits_too { at + 1 < 2 ^ 64 }
+    ensures { result ≡ row.is_past_by (S.sets steady.now body) is_free (S.writable steady.now) declarator.now next.now outside.now declarators.now which statements.now at }
+{
+    is_declarator(next)
+        && may_pass_by(is_free, declarator, steady)
+        && is_read_past_then(
+            declarator.child(0).name(),
+            declarator,
+            next,
+            outside,
+            declarators,
+            which,
+            statements,
+            at,
+            body,
+            steady,
+        )
+}
+
+/// Of a list the declarator at the place.
+#[tactic(auto, using(crate::proofs::NextPlaces::next_is))]
+pub fn is_past_by_next<S: PastNames>(
+    is_free: bool,
+    list: &Node,
+    which: usize,
+    outside: &Node,
+    statements: &Nodes,
+    at: usize,
+    body: u32,
+    steady: &S,
+) -> bool
+    requires next { which + 1 < count (children list.now) }
+    requires statement { at < count statements.now }
+    requires fits { which + 2 < 2 ^ 64 }
+    requires fits_too { at + 1 < 2 ^ 64 }
+    ensures { result ≡ row.is_past_by_next (S.sets steady.now body) is_free (S.writable steady.now) list.now which outside.now statements.now at }
+{
+    let declarator = list.child(which);
+    let next = list.child(which + 1);
+    let declarators = list.children();
+    is_past_by(
+        is_free,
+        declarator,
+        next,
+        outside,
+        declarators,
+        which,
+        statements,
+        at,
+        body,
+        steady,
+    )
+}
+
+// The first of the list.
+fn next_in<S: PastNames>(
+    is_free: bool,
+    list: &Node,
+    outside: &Node,
+    statements: &Nodes,
+    at: usize,
+    body: u32,
+    steady: &S,
+) -> Option<usize>
+    requires statement { at < count statements.now }
+    requires fits { at + 1 < 2 ^ 64 }
+    ensures { PastNextIn (S.sets steady.now body) is_free (S.writable steady.now) list.now outside.now statements.now at result }
+{
+    let count = list.children().len();
+    if count == 0 {
+        return None;
+    }
+    for which in 0..count - 1 {
+        if is_past_by_next(is_free, list, which, outside, statements, at, body, steady) {
+            return Some(which);
+        }
+    }
+    None
+}
+
+// Of the statement, where it is a declaration.
+fn next_of<S: PastNames>(
+    outside: &Node,
+    statements: &Nodes,
+    at: usize,
+    body: u32,
+    steady: &S,
+) -> Option<usize>
+    requires statement { at < count statements.now }
+    requires fits { at + 1 < 2 ^ 64 }
+    ensures { PastNextOf (S.sets steady.now body) (S.writable steady.now) outside.now statements.now at result }
+{
+    let statement = statements.child(at);
+    if !declares_list(statement) {
+        return None;
+    }
+    let is_free = is_lexical(statement.shape());
+    next_in(is_free, statement.child(0), outside, statements, at, body, steady)
+}
+
+// The first declaration that has a name which its next declarator reads so, and which nothing else mentions, and the declarator's place
+// in it.
+fn next_at<S: PastNames>(
+    outside: &Node,
+    statements: &Nodes,
+    body: u32,
+    steady: &S,
+) -> Option<(usize, usize)>
+    ensures { PastNextAt (S.sets steady.now body) (S.writable steady.now) outside.now statements.now result }
+{
+    for at in 0..statements.len() {
+        if let Some(which) = next_of(outside, statements, at, body, steady) {
+            return Some((at, which));
+        }
+    }
+    None
+}
+
+/// Of a list of statements in which none reads a name of the one before so, with what stands outside of them, `let x = a(), y = g(x);`
+/// becomes `let y = g(a());`, as often as there is one. The answer says whether there was.
+pub fn substitute_next_past<S: PastNames>(
+    alloc: Global,
+    outside: &Node,
+    list: &mut Node,
+    body: u32,
+    steady: &S,
+) -> bool
+    requires list { is_it_listed list.old ≡ true }
+    requires none { PastAt (S.sets steady.now body) (S.writable steady.now) outside.now (children list.old) None }
+    ensures { PastRemoved (S.sets steady.now body) (S.writable steady.now) outside.now list.old list.new result }
+{
+    match next_at(outside, list.children(), body, steady) {
+        Some((at, which)) => {
+            if either_has_eval(outside, list) {
+                return false;
+            }
+            substitute_next(list, at, which);
+            sweep(alloc, outside, list, at, body, steady);
+            true
+        }
+        None => false,
+    }
+}

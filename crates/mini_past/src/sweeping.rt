@@ -1,0 +1,161 @@
+//! Where one name has gone from a list of statements, the others are looked for from there on: each declarator once, so that no look
+//! begins anew.
+
+ghost use Rattle.std.specs.Prelude.{◌≡◌, ◌+◌, ◌<◌, ◌^◌, ◌||◌, true, false, Some};
+ghost use Rattle.mini_model.specs.Tree.{children, count};
+ghost use Rattle.mini_laws.specs.ScopeList.{has_eval};
+ghost use Rattle.mini_node.specs.Kinds.{is_listed as is_it_listed};
+ghost use Rattle.mini_unused.specs.Chains.{Chain};
+ghost use Rattle.mini_past.specs.SubstitutePast.{Calm, PastGone, PastNextOf, Swept};
+
+use crate::names::PastNames;
+use crate::next_declarators::is_past_by_next;
+use crate::searching::is_past;
+use mini_node::{Node, Nodes};
+use mini_unused::{
+    declarators_at, declares_list, has_next, is_lexical, last_declarator, substitute_in_list,
+    substitute_next,
+};
+use std::alloc::Global;
+
+// The declarator at the place goes where it is the last one of the statement and the next statement reads its name so.
+fn sweep_last<S: PastNames>(
+    alloc: Global,
+    outside: &Node,
+    list: &mut Node,
+    at: usize,
+    which: usize,
+    body: u32,
+    steady: &S,
+)
+    requires fits { at + 1 < 2 ^ 64 }
+    requires fits_too { which + 1 < 2 ^ 64 }
+    requires calm { Calm outside.now list.old }
+    ensures { Swept (S.sets steady.now body) (S.writable steady.now) outside.now list.old list.new }
+{
+    if declarators_at(list, at) != which + 1 {
+        return;
+    }
+    if !has_next(list, at) {
+        return;
+    }
+    if !is_past(outside, list.children(), at, body, steady) {
+        return;
+    }
+    let last = last_declarator(list, at);
+    substitute_in_list(alloc, list, at, last);
+}
+
+// Of the statement at the place, where it is a declaration, the declarator at the other has a name that the next one reads so.
+fn is_next_there<S: PastNames>(
+    outside: &Node,
+    statements: &Nodes,
+    at: usize,
+    which: usize,
+    body: u32,
+    steady: &S,
+) -> bool
+    requires statement { at < count statements.now }
+    requires fits { at + 1 < 2 ^ 64 }
+    requires fits_too { which + 1 < 2 ^ 64 }
+    ensures { result ≡ true → PastNextOf (S.sets steady.now body) (S.writable steady.now) outside.now statements.now at (Some which) }
+{
+    let statement = statements.child(at);
+    if !declares_list(statement) {
+        return false;
+    }
+    let list = statement.child(0);
+    if which + 1 >= list.children().len() {
+        return false;
+    }
+    let is_free = is_lexical(statement.shape());
+    is_past_by_next(is_free, list, which, outside, statements, at, body, steady)
+}
+
+// The declarator at the place goes where the next one reads its name so.
+fn sweep_next<S: PastNames>(
+    outside: &Node,
+    list: &mut Node,
+    at: usize,
+    which: usize,
+    body: u32,
+    steady: &S,
+)
+    requires fits { at + 1 < 2 ^ 64 }
+    requires fits_too { which + 1 < 2 ^ 64 }
+    requires calm { Calm outside.now list.old }
+    ensures { Swept (S.sets steady.now body) (S.writable steady.now) outside.now list.old list.new }
+{
+    if at >= list.children().len() {
+        return;
+    }
+    if !is_next_there(outside, list.children(), at, which, body, steady) {
+        return;
+    }
+    substitute_next(list, at, which);
+}
+
+// The declarator at the place goes where the next statement reads its name so, or the next declarator does.
+fn sweep_declarator<S: PastNames>(
+    alloc: Global,
+    outside: &Node,
+    list: &mut Node,
+    at: usize,
+    which: usize,
+    body: u32,
+    steady: &S,
+)
+    requires fits { at + 1 < 2 ^ 64 }
+    requires fits_too { which + 1 < 2 ^ 64 }
+    requires calm { Calm outside.now list.old }
+    ensures { Swept (S.sets steady.now body) (S.writable steady.now) outside.now list.old list.new }
+{
+    sweep_last(alloc, outside, list, at, which, body, steady);
+    sweep_next(outside, list, at, which, body, steady);
+}
+
+// The declarators of a statement, the last one first.
+fn sweep_statement<S: PastNames>(
+    alloc: Global,
+    outside: &Node,
+    list: &mut Node,
+    at: usize,
+    body: u32,
+    steady: &S,
+)
+    requires fits { at + 1 < 2 ^ 64 }
+    requires calm { Calm outside.now list.old }
+    ensures { Swept (S.sets steady.now body) (S.writable steady.now) outside.now list.old list.new }
+{
+    let count = declarators_at(list, at);
+    for passed in 0..count {
+        sweep_declarator(
+            alloc,
+            outside,
+            list,
+            at,
+            count - 1 - passed,
+            body,
+            steady,
+        );
+    }
+}
+
+/// Of a list of statements, which with what stands outside of them is the body with this number, from a place on, each name goes that the
+/// next statement or the next declarator reads so.
+pub fn sweep<S: PastNames>(
+    alloc: Global,
+    outside: &Node,
+    list: &mut Node,
+    from: usize,
+    body: u32,
+    steady: &S,
+)
+    requires list { is_it_listed list.old ≡ true }
+    requires unseen { (has_eval outside.now || has_eval list.old) ≡ false }
+    ensures { Chain (PastGone (S.sets steady.now body) (S.writable steady.now) outside.now) list.old list.new }
+{
+    for at in from..list.children().len() {
+        sweep_statement(alloc, outside, list, at, body, steady);
+    }
+}
