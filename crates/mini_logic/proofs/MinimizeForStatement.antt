@@ -13,7 +13,7 @@ use Rattle.mini_node.specs.Walks.{count_with, next_child, no_rest}
 use Rattle.mini_rows.specs.Lists.{block, for_loop, is_unscoped, are_unscoped}
 use Rattle.mini_rows.specs.Loops.{bare_break, may_leap, any_may_leap, is_there, is_test, Tested, always, while_true, test_of, is_tested, Leaving, alone, or_else, unless, leaves_by, goes_by, runs_on, is_loose, Leading, whole, before, led, others_of, Row84}
 use Rattle.mini_rows.specs.Loops as loops
-use Rattle.mini_logic.specs.MinimizeForStatement.{leaves_now, leaves_first, leaves_last, leaves, begins_leaving, body_leaves, is_for, may_test, is_leaving_for, goes, or_empty, runs, body_goes, body_runs, also, with_test}
+use Rattle.mini_logic.specs.MinimizeForStatement.{leaves_now, leaves_first, leaves_last, leaves, leads, body_leads, begins_leaving, body_leaves, is_for, may_test, is_leading_for, is_leaving_for, goes, or_empty, runs, body_goes, body_runs, also, with_test}
 
 -- ---- what the tests say
 
@@ -53,33 +53,52 @@ first_there (t ▸ ts) e = omega arith
 pub leaves_three : (t : Tree) → leaves t ≡ true → count (children t) ≡ 3
 leaves_three t e = let is = if_statement_is t (and_parts (is_if_statement t) ((leaves_first t || leaves_last t) && is_test (part t 0)) e).0 in ap (λ u. count (children u)) is
 
-pub begins_first : (b : Tree) → begins_leaving b ≡ true → leaves (child_or_absent (children (part b 0)) 0) ≡ true
-begins_first b e =
-    let (is, rest) = and_parts (is_block b) (leaves (child_or_absent (children (part b 0)) 0) && are_unscoped (children (part b 0))) e in
-    (and_parts (leaves (child_or_absent (children (part b 0)) 0)) (are_unscoped (children (part b 0))) rest).0
+pub leads_first : (b : Tree) → leads b ≡ true → leaves (child_or_absent (children (part b 0)) 0) ≡ true
+leads_first b e = (and_parts (is_block b) (leaves (child_or_absent (children (part b 0)) 0)) e).1
 
 block_no_if : (b : Tree) → is_block b ≡ true → leaves b ≡ false
 block_no_if b h = ap leaves (block_is b h)
 
-pub block_begins : (b : Tree) → body_leaves b ≡ true → is_block b ≡ true → begins_leaving b ≡ true
+block_begins : (b : Tree) → body_leaves b ≡ true → is_block b ≡ true → begins_leaving b ≡ true
 block_begins b e h = sym (ap (λ a. a || begins_leaving b) (block_no_if b h)) ∙ e
+
+pub block_leads : (b : Tree) → body_leads b ≡ true → is_block b ≡ true → leads b ≡ true
+block_leads b e h = sym (ap (λ a. a || leads b) (block_no_if b h)) ∙ e
 
 either_true : (a b : Bool) → (a || b) ≡ true → b ≡ false → a ≡ true
 either_true true b e f = refl
 either_true false b e f = absurd (false≢true (sym f ∙ e))
 
-pub plain_leaves : (b : Tree) → body_leaves b ≡ true → is_block b ≡ false → leaves b ≡ true
-plain_leaves b e h = either_true (leaves b) (begins_leaving b) e (ap (λ a. a && (leaves (child_or_absent (children (part b 0)) 0) && are_unscoped (children (part b 0)))) h)
+pub plain_leaves : (b : Tree) → body_leads b ≡ true → is_block b ≡ false → leaves b ≡ true
+plain_leaves b e h = either_true (leaves b) (leads b) e (ap (λ a. a && leaves (child_or_absent (children (part b 0)) 0)) h)
 
-for_is : (t : Tree) → is_for t ≡ true → t ≡ for_loop (part t 0) (part t 1) (part t 2) (part t 3)
+-- what leaves a loop where nothing is scoped leaves it
+unless_first : (a b c : Bool) → (b ≡ true → c ≡ true) → (a || b) ≡ true → (a || c) ≡ true
+unless_first true b c f e = refl
+unless_first false b c f e = f e
+
+body_so : (b : Tree) → body_leaves b ≡ true → body_leads b ≡ true
+body_so b e = unless_first (leaves b) (begins_leaving b) (leads b) (λ h. (and_parts (leads b) (are_unscoped (children (part b 0))) h).0) e
+
+pub leaving_leads : (t : Tree) → is_leaving_for t ≡ true → is_leading_for t ≡ true
+leaving_leads t e =
+    let (is, rest) = and_parts (is_for t) (may_test (part t 1) && body_leaves (part t 3)) e in
+    let (tested, left) = and_parts (may_test (part t 1)) (body_leaves (part t 3)) rest in
+    ap (λ b. b && (may_test (part t 1) && body_leads (part t 3))) is ∙ ap (λ b. b && body_leads (part t 3)) tested ∙ body_so (part t 3) left
+
+pub tests_and : (a b c : Bool) → ((a && b) && c) ≡ (a && (b && c))
+tests_and true b c = refl
+tests_and false b c = refl
+
+pub for_is : (t : Tree) → is_for t ≡ true → t ≡ for_loop (part t 0) (part t 1) (part t 2) (part t 3)
 for_is (node shape.ForStatement [] zero (a ▸ (b ▸ (c ▸ (d ▸ none))))) e = refl
 for_is t e = absurd (false≢true e)
 
-pub leaving_four : (t : Tree) → is_leaving_for t ≡ true → count (children t) ≡ 4
-leaving_four t e = ap (λ u. count (children u)) (for_is t (and_parts (is_for t) (may_test (part t 1) && body_leaves (part t 3)) e).0)
+pub leading_four : (t : Tree) → is_leading_for t ≡ true → count (children t) ≡ 4
+leading_four t e = ap (λ u. count (children u)) (for_is t (and_parts (is_for t) (may_test (part t 1) && body_leads (part t 3)) e).0)
 
-pub leaving_body : (t : Tree) → is_leaving_for t ≡ true → body_leaves (child_or_absent (children t) 3) ≡ true
-leaving_body t e = (and_parts (may_test (part t 1)) (body_leaves (part t 3)) (and_parts (is_for t) (may_test (part t 1) && body_leaves (part t 3)) e).1).1
+pub leading_body : (t : Tree) → is_leading_for t ≡ true → body_leads (child_or_absent (children t) 3) ≡ true
+leading_body t e = (and_parts (may_test (part t 1)) (body_leads (part t 3)) (and_parts (is_for t) (may_test (part t 1) && body_leads (part t 3)) e).1).1
 
 -- of the four children of a `for`
 pub four_left : (ts us : Trees) (i : ℕ) (x : Tree) → count ts ≡ 4 → us ≡ with_child ts i x → count us ≡ 4
@@ -109,11 +128,8 @@ put_first ts us vs x y e f g = f ∙ ap (λ ws. with_child ws 0 x) e ∙ go ts �
     go none = refl
     go (t ▸ ts) = refl
 
-pub runs_block : (b : Tree) → begins_leaving b ≡ true → body_runs b ≡ block (with_child (children (part b 0)) 0 (runs (child_or_absent (children (part b 0)) 0)))
-runs_block b e = ap (λ a. if a then block (with_child (children (part b 0)) 0 (runs (child_or_absent (children (part b 0)) 0))) else runs b) (and_parts (is_block b) (leaves (child_or_absent (children (part b 0)) 0) && are_unscoped (children (part b 0))) e).0
-
-pub begins_block : (b : Tree) → begins_leaving b ≡ true → is_block b ≡ true
-begins_block b e = (and_parts (is_block b) (leaves (child_or_absent (children (part b 0)) 0) && are_unscoped (children (part b 0))) e).0
+pub runs_block : (b : Tree) → leads b ≡ true → body_runs b ≡ block (with_child (children (part b 0)) 0 (runs (child_or_absent (children (part b 0)) 0)))
+runs_block b e = ap (λ a. if a then block (with_child (children (part b 0)) 0 (runs (child_or_absent (children (part b 0)) 0))) else runs b) (and_parts (is_block b) (leaves (child_or_absent (children (part b 0)) 0)) e).0
 
 -- ---- what is written is what the row writes
 
@@ -198,47 +214,72 @@ whole_left b e h =
       runs_so = ap (λ a. if a then block (with_child (children (part b 0)) 0 (runs (child_or_absent (children (part b 0)) 0))) else runs b) h ∙ m.runs_so;
     }
 
-list_left : (b : Tree) (ts : Trees) → is_block b ≡ true → children (part b 0) ≡ ts → leaves (child_or_absent ts 0) ≡ true → are_unscoped ts ≡ true → LeftBody b
-list_left b none h k e u = absurd (false≢true e)
-list_left b (t ▸ ts) h k e u =
+-- a block that does
+pub record LedBlock (b : Tree) : Type 0 where
+  pub others : Trees
+  pub leaving : Leaving
+  pub x : Tree
+  pub asked : is_test x ≡ true
+  pub loose : is_loose leaving ≡ true
+  pub all : children (part b 0) ≡ leaves_by leaving x ▸ others
+  pub is : b ≡ block (leaves_by leaving x ▸ others)
+  pub goes_so : body_goes b ≡ goes_by leaving x
+  pub runs_so : body_runs b ≡ block (runs_on leaving ▸ others)
+
+list_left : (b : Tree) (ts : Trees) → is_block b ≡ true → children (part b 0) ≡ ts → leaves (child_or_absent ts 0) ≡ true → LedBlock b
+list_left b none h k e = absurd (false≢true e)
+list_left b (t ▸ ts) h k e =
     let (x, m, a) = leaves_is t e in
     record {
-      leading = before ts;
+      others = ts;
       leaving = m.leaving;
       x = x;
       asked = a;
       loose = m.loose;
-      unscoped = (and_parts (is_unscoped t) (are_unscoped ts) u).1;
+      all = k ∙ ap (λ c. c ▸ ts) m.is;
       is = block_is b h ∙ ap block (k ∙ ap (λ c. c ▸ ts) m.is);
       goes_so = ap (λ a. if a then goes (child_or_absent (children (part b 0)) 0) else goes b) h ∙ ap (λ us. goes (child_or_absent us 0)) k ∙ m.goes_so;
       runs_so = ap (λ a. if a then block (with_child (children (part b 0)) 0 (runs (child_or_absent (children (part b 0)) 0))) else runs b) h ∙ ap (λ us. block (with_child us 0 (runs (child_or_absent us 0)))) k ∙ ap (λ c. block (c ▸ ts)) m.runs_so;
     }
 
+pub led_block : (b : Tree) → leads b ≡ true → LedBlock b
+led_block b e = let (h, l) = and_parts (is_block b) (leaves (child_or_absent (children (part b 0)) 0)) e in list_left b (children (part b 0)) h refl l
+
 body_left : (b : Tree) → body_leaves b ≡ true → LeftBody b
 body_left b e = go (is_block b) refl
   where
     go : (f : Bool) → is_block b ≡ f → LeftBody b
-    go false h = whole_left b (plain_leaves b e h) h
+    go false h = whole_left b (plain_leaves b (body_so b e) h) h
     go true h =
-        let (is, rest) = and_parts (is_block b) (leaves (child_or_absent (children (part b 0)) 0) && are_unscoped (children (part b 0))) (block_begins b e h) in
-        let (l, u) = and_parts (leaves (child_or_absent (children (part b 0)) 0)) (are_unscoped (children (part b 0))) rest in
-        list_left b (children (part b 0)) h refl l u
+        let (l, u) = and_parts (leads b) (are_unscoped (children (part b 0))) (block_begins b e h) in
+        let m = led_block b l in
+        record {
+          leading = before m.others;
+          leaving = m.leaving;
+          x = m.x;
+          asked = m.asked;
+          loose = m.loose;
+          unscoped = (and_parts (is_unscoped (leaves_by m.leaving m.x)) (are_unscoped m.others) (sym (ap are_unscoped m.all) ∙ u)).1;
+          is = m.is;
+          goes_so = m.goes_so;
+          runs_so = m.runs_so;
+        }
 
 -- its test
-record TestedBy (t : Tree) : Type 0 where
-  tested : Tested
-  may : is_tested tested ≡ true
-  is : t ≡ test_of tested
-  also_so : (x : Tree) → also t x ≡ loops.also tested x
+pub record TestedBy (t : Tree) : Type 0 where
+  pub tested : Tested
+  pub may : is_tested tested ≡ true
+  pub is : t ≡ test_of tested
+  pub also_so : (x : Tree) → also t x ≡ loops.also tested x
 
-tested_by : (t : Tree) → may_test t ≡ true → TestedBy t
+pub tested_by : (t : Tree) → may_test t ≡ true → TestedBy t
 tested_by t e = go (is_absent_part t) refl e
   where
     go : (f : Bool) → is_absent_part t ≡ f → (f || is_there t) ≡ true → TestedBy t
     go true h k = record { tested = always; may = refl; is = absent_is t h; also_so = λ x. ap (λ a. if a then x else logical And t x) h }
     go false h k = record { tested = while_true t; may = k; is = refl; also_so = λ x. ap (λ a. if a then x else logical And t x) h }
 
-four_put : (t : Tree) (x y : Tree) → is_for t ≡ true → node shape.ForStatement [] 0 (with_child (with_child (children t) 3 x) 1 y) ≡ for_loop (part t 0) y (part t 2) x
+pub four_put : (t : Tree) (x y : Tree) → is_for t ≡ true → node shape.ForStatement [] 0 (with_child (with_child (children t) 3 x) 1 y) ≡ for_loop (part t 0) y (part t 2) x
 four_put (node shape.ForStatement [] zero (a ▸ (b ▸ (c ▸ (d ▸ none))))) x y e = refl
 four_put t x y e = absurd (false≢true e)
 
@@ -269,16 +310,16 @@ or_true : (a b : Bool) → b ≡ true → (a || b) ≡ true
 or_true true b e = refl
 or_true false b e = e
 
-and_true : (a b : Bool) → a ≡ true → b ≡ true → (a && b) ≡ true
+pub and_true : (a b : Bool) → a ≡ true → b ≡ true → (a && b) ≡ true
 and_true true b e f = f
 and_true false b e f = absurd (false≢true e)
 
-by_leaves : (l : Leaving) (x : Tree) → is_test x ≡ true → is_loose l ≡ true → leaves (leaves_by l x) ≡ true
+pub by_leaves : (l : Leaving) (x : Tree) → is_test x ≡ true → is_loose l ≡ true → leaves (leaves_by l x) ≡ true
 by_leaves alone x t h = t
 by_leaves (or_else s) x t h = and_true (((is_absent_part s || is_unscoped s)) || leaves_last (if_else x bare_break s)) (is_test x) (ap (λ b. b || leaves_last (if_else x bare_break s)) (or_true (is_absent_part s) (is_unscoped s) h)) t
 by_leaves (unless s) x t h = and_true (leaves_first (if_else x s bare_break) || is_unscoped s) (is_test x) (or_true (leaves_first (if_else x s bare_break)) (is_unscoped s) h) t
 
-loose_if : (l : Leaving) (x : Tree) → is_unscoped (leaves_by l x) ≡ true
+pub loose_if : (l : Leaving) (x : Tree) → is_unscoped (leaves_by l x) ≡ true
 loose_if alone x = refl
 loose_if (or_else s) x = refl
 loose_if (unless s) x = refl
@@ -287,7 +328,7 @@ led_leaves : (d : Leading) (l : Leaving) (x : Tree) → is_test x ≡ true → i
 led_leaves whole l x t h u = ap (λ b. b || begins_leaving (leaves_by l x)) (by_leaves l x t h)
 led_leaves (before ts) l x t h u = and_true (leaves (leaves_by l x)) (are_unscoped (leaves_by l x ▸ ts)) (by_leaves l x t h) (and_true (is_unscoped (leaves_by l x)) (are_unscoped ts) (loose_if l x) u)
 
-of_tested : (t : Tested) → is_tested t ≡ true → may_test (test_of t) ≡ true
+pub of_tested : (t : Tested) → is_tested t ≡ true → may_test (test_of t) ≡ true
 of_tested always h = refl
 of_tested (while_true t) h = or_true (is_absent_part t) (is_there t) h
 

@@ -28,9 +28,16 @@ leaves_last i = leaves_now (part i 2) && is_unscoped (part i 1)
 abbrev pub leaves : Tree → Bool
 leaves t = is_if_statement t && ((leaves_first t || leaves_last t) && is_test (part t 0))
 
--- the first statement of a block of statements none of which is scoped
+-- the first statement of a block, whatever the others are
+abbrev pub leads : Tree → Bool
+leads b = is_block b && leaves (child_or_absent (children (part b 0)) 0)
+
+abbrev pub body_leads : Tree → Bool
+body_leads b = leaves b || leads b
+
+-- and that of a block of statements none of which is scoped
 abbrev pub begins_leaving : Tree → Bool
-begins_leaving b = is_block b && (leaves (child_or_absent (children (part b 0)) 0) && are_unscoped (children (part b 0)))
+begins_leaving b = leads b && are_unscoped (children (part b 0))
 
 abbrev pub body_leaves : Tree → Bool
 body_leaves b = leaves b || begins_leaving b
@@ -45,6 +52,15 @@ is_for t = is_for_shape (shape_of t) && is_bare t 4
 abbrev pub may_test : Tree → Bool
 may_test t = is_absent_part t || is_there t
 
+-- its body begins by leaving it, whatever is in the body
+abbrev pub is_leading_for : Tree → Bool
+is_leading_for t = is_for t && (may_test (part t 1) && body_leads (part t 3))
+
+-- and that is a block
+abbrev pub leads_from_block : Tree → Bool
+leads_from_block t = is_for t && (may_test (part t 1) && leads (part t 3))
+
+-- nothing in the body is scoped
 abbrev pub is_leaving_for : Tree → Bool
 is_leaving_for t = is_for t && (may_test (part t 1) && body_leaves (part t 3))
 

@@ -27,7 +27,7 @@ pub use rewrites::minimize_conditional_expression::{
 pub use rewrites::minimize_expression_in_boolean_context::{
     MinimizeInBooleanContext, minimize_expression_in_boolean_context,
 };
-pub use rewrites::minimize_for_statement::minimize_for_statement;
+pub use rewrites::minimize_for_statement::{leads_from_block, minimize_for_statement, with_test};
 pub use rewrites::minimize_if_statement::{MinimizeIf, try_minimize_if};
 pub use rewrites::minimize_negation::{MinimizeNegations, minimize_negation};
 pub use rewrites::minimize_unary_expression::{MinimizeUnary, minimize_unary};

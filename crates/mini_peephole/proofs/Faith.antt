@@ -65,8 +65,12 @@ module _ (R : Position → Tree → Tree → Type 0) where
 
 -- a node on which the rows rest that rest on what is known of bodies is read by none of them
 read_by_none : (S : BodySets) (W : VariableSet) (p : Position) (n : Tree) → IsSteadilySettled S W p n → IsSteadilySettled S W p n → ReadsNothing (SteadyRewrites S W) p n
-read_by_none S W p n x y w (inl (inl c)) = x.0.0 w c
-read_by_none S W p n x y w (inl (inr c)) = x.0.1 w c
+read_by_none S W p n x y w (inl (inl (inl (inl c)))) = x.0.0.0.0 w c
+read_by_none S W p n x y w (inl (inl (inl (inr c)))) = x.0.0.0.1 w c
+read_by_none S W p n x y w (inl (inl (inr c))) = x.0.0.1 w c
+read_by_none S W p n x y w (inl (inr (inl (inl c)))) = x.0.1.0.0 w c
+read_by_none S W p n x y w (inl (inr (inl (inr c)))) = x.0.1.0.1 w c
+read_by_none S W p n x y w (inl (inr (inr c))) = x.0.1.1 w c
 read_by_none S W p n x y w (inr (inl c)) = x.1.0 w c
 read_by_none S W p n x y w (inr (inr c)) = x.1.1 w c
 
@@ -84,10 +88,7 @@ module _ (o : CompressOptions) (t : Tree) (f : IsRewrittenBy true o t) where
 
   neither : (p : Position) (n : Tree) → IsSettled (switches o) (writable_in t) p n → IsSteadilySettled (told_in t) (writable_in t) p n → ReadsNothing AnyRow p n
   neither p n g h w (inl c) = g (record { to = w; contracts = c })
-  neither p n g h w (inr (inl (inl r))) = h.0.0 w r
-  neither p n g h w (inr (inl (inr r))) = h.0.1 w r
-  neither p n g h w (inr (inr (inl r))) = h.1.0 w r
-  neither p n g h w (inr (inr (inr r))) = h.1.1 w r
+  neither p n g h w (inr r) = read_by_none (told_in t) (writable_in t) p n h h w r
 
   nowhere : Everywhere (ReadsNothing AnyRow) Elsewhere t
   nowhere = everywhere_with (IsSettled (switches o) (writable_in t)) (IsSteadilySettled (told_in t) (writable_in t)) (ReadsNothing AnyRow) neither Elsewhere t f.0 f.1

@@ -30,17 +30,18 @@ use Rattle.mini_logic.specs.MinimizeBody as bodies
 use Rattle.mini_logic.proofs.Joined as logic
 use Rattle.mini_syntax.specs.SubstituteReturnStatement as returns
 use Rattle.mini_switch.specs.MinimizeSwitchStatements as switch
-use Rattle.mini_rows.proofs.OwnArrowLawful.{steady_code_lawful}
-use Rattle.mini_rows.proofs.OwnProgramLawful.{steady_programs_lawful}
-use Rattle.mini_rows.specs.OwnPrograms.{SteadyProgram}
-use Rattle.mini_rows.specs.Steady.{SteadyFunction}
-use Rattle.mini_steady.specs.Arrows.{SteadyArrow}
+use Rattle.mini_rows.proofs.OwnArrowLawful.{steady_code_lawful, lexical_code_lawful}
+use Rattle.mini_rows.proofs.OwnProgramLawful.{steady_programs_lawful, lexical_programs_lawful}
+use Rattle.mini_rows.specs.OwnArrows.{SteadyCode, LexicalCode}
+use Rattle.mini_rows.specs.OwnPrograms.{SteadyProgram, LexicalProgram}
+use Rattle.mini_rows.specs.Past.{PastFunction}
+use Rattle.mini_rows.specs.PastArrows.{PastArrow}
+use Rattle.mini_rows.specs.Steady.{SteadyRow, LexicalRows}
 use Rattle.mini_steady.specs.Told.{told_in}
-use Rattle.mini_past.specs.SubstitutePast.{HeadFunction}
-use Rattle.mini_past.proofs.Lawful.{head_lawful}
+use Rattle.mini_past.proofs.Lawful.{past_code_lawful}
 use Rattle.mini_peephole.specs.Environments.{steady_in}
 use Rattle.mini_peephole.specs.Faithful.{switches, known_of, IsRewrittenBy}
-use Rattle.mini_peephole.specs.SteadyRows.{SteadyInside}
+use Rattle.mini_peephole.specs.SteadyRows.{AnyCode}
 use Rattle.mini_peephole.specs.Rules.{Gives, Rests, AllGives, AllRests, SteadyGives, SteadyRests}
 use Rattle.mini_passes.specs.Staying.{StaysTold, within_through}
 use Rattle.mini_peephole.proofs.ToldWithin.{told_within}
@@ -203,9 +204,11 @@ module _ (o : CompressOptions) (v : Tree) where
       let W = writable_in q in
       let T = told_in q in
       rooted_wider (SteadyGives o q) K W W T (steady_in v) (λ x h. h) (λ b. within_through (told_in q b) (told_in v b) (steady_in v b) (k b) (told_within v b))
-      (rooted_join (SteadyInside T) (SteadyProgram T) K W T
-      (steady_is_rooted (SteadyInside T) K W T (steady_join (Either (SteadyFunction T) (SteadyArrow T)) (HeadFunction T) K W T (steady_code_lawful K W T) (head_lawful K W T)))
-      (steady_programs_lawful K W T))
+      (rooted_join (Either (AnyCode SteadyRow T) (AnyCode LexicalRows T)) (Either (PastFunction T W) (PastArrow T W)) K W T
+      (rooted_join (AnyCode SteadyRow T) (AnyCode LexicalRows T) K W T
+      (rooted_join (SteadyCode T) (SteadyProgram T) K W T (steady_is_rooted (SteadyCode T) K W T (steady_code_lawful K W T)) (steady_programs_lawful K W T))
+      (rooted_join (LexicalCode T) (LexicalProgram T) K W T (steady_is_rooted (LexicalCode T) K W T (lexical_code_lawful K W T)) (lexical_programs_lawful K W T)))
+      (steady_is_rooted (Either (PastFunction T W) (PastArrow T W)) K W T (past_code_lawful K W T)))
 
   -- what passes make on the way to v
   pub both_lawful : (b : Bool) (q : Tree) → LawfulRooted (let_go (switches o)) (writable_in q) (known_of b v) (GivesBoth (AllGives o) (SteadyGives o) StaysTold b v q)

@@ -19,13 +19,14 @@ use mini_choices::{MinimizeChoices, MinimizeWrites};
 use mini_context::{TraverseCtx, resolve};
 use mini_estree::{MinifyError, Numbered, read_program};
 use mini_fold::{FoldConstants, FoldKnown, FoldOperands, FoldSequences, FoldTemplates};
+use mini_lexical::LexicalNames;
 use mini_logic::{
     MinimizeBodies, MinimizeConditional, MinimizeIf, MinimizeInBooleanContext, MinimizeNegations,
     MinimizeUnary, MinimizeVoid,
 };
 use mini_passes::{SteadyPasses, run_steady_passes};
-use mini_past::SubstitutePast;
-use mini_steady::{MinimizeSteady, MinimizeSteadyArrows, MinimizeSteadyPrograms};
+use mini_past::{SubstitutePast, SubstitutePastArrows};
+use mini_steady::{InArrows, InFunctions, InPrograms, SteadyMembers};
 use mini_stmt::{JoinLets, MinimizeStatements, TurnLoopGuards};
 use mini_switch::MinimizeSwitches;
 use mini_syntax::{
@@ -213,17 +214,47 @@ const RULES: Then<Keeping, Naming> = Then {
 };
 
 // And those that rest on what is known of bodies, which act where no other does.
-type Steady = Then<Then<MinimizeSteady, MinimizeSteadyArrows>, SubstitutePast>;
+type AnyCode<W> = Then<Then<InFunctions<W>, InArrows<W>>, InPrograms<W>>;
 
-const STEADY_RULES: Then<Steady, MinimizeSteadyPrograms> = Then {
+const MEMBERS: AnyCode<SteadyMembers> = Then {
     first: Then {
-        first: Then {
-            first: MinimizeSteady,
-            second: MinimizeSteadyArrows,
+        first: InFunctions {
+            rewrites: SteadyMembers,
         },
-        second: SubstitutePast,
+        second: InArrows {
+            rewrites: SteadyMembers,
+        },
     },
-    second: MinimizeSteadyPrograms,
+    second: InPrograms {
+        rewrites: SteadyMembers,
+    },
+};
+
+const LEXICAL: AnyCode<LexicalNames> = Then {
+    first: Then {
+        first: InFunctions {
+            rewrites: LexicalNames,
+        },
+        second: InArrows {
+            rewrites: LexicalNames,
+        },
+    },
+    second: InPrograms {
+        rewrites: LexicalNames,
+    },
+};
+
+type OwnRules = Then<AnyCode<SteadyMembers>, AnyCode<LexicalNames>>;
+
+const STEADY_RULES: Then<OwnRules, Then<SubstitutePast, SubstitutePastArrows>> = Then {
+    first: Then {
+        first: MEMBERS,
+        second: LEXICAL,
+    },
+    second: Then {
+        first: SubstitutePast,
+        second: SubstitutePastArrows,
+    },
 };
 
 // The answer for a resolved tree, which is rewritten in place.

@@ -10,11 +10,11 @@ use Rattle.mini_model.specs.Tree.{Tree, Trees, node, none, ◌▸◌, count, chi
 use Rattle.mini_model.specs.Position.{argument_seat, child_position}
 use Rattle.mini_node.specs.Children.{part, number_of, with_child}
 use Rattle.mini_node.specs.Lends.{with_children}
-use Rattle.mini_rows.specs.OwnArrows.{arrow_over}
-use Rattle.mini_rows.specs.Steady.{SteadyRow, OwnStep}
+use Rattle.mini_rows.specs.OwnArrows.{arrow_over, OwnArrow, OwnArrowRow}
+use Rattle.mini_rows.specs.Steady.{OwnRows, OwnStep}
 use Rattle.mini_tree.specs.Rule.{Moves, Applied}
 use Rattle.mini_tree.proofs.Reaching.{moves_once, moves_trans}
-use Rattle.mini_steady.specs.Arrows.{is_arrow, AppliedInArrow, ArrowRests, SteadyArrow, SteadyArrowRow, holds_arrow}
+use Rattle.mini_steady.specs.Arrows.{is_arrow, AppliedInArrow, ArrowRests, holds_arrow}
 use Rattle.mini_steady.specs.Chains.{Several, once, again}
 use Rattle.mini_steady.specs.Own.{OwnWalked}
 use Rattle.mini_steady.proofs.Owning.{several_over}
@@ -22,13 +22,13 @@ use Rattle.mini_steady.proofs.Owning.{several_over}
 abbrev place : Position
 place = Expr argument_seat
 
-module _ (S : BodySets) (ds : List (List ℕ)) (k : ℕ) (ps : Tree) where
-  step_in : (t u : Tree) → OwnStep (SteadyRow (S k)) place t u → SteadyArrowRow S (arrow_over ds k ps t) (arrow_over ds k ps u)
+module _ (F : OwnRows) (S : BodySets) (ds : List (List ℕ)) (k : ℕ) (ps : Tree) where
+  step_in : (t u : Tree) → OwnStep (F (S k)) place t u → OwnArrowRow F S (arrow_over ds k ps t) (arrow_over ds k ps u)
   step_in t u s = record { directives = ds; number = k; parameters = ps; before = t; after = u; step = s; shape = refl; written = refl }
 
-  walked_in : (t u : Tree) (b : Bool) → OwnWalked (SteadyRow (S k)) place t u b → AppliedInArrow S (arrow_over ds k ps t) (arrow_over ds k ps u) b
-  walked_in t u true m = several_over (OwnStep (SteadyRow (S k)) place) (SteadyArrowRow S) (arrow_over ds k ps) step_in t u m
-  walked_in t u false (e, rests) = (ap (arrow_over ds k ps) e, λ w r. rests r.after (subst (λ z. OwnStep (SteadyRow (S k)) place z r.after) (sym (ap (λ z. part z 1) r.shape)) (subst (λ n. OwnStep (SteadyRow (S n)) place r.before r.after) (sym (ap number_of r.shape)) r.step)))
+  walked_in : (t u : Tree) (b : Bool) → OwnWalked (F (S k)) place t u b → AppliedInArrow F S (arrow_over ds k ps t) (arrow_over ds k ps u) b
+  walked_in t u true m = several_over (OwnStep (F (S k)) place) (OwnArrowRow F S) (arrow_over ds k ps) step_in t u m
+  walked_in t u false (e, rests) = (ap (arrow_over ds k ps) e, λ w r. rests r.after (subst (λ z. OwnStep (F (S k)) place z r.after) (sym (ap (λ z. part z 1) r.shape)) (subst (λ n. OwnStep (F (S n)) place r.before r.after) (sym (ap number_of r.shape)) r.step)))
 
 -- an arrow function has two parts
 
@@ -50,24 +50,24 @@ arrow_is t e = absurd (false≢true e)
 pub stands_there : (t : Tree) → is_arrow t ≡ true → child_position (shape_of t) Elsewhere 2 1 ≡ place
 stands_there t e = let A = arrow_is t e in ap (λ z. child_position (shape_of z) Elsewhere 2 1) A.is
 
-pub walked_arrow : (S : BodySets) (t u x : Tree) (p : Position) (k : ℕ) (ts : Trees) (b : Bool) → is_arrow t ≡ true → p ≡ place → k ≡ number_of t → ts ≡ children t → x ≡ child_or_absent ts 1 → OwnWalked (SteadyRow (S k)) p x u b → AppliedInArrow S t (with_children t (with_child ts 1 u)) b
-walked_arrow S t u x p k ts b f stands e these child m =
+pub walked_arrow : (F : OwnRows) (S : BodySets) (t u x : Tree) (p : Position) (k : ℕ) (ts : Trees) (b : Bool) → is_arrow t ≡ true → p ≡ place → k ≡ number_of t → ts ≡ children t → x ≡ child_or_absent ts 1 → OwnWalked (F (S k)) p x u b → AppliedInArrow F S t (with_children t (with_child ts 1 u)) b
+walked_arrow F S t u x p k ts b f stands e these child m =
     let A = arrow_is t f in
-    let placed = subst (λ q. OwnWalked (SteadyRow (S k)) q x u b) stands m in
-    let numbered = subst (λ i. OwnWalked (SteadyRow (S i)) place x u b) e placed in
-    let inside = subst (λ z. OwnWalked (SteadyRow (S (number_of t))) place z u b) (child ∙ ap (λ vs. child_or_absent vs 1) these) numbered in
-    subst (λ vs. AppliedInArrow S t (with_children t (with_child vs 1 u)) b) (sym these)
-    (subst (λ z. AppliedInArrow S z (with_children z (with_child (children z) 1 u)) b) (sym A.is)
-    (walked_in S A.directives (number_of t) (part t 0) (part t 1) u b inside))
+    let placed = subst (λ q. OwnWalked (F (S k)) q x u b) stands m in
+    let numbered = subst (λ i. OwnWalked (F (S i)) place x u b) e placed in
+    let inside = subst (λ z. OwnWalked (F (S (number_of t))) place z u b) (child ∙ ap (λ vs. child_or_absent vs 1) these) numbered in
+    subst (λ vs. AppliedInArrow F S t (with_children t (with_child vs 1 u)) b) (sym these)
+    (subst (λ z. AppliedInArrow F S z (with_children z (with_child (children z) 1 u)) b) (sym A.is)
+    (walked_in F S A.directives (number_of t) (part t 0) (part t 1) u b inside))
 
 -- ---- as steps of the rule, where an expression stands
 
-module _ (S : BodySets) where
-  moves : (p : Position) (t u : Tree) → ((t u : Tree) → SteadyArrowRow S t u → SteadyArrow S p t u) → Several (SteadyArrowRow S) t u → Moves (SteadyArrow S) p t u
-  moves p _ _ read (once t u r) = moves_once (SteadyArrow S) p t u (read t u r)
-  moves p _ _ read (again t u v m r) = moves_trans (SteadyArrow S) (moves p t u read m) (moves_once (SteadyArrow S) p u v (read u v r))
+module _ (F : OwnRows) (S : BodySets) where
+  moves : (p : Position) (t u : Tree) → ((t u : Tree) → OwnArrowRow F S t u → OwnArrow F S p t u) → Several (OwnArrowRow F S) t u → Moves (OwnArrow F S) p t u
+  moves p _ _ read (once t u r) = moves_once (OwnArrow F S) p t u (read t u r)
+  moves p _ _ read (again t u v m r) = moves_trans (OwnArrow F S) (moves p t u read m) (moves_once (OwnArrow F S) p u v (read u v r))
 
-pub arrow_applied : (S : BodySets) (p : Position) (t u : Tree) (b : Bool) → holds_arrow p ≡ true → AppliedInArrow S t u b → Applied (SteadyArrow S) (ArrowRests S) p t u b
-arrow_applied S (Expr s) t u true e m = moves S (Expr s) t u (λ t u r. r) m
-arrow_applied S (Expr s) t u false e (same, f) = (same, λ w r. f w r)
-arrow_applied S p t u b e a = absurd (false≢true e)
+pub arrow_applied : (F : OwnRows) (S : BodySets) (p : Position) (t u : Tree) (b : Bool) → holds_arrow p ≡ true → AppliedInArrow F S t u b → Applied (OwnArrow F S) (ArrowRests F S) p t u b
+arrow_applied F S (Expr s) t u true e m = moves F S (Expr s) t u (λ t u r. r) m
+arrow_applied F S (Expr s) t u false e (same, f) = (same, λ w r. f w r)
+arrow_applied F S p t u b e a = absurd (false≢true e)

@@ -9,7 +9,7 @@ use Rattle.mini_model.specs.Tree.{Tree, Trees, node, none, ◌▸◌, count, chi
 use Rattle.mini_kept.specs.KeepsFrames.{function_over}
 use Rattle.mini_node.specs.Children.{part, number_of, with_child}
 use Rattle.mini_node.specs.Lends.{with_children}
-use Rattle.mini_rows.specs.Steady.{SteadyRow, OwnStep, SteadyFunctionRow, SteadyFunction}
+use Rattle.mini_rows.specs.Steady.{OwnRows, OwnStep, OwnFunctionRow, OwnFunction}
 use Rattle.mini_tree.specs.Rule.{Moves, Applied}
 use Rattle.mini_tree.proofs.Reaching.{moves_once, moves_trans}
 use Rattle.mini_steady.specs.Chains.{Several, once, again}
@@ -20,13 +20,13 @@ use Rattle.mini_steady.proofs.Owning.{several_over}
 abbrev body_of : Tree → Tree
 body_of t = part t 2
 
-module _ (S : BodySets) (d g : Bool) (ds : List (List ℕ)) (k : ℕ) (name ps : Tree) where
-  step_in : (t u : Tree) → OwnStep (SteadyRow (S k)) Elsewhere t u → SteadyFunctionRow S (function_over d g ds k name ps t) (function_over d g ds k name ps u)
+module _ (F : OwnRows) (S : BodySets) (d g : Bool) (ds : List (List ℕ)) (k : ℕ) (name ps : Tree) where
+  step_in : (t u : Tree) → OwnStep (F (S k)) Elsewhere t u → OwnFunctionRow F S (function_over d g ds k name ps t) (function_over d g ds k name ps u)
   step_in t u s = record { is_declaration = d; is_generator = g; directives = ds; number = k; name = name; parameters = ps; before = t; after = u; step = s; shape = refl; written = refl }
 
-  walked_in : (t u : Tree) (b : Bool) → OwnWalked (SteadyRow (S k)) Elsewhere t u b → AppliedInFunction S (function_over d g ds k name ps t) (function_over d g ds k name ps u) b
-  walked_in t u true m = several_over (OwnStep (SteadyRow (S k)) Elsewhere) (SteadyFunctionRow S) (function_over d g ds k name ps) step_in t u m
-  walked_in t u false (e, rests) = (ap (function_over d g ds k name ps) e, λ w r. rests r.after (subst (λ z. OwnStep (SteadyRow (S k)) Elsewhere z r.after) (sym (ap body_of r.shape)) (subst (λ n. OwnStep (SteadyRow (S n)) Elsewhere r.before r.after) (sym (ap number_of r.shape)) r.step)))
+  walked_in : (t u : Tree) (b : Bool) → OwnWalked (F (S k)) Elsewhere t u b → AppliedInFunction F S (function_over d g ds k name ps t) (function_over d g ds k name ps u) b
+  walked_in t u true m = several_over (OwnStep (F (S k)) Elsewhere) (OwnFunctionRow F S) (function_over d g ds k name ps) step_in t u m
+  walked_in t u false (e, rests) = (ap (function_over d g ds k name ps) e, λ w r. rests r.after (subst (λ z. OwnStep (F (S k)) Elsewhere z r.after) (sym (ap body_of r.shape)) (subst (λ n. OwnStep (F (S n)) Elsewhere r.before r.after) (sym (ap number_of r.shape)) r.step)))
 
 -- a function has three parts
 
@@ -47,29 +47,29 @@ function_is : (t : Tree) → is_function t ≡ true → IsFunction t
 function_is (node (shape.Function d g ds) [] n ts) e = record { is_declaration = d; is_generator = g; directives = ds; is = ap (node (shape.Function d g ds) [] n) (three ts (eqb-true (count ts) 3 e)) }
 function_is t e = absurd (false≢true e)
 
-pub walked_function : (S : BodySets) (t u x : Tree) (k : ℕ) (ts : Trees) (b : Bool) → is_function t ≡ true → k ≡ number_of t → ts ≡ children t → x ≡ child_or_absent ts 2 → OwnWalked (SteadyRow (S k)) Elsewhere x u b → AppliedInFunction S t (with_children t (with_child ts 2 u)) b
-walked_function S t u x k ts b f e these child m =
-    let F = function_is t f in
-    let numbered = subst (λ i. OwnWalked (SteadyRow (S i)) Elsewhere x u b) e m in
-    let inside = subst (λ z. OwnWalked (SteadyRow (S (number_of t))) Elsewhere z u b) (child ∙ ap (λ vs. child_or_absent vs 2) these) numbered in
-    subst (λ vs. AppliedInFunction S t (with_children t (with_child vs 2 u)) b) (sym these)
-    (subst (λ z. AppliedInFunction S z (with_children z (with_child (children z) 2 u)) b) (sym F.is)
-    (walked_in S F.is_declaration F.is_generator F.directives (number_of t) (part t 0) (part t 1) (part t 2) u b inside))
+pub walked_function : (F : OwnRows) (S : BodySets) (t u x : Tree) (k : ℕ) (ts : Trees) (b : Bool) → is_function t ≡ true → k ≡ number_of t → ts ≡ children t → x ≡ child_or_absent ts 2 → OwnWalked (F (S k)) Elsewhere x u b → AppliedInFunction F S t (with_children t (with_child ts 2 u)) b
+walked_function F S t u x k ts b f e these child m =
+    let G = function_is t f in
+    let numbered = subst (λ i. OwnWalked (F (S i)) Elsewhere x u b) e m in
+    let inside = subst (λ z. OwnWalked (F (S (number_of t))) Elsewhere z u b) (child ∙ ap (λ vs. child_or_absent vs 2) these) numbered in
+    subst (λ vs. AppliedInFunction F S t (with_children t (with_child vs 2 u)) b) (sym these)
+    (subst (λ z. AppliedInFunction F S z (with_children z (with_child (children z) 2 u)) b) (sym G.is)
+    (walked_in F S G.is_declaration G.is_generator G.directives (number_of t) (part t 0) (part t 1) (part t 2) u b inside))
 
 -- ---- as steps of the rule, where a function may stand
 
-module _ (S : BodySets) (p : Position) (read : (t u : Tree) → SteadyFunctionRow S t u → SteadyFunction S p t u) (told : (t u : Tree) → SteadyFunction S p t u → SteadyFunctionRow S t u) where
-  moves : (t u : Tree) → Several (SteadyFunctionRow S) t u → Moves (SteadyFunction S) p t u
-  moves _ _ (once t u r) = moves_once (SteadyFunction S) p t u (read t u r)
-  moves _ _ (again t u v m r) = moves_trans (SteadyFunction S) (moves t u m) (moves_once (SteadyFunction S) p u v (read u v r))
+module _ (F : OwnRows) (S : BodySets) (p : Position) (read : (t u : Tree) → OwnFunctionRow F S t u → OwnFunction F S p t u) (told : (t u : Tree) → OwnFunction F S p t u → OwnFunctionRow F S t u) where
+  moves : (t u : Tree) → Several (OwnFunctionRow F S) t u → Moves (OwnFunction F S) p t u
+  moves _ _ (once t u r) = moves_once (OwnFunction F S) p t u (read t u r)
+  moves _ _ (again t u v m r) = moves_trans (OwnFunction F S) (moves t u m) (moves_once (OwnFunction F S) p u v (read u v r))
 
-  at_place : (t u : Tree) (b : Bool) → AppliedInFunction S t u b → Applied (SteadyFunction S) (Rests S) p t u b
+  at_place : (t u : Tree) (b : Bool) → AppliedInFunction F S t u b → Applied (OwnFunction F S) (Rests F S) p t u b
   at_place t u true m = moves t u m
   at_place t u false (e, f) = (e, λ w r. f w (told t w r))
 
-pub applied : (S : BodySets) (p : Position) (t u : Tree) (b : Bool) → holds_function p ≡ true → AppliedInFunction S t u b → Applied (SteadyFunction S) (Rests S) p t u b
-applied S (Stmt s) t u b e a = at_place S (Stmt s) (λ t u r. r) (λ t u r. r) t u b a
-applied S (Expr s) t u b e a = at_place S (Expr s) (λ t u r. r) (λ t u r. r) t u b a
-applied S Method t u b e a = at_place S Method (λ t u r. r) (λ t u r. r) t u b a
-applied S Elsewhere t u b e a = at_place S Elsewhere (λ t u r. r) (λ t u r. r) t u b a
-applied S p t u b e a = absurd (false≢true e)
+pub applied : (F : OwnRows) (S : BodySets) (p : Position) (t u : Tree) (b : Bool) → holds_function p ≡ true → AppliedInFunction F S t u b → Applied (OwnFunction F S) (Rests F S) p t u b
+applied F S (Stmt s) t u b e a = at_place F S (Stmt s) (λ t u r. r) (λ t u r. r) t u b a
+applied F S (Expr s) t u b e a = at_place F S (Expr s) (λ t u r. r) (λ t u r. r) t u b a
+applied F S Method t u b e a = at_place F S Method (λ t u r. r) (λ t u r. r) t u b a
+applied F S Elsewhere t u b e a = at_place F S Elsewhere (λ t u r. r) (λ t u r. r) t u b a
+applied F S p t u b e a = absurd (false≢true e)

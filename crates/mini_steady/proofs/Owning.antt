@@ -7,12 +7,10 @@ use Rattle.mini_model.specs.declared.name.Name.{Name}
 use Rattle.mini_model.specs.declared.shape.Shape.{Shape}
 use Rattle.mini_model.specs.Tree.{Tree, Trees, node, none, ◌▸◌, count, children, shape_of, child_or_absent}
 use Rattle.mini_model.specs.declared.place.Position.{Position}
-use Rattle.mini_model.specs.declared.place.Position.TheVariants.{Expr}
 use Rattle.mini_model.specs.Position.{child_position}
-use Rattle.mini_kept.specs.Without.{Assured}
 use Rattle.mini_node.specs.Children.{with_child, with_part, part}
 use Rattle.mini_node.specs.Lends.{with_children}
-use Rattle.mini_rows.specs.Steady.{SteadyRow, has_body, OwnStep, own_here, own_inside, OwnStepIn, own_first, own_later}
+use Rattle.mini_rows.specs.Steady.{has_body, OwnStep, own_here, own_inside, OwnStepIn, own_first, own_later}
 use Rattle.mini_tree.proofs.Edits.{count_with, others_with, with_same}
 use Rattle.mini_steady.specs.Chains.{Several, once, again}
 use Rattle.mini_steady.specs.Own.{is_open, place_in, OwnRests, OwnWalked, OwnWalkedBelow, AppliedHere}
@@ -139,19 +137,15 @@ module _ (R : Position → Tree → Tree → Type 0) where
   walked_both p t u v false true x y = subst (λ w. Several (OwnStep R p) w v) x.0 (once u v (own_here p u v y))
   walked_both p t u v false false x y = (y.0 ∙ x.0, λ w s. rests p t w (subst (λ z. (w : Tree) → R p z w → ⊥) x.0 y.1) x.1 s)
 
--- ---- what isn't open
+  -- ---- what isn't open
 
--- a row reads what is open
-read_open : (V : Assured) (p : Position) (t w : Tree) → SteadyRow V p t w → is_open t ≡ true
-read_open V (Expr s) t w r = ap is_open r.shape
-read_open V p t w r = absurd r
+  module _ (opens : (p : Position) (n w : Tree) → R p n w → is_open n ≡ true) where
+    pub closed_rests : (p : Position) (t : Tree) → is_open t ≡ false → OwnRests R p t
+    closed_rests p t e w s = go s e
+      where
+        go : {p : Position} {t w : Tree} → OwnStep R p t w → is_open t ≡ false → ⊥
+        go (own_here p n w r) e = false≢true (sym e ∙ opens p n w r)
+        go (own_inside p h xs ts us b s) e = false≢true (sym e ∙ ap not b)
 
-pub closed_rests : (V : Assured) (p : Position) (t : Tree) → is_open t ≡ false → OwnRests (SteadyRow V) p t
-closed_rests V p t e w s = go s e
-  where
-    go : {p : Position} {t w : Tree} → OwnStep (SteadyRow V) p t w → is_open t ≡ false → ⊥
-    go (own_here p n w r) e = false≢true (sym e ∙ read_open V p n w r)
-    go (own_inside p h xs ts us b s) e = false≢true (sym e ∙ ap not b)
-
-pub walked_closed : (V : Assured) (p : Position) (t : Tree) → is_open t ≡ false → OwnWalked (SteadyRow V) p t t false
-walked_closed V p t e = (refl, closed_rests V p t e)
+    pub walked_closed : (p : Position) (t : Tree) → is_open t ≡ false → OwnWalked R p t t false
+    walked_closed p t e = (refl, closed_rests p t e)

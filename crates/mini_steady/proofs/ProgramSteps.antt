@@ -8,23 +8,23 @@ use Rattle.mini_model.specs.declared.shape.Shape.TheVariants as shape
 use Rattle.mini_model.specs.Tree.{Tree, Trees, node, none, ◌▸◌, count, children, child_or_absent}
 use Rattle.mini_node.specs.Children.{part, number_of, with_child}
 use Rattle.mini_node.specs.Lends.{with_children}
-use Rattle.mini_rows.specs.OwnPrograms.{program_over, SteadyProgram}
-use Rattle.mini_rows.specs.Steady.{SteadyRow, OwnStep}
+use Rattle.mini_rows.specs.OwnPrograms.{program_over, OwnProgram, OwnProgramRow}
+use Rattle.mini_rows.specs.Steady.{OwnRows, OwnStep}
 use Rattle.mini_tree.specs.Rule.{Moves, Applied}
 use Rattle.mini_tree.proofs.Reaching.{moves_once, moves_trans}
 use Rattle.mini_steady.specs.Chains.{Several, once, again}
 use Rattle.mini_steady.specs.Own.{OwnWalked}
-use Rattle.mini_steady.specs.Programs.{is_program, AppliedInProgram, ProgramRests, SteadyProgramRow, holds_program}
+use Rattle.mini_steady.specs.Programs.{is_program, AppliedInProgram, ProgramRests, holds_program}
 use Rattle.mini_steady.proofs.Owning.{several_over}
 
-module _ (S : BodySets) (m : Bool) (ds : List (List ℕ)) (k : ℕ) where
-  step_in : (t u : Tree) → OwnStep (SteadyRow (S k)) StatementList t u → SteadyProgramRow S (program_over m ds k t) (program_over m ds k u)
+module _ (F : OwnRows) (S : BodySets) (m : Bool) (ds : List (List ℕ)) (k : ℕ) where
+  step_in : (t u : Tree) → OwnStep (F (S k)) StatementList t u → OwnProgramRow F S (program_over m ds k t) (program_over m ds k u)
   step_in t u s = record { is_module = m; directives = ds; number = k; before = t; after = u; step = s; shape = refl; written = refl }
 
-  walked_in : (t u : Tree) (b : Bool) → OwnWalked (SteadyRow (S k)) StatementList t u b → AppliedInProgram S (program_over m ds k t) (program_over m ds k u) b
-  walked_in t u true s = several_over (OwnStep (SteadyRow (S k)) StatementList) (SteadyProgramRow S) (program_over m ds k) step_in t u s
+  walked_in : (t u : Tree) (b : Bool) → OwnWalked (F (S k)) StatementList t u b → AppliedInProgram F S (program_over m ds k t) (program_over m ds k u) b
+  walked_in t u true s = several_over (OwnStep (F (S k)) StatementList) (OwnProgramRow F S) (program_over m ds k) step_in t u s
   walked_in t u false (e, rests) =
-      (ap (program_over m ds k) e, λ w r. rests r.after (subst (λ z. OwnStep (SteadyRow (S k)) StatementList z r.after) (sym (ap (λ z. part z 0) r.shape)) (subst (λ n. OwnStep (SteadyRow (S n)) StatementList r.before r.after) (sym (ap number_of r.shape)) r.step)))
+      (ap (program_over m ds k) e, λ w r. rests r.after (subst (λ z. OwnStep (F (S k)) StatementList z r.after) (sym (ap (λ z. part z 0) r.shape)) (subst (λ n. OwnStep (F (S n)) StatementList r.before r.after) (sym (ap number_of r.shape)) r.step)))
 
 -- a program has one part
 
@@ -42,22 +42,23 @@ program_is : (t : Tree) → is_program t ≡ true → IsProgram t
 program_is (node (shape.Program m ds) [] n ts) e = record { is_module = m; directives = ds; is = ap (node (shape.Program m ds) [] n) (one ts (eqb-true (count ts) 1 e)) }
 program_is t e = absurd (false≢true e)
 
-pub walked_program : (S : BodySets) (t u x : Tree) (k : ℕ) (ts : Trees) (b : Bool) → is_program t ≡ true → k ≡ number_of t → ts ≡ children t → x ≡ child_or_absent ts 0 → OwnWalked (SteadyRow (S k)) StatementList x u b → AppliedInProgram S t (with_children t (with_child ts 0 u)) b
-walked_program S t u x k ts b f e these child s =
+pub walked_program : (F : OwnRows) (S : BodySets) (t u x : Tree) (k : ℕ) (ts : Trees) (b : Bool) → is_program t ≡ true → k ≡ number_of t → ts ≡ children t → x ≡ child_or_absent ts 0 → OwnWalked (F (S k)) StatementList x u b → AppliedInProgram F S t (with_children t (with_child ts 0 u)) b
+walked_program F S t u x k ts b f e these child s =
     let P = program_is t f in
-    let numbered = subst (λ i. OwnWalked (SteadyRow (S i)) StatementList x u b) e s in
-    let inside = subst (λ z. OwnWalked (SteadyRow (S (number_of t))) StatementList z u b) (child ∙ ap (λ vs. child_or_absent vs 0) these) numbered in
-    subst (λ vs. AppliedInProgram S t (with_children t (with_child vs 0 u)) b) (sym these)
-    (subst (λ z. AppliedInProgram S z (with_children z (with_child (children z) 0 u)) b) (sym P.is)
-    (walked_in S P.is_module P.directives (number_of t) (part t 0) u b inside))
+    let numbered = subst (λ i. OwnWalked (F (S i)) StatementList x u b) e s in
+    let inside = subst (λ z. OwnWalked (F (S (number_of t))) StatementList z u b) (child ∙ ap (λ vs. child_or_absent vs 0) these) numbered in
+    subst (λ vs. AppliedInProgram F S t (with_children t (with_child vs 0 u)) b) (sym these)
+    (subst (λ z. AppliedInProgram F S z (with_children z (with_child (children z) 0 u)) b) (sym P.is)
+    (walked_in F S P.is_module P.directives (number_of t) (part t 0) u b inside))
 
 -- ---- as steps of the rule, at a root
 
-moves : (S : BodySets) (t u : Tree) → Several (SteadyProgramRow S) t u → Moves (SteadyProgram S) Elsewhere t u
-moves S _ _ (once t u r) = moves_once (SteadyProgram S) Elsewhere t u r
-moves S _ _ (again t u v s r) = moves_trans (SteadyProgram S) (moves S t u s) (moves_once (SteadyProgram S) Elsewhere u v r)
+module _ (F : OwnRows) (S : BodySets) where
+  moves : (t u : Tree) → Several (OwnProgramRow F S) t u → Moves (OwnProgram F S) Elsewhere t u
+  moves _ _ (once t u r) = moves_once (OwnProgram F S) Elsewhere t u r
+  moves _ _ (again t u v s r) = moves_trans (OwnProgram F S) (moves t u s) (moves_once (OwnProgram F S) Elsewhere u v r)
 
-pub program_applied : (S : BodySets) (p : Position) (t u : Tree) (b : Bool) → holds_program p ≡ true → AppliedInProgram S t u b → Applied (SteadyProgram S) (ProgramRests S) p t u b
-program_applied S Elsewhere t u true e s = moves S t u s
-program_applied S Elsewhere t u false e (same, f) = (same, λ w r. f w r)
-program_applied S p t u b e a = absurd (false≢true e)
+pub program_applied : (F : OwnRows) (S : BodySets) (p : Position) (t u : Tree) (b : Bool) → holds_program p ≡ true → AppliedInProgram F S t u b → Applied (OwnProgram F S) (ProgramRests F S) p t u b
+program_applied F S Elsewhere t u true e s = moves F S t u s
+program_applied F S Elsewhere t u false e (same, f) = (same, λ w r. f w r)
+program_applied F S p t u b e a = absurd (false≢true e)

@@ -8,7 +8,7 @@ use Rattle.mini_model.specs.Tree.{Tree, children, count, shape_of}
 use Rattle.mini_kept.specs.Without.{BodySets}
 use Rattle.mini_node.specs.Children.{names_of}
 use Rattle.mini_rows.specs.OwnArrows.{OwnArrowRow, OwnArrow}
-use Rattle.mini_rows.specs.Steady.{SteadyRow}
+use Rattle.mini_rows.specs.Steady.{OwnRows}
 use Rattle.mini_steady.specs.Chains.{Several}
 use Rattle.mini_steady.specs.Functions.{are_no_names}
 
@@ -20,20 +20,14 @@ is_arrow_shape h = false
 abbrev pub is_arrow : Tree → Bool
 is_arrow t = is_arrow_shape (shape_of t) && (are_no_names (names_of t) && nat_eq (count (children t)) 2)
 
-abbrev pub SteadyArrowRow : BodySets → Tree → Tree → Type 0
-SteadyArrowRow = OwnArrowRow SteadyRow
-
-abbrev pub SteadyArrow : BodySets → Position → Tree → Tree → Type 0
-SteadyArrow = OwnArrow SteadyRow
-
--- steps in its own code, or none, and then no row reads it
-abbrev pub AppliedInArrow : BodySets → Tree → Tree → Bool → Type 0
-AppliedInArrow S t u true = Several (SteadyArrowRow S) t u
-AppliedInArrow S t u false = (u ≡ t) × ((w : Tree) → SteadyArrowRow S t w → ⊥)
+-- steps in its own code by rows of F, or none, and then no row reads it
+abbrev pub AppliedInArrow : OwnRows → BodySets → Tree → Tree → Bool → Type 0
+AppliedInArrow F S t u true = Several (OwnArrowRow F S) t u
+AppliedInArrow F S t u false = (u ≡ t) × ((w : Tree) → OwnArrowRow F S t w → ⊥)
 
 -- no row reads it wherever it stands
-abbrev pub ArrowRests : BodySets → Position → Tree → Type 0
-ArrowRests S p t = (w : Tree) → SteadyArrow S p t w → ⊥
+abbrev pub ArrowRests : OwnRows → BodySets → Position → Tree → Type 0
+ArrowRests F S p t = (w : Tree) → OwnArrow F S p t w → ⊥
 
 -- where an expression stands
 abbrev pub holds_arrow : Position → Bool

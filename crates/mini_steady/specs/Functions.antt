@@ -8,7 +8,7 @@ use Rattle.mini_model.specs.declared.shape.Shape.TheVariants as shape
 use Rattle.mini_model.specs.Tree.{Tree, children, count, shape_of}
 use Rattle.mini_kept.specs.Without.{BodySets}
 use Rattle.mini_node.specs.Children.{names_of}
-use Rattle.mini_rows.specs.Steady.{SteadyFunctionRow, SteadyFunction}
+use Rattle.mini_rows.specs.Steady.{OwnFunctionRow, OwnFunction, OwnRows}
 use Rattle.mini_steady.specs.Chains.{Several}
 
 abbrev pub is_function_shape : Shape → Bool
@@ -23,14 +23,14 @@ are_no_names xs = false
 abbrev pub is_function : Tree → Bool
 is_function t = is_function_shape (shape_of t) && (are_no_names (names_of t) && nat_eq (count (children t)) 3)
 
--- steps in its own code, or none, and then no row reads it
-abbrev pub AppliedInFunction : BodySets → Tree → Tree → Bool → Type 0
-AppliedInFunction S t u true = Several (SteadyFunctionRow S) t u
-AppliedInFunction S t u false = (u ≡ t) × ((w : Tree) → SteadyFunctionRow S t w → ⊥)
+-- steps in its own code by rows of F, or none, and then no row reads it
+abbrev pub AppliedInFunction : OwnRows → BodySets → Tree → Tree → Bool → Type 0
+AppliedInFunction F S t u true = Several (OwnFunctionRow F S) t u
+AppliedInFunction F S t u false = (u ≡ t) × ((w : Tree) → OwnFunctionRow F S t w → ⊥)
 
 -- no row reads it wherever it stands
-abbrev pub Rests : BodySets → Position → Tree → Type 0
-Rests S p t = (w : Tree) → SteadyFunction S p t w → ⊥
+abbrev pub Rests : OwnRows → BodySets → Position → Tree → Type 0
+Rests F S p t = (w : Tree) → OwnFunction F S p t w → ⊥
 
 -- where a function may stand
 abbrev pub holds_function : Position → Bool

@@ -1,6 +1,7 @@
 pub mod Chains
 pub mod MinimizeSteadyLogicalExpression
 pub mod Own
+pub mod Members
 pub mod Functions
 pub mod Arrows
 pub mod Programs

@@ -1,21 +1,20 @@
 -- A step in the own code of a function, of an arrow function or of a program is a rewrite, so it makes the whole lighter.
 use Rattle.mini_kept.specs.Without.{BodySets}
 use Rattle.mini_laws.proofs.Lighter.{any_step_lighter}
-use Rattle.mini_rows.specs.Steady.{SteadyFunction}
-use Rattle.mini_rows.proofs.SteadyLawful.{steady_functions_lighten}
+use Rattle.mini_rows.specs.OwnArrows.{OwnArrow}
+use Rattle.mini_rows.specs.OwnPrograms.{OwnProgram}
+use Rattle.mini_rows.specs.Steady.{OwnFunction, OwnRows}
+use Rattle.mini_rows.proofs.SteadyLawful.{functions_lighten}
 use Rattle.mini_rows.proofs.OwnArrowLawful.{arrows_lighten}
-use Rattle.mini_rows.proofs.OwnProgramLawful.{steady_programs_lighten}
-use Rattle.mini_rows.proofs.SteadyKept.{steady_own}
-use Rattle.mini_rows.specs.OwnPrograms.{SteadyProgram}
-use Rattle.mini_rows.specs.Steady.{SteadyRow}
-use Rattle.mini_steady.specs.Arrows.{SteadyArrow}
+use Rattle.mini_rows.proofs.OwnProgramLawful.{own_programs_lighten}
+use Rattle.mini_steady.specs.Own.{KeepsEach}
 use Rattle.mini_tree.specs.Rule.{IsLighter}
 
-pub steady_lighter : (S : BodySets) → IsLighter (SteadyFunction S)
-steady_lighter S = any_step_lighter (SteadyFunction S) (steady_functions_lighten S)
+pub function_lighter : (F : OwnRows) → KeepsEach F → (S : BodySets) → IsLighter (OwnFunction F S)
+function_lighter F keeps S = any_step_lighter (OwnFunction F S) (functions_lighten F keeps S)
 
-pub arrow_lighter : (S : BodySets) → IsLighter (SteadyArrow S)
-arrow_lighter S = any_step_lighter (SteadyArrow S) (arrows_lighten SteadyRow steady_own S)
+pub arrow_lighter : (F : OwnRows) → KeepsEach F → (S : BodySets) → IsLighter (OwnArrow F S)
+arrow_lighter F keeps S = any_step_lighter (OwnArrow F S) (arrows_lighten F keeps S)
 
-pub program_lighter : (S : BodySets) → IsLighter (SteadyProgram S)
-program_lighter S = any_step_lighter (SteadyProgram S) (steady_programs_lighten S)
+pub program_lighter : (F : OwnRows) → KeepsEach F → (S : BodySets) → IsLighter (OwnProgram F S)
+program_lighter F keeps S = any_step_lighter (OwnProgram F S) (own_programs_lighten F keeps S)

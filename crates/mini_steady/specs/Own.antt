@@ -4,12 +4,21 @@ use Rattle.mini_model.specs.declared.place.Position.{Position}
 use Rattle.mini_model.specs.Tree.{Tree, count, children, shape_of}
 use Rattle.mini_model.specs.Position.{child_position}
 use Rattle.mini_node.specs.Children.{part, number_of}
-use Rattle.mini_rows.specs.Steady.{has_body, OwnStep}
+use Rattle.mini_kept.specs.Without.{Assured}
+use Rattle.mini_rows.specs.Steady.{has_body, KeepsOwn, OwnRows, OwnStep}
 use Rattle.mini_steady.specs.Chains.{Several}
 
 -- what stands in it is code of the body around it: it has neither a body of its own nor a number
 abbrev pub is_open : Tree → Bool
 is_open t = (number_of t == 0) && not (has_body (shape_of t))
+
+-- a family has only rows that read what is open
+abbrev pub ReadsOpen : OwnRows → Type 0
+ReadsOpen F = (V : Assured) (p : Position) (n w : Tree) → F V p n w → is_open n ≡ true
+
+-- and each keeps what the code of a body has to keep
+abbrev pub KeepsEach : OwnRows → Type 0
+KeepsEach F = (V : Assured) → KeepsOwn V (F V)
 
 -- where the child at an index stands
 abbrev pub place_in : Position → Tree → ℕ → Position

@@ -6,7 +6,7 @@ ghost use Rattle.mini_steady.specs.Arrows as row;
 ghost use Rattle.mini_steady.specs.Arrows.{AppliedInArrow};
 
 use crate::functions::has_no_name;
-use crate::own::minimize_own_code;
+use crate::own::{OwnRewrites, minimize_own_code};
 use crate::steady::SteadyNames;
 use mini_model::{OutOfMemory, Position, Shape};
 use mini_node::Node;
@@ -22,15 +22,16 @@ fn is_arrow(node: &Node) -> bool
         && node.children().len() == 2
 }
 
-/// Of an arrow function, as `x => x.k || (x.k = b)`, which becomes `x => x.k ||= b`, its own code, be its body a block or an expression. The answer says whether
-/// anything changed, and where nothing did no row reads the arrow function; the only error is that memory runs out, and then it is fit only to be
-/// dropped.
-pub fn minimize_steady_arrow<S: SteadyNames>(
+/// Of an arrow function its own code, be its body a block or an expression: by rows of members `x => x.k || (x.k = b)` becomes `x => x.k ||= b`.
+/// The answer says whether anything changed, and where nothing did no row reads the arrow function; the only error is that memory runs out, and
+/// then it is fit only to be dropped.
+pub fn minimize_in_arrow<S: SteadyNames, W: OwnRewrites<S>>(
     alloc: Global,
     node: &mut Node,
     steady: &S,
+    rewrites: &W,
 ) -> Result<bool, OutOfMemory>
-    ensures { IfOk result (λ changed. AppliedInArrow (S.sets steady.now) node.old node.new changed) }
+    ensures { IfOk result (λ changed. AppliedInArrow W.rows (S.sets steady.now) node.old node.new changed) }
 {
     if !is_arrow(node) {
         return Ok(false);
@@ -38,5 +39,5 @@ pub fn minimize_steady_arrow<S: SteadyNames>(
     let number = node.number();
     let place = child_place(node.shape(), Position::Elsewhere, 2, 1);
     let body = node.children_mut().child_mut(1);
-    Ok(minimize_own_code(alloc, body, place, number, steady)?)
+    Ok(minimize_own_code(alloc, body, place, number, steady, rewrites)?)
 }

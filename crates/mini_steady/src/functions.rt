@@ -6,7 +6,7 @@ ghost use Rattle.mini_node.specs.Children.{names};
 ghost use Rattle.mini_steady.specs.Functions as row;
 ghost use Rattle.mini_steady.specs.Functions.{AppliedInFunction};
 
-use crate::own::minimize_own_code;
+use crate::own::{OwnRewrites, minimize_own_code};
 use crate::steady::SteadyNames;
 use mini_model::{Name, OutOfMemory, Position, Shape};
 use mini_node::Node;
@@ -32,20 +32,21 @@ fn is_function(node: &Node) -> bool
         && node.children().len() == 3
 }
 
-/// Of a function that is no arrow function, as `function f(x) { x.k || (x.k = b); }`, which becomes `function f(x) { x.k ||= b; }`, its own
-/// code, wherever it stands. The answer says whether anything changed, and where nothing did no row reads the function; the only error is
+/// Of a function that is no arrow function its own code, wherever it stands: by rows of members `function f(x) { x.k || (x.k = b); }` becomes
+/// `function f(x) { x.k ||= b; }`. The answer says whether anything changed, and where nothing did no row reads the function; the only error is
 /// that memory runs out, and then the function is fit only to be dropped.
-pub fn minimize_steady_function<S: SteadyNames>(
+pub fn minimize_in_function<S: SteadyNames, W: OwnRewrites<S>>(
     alloc: Global,
     node: &mut Node,
     steady: &S,
+    rewrites: &W,
 ) -> Result<bool, OutOfMemory>
-    ensures { IfOk result (λ changed. AppliedInFunction (S.sets steady.now) node.old node.new changed) }
+    ensures { IfOk result (λ changed. AppliedInFunction W.rows (S.sets steady.now) node.old node.new changed) }
 {
     if !is_function(node) {
         return Ok(false);
     }
     let number = node.number();
     let body = node.children_mut().child_mut(2);
-    Ok(minimize_own_code(alloc, body, Position::Elsewhere, number, steady)?)
+    Ok(minimize_own_code(alloc, body, Position::Elsewhere, number, steady, rewrites)?)
 }

@@ -1,4 +1,5 @@
-//! Rewrites that rest on it that names are steady: in the own code of each function and of the program, over what tells which names are.
+//! Rewrites that rest on what is known of a body, as that names are steady: in the own code of each function and of the program, over what tells
+//! that, by rows of any family.
 #![tactic(auto)]
 
 mod arrows;
@@ -10,11 +11,11 @@ mod programs;
 mod rule;
 mod steady;
 
-pub use arrows::minimize_steady_arrow;
-pub use functions::minimize_steady_function;
+pub use arrows::minimize_in_arrow;
+pub use functions::minimize_in_function;
 pub use laws::{steady_members_are_rows, told_stays};
-pub use members::minimize_steady_logical_expression;
-pub use own::minimize_own_code;
-pub use programs::minimize_steady_program;
-pub use rule::{MinimizeSteady, MinimizeSteadyArrows, MinimizeSteadyPrograms, SteadyContext};
+pub use members::{SteadyMembers, minimize_steady_logical_expression};
+pub use own::{OwnRewrites, minimize_own_code};
+pub use programs::minimize_in_program;
+pub use rule::{InArrows, InFunctions, InPrograms, SteadyContext};
 pub use steady::SteadyNames;

@@ -2,13 +2,17 @@
 //! lighter in every seat.
 
 ghost use Rattle.std.specs.Prelude.{◌≡◌, is_some, unwrap_or, OnOk, IfOk};
+ghost use Rattle.mini_rows.specs.Steady.{SteadyRow};
+ghost use Rattle.mini_rows.proofs.SteadyKept.{steady_own};
 ghost use Rattle.mini_node.specs.Children.{names, part};
 ghost use Rattle.mini_steady.specs.MinimizeSteadyLogicalExpression as row;
 ghost use Rattle.mini_steady.specs.MinimizeSteadyLogicalExpression.{written};
+ghost use Rattle.mini_steady.specs.Members.{members_open};
 
+use crate::own::OwnRewrites;
 use crate::steady::SteadyNames;
 use mini_choices::{assigns_plainly, deciding, is_same_member};
-use mini_model::{LogicalOperator, Name, OutOfMemory};
+use mini_model::{LogicalOperator, Name, OutOfMemory, Position};
 use mini_node::{Node, assignment, discard, logical_operator, taken, two};
 use std::alloc::Global;
 
@@ -74,4 +78,31 @@ pub fn minimize_steady_logical_expression<S: SteadyNames>(
         }
         None => Ok(false),
     }
+}
+
+/// Rows of steady names: 38 of members.
+pub struct SteadyMembers;
+
+impl<S: SteadyNames> OwnRewrites<S> for SteadyMembers {
+    ghost rows = { SteadyRow };
+
+    fn rewrite(
+        &self,
+        alloc: Global,
+        node: &mut Node,
+        place: Position,
+        body: u32,
+        steady: &S,
+    ) -> Result<bool, OutOfMemory> {
+        match place {
+            Position::Expr(_) => {
+                Ok(minimize_steady_logical_expression(alloc, node, body, steady)?)
+            }
+            _ => Ok(false),
+        }
+    }
+
+    ghost opens = { members_open };
+
+    ghost keeps = { steady_own };
 }

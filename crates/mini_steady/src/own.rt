@@ -1,15 +1,38 @@
-//! A walk over the own code of a body, children first, past no other body and no node with a number.
+//! Rows of the own code of a body, and a walk over that, children first, past no other body and no node with a number.
 
 ghost use Rattle.std.specs.Prelude.{◌≡◌, true, IfOk};
-ghost use Rattle.mini_rows.specs.Steady.{SteadyRow, has_body as has_it_body};
-ghost use Rattle.mini_steady.specs.Own.{AppliedHere, OwnWalked, OwnWalkedBelow, is_open as is_it_open};
+ghost use Rattle.mini_rows.specs.Steady.{OwnRows, has_body as has_it_body};
+ghost use Rattle.mini_steady.specs.Own.{AppliedHere, KeepsEach, OwnWalked, OwnWalkedBelow, ReadsOpen, is_open as is_it_open};
 
-use crate::members::minimize_steady_logical_expression;
 use crate::steady::SteadyNames;
 use mini_model::{OutOfMemory, Position, Shape};
 use mini_node::Node;
 use mini_tree::child_place;
 use std::alloc::Global;
+
+/// Rows of the own code of a body, over what tells what is known of bodies.
+pub trait OwnRewrites<S: SteadyNames> {
+    /// By what is known of the body, which nodes are read as which.
+    ghost rows: { OwnRows };
+
+    /// Writes what a row says that reads the node at its place, in the body with this number, and answers true; or leaves it, if none does, and
+    /// answers false. The only error is that memory runs out, and then the node is fit only to be dropped.
+    fn rewrite(
+        &self,
+        alloc: Global,
+        node: &mut Node,
+        place: Position,
+        body: u32,
+        steady: &S,
+    ) -> Result<bool, OutOfMemory>
+        ensures { IfOk result (λ changed. AppliedHere (rows (S.sets steady.now body)) place node.old node.new changed) };
+
+    /// What has a body or a number no row reads.
+    ghost opens: { ReadsOpen rows };
+
+    /// What a row writes keeps what the code of a body has to keep.
+    ghost keeps: { KeepsEach rows };
+}
 
 // What has a body of its own.
 fn has_body(shape: &Shape) -> bool
@@ -32,61 +55,47 @@ fn is_open(node: &Node) -> bool
     node.number() == 0 && !has_body(node.shape())
 }
 
-// The node itself.
-fn minimize_here<S: SteadyNames>(
-    alloc: Global,
-    node: &mut Node,
-    place: Position,
-    body: u32,
-    steady: &S,
-) -> Result<bool, OutOfMemory>
-    ensures { IfOk result (λ changed. AppliedHere (SteadyRow (S.sets steady.now body)) place node.old node.new changed) }
-{
-    match place {
-        Position::Expr(_) => { Ok(minimize_steady_logical_expression(alloc, node, body, steady)?) }
-        _ => Ok(false),
-    }
-}
-
-/// Walks over the own code of the body with this number, from a node in it, and writes there what rows of steady names say. The answer says
-/// whether anything changed, and where nothing did no row reads anything in it; the only error is that memory runs out, and then the node
-/// is fit only to be dropped.
+/// Walks over the own code of the body with this number, from a node in it, and writes there what these rows say. The answer says whether
+/// anything changed, and where nothing did no row reads anything in it; the only error is that memory runs out, and then the node is fit only
+/// to be dropped.
 #[cycle(own)]
-pub fn minimize_own_code<S: SteadyNames>(
+pub fn minimize_own_code<S: SteadyNames, W: OwnRewrites<S>>(
     alloc: Global,
     node: &mut Node,
     place: Position,
     body: u32,
     steady: &S,
+    rewrites: &W,
 ) -> Result<bool, OutOfMemory>
-    ensures { IfOk result (λ changed. OwnWalked (SteadyRow (S.sets steady.now body)) place node.old node.new changed) }
+    ensures { IfOk result (λ changed. OwnWalked (W.rows (S.sets steady.now body)) place node.old node.new changed) }
 {
     if !is_open(node) {
         return Ok(false);
     }
-    let below = minimize_parts(alloc, node, place, body, steady)?;
-    let here = minimize_here(alloc, node, place, body, steady)?;
+    let below = minimize_parts(alloc, node, place, body, steady, rewrites)?;
+    let here = rewrites.rewrite(alloc, node, place, body, steady)?;
     Ok(below | here)
 }
 
 // The children of the node, one after another.
 #[cycle(own)]
-fn minimize_parts<S: SteadyNames>(
+fn minimize_parts<S: SteadyNames, W: OwnRewrites<S>>(
     alloc: Global,
     node: &mut Node,
     place: Position,
     body: u32,
     steady: &S,
+    rewrites: &W,
 ) -> Result<bool, OutOfMemory>
     requires { is_it_open node.old ≡ true }
-    ensures { IfOk result (λ changed. OwnWalkedBelow (SteadyRow (S.sets steady.now body)) place node.old node.new changed) }
+    ensures { IfOk result (λ changed. OwnWalkedBelow (W.rows (S.sets steady.now body)) place node.old node.new changed) }
 {
     let count = node.children().len();
     let mut changed = false;
     for at in 0..count {
         let stands = child_place(node.shape(), place, count, at);
         let child = node.children_mut().child_mut(at);
-        let part = minimize_own_code(alloc, child, stands, body, steady)?;
+        let part = minimize_own_code(alloc, child, stands, body, steady, rewrites)?;
         changed = changed | part;
     }
     Ok(changed)

@@ -6,7 +6,7 @@ ghost use Rattle.mini_steady.specs.Programs as row;
 ghost use Rattle.mini_steady.specs.Programs.{AppliedInProgram};
 
 use crate::functions::has_no_name;
-use crate::own::minimize_own_code;
+use crate::own::{OwnRewrites, minimize_own_code};
 use crate::steady::SteadyNames;
 use mini_model::{OutOfMemory, Position, Shape};
 use mini_node::Node;
@@ -22,20 +22,21 @@ fn is_program(node: &Node) -> bool
         && node.children().len() == 1
 }
 
-/// Of a program, as the module `const x = a(); x.k || (x.k = b);`, which becomes `const x = a(); x.k ||= b;`, its own code. The answer says
+/// Of a program its own code: by rows of members the module `const x = a(); x.k || (x.k = b);` becomes `const x = a(); x.k ||= b;`. The answer says
 /// whether anything changed, and where nothing did no row reads the program; the only error is that memory runs out, and then it is fit
 /// only to be dropped.
-pub fn minimize_steady_program<S: SteadyNames>(
+pub fn minimize_in_program<S: SteadyNames, W: OwnRewrites<S>>(
     alloc: Global,
     node: &mut Node,
     steady: &S,
+    rewrites: &W,
 ) -> Result<bool, OutOfMemory>
-    ensures { IfOk result (λ changed. AppliedInProgram (S.sets steady.now) node.old node.new changed) }
+    ensures { IfOk result (λ changed. AppliedInProgram W.rows (S.sets steady.now) node.old node.new changed) }
 {
     if !is_program(node) {
         return Ok(false);
     }
     let number = node.number();
     let list = node.children_mut().child_mut(0);
-    Ok(minimize_own_code(alloc, list, Position::StatementList, number, steady)?)
+    Ok(minimize_own_code(alloc, list, Position::StatementList, number, steady, rewrites)?)
 }

@@ -1,19 +1,21 @@
-//! The rule over them.
+//! The rules over them.
 
 ghost use Rattle.std.specs.Prelude.{◌≡◌};
 ghost use Rattle.mini_model.specs.Tree.{Tree};
 ghost use Rattle.mini_kept.specs.Without.{BodySets};
-ghost use Rattle.mini_rows.specs.Steady.{SteadyFunction};
+ghost use Rattle.mini_rows.specs.OwnArrows.{OwnArrow};
+ghost use Rattle.mini_rows.specs.Steady.{OwnFunction};
 ghost use Rattle.mini_tree.specs.declared.options.CompressOptions.{CompressOptions};
 ghost use Rattle.mini_steady.specs.Functions.{Rests, holds_function as may_hold_function};
-ghost use Rattle.mini_steady.specs.Arrows.{holds_arrow as may_hold_arrow, ArrowRests, SteadyArrow};
-ghost use Rattle.mini_rows.specs.OwnPrograms.{SteadyProgram};
+ghost use Rattle.mini_steady.specs.Arrows.{holds_arrow as may_hold_arrow, ArrowRests};
+ghost use Rattle.mini_rows.specs.OwnPrograms.{OwnProgram};
 ghost use Rattle.mini_steady.specs.Programs.{holds_program as may_hold_program, ProgramRests};
-ghost use Rattle.mini_steady.specs.Lighter.{arrow_lighter, program_lighter, steady_lighter};
+ghost use Rattle.mini_steady.specs.Lighter.{arrow_lighter, function_lighter, program_lighter};
 
-use crate::arrows::minimize_steady_arrow;
-use crate::functions::minimize_steady_function;
-use crate::programs::minimize_steady_program;
+use crate::arrows::minimize_in_arrow;
+use crate::functions::minimize_in_function;
+use crate::own::OwnRewrites;
+use crate::programs::minimize_in_program;
 use crate::steady::SteadyNames;
 use mini_context::TraverseCtx;
 use mini_model::{OutOfMemory, Position};
@@ -49,15 +51,18 @@ fn holds_function(place: Position) -> bool
     )
 }
 
-/// The rows of steady names as a rule: of each function that is no arrow function. Its context says which names are steady.
-pub struct MinimizeSteady;
+/// Rows of the own code of a body as a rule: of each function that is no arrow function. Its context says what is known of its body.
+pub struct InFunctions<W> {
+    /// Whose rows they are.
+    pub rewrites: W,
+}
 
-impl<C: SteadyContext> Rule<C> for MinimizeSteady {
-    ghost gives = { λ o q. SteadyFunction (C.steady q) };
+impl<C: SteadyContext, W: OwnRewrites<C>> Rule<C> for InFunctions<W> {
+    ghost gives = { λ o q. OwnFunction W.rows (C.steady q) };
 
-    ghost rests = { λ o q. Rests (C.steady q) };
+    ghost rests = { λ o q. Rests W.rows (C.steady q) };
 
-    ghost lighter = { λ o q. steady_lighter (C.steady q) };
+    ghost lighter = { λ o q. function_lighter W.rows W.keeps (C.steady q) };
 
     fn apply(
         &self,
@@ -69,7 +74,7 @@ impl<C: SteadyContext> Rule<C> for MinimizeSteady {
         if !holds_function(place) {
             return Ok(false);
         }
-        Ok(minimize_steady_function(alloc, node, &*context)?)
+        Ok(minimize_in_function(alloc, node, &*context, &self.rewrites)?)
     }
 }
 
@@ -81,14 +86,17 @@ fn holds_arrow(place: Position) -> bool
 }
 
 /// The same of each arrow function.
-pub struct MinimizeSteadyArrows;
+pub struct InArrows<W> {
+    /// Whose rows they are.
+    pub rewrites: W,
+}
 
-impl<C: SteadyContext> Rule<C> for MinimizeSteadyArrows {
-    ghost gives = { λ o q. SteadyArrow (C.steady q) };
+impl<C: SteadyContext, W: OwnRewrites<C>> Rule<C> for InArrows<W> {
+    ghost gives = { λ o q. OwnArrow W.rows (C.steady q) };
 
-    ghost rests = { λ o q. ArrowRests (C.steady q) };
+    ghost rests = { λ o q. ArrowRests W.rows (C.steady q) };
 
-    ghost lighter = { λ o q. arrow_lighter (C.steady q) };
+    ghost lighter = { λ o q. arrow_lighter W.rows W.keeps (C.steady q) };
 
     fn apply(
         &self,
@@ -100,7 +108,7 @@ impl<C: SteadyContext> Rule<C> for MinimizeSteadyArrows {
         if !holds_arrow(place) {
             return Ok(false);
         }
-        Ok(minimize_steady_arrow(alloc, node, &*context)?)
+        Ok(minimize_in_arrow(alloc, node, &*context, &self.rewrites)?)
     }
 }
 
@@ -112,14 +120,17 @@ fn holds_program(place: Position) -> bool
 }
 
 /// The same of the program itself.
-pub struct MinimizeSteadyPrograms;
+pub struct InPrograms<W> {
+    /// Whose rows they are.
+    pub rewrites: W,
+}
 
-impl<C: SteadyContext> Rule<C> for MinimizeSteadyPrograms {
-    ghost gives = { λ o q. SteadyProgram (C.steady q) };
+impl<C: SteadyContext, W: OwnRewrites<C>> Rule<C> for InPrograms<W> {
+    ghost gives = { λ o q. OwnProgram W.rows (C.steady q) };
 
-    ghost rests = { λ o q. ProgramRests (C.steady q) };
+    ghost rests = { λ o q. ProgramRests W.rows (C.steady q) };
 
-    ghost lighter = { λ o q. program_lighter (C.steady q) };
+    ghost lighter = { λ o q. program_lighter W.rows W.keeps (C.steady q) };
 
     fn apply(
         &self,
@@ -131,6 +142,6 @@ impl<C: SteadyContext> Rule<C> for MinimizeSteadyPrograms {
         if !holds_program(place) {
             return Ok(false);
         }
-        Ok(minimize_steady_program(alloc, node, &*context)?)
+        Ok(minimize_in_program(alloc, node, &*context, &self.rewrites)?)
     }
 }

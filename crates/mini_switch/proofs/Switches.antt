@@ -116,7 +116,7 @@ pub case_is : (c : Tree) → is_case c ≡ true → c ≡ switch_case (part c 0)
 case_is (node shape.SwitchCase [] zero (x ▸ (b ▸ none))) e = ap (λ y. node shape.SwitchCase [] 0 (x ▸ (y ▸ none))) (listed_is b e)
 case_is t e = absurd (false≢true e)
 
-switch_is : (t : Tree) → holds_one_case t ≡ true → is_case (the_case t) ≡ true → t ≡ one_case (part t 0) (part (the_case t) 0) (children (part (the_case t) 1))
+pub switch_is : (t : Tree) → holds_one_case t ≡ true → is_case (the_case t) ≡ true → t ≡ one_case (part t 0) (part (the_case t) 0) (children (part (the_case t) 1))
 switch_is (node shape.SwitchStatement [] zero (d ▸ (cs ▸ none))) e f =
     ap (λ y. node shape.SwitchStatement [] 0 (d ▸ (y ▸ none))) (one_item cs e ∙ ap (λ c. listed (c ▸ none)) (case_is (part cs 0) f))
 switch_is t e f = absurd (false≢true e)
@@ -137,7 +137,7 @@ last_is zero (t ▸ none) c e = ap (λ y. y ▸ none) (break_is t e)
 last_is zero (t ▸ (u ▸ ts)) c e = absurd (omega (arith, c))
 last_is (suc k) (t ▸ ts) c e = ap (λ us. t ▸ us) (last_is k ts (omega (arith, c)) e)
 
-statements_are : (ts : Trees) → ts ≡ ended (ends_in_break ts) (before_break ts)
+pub statements_are : (ts : Trees) → ts ≡ ended (ends_in_break ts) (before_break ts)
 statements_are ts = go (ends_in_break ts) refl
   where
     there : (ts : Trees) → ends_in_break ts ≡ true → 0 < count ts
@@ -155,7 +155,7 @@ unscoped_first (suc k) (t ▸ ts) e =
     let (own, rest) = and_parts (is_unscoped t) (are_unscoped ts) e in
     ap (λ b. b && are_unscoped (first_children k ts)) own ∙ unscoped_first k ts rest
 
-listed_breaks : (i : ℕ) (ts : Trees) → any_breaks_out shape.Listed i ts ≡ some_breaks ts
+pub listed_breaks : (i : ℕ) (ts : Trees) → any_breaks_out shape.Listed i ts ≡ some_breaks ts
 listed_breaks i none = refl
 listed_breaks i (t ▸ ts) = ap (λ b. breaks_out t || b) (listed_breaks (suc i) ts)
 
@@ -183,7 +183,7 @@ first_longer : (ss : Trees) → first_children (count ss) (append ss (bare_break
 first_longer none = refl
 first_longer (t ▸ ss) = ap (λ us. t ▸ us) (first_longer ss)
 
-before_is : (b : Bool) (ss : Trees) → some_breaks ss ≡ false → before_break (ended b ss) ≡ ss
+pub before_is : (b : Bool) (ss : Trees) → some_breaks ss ≡ false → before_break (ended b ss) ≡ ss
 before_is false ss e = ap (λ b. first_children (if b then count ss - 1 else count ss) ss) (no_break_last ss e) ∙ all_first ss (count ss) (omega arith)
 before_is true ss e =
     let more = count_longer ss in

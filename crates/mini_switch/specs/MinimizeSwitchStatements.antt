@@ -60,9 +60,13 @@ some_breaks (t ▸ ts) = breaks_out t || some_breaks ts
 abbrev pub is_case : Tree → Bool
 is_case c = is_case_shape (shape_of c) && (is_bare c 2 && is_listed (part c 1))
 
--- nothing in the statements is scoped, and none but a last `break;` leaves them by a `break`
+-- none of the statements but a last `break;` leaves them by a `break`
+abbrev pub stay_inside : Trees → Bool
+stay_inside ts = not (some_breaks (before_break ts))
+
+-- and nothing in them is scoped
 abbrev pub stay : Trees → Bool
-stay ts = are_unscoped ts && not (some_breaks (before_break ts))
+stay ts = are_unscoped ts && stay_inside ts
 
 -- a case whose test is absent or writes a value out
 abbrev pub can_be_inlined : Tree → Bool

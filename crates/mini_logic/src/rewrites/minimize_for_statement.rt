@@ -1,9 +1,9 @@
 //! Row 84: `for (i; t; u) { if (x) break; s }` becomes `for (i; t && !x; u) { s }`, and `for (i; t; u) if (x) s; else break;`
 //! becomes `for (i; t && x; u) s`, each of which is lighter in every place.
 
-ghost use Rattle.std.specs.Prelude.{◌≡◌, ◌<◌, true, is_some, unwrap_or, IfOk, OnOk};
+ghost use Rattle.std.specs.Prelude.{◌≡◌, ◌<◌, ◌&&◌, true, is_some, unwrap_or, IfOk, OnOk};
 ghost use Rattle.mini_model.specs.Tree.{children, child_or_absent, count};
-ghost use Rattle.mini_node.specs.Children.{rest_children, trees_of};
+ghost use Rattle.mini_node.specs.Children.{part, rest_children, trees_of};
 ghost use Rattle.mini_rows.specs.Lists.{are_unscoped as are_all_unscoped};
 ghost use Rattle.mini_rows.specs.Loops as loops;
 ghost use Rattle.mini_logic.specs.MinimizeForStatement as row;
@@ -110,10 +110,18 @@ fn first_leaves(nodes: &Nodes) -> bool
 }
 
 // A block that begins so.
+fn leads(node: &Node) -> bool
+    ensures kind { result ≡ row.leads node.now }
+    ensures parts { result ≡ true → count (children node.now) ≡ 1 }
+{
+    is_block(node) && first_leaves(node.child(0).children())
+}
+
+// And in which no statement is scoped.
 fn begins_leaving(node: &Node) -> bool
     ensures { result ≡ row.begins_leaving node.now }
 {
-    is_block(node) && first_leaves(node.child(0).children()) && are_unscoped(node.child(0).parts())
+    leads(node) && are_unscoped(node.child(0).parts())
 }
 
 // Whether a test may be written there.
@@ -123,14 +131,28 @@ fn may_test(node: &Node) -> bool
     is_absent_part(node) || is_there(node)
 }
 
+// A `for` in whose test another may be written.
+fn tests(node: &Node) -> bool
+    ensures kind { result ≡ (row.is_for node.now && row.may_test (part node.now 1)) }
+    ensures parts { result ≡ true → count (children node.now) ≡ 4 }
+{
+    matches!(node.shape(), Shape::ForStatement) && node.is_bare(4) && may_test(node.child(1))
+}
+
 // `for (i; t; u) { if (x) break; s }`
+#[tactic(auto, using(crate::proofs::MinimizeForStatement::tests_and))]
 fn is_leaving_for(node: &Node) -> bool
     ensures { result ≡ row.is_leaving_for node.now }
 {
-    matches!(node.shape(), Shape::ForStatement)
-        && node.is_bare(4)
-        && may_test(node.child(1))
-        && (leaves(node.child(3)) || begins_leaving(node.child(3)))
+    tests(node) && (leaves(node.child(3)) || begins_leaving(node.child(3)))
+}
+
+/// `for (i; t; u) { if (x) break; s }`, whatever the statements are behind the first, as the test may take what leaves the loop.
+#[tactic(auto, using(crate::proofs::MinimizeForStatement::tests_and))]
+pub fn leads_from_block(node: &Node) -> bool
+    ensures { result ≡ row.leads_from_block node.now }
+{
+    tests(node) && leads(node.child(3))
 }
 
 // What stands there, or `;`.
@@ -163,9 +185,9 @@ fn split_if(alloc: Global, node: Node) -> Result<(Node, Node), OutOfMemory>
 }
 
 // The same of a block.
-#[tactic(auto, using(crate::proofs::MinimizeForStatement::first_there, crate::proofs::MinimizeForStatement::begins_first, crate::proofs::Negations::with_twice, crate::proofs::Negations::count_with))]
+#[tactic(auto, using(crate::proofs::MinimizeForStatement::first_there, crate::proofs::MinimizeForStatement::leads_first, crate::proofs::Negations::with_twice, crate::proofs::Negations::count_with))]
 fn split_block(alloc: Global, node: Node) -> Result<(Node, Node), OutOfMemory>
-    requires { row.begins_leaving node ≡ true }
+    requires { row.leads node ≡ true }
     ensures test { IfOk result (λ made. made.0 ≡ row.body_goes node) }
     ensures rest { IfOk result (λ made. made.1 ≡ row.body_runs node) }
 {
@@ -176,9 +198,9 @@ fn split_block(alloc: Global, node: Node) -> Result<(Node, Node), OutOfMemory>
 }
 
 // And of a body.
-#[tactic(auto, using(crate::proofs::MinimizeForStatement::block_begins, crate::proofs::MinimizeForStatement::plain_leaves))]
+#[tactic(auto, using(crate::proofs::MinimizeForStatement::block_leads, crate::proofs::MinimizeForStatement::plain_leaves))]
 fn split_body(alloc: Global, node: Node) -> Result<(Node, Node), OutOfMemory>
-    requires { row.body_leaves node ≡ true }
+    requires { row.body_leads node ≡ true }
     ensures test { IfOk result (λ made. made.0 ≡ row.body_goes node) }
     ensures rest { IfOk result (λ made. made.1 ≡ row.body_runs node) }
 {
@@ -200,10 +222,10 @@ fn also(alloc: Global, test: Node, other: Node) -> Result<Node, OutOfMemory>
     logical(alloc, LogicalOperator::And, test, other)
 }
 
-// With what leaves the loop in its test.
-#[tactic(auto, using(crate::proofs::MinimizeForStatement::leaving_four, crate::proofs::MinimizeForStatement::leaving_body))]
-fn with_test(alloc: Global, node: Node) -> Result<Node, OutOfMemory>
-    requires { row.is_leaving_for node ≡ true }
+/// A loop whose body begins by leaving it, with that in its test. The only error is that memory runs out.
+#[tactic(auto, using(crate::proofs::MinimizeForStatement::leading_four, crate::proofs::MinimizeForStatement::leading_body))]
+pub fn with_test(alloc: Global, node: Node) -> Result<Node, OutOfMemory>
+    requires { row.is_leading_for node ≡ true }
     ensures { IfOk result (λ made. made ≡ row.with_test node) }
 {
     let mut children = node.into_children();
@@ -217,6 +239,7 @@ fn with_test(alloc: Global, node: Node) -> Result<Node, OutOfMemory>
 /// A body that begins by leaving the loop has that in the test of the loop, which is asked right before it (ECMA-262,
 /// "ForBodyEvaluation"). The answer says whether it did; the only error is that memory runs out, and then the statement is fit
 /// only to be dropped.
+#[tactic(auto, using(crate::proofs::MinimizeForStatement::leaving_leads))]
 pub fn minimize_for_statement(alloc: Global, node: &mut Node) -> Result<bool, OutOfMemory>
     ensures tree { OnOk result (node.new ≡ unwrap_or (row.written node.old) node.old) }
     ensures said { IfOk result (λ changed. changed ≡ is_some (row.written node.old)) }

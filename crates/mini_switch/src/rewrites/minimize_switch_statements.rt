@@ -138,11 +138,18 @@ fn unbroken_count(nodes: &Nodes) -> usize
     }
 }
 
-// Whether nothing in the statements is scoped, and none but a last `break;` leaves them by a `break`.
+/// Whether none of the statements of a case but a last `break;` leaves it by a `break` without a label (ECMA-262, "BreakStatement").
+pub fn stay_inside(nodes: &Nodes) -> bool
+    ensures { result ≡ row.stay_inside nodes.now }
+{
+    !some_breaks(nodes, unbroken_count(nodes))
+}
+
+// Whether nothing in them is scoped besides.
 fn stay(nodes: &Nodes) -> bool
     ensures { result ≡ row.stay nodes.now }
 {
-    are_unscoped(nodes) && !some_breaks(nodes, unbroken_count(nodes))
+    are_unscoped(nodes) && stay_inside(nodes)
 }
 
 /// Whether the node is `case a: ..`, or `default: ..`.
@@ -166,8 +173,8 @@ pub fn can_switch_case_be_inlined(case: &Node) -> bool
         && stay(case.child(1).children())
 }
 
-// `switch (a) { one case }`
-fn holds_one_case(node: &Node) -> bool
+/// Whether the statement is `switch (a) { one case }`.
+pub fn holds_one_case(node: &Node) -> bool
     ensures kind { result ≡ row.holds_one_case node.now }
     ensures outer { result ≡ true → count (children node.now) ≡ 2 }
     ensures inner { result ≡ true → count (children (part node.now 1)) ≡ 1 }
@@ -243,7 +250,9 @@ fn written_for(
     }
 }
 
-fn inlined(alloc: Global, node: Node) -> Result<Node, OutOfMemory>
+/// Of a `switch` of one case the `if`, or of `default` the block, without a last `break;`, whatever stands in it. The only error is that memory runs
+/// out.
+pub fn inlined(alloc: Global, node: Node) -> Result<Node, OutOfMemory>
     ensures { IfOk result (λ w. w ≡ row.inlined node) }
 {
     let (discriminant, cases) = two(node);

@@ -2,7 +2,7 @@ use Rattle.std.proofs.Common.{subst, sym}
 use Rattle.mini_rows.specs.Steady.{SteadyRow}
 use Rattle.mini_steady.specs.Own.{AppliedHere}
 use Rattle.mini_steady.proofs.MemberRows.{here_applied}
-use Rattle.mini_steady.proofs.own.minimize_here.Goals as goal
+use Rattle.mini_steady.proofs.members.SteadyMembersOwnRewrites.rewrite.Goals as goal
 
 pub returns-in_ok-minimize_steady_logical_expression-in-Expr : goal.returns-in_ok-minimize_steady_logical_expression-in-Expr
 returns-in_ok-minimize_steady_logical_expression-in-Expr g c =

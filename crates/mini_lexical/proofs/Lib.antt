@@ -1,0 +1,4 @@
+pub mod Held
+pub mod Switches
+pub mod Loops
+pub mod Joined
