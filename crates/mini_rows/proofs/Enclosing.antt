@@ -4,6 +4,7 @@ use Rattle.std.proofs.Common.{ap, ◌∙◌, sym, subst, inl, inr, ◌⊎◌, ar
 use Rattle.std.proofs.lemmas.Bool.{and_parts, eqb-true, eq-eqb}
 use Rattle.mini_model.specs.declared.kind.VariableDeclarationKind.TheVariants.{Var, Let, Const}
 use Rattle.mini_model.specs.declared.name.Name.{Name}
+use Rattle.mini_model.specs.declared.operator.UnaryOperator.TheVariants.{LogicalNot}
 use Rattle.mini_model.specs.declared.name.SymbolId.{SymbolId}
 use Rattle.mini_model.specs.declared.shape.Shape.{Shape}
 use Rattle.mini_model.specs.declared.shape.Shape.TheVariants as shape
@@ -28,7 +29,7 @@ use Rattle.mini_laws.proofs.Numbers.{symbol_of_both, fresh, with_fresh}
 use Rattle.mini_kept.specs.Loosely.{symbol_for}
 use Rattle.mini_kept.proofs.Hoisting.{bound_scoped}
 use Rattle.mini_kept.proofs.SameScopes.{same_texts}
-use Rattle.mini_rows.specs.Lists.{is_name_shape, is_list_shape, declares_name, declare_names, are_constants, encloses_by, is_body_of_function, holds, encloses, all_enclose}
+use Rattle.mini_rows.specs.Lists.{is_name_shape, binds, all_bind, first_binds, encloses_by, is_body_of_function, holds, encloses, all_enclose}
 
 -- ---- a scope that has a name of some spelling
 
@@ -249,22 +250,37 @@ name_in x (node shape.BindingIdentifier xs n ts) h e = in_front x (variables xs)
 name_in x (node shape.Absent xs n ts) h e = absurd (true≢false (sym e))
 name_in x (node g xs n ts) h e = absurd (true≢false (sym h))
 
-one_in : (x : Variable) (d : Tree) → declares_name d ≡ true → is_in x (summary d).lets ≡ true → is_in x (variables (names_of declared.Bound d)) ≡ true
-unfolding names_of
-one_in x (node shape.VariableDeclarator xs n none) h e = absurd (true≢false (sym e))
-one_in x (node shape.VariableDeclarator xs n (t ▸ ts)) h e = name_in x t h e
-one_in x (node g xs n ts) h e = absurd (true≢false (sym h))
+-- the names that a part of a declaration gives are those that it binds
+in_some : (x : Variable) (xs ys : List Variable) (zs ws : List Name) → (is_in x xs ≡ true → is_in x (variables zs) ≡ true) → (is_in x ys ≡ true → is_in x (variables ws) ≡ true) → is_in x (xs ++ ys) ≡ true → is_in x (variables (zs ++ ws)) ≡ true
+in_some x xs ys zs ws f g e = elim (in_both x xs ys e) [ inl h ↦ first_in x zs ws (f h) | inr h ↦ later_in x zs ws (g h) ]
 
-declared_in_list : (x : Variable) (ds : Trees) → declare_names ds ≡ true → is_in x (lets_all (summaries ds)) ≡ true → is_in x (variables (all_names declared.Bound ds)) ≡ true
-unfolding names_of
-declared_in_list x none h e = absurd (true≢false (sym e))
-declared_in_list x (d ▸ ds) h e =
-    let (own, rest) = and_parts (declares_name d) (declare_names ds) h in
-    by own (λ f. declared_in_list x ds rest f) (in_both x (summary d).lets (lets_all (summaries ds)) e)
-  where
-    by : declares_name d ≡ true → (is_in x (lets_all (summaries ds)) ≡ true → is_in x (variables (all_names declared.Bound ds)) ≡ true) → (is_in x (summary d).lets ≡ true) ⊎ (is_in x (lets_all (summaries ds)) ≡ true) → is_in x (variables (names_of declared.Bound d ++ all_names declared.Bound ds)) ≡ true
-    by own rest (inl f) = first_in x (names_of declared.Bound d) (all_names declared.Bound ds) (one_in x d own f)
-    by own rest (inr f) = later_in x (names_of declared.Bound d) (all_names declared.Bound ds) (rest f)
+mutual
+  unfolding names_of
+
+  lets_bound : (x : Variable) (t : Tree) → binds t ≡ true → is_in x (summary t).lets ≡ true → is_in x (variables (names_of declared.Bound t)) ≡ true
+  lets_bound x (node shape.BindingIdentifier xs n ts) b e = in_front x (variables xs) e
+  lets_bound x (node (shape.UnaryExpression LogicalNot) xs n ts) b e = absurd (true≢false (sym b))
+  lets_bound x (node shape.Listed xs n ts) b e = all_lets_bound x ts b e
+  lets_bound x (node shape.ObjectPattern xs n ts) b e = all_lets_bound x ts b e
+  lets_bound x (node shape.ArrayPattern xs n ts) b e = all_lets_bound x ts b e
+  lets_bound x (node (shape.BindingProperty is_shorthand is_computed) xs n ts) b e = all_lets_bound x ts b e
+  lets_bound x (node shape.RestElement xs n ts) b e = all_lets_bound x ts b e
+  lets_bound x (node shape.AssignmentPattern xs n none) b e = absurd (true≢false (sym e))
+  lets_bound x (node shape.AssignmentPattern xs n (t ▸ ts)) b e = first_in x (names_of declared.Bound t) (all_names declared.Bound ts) (lets_bound x t b e)
+  lets_bound x (node shape.VariableDeclarator xs n none) b e = absurd (true≢false (sym e))
+  lets_bound x (node shape.VariableDeclarator xs n (t ▸ ts)) b e = lets_bound x t b e
+  lets_bound x (node (shape.VariableDeclaration k) xs n ts) b e = absurd (true≢false (sym b))
+  lets_bound x (node (shape.Class true) xs n ts) b e = absurd (true≢false (sym b))
+  lets_bound x (node shape.SwitchCase xs n ts) b e = absurd (true≢false (sym b))
+  lets_bound x (node shape.ExportNamedDeclaration xs n ts) b e = absurd (true≢false (sym b))
+  lets_bound x (node shape.ExportDefaultDeclaration xs n ts) b e = absurd (true≢false (sym b))
+  lets_bound x (node h xs n ts) b e = absurd (true≢false (sym e))
+
+  all_lets_bound : (x : Variable) (ts : Trees) → all_bind ts ≡ true → is_in x (lets_all (summaries ts)) ≡ true → is_in x (variables (all_names declared.Bound ts)) ≡ true
+  all_lets_bound x none b e = absurd (true≢false (sym e))
+  all_lets_bound x (t ▸ ts) b e =
+      let (own, rest) = and_parts (binds t) (all_bind ts) b in
+      in_some x (summary t).lets (lets_all (summaries ts)) (names_of declared.Bound t) (all_names declared.Bound ts) (λ f. lets_bound x t own f) (λ f. all_lets_bound x ts rest f) e
 
 -- ---- what is left to the scopes around
 
@@ -461,10 +477,8 @@ module _ (x : Variable) where
   abbrev Self : Shape → Trees → Type 0
   Self h ts = choose (is_in x (declares_by h (summaries ts))) (fixity_by h) Writable ≡ Writable
 
-  constants : (env : Environment) (t : Tree) → is_list_shape (shape_of t) ≡ true → declare_names (children t) ≡ true → Scoped Read env t → is_in x (summary t).lets ≡ true → Found Read x env (names_of declared.Bound t)
-  unfolding names_of
-  constants env (node shape.Listed ys m ds) l c a e = found Read x env (all_names declared.Bound ds) (bound_scoped Read env (node shape.Listed ys m ds) a) (declared_in_list x ds c e)
-  constants env (node h ys m ds) l c a e = absurd (true≢false (sym l))
+  constants : (env : Environment) (t : Tree) → binds t ≡ true → Scoped Read env t → is_in x (summary t).lets ≡ true → Found Read x env (names_of declared.Bound t)
+  constants env t b a e = found Read x env (names_of declared.Bound t) (bound_scoped Read env t a) (lets_bound x t b e)
 
   const_left : (v : Use) (env : Environment) (xs : List Name) (n : ℕ) (t : Tree) (ts : Trees) → let sc = opened v (shape.VariableDeclaration Const) (t ▸ ts) in Found Read x (env ++ sc 0) (names_of declared.Bound t) → Own true v env (node (shape.VariableDeclaration Const) xs n (t ▸ ts))
   unfolding names_of body_names declared_in
@@ -487,13 +501,11 @@ module _ (x : Variable) where
 
   own : (held : Bool) (v : Use) (env : Environment) (h : Shape) (xs : List Name) (n : ℕ) (ts : Trees) → encloses_by held h ts ≡ true → Scoped v env (node h xs n ts) → Self h ts ⊎ Own held v env (node h xs n ts)
   unfolding Scoped scopes_by declared_in
-  own held v env (shape.VariableDeclaration Const) xs n none e a = absurd (true≢false (sym (and_parts held false e).1))
+  own held v env (shape.VariableDeclaration Const) xs n none e a = inl refl
   own held v env (shape.VariableDeclaration Const) xs n (t ▸ ts) e a =
-      let (hd, parts) = and_parts held (are_constants (t ▸ ts)) e in
-      let (one, plain) = and_parts (nat_eq (count (t ▸ ts)) 1) (is_list_shape (shape_of t) && declare_names (children t)) parts in
-      let (l, c) = and_parts (is_list_shape (shape_of t)) (declare_names (children t)) plain in
+      let (hd, b) = and_parts held (binds t) e in
       let sc = opened v (shape.VariableDeclaration Const) (t ▸ ts) in
-      decided (is_in x (summary t).lets) (fixity_by (shape.VariableDeclaration Const)) (λ g. subst (λ b. Own b v env (node (shape.VariableDeclaration Const) xs n (t ▸ ts))) (sym hd) (const_left v env xs n t ts (constants (env ++ sc 0) t l c a.1.0 g)))
+      decided (is_in x (summary t).lets) (fixity_by (shape.VariableDeclaration Const)) (λ g. subst (λ c. Own c v env (node (shape.VariableDeclaration Const) xs n (t ▸ ts))) (sym hd) (const_left v env xs n t ts (constants (env ++ sc 0) t b a.1.0 g)))
   own held v env (shape.VariableDeclaration k) xs n ts e a = inl (freely (is_in x (lets_first (summaries ts))))
   own held v env (shape.Function false y ds) xs n none e a = absurd (true≢false (sym e))
   own held v env (shape.Function false y ds) xs n (t ▸ none) e a = absurd (true≢false (sym e))

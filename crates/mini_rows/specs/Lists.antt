@@ -417,29 +417,51 @@ is_name_shape shape.BindingIdentifier = true
 is_name_shape shape.Absent = true
 is_name_shape _ = false
 
--- `x = a`, of a name
-abbrev pub declares_name_by : Shape → Trees → Bool
-declares_name_by shape.VariableDeclarator ts = is_name_shape (shape_of (child_or_absent ts 0))
-declares_name_by _ ts = false
+-- whether the names that a part of a declaration gives are those that it binds (ECMA-262, "BoundNames"): of a pattern all of its parts are
+-- asked, and of what has an initializer the first. No statement and no declaration stands there
+pub data Binding : Type 0 where
+  By_all : Binding
+  By_first : Binding
+  Never : Binding
+  Anyway : Binding
 
-abbrev pub declares_name : Tree → Bool
-declares_name d = declares_name_by (shape_of d) (children d)
+abbrev pub binding_of : Shape → Binding
+binding_of shape.Listed = By_all
+binding_of shape.ObjectPattern = By_all
+binding_of shape.ArrayPattern = By_all
+binding_of (shape.BindingProperty is_shorthand is_computed) = By_all
+binding_of shape.RestElement = By_all
+binding_of shape.VariableDeclarator = By_first
+binding_of shape.AssignmentPattern = By_first
+binding_of (shape.UnaryExpression LogicalNot) = Never
+binding_of (shape.VariableDeclaration k) = Never
+binding_of (shape.Class true) = Never
+binding_of shape.SwitchCase = Never
+binding_of shape.ExportNamedDeclaration = Never
+binding_of shape.ExportDefaultDeclaration = Never
+binding_of _ = Anyway
 
-abbrev pub declare_names : Trees → Bool
-declare_names none = true
-declare_names (d ▸ ds) = declares_name d && declare_names ds
+abbrev pub binds_by : Binding → Bool → Bool → Bool
+binds_by By_all all first = all
+binds_by By_first all first = first
+binds_by Never all first = false
+binds_by Anyway all first = true
 
-abbrev pub is_list_shape : Shape → Bool
-is_list_shape shape.Listed = true
-is_list_shape _ = false
+abbrev mutual
+  pub binds : Tree → Bool
+  binds (node h xs n ts) = binds_by (binding_of h) (all_bind ts) (first_binds ts)
 
--- the children of a `const` that declares names, and no patterns
-abbrev pub are_constants : Trees → Bool
-are_constants ts = nat_eq (count ts) 1 && (is_list_shape (shape_of (child_or_absent ts 0)) && declare_names (children (child_or_absent ts 0)))
+  pub all_bind : Trees → Bool
+  all_bind none = true
+  all_bind (t ▸ ts) = binds t && all_bind ts
+
+  pub first_binds : Trees → Bool
+  first_binds none = true
+  first_binds (t ▸ ts) = binds t
 
 -- a node whose own name a scope declares that it opens itself, or one around it, where one holds it
 abbrev pub encloses_by : Bool → Shape → Trees → Bool
-encloses_by held (shape.VariableDeclaration Const) ts = held && are_constants ts
+encloses_by held (shape.VariableDeclaration Const) ts = held && first_binds ts
 encloses_by held (shape.Function false is_generator directives) ts = nat_eq (count ts) 3 && is_name_shape (shape_of (child_or_absent ts 0))
 encloses_by held (shape.Class false) ts = nat_eq (count ts) 4 && is_name_shape (shape_of (child_or_absent ts 0))
 encloses_by held (shape.Class true) ts = nat_eq (count ts) 4 && is_name_shape (shape_of (child_or_absent ts 3))

@@ -2,10 +2,9 @@
 
 ghost use Rattle.std.specs.Prelude.{◌≡◌, ◌<◌, ◌&&◌, nat_eq, true, false};
 ghost use Rattle.mini_model.specs.Tree.{children, child_or_absent, count, shape_of};
-ghost use Rattle.mini_node.specs.Children.{trees_of};
 ghost use Rattle.mini_rows.specs.Lists as list;
 
-use mini_model::{Shape, VariableDeclarationKind};
+use mini_model::{Shape, UnaryOperator, VariableDeclarationKind};
 use mini_node::{Node, Nodes};
 
 // Whether the node is a name that is declared, or absent.
@@ -15,45 +14,49 @@ fn is_name(node: &Node) -> bool
     matches!(node.shape(), Shape::BindingIdentifier | Shape::Absent)
 }
 
-// Whether the first of the nodes is one, or there is none.
-#[tactic(auto, using(crate::proofs::Enclosing::no_name))]
-fn is_first_name(nodes: &Nodes) -> bool
-    ensures { result ≡ list.is_name_shape (shape_of (child_or_absent nodes.now 0)) }
+// Whether each of the nodes gives the names that it binds.
+#[cycle(binding)]
+fn all_bind(nodes: &Nodes) -> bool
+    ensures { result ≡ list.all_bind nodes.now }
 {
-    nodes.is_empty() || is_name(nodes.child(0))
+    for at in 0..nodes.len() {
+        if !binds(nodes.child(at)) {
+            return false;
+        }
+    }
+    true
 }
 
-// `x = a`, of a name.
-fn declares_name(node: &Node) -> bool
-    ensures { result ≡ list.declares_name node.now }
+// Whether the first of them does.
+#[cycle(binding)]
+#[tactic(auto, using(crate::proofs::Enclosing::no_first, crate::proofs::Enclosing::first_is))]
+fn first_binds(nodes: &Nodes) -> bool
+    ensures { result ≡ list.first_binds nodes.now }
+{
+    nodes.is_empty() || binds(nodes.child(0))
+}
+
+// Whether a part of a declaration gives the names that it binds, and no statement or declaration stands there.
+#[cycle(binding)]
+#[tactic(auto, using(crate::proofs::Enclosing::binding_is, crate::proofs::Parts::below))]
+fn binds(node: &Node) -> bool
+    ensures { result ≡ list.binds node.now }
 {
     match node.shape() {
-        Shape::VariableDeclarator => is_first_name(node.children()),
-        _ => false,
+        Shape::Listed
+        | Shape::ObjectPattern
+        | Shape::ArrayPattern
+        | Shape::BindingProperty(_, _)
+        | Shape::RestElement => all_bind(node.children()),
+        Shape::VariableDeclarator | Shape::AssignmentPattern => first_binds(node.children()),
+        Shape::UnaryExpression(UnaryOperator::LogicalNot)
+        | Shape::VariableDeclaration(_)
+        | Shape::Class(true)
+        | Shape::SwitchCase
+        | Shape::ExportNamedDeclaration
+        | Shape::ExportDefaultDeclaration => false,
+        _ => true,
     }
-}
-
-fn declare_names(nodes: &[Node]) -> bool
-    ensures { result ≡ list.declare_names (trees_of nodes.now) }
-{
-    match nodes {
-        [] => true,
-        [first, rest @ ..] => declares_name(first) && declare_names(rest),
-    }
-}
-
-// A list of declarators of names.
-fn is_list_of_names(node: &Node) -> bool
-    ensures { result ≡ (list.is_list_shape (shape_of node.now) && list.declare_names (children node.now)) }
-{
-    matches!(node.shape(), Shape::Listed) && declare_names(node.parts())
-}
-
-// Whether a `const` with these children declares names, and no patterns.
-fn are_constants(nodes: &Nodes) -> bool
-    ensures { result ≡ list.are_constants nodes.now }
-{
-    nodes.len() == 1 && is_list_of_names(nodes.child(0))
 }
 
 // Whether there are so many nodes, and the one at a place is a name.
@@ -70,14 +73,13 @@ fn encloses_itself(node: &Node, held: bool) -> bool
 {
     match node.shape() {
         Shape::VariableDeclaration(VariableDeclarationKind::Const) => {
-            held && are_constants(node.children())
+            held && first_binds(node.children())
         }
         Shape::Function(false, _, _) => is_name_at(node.children(), 3, 0),
         Shape::Class(false) => is_name_at(node.children(), 4, 0),
         Shape::Class(true) => is_name_at(node.children(), 4, 3),
-        Shape::ImportSpecifier
-        | Shape::ImportDefaultSpecifier
-        | Shape::ImportNamespaceSpecifier => false,
+        Shape::ImportSpecifier | Shape::ImportDefaultSpecifier | Shape::ImportNamespaceSpecifier =>
+            false,
         _ => true,
     }
 }

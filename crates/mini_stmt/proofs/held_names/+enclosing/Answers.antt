@@ -12,9 +12,9 @@ pub all_enclose-returns-then-not-encloses : goal.all_enclose-returns-then-not-en
 all_enclose-returns-then-not-encloses t c =
     stops c.args.held c.args.shape.now c.args.nodes.now c.loop-at.at (omega arith)
     (sym (
-      c.encloses.ensures
-      ∙ ap (λ b. encloses b c.child-child.result.now) (c.holds.ensures ∙ ap (holds c.args.held c.args.shape.now c.loop-at.at) c.shape.ensures)
-      ∙ ap (λ u. encloses (holds c.args.held c.args.shape.now c.loop-at.at (shape_of u)) u) c.child-child.ensures.value
+    c.encloses.ensures
+    ∙ ap (λ b. encloses b c.child-child.result.now) (c.holds.ensures ∙ ap (holds c.args.held c.args.shape.now c.loop-at.at) c.shape.ensures)
+    ∙ ap (λ u. encloses (holds c.args.held c.args.shape.now c.loop-at.at (shape_of u)) u) c.child-child.ensures.value
     )
     ∙ c.if-not-encloses.true)
     c.loop-at.invariant
@@ -23,9 +23,9 @@ pub all_enclose-loop-at-preserved : goal.all_enclose-loop-at-preserved
 all_enclose-loop-at-preserved t c =
     goes_on c.args.held c.args.shape.now c.args.nodes.now c.loop-at.at (omega arith)
     (sym (
-      c.encloses.ensures
-      ∙ ap (λ b. encloses b c.child-child.result.now) (c.holds.ensures ∙ ap (holds c.args.held c.args.shape.now c.loop-at.at) c.shape.ensures)
-      ∙ ap (λ u. encloses (holds c.args.held c.args.shape.now c.loop-at.at (shape_of u)) u) c.child-child.ensures.value
+    c.encloses.ensures
+    ∙ ap (λ b. encloses b c.child-child.result.now) (c.holds.ensures ∙ ap (holds c.args.held c.args.shape.now c.loop-at.at) c.shape.ensures)
+    ∙ ap (λ u. encloses (holds c.args.held c.args.shape.now c.loop-at.at (shape_of u)) u) c.child-child.ensures.value
     )
     ∙ c.if-not-encloses.false)
     c.loop-at.invariant
