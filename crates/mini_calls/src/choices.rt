@@ -238,9 +238,10 @@ impl PeepholeOptimizations {
         mini_choices::join_with_left_associative_op(alloc, operator, first, second)
     }
 
-    /// `(a?.b)?.c` becomes `a?.b?.c`; `[1]?.length` becomes `[1].length`, where what stands before `?.` is known to be neither undefined nor
-    /// null; and `null?.a` becomes `void 0`, where that is lighter; whatever links stand outside. The answer says whether it did; the only
-    /// error is that memory runs out, and then the expression is fit only to be dropped.
+    /// `null?.a` becomes `void 0`, where what stands before `?.` is known to be null or undefined, and where it has an effect, it stays:
+    /// `(void f())?.a.b.c.d` becomes `void f(), void 0`, each where it is lighter; `(a?.b)?.c` becomes `a?.b?.c`; and `[1]?.length` becomes
+    /// `[1].length`, where what stands before `?.` is known to be neither; whatever links stand outside. The answer says whether it did; the
+    /// only error is that memory runs out, and then the expression is fit only to be dropped.
     pub fn fold_chain_expr(
         &self,
         alloc: Global,

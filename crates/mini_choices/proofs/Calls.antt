@@ -1,24 +1,22 @@
 -- Two calls that differ in their first argument: what is written for a choice between them is what a row says, and where nothing is
 -- written no row reads it.
 use Rattle.std.proofs.Common.{◌≡◌, ℕ, zero, suc, [], ◌+◌, ◌<◌, ◌≤◌, Bool, true, false, refl, sym, ap, ◌∙◌, true≢false, arith}
-use Rattle.std.specs.Prelude.{◌&&◌, ◌||◌, not, is_none, if◌then◌else◌}
+use Rattle.std.specs.Prelude.{◌&&◌, ◌||◌, if◌then◌else◌}
 use Rattle.std.proofs.lemmas.Bool.{and_parts, false≢true}
 use Rattle.mini_model.specs.declared.shape.Shape.TheVariants as shape
-use Rattle.mini_model.specs.Tree.{Tree, Trees, node, none, ◌▸◌, listed, count, children, child_or_absent, first_or_absent, identifier, conditional, call}
+use Rattle.mini_model.specs.Tree.{Tree, Trees, node, none, ◌▸◌, listed, count, children, child_or_absent, first_or_absent, conditional, call}
 use Rattle.mini_node.specs.Children.{part, without, with_inserted, rest_children}
 use Rattle.mini_node.specs.Equal.{same_root, same_tree, same_trees}
-use Rattle.mini_node.specs.Kinds.{is_call_expression, is_conditional, is_identifier}
+use Rattle.mini_node.specs.Kinds.{is_call_expression, is_conditional}
 use Rattle.mini_node.specs.Made.{call_expression_is, conditional_is}
 use Rattle.mini_node.specs.Walks.{from_first, next_child, no_rest}
 use Rattle.mini_node.proofs.Equality.{by_root, tree_itself, tree_same, trees_same}
 use Rattle.mini_node.proofs.Equality as equality
 use Rattle.mini_terms.specs.Folds.{is_effect_free}
-use Rattle.mini_terms.specs.Reading.{is_item}
+use Rattle.mini_terms.specs.Reading.{is_item, is_plain_part}
 use Rattle.mini_rows.specs.Choices.{spread, argument, Row44}
-use Rattle.mini_choices.specs.Assigning.{is_same_name, is_declared}
-use Rattle.mini_choices.specs.Calling.{is_spread, begins_with_item, begins_with_spread, begin_alike, are_others_same, calls_name, are_alike, calls_either, chosen_first, called}
-use Rattle.mini_choices.proofs.Names.{one_name}
-use Rattle.mini_choices.proofs.Trials.{not_true, both_true}
+use Rattle.mini_choices.specs.Calling.{is_spread, begins_with_item, begins_with_spread, begin_alike, are_others_same, is_idle, are_alike, calls_either, chosen_first, called}
+use Rattle.mini_choices.proofs.Trials.{both_true}
 
 -- ---- arguments
 
@@ -143,6 +141,10 @@ called_row n e =
     let b = begun (part n 0) first second begin in
     let f = b.firsts in
     let rest = trees_same (without first 0) (without second 0) others in
+    let before : yes ≡ call false (part yes 0) (argument f.is_spread f.p ▸ without first 0) = call_of yes left b.some ∙ ap (λ t. call false (part yes 0) (t ▸ without first 0)) f.first_is in
+    let after : no ≡ call false (part yes 0) (argument f.is_spread f.q ▸ without first 0) = call_of no right b.others ∙ (λ j. call false (sym one j) (f.second_is j ▸ sym rest j)) in
+    let arguments : with_inserted (without first 0) 0 (chosen_first (part n 0) (first_or_absent first) (child_or_absent second 0)) ≡ argument f.is_spread (conditional (part n 0) f.p f.q) ▸ without first 0 =
+    inserted_first (without first 0) (chosen_first (part n 0) (first_or_absent first) (child_or_absent second 0)) ∙ ap (λ t. chosen_first (part n 0) t (child_or_absent second 0) ▸ without first 0) (first_is first) ∙ ap (λ t. t ▸ without first 0) f.chosen in
     record {
       a = part n 0;
       callee = part yes 0;
@@ -155,8 +157,8 @@ called_row n e =
       effect_free = free;
       first = f.first;
       second = f.second;
-      shape = conditional_is n chooses ∙ (λ i. conditional (part n 0) ((call_of yes left b.some ∙ (λ j. call false (part yes 0) (f.first_is j ▸ without first 0))) i) ((call_of no right b.others ∙ (λ j. call false (sym one j) (f.second_is j ▸ sym rest j))) i));
-      written = λ i. call false (part yes 0) ((inserted_first (without first 0) (chosen_first (part n 0) (first_or_absent first) (child_or_absent second 0)) ∙ ap (λ t. chosen_first (part n 0) t (child_or_absent second 0) ▸ without first 0) (first_is first) ∙ ap (λ t. t ▸ without first 0) f.chosen) i);
+      shape = conditional_is n chooses ∙ (λ i. conditional (part n 0) (before i) (after i));
+      written = ap (call false (part yes 0)) arguments;
     }
 
 -- ---- and what the row reads is written

@@ -1,5 +1,5 @@
 -- What is written for an optional chain over what is known to be null or undefined is what a row says, and what a row reads is written.
-use Rattle.std.proofs.Common.{◌≡◌, ◌⊎◌, Bool, true, false, List, [], ◌∷◌, Option, Some, refl, sym, ap, subst, ◌∙◌, inl, inr, true≢false, ltb-true, arith, ◌<◌, ◌^◌}
+use Rattle.std.proofs.Common.{◌≡◌, ◌⊎◌, Bool, true, false, List, [], ◌∷◌, Option, Some, None, refl, sym, ap, subst, ◌∙◌, inl, inr, true≢false, ltb-true, arith, ◌<◌, ◌^◌}
 use Rattle.std.specs.Prelude.{◌&&◌, ◌||◌, not, is_some, if◌then◌else◌}
 use Rattle.std.proofs.lemmas.Bool.{and_parts}
 use Rattle.mini_model.specs.declared.place.Position.TheVariants.{Expr}
@@ -17,7 +17,7 @@ use Rattle.mini_rows.specs.ChainEnds.{is_nothing, key_of, keys_over, Row10, Row1
 use Rattle.mini_rows.specs.Choices.{pair, ChoiceContracts}
 use Rattle.mini_rows.specs.Spellings.{void_zero}
 use Rattle.mini_choices.specs.MinimizeConditionalBranches.{is_lighter}
-use Rattle.mini_choices.specs.ChainLinks.{is_chain, is_step, is_marked, folded_written}
+use Rattle.mini_choices.specs.ChainLinks.{is_chain, is_step, is_marked, outcome, folded, wrapped, folded_written}
 use Rattle.mini_choices.specs.FoldChainExpr.{ends_at_once, ends_in, base_of, base_in, links_leave_nothing, links_in, ends_idly, may_end, acts, ends_after, may_end_after, base_then, after_written, written}
 use Rattle.mini_choices.proofs.ChainLinks.{chain_is, Stepped, stepped_is, step_passes, first_of_link, mark_of_link, links_row, links_pass}
 use Rattle.mini_choices.proofs.FormsAre.{either_true}
@@ -167,11 +167,11 @@ module _ (l : Link) (x : Tree) (known : is_nothing x ≡ true) (calm : is_calm_l
       let t = linked o m (over ms) in
       below_leave t (step_passes o m (over ms) here)
       ∙ (λ i. leaves_nothing (key_of_link o m (over ms) i) && (ap links_leave_nothing (first_of_link o m (over ms)) ∙ leaving ms rest) i)
-      ∙ grouped (leaves_nothing (key_of m))
+      ∙ grouped (leaves_nothing (key_of m)) (leave_nothing (keys_over ms)) (leaves_nothing (key_of l))
     where
-      grouped : (a : Bool) {b c : Bool} → a && (b && c) ≡ (a && b) && c
-      grouped true = refl
-      grouped false = refl
+      grouped : (a b c : Bool) → a && (b && c) ≡ (a && b) && c
+      grouped true b c = refl
+      grouped false b c = refl
 
 -- ---- what is written is what a row says
 
@@ -272,3 +272,11 @@ acting_passes s n w r small less =
 pub end_passes : (s : Seat) (n w : Tree) → EndRow n w → weight (Expr s) n < 2 ^ 64 → weight (Expr s) w < weight (Expr s) n → is_some (written s n) ≡ true
 end_passes s n w (inl r) small less = idle_passes s n w r small less
 end_passes s n w (inr r) small less = acting_passes s n w r small less
+
+-- something is written for a chain alone
+pub of_chain : (s : Seat) (n : Tree) → is_some (written s n) ≡ true → is_chain n ≡ true
+of_chain s n e = first_of_three (is_chain n) (ends_idly (part n 0)) (is_lighter s void_zero n) (ends_after (part n 0)) (is_lighter s (base_then n) n) (Some void_zero) (Some (base_then n)) (wrapped (outcome (not s.new_callee) (part n 0)) (folded (not s.new_callee) (part n 0))) e
+  where
+    first_of_three : (b c l d m : Bool) (x y z : Option Tree) → is_some (if (b && c) && l then x else (if (b && d) && m then y else (if b then z else None))) ≡ true → b ≡ true
+    first_of_three true c l d m x y z e = refl
+    first_of_three false c l d m x y z e = e

@@ -1,27 +1,22 @@
 -- What is written for an optional chain by what stands before its `?.` is what a row says, and what a row reads is written.
-use Rattle.std.proofs.Common.{◌≡◌, ◌⊎◌, zero, Bool, true, false, List, [], ◌∷◌, Option, Some, None, refl, sym, ap, subst, ◌∙◌, inl, inr, true≢false, ltb-true, arith, ◌<◌, ◌^◌}
+use Rattle.std.proofs.Common.{◌≡◌, ◌⊎◌, zero, Bool, true, false, List, [], ◌∷◌, Option, Some, None, refl, sym, ap, subst, ◌∙◌, inl, inr}
 use Rattle.std.specs.Prelude.{◌&&◌, ◌||◌, not, is_some, if◌then◌else◌}
 use Rattle.std.proofs.lemmas.Bool.{and_parts, false≢true}
 use Rattle.mini_model.specs.declared.place.Position.TheVariants.{Expr}
 use Rattle.mini_model.specs.declared.seat.Seat.{Seat}
 use Rattle.mini_model.specs.declared.shape.Shape.TheVariants as shape
-use Rattle.mini_model.specs.Weight.{weight}
 use Rattle.mini_model.specs.Tree.{Tree, Trees, node, none, ◌▸◌, children, child_or_absent, shape_of}
 use Rattle.mini_node.specs.Children.{part, is_bare}
-use Rattle.mini_node.specs.Kinds.{is_listed, is_null}
-use Rattle.mini_node.specs.Made.{listed_is, null_is}
-use Rattle.mini_terms.specs.Parts.{is_link, leaves_nothing}
+use Rattle.mini_node.specs.Kinds.{is_listed}
+use Rattle.mini_node.specs.Made.{listed_is}
+use Rattle.mini_terms.specs.Parts.{is_link}
 use Rattle.mini_terms.specs.Reading.{is_plain_part}
 use Rattle.mini_rows.specs.Chains.{is_calm, are_calm, Link, a_member, a_computed, a_call, linked, is_calm_link, chain}
 use Rattle.mini_rows.specs.ChainLinks.{is_there, Marked, marked, links_over, is_lone, are_calm_over, has_mark, chain_if, Row64, Row11, ChainRow}
 use Rattle.mini_rows.specs.Choices.{ChoiceContracts}
 use Rattle.mini_rows.proofs.ChainLinkLawful.{chains_fall}
-use Rattle.mini_rows.specs.Spellings.{void_zero}
-use Rattle.mini_choices.specs.Forms.{is_undefined}
-use Rattle.mini_choices.specs.MinimizeConditionalBranches.{is_lighter}
 use Rattle.mini_choices.specs.ChainLinks.{is_chain, ends_none, is_step, is_marked, link_shape, relinked, holds_link, is_value, folds_here, here, with_mark, outcome, outcome_in, folded, folded_in, wrapped, folded_written}
-use Rattle.mini_choices.proofs.FormsAre.{either_true, undefined_is, undefined_passes}
-use Rattle.mini_choices.proofs.Trials.{not_true, both_true, some_is, tried, first_true, later_true, lighter_test}
+use Rattle.mini_choices.proofs.Trials.{not_true, both_true, some_is}
 
 -- ---- links, one after another
 

@@ -35,19 +35,16 @@ use Rattle.mini_choices.specs.Calling.{calls_either, called}
 use Rattle.mini_choices.specs.SubstituteRotateLogicalExpression as rotate
 use Rattle.mini_choices.specs.MinimizeLogicalExpression as decide
 use Rattle.mini_choices.specs.MinimizeLogicalSequence as decide_last
-use Rattle.mini_choices.specs.MinimizeNormalAssignmentToCombinedAssignment as combine
 use Rattle.mini_choices.specs.MinimizeConditionalBranches as branches
 use Rattle.mini_choices.specs.MinimizeHeldBranches as held
 use Rattle.mini_choices.specs.InjectOptionalChaining as chains
 use Rattle.mini_choices.specs.FoldChainExpr as folded
-use Rattle.mini_terms.specs.Parts.{leaves_nothing}
-use Rattle.mini_rows.specs.Spellings.{void_zero}
 use Rattle.mini_choices.specs.EvaluateBothSides as both
 use Rattle.mini_choices.proofs.CombinedAssignment.{one_member, member_there, combined_row, combined_passes, combined_member_passes}
 use Rattle.mini_choices.proofs.LogicalSequence.{last_row, last_passes}
 use Rattle.mini_choices.proofs.BothSides.{both_row, both_passes}
 use Rattle.mini_choices.proofs.ChainLinks.{chain_is}
-use Rattle.mini_choices.proofs.ChainEnds.{end_passes, folded_row, folded_passes}
+use Rattle.mini_choices.proofs.ChainEnds.{of_chain, end_passes, folded_row, folded_passes}
 use Rattle.mini_choices.proofs.OptionalChains.{chain_row, chain_passes}
 use Rattle.mini_choices.proofs.Trials.{some_is, not_true, both_true, tried, first_true, later_true, first_there, second_there, lighter_test}
 use Rattle.mini_choices.specs.SubstituteRotateLogicalExpression.{leftmost}
@@ -440,14 +437,7 @@ chain_there s n h =
     chooses t e = first_of_both (is_conditional t) _ _ (chains.chained t (part t 2)) (chains.chained t (part t 1)) e
 
 folded_there : (s : Seat) (n : Tree) → is_some (folded.written s n) ≡ true → is_some (written s n) ≡ true
-folded_there s n h = ap (λ t. is_some (written s t)) (chain_is n (chains n h)) ∙ sym (ap (λ t. is_some (folded.written s t)) (chain_is n (chains n h))) ∙ h
-  where
-    first_of_two : (b c d : Bool) (x y : Option Tree) → is_some (if (b && c) && d then x else (if b then y else None)) ≡ true → b ≡ true
-    first_of_two true c d x y e = refl
-    first_of_two false c d x y e = e
-
-    chains : (t : Tree) → is_some (folded.written s t) ≡ true → folded.is_chain t ≡ true
-    chains t e = first_of_two (folded.is_chain t) (folded.ends_at_once (part t 0) && leaves_nothing (part t 0)) (branches.is_lighter s void_zero t) (Some void_zero) (folded.wrapped (folded.outcome (not s.new_callee) (part t 0)) (folded.folded (not s.new_callee) (part t 0))) e
+folded_there s n h = ap (λ t. is_some (written s t)) (chain_is n (of_chain s n h)) ∙ sym (ap (λ t. is_some (folded.written s t)) (chain_is n (of_chain s n h))) ∙ h
 
 in_comparisons : (t : Tree) → is_some (first_of (nullish.written t) (object_test.written t)) ≡ true → is_some (first_of (rotate.written t) (first_of (decide.written t) (first_of (nullish.written t) (object_test.written t)))) ≡ true
 in_comparisons t h = second_there (rotate.written t) (first_of (decide.written t) (first_of (nullish.written t) (object_test.written t))) (second_there (decide.written t) (first_of (nullish.written t) (object_test.written t)) h)

@@ -1,6 +1,6 @@
 -- 41, 44, 45 and 46, of `minimize_conditional_expression`: `x ? x : b` becomes `x || b`, `x ? b : x` becomes `x && b`,
 -- `a ? x = b : x = c` becomes `x = a ? b : c`, where a scope declares x or a has no effect, and so of `+=` where both hold, `x == null ? b : x` becomes `x ?? b`, where a
--- scope declares x, and `a ? f(p, r) : f(q, r)` becomes `f(a ? p : q, r)`, where a scope declares f and a has no effect.
+-- scope declares x, and `a ? f(p, r) : f(q, r)` becomes `f(a ? p : q, r)`, where neither f nor a has an effect.
 use Rattle.std.specs.Prelude.{Bool, true, false, Option, Some, None, ◌&&◌, ◌||◌, not, nat_eq, nat_lt, unwrap_or, if◌then◌else◌}
 use Rattle.mini_model.specs.declared.operator.AssignmentOperator.{AssignmentOperator}
 use Rattle.mini_model.specs.declared.operator.AssignmentOperator.TheVariants.{Assign}

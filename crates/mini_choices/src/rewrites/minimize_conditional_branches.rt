@@ -1,7 +1,7 @@
 //! Rows 41, 44, 45 and 46: `x ? x : b` becomes `x || b`, and `x ? b : x` becomes `x && b`, where that is lighter in the seat;
 //! `a ? x = b : x = c` becomes `x = a ? b : c`, where a scope declares x or a has no effect, and so of `+=` and of members where both hold,
 //! `x == null ? b : x` becomes `x ?? b`,
-//! where a scope declares x, and `a ? f(p, r) : f(q, r)` becomes `f(a ? p : q, r)`, where a scope declares f and a has no effect,
+//! where a scope declares x, and `a ? f(p, r) : f(q, r)` becomes `f(a ? p : q, r)`, where neither f nor a has an effect,
 //! which is lighter in every seat.
 
 ghost use Rattle.std.specs.Prelude.{◌≡◌, true, Some, is_some, unwrap_or, OnOk, IfOk};
