@@ -13,7 +13,7 @@ use Rattle.mini_node.specs.Equal.{same_tree}
 use Rattle.mini_node.specs.Kinds.{binary, assignment, static_member, computed_member, is_identifier, is_static_member, is_computed_member, string, number, binary_operator, assignment_operator}
 use Rattle.mini_node.specs.Made.{assignment_is, binary_is, identifier_is, static_member_is, computed_member_is, string_is, number_is}
 use Rattle.mini_node.proofs.Equality.{tree_same, tree_itself}
-use Rattle.mini_rows.specs.Choices.{assign, Key, Named, Spelled, Numbered, member_of, computing, Row35, Row35Member}
+use Rattle.mini_rows.specs.Choices.{assign, Key, Named, Spelled, Numbered, member_on, member_of, computing, Row35, Row35Member}
 use Rattle.mini_choices.specs.Assigning.{is_plain, is_declared, is_property, is_written_key, has_written_key, is_member_of_name, is_same_target}
 use Rattle.mini_choices.specs.MinimizeNormalAssignmentToCombinedAssignment as combine
 use Rattle.mini_choices.proofs.Trials.{some_is, not_true}
@@ -28,9 +28,9 @@ plainly_is t e = go (assignment_operator t) refl e
 -- ---- members of names
 
 -- the key of a member
-record Keyed (t : Tree) : Type 0 where
-  key : Key
-  is : (x : Name) → part t 0 ≡ identifier x → t ≡ member_of x key
+pub record Keyed (t : Tree) : Type 0 where
+  pub key : Key
+  pub is : (o : Tree) → part t 0 ≡ o → t ≡ member_on o key
 
 property_is : (t : Tree) → is_property t ≡ true → (s : List ℕ) × (t ≡ leaf (shape.IdentifierName s))
 property_is (node (shape.IdentifierName s) [] zero none) e = (s, refl)
@@ -53,6 +53,9 @@ keyed t false h e =
     let (member, key) = and_parts (is_computed_member t) (is_written_key (part t 1)) e in
     computed_key t member (string (part t 1)) refl (number (part t 1)) refl key
 
+pub written_key : (t : Tree) → has_written_key t ≡ true → Keyed t
+written_key t e = keyed t (is_static_member t && is_property (part t 1)) refl e
+
 pub record OneMember (t : Tree) : Type 0 where
   pub name : Name
   pub key : Key
@@ -64,12 +67,12 @@ one_member t e =
     let (written, named) = and_parts (has_written_key t) (is_identifier (part t 0) && is_declared (part t 0)) e in
     let (named', declared) = and_parts (is_identifier (part t 0)) (is_declared (part t 0)) named in
     let (x, h) = identifier_is (part t 0) named' in
-    let k = keyed t (is_static_member t && is_property (part t 1)) refl written in
+    let k = written_key t written in
     record {
       name = x;
       key = k.key;
       declared = not_true (is_none x.symbol) (sym (ap is_declared h) ∙ declared);
-      is = k.is x h;
+      is = k.is (identifier x) h;
     }
 
 -- ---- the row
@@ -164,3 +167,8 @@ pub member_there : (x : Name) → is_none x.symbol ≡ false → (k : Key) → i
 member_there x d (Named s) = ap not d
 member_there x d (Spelled s) = ap not d
 member_there x d (Numbered n) = ap not d
+
+pub key_there : (t : Tree) (k : Key) → has_written_key (member_on t k) ≡ true
+key_there t (Named s) = refl
+key_there t (Spelled s) = refl
+key_there t (Numbered n) = refl

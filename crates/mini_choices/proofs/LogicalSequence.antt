@@ -35,23 +35,23 @@ put_twice (t ▸ ts) (suc i) x y = ap (λ us. t ▸ us) (put_twice ts i x y)
 
 -- ---- the parts but the last, and the last
 
-abbrev but_last : Tree → Trees → Trees
+abbrev pub but_last : Tree → Trees → Trees
 but_last t none = none
 but_last t (u ▸ us) = t ▸ but_last u us
 
-ends : (t : Tree) (ts : Trees) → t ▸ ts ≡ append (but_last t ts) (child_or_absent (t ▸ ts) (last.last_place (t ▸ ts)) ▸ none)
+pub ends : (t : Tree) (ts : Trees) → t ▸ ts ≡ append (but_last t ts) (child_or_absent (t ▸ ts) (last.last_place (t ▸ ts)) ▸ none)
 ends t none = refl
 ends t (u ▸ us) = ap (λ vs. t ▸ vs) (ends u us)
 
-ends_with : (t : Tree) (ts : Trees) (x : Tree) → with_child (t ▸ ts) (last.last_place (t ▸ ts)) x ≡ append (but_last t ts) (x ▸ none)
+pub ends_with : (t : Tree) (ts : Trees) (x : Tree) → with_child (t ▸ ts) (last.last_place (t ▸ ts)) x ≡ append (but_last t ts) (x ▸ none)
 ends_with t none x = refl
 ends_with t (u ▸ us) x = ap (λ vs. t ▸ vs) (ends_with u us x)
 
-last_there : (p : Tree) (ps : Trees) (l : Tree) → child_or_absent (p ▸ append ps (l ▸ none)) (last.last_place (p ▸ append ps (l ▸ none))) ≡ l
+pub last_there : (p : Tree) (ps : Trees) (l : Tree) → child_or_absent (p ▸ append ps (l ▸ none)) (last.last_place (p ▸ append ps (l ▸ none))) ≡ l
 last_there p none l = refl
 last_there p (q ▸ qs) l = last_there q qs l
 
-several_there : (p : Tree) (ps : Trees) (l : Tree) → last.are_several (p ▸ append ps (l ▸ none)) ≡ true
+pub several_there : (p : Tree) (ps : Trees) (l : Tree) → last.are_several (p ▸ append ps (l ▸ none)) ≡ true
 several_there p none l = refl
 several_there p (q ▸ qs) l = refl
 

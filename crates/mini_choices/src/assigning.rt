@@ -72,8 +72,8 @@ fn is_written_key(node: &Node) -> bool
     string(node).is_some() || number(node).is_some()
 }
 
-// `x.k`, `x["a-b"]` or `x[0]`
-fn has_written_key(node: &Node) -> bool
+/// Whether it is a member with a key that is written out: `x.k`, `x["a-b"]` or `x[0]`.
+pub fn has_written_key(node: &Node) -> bool
     ensures kind { result ≡ has_it_written_key node.now }
     ensures parts { result ≡ true → count (children node.now) ≡ 2 }
 {

@@ -10,7 +10,7 @@ mod laws;
 mod rewrites;
 mod weights;
 
-pub use assigning::{assigns_plainly, is_same_member};
+pub use assigning::{assigns_plainly, has_written_key};
 pub use joining::join_with_left_associative_op;
 pub use laws::{choices_are_rows, left_joins_mean_the_same, writes_are_rows};
 pub use rewrites::evaluate_both_sides::evaluate_both_sides;
@@ -20,11 +20,17 @@ pub use rewrites::inject_optional_chaining::inject_optional_chaining;
 pub use rewrites::minimize_assigned_comparison::minimize_assigned_comparison;
 pub use rewrites::minimize_assigned_nullish_comparison::minimize_assigned_nullish_comparison;
 pub use rewrites::minimize_choices::MinimizeChoices;
-pub use rewrites::minimize_conditional_branches::minimize_conditional_branches;
+pub use rewrites::minimize_conditional_branches::{
+    assigned, is_seated, minimize_conditional_branches,
+};
 pub use rewrites::minimize_held_branches::minimize_held_branches;
-pub use rewrites::minimize_logical_expression::{deciding, minimize_logical_expression};
-pub use rewrites::minimize_logical_sequence::minimize_logical_sequence;
-pub use rewrites::minimize_normal_assignment_to_combined_assignment::minimize_normal_assignment_to_combined_assignment;
+pub use rewrites::minimize_logical_expression::{decided, deciding, minimize_logical_expression};
+pub use rewrites::minimize_logical_sequence::{
+    are_several, decided_last, keeps_parentheses, last_place, minimize_logical_sequence,
+};
+pub use rewrites::minimize_normal_assignment_to_combined_assignment::{
+    combined, computing, minimize_normal_assignment_to_combined_assignment,
+};
 pub use rewrites::minimize_normal_assignment_to_combined_logical_assignment::{
     MinimizeWrites, minimize_normal_assignment_to_combined_logical_assignment,
 };

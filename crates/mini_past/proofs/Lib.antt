@@ -1,4 +1,3 @@
-pub mod BoundNames
 pub mod PassedParts
 pub mod Places
 pub mod NextPlaces
@@ -7,5 +6,4 @@ pub mod NextRows
 pub mod Swept
 pub mod Holders
 pub mod Steps
-pub mod Written
 pub mod Lawful

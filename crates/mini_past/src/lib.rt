@@ -1,7 +1,6 @@
 //! Row 71 past names that are steady in the body around them, over what tells which names are.
 #![tactic(auto)]
 
-mod bindings;
 mod declared;
 mod functions;
 mod names;
@@ -10,12 +9,9 @@ mod passing;
 mod rule;
 mod searching;
 mod sweeping;
-mod writing;
 
-pub use bindings::{any_bind, binds};
 pub use functions::{substitute_past_in_arrow, substitute_past_in_function};
 pub use names::{PastContext, PastNames};
 pub use passing::are_past;
 pub use rule::{SubstitutePast, SubstitutePastArrows};
 pub use searching::substitute_past;
-pub use writing::writes;

@@ -8,11 +8,9 @@ ghost use Rattle.mini_rows.specs.Past.{held};
 ghost use Rattle.mini_rows.specs.Unused.{begins_with as it_begins_with};
 ghost use Rattle.mini_past.specs.SubstitutePast as row;
 
-use crate::bindings::{any_bind, binds};
-use crate::writing::writes;
 use mini_model::{Name, SymbolId};
 use mini_node::{Node, Nodes, is_identifier};
-use mini_steady::SteadyNames;
+use mini_steady::{SteadyNames, any_bind, binds, writes};
 use mini_unused::{is_constant, is_mentioned, may_go_on};
 
 // The initializer neither declares nor writes it.

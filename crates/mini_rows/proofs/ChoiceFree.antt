@@ -29,7 +29,7 @@ free_told e a h s = quiet_told (value e a s) s (effect_free_sound a e true (λ f
 abbrev pub chosen : Completion Value → (State → Completion Value) → (State → Completion Value) → Completion Value
 chosen t y n = next t (λ v z. choose (truth v) (y z) (n z))
 
-over_choice : {A B : Type 0} (f : A → B) (b : Bool) (y n : A) → f (choose b y n) ≡ choose b (f y) (f n)
+pub over_choice : {A B : Type 0} (f : A → B) (b : Bool) (y n : A) → f (choose b y n) ≡ choose b (f y) (f n)
 over_choice f true y n = refl
 over_choice f false y n = refl
 

@@ -1,5 +1,5 @@
 -- No node of a tree changes `this`.
-use Rattle.std.proofs.Common.{◌≡◌, ℕ, zero, suc, Bool, true, false, List, [], ◌∷◌, Option, Some, None, refl, subst₂}
+use Rattle.std.proofs.Common.{◌≡◌, ℕ, zero, suc, Bool, true, false, List, [], ◌∷◌, Some, None, refl, subst₂}
 use Rattle.mini_model.specs.Tree.{Tree}
 use Rattle.mini_laws.specs.Value.{Variable, Value, Slot, Holds, Missing, Uninitialised, choose, nth, nothing}
 use Rattle.mini_laws.specs.State.{Label, BindOf, ThisOf, Item, Answer, State, Completion, ok, stop, halt, out, Environment}

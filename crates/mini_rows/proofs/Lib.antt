@@ -126,6 +126,7 @@ pub mod ChoiceShapes
 mod ChoiceSpines
 pub mod ChoiceLawful
 mod KeptThis
+mod ReadFirst
 pub mod MemberRuns
 mod MemberKept
 pub mod SteadyKept

@@ -1,5 +1,5 @@
 -- What a row of members writes means the same where that is so which is known of the body, is built anew of the same parts, and is lighter.
-use Rattle.std.proofs.Common.{◌≡◌, ◌<◌, ℕ, suc, Bool, true, false, List, [], ◌∷◌, refl, sym, ap, subst, subst₂, ◌∙◌, inl, inr, arith}
+use Rattle.std.proofs.Common.{◌≡◌, ◌<◌, ℕ, suc, Bool, true, false, List, [], ◌∷◌, refl, sym, ap, subst₂, ◌∙◌, inl, inr, arith}
 use Rattle.std.specs.Prelude.{◌++◌, Option, Some, nat_eq}
 use Rattle.mini_model.specs.declared.kind.PropertyKind.{PropertyKind}
 use Rattle.mini_model.specs.declared.operator.AssignmentOperator.{AssignmentOperator}
@@ -10,25 +10,26 @@ use Rattle.mini_model.specs.declared.operator.LogicalOperator.{LogicalOperator}
 use Rattle.mini_model.specs.declared.operator.LogicalOperator.TheVariants.{Or, And, Coalesce}
 use Rattle.mini_model.specs.declared.place.Position.TheVariants.{Expr}
 use Rattle.mini_model.specs.declared.seat.Seat.{Seat}
-use Rattle.mini_model.specs.Tree.{Tree, Trees, none, ◌▸◌, identifier, logical, conditional, shape_of}
+use Rattle.mini_model.specs.declared.shape.Shape.TheVariants as shape
+use Rattle.mini_model.specs.Tree.{Tree, Trees, none, ◌▸◌, logical, conditional, shape_of}
 use Rattle.mini_model.specs.Paths.{append}
 use Rattle.mini_model.specs.Position.{left_operand_seat, conditional_level}
 use Rattle.mini_model.specs.Weight.{outline, outlines, weight}
 use Rattle.mini_accept.specs.WellShaped.{a_target, Slot, one, fits}
-use Rattle.mini_laws.specs.Bodies.{Around, Body, bodies, bodies_from, arrow_kind}
+use Rattle.mini_laws.specs.Bodies.{Around, below, bodies, bodies_from, arrow_kind}
 use Rattle.mini_laws.specs.Demand.{Demand}
 use Rattle.mini_laws.specs.DeclaredNames.{has_inner}
 use Rattle.mini_laws.specs.Naming.{summary}
 use Rattle.mini_laws.specs.Same.{Same}
 use Rattle.mini_laws.specs.State.{Environment}
 use Rattle.mini_laws.specs.Value.{nothing}
-use Rattle.mini_kept.specs.Frames.{Frame, frames, frames_from}
+use Rattle.mini_kept.specs.Frames.{frames, frames_from, property_below}
 use Rattle.mini_kept.specs.Without.{Assured, Steadies}
 use Rattle.mini_kept.proofs.Expressions.{expression, of_conditional, expression_taken, three_fit}
 use Rattle.mini_rows.specs.Arranged.{KeptAt, Vanishes}
 use Rattle.mini_rows.specs.Choices.{Key, Named, Spelled, Numbered, member_on, computing, deciding, keeps_parentheses}
-use Rattle.mini_rows.specs.Lists.{of_parts, sequence}
-use Rattle.mini_rows.specs.Members.{this, Object, OfThis, OfName, object, is_kept, is_left, MemberRow}
+use Rattle.mini_rows.specs.Lists.{sequence}
+use Rattle.mini_rows.specs.Members.{this, Object, OfThis, OfName, object, is_kept, are_left, is_ready, MemberRow}
 use Rattle.mini_rows.specs.Sketches.{Logical, Binary, Conditional, Sequence, Sketch, part, under, end, ◌▹◌, list, no_items, item, items}
 use Rattle.mini_rows.specs.Spellings.{binary, assignment}
 use Rattle.mini_rows.specs.Unused.{resolved}
@@ -38,7 +39,7 @@ use Rattle.mini_rows.proofs.ChoiceMembers.{member_value_same}
 use Rattle.mini_rows.proofs.ChoiceRuns.{conditional_tells, logical_tells, assignment_tells}
 use Rattle.mini_rows.proofs.ChoiceShapes.{choice_taken, of_two, of_member_assignment, member_assignment_fits}
 use Rattle.mini_rows.proofs.ChoiceWeights.{assignment_marks, member_heavy, computing_member_falls, chosen_member_falls, last_falls}
-use Rattle.mini_rows.proofs.MemberRuns.{LeftBy, remains, left_member, left_parts, this_value, this_remains, member_decides, last_decides, chosen}
+use Rattle.mini_rows.proofs.MemberRuns.{LeftBy, remains, left_member, left_parts, left_test, test_gone, this_value, member_decides, last_decides, chosen_told}
 use Rattle.mini_rows.proofs.SequenceEnds.{last_fits}
 use Rattle.mini_rows.proofs.SpellShapes.{a_logical, a_conditional, an_assignment, Formed}
 use Rattle.mini_rows.proofs.WriteMeaning.{same_there}
@@ -100,6 +101,18 @@ module _ {A : Type 0} (m m' m'' : List A) (e : m ≡ []) (e' : m' ≡ []) (e'' :
       ∙ (λ i. a ++ (nil_right b i ++ nil_right (nil_right c i) i))
       ∙ sym ((λ i. e'' i ++ ((a ++ (b ++ (c ++ []))) ++ [])) ∙ nil_right (a ++ (b ++ (c ++ []))) ∙ (λ i. a ++ (b ++ nil_right c i)))
 
+alone_goes : {A : Type 0} (xs ys : List A) → xs ≡ [] → xs ++ (ys ++ []) ≡ ys
+alone_goes xs ys e = (λ i. e i ++ (ys ++ [])) ∙ nil_right ys
+
+-- another last part
+bodies_at : (ps : Trees) (t u : Tree) (around : ℕ → Around) (i : ℕ) → ((i : ℕ) → bodies (around i) t ≡ bodies (around i) u) → bodies_from around i (append ps (t ▸ none)) ≡ bodies_from around i (append ps (u ▸ none))
+bodies_at none t u around i h = ap (λ xs. xs ++ []) (h i)
+bodies_at (p ▸ ps) t u around i h = ap (λ xs. bodies (around i) p ++ xs) (bodies_at ps t u around (suc i) h)
+
+frames_at : (ps : Trees) (t u : Tree) (kind : ℕ → Option PropertyKind) (i : ℕ) → ((i : ℕ) → frames (kind i) t ≡ frames (kind i) u) → frames_from kind i (append ps (t ▸ none)) ≡ frames_from kind i (append ps (u ▸ none))
+frames_at none t u kind i h = ap (λ xs. xs ++ []) (h i)
+frames_at (p ▸ ps) t u kind i h = ap (λ xs. frames (kind i) p ++ xs) (frames_at ps t u kind (suc i) h)
+
 -- ---- 38
 
 deciding_falls : (o : LogicalOperator) (s : Seat) (t : Tree) (j : Key) (b : Tree) → weight (Expr s) (assignment (deciding o) (member_on t j) b) < weight (Expr s) (logical o (member_on t j) (assignment Assign (member_on t j) b))
@@ -146,40 +159,32 @@ module _ (V : Assured) (s : Seat) (of : Object) (j : Key) (o : LogicalOperator) 
   in_order last = under Sequence (list (item (part 1) (items 0 (item last no_items))) ▹ end)
 
   last_bodies : (p : Tree) (ps : Trees) (b : Tree) (a : Around) → bodies a (sequence (p ▸ append ps (assignment Assign m b ▸ none))) ≡ bodies a (sequence (p ▸ append ps (b ▸ none)))
-  last_bodies p ps b a = ap (λ xs. (bodies _ p ++ xs) ++ []) (go ps _ _)
-    where
-      go : (ps : Trees) (around : ℕ → Around) (i : ℕ) → bodies_from around i (append ps (assignment Assign m b ▸ none)) ≡ bodies_from around i (append ps (b ▸ none))
-      go none around i = (λ k. (no_bodies of j _ k ++ (bodies _ b ++ [])) ++ []) ∙ nil_right (bodies _ b ++ [])
-      go (q ▸ qs) around i = ap (λ xs. bodies (around i) q ++ xs) (go qs around (suc i))
+  last_bodies p ps b a = ap (λ xs. xs ++ []) (bodies_at (p ▸ ps) (assignment Assign m b) b (below (below a shape.SequenceExpression none 0) shape.Listed none) 0 (λ i. alone_goes _ _ (no_bodies of j _)))
 
   last_frames : (p : Tree) (ps : Trees) (b : Tree) (k : Option PropertyKind) → frames k (sequence (p ▸ append ps (assignment Assign m b ▸ none))) ≡ frames k (sequence (p ▸ append ps (b ▸ none)))
-  last_frames p ps b k = ap (λ xs. (frames _ p ++ xs) ++ []) (go ps _ _)
-    where
-      go : (ps : Trees) (kind : ℕ → Option PropertyKind) (i : ℕ) → frames_from kind i (append ps (assignment Assign m b ▸ none)) ≡ frames_from kind i (append ps (b ▸ none))
-      go none kind i = (λ k. (no_frames of j _ k ++ (frames _ b ++ [])) ++ []) ∙ nil_right (frames _ b ++ [])
-      go (q ▸ qs) kind i = ap (λ xs. frames (kind i) q ++ xs) (go qs kind (suc i))
+  last_frames p ps b k = ap (λ xs. xs ++ []) (frames_at (p ▸ ps) (assignment Assign m b) b (property_below shape.Listed) 0 (λ i. alone_goes _ _ (no_frames of j _)))
 
   -- the member before it goes
   before_goes : {A : Type 0} (xs ys zs ws : List A) → xs ≡ [] → ws ≡ [] → ys ≡ zs → xs ++ (ys ++ []) ≡ ws ++ (zs ++ [])
   before_goes xs ys zs ws e f g = (λ i. e i ++ (g i ++ [])) ∙ sym (λ i. f i ++ (zs ++ []))
 
-  last_keeps : (p : Tree) (ps : Trees) (b : Tree) → is_left of (of_parts p ps) ≡ true → keeps_parentheses o s ≡ true → Keeps V s (logical o m (sequence (p ▸ append ps (assignment Assign m b ▸ none)))) (assignment (deciding o) m (sequence (p ▸ append ps (b ▸ none))))
+  last_keeps : (p : Tree) (ps : Trees) (b : Tree) → are_left of (p ▸ ps) ≡ true → keeps_parentheses o s ≡ true → Keeps V s (logical o m (sequence (p ▸ append ps (assignment Assign m b ▸ none)))) (assignment (deciding o) m (sequence (p ▸ append ps (b ▸ none))))
   last_keeps p ps b left seated =
       let w = sequence (p ▸ append ps (assignment Assign m b ▸ none)) in
       let v = sequence (p ▸ append ps (b ▸ none)) in record {
-        same = λ e z q. same_there e (logical o m w) (assignment (deciding o) m v) (logical_tells o m w) (assignment_tells (deciding o) m v) (last_decides e (object of) (LeftBy of) (remains V e z of known) j (left_member of j) o p ps (left_parts of (of_parts p ps) left) b) q;
+        same = λ e z q. same_there e (logical o m w) (assignment (deciding o) m v) (logical_tells o m w) (assignment_tells (deciding o) m v) (last_decides e (object of) (LeftBy of) (remains V e z of known) j (left_member of j) o p ps (left_parts of p ps left) b) q;
         kept = retargeted_tree (deciding o) m v (member_reads (object of) j) s (logical o m w) (expressions_arranged_freely first_dropped (record { trees = m ▸ p ▸ b ▸ none; lists = ps ∷ [] }) (tt, tt, (vanishes of j, tt)) (under (Logical o) (part 0 ▹ in_order (assigns_first (part 2)) ▹ end)) (assigns_first (in_order (part 2))) refl s (logical o m w) (assignment Assign m v) refl refl);
         formed = decided_formed w v;
         fit = decided_fits w v (λ strict e. last_fits strict p ps (assignment Assign m b) e b (λ f. (of_member_assignment strict (object of) j b f).1));
-        bodies = λ a. before_goes _ _ _ _ (no_bodies of j _) (no_bodies of j _) (last_bodies p ps b _);
-        frames = λ k. before_goes _ _ _ _ (no_frames of j _) (no_frames of j _) (last_frames p ps b _);
+        bodies = λ a. before_goes _ _ _ _ (no_bodies of j _) (no_bodies of j _) (last_bodies p ps b (below a (shape.LogicalExpression o) none 1));
+        frames = λ k. before_goes _ _ _ _ (no_frames of j _) (no_frames of j _) (last_frames p ps b (property_below (shape.LogicalExpression o) 1));
         lighter = last_falls o s m p ps b seated (λ q. member_heavy q (object of) j);
         read = refl;
         kind = refl;
         outlined = refl;
       }
 
--- ---- 35 and 45 of `this`
+-- ---- 35 of `this`
 
 module _ (V : Assured) (s : Seat) (j : Key) (known : V.has_this ≡ true) where
   abbrev this_member : Tree
@@ -203,22 +208,28 @@ module _ (V : Assured) (s : Seat) (j : Key) (known : V.has_this ≡ true) where
         outlined = refl;
       }
 
-  choosing_keeps : (a b c : Tree) → nat_eq s.level conditional_level ≡ false → Keeps V s (conditional a (assignment Assign this_member b) (assignment Assign this_member c)) (assignment Assign this_member (conditional a b c))
-  choosing_keeps a b c seated =
-      let yes = assignment Assign this_member b in
-      let no = assignment Assign this_member c in
+-- ---- 45
+
+module _ (V : Assured) (s : Seat) (of : Object) (j : Key) (known : is_kept V of ≡ true) where
+  abbrev target : Tree
+  target = member_on (object of) j
+
+  choosing_keeps : (a b c : Tree) → is_ready of a ≡ true → nat_eq s.level conditional_level ≡ false → Keeps V s (conditional a (assignment Assign target b) (assignment Assign target c)) (assignment Assign target (conditional a b c))
+  choosing_keeps a b c ready seated =
+      let yes = assignment Assign target b in
+      let no = assignment Assign target c in
       let n = conditional a yes no in
-      let w = assignment Assign this_member (conditional a b c) in record {
-        same = λ e z q. same_there e n w (conditional_tells a yes no) (assignment_tells Assign this_member (conditional a b c)) (λ y. chosen e this (λ q n. Unit {0}) (this_remains e (z.has_this known)) j a b c tt y y.self (this_value e (z.has_this known) y)) q;
-        kept = expressions_arranged_freely first_dropped (record { trees = this_member ▸ a ▸ b ▸ c ▸ none; lists = [] }) (tt, tt, (vanishes OfThis j, tt)) (under Conditional (part 1 ▹ assigns_first (part 2) ▹ assigns_first (part 3) ▹ end)) (assigns_first (under Conditional (part 1 ▹ part 2 ▹ part 3 ▹ end))) refl s n w refl refl;
-        formed = record { first = a_conditional; second = an_assignment Assign; parts = a ▸ yes ▸ no ▸ none; others = this_member ▸ conditional a b c ▸ none; read = refl; made = refl; optional = λ x. absurd (cc x) };
+      let w = assignment Assign target (conditional a b c) in record {
+        same = λ e z q. same_there e n w (conditional_tells a yes no) (assignment_tells Assign target (conditional a b c)) (λ y. chosen_told e (object of) (LeftBy of) (remains V e z of known) j a b c (left_test of a ready) y (test_gone V e z of known a ready y)) q;
+        kept = expressions_arranged_freely first_dropped (record { trees = target ▸ a ▸ b ▸ c ▸ none; lists = [] }) (tt, tt, (vanishes of j, tt)) (under Conditional (part 1 ▹ assigns_first (part 2) ▹ assigns_first (part 3) ▹ end)) (assigns_first (under Conditional (part 1 ▹ part 2 ▹ part 3 ▹ end))) refl s n w refl refl;
+        formed = record { first = a_conditional; second = an_assignment Assign; parts = a ▸ yes ▸ no ▸ none; others = target ▸ conditional a b c ▸ none; read = refl; made = refl; optional = λ x. absurd (cc x) };
         fit = λ strict d e.
             let (here, (test, first, second)) = of_conditional strict d a yes no e in
-            let (target, b') = of_member_assignment strict this j b first in
-            expression_taken strict d w here (member_assignment_fits strict Assign this j (conditional a b c) target (three_fit strict a b c test b' (of_member_assignment strict this j c second).1));
-        bodies = λ x. two_go _ _ _ (no_bodies OfThis j _) (no_bodies OfThis j _) (no_bodies OfThis j _) (bodies _ a) (bodies _ b) (bodies _ c);
-        frames = λ k. two_go _ _ _ (no_frames OfThis j _) (no_frames OfThis j _) (no_frames OfThis j _) (frames _ a) (frames _ b) (frames _ c);
-        lighter = chosen_member_falls s seated a this j b c;
+            let (target, b') = of_member_assignment strict (object of) j b first in
+            expression_taken strict d w here (member_assignment_fits strict Assign (object of) j (conditional a b c) target (three_fit strict a b c test b' (of_member_assignment strict (object of) j c second).1));
+        bodies = λ x. two_go _ _ _ (no_bodies of j _) (no_bodies of j _) (no_bodies of j _) (bodies _ a) (bodies _ b) (bodies _ c);
+        frames = λ k. two_go _ _ _ (no_frames of j _) (no_frames of j _) (no_frames of j _) (frames _ a) (frames _ b) (frames _ c);
+        lighter = chosen_member_falls s seated a (object of) j b c;
         read = refl;
         kind = refl;
         outlined = refl;
@@ -230,4 +241,4 @@ pub keeps : (V : Assured) (s : Seat) (n w : Tree) → MemberRow V s n w → Keep
 keeps V s n w (inl r) = subst₂ (Keeps V s) (sym r.shape) (sym r.written) (deciding_keeps V s r.of r.key r.operator r.kept r.b)
 keeps V s n w (inr (inl r)) = subst₂ (Keeps V s) (sym r.shape) (sym r.written) (last_keeps V s r.of r.key r.operator r.kept r.first r.others r.b r.left r.seated)
 keeps V s n w (inr (inr (inl r))) = subst₂ (Keeps V s) (sym r.shape) (sym r.written) (computing_keeps V s r.key r.kept r.operator r.combined r.b r.computes)
-keeps V s n w (inr (inr (inr r))) = subst₂ (Keeps V s) (sym r.shape) (sym r.written) (choosing_keeps V s r.key r.kept r.a r.b r.c r.seated)
+keeps V s n w (inr (inr (inr r))) = subst₂ (Keeps V s) (sym r.shape) (sym r.written) (choosing_keeps V s r.of r.key r.kept r.a r.b r.c r.ready r.seated)

@@ -1,6 +1,6 @@
 -- What members of an object do whose value stays as it is: it may be evaluated once, and the write comes last.
 use Rattle.std.proofs.Common.{◌≡◌, ℕ, List, Bool, true, false, refl, sym, ap, ◌∙◌, inl, inr}
-use Rattle.std.specs.Prelude.{◌&&◌, not}
+use Rattle.std.specs.Prelude.{◌&&◌, ◌||◌, not}
 use Rattle.std.proofs.lemmas.Bool.{and_parts}
 use Rattle.mini_model.specs.declared.name.Name.{Name}
 use Rattle.mini_model.specs.declared.operator.AssignmentOperator.{AssignmentOperator}
@@ -9,21 +9,23 @@ use Rattle.mini_model.specs.declared.operator.LogicalOperator.{LogicalOperator}
 use Rattle.mini_model.specs.declared.operator.LogicalOperator.TheVariants.{Or, And, Coalesce}
 use Rattle.mini_model.specs.Tree.{Tree, Trees, none, ◌▸◌, identifier, logical, conditional}
 use Rattle.mini_model.specs.Paths.{append}
-use Rattle.mini_laws.specs.Value.{Value, Variable, Declared, Slot, choose, truth}
+use Rattle.mini_laws.specs.Value.{Value, Declared, choose, truth}
 use Rattle.mini_laws.specs.State.{State, Completion, ok, stop, halt, out, either, Environment}
-use Rattle.mini_laws.specs.Demand.{Demand, As, Val, Unused, Target, Prepare, Fetch, Request}
+use Rattle.mini_laws.specs.Demand.{Want, Demand, As, Val, Unused, Target, Prepare, Fetch, Request}
 use Rattle.mini_laws.specs.Command.{ret, kid, then, bind, read_slot, this_of, act, run}
 use Rattle.mini_laws.specs.Replies.{reply}
 use Rattle.mini_laws.specs.Steady.{Spares, KeepsSlot}
 use Rattle.mini_laws.specs.Step.{step, means, meaning}
+use Rattle.mini_laws.specs.Truth.{told}
 use Rattle.mini_laws.specs.Targets.{assigns, AssignDemand, put_target, after_read}
 use Rattle.mini_laws.proofs.Runs.{either_cong, either_assoc, either_ok}
 use Rattle.mini_laws.proofs.Sparing.{steady}
+use Rattle.mini_laws.proofs.Truth.{coherent}
 use Rattle.mini_kept.specs.Without.{Assured, Steadies}
 use Rattle.mini_rows.specs.Choices.{Key, Named, Spelled, Numbered, member_on, deciding}
 use Rattle.mini_rows.specs.Lists.{of_parts, sequence}
-use Rattle.mini_rows.specs.Members.{this, Object, OfThis, OfName, object, is_kept, is_left}
-use Rattle.mini_rows.specs.Past.{binds, writes}
+use Rattle.mini_rows.specs.Members.{this, Object, OfThis, OfName, object, is_kept, are_left, begins_at, is_ready}
+use Rattle.mini_rows.specs.Past.{binds, any_bind, writes, any_write}
 use Rattle.mini_rows.specs.Spellings.{assignment}
 use Rattle.mini_rows.specs.Unused.{resolved}
 use Rattle.mini_rows.proofs.ChainRuns.{next}
@@ -33,6 +35,7 @@ use Rattle.mini_rows.proofs.ChoiceMembers.{at, prepared, fetch, put, member_valu
 use Rattle.mini_rows.proofs.ChoiceRuns.{value, Reading, reading, by_told, logical_value, conditional_value}
 use Rattle.mini_rows.proofs.KeptThis.{KeepsThis, this_kept}
 use Rattle.mini_rows.proofs.PastSpared.{left_alone}
+use Rattle.mini_rows.proofs.ReadFirst.{first_gone}
 use Rattle.mini_rows.proofs.WriteMeaning.{holds_read, read_value}
 
 -- ---- an assignment that decides, of a member
@@ -133,6 +136,18 @@ module _ (e : Environment) (t : Tree) (Left : Demand → Tree → Type 0) (o : R
       ∙ sym (ap (puts e t j b v) (conditional_value e a b c s) ∙ either_assoc (value e a s) (λ u z. choose (truth u) (value e b z) (value e c z)) (λ x z. stop x z) _ _)
       ∙ sym (put_then (conditional a b c) v s r)
 
+  -- and where it has none, if the test leaves the model, too
+  pub chosen_told : (a b c : Tree) → Left (As Val) a → (s : State) → (value e t s ≡ out → value e a s ≡ out) → value e (conditional a (assignment Assign target b) (assignment Assign target c)) s ≡ value e (assignment Assign target (conditional a b c)) s
+  unfolding either
+  chosen_told a b c i s f = go (o.told s)
+    where
+      go : Reading (value e t s) s → value e (conditional a (assignment Assign target b) (assignment Assign target c)) s ≡ value e (assignment Assign target (conditional a b c)) s
+      go (inl h) =
+          conditional_value e a (assignment Assign target b) (assignment Assign target c) s
+          ∙ ap (λ y. either y (λ u z. choose (truth u) (value e (assignment Assign target b) z) (value e (assignment Assign target c) z)) (λ x z. stop x z)) (f h)
+          ∙ sym (assigned_value e t j (conditional a b c) s ∙ ap (λ y. next y (λ v z. next (value e (conditional a b c) z) (λ u y. put e t j v u y))) h)
+      go (inr (v, r)) = chosen a b c i s v r
+
 -- ---- a name that no answer changes
 
 module _ (e : Environment) (spelling : List ℕ) (k : ℕ) (still : e.foreign (Declared k) ≡ false) where
@@ -206,8 +221,48 @@ not_so : (b : Bool) → not b ≡ true → b ≡ false
 not_so true e = absurd (cc e)
 not_so false e = refl
 
-pub left_parts : (of : Object) (t : Tree) → is_left of t ≡ true → LeftBy of (As Unused) t
-left_parts OfThis t h = tt
-left_parts (OfName spelling k) t h =
-    let (b, w) = and_parts (not (binds k t)) (not (writes (resolved spelling k) t)) h in
-    left_alone (resolved spelling k) k refl t (not_so (binds k t) b) (not_so (writes (resolved spelling k) t) w) (As Unused) tt
+-- of a name, what neither declares nor writes it
+record Unwritten (spelling : List ℕ) (k : ℕ) (ts : Trees) : Type 0 where
+  unbound : any_bind k ts ≡ false
+  unwritten : any_write (resolved spelling k) ts ≡ false
+
+neither : (b c : Bool) → b ≡ false → c ≡ false → (b || c) ≡ false
+neither b c e f = (λ i. e i || f i)
+
+unwritten : (spelling : List ℕ) (k : ℕ) (ts : Trees) → are_left (OfName spelling k) ts ≡ true → Unwritten spelling k ts
+unwritten spelling k none h = record { unbound = refl; unwritten = refl }
+unwritten spelling k (t ▸ ts) h =
+    let x : Name = resolved spelling k in
+    let (here, rest) = and_parts (not (binds k t) && not (writes x t)) (are_left (OfName spelling k) ts) h in
+    let (b, w) = and_parts (not (binds k t)) (not (writes x t)) here in
+    let u = unwritten spelling k ts rest in
+    record { unbound = neither (binds k t) (any_bind k ts) (not_so (binds k t) b) u.unbound; unwritten = neither (writes x t) (any_write x ts) (not_so (writes x t) w) u.unwritten }
+
+pub left_parts : (of : Object) (p : Tree) (ps : Trees) → are_left of (p ▸ ps) ≡ true → LeftBy of (As Unused) (of_parts p ps)
+left_parts OfThis p ps h = tt
+left_parts (OfName spelling k) p none h =
+    let (b, w) = and_parts (not (binds k p)) (not (writes (resolved spelling k) p)) (and_parts (not (binds k p) && not (writes (resolved spelling k) p)) true h).0 in
+    left_alone (resolved spelling k) k refl p (not_so (binds k p) b) (not_so (writes (resolved spelling k) p) w) (As Unused) tt
+left_parts (OfName spelling k) p (q ▸ qs) h =
+    let u = unwritten spelling k (p ▸ q ▸ qs) h in
+    left_alone (resolved spelling k) k refl (sequence (p ▸ q ▸ qs)) (ap (λ b. b || false) u.unbound) (ap (λ b. b || false) u.unwritten) (As Unused) tt
+
+-- of a test before which the object may be evaluated
+pub left_test : (of : Object) (a : Tree) → is_ready of a ≡ true → LeftBy of (As Val) a
+left_test OfThis a h = tt
+left_test (OfName spelling k) a h =
+    let x : Name = resolved spelling k in
+    let (first, rest) = and_parts (begins_at (identifier x) a) (not (binds k a) && not (writes x a)) h in
+    let (b, w) = and_parts (not (binds k a)) (not (writes x a)) rest in
+    left_alone x k refl a (not_so (binds k a) b) (not_so (writes x a) w) (As Val) tt
+
+told_out : (w : Want) → told w out ≡ out
+unfolding told either
+told_out w = refl
+
+pub test_gone : (V : Assured) (e : Environment) → Steadies V e → (of : Object) → is_kept V of ≡ true → (a : Tree) → is_ready of a ≡ true → (s : State) → value e (object of) s ≡ out → value e a s ≡ out
+test_gone V e z OfThis k a h s p = absurd (cc (sym (this_value e (z.has_this k) s) ∙ p))
+test_gone V e z (OfName spelling symbol) k a h s p =
+    let x : Name = resolved spelling symbol in
+    let (first, rest) = and_parts (begins_at (identifier x) a) (not (binds symbol a) && not (writes x a)) h in
+    first_gone e (identifier x) s (λ w. coherent (identifier x) w e s ∙ ap (told w) p ∙ told_out w) a first Val

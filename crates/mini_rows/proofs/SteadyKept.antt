@@ -18,7 +18,6 @@ use Rattle.mini_kept.specs.Without.{Assured}
 use Rattle.mini_kept.proofs.BodyLists.{kept_itself}
 use Rattle.mini_kept.proofs.FrameLists.{same_frames}
 use Rattle.mini_rows.specs.Arranged.{KeptAt}
-use Rattle.mini_rows.specs.Members.{MemberRow}
 use Rattle.mini_rows.specs.Steady.{SteadyRow, KeepsOwn, SteadyMeansSame, SteadyLightens}
 use Rattle.mini_rows.proofs.FadingSteps.{same_fades}
 use Rattle.mini_rows.proofs.MemberKept.{Keeps, keeps}

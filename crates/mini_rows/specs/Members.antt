@@ -5,18 +5,21 @@ use Rattle.mini_model.specs.declared.operator.AssignmentOperator.{AssignmentOper
 use Rattle.mini_model.specs.declared.operator.AssignmentOperator.TheVariants.{Assign}
 use Rattle.mini_model.specs.declared.operator.BinaryOperator.{BinaryOperator}
 use Rattle.mini_model.specs.declared.operator.LogicalOperator.{LogicalOperator}
+use Rattle.mini_model.specs.declared.operator.UnaryOperator.TheVariants.{LogicalNot, UnaryPlus, UnaryNegation, BitwiseNot, Void}
 use Rattle.mini_model.specs.declared.seat.Seat.{Seat}
+use Rattle.mini_model.specs.declared.shape.Shape.{Shape}
 use Rattle.mini_model.specs.declared.shape.Shape.TheVariants as shape
-use Rattle.mini_model.specs.Tree.{Tree, Trees, leaf, none, ◌▸◌, identifier, logical, conditional}
+use Rattle.mini_model.specs.Tree.{Tree, Trees, node, leaf, none, ◌▸◌, identifier, logical, conditional}
 use Rattle.mini_model.specs.Paths.{append}
 use Rattle.mini_model.specs.Position.{conditional_level}
 use Rattle.mini_laws.specs.Value.{Declared}
 use Rattle.mini_kept.specs.Without.{Assured}
+use Rattle.mini_node.specs.Equal.{same_tree}
 use Rattle.mini_rows.specs.Choices.{Key, member_on, computing, deciding, keeps_parentheses}
-use Rattle.mini_rows.specs.Lists.{of_parts, sequence}
+use Rattle.mini_rows.specs.Lists.{sequence}
 use Rattle.mini_rows.specs.Past.{leaves}
 use Rattle.mini_rows.specs.Spellings.{binary, assignment}
-use Rattle.mini_rows.specs.Unused.{resolved}
+use Rattle.mini_rows.specs.Unused.{resolved, is_childless}
 
 -- `this`
 abbrev pub this : Tree
@@ -42,6 +45,10 @@ abbrev pub is_left : Object → Tree → Bool
 is_left OfThis t = true
 is_left (OfName spelling symbol) t = leaves t (resolved spelling symbol) symbol
 
+abbrev pub are_left : Object → Trees → Bool
+are_left of none = true
+are_left of (t ▸ ts) = is_left of t && are_left of ts
+
 -- 38: `x.k || (x.k = b)` becomes `x.k ||= b`, and so of `&&` and `??`, and of `this.k`: the object is evaluated again after the property, whose
 -- getter may run any code
 pub record Row38Member (V : Assured) (n w : Tree) : Type 0 where
@@ -62,7 +69,7 @@ pub record Row38MemberLast (V : Assured) (s : Seat) (n w : Tree) : Type 0 where
   pub others : Trees
   pub b : Tree
   pub kept : is_kept V of ≡ true
-  pub left : is_left of (of_parts first others) ≡ true
+  pub left : are_left of (first ▸ others) ≡ true
   pub seated : keeps_parentheses operator s ≡ true
   pub shape : n ≡ logical operator (member_on (object of) key) (sequence (first ▸ append others (assignment Assign (member_on (object of) key) b ▸ none)))
   pub written : w ≡ assignment (deciding operator) (member_on (object of) key) (sequence (first ▸ append others (b ▸ none)))
@@ -78,17 +85,53 @@ pub record Row35This (V : Assured) (n w : Tree) : Type 0 where
   pub shape : n ≡ assignment Assign (member_on this key) (binary operator (member_on this key) b)
   pub written : w ≡ assignment combined (member_on this key) b
 
--- 45: `a ? this.k = b : this.k = c` becomes `this.k = a ? b : c`, whatever a does
-pub record Row45This (V : Assured) (s : Seat) (n w : Tree) : Type 0 where
+-- what evaluates its first part before all else, and leaves the model where that does; of a name that is called by itself it isn't said
+abbrev pub opens : Shape → Bool → Bool
+opens (shape.UnaryExpression LogicalNot) is_leaf = true
+opens (shape.UnaryExpression UnaryPlus) is_leaf = true
+opens (shape.UnaryExpression UnaryNegation) is_leaf = true
+opens (shape.UnaryExpression BitwiseNot) is_leaf = true
+opens (shape.UnaryExpression Void) is_leaf = true
+opens (shape.BinaryExpression o) is_leaf = true
+opens (shape.LogicalExpression o) is_leaf = true
+opens shape.ConditionalExpression is_leaf = true
+opens (shape.CallExpression is_optional) is_leaf = not is_leaf
+opens shape.NewExpression is_leaf = true
+opens (shape.StaticMemberExpression is_optional) is_leaf = true
+opens (shape.ComputedMemberExpression is_optional) is_leaf = true
+opens shape.ChainExpression is_leaf = not is_leaf
+opens h is_leaf = false
+
+-- what is evaluated before all else in a tree is this leaf
+abbrev mutual
+  pub begins_at : Tree → Tree → Bool
+  begins_at o (node h ys n none) = same_tree o (node h ys n none)
+  begins_at o (node h ys n (t ▸ ts)) = begins_in o h (t ▸ ts)
+
+  pub begins_in : Tree → Shape → Trees → Bool
+  begins_in o h none = false
+  begins_in o h (t ▸ ts) = opens h (is_childless t) && begins_at o t
+
+-- the object may be evaluated before this, whatever it does: it is `this`, or a name that is left, and that is read first in it, so that it is
+-- initialised if anything is done
+abbrev pub is_ready : Object → Tree → Bool
+is_ready OfThis t = true
+is_ready (OfName spelling symbol) t = begins_at (identifier (resolved spelling symbol)) t && leaves t (resolved spelling symbol) symbol
+
+-- 45: `a ? this.k = b : this.k = c` becomes `this.k = a ? b : c`, whatever a does; and so of x.k, where a reads x first: `x.a ? x.k = b : x.k = c`
+-- becomes `x.k = x.a ? b : c`
+pub record Row45Kept (V : Assured) (s : Seat) (n w : Tree) : Type 0 where
   pub a : Tree
+  pub of : Object
   pub key : Key
   pub b : Tree
   pub c : Tree
-  pub kept : V.has_this ≡ true
+  pub kept : is_kept V of ≡ true
+  pub ready : is_ready of a ≡ true
   pub seated : nat_eq s.level conditional_level ≡ false
-  pub shape : n ≡ conditional a (assignment Assign (member_on this key) b) (assignment Assign (member_on this key) c)
-  pub written : w ≡ assignment Assign (member_on this key) (conditional a b c)
+  pub shape : n ≡ conditional a (assignment Assign (member_on (object of) key) b) (assignment Assign (member_on (object of) key) c)
+  pub written : w ≡ assignment Assign (member_on (object of) key) (conditional a b c)
 
 -- a row reads n as w in this seat
 abbrev pub MemberRow : Assured → Seat → Tree → Tree → Type 0
-MemberRow V s n w = Row38Member V n w ⊎ (Row38MemberLast V s n w ⊎ (Row35This V n w ⊎ Row45This V s n w))
+MemberRow V s n w = Row38Member V n w ⊎ (Row38MemberLast V s n w ⊎ (Row35This V n w ⊎ Row45Kept V s n w))

@@ -12,7 +12,7 @@ use Rattle.mini_laws.specs.Demand.{Demand}
 use Rattle.mini_laws.specs.Fits.{Fits}
 use Rattle.mini_laws.specs.Same.{Same}
 use Rattle.mini_laws.specs.State.{Environment}
-use Rattle.mini_laws.specs.Value.{Variable, Declared, VariableSet, nothing}
+use Rattle.mini_laws.specs.Value.{Variable, VariableSet, nothing}
 use Rattle.mini_laws.specs.Naming.{summary}
 use Rattle.mini_laws.specs.Fixity.{fixed_by}
 use Rattle.mini_laws.specs.Bodies.{Around, bodies, arrow_kind}

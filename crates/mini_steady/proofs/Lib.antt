@@ -1,3 +1,6 @@
+pub mod BoundNames
+pub mod Written
+pub mod LeftParts
 pub mod MemberRows
 pub mod Owning
 pub mod FunctionSteps

@@ -1,5 +1,5 @@
 pub mod Chains
-pub mod MinimizeSteadyLogicalExpression
+pub mod Leaving
 pub mod Own
 pub mod Members
 pub mod Functions

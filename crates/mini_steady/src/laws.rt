@@ -1,12 +1,12 @@
 //! What the rewrites write, and the rows; and what is told of bodies.
 
 ghost use Rattle.mini_steady.specs.Stays.{ToldStays};
-ghost use Rattle.mini_steady.specs.MinimizeSteadyLogicalExpression.{SteadyIsRow, UnwrittenSteadyRests};
+ghost use Rattle.mini_steady.specs.Members.{MembersAreRows, UnwrittenMembersRest};
 
-/// What 38 of members writes over any set of steady names is what its row says; where it writes nothing the row doesn't read the expression.
-pub fn steady_members_are_rows()
-    ensures written { SteadyIsRow }
-    ensures unwritten { UnwrittenSteadyRests }
+/// What is written of members is what a row says, whatever is known of the body; where nothing is written no row reads the expression.
+pub fn members_are_rows()
+    ensures written { MembersAreRows }
+    ensures unwritten { UnwrittenMembersRest }
 {}
 
 /// What a context told of the program that it knew it tells of the next, if a second look says that all stays.

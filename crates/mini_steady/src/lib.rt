@@ -3,19 +3,24 @@
 #![tactic(auto)]
 
 mod arrows;
+mod bindings;
 mod functions;
 mod laws;
+mod leaving;
 mod members;
 mod own;
 mod programs;
 mod rule;
 mod steady;
+mod writing;
 
 pub use arrows::minimize_in_arrow;
+pub use bindings::{any_bind, binds};
 pub use functions::minimize_in_function;
-pub use laws::{steady_members_are_rows, told_stays};
-pub use members::{SteadyMembers, minimize_steady_logical_expression};
+pub use laws::{members_are_rows, told_stays};
+pub use members::{SteadyMembers, minimize_members};
 pub use own::{OwnRewrites, minimize_own_code};
 pub use programs::minimize_in_program;
 pub use rule::{InArrows, InFunctions, InPrograms, SteadyContext};
 pub use steady::SteadyNames;
+pub use writing::writes;

@@ -1,19 +1,28 @@
-//! Row 38 of members: `x.k || (x.k = b)` becomes `x.k ||= b`, and so of `&&` and `??`, where x is steady in the body around it. It is
-//! lighter in every seat.
+//! Rows 35, 38 and 45 of members of what keeps its value while a body runs, `this` or a name that is steady: `x.k || (x.k = b)` becomes
+//! `x.k ||= b`, `x.k || (a, x.k = b)` `x.k ||= (a, b)`, `this.k = this.k + b` `this.k += b`, and `a ? this.k = b : this.k = c`
+//! `this.k = a ? b : c`, and so of x.k, where a reads x first. Each is lighter in every seat.
 
-ghost use Rattle.std.specs.Prelude.{◌≡◌, is_some, unwrap_or, OnOk, IfOk};
-ghost use Rattle.mini_rows.specs.Steady.{SteadyRow};
+ghost use Rattle.std.specs.Prelude.{◌≡◌, ◌<◌, true, is_some, unwrap_or, OnOk, IfOk};
+ghost use Rattle.mini_model.specs.Tree.{children, count};
+ghost use Rattle.mini_node.specs.Children.{names};
+ghost use Rattle.mini_choices.specs.MinimizeLogicalSequence.{parts_of};
+ghost use Rattle.mini_steady.specs.Members as row;
 ghost use Rattle.mini_rows.proofs.SteadyKept.{steady_own};
-ghost use Rattle.mini_node.specs.Children.{names, part};
-ghost use Rattle.mini_steady.specs.MinimizeSteadyLogicalExpression as row;
-ghost use Rattle.mini_steady.specs.MinimizeSteadyLogicalExpression.{written};
-ghost use Rattle.mini_steady.specs.Members.{members_open};
+ghost use Rattle.mini_rows.specs.Steady.{SteadyRow};
+ghost use Rattle.mini_steady.specs.Members.{members_open, written};
 
+use crate::leaving::{is_ready_before, is_this, leave_before};
 use crate::own::OwnRewrites;
 use crate::steady::SteadyNames;
-use mini_choices::{assigns_plainly, deciding, is_same_member};
-use mini_model::{LogicalOperator, Name, OutOfMemory, Position};
-use mini_node::{Node, assignment, discard, logical_operator, taken, two};
+use mini_choices::{
+    are_several, assigned, assigns_plainly, combined, computing, decided, decided_last,
+    has_written_key, is_seated, keeps_parentheses, last_place,
+};
+use mini_model::{AssignmentOperator, LogicalOperator, Name, OutOfMemory, Position, Seat};
+use mini_node::{
+    Node, Nodes, binary_operator, is_conditional, is_identifier, is_same_tree, is_sequence,
+    logical_operator, taken,
+};
 use std::alloc::Global;
 
 // Whether a scope declares the name, and it is steady in the body with this number.
@@ -29,58 +38,197 @@ fn is_steady<S: SteadyNames>(name: &Option<Name>, body: u32, steady: &S) -> bool
     }
 }
 
-// `x.k = b`, where the member is this one, and x is steady.
-fn assigns_member<S: SteadyNames>(left: &Node, right: &Node, body: u32, steady: &S) -> bool
-    ensures { result ≡ row.assigns_member (S.sets steady.now body).steady left.now right.now }
+// `this` for which the world isn't asked, or a name that is steady.
+fn is_kept_object<S: SteadyNames>(node: &Node, body: u32, steady: &S) -> bool
+    ensures { result ≡ row.is_kept_object (S.sets steady.now body) node.now }
 {
-    assigns_plainly(right)
-        && is_same_member(left, right.child(0))
-        && is_steady(left.child(0).name(), body, steady)
+    is_this(node) && steady.has_this(body)
+        || is_identifier(node) && is_steady(node.name(), body, steady)
 }
 
-// The operator of `x.k || (x.k = b)`.
-fn deciding_operator<S: SteadyNames>(node: &Node, body: u32, steady: &S) -> Option<LogicalOperator>
-    ensures { result ≡ row.deciding_operator (S.sets steady.now body).steady node.now }
+// A member of one, with a key that is written out.
+fn is_kept_member<S: SteadyNames>(node: &Node, body: u32, steady: &S) -> bool
+    ensures kind { result ≡ row.is_kept_member (S.sets steady.now body) node.now }
+    ensures parts { result ≡ true → count (children node.now) ≡ 2 }
+{
+    has_written_key(node) && is_kept_object(node.child(0), body, steady)
+}
+
+// A member of `this` with such a key.
+fn is_this_member<S: SteadyNames>(node: &Node, body: u32, steady: &S) -> bool
+    ensures { result ≡ row.is_this_member (S.sets steady.now body) node.now }
+{
+    has_written_key(node) && is_this(node.child(0)) && steady.has_this(body)
+}
+
+// `x.k = b`, where the member is this one.
+fn assigns_kept<S: SteadyNames>(member: &Node, node: &Node, body: u32, steady: &S) -> bool
+    ensures kind { result ≡ row.assigns_kept (S.sets steady.now body) member.now node.now }
+    ensures parts { result ≡ true → count (children member.now) ≡ 2 }
+{
+    assigns_plainly(node)
+        && is_same_tree(member, node.child(0))
+        && is_kept_member(member, body, steady)
+}
+
+// `x.k || (x.k = b)`
+fn decides_member<S: SteadyNames>(node: &Node, body: u32, steady: &S) -> bool
+    ensures { result ≡ row.decides_member (S.sets steady.now body) node.now }
 {
     match logical_operator(node) {
-        Some(operator) if assigns_member(node.child(0), node.child(1), body, steady) => {
-            Some(operator)
-        }
-        _ => None,
+        Some(_) => assigns_kept(node.child(0), node.child(1), body, steady),
+        None => false,
     }
+}
+
+// Its operator.
+fn operator_of(node: &Node) -> LogicalOperator
+    ensures { result ≡ row.operator_of node.now }
+{
+    logical_operator(node).unwrap_or(LogicalOperator::Or)
+}
+
+// Whether the last of the parts assigns to this member, and those before it leave its object.
+fn assigns_last<S: SteadyNames>(member: &Node, parts: &Nodes, body: u32, steady: &S) -> bool
+    ensures kind { result ≡ row.assigns_last (S.sets steady.now body) member.now parts.now }
+    ensures parts { result ≡ true → 0 < count parts.now }
+{
+    if !are_several(parts) {
+        return false;
+    }
+    let last = last_place(parts);
+    assigns_kept(member, parts.child(last), body, steady)
+        && leave_before(member.child(0), parts, last)
+}
+
+// `x.k || (a, x.k = b)`
+fn decides_last<S: SteadyNames>(node: &Node, seat: Seat, body: u32, steady: &S) -> bool
+    ensures kind { result ≡ row.decides_last (S.sets steady.now body) seat node.now }
+    ensures parts { result ≡ true → 0 < count (parts_of node.now) }
+{
+    match logical_operator(node) {
+        Some(operator) => {
+            keeps_parentheses(operator, seat)
+                && is_sequence(node.child(1))
+                && assigns_last(
+                    node.child(0),
+                    node.child(1).child(0).children(),
+                    body,
+                    steady,
+                )
+        }
+        None => false,
+    }
+}
+
+// The operator of the `this.k += b` that is written for `this.k = this.k + b`, if there is one.
+fn computing_operator(node: &Node) -> Option<AssignmentOperator>
+    ensures { result ≡ row.computing_operator node.now }
+{
+    match binary_operator(node) {
+        Some(operator) => computing(operator),
+        None => None,
+    }
+}
+
+// `this.k = this.k + b`
+fn computes_this<S: SteadyNames>(node: &Node, body: u32, steady: &S) -> bool
+    ensures kind { result ≡ row.computes_this (S.sets steady.now body) node.now }
+    ensures parts { result ≡ true → count (children node.now) ≡ 2 }
+{
+    if !assigns_plainly(node) {
+        return false;
+    }
+    match binary_operator(node.child(1)) {
+        Some(operator) => {
+            computing(operator).is_some()
+                && is_same_tree(node.child(0), node.child(1).child(0))
+                && is_this_member(node.child(0), body, steady)
+        }
+        None => false,
+    }
+}
+
+// Whether both are assignments to one member, whose object may be evaluated before the test.
+fn assigns_either<S: SteadyNames>(
+    test: &Node,
+    first: &Node,
+    second: &Node,
+    body: u32,
+    steady: &S,
+) -> bool
+    ensures { result ≡ row.assigns_either (S.sets steady.now body) test.now first.now second.now }
+{
+    assigns_plainly(first)
+        && assigns_plainly(second)
+        && is_same_tree(first.child(0), second.child(0))
+        && is_kept_member(first.child(0), body, steady)
+        && is_ready_before(first.child(0).child(0), test)
+}
+
+// `a ? this.k = b : this.k = c`, or `x.a ? x.k = b : x.k = c`
+fn chooses_member<S: SteadyNames>(node: &Node, seat: Seat, body: u32, steady: &S) -> bool
+    ensures { result ≡ row.chooses_member (S.sets steady.now body) seat node.now }
+{
+    is_seated(seat)
+        && is_conditional(node)
+        && assigns_either(node.child(0), node.child(1), node.child(2), body, steady)
 }
 
 // `x.k ||= b` of `x.k || (x.k = b)`
-fn decided(alloc: Global, operator: LogicalOperator, node: Node) -> Result<Node, OutOfMemory>
-    ensures { IfOk result (λ w. w ≡ row.decided operator (part node 1)) }
+fn decided_member(alloc: Global, node: Node) -> Result<Node, OutOfMemory>
+    ensures { IfOk result (λ w. w ≡ row.member_decided node) }
 {
-    let (left, right) = two(node);
-    discard(left);
-    let (target, value) = two(right);
-    assignment(alloc, deciding(operator), target, value)
+    decided(alloc, operator_of(&node), node)
 }
 
-/// `x.k || (x.k = b)` becomes `x.k ||= b`, and so of `&&` and `??`, where x is steady in the body with this number. The answer says
-/// whether it did; the only error is that memory runs out, and then the expression is fit only to be dropped.
-pub fn minimize_steady_logical_expression<S: SteadyNames>(
+// `x.k ||= (a, b)` of `x.k || (a, x.k = b)`
+fn decided_before(alloc: Global, node: Node) -> Result<Node, OutOfMemory>
+    requires { 0 < count (parts_of node) }
+    ensures { IfOk result (λ w. w ≡ row.last_decided node) }
+{
+    decided_last(alloc, operator_of(&node), node)
+}
+
+// `this.k += b` of `this.k = this.k + b`
+fn combined_member(alloc: Global, node: Node) -> Result<Node, OutOfMemory>
+    requires { count (children node) ≡ 2 }
+    ensures { IfOk result (λ w. w ≡ row.member_combined node) }
+{
+    let operator = computing_operator(node.child(1)).unwrap_or(AssignmentOperator::Assign);
+    combined(alloc, operator, node)
+}
+
+/// `x.k || (x.k = b)` becomes `x.k ||= b`, and so of `&&` and `??`, and of a sequence that ends in the assignment, where x is steady in the
+/// body with this number, or is `this`; `this.k = this.k + b` becomes `this.k += b`, and `a ? this.k = b : this.k = c`
+/// `this.k = a ? b : c`, and so of x.k, where a reads x first. The answer says whether it did; the only error is that memory runs out, and
+/// then the expression is fit only to be dropped.
+pub fn minimize_members<S: SteadyNames>(
     alloc: Global,
     node: &mut Node,
+    seat: Seat,
     body: u32,
     steady: &S,
 ) -> Result<bool, OutOfMemory>
-    ensures tree { OnOk result (node.new ≡ unwrap_or (written (S.sets steady.now body).steady node.old) node.old) }
-    ensures said { IfOk result (λ changed. changed ≡ is_some (written (S.sets steady.now body).steady node.old)) }
+    ensures tree { OnOk result (node.new ≡ unwrap_or (written (S.sets steady.now body) seat node.old) node.old) }
+    ensures said { IfOk result (λ changed. changed ≡ is_some (written (S.sets steady.now body) seat node.old)) }
 {
-    match deciding_operator(node, body, steady) {
-        Some(operator) => {
-            *node = decided(alloc, operator, taken(alloc, node))?;
-            Ok(true)
-        }
-        None => Ok(false),
-    }
+    let made = if decides_member(node, body, steady) {
+        decided_member(alloc, taken(alloc, node))?
+    } else if decides_last(node, seat, body, steady) {
+        decided_before(alloc, taken(alloc, node))?
+    } else if computes_this(node, body, steady) {
+        combined_member(alloc, taken(alloc, node))?
+    } else if chooses_member(node, seat, body, steady) {
+        assigned(alloc, taken(alloc, node))?
+    } else {
+        return Ok(false);
+    };
+    *node = made;
+    Ok(true)
 }
 
-/// Rows of steady names: 38 of members.
+/// Rows of members of what keeps its value: 35, 38 and 45.
 pub struct SteadyMembers;
 
 impl<S: SteadyNames> OwnRewrites<S> for SteadyMembers {
@@ -95,9 +243,7 @@ impl<S: SteadyNames> OwnRewrites<S> for SteadyMembers {
         steady: &S,
     ) -> Result<bool, OutOfMemory> {
         match place {
-            Position::Expr(_) => {
-                Ok(minimize_steady_logical_expression(alloc, node, body, steady)?)
-            }
+            Position::Expr(seat) => Ok(minimize_members(alloc, node, seat, body, steady)?),
             _ => Ok(false),
         }
     }

@@ -103,15 +103,15 @@ fn indexes_either(node: &Node) -> bool
         && has_no_effect(node.child(0))
 }
 
-// Whether an assignment stands there as a conditional does.
-fn is_seated(seat: Seat) -> bool
+/// Whether an assignment stands in the seat as a conditional does.
+pub fn is_seated(seat: Seat) -> bool
     ensures { result ≡ is_it_seated seat }
 {
     seat.level != CONDITIONAL_LEVEL
 }
 
-// `x = a ? b : c`, or `x += a ? b : c`
-fn assigned(alloc: Global, node: Node) -> Result<Node, OutOfMemory>
+/// `x = a ? b : c` of `a ? x = b : x = c`, and so of other operators and whatever is assigned to. The only error is that memory runs out.
+pub fn assigned(alloc: Global, node: Node) -> Result<Node, OutOfMemory>
     ensures { IfOk result (λ w. w ≡ assigned_of node) }
 {
     let (test, consequent, alternate) = three(node);

@@ -33,8 +33,8 @@ fn deciding_operator(node: &Node) -> Option<LogicalOperator>
     }
 }
 
-// `x ||= b` of `x || (x = b)`
-fn decided(alloc: Global, operator: LogicalOperator, node: Node) -> Result<Node, OutOfMemory>
+/// `x ||= b` of `x || (x = b)`, whatever is assigned to. The only error is that memory runs out.
+pub fn decided(alloc: Global, operator: LogicalOperator, node: Node) -> Result<Node, OutOfMemory>
     ensures { IfOk result (λ w. w ≡ decided_of operator (part node 1)) }
 {
     let (left, right) = two(node);

@@ -35,25 +35,25 @@ fn is_parenthesized(operator: LogicalOperator, seat: Seat) -> bool
     seats::level_of_operator(operator) < seat.level || mixes
 }
 
-// Whether an assignment has parentheses there only where the operator has them, too.
+/// Whether an assignment has parentheses in the seat only where the operator has them, too.
 #[tactic(auto, using(crate::proofs::LogicalSequence::kept_by))]
-fn keeps_parentheses(operator: LogicalOperator, seat: Seat) -> bool
+pub fn keeps_parentheses(operator: LogicalOperator, seat: Seat) -> bool
     ensures { result ≡ keeps_its_parentheses operator seat }
 {
     seat.level <= ASSIGNMENT_LEVEL || is_parenthesized(operator, seat)
 }
 
-// Whether there are two at least.
-fn are_several(nodes: &Nodes) -> bool
+/// Whether there are two at least.
+pub fn are_several(nodes: &Nodes) -> bool
     ensures kind { result ≡ are_there_several nodes.now }
     ensures parts { result ≡ true → 1 < count nodes.now }
 {
     nodes.len() > 1
 }
 
-// The place of the last.
+/// The place of the last.
 #[tactic(auto, using(crate::proofs::LogicalSequence::last_is))]
-fn last_place(nodes: &Nodes) -> usize
+pub fn last_place(nodes: &Nodes) -> usize
     requires { 0 < count nodes.now }
     ensures place { result ≡ its_last_place nodes.now }
     ensures within { result < count nodes.now }
@@ -102,8 +102,12 @@ fn put_value(alloc: Global, parts: &mut Nodes)
     discard(parts.replace(at, value));
 }
 
-// `x ||= (a, b)` of `x || (a, x = b)`
-fn decided(alloc: Global, operator: LogicalOperator, node: Node) -> Result<Node, OutOfMemory>
+/// `x ||= (a, b)` of `x || (a, x = b)`, whatever is assigned to. The only error is that memory runs out.
+pub fn decided_last(
+    alloc: Global,
+    operator: LogicalOperator,
+    node: Node,
+) -> Result<Node, OutOfMemory>
     requires { 0 < count (parts_of node) }
     ensures { IfOk result (λ w. w ≡ decided_of operator node) }
 {
@@ -126,7 +130,7 @@ pub fn minimize_logical_sequence(
 {
     match deciding_operator(node, seat) {
         Some(operator) => {
-            *node = decided(alloc, operator, taken(alloc, node))?;
+            *node = decided_last(alloc, operator, taken(alloc, node))?;
             Ok(true)
         }
         None => Ok(false),

@@ -10,8 +10,8 @@ use mini_model::{AssignmentOperator, BinaryOperator, OutOfMemory};
 use mini_node::{Node, assignment, binary_operator, discard, taken, two};
 use std::alloc::Global;
 
-// The operator of the assignment of what this one makes of the old value, if there is one.
-fn computing(operator: BinaryOperator) -> Option<AssignmentOperator>
+/// The operator of the assignment of what this one makes of the old value, if there is one.
+pub fn computing(operator: BinaryOperator) -> Option<AssignmentOperator>
     ensures { result ≡ computing_of operator }
 {
     match operator {
@@ -46,8 +46,12 @@ fn combined_operator(node: &Node) -> Option<AssignmentOperator>
     }
 }
 
-// `x += b`
-fn combined(alloc: Global, operator: AssignmentOperator, node: Node) -> Result<Node, OutOfMemory>
+/// `x += b` of `x = x + b`, whatever is assigned to. The only error is that memory runs out.
+pub fn combined(
+    alloc: Global,
+    operator: AssignmentOperator,
+    node: Node,
+) -> Result<Node, OutOfMemory>
     ensures { IfOk result (λ w. w ≡ combined_of operator node) }
 {
     let (target, value) = two(node);

@@ -4,9 +4,9 @@ use Rattle.mini_steady.specs.Own.{AppliedHere}
 use Rattle.mini_steady.proofs.MemberRows.{here_applied}
 use Rattle.mini_steady.proofs.members.SteadyMembersOwnRewrites.rewrite.Goals as goal
 
-pub returns-in_ok-minimize_steady_logical_expression-in-Expr : goal.returns-in_ok-minimize_steady_logical_expression-in-Expr
-returns-in_ok-minimize_steady_logical_expression-in-Expr g c =
-    let made = c.in_ok-minimize_steady_logical_expression-in-Expr in
+pub returns-in_ok-minimize_members-in-Expr : goal.returns-in_ok-minimize_members-in-Expr
+returns-in_ok-minimize_members-in-Expr g c =
+    let made = c.in_ok-minimize_members-in-Expr in
     let V = g.S.SteadyNames.sets c.args.steady.now c.args.body in
-    subst (λ p. AppliedHere (SteadyRow V) p c.args.node.now c.minimize_steady_logical_expression.new.node made.field-0) (sym c.in-Expr.is)
-    (here_applied V c.in-Expr.field-0 c.args.node.now c.minimize_steady_logical_expression.new.node made.field-0 made.ensures.tree made.ensures.said)
+    subst (λ p. AppliedHere (SteadyRow V) p c.args.node.now c.minimize_members.new.node made.field-0) (sym c.in-Expr.is)
+    (here_applied V c.in-Expr.field-0 c.args.node.now c.minimize_members.new.node made.field-0 made.ensures.tree made.ensures.said)

@@ -5,7 +5,7 @@ use Rattle.mini_model.specs.Tree.{Tree, Trees, node, count, child_or_absent, chi
 use Rattle.mini_node.specs.Children.{rest_children}
 use Rattle.mini_node.specs.Walks.{from_first, next_child, no_rest}
 use Rattle.mini_rows.specs.Past.{binds, any_bind}
-use Rattle.mini_past.specs.SubstitutePast.{declares}
+use Rattle.mini_steady.specs.Leaving.{declares}
 
 pub or_none : (b : Bool) → (b || false) ≡ b
 or_none true = refl

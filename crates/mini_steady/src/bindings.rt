@@ -3,7 +3,7 @@
 ghost use Rattle.std.specs.Prelude.{◌≡◌};
 ghost use Rattle.mini_node.specs.Children.{names};
 ghost use Rattle.mini_rows.specs.Past as reading;
-ghost use Rattle.mini_past.specs.SubstitutePast as row;
+ghost use Rattle.mini_steady.specs.Leaving as row;
 
 use mini_model::{Name, Shape, SymbolId};
 use mini_node::{Node, Nodes};

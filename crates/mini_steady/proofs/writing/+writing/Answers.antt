@@ -4,8 +4,8 @@ use Rattle.mini_model.specs.Tree.{count}
 use Rattle.mini_node.specs.Children.{rest_children}
 use Rattle.mini_rows.specs.Past.{is_writer, any_write}
 use Rattle.mini_rows.specs.Unused.{any_names}
-use Rattle.mini_past.proofs.Written.{by_writer, write_first, write_step, write_end}
-use Rattle.mini_past.proofs.writing.+writing.Goals as goal
+use Rattle.mini_steady.proofs.Written.{by_writer, write_first, write_step, write_end}
+use Rattle.mini_steady.proofs.writing.+writing.Goals as goal
 
 pub any_write-loop-at-init : goal.any_write-loop-at-init
 any_write-loop-at-init t c = write_first c.args.name.now c.args.nodes.now

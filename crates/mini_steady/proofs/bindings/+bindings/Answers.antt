@@ -3,8 +3,8 @@ use Rattle.std.specs.Prelude.{◌||◌}
 use Rattle.mini_model.specs.Tree.{count}
 use Rattle.mini_node.specs.Children.{rest_children}
 use Rattle.mini_rows.specs.Past.{any_bind}
-use Rattle.mini_past.proofs.BoundNames.{none_own, bind_first, bind_step, bind_end}
-use Rattle.mini_past.proofs.bindings.+bindings.Goals as goal
+use Rattle.mini_steady.proofs.BoundNames.{none_own, bind_first, bind_step, bind_end}
+use Rattle.mini_steady.proofs.bindings.+bindings.Goals as goal
 
 pub any_bind-loop-at-init : goal.any_bind-loop-at-init
 any_bind-loop-at-init t c = bind_first c.args.symbol.0 c.args.nodes.now
