@@ -12,7 +12,6 @@ use Rattle.mini_model.specs.declared.operator.LogicalOperator.{LogicalOperator}
 use Rattle.mini_model.specs.declared.operator.LogicalOperator.TheVariants.{Or, And, Coalesce}
 use Rattle.mini_model.specs.declared.operator.UnaryOperator.{UnaryOperator}
 use Rattle.mini_model.specs.declared.operator.UnaryOperator.TheVariants as unary_operator
-use Rattle.mini_model.specs.declared.place.Position.{Position}
 use Rattle.mini_model.specs.declared.place.Position.TheVariants.{Expr}
 use Rattle.mini_model.specs.declared.seat.Seat.{Seat}
 use Rattle.mini_model.specs.declared.shape.Shape.{Shape}
@@ -27,10 +26,7 @@ use Rattle.mini_laws.specs.Conversion as conversion
 use Rattle.mini_laws.specs.Expressions.{first_kind}
 use Rattle.mini_laws.specs.Naming.{kinds}
 use Rattle.mini_laws.specs.Operators.{number, of_numbers, by_numbers, of_primitives, loosely_equal, strictly_equal, is_text_less, safe_number, differ, is_negative, is_odd, small_exponent, quotient, remainder, power, modulo_32, two_to, signed_32, shifted_right, joined, of_number, type_text}
-use Rattle.mini_kept.specs.KeepsFrames.{is_body_slot}
-use Rattle.mini_kept.specs.KeepsNames.{is_rewritten_place}
 use Rattle.mini_kept.specs.KeepsShapes.{AskedAlike, is_default}
-use Rattle.mini_kept.specs.Lawful.{Lawful}
 use Rattle.mini_kept.proofs.Bools.{left}
 use Rattle.mini_kept.proofs.Expressions.{refused_here, expression, TakesExpressionIn, TakesExpression, expression_taken}
 use Rattle.mini_kept.proofs.Expressions as kept_expressions
@@ -44,11 +40,10 @@ use Rattle.mini_terms.proofs.Calculated.{Form, of_unary, of_binary, Choice, of_l
 use Rattle.mini_terms.proofs.Joined.{text_is}
 use Rattle.mini_rows.specs.Arranged.{KeptAt, Vanishes}
 use Rattle.mini_rows.specs.Sketches.{Null as NullHead, Number as NumberHead, String as StringHead, Unary, Binary, part as hole, under, end, ◌▹◌, Free}
-use Rattle.mini_rows.specs.Constants.{RowConstant, ConstantRow, ConstantContracts}
+use Rattle.mini_rows.specs.Constants.{RowConstant}
 use Rattle.mini_rows.proofs.ArrangedExpressions.{expressions_arranged_freely}
-use Rattle.mini_rows.proofs.ArrangedLawful.{kept_is_lawful}
-use Rattle.mini_rows.proofs.ConstantMeaning.{nothing, constants_same}
-use Rattle.mini_rows.proofs.FoldLawful.{vanishes, first_dropped, no_number, expression_slot}
+use Rattle.mini_rows.proofs.ConstantMeaning.{nothing}
+use Rattle.mini_rows.proofs.FoldLawful.{vanishes, first_dropped, no_number}
 use Rattle.mini_rows.proofs.FoldWeights.{not_a_number}
 use Rattle.mini_rows.proofs.ListShapes.{AllFit, first_fits}
 use Rattle.mini_rows.proofs.Surrogates.{is_paired_joined, numeral_paired}

@@ -1,35 +1,34 @@
 -- Each name in a statement that can't be written and that it takes along is declared by a scope in it.
-use Rattle.std.specs.Prelude.{ℕ, zero, suc, ◌+◌, ◌≤◌, ◌≡◌, refl, nat_eq, Bool, true, false, ◌&&◌, ◌||◌, not, List, [], ◌∷◌, ◌++◌, length, drop, map, Option, Some, None, if◌then◌else◌}
+use Rattle.std.specs.Prelude.{ℕ, suc, ◌+◌, ◌≤◌, ◌≡◌, refl, nat_eq, Bool, true, false, ◌&&◌, ◌||◌, not, List, [], ◌∷◌, ◌++◌, length, drop, map, Option, Some, None, if◌then◌else◌}
 use Rattle.std.proofs.Common.{ap, ◌∙◌, sym, subst, inl, inr, ◌⊎◌, arith, true≢false}
 use Rattle.std.proofs.lemmas.Bool.{and_parts, eqb-true, eq-eqb}
-use Rattle.mini_model.specs.declared.kind.VariableDeclarationKind.TheVariants.{Var, Let, Const}
+use Rattle.mini_model.specs.declared.kind.VariableDeclarationKind.TheVariants.{Const}
 use Rattle.mini_model.specs.declared.name.Name.{Name}
 use Rattle.mini_model.specs.declared.operator.UnaryOperator.TheVariants.{LogicalNot}
 use Rattle.mini_model.specs.declared.name.SymbolId.{SymbolId}
 use Rattle.mini_model.specs.declared.shape.Shape.{Shape}
 use Rattle.mini_model.specs.declared.shape.Shape.TheVariants as shape
-use Rattle.mini_model.specs.Tree.{Tree, Trees, node, none, ◌▸◌, count, shape_of, children, child_or_absent}
+use Rattle.mini_model.specs.Tree.{Tree, Trees, node, none, ◌▸◌, count, shape_of}
 use Rattle.mini_model.specs.Weight.{same_text}
 use Rattle.mini_laws.specs.declared.names.Use.{Use}
 use Rattle.mini_laws.specs.declared.names.Use.TheVariants.{Read}
 use Rattle.mini_laws.specs.declared.names.Binding.{Binding}
 use Rattle.mini_laws.specs.declared.names.Declared.TheVariants as declared
-use Rattle.mini_laws.specs.declared.names.Opening.TheVariants as opening
 use Rattle.mini_laws.specs.DeclaredNames.{names_of, all_names, body_names, all_body_names, bound_names, has_inner, is_spelled, with_name, with_names}
-use Rattle.mini_laws.specs.Scopes.{use_of, is_alone, lexical_scope, body_scope, merged, opening_of, scopes_by, at_or_empty, opened, name_if}
+use Rattle.mini_laws.specs.Scopes.{use_of, lexical_scope, body_scope, merged, scopes_by, opened}
 use Rattle.mini_laws.specs.Resolved.{Environment, or_else, own_symbol, symbol_of}
 use Rattle.mini_laws.specs.Scoped.{NamesScoped, Scoped, AllScoped}
 use Rattle.mini_laws.specs.Symbols.{symbols_in, declared as declared_in, declared_from, is_same, times}
 use Rattle.mini_laws.specs.Value.{Variable, Declared, Global, variable_of, variables, variable_eq, choose, is_in}
 use Rattle.mini_laws.specs.State.{Fixed, Writable}
 use Rattle.mini_laws.specs.Naming.{front, lets_all, lets_first, summary, summaries}
-use Rattle.mini_laws.specs.Fixity.{fixity_by, declared_by as declares_by, stricter, fixed_by, fixed_by_any, lets_fourth}
+use Rattle.mini_laws.specs.Fixity.{fixity_by, declared_by as declares_by, stricter, fixed_by, fixed_by_any}
 use Rattle.mini_laws.proofs.Changes.{times_three}
 use Rattle.mini_laws.proofs.Numbers.{symbol_of_both, fresh, with_fresh}
 use Rattle.mini_kept.specs.Loosely.{symbol_for}
 use Rattle.mini_kept.proofs.Hoisting.{bound_scoped}
 use Rattle.mini_kept.proofs.SameScopes.{same_texts}
-use Rattle.mini_rows.specs.Lists.{is_name_shape, binds, all_bind, first_binds, encloses_by, is_body_of_function, holds, encloses, all_enclose}
+use Rattle.mini_rows.specs.Lists.{is_name_shape, binds, all_bind, encloses_by, is_body_of_function, holds, encloses, all_enclose}
 
 -- ---- a scope that has a name of some spelling
 

@@ -1,6 +1,6 @@
 -- What a row on a constant writes keeps all that a program has to keep, also where two operands become one.
 use Rattle.std.proofs.Common.{◌≡◌, Bool, true, false, [], Some, refl, ap, ◌∙◌, sym, subst, true≢false, inl, inr}
-use Rattle.std.specs.Prelude.{pos, ◌∷◌}
+use Rattle.std.specs.Prelude.{pos}
 use Rattle.std.proofs.lemmas.Bool.{and_parts}
 use Rattle.mini_model.specs.declared.operator.BinaryOperator.{BinaryOperator}
 use Rattle.mini_model.specs.declared.operator.UnaryOperator.TheVariants as unary_operator
@@ -20,7 +20,7 @@ use Rattle.mini_terms.specs.Plain.{lit}
 use Rattle.mini_rows.specs.Arranged.{KeptAt, Vanishes}
 use Rattle.mini_rows.specs.Constants.{RowJoined, ConstantRow, ConstantContracts}
 use Rattle.mini_rows.specs.Operands.{beside}
-use Rattle.mini_rows.specs.Sketches.{Null as NullHead, Number as NumberHead, String as StringHead, Unary, Binary, Sketch, part as hole, under, end, ◌▹◌}
+use Rattle.mini_rows.specs.Sketches.{Null as NullHead, Number as NumberHead, String as StringHead, Unary, Binary, part as hole, under, end, ◌▹◌}
 use Rattle.mini_rows.specs.Spellings.{binary}
 use Rattle.mini_rows.proofs.ArrangedExpressions.{expressions_arranged_freely}
 use Rattle.mini_rows.proofs.ArrangedLawful.{kept_is_lawful}

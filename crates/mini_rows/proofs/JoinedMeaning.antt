@@ -1,5 +1,5 @@
 -- Two operands that do nothing but give their values mean what one does.
-use Rattle.std.proofs.Common.{◌≡◌, ℕ, ℤ, Bool, true, false, List, ◌++◌, Option, Some, None, refl, sym, ap, subst, ◌∙◌, true≢false}
+use Rattle.std.proofs.Common.{◌≡◌, ℕ, ℤ, Bool, true, false, List, ◌++◌, Some, None, refl, sym, ap, subst, ◌∙◌, true≢false}
 use Rattle.std.specs.Prelude.{pos, negsuc, nat_lt, ◌-◌}
 use Rattle.mini_model.specs.declared.operator.BinaryOperator.{BinaryOperator}
 use Rattle.mini_model.specs.declared.operator.BinaryOperator.TheVariants as binary_operator
@@ -7,7 +7,7 @@ use Rattle.mini_model.specs.declared.place.Position.TheVariants.{Expr}
 use Rattle.mini_model.specs.declared.seat.Seat.{Seat}
 use Rattle.mini_model.specs.Tree.{Tree}
 use Rattle.mini_laws.specs.Value.{Value, Number, String, choose}
-use Rattle.mini_laws.specs.State.{State, Completion, ok, stop, either, Environment}
+use Rattle.mini_laws.specs.State.{State, Completion, stop, either, Environment}
 use Rattle.mini_laws.specs.Command.{run}
 use Rattle.mini_laws.specs.Conversion.{Made, makes, raises, outside, to_text}
 use Rattle.mini_laws.specs.Demand.{Val, As}
@@ -15,7 +15,7 @@ use Rattle.mini_laws.specs.Expressions.{operate_by}
 use Rattle.mini_laws.specs.Naming.{summary}
 use Rattle.mini_laws.specs.Operators.{joined, signed_32}
 use Rattle.mini_laws.specs.Rows.{SameAt}
-use Rattle.mini_laws.proofs.Runs.{either_cong, either_ok}
+use Rattle.mini_laws.proofs.Runs.{either_cong}
 use Rattle.mini_terms.specs.Calculated.{calculated_numbers, operand_value}
 use Rattle.mini_terms.specs.Const.{made, binary_value}
 use Rattle.mini_terms.specs.Plain.{lit}

@@ -24,25 +24,20 @@ use Rattle.mini_kept.specs.ShownFrames.{KeyGivenUnder, KeyGiven, none_gone, gone
 use Rattle.mini_kept.specs.Without.{Assured, BodySets, BodiesUnder}
 use Rattle.mini_kept.proofs.Declared.{reaches_declared}
 use Rattle.mini_kept.proofs.Fixed.{step_fixed}
-use Rattle.mini_kept.proofs.FrameRows.{expression_slot}
 use Rattle.mini_kept.proofs.FrameSteps.{kept_are_shown, step_frames_but}
 use Rattle.mini_kept.proofs.Rooted.{programs_rooted}
 use Rattle.mini_kept.proofs.ShownFrames.{all_frames_more, none_less, given_seldom}
 use Rattle.mini_kept.proofs.Whole.{any_reaches_keep}
 use Rattle.mini_kept.proofs.WithoutLists.{nothing_part, part_itself, each_itself, more_under, each_under}
 use Rattle.mini_rows.specs.Arranged.{KeptAt}
-use Rattle.mini_rows.specs.Choices.{member_of}
 use Rattle.mini_rows.specs.OwnPrograms.{program_over, OwnProgram, OwnProgramsAreLawful, OwnProgramsLighten, SteadyProgramsAreLawful, SteadyProgramsLighten, LexicalProgramsAreLawful, LexicalProgramsLighten}
-use Rattle.mini_rows.specs.Spellings.{assignment}
 use Rattle.mini_rows.specs.Steady.{KeepsOwn, OwnRows, OwnStep, own_first, SteadyRow, LexicalRows}
-use Rattle.mini_rows.specs.Unused.{resolved}
 use Rattle.mini_rows.proofs.BranchLawful.{IsKind, taken, body_slot, kept_at}
-use Rattle.mini_rows.proofs.ChoiceShapes.{choice_taken}
 use Rattle.mini_rows.proofs.LexicalKept.{lexical_kind, lexical_own}
-use Rattle.mini_rows.proofs.SpellShapes.{a_logical}
-use Rattle.mini_rows.proofs.SteadyKept.{kept, steady_own}
+use Rattle.mini_rows.proofs.SpellShapes.{formed_slot}
+use Rattle.mini_rows.proofs.MemberKept.{keeps}
+use Rattle.mini_rows.proofs.SteadyKept.{steady_own}
 use Rattle.mini_rows.proofs.SteadyLawful.{forget, own_bodies, own_runs_over, kept_under}
-use Rattle.mini_model.specs.declared.operator.AssignmentOperator.TheVariants.{Assign}
 
 -- ---- one program
 
@@ -142,13 +137,15 @@ places_kept R names kept slots = record {
 }
 
 steady_slot : (V : Assured) (p : Position) (n w : Tree) → SteadyRow V p n w → (strict : Bool) (c : Slot) → fits strict c n ≡ true → is_body_slot p c ≡ true
-steady_slot V (Expr q) n w r strict c e =
-    let member : Tree = member_of (resolved r.spelling r.symbol) r.key in
-    expression_slot (Expr q) c (choice_taken strict c (a_logical r.operator) (member ▸ (assignment Assign member r.b ▸ none)) refl (sym (ap (fits strict c) r.shape) ∙ e)).0
-steady_slot V p n w r strict c e = absurd r
+steady_slot V (Expr q) n w r = formed_slot (Expr q) n w (keeps V q n w r).formed
+steady_slot V p n w r = absurd r
+
+steady_kept : (V : Assured) (p : Position) (n w : Tree) → SteadyRow V p n w → KeptAt p n w
+steady_kept V (Expr q) n w r = (keeps V q n w r).kept
+steady_kept V p n w r = absurd r
 
 steady_places : (V : Assured) → KeepsPlaces (SteadyRow V)
-steady_places V = places_kept (SteadyRow V) (steady_own V).names (kept V) (steady_slot V)
+steady_places V = places_kept (SteadyRow V) (steady_own V).names (steady_kept V) (steady_slot V)
 
 kind_slot : (p : Position) (n w : Tree) → IsKind p n w → (strict : Bool) (c : Slot) → fits strict c n ≡ true → is_body_slot p c ≡ true
 kind_slot (Stmt q) n w k strict c e = body_slot (Stmt q) c (taken strict c n k.read e)

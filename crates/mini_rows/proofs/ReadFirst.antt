@@ -1,17 +1,14 @@
 -- Where what is evaluated first of a tree leaves the model, so does the tree.
-use Rattle.std.proofs.Common.{◌≡◌, ℕ, Bool, true, false, List, refl, ap, subst, true≢false}
-use Rattle.std.specs.Prelude.{◌&&◌, not}
+use Rattle.std.proofs.Common.{◌≡◌, Bool, true, false, refl, ap, subst, true≢false}
+use Rattle.std.specs.Prelude.{not}
 use Rattle.std.proofs.lemmas.Bool.{and_parts, false≢true}
-use Rattle.mini_model.specs.declared.name.Name.{Name}
-use Rattle.mini_model.specs.declared.operator.BinaryOperator.{BinaryOperator}
 use Rattle.mini_model.specs.declared.operator.LogicalOperator.TheVariants.{Or, And, Coalesce}
 use Rattle.mini_model.specs.declared.operator.UnaryOperator.TheVariants.{LogicalNot, UnaryPlus, UnaryNegation, BitwiseNot, Void}
 use Rattle.mini_model.specs.declared.shape.Shape.TheVariants as shape
-use Rattle.mini_model.specs.Tree.{Tree, Trees, node, none, ◌▸◌}
+use Rattle.mini_model.specs.Tree.{Tree, node, none, ◌▸◌}
 use Rattle.mini_laws.specs.State.{State, Stop, Completion, out, either, Environment}
 use Rattle.mini_laws.specs.Demand.{Want, Val, Test, Unused, As, Callee}
 use Rattle.mini_laws.specs.Step.{step, means, meaning}
-use Rattle.mini_node.specs.Equal.{same_tree}
 use Rattle.mini_node.proofs.Equality.{tree_same}
 use Rattle.mini_rows.specs.Members.{begins_at}
 use Rattle.mini_rows.specs.Unused.{is_childless}

@@ -1,8 +1,7 @@
 -- A template that stands where an expression may: its pieces and parts do, and a text that is made of them can be written.
-use Rattle.std.proofs.Common.{◌≡◌, ℕ, suc, Bool, true, false, List, [], ◌∷◌, ◌++◌, Option, Some, None, refl, sym, ap, subst, ◌∙◌, zero, true≢false, eqb-true}
-use Rattle.std.specs.Prelude.{◌&&◌, ◌==◌, nat_eq, is_some}
+use Rattle.std.proofs.Common.{◌≡◌, ℕ, suc, Bool, true, false, List, [], ◌++◌, Option, Some, None, refl, sym, subst, true≢false, eqb-true}
+use Rattle.std.specs.Prelude.{◌&&◌, ◌==◌, nat_eq}
 use Rattle.std.proofs.lemmas.Bool.{and_parts}
-use Rattle.mini_model.specs.declared.shape.Shape.{Shape}
 use Rattle.mini_model.specs.declared.shape.Shape.TheVariants as shape
 use Rattle.mini_model.specs.Templates.{cooked}
 use Rattle.mini_model.specs.Tree.{Tree, Trees, node, none, ◌▸◌, count, shape_of}

@@ -1,7 +1,7 @@
 -- What a row on templates writes keeps all that a program has to keep: it is built anew of the same parts.
 use Rattle.std.proofs.Common.{◌≡◌, ℕ, suc, Bool, true, false, List, [], ◌∷◌, Some, None, refl, sym, ap, subst, ◌∙◌, inl, inr, ◌⊎◌, true≢false, arith}
 use Rattle.std.specs.Prelude.{◌&&◌, nat_eq}
-use Rattle.std.proofs.lemmas.Bool.{and_parts, eqb-true, eq-eqb}
+use Rattle.std.proofs.lemmas.Bool.{and_parts, eq-eqb}
 use Rattle.mini_model.specs.declared.operator.BinaryOperator.TheVariants.{Addition}
 use Rattle.mini_model.specs.declared.place.Position.{Position}
 use Rattle.mini_model.specs.declared.place.Position.TheVariants.{Expr}
@@ -29,7 +29,7 @@ use Rattle.mini_rows.proofs.ArrangedExpressions.{expressions_arranged, expressio
 use Rattle.mini_rows.proofs.ArrangedLawful.{kept_is_lawful}
 use Rattle.mini_rows.proofs.ConstantLawful.{Paired, operand_written, text_paired, binary_at}
 use Rattle.mini_rows.proofs.FoldLawful.{vanishes, first_dropped, expression_slot}
-use Rattle.mini_rows.proofs.ListShapes.{AllFit, append_fits, both_fit, first_fits}
+use Rattle.mini_rows.proofs.ListShapes.{append_fits, both_fit, first_fits}
 use Rattle.mini_rows.proofs.TemplateFits.{Made, template_made}
 use Rattle.mini_rows.proofs.TemplateMeaning.{nothing, Told, told_is, templates_same}
 use Rattle.mini_rows.proofs.TemplatePieces.{Whole, pair_whole, spelled_whole, piece_stands, stands_piece}

@@ -10,7 +10,7 @@ use Rattle.mini_model.specs.Paths.{append}
 use Rattle.mini_model.specs.Tree.{Tree, Trees, none, ◌▸◌, count}
 use Rattle.mini_node.specs.Children.{part}
 use Rattle.mini_laws.specs.Value.{Value, Undefined, Null, Boolean, Number, String, Symbol, Object}
-use Rattle.mini_laws.specs.State.{State, Completion, ok, either, Environment}
+use Rattle.mini_laws.specs.State.{State, Completion, ok, Environment}
 use Rattle.mini_laws.specs.Command.{run}
 use Rattle.mini_laws.specs.Conversion.{to_text, text_of_boolean}
 use Rattle.mini_laws.specs.Demand.{Val, As}

@@ -3,21 +3,17 @@ use Rattle.std.specs.Prelude.{◌≡◌, refl, ◌&&◌, ◌||◌, Bool, true, f
 use Rattle.std.proofs.Common.{◌<◌, ap, ◌∙◌, sym, subst, inl, inr, ◌⊎◌, true≢false, arith}
 use Rattle.std.proofs.lemmas.Bool.{and_parts}
 use Rattle.std.proofs.lemmas.List.Elements.{Contains-append_left, Contains-append_right, Contains-append_cases}
-use Rattle.mini_model.specs.declared.kind.VariableDeclarationKind.TheVariants.{Var, Const}
+use Rattle.mini_model.specs.declared.kind.VariableDeclarationKind.TheVariants.{Var}
 use Rattle.mini_model.specs.declared.name.Name.{Name}
 use Rattle.mini_model.specs.declared.shape.Shape.{Shape}
 use Rattle.mini_model.specs.declared.shape.Shape.TheVariants as shape
-use Rattle.mini_model.specs.Tree.{Tree, Trees, node, none, ◌▸◌, is_absent}
+use Rattle.mini_model.specs.Tree.{Tree, Trees, node, none, ◌▸◌}
 use Rattle.mini_accept.specs.WellShaped.{Slot, is_name, has_names, is_quasi, are_quasis, Tagging, Filling, refused, these, each, each_or_last, pieces, is_whole, class_of, is_last, is_strict_in, filling, fits, fill}
 use Rattle.mini_laws.specs.declared.names.Declared.{Declared}
 use Rattle.mini_laws.specs.declared.names.Declared.TheVariants as declared
 use Rattle.mini_laws.specs.declared.names.Place.{Place}
 use Rattle.mini_laws.specs.declared.names.Place.TheVariants as place
-use Rattle.mini_laws.specs.DeclaredNames.{place_of, names_by, names_of, first_names, all_names, is_inner, has_inner, any_inner}
-use Rattle.mini_laws.specs.Value.{Variable, choose, is_in}
-use Rattle.mini_laws.specs.State.{Fixed, Writable}
-use Rattle.mini_laws.specs.Naming.{summary, summaries, lets_first}
-use Rattle.mini_laws.specs.Fixity.{fixity_by, declared_by as declares_by, stricter, fixed_by, fixed_by_any}
+use Rattle.mini_laws.specs.DeclaredNames.{place_of, names_by, names_of, first_names, all_names}
 use Rattle.mini_kept.specs.Declaring.{declared as names_declared, declared_all}
 use Rattle.mini_kept.proofs.Bools.{left}
 
