@@ -1,4 +1,4 @@
-pub mod Held
-pub mod Switches
-pub mod Loops
+pub mod HeldNames
+pub mod SwitchRows
+pub mod LoopRows
 pub mod Joined

@@ -22,7 +22,7 @@ fn is_unshared<S: SteadyNames>(symbol: Option<SymbolId>, body: u32, steady: &S) 
 }
 
 // So it is, and the name doesn't stand in what is outside.
-#[tactic(auto, using(crate::proofs::Held::and_one))]
+#[tactic(auto, using(crate::proofs::HeldNames::and_one))]
 fn passes<S: SteadyNames>(name: &Option<Name>, outside: &Node, body: u32, steady: &S) -> bool
     ensures { result ≡ lexical.all_pass (lexical.is_of_outside (S.sets steady.now body).unshared outside.now) (names name.now) }
 {
@@ -75,6 +75,7 @@ fn binds_first(shape: &Shape) -> bool
 
 // Each name passes that it binds.
 #[cycle(binding)]
+#[tactic(auto, using(crate::proofs::HeldNames::by_itself, crate::proofs::HeldNames::by_each, crate::proofs::HeldNames::by_first, crate::proofs::HeldNames::by_nothing))]
 fn binds_only<S: SteadyNames>(node: &Node, outside: &Node, body: u32, steady: &S) -> bool
     ensures { result ≡ lexical.binds_only (lexical.is_of_outside (S.sets steady.now body).unshared outside.now) node.now }
 {
@@ -104,12 +105,7 @@ fn all_bind_only<S: SteadyNames>(nodes: &[Node], outside: &Node, body: u32, stea
 
 // Each that the first binds.
 #[cycle(binding)]
-fn first_binds_only<S: SteadyNames>(
-    nodes: &[Node],
-    outside: &Node,
-    body: u32,
-    steady: &S,
-) -> bool
+fn first_binds_only<S: SteadyNames>(nodes: &[Node], outside: &Node, body: u32, steady: &S) -> bool
     ensures { result ≡ lexical.first_binds_only (lexical.is_of_outside (S.sets steady.now body).unshared outside.now) (trees_of nodes.now) }
 {
     match nodes {

@@ -13,7 +13,7 @@ use mini_steady::SteadyNames;
 use std::alloc::Global;
 
 // `for (i; t; u) { if (x) break; .. }`, where no name of the block is shown, and none stands in x.
-#[tactic(auto, using(crate::proofs::Loops::four, crate::proofs::Loops::one, crate::proofs::Loops::some, crate::proofs::Loops::three))]
+#[tactic(auto, using(crate::proofs::LoopRows::four, crate::proofs::LoopRows::one, crate::proofs::LoopRows::some, crate::proofs::LoopRows::three))]
 fn leaves<S: SteadyNames>(node: &Node, body: u32, steady: &S) -> bool
     ensures { result ≡ row.leaves (S.sets steady.now body).unshared node.now }
 {
@@ -28,7 +28,6 @@ fn leaves<S: SteadyNames>(node: &Node, body: u32, steady: &S) -> bool
 /// A loop whose body begins by leaving it has that in its test, where no event of the body with this number shows the names that its block
 /// declares, and none stands in what leaves it. The answer says whether it did, and where it did nothing the row doesn't read the statement; the
 /// only error is that memory runs out, and then it is fit only to be dropped.
-#[tactic(auto, using(crate::proofs::Loops::leads))]
 pub fn minimize_lexical_for_statement<S: SteadyNames>(
     alloc: Global,
     node: &mut Node,

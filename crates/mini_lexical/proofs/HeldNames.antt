@@ -1,17 +1,34 @@
 -- Statements whose lexical names may leave their scope, as the code asks it.
-use Rattle.std.proofs.Common.{◌≡◌, ℕ, zero, suc, Bool, true, false, List, refl, sym, ap, ◌∙◌}
-use Rattle.std.specs.Prelude.{◌&&◌, ◌||◌}
+use Rattle.std.proofs.Common.{◌≡◌, ℕ, zero, suc, ◌<◌, ◌≤◌, Bool, true, false, List, [], ◌∷◌, refl, sym, ap, ◌∙◌, length, take, drop, arith}
+use Rattle.std.specs.Prelude.{◌&&◌}
 use Rattle.std.proofs.lemmas.Bool.{and_parts, false≢true}
 use Rattle.mini_model.specs.declared.name.Name.{Name}
-use Rattle.mini_model.specs.Tree.{Tree, Trees, node, none, ◌▸◌, shape_of, children}
-use Rattle.mini_node.specs.Children.{names_of, first_children}
-use Rattle.mini_rows.specs.Cases.{bare_break, ended}
+use Rattle.mini_model.specs.Tree.{Tree, Trees, node, none, ◌▸◌, shape_of, children, node_count, node_counts}
+use Rattle.mini_node.specs.Children.{names_of, first_children, trees_of}
+use Rattle.mini_rows.specs.Cases.{ended}
 use Rattle.mini_rows.specs.Lexical.{Binds, Itself, Each, First, NoName, binds_at, passes_by, all_pass, binds_only, all_bind_only, first_binds_only, is_held, are_held}
 use Rattle.mini_lexical.specs.Held.{is_itself, is_each, is_first}
 
 pub and_one : (b : Bool) → (b && true) ≡ b
 and_one true = refl
 and_one false = refl
+
+pub both_true : (a b : Bool) → a ≡ true → b ≡ true → (a && b) ≡ true
+both_true a b e f = ap (λ c. c && b) e ∙ f
+
+-- ---- the rest of a list has fewer nodes
+
+some_nodes : (t : Tree) → 0 < node_count t
+some_nodes (node h xs n ts) = omega arith
+
+taken_within : (k : ℕ) (ts : List Tree) → node_counts (trees_of (take k ts)) ≤ node_counts (trees_of ts)
+taken_within zero ts = omega arith
+taken_within (suc k) [] = omega arith
+taken_within (suc k) (t ∷ ts) = let less = taken_within k ts in omega (arith, less)
+
+pub rest_smaller : (k : ℕ) (ts : List Tree) → 1 ≤ length ts → node_counts (trees_of (take k (drop 1 ts))) < node_counts (trees_of ts)
+rest_smaller k [] e = absurd (omega (arith, e))
+rest_smaller k (t ∷ ts) e = let some = some_nodes t in let less = taken_within k ts in omega (arith, some, less)
 
 -- ---- what a node binds
 

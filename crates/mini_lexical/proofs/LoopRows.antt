@@ -18,11 +18,11 @@ use Rattle.mini_lexical.specs.MinimizeLexicalStatement.{AppliedBy, leaves, leavi
 
 -- ---- the parts that the code asks for
 
-pub tested_part : (t : Tree) → leads_from_block t ≡ true → (is_for t ≡ true) × (may_test (part t 1) ≡ true) × (leads (part t 3) ≡ true)
+pub tested_part : (t : Tree) → leads_from_block t ≡ true → (is_for t ≡ true) × ((may_test (part t 1) ≡ true) × (leads (part t 3) ≡ true))
 tested_part t e =
     let (is, rest) = and_parts (is_for t) (may_test (part t 1) && leads (part t 3)) e in
     let (tested, led) = and_parts (may_test (part t 1)) (leads (part t 3)) rest in
-    (is, tested, led)
+    (is, (tested, led))
 
 pub four : (t : Tree) → leads_from_block t ≡ true → count (children t) ≡ 4
 four t e = ap (λ u. count (children u)) (for_is t (tested_part t e).0)
@@ -67,8 +67,8 @@ module _ (V : VariableSet) where
       let body = led_block (part t 3) p.1.1 in
       let P = is_of_outside V body.x in
       let same : are_held (is_of_outside V (leaving_test t)) (statements_of t) ≡ are_held P (leaves_by body.leaving body.x ▸ body.others) =
-          ap (λ ts. are_held (is_of_outside V (part (child_or_absent ts 0) 0)) ts) body.all
-          ∙ ap (λ x. are_held (is_of_outside V x) (leaves_by body.leaving body.x ▸ body.others)) (first_test body.leaving body.x) in
+      ap (λ ts. are_held (is_of_outside V (part (child_or_absent ts 0) 0)) ts) body.all
+      ∙ ap (λ x. are_held (is_of_outside V x) (leaves_by body.leaving body.x ▸ body.others)) (first_test body.leaving body.x) in
       record {
         init = part t 0;
         test = test.tested;
@@ -82,8 +82,8 @@ module _ (V : VariableSet) where
         held = (and_parts (is_held P (leaves_by body.leaving body.x)) (are_held P body.others) (sym same ∙ held)).1;
         shape = for_is t p.0 ∙ (λ k. for_loop (part t 0) (test.is k) (part t 2) (body.is k));
         written = four_put t (body_runs (part t 3)) (also (part t 1) (body_goes (part t 3))) p.0
-          ∙ (λ k. for_loop (part t 0) (also (part t 1) (body.goes_so k)) (part t 2) (body.runs_so k))
-          ∙ ap (λ u. for_loop (part t 0) u (part t 2) (block (runs_on body.leaving ▸ body.others))) (test.also_so (goes_by body.leaving body.x));
+            ∙ (λ k. for_loop (part t 0) (also (part t 1) (body.goes_so k)) (part t 2) (body.runs_so k))
+            ∙ ap (λ u. for_loop (part t 0) u (part t 2) (block (runs_on body.leaving ▸ body.others))) (test.also_so (goes_by body.leaving body.x));
       }
 
   -- the `if` declares nothing

@@ -1,14 +1,14 @@
 -- What becomes of a `switch` of one case whose names are held is what row 80 of lexical names says.
-use Rattle.std.proofs.Common.{◌≡◌, Bool, true, false, refl, sym, ap, ◌∙◌, subst}
+use Rattle.std.proofs.Common.{◌≡◌, true, false, refl, sym, ap, ◌∙◌, subst}
 use Rattle.std.specs.Prelude.{◌&&◌, not, if◌then◌else◌}
 use Rattle.std.proofs.lemmas.Bool.{and_parts, false≢true}
 use Rattle.mini_model.specs.declared.name.Name.{Name}
 use Rattle.mini_model.specs.declared.operator.BinaryOperator.TheVariants.{StrictEquality}
-use Rattle.mini_model.specs.Tree.{Tree, Trees, children, absent, listed, expression_statement, if_alone, ◌▸◌}
+use Rattle.mini_model.specs.Tree.{Tree, Trees, children, expression_statement, if_alone, ◌▸◌}
 use Rattle.mini_laws.specs.Value.{VariableSet}
 use Rattle.mini_node.specs.Children.{part}
 use Rattle.mini_node.specs.Kinds.{is_absent_part}
-use Rattle.mini_rows.specs.Cases.{one_case, switch_case, ended, breaks_out}
+use Rattle.mini_rows.specs.Cases.{one_case, switch_case, ended}
 use Rattle.mini_rows.specs.Lexical.{Row80Lexical, are_held, is_of, is_of_outside}
 use Rattle.mini_rows.specs.Lists.{block, declares_nothing}
 use Rattle.mini_rows.specs.Spellings.{PlainForm, a_number, a_text, a_boolean, a_null, a_big_int, a_template, a_void, plain, binary}
@@ -16,9 +16,9 @@ use Rattle.mini_rows.specs.Unused.{names}
 use Rattle.mini_syntax.specs.Forms.{is_plain}
 use Rattle.mini_syntax.proofs.FormsAre.{plain_is, plain_passes}
 use Rattle.mini_switch.specs.MinimizeSwitchStatements.{ends_in_break, unbroken_count, before_break, some_breaks, is_case, holds_one_case, the_case, inlined, stay_inside}
-use Rattle.mini_switch.proofs.Switches.{not_true, both_true, switch_is, statements_are, listed_breaks, before_is}
+use Rattle.mini_switch.proofs.Switches.{not_true, switch_is, statements_are, listed_breaks, before_is}
 use Rattle.mini_lexical.specs.MinimizeLexicalStatement.{AppliedBy, can_be_branch, inlines}
-use Rattle.mini_lexical.proofs.Held.{and_one, held_first, held_ended}
+use Rattle.mini_lexical.proofs.HeldNames.{and_one, both_true, held_first, held_ended}
 
 -- a value that is written out names nothing
 
