@@ -324,6 +324,16 @@ pub said_after : (r : Result Bool OutOfMemory) (x : Option Tree) (y : Tree → O
 said_after r x y t m f e h =
     subst (λ u. IfOk r (λ b. b ≡ is_some u)) (sym (second_is x (y t) f)) (subst (λ n. IfOk r (λ b. b ≡ is_some (y n))) (e ∙ unchanged x t f) h)
 
+-- and where the first does something that stands
+
+pub tree_first : (x y : Option Tree) (t m : Tree) → is_some x ≡ true → m ≡ unwrap_or x t → m ≡ unwrap_or (either x y) t
+tree_first (Some u) y t m e f = f
+tree_first None y t m e f = absurd (cc e)
+
+pub said_first : (x y : Option Tree) → is_some x ≡ true → true ≡ is_some (either x y)
+said_first (Some u) y e = refl
+said_first None y e = absurd (cc e)
+
 -- where neither branch gives anything, no row makes it lighter
 
 neither : (x y : Option Tree) → either x y ≡ None → (x ≡ None) × (y ≡ None)
