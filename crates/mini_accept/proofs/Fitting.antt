@@ -9,7 +9,7 @@ use Rattle.mini_model.specs.declared.shape.Shape.TheVariants as shape
 use Rattle.mini_model.specs.Paths.{append}
 use Rattle.mini_model.specs.Tree.{Tree, node, Trees, none, ◌▸◌, absent, listed, children, child_or_absent}
 use Rattle.mini_accept.specs.WellShaped as shaped
-use Rattle.mini_accept.specs.WellShaped.{Class, Tagging, Slot, Filling, these, each, each_or_last, pieces, fits, fill, is_quasi, are_quasis, is_last, slots_of}
+use Rattle.mini_accept.specs.WellShaped.{Class, Tagging, Slot, these, each, each_or_last, pieces, fits, fill, is_quasi}
 use Rattle.mini_accept.specs.Places.{down, Place, at, a_directive, a_directive_text, a_quasi, an_exported, a_local_name}
 use Rattle.mini_accept.specs.Fields.{text_at, has_type, is_given}
 use Rattle.mini_accept.specs.Literals.{with_minus}

@@ -8,7 +8,7 @@ use Rattle.mini_model.specs.Texts.{units_of}
 use Rattle.mini_model.specs.declared.shape.Shape.TheVariants as shape
 use Rattle.mini_model.specs.Tree.{Tree, node, none, unresolved}
 use Rattle.mini_accept.specs.WellShaped as shaped
-use Rattle.mini_accept.specs.WellShaped.{Class, in_module, is_text, is_name}
+use Rattle.mini_accept.specs.WellShaped.{in_module, is_text, is_name}
 use Rattle.mini_accept.specs.Places.{Place, at, a_local_name}
 use Rattle.mini_accept.specs.Fields.{require, is_there_with, text_at, has_text, has_units, is_text_by, name_of_units, name_at, has_type, is_one_of}
 use Rattle.mini_accept.specs.Literals.{literal, is_string_shape, is_string_literal}

@@ -10,7 +10,7 @@ use Rattle.mini_model.specs.declared.shape.Shape.{Shape}
 use Rattle.mini_model.specs.declared.shape.Shape.TheVariants as shape
 use Rattle.mini_model.specs.Tree.{Tree, node, none}
 use Rattle.mini_accept.specs.WellShaped as shaped
-use Rattle.mini_accept.specs.WellShaped.{Class, in_module, is_text, is_numbered, has_plain_fields, has_its_parts, slots_of, fits}
+use Rattle.mini_accept.specs.WellShaped.{Class, in_module}
 use Rattle.mini_accept.specs.Places.{Place, at, a_directive_text}
 use Rattle.mini_accept.specs.Fields.{◌>>=◌, require, is_given, text_at, units_at, has_units, is_text_by, has_type, is_one_of}
 use Rattle.mini_accept.specs.Literals.{reg_exp, big_int, value_shape, literal, is_unread_value, is_unread_literal, is_string_shape, is_number_shape, is_literal_with, is_string_literal, is_big_int_literal, is_key_literal, negative_of, with_minus}

@@ -8,7 +8,7 @@ use Rattle.mini_model.specs.Texts.{units_of}
 use Rattle.mini_model.specs.declared.shape.Shape.TheVariants as shape
 use Rattle.mini_model.specs.Tree.{Tree}
 use Rattle.mini_accept.specs.WellShaped as shaped
-use Rattle.mini_accept.specs.WellShaped.{Class, in_module, Slot, fits, is_init, is_same_spelling}
+use Rattle.mini_accept.specs.WellShaped.{in_module, Slot, is_init}
 use Rattle.mini_accept.specs.Places.{Step, Place, at}
 use Rattle.mini_accept.specs.Fields.{◌>>=◌, is_there_with, flag_at, has_type, child_has_type, is_one_of}
 use Rattle.mini_accept.specs.Plans.{tree_at, inner_at, ItemPart, Child, child, inner, inner_key, target_part, target, node_of, parts_from, list, list_child, each, or_rest, or_hole}

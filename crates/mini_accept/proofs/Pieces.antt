@@ -11,7 +11,7 @@ use Rattle.mini_model.specs.declared.kind.PropertyKind.TheVariants as property
 use Rattle.mini_model.specs.declared.shape.Shape.TheVariants as shape
 use Rattle.mini_model.specs.Tree.{Tree, none, ◌▸◌, count}
 use Rattle.mini_accept.specs.WellShaped as shaped
-use Rattle.mini_accept.specs.WellShaped.{Class, in_module, Tagging, tagged, untagged, is_same_flag, is_text_of_cooked, is_same_spelling, value_class}
+use Rattle.mini_accept.specs.WellShaped.{in_module, Tagging, tagged, untagged, is_same_flag, is_text_of_cooked, is_same_spelling, value_class}
 use Rattle.mini_accept.specs.Places.{down, field, place, Place, at, a_quasi}
 use Rattle.mini_accept.specs.Fields.{is_there_with, flag_at, item_count, list_at, paired_units, units_at, has_type, is_one_of}
 use Rattle.mini_accept.specs.Standing.{is_piece, may_stand}

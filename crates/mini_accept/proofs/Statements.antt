@@ -10,7 +10,7 @@ use Rattle.mini_model.specs.declared.shape.Shape.{Shape}
 use Rattle.mini_model.specs.declared.shape.Shape.TheVariants as shape
 use Rattle.mini_model.specs.Tree.{Tree, is_absent, count}
 use Rattle.mini_accept.specs.WellShaped as shaped
-use Rattle.mini_accept.specs.WellShaped.{Class, Depth, in_module, in_body, nested, Slot, slots_of, is_sloppy_function, is_strict_in, has_its_number, has_names, has_plain_fields, has_its_parts, none_if, is_text}
+use Rattle.mini_accept.specs.WellShaped.{Class, Depth, in_module, in_body, nested, Slot, slots_of, is_sloppy_function, is_strict_in, has_its_number, has_names, has_plain_fields, has_its_parts}
 use Rattle.mini_accept.specs.Places.{down, field, place, Place, at, a_directive}
 use Rattle.mini_accept.specs.Fields.{is_given, item_count, list_at, no_item, text_at, has_text, is_text_by, word_in, is_one_of}
 use Rattle.mini_accept.specs.Standing.{is_head, is_head_by, expression_types}

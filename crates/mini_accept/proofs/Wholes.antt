@@ -11,7 +11,7 @@ use Rattle.mini_model.specs.declared.shape.Shape.TheVariants as shape
 use Rattle.mini_model.specs.Paths.{append}
 use Rattle.mini_model.specs.Tree.{Tree, node, Trees, none, ◌▸◌, absent, is_absent, count}
 use Rattle.mini_accept.specs.WellShaped as shaped
-use Rattle.mini_accept.specs.WellShaped.{Class, Depth, Slot, fits, fill, these, slots_of, expression_slots, is_strict_in, is_numbered, has_its_number, has_names, has_plain_fields, has_its_parts, is_optional, none_if, unchained_slots, is_text}
+use Rattle.mini_accept.specs.WellShaped.{Class, Slot, fits, fill, these, slots_of, expression_slots, is_strict_in, is_numbered, has_its_number, has_names, has_plain_fields, has_its_parts, is_optional, none_if, unchained_slots, is_text}
 use Rattle.mini_accept.specs.Places.{Step, place, Place, at}
 use Rattle.mini_accept.specs.Fields.{◌>>=◌, require, list_at, item_count, has_type, no_item}
 use Rattle.mini_accept.specs.Standing.{has_true}

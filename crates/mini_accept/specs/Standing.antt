@@ -3,7 +3,7 @@ use Rattle.std.specs.Prelude.{ℕ, nat_eq, List, [], ◌∷◌, Bool, true, fals
 use Rattle.serde_json.specs.Data.{Data, Items, no_items, item}
 use Rattle.serde_json.specs.Find.{get, as_bool}
 use Rattle.mini_accept.specs.WellShaped as shaped
-use Rattle.mini_accept.specs.WellShaped.{Class, Depth, in_module, in_body, nested, is_text, is_same_flag}
+use Rattle.mini_accept.specs.WellShaped.{Class, Depth, in_module, in_body, nested, is_same_flag}
 use Rattle.mini_accept.specs.Places.{Place, at, a_directive, a_directive_text, a_quasi, an_exported, a_local_name}
 use Rattle.mini_accept.specs.Fields.{is_object, is_given, text_at, has_text, flag_at, list_at, is_bare, kind_of, has_type, has_one_of}
 use Rattle.mini_accept.specs.Literals.{is_unread_literal, is_string_literal, is_big_int_literal, is_key_literal}

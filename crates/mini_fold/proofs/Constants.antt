@@ -1,5 +1,5 @@
 -- What is calculated makes what its rows say, and rests where no row makes the expression lighter.
-use Rattle.std.proofs.Common.{◌≡◌, zero, ◌+◌, ◌<◌, ◌≤◌, ◌-◌, ◌^◌, Bool, true, false, refl, sym, ap, subst, ◌∙◌, true≢false, arith}
+use Rattle.std.proofs.Common.{◌≡◌, zero, ◌+◌, ◌<◌, ◌≤◌, ◌-◌, ◌^◌, Bool, true, false, refl, sym, ap, subst, ◌∙◌, true≢false, inl, inr, arith}
 use Rattle.std.specs.Prelude.{◌&&◌, pos, Option, Some, None, is_some, unwrap_or, if◌then◌else◌}
 use Rattle.std.proofs.lemmas.Bool.{and_parts, leb-true, le-leb}
 use Rattle.mini_model.specs.declared.place.Position.{Position}
@@ -13,10 +13,12 @@ use Rattle.mini_laws.specs.Value.{Value}
 use Rattle.mini_terms.specs.Calculated.{calculated}
 use Rattle.mini_terms.specs.Parts.{suits, leaves_nothing}
 use Rattle.mini_terms.specs.Plain.{lit}
-use Rattle.mini_rows.specs.Constants.{gain_by, least_gain, ConstantContracts}
+use Rattle.mini_rows.specs.Constants.{gain_by, least_gain, RowConstant, ConstantRow, ConstantContracts}
 use Rattle.mini_tree.specs.Rule.{Applied}
 use Rattle.mini_tree.proofs.Reaching.{moves_once}
-use Rattle.mini_fold.specs.FoldConstants.{is_lighter, replaces, literal_of, written_by, written, Gives, Rests, WrittenIsRow, UnwrittenRests}
+use Rattle.mini_fold.specs.FoldConstants.{is_lighter, replaces, written_by, literal_written, first_written, written, Gives, Rests, WrittenIsRow, UnwrittenRests}
+use Rattle.mini_fold.specs.JoinConstants.{literal_of, joined_written}
+use Rattle.mini_fold.proofs.Joins.{joined_is_row, joined_rests}
 
 nothing : {A : Type 0} {a : A} {B : Type 0} → None ≡ Some a → B
 nothing e = cc e
@@ -39,26 +41,34 @@ both_true true c e f = f
 both_true false c e f = e
 
 module _ (s : Seat) (n w : Tree) where
-  row_of : (v : Value) → calculated n ≡ Some v → lit v ≡ Some w → replaces s n w ≡ true → ConstantContracts (Expr s) n w
+  row_of : (v : Value) → calculated n ≡ Some v → lit v ≡ Some w → replaces s n w ≡ true → RowConstant s n w
   row_of v k l e =
       let (dropped, rest) = and_parts (leaves_nothing n) (suits s w && is_lighter s w n) e in
       let (stays, lighter) = and_parts (suits s w) (is_lighter s w n) rest in
-      let gains = lighter_is s w n lighter in record { row = record { value = v; known = k; literal = l; dropped = dropped; stays = stays; gains = gains }; lighter = falls (Expr s) n w gains }
+      record { value = v; known = k; literal = l; dropped = dropped; stays = stays; gains = lighter_is s w n lighter }
 
-  by_literal : (v : Value) → calculated n ≡ Some v → (l : Option Tree) → lit v ≡ l → written_by s n l ≡ Some w → ConstantContracts (Expr s) n w
+  by_literal : (v : Value) → calculated n ≡ Some v → (l : Option Tree) → lit v ≡ l → written_by s n l ≡ Some w → RowConstant s n w
   by_literal v k (Some u) h e = go (replaces s n u) refl e
     where
-      go : (b : Bool) → replaces s n u ≡ b → (if b then Some u else None) ≡ Some w → ConstantContracts (Expr s) n w
+      go : (b : Bool) → replaces s n u ≡ b → (if b then Some u else None) ≡ Some w → RowConstant s n w
       go true f e = let same : u ≡ w = cc e in row_of v k (h ∙ ap (λ x. Some x) same) (subst (λ x. replaces s n x ≡ true) same f)
       go false f e = nothing e
   by_literal v k None h e = nothing e
 
-  by_value : (c : Option Value) → calculated n ≡ c → written_by s n (literal_of c) ≡ Some w → ConstantContracts (Expr s) n w
+  by_value : (c : Option Value) → calculated n ≡ c → written_by s n (literal_of c) ≡ Some w → RowConstant s n w
   by_value (Some v) k e = by_literal v k (lit v) refl e
   by_value None k e = nothing e
 
+contracts_of : (s : Seat) (n w : Tree) → ConstantRow (Expr s) n w → ConstantContracts (Expr s) n w
+contracts_of s n w (inl r) = record { row = inl r; lighter = falls (Expr s) n w r.gains }
+contracts_of s n w (inr r) = record { row = inr r; lighter = r.gains }
+
 pub written_is_row : WrittenIsRow
-written_is_row s n w e = by_value s n w (calculated n) refl e
+written_is_row s n w e = contracts_of s n w (go (literal_written s n) refl e)
+  where
+    go : (o : Option Tree) → literal_written s n ≡ o → first_written o (joined_written n) ≡ Some w → ConstantRow (Expr s) n w
+    go (Some u) h e = inl (by_value s n w (calculated n) refl (h ∙ e))
+    go None h e = inr (joined_is_row s n w e)
 
 -- where a row makes it lighter, something is written
 passed : (b : Bool) (w : Tree) → b ≡ true → (if b then Some w else None) ≡ None → ⊥
@@ -69,11 +79,44 @@ never : (s : Seat) (n w : Tree) (l : Option Tree) → l ≡ Some w → replaces 
 never s n w (Some u) h e f = passed (replaces s n u) u (subst (λ x. replaces s n x ≡ true) {x = w} {y = u} (cc h) e) f
 never s n w None h e f = nothing h
 
-pub unwritten_rests : UnwrittenRests
-unwritten_rests s n e small w c =
-    never s n w (literal_of (calculated n)) (ap literal_of c.row.known ∙ c.row.literal)
-    (both_true (leaves_nothing n) (suits s w && is_lighter s w n) c.row.dropped (both_true (suits s w) (is_lighter s w n) c.row.stays (lighter_test s w n small c.row.gains)))
+literal_rests : (s : Seat) (n w : Tree) → literal_written s n ≡ None → weight (Expr s) n < 2 ^ 64 → RowConstant s n w → ⊥
+literal_rests s n w e small r =
+    never s n w (literal_of (calculated n)) (ap literal_of r.known ∙ r.literal)
+    (both_true (leaves_nothing n) (suits s w && is_lighter s w n) r.dropped (both_true (suits s w) (is_lighter s w n) r.stays (lighter_test s w n small r.gains)))
     e
+
+none_first : (o p : Option Tree) → first_written o p ≡ None → o ≡ None
+none_first None p e = refl
+none_first (Some w) p e = nothing (sym e)
+
+none_second : (o p : Option Tree) → first_written o p ≡ None → p ≡ None
+none_second None p e = e
+none_second (Some w) p e = nothing (sym e)
+
+pub unwritten_rests : UnwrittenRests
+unwritten_rests s n e small w c = go c.row
+  where
+    go : ConstantRow (Expr s) n w → ⊥
+    go (inl r) = literal_rests s n w (none_first (literal_written s n) (joined_written n) e) small r
+    go (inr r) = joined_rests s n w r small (none_second (literal_written s n) (joined_written n) e)
+
+-- the one after the other
+
+pub first_tree : (n u : Tree) (o p : Option Tree) → u ≡ unwrap_or o n → true ≡ is_some o → u ≡ unwrap_or (first_written o p) n
+first_tree n u (Some w) p e f = e
+first_tree n u None p e f = absurd (true≢false f)
+
+pub first_said : (o p : Option Tree) → true ≡ is_some o → true ≡ is_some (first_written o p)
+first_said (Some w) p f = refl
+first_said None p f = absurd (true≢false f)
+
+pub then_tree : (n m u : Tree) (o : Option Tree) → m ≡ unwrap_or o n → false ≡ is_some o → u ≡ unwrap_or (joined_written m) m → u ≡ unwrap_or (first_written o (joined_written n)) n
+then_tree n m u None e f g = g ∙ ap (λ x. unwrap_or (joined_written x) x) e
+then_tree n m u (Some w) e f g = absurd (true≢false (sym f))
+
+pub then_said : (n m : Tree) (c : Bool) (o : Option Tree) → m ≡ unwrap_or o n → false ≡ is_some o → c ≡ is_some (joined_written m) → c ≡ is_some (first_written o (joined_written n))
+then_said n m c None e f g = g ∙ ap (λ x. is_some (joined_written x)) e
+then_said n m c (Some w) e f g = absurd (true≢false (sym f))
 
 pub applied : (s : Seat) (t u : Tree) (b : Bool) → u ≡ unwrap_or (written s t) t → b ≡ is_some (written s t) → Applied Gives Rests (Expr s) t u b
 applied s t u b e f = subst (λ v. Applied Gives Rests (Expr s) t v b) (sym e) (subst (Applied Gives Rests (Expr s) t (unwrap_or (written s t) t)) (sym f) (go (written s t) refl))

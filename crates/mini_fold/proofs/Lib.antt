@@ -3,6 +3,7 @@ pub mod IdleHeads
 pub mod Counters
 pub mod ForHeads
 pub mod KnownSides
+pub mod Joins
 pub mod Constants
 pub mod Sequences
 pub mod Operators

@@ -752,10 +752,6 @@ added_contracts s n a b w e k = go (binary_operator a) refl k
 
 -- ---- 5: where nothing is written
 
-no_template : (t : Tree) (m : List ℕ) → told_in t ≡ Some m → is_whole t ≡ false
-no_template (node shape.TemplateLiteral xs n ts) m k = nothing k
-no_template (node h xs n ts) m k = refl
-
 some_made : (f : Tree → Tree) (c : Bool) (x : Tree) → c ≡ true → made_by f (if c then Some x else None) ≡ None → ⊥
 some_made f true x e k = nothing (sym k)
 some_made f false x e k = true≢false (sym e)
@@ -770,32 +766,48 @@ both_rest o n w r k =
     let g : is_whole b ≡ true = whole_is [] (r.first ∷ r.after) r.later (omega (arith, ends)) in
     nothing (sym (sym (λ i. sum_by (f i) (g i) o a b) ∙ sym (ap (λ x. sum_written o (part x 0) (part x 1)) r.shape) ∙ k))
 
+-- beside another template both are one, whatever the value of that one is
+never_both : (o : Option Seat) (a b : Tree) → sum_by true true o a b ≡ None → ⊥
+never_both o a b e = nothing (sym e)
+
 after_rest : (o : Option Seat) (n w : Tree) → Row5After n w → Fits o n → Gained o n w → sum_written o (part n 0) (part n 1) ≡ None → ⊥
 after_rest o n w r small less k =
-    let a : Tree = template (append (pieces r.before) (piece r.last ▸ none)) r.earlier in
     let starts = r.starts in
     let f : is_whole a ≡ true = whole_is r.before (r.last ∷ []) r.earlier (omega (arith, starts)) in
-    let g = no_template r.tail r.text r.known in
-    let joined : Piece = pair r.last (spelled r.text) in
-    let gain = tail_pays n w r o small less in
-    some_made (with_tail a) (is_added o (binary_operand_seat Addition 1) (count r.earlier) r.tail joined.raw (piece r.last)) (piece joined) (both_true (leaves_nothing r.tail) _ r.dropped gain)
-    (ap (λ v. made_by (with_tail a) (tail_by o (count r.earlier) (piece r.last) r.tail v)) (sym r.known)
-    ∙ ap (λ x. made_by (with_tail a) (tail_piece o (count r.earlier) x r.tail)) (sym (last_append (pieces r.before) (piece r.last)))
-    ∙ sym (λ i. sum_by (f i) (g i) o a r.tail)
-    ∙ sym (ap (λ x. sum_written o (part x 0) (part x 1)) r.shape) ∙ k)
+    go f (is_whole r.tail) refl
+  where
+    a : Tree
+    a = template (append (pieces r.before) (piece r.last ▸ none)) r.earlier
+
+    go : is_whole a ≡ true → (b : Bool) → is_whole r.tail ≡ b → ⊥
+    go f true g = never_both o a r.tail (sym (λ i. sum_by (f i) (g i) o a r.tail) ∙ sym (ap (λ x. sum_written o (part x 0) (part x 1)) r.shape) ∙ k)
+    go f false g =
+        let joined : Piece = pair r.last (spelled r.text) in
+        let gain = tail_pays n w r o small less in
+        some_made (with_tail a) (is_added o (binary_operand_seat Addition 1) (count r.earlier) r.tail joined.raw (piece r.last)) (piece joined) (both_true (leaves_nothing r.tail) _ r.dropped gain)
+        (ap (λ v. made_by (with_tail a) (tail_by o (count r.earlier) (piece r.last) r.tail v)) (sym r.known)
+        ∙ ap (λ x. made_by (with_tail a) (tail_piece o (count r.earlier) x r.tail)) (sym (last_append (pieces r.before) (piece r.last)))
+        ∙ sym (λ i. sum_by (f i) (g i) o a r.tail)
+        ∙ sym (ap (λ x. sum_written o (part x 0) (part x 1)) r.shape) ∙ k)
 
 before_rest : (o : Option Seat) (n w : Tree) → Row5Before n w → Fits o n → Gained o n w → sum_written o (part n 0) (part n 1) ≡ None → ⊥
 before_rest o n w r small less k =
-    let b : Tree = template (piece r.first ▸ pieces r.after) r.later in
     let ends = r.ends in
-    let f = no_template r.head r.text r.known in
     let g : is_whole b ≡ true = whole_is [] (r.first ∷ r.after) r.later (omega (arith, ends)) in
-    let joined : Piece = pair (spelled r.text) r.first in
-    let gain = head_pays n w r o small less in
-    some_made (with_head b) (is_added o (head_seat o) (count r.later) r.head joined.raw (piece r.first)) (piece joined) (both_true (leaves_nothing r.head) _ r.dropped gain)
-    (ap (λ v. made_by (with_head b) (head_by o (count r.later) r.head (piece r.first) v)) (sym r.known)
-    ∙ sym (λ i. sum_by (f i) (g i) o r.head b)
-    ∙ sym (ap (λ x. sum_written o (part x 0) (part x 1)) r.shape) ∙ k)
+    go g (is_whole r.head) refl
+  where
+    b : Tree
+    b = template (piece r.first ▸ pieces r.after) r.later
+
+    go : is_whole b ≡ true → (c : Bool) → is_whole r.head ≡ c → ⊥
+    go g true f = never_both o r.head b (sym (λ i. sum_by (f i) (g i) o r.head b) ∙ sym (ap (λ x. sum_written o (part x 0) (part x 1)) r.shape) ∙ k)
+    go g false f =
+        let joined : Piece = pair (spelled r.text) r.first in
+        let gain = head_pays n w r o small less in
+        some_made (with_head b) (is_added o (head_seat o) (count r.later) r.head joined.raw (piece r.first)) (piece joined) (both_true (leaves_nothing r.head) _ r.dropped gain)
+        (ap (λ v. made_by (with_head b) (head_by o (count r.later) r.head (piece r.first) v)) (sym r.known)
+        ∙ sym (λ i. sum_by (f i) (g i) o r.head b)
+        ∙ sym (ap (λ x. sum_written o (part x 0) (part x 1)) r.shape) ∙ k)
 
 sum_rest : (o : Option Seat) (n w : Tree) → Row5 n w → Fits o n → Gained o n w → sum_written o (part n 0) (part n 1) ≡ None → ⊥
 sum_rest o n w (inl r) small less k = both_rest o n w r k

@@ -3,6 +3,7 @@ pub mod FoldStaticMember
 pub mod RemoveIdleHead
 pub mod DecrementCounter
 pub mod FoldKnown
+pub mod JoinConstants
 pub mod FoldConstants
 pub mod FoldSequences
 pub mod FoldOperators

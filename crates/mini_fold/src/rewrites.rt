@@ -6,5 +6,6 @@ pub mod fold_operators;
 pub mod fold_sequences;
 pub mod fold_static_member;
 pub mod fold_templates;
+pub mod join_constants;
 pub mod minimize_binary;
 pub mod remove_idle_head;

@@ -21,7 +21,7 @@ use Rattle.mini_laws.specs.State.{Fixed, Writable, Constant, KeepsOld}
 use Rattle.mini_laws.specs.Naming.{summary, summary_of, summaries}
 use Rattle.mini_laws.specs.Fixity.{fixity_by, declared_by, stricter, fixed_by, fixed_by_any, written_in}
 use Rattle.mini_laws.proofs.Rewritten.{rows_mean_same}
-use Rattle.mini_kept.specs.Fixities.{KeepsFixities, KeepsFixitiesBut, ReachesKeepsFixities, RowsKeepFixities, ProgramKeepsFixities}
+use Rattle.mini_kept.specs.Fixities.{KeepsFixitiesBut, ReachesKeepsFixities, RowsKeepFixities, ProgramKeepsFixities}
 
 -- ---- steps
 

@@ -1,5 +1,5 @@
 -- A step at any place of a tree keeps what a write of each variable does, or what declares it goes.
-use Rattle.std.specs.Prelude.{ℕ, zero, suc, ◌+◌, ◌≤◌, ◌≡◌, ◌⊎◌, refl, ◌||◌, ◌&&◌, Bool, true, false, List, [], ◌∷◌, ◌++◌, Option, None}
+use Rattle.std.specs.Prelude.{ℕ, suc, ◌+◌, ◌≤◌, ◌≡◌, ◌⊎◌, refl, ◌||◌, ◌&&◌, Bool, true, false, List, [], ◌∷◌, ◌++◌, Option, None}
 use Rattle.std.proofs.Common.{ap, ◌∙◌, sym, subst, inl, inr, arith, true≢false}
 use Rattle.std.proofs.lemmas.Bool.{eq-eqb}
 use Rattle.mini_model.specs.declared.name.Name.{Name}
@@ -24,7 +24,6 @@ use Rattle.mini_laws.specs.State.{Writable}
 use Rattle.mini_laws.specs.Naming.{summary, summaries}
 use Rattle.mini_laws.specs.Fixity.{fixity_by, declared_by, stricter, fixed_by, fixed_by_any}
 use Rattle.mini_laws.proofs.Changes.{times_three}
-use Rattle.mini_kept.specs.Fixities.{KeepsFixitiesBut}
 use Rattle.mini_kept.specs.KeepsNames.{Stands}
 use Rattle.mini_kept.specs.Lifted.{KeepsNames}
 use Rattle.mini_kept.specs.Loosely.{symbol_for, LessOften, FixedKept, undeclared}

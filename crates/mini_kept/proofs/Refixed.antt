@@ -1,6 +1,6 @@
 -- A body does the same whatever a write of a variable does that it doesn't mention.
-use Rattle.std.specs.Prelude.{ℕ, zero, suc, ◌<◌, ◌≡◌, refl, ◌⊎◌, nat_eq, Bool, true, false, List, [], ◌∷◌, ◌++◌, Option, Some, None, Contains}
-use Rattle.std.proofs.Common.{ap, ◌∙◌, sym, subst, inl, inr, arith, true≢false}
+use Rattle.std.specs.Prelude.{ℕ, zero, suc, ◌≡◌, refl, ◌⊎◌, Bool, true, false, List, [], ◌∷◌, ◌++◌, Some, None, Contains}
+use Rattle.std.proofs.Common.{◌∙◌, sym, subst, inl, inr, arith, true≢false}
 use Rattle.std.proofs.lemmas.Bool.{eq-eqb}
 use Rattle.std.proofs.lemmas.List.Elements.{Contains-append_cases}
 use Rattle.mini_model.specs.declared.shape.Shape.{Shape}
@@ -9,9 +9,8 @@ use Rattle.mini_model.specs.Tree.{Tree, Trees, node, none, ◌▸◌, child_or_a
 use Rattle.mini_laws.specs.Value.{Variable, Declared, Global, VariableSet, Value, Slot, variables, variable_eq, nth, nothing}
 use Rattle.mini_laws.specs.State.{Label, ThisOf, BindOf, Item, Answer, State, Completion, ok, stop, halt, out, Fixed, Environment}
 use Rattle.mini_laws.specs.Demand.{Demand, Target, Binds, Request}
-use Rattle.mini_laws.specs.Command.{Naming, Op, read, read_typeof, fixity, write, init, init_function, hide, copy, event, bind_names, self, turn, fuel, Got, Gets, act, answered, answered_binds, note, number_of, copies, fresh_note, at_variable, this_of}
-use Rattle.mini_laws.specs.Naming.{summaries, facts, naming, written_of}
-use Rattle.mini_laws.specs.Asking.{demand}
+use Rattle.mini_laws.specs.Command.{Naming, Op, read, read_typeof, fixity, write, init, init_function, hide, copy, event, bind_names, self, turn, fuel, act, answered, answered_binds, note, number_of, copies, fresh_note, this_of}
+use Rattle.mini_laws.specs.Naming.{written_of}
 use Rattle.mini_laws.specs.Step.{means}
 use Rattle.mini_laws.specs.Body.{BodyKind, Outcome, body_demand, body_request, outcome_of_reply, ran, ends_as, start_of, Run}
 use Rattle.mini_laws.specs.Same.{Relation, Goes}

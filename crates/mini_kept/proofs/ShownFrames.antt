@@ -18,8 +18,8 @@ use Rattle.mini_kept.specs.AlikeBodies.{KindKept, BodiesKept}
 use Rattle.mini_kept.specs.Without.{BodySets, none_steady, Steadies, Permits, AlikeUnder, BodiesUnder}
 use Rattle.mini_kept.specs.Frames.{property_key, has_key, unbracketed, first_as_key, keyed, Frame, FramesKept}
 use Rattle.mini_kept.specs.Carried.{number_of}
-use Rattle.mini_kept.specs.ShownFrames.{OnlyGives, KeyGivenUnder, KeyGiven, ShowsKey, Shows, ShowsBare, AllShow, no_key, Gone, none_gone, is_named_expression, gone_from, AllGone, LosesName, FrameShown, FramesShown}
-use Rattle.mini_kept.proofs.WithoutLists.{Part, from_kept, permits_part, nothing_part, steady_nothing, kept_stands}
+use Rattle.mini_kept.specs.ShownFrames.{OnlyGives, KeyGivenUnder, KeyGiven, ShowsKey, Shows, ShowsBare, AllShow, Gone, none_gone, is_named_expression, gone_from, AllGone, LosesName, FrameShown, FramesShown}
+use Rattle.mini_kept.proofs.WithoutLists.{from_kept, permits_part, nothing_part, steady_nothing, kept_stands}
 
 abbrev Keys : Type 1
 Keys = ℕ → List ℕ → Type 0

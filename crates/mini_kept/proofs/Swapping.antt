@@ -1,7 +1,7 @@
 -- The branches of an `if` are swapped.
 use Rattle.std.specs.Prelude.{ℕ, ◌≤◌, ◌≡◌, refl, ◌||◌, Bool, true, false, [], ◌∷◌, ◌++◌, Option}
 use Rattle.std.proofs.Common.{ap, ◌∙◌, sym, subst, arith, inl, inr}
-use Rattle.mini_kept.specs.KeepsLoosely.{has_member, InnerKept}
+use Rattle.mini_kept.specs.KeepsLoosely.{InnerKept}
 use Rattle.std.proofs.lemmas.List.{append-nil}
 use Rattle.mini_model.specs.declared.name.SymbolId.{SymbolId}
 use Rattle.mini_model.specs.declared.place.Position.TheVariants.{Expr}

@@ -1,13 +1,13 @@
 -- A variable that no name of a program stands for is neither shared nor foreign to any body of it.
-use Rattle.std.specs.Prelude.{ℕ, zero, suc, nat_eq, ◌≡◌, refl, Bool, true, false, ◌&&◌, ◌||◌, not, List, [], ◌∷◌, ◌++◌, length, drop, map, Option, Some, None, if◌then◌else◌}
+use Rattle.std.specs.Prelude.{ℕ, zero, suc, ◌≡◌, refl, Bool, true, false, ◌&&◌, ◌||◌, not, List, [], ◌∷◌, ◌++◌, length, drop, map, Option, Some, None, if◌then◌else◌}
 use Rattle.std.specs.List.{list_any}
-use Rattle.std.proofs.Common.{ap, ◌∙◌, sym, subst}
+use Rattle.std.proofs.Common.{ap, ◌∙◌}
 use Rattle.mini_model.specs.declared.kind.VariableDeclarationKind.TheVariants.{Var}
 use Rattle.mini_model.specs.declared.name.Name.{Name}
 use Rattle.mini_model.specs.declared.name.SymbolId.{SymbolId}
 use Rattle.mini_model.specs.declared.shape.Shape.{Shape}
 use Rattle.mini_model.specs.declared.shape.Shape.TheVariants as shape
-use Rattle.mini_model.specs.Tree.{Tree, Trees, node, none, ◌▸◌, is_absent}
+use Rattle.mini_model.specs.Tree.{Tree, Trees, node, none, ◌▸◌}
 use Rattle.mini_laws.specs.declared.names.Use.{Use}
 use Rattle.mini_laws.specs.declared.names.Use.TheVariants.{Read, Hoisted}
 use Rattle.mini_laws.specs.declared.names.Around.{Around}
@@ -19,13 +19,13 @@ use Rattle.mini_laws.specs.declared.names.Opening.TheVariants as opening
 use Rattle.mini_laws.specs.declared.names.Place.{Place}
 use Rattle.mini_laws.specs.declared.names.Place.TheVariants as place
 use Rattle.mini_laws.specs.DeclaredNames.{place_of, names_by, names_of, first_names, all_names, is_statement_list, body_names, all_body_names, bound_names, has_inner, is_spelled, with_name, with_names}
-use Rattle.mini_laws.specs.Foreign.{imported_by, imported_names, all_imported_names, own_pattern_names, pattern_names, all_pattern_names, is_body_by, own_lexical, lexical_variables, all_lexical_variables, has_number, own_params_around, params_around, all_params_around, is_write, is_declared_in, may_be_uninitialised, switched, is_read_early, moments, is_foreign}
+use Rattle.mini_laws.specs.Foreign.{imported_by, imported_names, all_imported_names, own_pattern_names, pattern_names, all_pattern_names, is_body_by, own_lexical, lexical_variables, all_lexical_variables, has_number, own_params_around, params_around, all_params_around, is_write, is_declared_in, switched, is_read_early, moments, is_foreign}
 use Rattle.mini_laws.specs.Mentions.{Mention, own_mentions, around_child, outermost, mentions, mentions_from, program_mentions, is_elsewhere, same_variable, is_among}
 use Rattle.mini_laws.specs.References.{writes}
 use Rattle.mini_laws.specs.Resolved.{Environment, or_else, is_for, own_symbol, symbol_of}
 use Rattle.mini_laws.specs.ScopeList.{Scope, with_names_alone, entered, names_in, least_scopes, scope_list, scope_list_from, any_has_eval, scopes_of, seen_in, seen_by_eval}
 use Rattle.mini_laws.specs.Scopes.{use_of, opening_of, scopes_by, at_or_empty, opened, name_if, merged}
-use Rattle.mini_laws.specs.Shared.{script_tops, module_names_by, module_names, all_module_names, names_arguments, reached_params, reached_by_arguments, all_reached_by_arguments, spelled_among, own_caught, caught, all_caught, given_by_declarator, given_values, write_at, var_writes, var_writes_from, program_var_writes, own_catch_params, catch_params, all_catch_params, is_shared_always, is_shared}
+use Rattle.mini_laws.specs.Shared.{script_tops, module_names_by, module_names, all_module_names, names_arguments, reached_params, reached_by_arguments, all_reached_by_arguments, spelled_among, own_caught, caught, all_caught, given_values, write_at, var_writes, var_writes_from, program_var_writes, own_catch_params, catch_params, all_catch_params, is_shared}
 use Rattle.mini_laws.specs.Strict.{is_strict_in}
 use Rattle.mini_laws.specs.Value.{Declared as Variable, variables, variable_eq, variable_by}
 use Rattle.mini_laws.specs.Congruence.{NoneIn, Avoids, AllAvoid}

@@ -1,7 +1,7 @@
 -- Which variables a program mentions, and which of them can be written in it.
 use Rattle.std.specs.Prelude.{Bool, true, false, ◌&&◌, ◌||◌}
 use Rattle.mini_model.specs.Tree.{Tree, Trees, node, none, ◌▸◌}
-use Rattle.mini_laws.specs.Value.{Variable, Declared, Global, VariableSet, variables, is_in}
+use Rattle.mini_laws.specs.Value.{Declared, Global, VariableSet, variables, is_in}
 use Rattle.mini_laws.specs.State.{Fixed, Writable}
 use Rattle.mini_laws.specs.Fixity.{fixed_by}
 

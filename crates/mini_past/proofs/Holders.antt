@@ -1,6 +1,6 @@
 -- What is done in the statements of a function or of an arrow function is done in it.
 use Rattle.std.proofs.Common.{◌≡◌, ℕ, suc, Bool, true, false, List, [], ◌∷◌, refl, sym, ap, ◌∙◌, subst, inl, inr, true≢false}
-use Rattle.std.specs.Prelude.{not, ◌⊎◌, ◌&&◌, ◌||◌, None, Some}
+use Rattle.std.specs.Prelude.{not, ◌⊎◌, ◌&&◌, ◌||◌, None}
 use Rattle.mini_model.specs.declared.name.Name.{Name}
 use Rattle.mini_model.specs.declared.shape.Shape.TheVariants as shape
 use Rattle.mini_model.specs.Tree.{Tree, Trees, node, none, ◌▸◌, absent, listed, children, child_or_absent}
@@ -23,7 +23,7 @@ pub use Rattle.mini_unused.proofs.Swept.{in_arrow, in_function}
 pub use Rattle.mini_unused.proofs.Unused.{same_parts, part_twice}
 use Rattle.mini_past.proofs.NextRows.{next_row, none_next}
 use Rattle.mini_past.proofs.PastRows.{row_there, none_past}
-use Rattle.mini_past.specs.SubstitutePast.{may_pass_by, reads_past, reads_past_in, is_read_past, is_read_past_then, is_past, is_past_next, PastAt, PastNextOf, PastNextAt, ReadPast, NextPast, PastGone, PastRemoved, AppliedPast, AppliedPastArrow}
+use Rattle.mini_past.specs.SubstitutePast.{may_pass_by, reads_past, reads_past_in, is_read_past, is_read_past_then, is_past, is_past_next, PastAt, PastNextAt, ReadPast, NextPast, PastGone, PastRemoved, AppliedPast, AppliedPastArrow}
 
 -- ---- the rows of a list, with what is outside of it
 

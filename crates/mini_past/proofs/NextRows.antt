@@ -1,10 +1,10 @@
 -- Where the next declarator reads the name, what is written is what the row says, and where nothing is written no row reads the statements.
-use Rattle.std.proofs.Common.{◌≡◌, ℕ, suc, ◌<◌, Bool, true, false, [], ◌∷◌, refl, sym, ap, ◌∙◌, subst, true≢false, arith}
+use Rattle.std.proofs.Common.{◌≡◌, ℕ, suc, ◌<◌, Bool, true, false, [], ◌∷◌, sym, ap, ◌∙◌, subst, true≢false, arith}
 use Rattle.std.specs.Prelude.{not, ◌&&◌, ◌||◌, None}
 use Rattle.std.proofs.lemmas.Bool.{and_parts}
 use Rattle.mini_model.specs.declared.kind.VariableDeclarationKind.{VariableDeclarationKind}
 use Rattle.mini_model.specs.declared.name.Name.{Name}
-use Rattle.mini_model.specs.Tree.{Tree, Trees, none, ◌▸◌, listed, shape_of, children, count, child_or_absent}
+use Rattle.mini_model.specs.Tree.{Tree, Trees, ◌▸◌, listed, shape_of, children, count, child_or_absent}
 use Rattle.mini_model.specs.Paths.{append}
 use Rattle.mini_kept.specs.Without.{Assured}
 use Rattle.mini_laws.specs.Naming.{is_lexical}
@@ -16,7 +16,7 @@ use Rattle.mini_rows.specs.Lists.{block, declaration}
 use Rattle.mini_rows.specs.Declarations.{binding, declarator}
 use Rattle.mini_rows.specs.Past.{held, are_past, Row71PastNext}
 use Rattle.mini_rows.specs.Unused.{resolved, declared_among, names, any_names, is_constant, is_first, put_first, may_move, lets_go}
-use Rattle.mini_unused.specs.RemoveUnusedDeclaration.{is_lexical_shape, declares_list, is_free_at, list_at, may_lose}
+use Rattle.mini_unused.specs.RemoveUnusedDeclaration.{is_lexical_shape, declares_list, list_at, may_lose}
 use Rattle.mini_unused.specs.SubstituteNext.{put_named, is_mentioned_beside, is_mentioned_elsewhere, declarators_next, list_next}
 use Rattle.mini_unused.proofs.NextUses.{next_left}
 use Rattle.mini_unused.proofs.SingleUses.{neither, next_there as child_there, rest_there, within_there}

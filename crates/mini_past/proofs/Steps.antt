@@ -37,20 +37,9 @@ applied S W Method t u b e a = at_place S W Method (λ t u r. r) (λ t u r. r) t
 applied S W Elsewhere t u b e a = at_place S W Elsewhere (λ t u r. r) (λ t u r. r) t u b a
 applied S W p t u b e a = absurd (true≢false (sym e))
 
-pub stays_elsewhere : (S : BodySets) (W : VariableSet) (p : Position) (t : Tree) → holds_function p ≡ false → RestsPast S W p t
-stays_elsewhere S W (Stmt s) t e = absurd (true≢false e)
-stays_elsewhere S W (Expr s) t e = absurd (true≢false e)
-stays_elsewhere S W Method t e = absurd (true≢false e)
-stays_elsewhere S W Elsewhere t e = absurd (true≢false e)
-stays_elsewhere S W p t e = λ w r. r
-
 -- ---- an arrow function
 
 pub arrow_applied : (S : BodySets) (W : VariableSet) (p : Position) (t u : Tree) (b : Bool) → holds_arrow p ≡ true → AppliedPastArrow S W t u b → Applied (PastArrow S W) (RestsPastArrow S W) p t u b
 arrow_applied S W (Expr s) t u true e a = several_moves (PastArrow S W) (Expr s) (PastArrowRow S W) (λ t u r. r) t u a
 arrow_applied S W (Expr s) t u false e a = a
 arrow_applied S W p t u b e a = absurd (true≢false (sym e))
-
-pub no_arrow_elsewhere : (S : BodySets) (W : VariableSet) (p : Position) (t : Tree) → holds_arrow p ≡ false → RestsPastArrow S W p t
-no_arrow_elsewhere S W (Expr s) t e = absurd (true≢false e)
-no_arrow_elsewhere S W p t e = λ w r. r

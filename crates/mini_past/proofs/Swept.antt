@@ -1,5 +1,5 @@
 -- Names that go from a list one after another; where one does, no direct eval comes about.
-use Rattle.std.proofs.Common.{◌≡◌, ℕ, suc, ◌<◌, Bool, true, false, List, [], ◌∷◌, refl, sym, ap, ◌∙◌, subst, inl, inr, true≢false}
+use Rattle.std.proofs.Common.{◌≡◌, ℕ, suc, true, false, List, [], ◌∷◌, sym, ap, ◌∙◌, subst, inl, inr, true≢false}
 use Rattle.std.specs.Prelude.{not, ◌⊎◌, ◌&&◌, ◌||◌, Some}
 use Rattle.std.proofs.lemmas.Bool.{and_parts}
 use Rattle.mini_model.specs.declared.name.Name.{Name}
@@ -17,7 +17,7 @@ use Rattle.mini_unused.specs.SubstituteSingleUse.{declaration_left, last_place, 
 use Rattle.mini_unused.proofs.Chains.{chain_joined, chain_once}
 use Rattle.mini_unused.proofs.Uneval.{Unseen, part_of, declaration_without, put_there, put_in_head, next_without, unseen_with, in_list}
 use Rattle.mini_past.proofs.NextPlaces.{found}
-use Rattle.mini_past.specs.SubstitutePast.{may_pass_by, reads_past, reads_past_in, is_read_past, is_read_past_then, is_past_declarator, is_past, PastAt, PastNextAt, ReadPast, NextPast, PastGone, Calm, Swept}
+use Rattle.mini_past.specs.SubstitutePast.{may_pass_by, reads_past, reads_past_in, is_read_past, is_read_past_then, PastAt, PastNextAt, ReadPast, NextPast, PastGone, Calm, Swept}
 
 -- ---- no direct eval comes about
 

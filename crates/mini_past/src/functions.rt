@@ -12,11 +12,7 @@ use std::alloc::Global;
 /// Of a function with statements that is no arrow function, as `function f(g) { let x = a(); return g(x); }`, which becomes
 /// `function f(g) { ; return g(a()); }`, wherever it stands. The answer says whether a name went.
 #[tactic(auto, using(crate::proofs::Holders::same_parts, crate::proofs::Holders::part_twice))]
-pub fn substitute_past_in_function<S: PastNames>(
-    alloc: Global,
-    node: &mut Node,
-    steady: &S,
-) -> bool
+pub fn substitute_past_in_function<S: PastNames>(alloc: Global, node: &mut Node, steady: &S) -> bool
     ensures { AppliedPast (S.sets steady.now) (S.writable steady.now) node.old node.new result }
 {
     if !is_function(node) {

@@ -186,7 +186,15 @@ fn next_of<S: PastNames>(
         return None;
     }
     let is_free = is_lexical(statement.shape());
-    next_in(is_free, statement.child(0), outside, statements, at, body, steady)
+    next_in(
+        is_free,
+        statement.child(0),
+        outside,
+        statements,
+        at,
+        body,
+        steady,
+    )
 }
 
 // The first declaration that has a name which its next declarator reads so, and which nothing else mentions, and the declarator's place

@@ -18,8 +18,8 @@ use mini_model::Name;
 use mini_node::{Node, Nodes};
 use mini_steady::SteadyNames;
 use mini_unused::{
-    declares_list, either_has_eval, is_declared_over, is_lexical, is_mentioned, is_mentioned_around,
-    last_declarator, reads_first, substitute_in_list,
+    declares_list, either_has_eval, is_declared_over, is_lexical, is_mentioned,
+    is_mentioned_around, last_declarator, reads_first, substitute_in_list,
 };
 use std::alloc::Global;
 
@@ -128,16 +128,20 @@ pub fn is_past<S: PastNames>(
         return false;
     }
     let is_free = is_lexical(statement.shape());
-    is_past_declarator(is_free, list, count - 1, outside, statements, at, body, steady)
+    is_past_declarator(
+        is_free,
+        list,
+        count - 1,
+        outside,
+        statements,
+        at,
+        body,
+        steady,
+    )
 }
 
 // The first such statement.
-fn past_at<S: PastNames>(
-    outside: &Node,
-    statements: &Nodes,
-    body: u32,
-    steady: &S,
-) -> Option<usize>
+fn past_at<S: PastNames>(outside: &Node, statements: &Nodes, body: u32, steady: &S) -> Option<usize>
     ensures { PastAt (S.sets steady.now body) (S.writable steady.now) outside.now statements.now result }
 {
     let count = statements.len();

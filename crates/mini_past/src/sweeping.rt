@@ -129,15 +129,7 @@ fn sweep_statement<S: PastNames>(
 {
     let count = declarators_at(list, at);
     for passed in 0..count {
-        sweep_declarator(
-            alloc,
-            outside,
-            list,
-            at,
-            count - 1 - passed,
-            body,
-            steady,
-        );
+        sweep_declarator(alloc, outside, list, at, count - 1 - passed, body, steady);
     }
 }
 

@@ -16,8 +16,8 @@ use Rattle.mini_laws.specs.Value.{VariableSet}
 use Rattle.mini_laws.specs.Writable.{writable_in}
 use Rattle.mini_kept.specs.Loosely.{LawfulWith, LawfulUnder}
 use Rattle.mini_kept.specs.Rooted.{Inner, LawfulRooted}
-use Rattle.mini_kept.specs.Without.{Assured, BodySets, none_steady}
-use Rattle.mini_kept.proofs.Loosely.{loose_narrowed, loose_is_steady, steady_join, steady_narrowed}
+use Rattle.mini_kept.specs.Without.{BodySets, none_steady}
+use Rattle.mini_kept.proofs.Loosely.{loose_narrowed, loose_is_steady, steady_narrowed}
 use Rattle.mini_kept.proofs.Rooted.{steady_is_rooted, rooted_wider, rooted_join}
 use Rattle.mini_rows.specs.Switches.{Switches, let_go}
 use Rattle.mini_rows.specs.Branches.{BranchRow}

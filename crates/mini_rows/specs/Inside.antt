@@ -75,6 +75,11 @@ is_way s here = false
 is_way (Some s) (inside h [] zero pre k post) = is_way (way_in s h (count pre)) k
 is_way s (inside h xs n pre k post) = false
 
+-- a list of statements
+abbrev pub are_statements : Way → Bool
+are_statements way.Statements = true
+are_statements s = false
+
 -- the nodes on the way to it, each without what the way goes into
 abbrev pub above : Path → Trees
 above here = none

@@ -50,8 +50,8 @@ pub use names::{names_are_lawful, names_lighten};
 pub use negations::{negations_are_lawful, negations_lighten, negations_mean_the_same};
 pub use operands::{operands_are_lawful, operands_are_lighter, operands_mean_the_same};
 pub use past::{
-    past_steady_names_are_lawful, past_steady_names_are_lawful_in_arrows, past_steady_names_lighten,
-    past_steady_names_lighten_arrows, past_steady_names_run_alike,
+    past_steady_names_are_lawful, past_steady_names_are_lawful_in_arrows,
+    past_steady_names_lighten, past_steady_names_lighten_arrows, past_steady_names_run_alike,
 };
 pub use programs::{own_programs_are_lawful, own_programs_lighten};
 pub use redexes::rows_are_lawful;

@@ -38,5 +38,12 @@ pub fn minimize_in_program<S: SteadyNames, W: OwnRewrites<S>>(
     }
     let number = node.number();
     let list = node.children_mut().child_mut(0);
-    Ok(minimize_own_code(alloc, list, Position::StatementList, number, steady, rewrites)?)
+    Ok(minimize_own_code(
+        alloc,
+        list,
+        Position::StatementList,
+        number,
+        steady,
+        rewrites,
+    )?)
 }

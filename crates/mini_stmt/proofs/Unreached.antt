@@ -4,7 +4,7 @@ use Rattle.std.specs.Prelude.{not, ◌&&◌, ◌||◌, if◌then◌else◌, Some
 use Rattle.std.proofs.lemmas.Bool.{and_parts, false≢true}
 use Rattle.mini_model.specs.declared.kind.VariableDeclarationKind.TheVariants.{Var}
 use Rattle.mini_model.specs.declared.name.Name.{Name}
-use Rattle.mini_model.specs.Tree.{Tree, Trees, node, none, ◌▸◌, count, shape_of, child_or_absent, children, absent, is_absent_shape}
+use Rattle.mini_model.specs.Tree.{Tree, Trees, none, ◌▸◌, count, child_or_absent, absent}
 use Rattle.mini_model.specs.Paths.{append}
 use Rattle.mini_node.specs.Children.{first_children, rest_children, without}
 use Rattle.mini_node.specs.Walks.{next_child, no_rest, append_none, append_one}

@@ -18,7 +18,7 @@ use Rattle.mini_laws.specs.Demand.{Val, Demand, As, OfType, Deleted, Parts, Text
 use Rattle.mini_laws.specs.Command.{Command, ret, bind, hear, hears, only_object, boolean_value, is_object}
 use Rattle.mini_laws.specs.Naming.{NameKind, PlainName, EvalName, UndefinedName, NumberName, kinds, facts}
 use Rattle.mini_laws.specs.Asking.{demand, sequence_demand, operand_demand}
-use Rattle.mini_laws.specs.Replies.{reply, valued, passed, passing, primitive, numeric, of_made, operate, raise, hint_of}
+use Rattle.mini_laws.specs.Replies.{reply, valued, passed, passing, primitive, numeric, of_made, raise, hint_of}
 use Rattle.mini_laws.specs.Expressions.{first_kind, unary_step, binary_step, operate_by, logical_step, conditional_step, delete_of, number_step}
 use Rattle.mini_laws.specs.Targets.{identifier_step}
 use Rattle.mini_laws.specs.Lists.{parts, sequence}

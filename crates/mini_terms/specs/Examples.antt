@@ -6,7 +6,7 @@ use Rattle.mini_model.specs.declared.operator.BinaryOperator.TheVariants as bina
 use Rattle.mini_model.specs.declared.operator.LogicalOperator.TheVariants.{Or, And}
 use Rattle.mini_model.specs.declared.operator.UnaryOperator.TheVariants as unary
 use Rattle.mini_model.specs.declared.shape.Shape.TheVariants as shape
-use Rattle.mini_model.specs.Tree.{Tree, node, none, ◌▸◌, leaf, absent, listed, logical, conditional, negation, unresolved}
+use Rattle.mini_model.specs.Tree.{none, ◌▸◌, leaf, absent, listed, logical, conditional, negation}
 use Rattle.mini_model.specs.Tree as tree
 use Rattle.mini_laws.specs.Value.{Undefined, Null, Boolean, Number, String}
 use Rattle.mini_laws.specs.Samples.{one, two, global, local, number, text, null, binary, assign, called, member, sequence, template, function}

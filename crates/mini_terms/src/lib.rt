@@ -24,7 +24,9 @@ pub use laws::{
     const_is_sound, effect_free_is_sound, kind_is_sound, lit_is_sound, truth_is_sound,
     values_are_read, what_is_known_goes,
 };
-pub use literals::{copied, evaluate_value, is_true, operand_value, text_of_both, to_text};
+pub use literals::{
+    calculated_binary, copied, evaluate_value, is_true, operand_value, text_of_both, to_text,
+};
 pub use numbers::{calculated_numbers, is_same};
 pub use parts::{is_item, is_plain_part, is_typed_by_value, leaves_nothing, stands, suits, weighs};
 pub use values::{ConstantValue, value_to_expr};

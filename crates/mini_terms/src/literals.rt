@@ -394,8 +394,10 @@ fn negated(holds: Option<bool>) -> Option<ConstantValue>
     }
 }
 
-// An operator of two values.
-fn calculated_binary(
+/// An operator of two values, as far as it is calculated.
+///
+/// The only error is that memory runs out.
+pub fn calculated_binary(
     alloc: Global,
     operator: BinaryOperator,
     left: ConstantValue,

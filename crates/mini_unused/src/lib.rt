@@ -21,9 +21,7 @@ pub use declarations::{
 pub use evals::{either_has_eval, has_eval};
 pub use mentions::{is_mentioned, is_mentioned_before, is_mentioned_from};
 pub use names::{RemoveUnusedNames, remove_unused_name};
-pub use next_uses::{
-    is_declarator, is_mentioned_beside, is_mentioned_elsewhere, substitute_next,
-};
+pub use next_uses::{is_declarator, is_mentioned_beside, is_mentioned_elsewhere, substitute_next};
 pub use single_uses::{
     is_constant, is_declared_over, is_first, is_mentioned_around, last_declarator, may_go_on,
     may_move, reads_first, substitute_in_list, substitute_single_uses,

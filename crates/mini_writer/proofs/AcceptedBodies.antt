@@ -8,7 +8,7 @@ use Rattle.mini_model.specs.Texts.{units_of, bytes_of, are_units}
 use Rattle.mini_model.specs.declared.shape.Shape.TheVariants as shape
 use Rattle.mini_model.specs.Tree.{Tree, node, Trees, none, ◌▸◌, node_count, node_counts}
 use Rattle.mini_accept.specs.WellShaped as shaped
-use Rattle.mini_accept.specs.WellShaped.{Class, Depth, in_module, in_body, a_statement, these, each, is_paired, are_paired, fits, fill}
+use Rattle.mini_accept.specs.WellShaped.{Class, Depth, in_body, a_statement, these, each, is_paired, are_paired, fits, fill}
 use Rattle.mini_accept.specs.declared.kind.Kind.TheVariants as kind
 use Rattle.mini_accept.specs.declared.kind.Kind.{Kind}
 use Rattle.mini_accept.specs.Kind.{types}

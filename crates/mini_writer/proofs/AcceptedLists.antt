@@ -10,7 +10,6 @@ use Rattle.mini_model.specs.declared.place.Position.{Position}
 use Rattle.mini_model.specs.Position.{child_position}
 use Rattle.mini_model.specs.Weight.{outlines, directives_weight}
 use Rattle.mini_accept.specs.WellShaped as shaped
-use Rattle.mini_accept.specs.WellShaped.{Class}
 use Rattle.mini_accept.specs.Faults.{Fault}
 use Rattle.mini_accept.specs.Places.{Step, field, place, step_text, down, Place, at}
 use Rattle.mini_accept.specs.Fields.{list_at}

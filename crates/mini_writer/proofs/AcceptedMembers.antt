@@ -15,7 +15,7 @@ use Rattle.mini_accept.specs.Standing.{stands_as}
 use Rattle.mini_accept.specs.Plans as plans
 use Rattle.mini_accept.specs.Plans.{Part, tree_at, inner_at, one}
 use Rattle.mini_accept.specs.Expressions as table
-use Rattle.mini_accept.specs.Expressions.{is_link, link_class}
+use Rattle.mini_accept.specs.Expressions.{is_link}
 use Rattle.mini_writer.specs.Objects as objects
 use Rattle.mini_writer.specs.Written.{tree_data, trees_data}
 use Rattle.mini_writer.proofs.Read.{ChildBack, no_children, ◌&◌, plain_back}

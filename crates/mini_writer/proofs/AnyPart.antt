@@ -8,7 +8,7 @@ use Rattle.mini_model.specs.declared.shape.Shape.{Shape}
 use Rattle.mini_model.specs.declared.shape.Shape.TheVariants as shape
 use Rattle.mini_model.specs.Tree.{Tree, Trees, is_absent}
 use Rattle.mini_accept.specs.WellShaped as shaped
-use Rattle.mini_accept.specs.WellShaped.{Class, Slot, these, each, filling_by, is_text, is_paired, is_name}
+use Rattle.mini_accept.specs.WellShaped.{Class, these, is_text, is_paired, is_name}
 use Rattle.mini_accept.specs.declared.kind.Kind.TheVariants as kind
 use Rattle.mini_accept.specs.Fields.{is_there, has_type}
 use Rattle.mini_accept.specs.Literals.{is_string_literal}

@@ -10,7 +10,7 @@ use Rattle.mini_model.specs.declared.shape.Shape.{Shape}
 use Rattle.mini_model.specs.declared.shape.Shape.TheVariants as shape
 use Rattle.mini_model.specs.Tree.{Tree, node, Trees, none, ◌▸◌, is_absent, children, node_count}
 use Rattle.mini_accept.specs.WellShaped as shaped
-use Rattle.mini_accept.specs.WellShaped.{Class, Slot, these, each, filling_by, is_text, is_paired}
+use Rattle.mini_accept.specs.WellShaped.{Class, these, each, filling_by}
 use Rattle.mini_accept.specs.Places.{at}
 use Rattle.mini_accept.specs.Fields.{is_there, is_given}
 use Rattle.mini_accept.specs.Standing.{stands_as}

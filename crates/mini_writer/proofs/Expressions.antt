@@ -16,7 +16,7 @@ use Rattle.mini_model.specs.declared.shape.Shape.{Shape}
 use Rattle.mini_model.specs.declared.shape.Shape.TheVariants as shape
 use Rattle.mini_model.specs.Tree.{Tree, node, Trees, none, ◌▸◌, count, children, shape_of}
 use Rattle.mini_accept.specs.WellShaped as shaped
-use Rattle.mini_accept.specs.WellShaped.{Class, Slot, Tagging, these, is_strict_in, is_not_positive_number}
+use Rattle.mini_accept.specs.WellShaped.{Class, these, is_strict_in, is_not_positive_number}
 use Rattle.mini_accept.specs.declared.kind.Kind.TheVariants as kind
 use Rattle.mini_accept.specs.declared.kind.Kind.{Kind}
 use Rattle.mini_accept.specs.Kind.{types}
@@ -25,7 +25,7 @@ use Rattle.mini_accept.specs.Fields.{kind_of, is_there, has_type, word_in, text_
 use Rattle.mini_accept.specs.Literals.{literal, negative_of, with_minus}
 use Rattle.mini_accept.specs.Standing.{stands_as, is_expression, is_key}
 use Rattle.mini_accept.specs.Plans as plans
-use Rattle.mini_accept.specs.Plans.{Child, Plan, node_of}
+use Rattle.mini_accept.specs.Plans.{Child, node_of}
 use Rattle.mini_accept.specs.Entries.{entry}
 use Rattle.mini_accept.specs.Expressions as table
 use Rattle.mini_accept.specs.Expressions.{identifier_by, identifier_as, is_link, minus_below, tagging_of, target_class}

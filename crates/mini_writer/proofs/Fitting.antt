@@ -7,7 +7,7 @@ use Rattle.mini_model.specs.declared.shape.Shape.{Shape}
 use Rattle.mini_model.specs.declared.shape.Shape.TheVariants as shape
 use Rattle.mini_model.specs.Tree.{Tree, node, Trees, none, ◌▸◌, node_count, node_counts}
 use Rattle.mini_accept.specs.WellShaped as shaped
-use Rattle.mini_accept.specs.WellShaped.{Class, Slot, Filling, these, refused, each, each_or_last, fits, fill, filling_by, slots_of, is_strict_in, is_numbered, has_names, has_plain_fields, has_its_parts, none_if, is_last}
+use Rattle.mini_accept.specs.WellShaped.{Class, Slot, Filling, these, refused, each, each_or_last, fits, fill, filling_by, slots_of, is_strict_in, has_names, has_plain_fields, has_its_parts, none_if}
 use Rattle.mini_writer.proofs.Units.{has_units, have_units, fields_are_units, names_are_units}
 
 -- a tree that fits a slot, has units as its texts, and has at most so many nodes

@@ -13,14 +13,14 @@ use Rattle.mini_accept.specs.Places.{field, at}
 use Rattle.mini_accept.specs.Fields.{is_object, is_there, has_type, list_at}
 use Rattle.mini_accept.specs.Standing.{stands_as, is_key, is_nested}
 use Rattle.mini_accept.specs.Plans as plans
-use Rattle.mini_accept.specs.Plans.{Child, node_of, tree_at, one}
+use Rattle.mini_accept.specs.Plans.{Child, node_of, one}
 use Rattle.mini_accept.specs.Statements.{directives_of}
 use Rattle.mini_accept.specs.Functions as function
-use Rattle.mini_accept.specs.Functions.{directives_in, is_named}
+use Rattle.mini_accept.specs.Functions.{directives_in}
 use Rattle.mini_accept.proofs.Wholes.{absent_or, not_absent}
 use Rattle.mini_writer.specs.Objects as objects
 use Rattle.mini_writer.specs.Written as written
-use Rattle.mini_writer.specs.Written.{tree_data, trees_data, node_data, body}
+use Rattle.mini_writer.specs.Written.{tree_data, trees_data, body}
 use Rattle.mini_writer.proofs.Units.{all_are_units}
 use Rattle.mini_writer.proofs.Read.{ChildBack, node_back, plain_back, one_child, no_children, ◌&◌, tree_back}
 use Rattle.mini_writer.proofs.Fitting.{Fit, Filled, node_fits, fit_more, and_false, with_one, with_two, with_three, with_four, with_list, with_optional}

@@ -10,7 +10,7 @@ use Rattle.mini_model.specs.declared.shape.Shape.{Shape}
 use Rattle.mini_model.specs.declared.shape.Shape.TheVariants as shape
 use Rattle.mini_model.specs.Tree.{node, none}
 use Rattle.mini_accept.specs.WellShaped as shaped
-use Rattle.mini_accept.specs.WellShaped.{Class, is_paired, is_safe, max_big_int, is_strict_in, is_name}
+use Rattle.mini_accept.specs.WellShaped.{Class, is_paired, is_safe, max_big_int, is_name}
 use Rattle.mini_accept.specs.declared.kind.Kind.TheVariants as kind
 use Rattle.mini_accept.specs.Places.{field, at, a_local_name}
 use Rattle.mini_accept.specs.Fields.{kind_of}

@@ -7,7 +7,7 @@ use Rattle.mini_model.specs.declared.shape.Shape.{Shape}
 use Rattle.mini_model.specs.declared.shape.Shape.TheVariants as shape
 use Rattle.mini_model.specs.Tree.{Tree, node, Trees, node_counts}
 use Rattle.mini_accept.specs.WellShaped as shaped
-use Rattle.mini_accept.specs.WellShaped.{Class, these, filling_by, expression_slots, is_strict_in, has_optional, has_optional_by, none_if, is_chained}
+use Rattle.mini_accept.specs.WellShaped.{Class, these, filling_by, expression_slots, is_strict_in, has_optional, has_optional_by}
 use Rattle.mini_accept.specs.declared.kind.Kind.TheVariants as kind
 use Rattle.mini_accept.specs.Expressions.{has_mark}
 use Rattle.mini_writer.specs.Written.{tree_data, trees_data, node_data}

@@ -11,7 +11,7 @@ use Rattle.mini_accept.specs.declared.kind.Kind.TheVariants as kind
 use Rattle.mini_accept.specs.Places.{field, at, an_exported}
 use Rattle.mini_accept.specs.Fields.{is_there, no_item}
 use Rattle.mini_accept.specs.Plans as plans
-use Rattle.mini_accept.specs.Plans.{Plan, node_of, one, tree_at}
+use Rattle.mini_accept.specs.Plans.{node_of, one, tree_at}
 use Rattle.mini_accept.specs.Statements as statement
 use Rattle.mini_accept.specs.Modules.{export_part, local_place}
 use Rattle.mini_accept.proofs.Wholes.{not_absent}

@@ -4,7 +4,7 @@ use Rattle.std.proofs.lemmas.Bool.{and_parts, false≢true, true≢false}
 use Rattle.mini_model.specs.declared.shape.Shape.TheVariants as shape
 use Rattle.mini_model.specs.Tree.{Tree, node, none, ◌▸◌}
 use Rattle.mini_accept.specs.WellShaped as shaped
-use Rattle.mini_accept.specs.WellShaped.{Class, is_reference}
+use Rattle.mini_accept.specs.WellShaped.{is_reference}
 use Rattle.mini_accept.specs.Places.{at, a_local_name}
 use Rattle.mini_writer.specs.Written.{tree_data}
 use Rattle.mini_writer.proofs.Read.{ReadsBack}

@@ -12,7 +12,7 @@ use Rattle.mini_accept.specs.Places.{at, field}
 use Rattle.mini_accept.specs.Fields.{has_type}
 use Rattle.mini_accept.specs.Standing.{stands_as}
 use Rattle.mini_accept.specs.Plans as plans
-use Rattle.mini_accept.specs.Plans.{Child, Part, one, tree_at, inner_at}
+use Rattle.mini_accept.specs.Plans.{Part, one, tree_at, inner_at}
 use Rattle.mini_accept.specs.Expressions as table
 use Rattle.mini_accept.specs.Patterns.{is_binding}
 use Rattle.mini_writer.specs.Objects as objects

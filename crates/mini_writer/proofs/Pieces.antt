@@ -13,7 +13,7 @@ use Rattle.mini_model.specs.Tree.{Tree, Trees, none, ◌▸◌, listed, count}
 use Rattle.mini_model.specs.declared.place.Position.{Position}
 use Rattle.mini_model.specs.Weight.{Outline, outlines, own_weight}
 use Rattle.mini_accept.specs.WellShaped as shaped
-use Rattle.mini_accept.specs.WellShaped.{Class, Tagging, tagged, untagged}
+use Rattle.mini_accept.specs.WellShaped.{Tagging, tagged, untagged}
 use Rattle.mini_accept.specs.Places.{Step, field, step_text, Place, at}
 use Rattle.mini_accept.specs.Fields.{units_at, flag_at, list_at}
 use Rattle.mini_accept.specs.Literals.{with_minus}

@@ -11,12 +11,12 @@ use Rattle.mini_model.specs.declared.shape.Shape.{Shape}
 use Rattle.mini_model.specs.declared.shape.Shape.TheVariants as shape
 use Rattle.mini_model.specs.Tree.{Tree, node, Trees, none, ◌▸◌}
 use Rattle.mini_accept.specs.WellShaped as shaped
-use Rattle.mini_accept.specs.WellShaped.{Class, Slot, these, in_body, a_statement, fits, is_init, is_same_spelling, spelling, without_default, value_class, names_constructor, slots_of}
+use Rattle.mini_accept.specs.WellShaped.{Class, these, in_body, a_statement, fits, is_init, is_same_spelling, spelling, without_default, value_class, names_constructor, slots_of}
 use Rattle.mini_accept.specs.declared.kind.Kind.TheVariants as kind
 use Rattle.mini_accept.specs.Places.{at, field}
 use Rattle.mini_accept.specs.Standing.{stands_as}
 use Rattle.mini_accept.specs.Plans as plans
-use Rattle.mini_accept.specs.Plans.{Child, tree_at, inner_at, one}
+use Rattle.mini_accept.specs.Plans.{tree_at, one}
 use Rattle.mini_accept.specs.Expressions as table
 use Rattle.mini_accept.specs.Expressions.{identifier_text, is_name_with_default}
 use Rattle.mini_accept.specs.Functions as function

@@ -8,13 +8,12 @@ use Rattle.mini_model.specs.declared.shape.Shape.TheVariants as shape
 use Rattle.mini_model.specs.Tree.{unresolved}
 use Rattle.mini_model.specs.Weight.{Outline}
 use Rattle.mini_accept.specs.WellShaped as shaped
-use Rattle.mini_accept.specs.WellShaped.{Class, Tagging, tagged, untagged}
+use Rattle.mini_accept.specs.WellShaped.{Class}
 use Rattle.mini_accept.specs.Places.{Place, at}
 use Rattle.mini_accept.specs.Fields.{is_given, flag_at, list_at, name_at, has_type, child_has_type}
 use Rattle.mini_accept.specs.Words.{word_at, assignment_operators, binary_operators, logical_operators, property_kinds, update_operators}
 use Rattle.mini_accept.specs.Plans.{tree_at, inner_at, Child, node_of, child, inner, optional, each, or_hole}
 use Rattle.mini_accept.specs.Expressions as expression
-use Rattle.mini_accept.specs.Expressions.{minus_below, unary_plan}
 use Rattle.mini_writer.proofs.Amounts.{are_few}
 use Rattle.mini_writer.proofs.Written.{spelled_light, wordy}
 use Rattle.mini_writer.proofs.AcceptedLists.{ChildAt, ChildrenAt}

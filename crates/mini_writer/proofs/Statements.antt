@@ -9,14 +9,14 @@ use Rattle.mini_model.specs.declared.shape.Shape.{Shape}
 use Rattle.mini_model.specs.declared.shape.Shape.TheVariants as shape
 use Rattle.mini_model.specs.Tree.{Tree, node, Trees, none, ◌▸◌, count, is_absent, child_or_absent, children}
 use Rattle.mini_accept.specs.WellShaped as shaped
-use Rattle.mini_accept.specs.WellShaped.{Class, Slot, Depth, in_module, in_body, nested, a_statement, these, each, is_strict_in}
+use Rattle.mini_accept.specs.WellShaped.{Class, Depth, in_module, in_body, nested, a_statement, these, each, is_strict_in}
 use Rattle.mini_accept.specs.declared.kind.Kind.TheVariants as kind
 use Rattle.mini_accept.specs.declared.kind.Kind.{Kind}
 use Rattle.mini_accept.specs.Places.{at}
 use Rattle.mini_accept.specs.Fields.{kind_of, is_there, has_one_of}
 use Rattle.mini_accept.specs.Standing.{stands_as, is_statement_in, statement_types}
 use Rattle.mini_accept.specs.Plans as plans
-use Rattle.mini_accept.specs.Plans.{Child, Plan}
+use Rattle.mini_accept.specs.Plans.{Child}
 use Rattle.mini_accept.specs.Entries.{entry}
 use Rattle.mini_writer.specs.Objects as objects
 use Rattle.mini_writer.specs.Written.{tree_data, trees_data, node_data}

@@ -8,7 +8,7 @@ use Rattle.mini_model.specs.declared.shape.Shape.{Shape}
 use Rattle.mini_model.specs.declared.shape.Shape.TheVariants as shape
 use Rattle.mini_model.specs.Tree.{Tree, node, Trees, none, ◌▸◌, node_counts, shape_of}
 use Rattle.mini_accept.specs.WellShaped as shaped
-use Rattle.mini_accept.specs.WellShaped.{Class, Slot, these, filling_by, inner_slots, has_names, a_statement, are_paired}
+use Rattle.mini_accept.specs.WellShaped.{Class, Slot, filling_by, inner_slots, a_statement, are_paired}
 use Rattle.mini_accept.specs.Places.{Step, down, at}
 use Rattle.mini_accept.specs.Plans.{tree_at, inner_at}
 use Rattle.mini_writer.specs.Written.{tree_data, body}

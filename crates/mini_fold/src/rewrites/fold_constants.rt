@@ -1,16 +1,18 @@
 //! Rows 1 and 3: a unary or binary expression over constants becomes the literal of its value. `60 * 60` becomes `3600`, and
-//! `"a" + 1` becomes `"a1"`, where that is lighter in the seat.
+//! `"a" + 1` becomes `"a1"`, where that is lighter in the seat. Where it isn't written, two of its operands may be one (4 and 8).
 
 ghost use Rattle.std.specs.Prelude.{◌≡◌, is_some, unwrap_or, OnOk, IfOk};
 ghost use Rattle.mini_tree.specs.Rule.{Applied};
 ghost use Rattle.mini_terms.specs.Calculated.{calculated};
-ghost use Rattle.mini_fold.specs.FoldConstants.{is_lighter as is_it_lighter, replaces as does_it_replace, literal_of, written, Gives, Rests};
+ghost use Rattle.mini_fold.specs.FoldConstants.{is_lighter as is_it_lighter, replaces as does_it_replace, literal_written, written, Gives, Rests};
+ghost use Rattle.mini_fold.specs.JoinConstants.{literal_of as literal_of_value};
 ghost use Rattle.mini_rows.specs.Constants.{least_gain as gain};
 ghost use Rattle.mini_fold.specs.Lighter.{constants_lighter};
 
+use crate::rewrites::join_constants::{join_constants, literal_of};
 use mini_model::{OutOfMemory, Position, Seat, Shape};
 use mini_node::Node;
-use mini_terms::{evaluate_value, leaves_nothing, suits, value_to_expr};
+use mini_terms::{evaluate_value, leaves_nothing, suits};
 use mini_tree::{Context, Rule, expr_weight};
 use std::alloc::Global;
 
@@ -39,19 +41,16 @@ fn replaces(node: &Node, literal: &Node, seat: Seat) -> bool
 
 // The literal of an expression's value.
 fn literal(alloc: Global, node: &Node) -> Result<Option<Node>, OutOfMemory>
-    ensures { IfOk result (λ w. w ≡ literal_of (calculated node.now)) }
+    ensures { IfOk result (λ w. w ≡ literal_of_value (calculated node.now)) }
 {
-    match evaluate_value(alloc, node)? {
-        Some(value) => Ok(Some(value_to_expr(alloc, value)?)),
-        None => Ok(None),
-    }
+    let value = evaluate_value(alloc, node)?;
+    literal_of(alloc, value)
 }
 
-/// An operator over constants becomes the literal of its value, where that is lighter. The answer says whether it did; the only
-/// error is that memory runs out.
-pub fn fold_constant(alloc: Global, node: &mut Node, seat: Seat) -> Result<bool, OutOfMemory>
-    ensures tree { OnOk result (node.new ≡ unwrap_or (written seat node.old) node.old) }
-    ensures said { IfOk result (λ changed. changed ≡ is_some (written seat node.old)) }
+// An operator over constants becomes the literal of its value, where that is lighter.
+fn fold_literal(alloc: Global, node: &mut Node, seat: Seat) -> Result<bool, OutOfMemory>
+    ensures tree { OnOk result (node.new ≡ unwrap_or (literal_written seat node.old) node.old) }
+    ensures said { IfOk result (λ changed. changed ≡ is_some (literal_written seat node.old)) }
 {
     let Some(made) = literal(alloc, node)? else {
         return Ok(false);
@@ -63,7 +62,21 @@ pub fn fold_constant(alloc: Global, node: &mut Node, seat: Seat) -> Result<bool,
     Ok(true)
 }
 
-/// Rows 1 and 3 as a rule: of each expression.
+/// An operator over constants becomes the literal of its value, or two of its operands become one, where that is lighter. The answer
+/// says whether something did; the only error is that memory runs out, and then the expression is fit only to be dropped.
+#[tactic(auto, using(crate::proofs::Constants::first_tree, crate::proofs::Constants::first_said, crate::proofs::Constants::then_tree, crate::proofs::Constants::then_said))]
+pub fn fold_constant(alloc: Global, node: &mut Node, seat: Seat) -> Result<bool, OutOfMemory>
+    ensures tree { OnOk result (node.new ≡ unwrap_or (written seat node.old) node.old) }
+    ensures said { IfOk result (λ changed. changed ≡ is_some (written seat node.old)) }
+{
+    if fold_literal(alloc, node, seat)? {
+        Ok(true)
+    } else {
+        join_constants(alloc, node)
+    }
+}
+
+/// Rows 1 and 3, and 4 and 8 of constants that aren't written out, as a rule: of each expression.
 pub struct FoldConstants;
 
 impl<C: Context> Rule<C> for FoldConstants {

@@ -1,7 +1,7 @@
 //! Row 81: of a `switch` over a value that is written out one case is left. `switch (2) { case 1: a(); case 2: b(); case 3: c(); }`
 //! becomes `switch (2) { case 2: b(); c(); }`, which is lighter in every place.
 
-ghost use Rattle.std.specs.Prelude.{◌≡◌, ◌≤◌, ◌<◌, ◌&&◌, ◌||◌, true, not, is_some, unwrap_or, OnOk, IfOk, IfSome};
+ghost use Rattle.std.specs.Prelude.{◌≡◌, ◌≤◌, ◌<◌, ◌&&◌, ◌||◌, true, false, not, is_some, unwrap_or, OnOk, IfOk, IfSome};
 ghost use Rattle.mini_model.specs.Tree.{children, count, shape_of, is_absent as is_it_absent, node_count};
 ghost use Rattle.mini_node.specs.Children.{part, trees_of, first_children, rest_children};
 ghost use Rattle.mini_node.specs.Kinds.{number as number_in};

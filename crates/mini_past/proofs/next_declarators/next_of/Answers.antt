@@ -1,5 +1,4 @@
-use Rattle.std.proofs.Common.{◌∙◌, ◌<◌, ap, refl, sym, subst, arith}
-use Rattle.mini_model.specs.Tree.{child_or_absent, children, count}
+use Rattle.std.proofs.Common.{◌∙◌, ap, refl, sym, arith}
 use Rattle.mini_unused.specs.RemoveUnusedDeclaration.{declares_list, is_lexical_shape}
 use Rattle.mini_past.proofs.NextPlaces.{none_of, of_statement}
 use Rattle.mini_past.proofs.next_declarators.next_of.Goals as goal

@@ -34,8 +34,8 @@ sweep-requires-clause-unseen g c =
     let first = next_past V W c.args.outside.now c.args.list.now c.substitute_next.new.list c.children.result.now c.in-Some.at c.in-Some.which c.children.ensures c.in-Some.ensures (sym c.if-either_has_eval.ensures) c.substitute_next.ensures in
     (still_calm V W c.args.outside.now c.args.list.now c.substitute_next.new.list (record { is_list = c.requires.list; unseen = sym c.if-either_has_eval.ensures }) first).unseen
 
-pub returns-in-Some : goal.returns-in-Some
-returns-in-Some g c =
+pub returns-else-either_has_eval : goal.returns-else-either_has_eval
+returns-else-either_has_eval g c =
     let V = g.S.SteadyNames.sets c.args.steady.now c.args.body in
     let W = g.S.PastNames.writable c.args.steady.now in
     let first = next_past V W c.args.outside.now c.args.list.now c.substitute_next.new.list c.children.result.now c.in-Some.at c.in-Some.which c.children.ensures c.in-Some.ensures (sym c.if-either_has_eval.ensures) c.substitute_next.ensures in

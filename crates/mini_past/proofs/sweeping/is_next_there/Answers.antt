@@ -1,4 +1,4 @@
-use Rattle.std.proofs.Common.{◌<◌, ◌+◌, ◌∙◌, true, refl, ap, sym, arith}
+use Rattle.std.proofs.Common.{◌<◌, ◌+◌, ◌∙◌, refl, ap, sym, arith}
 use Rattle.std.specs.Prelude.{Some}
 use Rattle.mini_model.specs.Tree.{children, count}
 use Rattle.mini_unused.specs.RemoveUnusedDeclaration.{is_lexical_shape}

@@ -2,7 +2,7 @@ use Rattle.std.proofs.Common.{◌∙◌, sym, subst₂}
 use Rattle.mini_tree.specs.Rule.{Applied}
 use Rattle.mini_rows.specs.Past.{PastFunction}
 use Rattle.mini_past.specs.SubstitutePast.{RestsPast}
-use Rattle.mini_past.proofs.Steps.{applied, stays_elsewhere}
+use Rattle.mini_past.proofs.Steps.{applied}
 use Rattle.mini_past.proofs.rule.SubstitutePastRule.apply.Goals as goal
 
 pub returns-clause-applied : goal.returns-clause-applied

@@ -9,4 +9,4 @@ returns-in_ok-minimize_members-in-Expr g c =
     let made = c.in_ok-minimize_members-in-Expr in
     let V = g.S.SteadyNames.sets c.args.steady.now c.args.body in
     subst (λ p. AppliedHere (SteadyRow V) p c.args.node.now c.minimize_members.new.node made.field-0) (sym c.in-Expr.is)
-    (here_applied V c.in-Expr.field-0 c.args.node.now c.minimize_members.new.node made.field-0 made.ensures.tree made.ensures.said)
+    (here_applied V c.in-Expr.seat c.args.node.now c.minimize_members.new.node made.field-0 made.ensures.tree made.ensures.said)
