@@ -14,4 +14,3 @@ pub use functions::{substitute_past_in_arrow, substitute_past_in_function};
 pub use names::{PastContext, PastNames};
 pub use passing::are_past;
 pub use rule::{SubstitutePast, SubstitutePastArrows};
-pub use searching::substitute_past;
