@@ -18,7 +18,7 @@ use Rattle.mini_tree.specs.Passes.{PassesReach, no_pass, one_more}
 use Rattle.mini_tree.specs.Wider.{reaches_of}
 use Rattle.mini_accept.specs.Accept.{Accepts}
 use Rattle.mini_accept.proofs.Depths.{one_tree}
-use Rattle.mini_kept.specs.Loosely.{LawfulUnder}
+use Rattle.mini_kept.specs.Rooted.{LawfulRooted}
 use Rattle.mini_kept.specs.Without.{BodySets}
 use Rattle.mini_kept.proofs.WithoutLists.{PartEach, none_part, each_itself}
 use Rattle.mini_kept.proofs.InPreorder.{preorder_same}
@@ -141,7 +141,7 @@ module _ (d : Data) (o : CompressOptions) (m : Minified) (t : Tree) (read : Acce
   abbrev made_by : IsWritten G D (resolved_program t) o.passes m
   made_by = record { output = r.output; passes = r.passes.made; written = r.written; kept = r.kept; symbols = r.symbols }
 
-  lawful : (q : Tree) → LawfulUnder (let_go (switches o)) (writable_in q) S (G q)
+  lawful : (q : Tree) → LawfulRooted (let_go (switches o)) (writable_in q) S (G q)
   lawful = both_lawful o r.output m.steady
 
   begins : EachBegins (λ q. PartEach S S) r.passes.made.reached
