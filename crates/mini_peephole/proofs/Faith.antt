@@ -71,8 +71,9 @@ read_by_none S W p n x y w (inl (inl (inr c))) = x.0.0.1 w c
 read_by_none S W p n x y w (inl (inr (inl (inl c)))) = x.0.1.0.0 w c
 read_by_none S W p n x y w (inl (inr (inl (inr c)))) = x.0.1.0.1 w c
 read_by_none S W p n x y w (inl (inr (inr c))) = x.0.1.1 w c
-read_by_none S W p n x y w (inr (inl c)) = x.1.0 w c
-read_by_none S W p n x y w (inr (inr c)) = x.1.1 w c
+read_by_none S W p n x y w (inr (inl (inl c))) = x.1.0.0 w c
+read_by_none S W p n x y w (inr (inl (inr c))) = x.1.0.1 w c
+read_by_none S W p n x y w (inr (inr c)) = x.1.1 w c.row c.stands
 
 nowhere_read : (u : Tree) → IsSteadilyRewritten u → Everywhere (ReadsNothing (SteadyRewrites (told_in u) (writable_in u))) Elsewhere u
 nowhere_read u f =

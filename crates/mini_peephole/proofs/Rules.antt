@@ -32,6 +32,8 @@ use Rattle.mini_syntax.specs.SubstituteReturnStatement as returns
 use Rattle.mini_switch.specs.MinimizeSwitchStatements as switch
 use Rattle.mini_rows.proofs.OwnArrowLawful.{steady_code_lawful, lexical_code_lawful}
 use Rattle.mini_rows.proofs.OwnProgramLawful.{steady_programs_lawful, lexical_programs_lawful}
+use Rattle.mini_rows.proofs.InsideLawful.{inside_loose}
+use Rattle.mini_rows.specs.Inside.{InsideContracts}
 use Rattle.mini_rows.specs.OwnArrows.{SteadyCode, LexicalCode}
 use Rattle.mini_rows.specs.OwnPrograms.{SteadyProgram, LexicalProgram}
 use Rattle.mini_rows.specs.Past.{PastFunction}
@@ -203,12 +205,15 @@ module _ (o : CompressOptions) (v : Tree) where
       let K = let_go (switches o) in
       let W = writable_in q in
       let T = told_in q in
+      let Past = Either (PastFunction T W) (PastArrow T W) in
       rooted_wider (SteadyGives o q) K W W T (steady_in v) (λ x h. h) (λ b. within_through (told_in q b) (told_in v b) (steady_in v b) (k b) (told_within v b))
-      (rooted_join (Either (AnyCode SteadyRow T) (AnyCode LexicalRows T)) (Either (PastFunction T W) (PastArrow T W)) K W T
+      (rooted_join (Either (AnyCode SteadyRow T) (AnyCode LexicalRows T)) (Either Past (InsideContracts W)) K W T
       (rooted_join (AnyCode SteadyRow T) (AnyCode LexicalRows T) K W T
       (rooted_join (SteadyCode T) (SteadyProgram T) K W T (steady_is_rooted (SteadyCode T) K W T (steady_code_lawful K W T)) (steady_programs_lawful K W T))
       (rooted_join (LexicalCode T) (LexicalProgram T) K W T (steady_is_rooted (LexicalCode T) K W T (lexical_code_lawful K W T)) (lexical_programs_lawful K W T)))
-      (steady_is_rooted (Either (PastFunction T W) (PastArrow T W)) K W T (past_code_lawful K W T)))
+      (rooted_join Past (InsideContracts W) K W T
+      (steady_is_rooted Past K W T (past_code_lawful K W T))
+      (steady_is_rooted (InsideContracts W) K W T (loose_is_steady (InsideContracts W) K W T (inside_loose K W)))))
 
   -- what passes make on the way to v
   pub both_lawful : (b : Bool) (q : Tree) → LawfulRooted (let_go (switches o)) (writable_in q) (known_of b v) (GivesBoth (AllGives o) (SteadyGives o) StaysTold b v q)

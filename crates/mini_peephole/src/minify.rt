@@ -34,7 +34,7 @@ use mini_syntax::{
     SubstituteReturns, SubstituteSpellings,
 };
 use mini_tree::{CompressOptions, Numbers, OutOfMemory, Position, Program, Then, discard, weight};
-use mini_unused::{RemoveUnusedDeclarations, RemoveUnusedNames, SubstituteCatches};
+use mini_unused::{RemoveInside, RemoveUnusedDeclarations, RemoveUnusedNames, SubstituteCatches};
 use mini_writer::write_program;
 use serde_json::Value;
 use std::alloc::Global;
@@ -246,14 +246,20 @@ const LEXICAL: AnyCode<LexicalNames> = Then {
 
 type OwnRules = Then<AnyCode<SteadyMembers>, AnyCode<LexicalNames>>;
 
-const STEADY_RULES: Then<OwnRules, Then<SubstitutePast, SubstitutePastArrows>> = Then {
+// Rules of names that are read once or not at all.
+type Once = Then<Then<SubstitutePast, SubstitutePastArrows>, RemoveInside>;
+
+const STEADY_RULES: Then<OwnRules, Once> = Then {
     first: Then {
         first: MEMBERS,
         second: LEXICAL,
     },
     second: Then {
-        first: SubstitutePast,
-        second: SubstitutePastArrows,
+        first: Then {
+            first: SubstitutePast,
+            second: SubstitutePastArrows,
+        },
+        second: RemoveInside,
     },
 };
 

@@ -363,7 +363,7 @@ module _ (W : VariableSet) (directives : List (List ℕ)) where
       by w (inr (inl a)) = module_rests ts m r w a
       by w (inr (inr a)) = no_static W (program true directives ts) refl w a
 
-module_is : (t : Tree) → is_module t ≡ true → (directives : List (List ℕ)) × (t ≡ program true directives (children (part t 0)))
+pub module_is : (t : Tree) → is_module t ≡ true → (directives : List (List ℕ)) × (t ≡ program true directives (children (part t 0)))
 module_is (node (shape.Program true directives) [] zero (node shape.Listed [] zero ts ▸ none)) e = (directives, refl)
 module_is (node (shape.Program true directives) [] zero (u ▸ none)) e = absurd (true≢false (sym e))
 module_is t e = absurd (true≢false (sym e))
@@ -406,7 +406,7 @@ module _ (W : VariableSet) (number : ℕ) where
       by w (inr (inl a)) = no_module W (static_block number ts) refl w a
       by w (inr (inr a)) = static_rests ts m r w a
 
-static_is : (t : Tree) → is_static_block t ≡ true → t ≡ static_block (number_of t) (children (part t 0))
+pub static_is : (t : Tree) → is_static_block t ≡ true → t ≡ static_block (number_of t) (children (part t 0))
 static_is (node shape.StaticBlock [] n (node shape.Listed [] zero ts ▸ none)) e = refl
 static_is (node shape.StaticBlock [] n (u ▸ none)) e = absurd (true≢false (sym e))
 static_is (node shape.StaticBlock [] n (u ▸ (v ▸ ts))) e = let one = (and_parts (nat_eq (count (u ▸ (v ▸ ts))) 1) (is_listed u) e).0 in let same = eqb-true (count (u ▸ (v ▸ ts))) 1 one in absurd (omega (arith, same))
@@ -530,7 +530,7 @@ as_exported W t u false e r = (r.0, by)
 -- ---- the context
 
 -- its tables tell what can be written in the program that it knows
-told : (c : TraverseCtx) (o : CompressOptions) (q : Tree) → Knows c o q → marked c.scopes ≡ writable_in q
+pub told : (c : TraverseCtx) (o : CompressOptions) (q : Tree) → Knows c o q → marked c.scopes ≡ writable_in q
 told c o q k = λ j x. by x j
   where
     by : (x : Variable) → marked c.scopes x ≡ writable_in q x

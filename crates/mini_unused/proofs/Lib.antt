@@ -13,3 +13,9 @@ pub mod Switches
 pub mod Heads
 pub mod Nameless
 pub mod Catching
+pub mod FurtherPlaces
+pub mod FurtherSteps
+pub mod FurtherWalks
+pub mod FurtherBodies
+pub mod FurtherHolders
+pub mod FurtherStack

@@ -7,3 +7,4 @@ pub mod RemoveUnusedName
 pub mod SubstituteCatchClause
 pub mod Tallies
 pub mod Sweep
+pub mod Further

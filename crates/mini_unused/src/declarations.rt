@@ -313,7 +313,7 @@ pub fn drop_in_list(
 
 // Of a list of statements, with what stands outside of them, each name goes that nothing else mentions, or that is read once, from the
 // first of them on. The answer says whether one did.
-fn remove_in_list(
+pub fn remove_in_list(
     alloc: Global,
     outside: &Node,
     list: &mut Node,
@@ -632,7 +632,7 @@ fn is_static_block(node: &Node) -> bool
 }
 
 // A module or a static block.
-fn holds_list(node: &Node) -> bool
+pub fn holds_list(node: &Node) -> bool
     ensures kind { result ≡ row.holds_list node.now }
     ensures parts { result ≡ true → count (children node.now) ≡ 1 }
 {

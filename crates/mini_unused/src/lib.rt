@@ -1,17 +1,23 @@
 //! Rewrites of names that nothing mentions: each with its rule for the walk.
 #![tactic(auto)]
 
+mod bodies;
 mod catches;
 mod declarations;
 mod declares;
 mod evals;
+mod further;
+mod inside;
 mod mentions;
 mod names;
 mod next_uses;
 mod single_uses;
+mod stack;
 mod sweeping;
 mod tallies;
+mod ways;
 
+pub use bodies::{remove_inside_arrow, remove_inside_function, remove_inside_module};
 pub use catches::{SubstituteCatches, substitute_catch_clause};
 pub use declarations::{
     RemoveUnusedDeclarations, declares_list, declares_name, has_statements, is_function,
@@ -19,6 +25,7 @@ pub use declarations::{
     remove_unused_in_function, remove_unused_in_module, take_child,
 };
 pub use evals::{either_has_eval, has_eval};
+pub use inside::RemoveInside;
 pub use mentions::{is_mentioned, is_mentioned_before, is_mentioned_from};
 pub use names::{RemoveUnusedNames, remove_unused_name};
 pub use next_uses::{is_declarator, is_mentioned_beside, is_mentioned_elsewhere, substitute_next};
