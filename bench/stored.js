@@ -25,6 +25,14 @@ const ordered = (value) => {
   if (value === null || typeof value !== "object") return value;
   return Object.fromEntries(Object.keys(value).sort().map((key) => [key, ordered(value[key])]));
 };
+// Of what the printer doesn't know, as a module's imports, the JSON.
+const shown = (program) => {
+  try {
+    return print(program);
+  } catch {
+    return JSON.stringify(program);
+  }
+};
 const same = (first, second) => JSON.stringify(ordered(first)) === JSON.stringify(ordered(second));
 
 // `[KEPT] [SYMBOLS] PASSES SETTLED PROGRAM`, or an error and a pointer.
@@ -50,8 +58,8 @@ asked.forEach((line, at) => {
   if (answer.steady && head === came && same(answer.program, JSON.parse(text))) return;
   told.differ += 1;
   console.log(`line ${at + 1}: ${asked[at - 1]}`);
-  console.log(`  came   ${came} ${answer.steady} ${print(answer.program)}`);
-  console.log(`  stored ${head} ${text === undefined ? stored[at] : print(JSON.parse(text))}`);
+  console.log(`  came   ${came} ${answer.steady} ${shown(answer.program)}`);
+  console.log(`  stored ${head} ${text === undefined ? stored[at] : shown(JSON.parse(text))}`);
 });
 console.log(`runs ${told.runs}, refused ${told.refused}, differ ${told.differ}`);
 process.exitCode = told.differ === 0 ? 0 : 1;
