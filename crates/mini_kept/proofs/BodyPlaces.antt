@@ -282,7 +282,7 @@ item_unseated (SequenceList s) m i e = absurd (false≢true e)
 item_unseated TemplateList m i e = absurd (false≢true e)
 item_unseated p m i e = refl
 
-assigned_below : (a : Around) (h : Shape) (p : Position) (m i : ℕ) → (a.is_assigned ≡ true → is_unseated p ≡ true) → is_assigned_below a h i ≡ true → is_unseated (child_position h p m i) ≡ true
+pub assigned_below : (a : Around) (h : Shape) (p : Position) (m i : ℕ) → (a.is_assigned ≡ true → is_unseated p ≡ true) → is_assigned_below a h i ≡ true → is_unseated (child_position h p m i) ≡ true
 assigned_below a shape.ObjectAssignmentTarget p m i f e = refl
 assigned_below a shape.ArrayAssignmentTarget p m i f e = refl
 assigned_below a shape.Listed p m i f e = item_unseated p m i (f e)
@@ -291,16 +291,16 @@ assigned_below a shape.AssignmentPattern p m zero f e = refl
 assigned_below a (shape.AssignmentTargetPropertyProperty is_computed) p m (suc i) f e = refl
 assigned_below a h p m i f e = absurd (false≢true e)
 
-abbrev Unseats : (ℕ → Position) → (ℕ → Around) → ℕ → Type 0
+abbrev pub Unseats : (ℕ → Position) → (ℕ → Around) → ℕ → Type 0
 Unseats π α i = (j : ℕ) → (α (i + j)).is_assigned ≡ true → is_unseated (π j) ≡ true
 
-unseats_first : (π : ℕ → Position) (α : ℕ → Around) (i : ℕ) → Unseats π α i → (α i).is_assigned ≡ true → is_unseated (π 0) ≡ true
+pub unseats_first : (π : ℕ → Position) (α : ℕ → Around) (i : ℕ) → Unseats π α i → (α i).is_assigned ≡ true → is_unseated (π 0) ≡ true
 unseats_first π α i u = let same : i + 0 ≡ i = omega arith in subst (λ k. (α k).is_assigned ≡ true → is_unseated (π 0) ≡ true) same (u 0)
 
-unseats_later : (π : ℕ → Position) (α : ℕ → Around) (i : ℕ) → Unseats π α i → Unseats (λ j. π (suc j)) α (suc i)
+pub unseats_later : (π : ℕ → Position) (α : ℕ → Around) (i : ℕ) → Unseats π α i → Unseats (λ j. π (suc j)) α (suc i)
 unseats_later π α i u = λ j. let same : i + suc j ≡ suc i + j = omega arith in subst (λ k. (α k).is_assigned ≡ true → is_unseated (π (suc j)) ≡ true) same (u (suc j))
 
-unseats_all : (π : ℕ → Position) (α : ℕ → Around) → ((i : ℕ) → (α i).is_assigned ≡ true → is_unseated (π i) ≡ true) → Unseats π α 0
+pub unseats_all : (π : ℕ → Position) (α : ℕ → Around) → ((i : ℕ) → (α i).is_assigned ≡ true → is_unseated (π i) ≡ true) → Unseats π α 0
 unseats_all π α u = λ j. let same : j ≡ 0 + j = omega arith in subst (λ k. (α k).is_assigned ≡ true → is_unseated (π j) ≡ true) same (u j)
 
 turned : (o b c : Bool) → (not o || b) ≡ true → (o || c) ≡ true → (c || b) ≡ true

@@ -45,7 +45,7 @@ plain_seat s false false p q e = (p, q)
 plain_seat s true u p q e = absurd (cc e)
 plain_seat s false true p q e = absurd (cc e)
 
-value_fits : (p : Position) → is_asked_whole p ≡ true → Fits p (As Val)
+pub value_fits : (p : Position) → is_asked_whole p ≡ true → Fits p (As Val)
 value_fits (Expr s) e = let (b, u) = plain_seat s s.boolean s.unused refl refl e in (λ t. absurd (cc (sym b ∙ t)), λ t. absurd (cc (sym u ∙ t)))
 value_fits (Stmt q) e = absurd (cc e)
 value_fits StatementList e = absurd (cc e)
@@ -55,7 +55,7 @@ value_fits (SequenceList s) e = absurd (cc e)
 value_fits TemplateList e = absurd (cc e)
 value_fits p e = tt
 
-target_fits : (p : Position) → is_asked_whole p ≡ true → is_unseated p ≡ true → Fits p Target
+pub target_fits : (p : Position) → is_asked_whole p ≡ true → is_unseated p ≡ true → Fits p Target
 target_fits (Expr s) e u = absurd (cc u)
 target_fits (Stmt q) e u = absurd (cc e)
 target_fits StatementList e u = absurd (cc e)

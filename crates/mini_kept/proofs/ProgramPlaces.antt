@@ -8,11 +8,11 @@ use Rattle.mini_model.specs.declared.operator.AssignmentOperator.TheVariants.{As
 use Rattle.mini_model.specs.declared.place.Position.{Position}
 use Rattle.mini_model.specs.declared.shape.Shape.{Shape}
 use Rattle.mini_model.specs.declared.shape.Shape.TheVariants as shape
-use Rattle.mini_model.specs.Tree.{Tree, Trees, node, none, ◌▸◌, count}
+use Rattle.mini_model.specs.Tree.{Tree, Trees, node, none, ◌▸◌, count, shape_of}
 use Rattle.mini_model.specs.Position.{child_position}
 use Rattle.mini_model.specs.Rewriting.{Step, here, inside, StepIn, first, later}
 use Rattle.mini_accept.specs.WellShaped.{Tagging, untagged, tagged, Depth, in_module, in_body, nested, Class, a_program, a_statement, a_block, a_case, a_catch, an_init, a_loop_left, a_declarator, a_pattern, a_pattern_element, a_pattern_property, a_pattern_rest, a_parameter, a_binding, a_label, a_private_name, a_function_body, an_arrow_body, a_class_body, a_class_member, a_method, an_expression, a_link, a_chain, an_argument, an_inner_argument, an_inner, a_super, an_object_property, a_key, a_private_or_key, an_inner_key, a_tagged_template, a_target, a_simple_target, an_element_target, a_member_target, a_named_target, a_target_name, a_target_element, a_target_property, a_target_rest, an_import, a_module_name, a_string, an_export, an_exported_name, an_exported_declaration, a_default_export, a_word, Slot, one, one_or_absent, many, many_or_holes, many_and_rest, many_or_holes_and_rest, quasis, is_text, is_init, expression_slots, is_optional, none_if, unchained_slots, is_chained, member_slots, pattern_target_slots, pattern_slots, variable_slots, function_slots, or_else, module_slots, in_depth, is_sloppy_function, statement_slots, key_slots, private_or_key_slots, inner_slots, word_slots, slots_of, is_strict_in, is_whole, is_quasi, are_quasis, Filling, refused, these, each, each_or_last, pieces, filling_by, filling, class_of, is_last, fits, fill, IsWellShaped}
-use Rattle.mini_kept.specs.Rooted.{is_program, Inner}
+use Rattle.mini_kept.specs.Rooted.{is_program}
 use Rattle.mini_kept.proofs.Bools.{right}
 use Rattle.mini_kept.proofs.Expressions.{refused_here}
 
@@ -274,31 +274,35 @@ no_program_piece g last h xs n ts e = refl
 
 -- ---- a step in a tree that fills such a slot is at no program
 
+-- what a relation makes of nodes that are no programs
+abbrev pub NoProgram : (Position → Tree → Tree → Type 0) → Position → Tree → Tree → Type 0
+NoProgram R p n w = R p n w × (is_program (shape_of n) ≡ false)
+
 by_either : {X : Type 0} (a b d : Bool) → (a ≡ true → X) → (d ≡ true → X) → (a || (b && d)) ≡ true → X
 by_either true b d f g e = f refl
 by_either false true d f g e = g e
 by_either false false d f g e = absurd (true≢false (sym e))
 
 module _ (R : Position → Tree → Tree → Type 0) where
-  in_piece : (g : Tagging) (last : Bool) {p : Position} {t u : Tree} → is_quasi g last t ≡ true → Step R p t u → Step (Inner R) p t u
+  in_piece : (g : Tagging) (last : Bool) {p : Position} {t u : Tree} → is_quasi g last t ≡ true → Step R p t u → Step (NoProgram R) p t u
   in_piece g last e (here p (node h xs n ts) w r) = here p (node h xs n ts) w (r, no_program_piece g last h xs n ts e)
   in_piece g last e (inside p h [] n none us s) = elim s [ ]
   in_piece g last e (inside p h [] n (t ▸ ts) us s) = absurd (true≢false (sym e))
   in_piece g last e (inside p h (x ∷ xs) n ts us s) = absurd (true≢false (sym e))
 
-  in_pieces : (g : Tagging) {π : ℕ → Position} {ts us : Trees} → are_quasis g ts ≡ true → StepIn R π ts us → StepIn (Inner R) π ts us
+  in_pieces : (g : Tagging) {π : ℕ → Position} {ts us : Trees} → are_quasis g ts ≡ true → StepIn R π ts us → StepIn (NoProgram R) π ts us
   in_pieces g e (first π t u none s) = first π t u none (in_piece g true e s)
   in_pieces g e (first π t u (v ▸ ts) s) = first π t u (v ▸ ts) (in_piece g false (and_parts (is_quasi g false t) (are_quasis g (v ▸ ts)) e).0 s)
   in_pieces g e (later π t none us s) = elim s [ ]
   in_pieces g e (later π t (v ▸ ts) us s) = later π t (v ▸ ts) us (in_pieces g (and_parts (is_quasi g false t) (are_quasis g (v ▸ ts)) e).1 s)
 
   mutual
-    inner_step : (strict : Bool) (s : Slot) → takes_other s ≡ true → {p : Position} {t u : Tree} → fits strict s t ≡ true → Step R p t u → Step (Inner R) p t u
+    inner_step : (strict : Bool) (s : Slot) → takes_other s ≡ true → {p : Position} {t u : Tree} → fits strict s t ≡ true → Step R p t u → Step (NoProgram R) p t u
     inner_step strict s c e (here p (node h xs n ts) w r) = here p (node h xs n ts) w (r, no_program strict s h xs n ts c e)
     inner_step strict s c e (inside p h xs n ts us st) =
         inside p h xs n ts us (inner_steps (is_strict_in strict h) (filling strict s h) (filling_other strict s h c) (right (is_whole (class_of s) h xs n ts) (fill (is_strict_in strict h) (filling strict s h) ts) e) st)
 
-    pub inner_steps : (strict : Bool) (g : Filling) → other_in g ≡ true → {π : ℕ → Position} {ts us : Trees} → fill strict g ts ≡ true → StepIn R π ts us → StepIn (Inner R) π ts us
+    pub inner_steps : (strict : Bool) (g : Filling) → other_in g ≡ true → {π : ℕ → Position} {ts us : Trees} → fill strict g ts ≡ true → StepIn R π ts us → StepIn (NoProgram R) π ts us
     inner_steps strict refused c e st = absurd (true≢false (sym e))
     inner_steps strict (pieces g) c e (first π t u ts st) = in_pieces g e (first π t u ts st)
     inner_steps strict (pieces g) c e (later π t ts us st) = in_pieces g e (later π t ts us st)
@@ -314,6 +318,6 @@ module _ (R : Position → Tree → Tree → Type 0) where
     inner_steps strict (each_or_last s l) c e (later π t ts us st) = later π t ts us (inner_steps strict (each_or_last s l) c (and_parts (fits strict s t || (is_last ts && fits strict l t)) (fill strict (each_or_last s l) ts) e).1 st)
 
 -- so below the root of a program
-pub below_program : (R : Position → Tree → Tree → Type 0) (p : Position) (h : Shape) (xs : List Name) (n : ℕ) (ts us : Trees) → IsWellShaped (node h xs n ts) → StepIn R (child_position h p (count ts)) ts us → Step (Inner R) p (node h xs n ts) (node h xs n us)
+pub below_program : (R : Position → Tree → Tree → Type 0) (p : Position) (h : Shape) (xs : List Name) (n : ℕ) (ts us : Trees) → IsWellShaped (node h xs n ts) → StepIn R (child_position h p (count ts)) ts us → Step (NoProgram R) p (node h xs n ts) (node h xs n us)
 below_program R p h xs n ts us e st =
     inside p h xs n ts us (inner_steps R (is_strict_in false h) (filling false (one a_program) h) (root_other h) (right (is_whole a_program h xs n ts) (fill (is_strict_in false h) (filling false (one a_program) h) ts) e) st)

@@ -1,12 +1,12 @@
--- A relation of rewriting that may give a whole program other statements by what is known of its body. No node asks a program, so that it
--- has to keep no meaning at a place, but what a program has to keep.
+-- A relation of rewriting that may give a program other statements by what is known of its body, and so a static block, or an inner
+-- expression another value. No node that is evaluated asks these, so that it has to keep no meaning at a place, but what a program has to keep.
 use Rattle.std.specs.Prelude.{ℕ, ◌≡◌, ◌⊎◌, Bool, true, false}
 use Rattle.mini_model.specs.declared.place.Position.{Position}
 use Rattle.mini_model.specs.declared.place.Position.TheVariants.{Elsewhere}
 use Rattle.mini_model.specs.declared.shape.Shape.{Shape}
 use Rattle.mini_model.specs.declared.shape.Shape.TheVariants as shape
 use Rattle.mini_model.specs.Tree.{Tree, shape_of}
-use Rattle.mini_model.specs.Rewriting.{Reaches}
+use Rattle.mini_model.specs.Rewriting.{Step, Reaches}
 use Rattle.mini_accept.specs.WellShaped.{IsWellShaped}
 use Rattle.mini_laws.specs.Value.{Variable, VariableSet}
 use Rattle.mini_kept.specs.Loosely.{LawfulUnder, ProgramIsKeptUnder}
@@ -16,14 +16,24 @@ abbrev pub is_program : Shape → Bool
 is_program (shape.Program is_module directives) = true
 is_program h = false
 
--- what it makes of nodes that are no programs
-abbrev pub Inner : (Position → Tree → Tree → Type 0) → Position → Tree → Tree → Type 0
-Inner R p n w = R p n w × (is_program (shape_of n) ≡ false)
+-- what is itself a body that is run
+abbrev pub is_body : Shape → Bool
+is_body (shape.Program is_module directives) = true
+is_body shape.StaticBlock = true
+is_body shape.InnerExpression = true
+is_body h = false
 
--- Of those it is lawful; and a program that it replaces, which is the root of a well-shaped tree, is kept
+-- what it makes of other nodes, and of those
+abbrev pub Inner : (Position → Tree → Tree → Type 0) → Position → Tree → Tree → Type 0
+Inner R p n w = R p n w × (is_body (shape_of n) ≡ false)
+
+abbrev pub Outer : (Position → Tree → Tree → Type 0) → Position → Tree → Tree → Type 0
+Outer R p n w = R p n w × (is_body (shape_of n) ≡ true)
+
+-- Of other nodes it is lawful; and a program is kept in which it replaces one of those
 pub record LawfulRooted (K : Shape → Bool) (W : VariableSet) (S : BodySets) (R : Position → Tree → Tree → Type 0) : Type 0 where
   pub inner : LawfulUnder K W S (Inner R)
-  pub whole : (t u : Tree) → is_program (shape_of t) ≡ true → R Elsewhere t u → IsWellShaped t → ProgramIsKeptUnder K W S t u
+  pub whole : (t u : Tree) → Step (Outer R) Elsewhere t u → IsWellShaped t → ProgramIsKeptUnder K W S t u
 
 -- then so is one after any number of steps
 abbrev pub RootedKeeps : (Position → Tree → Tree → Type 0) → Type 0

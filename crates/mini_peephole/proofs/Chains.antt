@@ -6,7 +6,7 @@ use Rattle.mini_model.specs.Tree.{Tree, Trees, node, none, ◌▸◌}
 use Rattle.mini_model.specs.declared.place.Position.{Position}
 use Rattle.mini_model.specs.declared.place.Position.TheVariants.{Elsewhere}
 use Rattle.mini_model.specs.declared.shape.Shape.{Shape}
-use Rattle.mini_model.specs.Rewriting.{Reaches, done}
+use Rattle.mini_model.specs.Rewriting.{Step, Reaches, done}
 use Rattle.mini_accept.specs.WellShaped.{IsWellShaped}
 use Rattle.mini_laws.specs.declared.names.Use.TheVariants.{Read}
 use Rattle.mini_laws.specs.Congruence.{NoneIn, Avoids, AllAvoid}
@@ -21,10 +21,10 @@ use Rattle.mini_tree.specs.Wider.{reaches_of}
 use Rattle.mini_tree.proofs.Reaching.{reaches_trans}
 use Rattle.mini_laws.specs.Writable.{is_open, writable_by, writable_in, mentions, any_mentions}
 use Rattle.mini_kept.specs.Loosely.{symbol, LawfulUnder, undeclared, ProgramIsKeptUnder}
-use Rattle.mini_kept.specs.Rooted.{Inner, LawfulRooted}
+use Rattle.mini_kept.specs.Rooted.{Inner, Outer, LawfulRooted}
 use Rattle.mini_kept.specs.Without.{BodySets}
 use Rattle.mini_kept.proofs.Gone.{avoids}
-use Rattle.mini_kept.proofs.Rooted.{rooted_keeps, rooted_wider}
+use Rattle.mini_kept.proofs.Rooted.{step_on, step_of, rooted_keeps, rooted_wider}
 use Rattle.mini_kept.proofs.WithoutLists.{Part, PartEach}
 use Rattle.mini_peephole.specs.AnyPasses.{EachBegins}
 
@@ -99,9 +99,19 @@ module _ (G : Tree → Position → Tree → Tree → Type 0) (K : Shape → Boo
     instances = λ p n w r. (at_first r.0.0 r.0.1 r.0.2).inner.instances p n w (r.0.3, r.1);
   }
 
+  -- a step over some program
+  abbrev Over : Type 0
+  Over = (q : Tree) × Part (writable_in q) (writable_by t) × PartEach (T q) S
+
+  one_over : (p : Position) (n w : Tree) → Outer Any p n w → (i : Over) × Outer (G i.0) p n w
+  one_over p n w r = ((r.0.0, r.0.1, r.0.2), (r.0.3, r.1))
+
+  whole_kept : (n w : Tree) → Step (Outer Any) Elsewhere n w → IsWellShaped n → ProgramIsKeptUnder K (writable_by t) S n w
+  whole_kept n w s e = let (i, o) = step_of Over (λ i. Outer (G i.0)) (step_on one_over s) in (at_first i.0 i.1 i.2).whole n w o e
+
   -- what is lawful over every program is lawful over all together
   pub any_lawful : LawfulRooted K (writable_by t) S Any
-  any_lawful = record { inner = inner_lawful; whole = λ n w q r e. (at_first r.0 r.1 r.2).whole n w q r.3 e }
+  any_lawful = record { inner = inner_lawful; whole = whole_kept }
 
   module _ (shaped : IsWellShaped t) (scoped : Scoped Read [] t) (distinct : Distinct (declared_symbols t)) where
     -- what can be written in a later program can be in the first

@@ -15,10 +15,10 @@ use Rattle.mini_passes.proofs.Everywhere.{everywhere_with}
 use Rattle.mini_laws.specs.Value.{VariableSet}
 use Rattle.mini_laws.specs.Writable.{writable_in}
 use Rattle.mini_kept.specs.Loosely.{LawfulWith, LawfulUnder}
-use Rattle.mini_kept.specs.Rooted.{Inner, LawfulRooted}
+use Rattle.mini_kept.specs.Rooted.{Inner, Outer, LawfulRooted}
 use Rattle.mini_kept.specs.Without.{BodySets, none_steady}
 use Rattle.mini_kept.proofs.Loosely.{loose_narrowed, loose_is_steady, steady_narrowed}
-use Rattle.mini_kept.proofs.Rooted.{steady_is_rooted, rooted_wider, rooted_join}
+use Rattle.mini_kept.proofs.Rooted.{step_on, step_of, steady_is_rooted, rooted_wider, rooted_join}
 use Rattle.mini_rows.specs.Switches.{Switches, let_go}
 use Rattle.mini_rows.specs.Branches.{BranchRow}
 use Rattle.mini_rows.specs.Turns.{TurnRow}
@@ -196,7 +196,7 @@ where_lawful P R K W S l = record {
 where_rooted : (P : Type 0) (R : Position → Tree → Tree → Type 0) (K : Shape → Bool) (W : VariableSet) (S : BodySets) → (P → LawfulRooted K W S R) → LawfulRooted K W S (Where P R)
 where_rooted P R K W S l = record {
   inner = steady_narrowed (Inner (Where P R)) (Where P (Inner R)) K W S (λ p n w r. (r.0.0, (r.0.1, r.1))) (where_lawful P (Inner R) K W S (λ h. (l h).inner));
-  whole = λ t u q r e. (l r.0).whole t u q r.1 e;
+  whole = λ t u s e. let (h, o) = step_of P (λ h. Outer R) (step_on (λ p n w r. (r.0.0, (r.0.1, r.1))) s) in (l h).whole t u o e;
 }
 
 module _ (o : CompressOptions) (v : Tree) where

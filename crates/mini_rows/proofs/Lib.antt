@@ -265,6 +265,9 @@ pub mod LexicalLoops
 pub mod LexicalMeaning
 pub mod LexicalKept
 pub mod OwnProgramLawful
+pub mod PartPlaces
+pub mod PartRuns
+pub mod OwnPartLawful
 pub mod InsideStages
 pub mod InsideKept
 pub mod InsideNames

@@ -69,7 +69,7 @@ module _ (F : OwnRows) (keeps : (V : Assured) → KeepsOwn V (F V)) (places : (V
   whole_bodies : BodiesUnder W S nothing (bodies_in f) (bodies_in f')
   whole_bodies =
       each_under W S nothing (own_body t) (bodies inner t ++ []) (own_body u) (bodies inner u ++ [])
-      (inl (record { number = refl; kind = inl refl; strict = refl; asks_this = refl; same = λ e z y X g. own_runs_over V (F V) own e y (shape.Program m ds) k (own_first _ t u none s) Program tt X }), tt)
+      (inl (record { number = refl; kind = inl refl; strict = refl; asks_this = refl; same = λ e z y X g. own_runs_over V (F V) own e y (shape.Program m ds) k Elsewhere (own_first _ t u none s) Program tt X }), tt)
       (each_under W S nothing (bodies inner t) [] (bodies inner u) [] (kept_under S W (bodies inner t) (bodies inner u) (own_bodies V (F V) own s inner)) tt)
 
   keeps_frames : KeepsFramesBut none_gone (F V)
@@ -144,14 +144,14 @@ steady_kept : (V : Assured) (p : Position) (n w : Tree) → SteadyRow V p n w �
 steady_kept V (Expr q) n w r = (keeps V q n w r).kept
 steady_kept V p n w r = absurd r
 
-steady_places : (V : Assured) → KeepsPlaces (SteadyRow V)
+pub steady_places : (V : Assured) → KeepsPlaces (SteadyRow V)
 steady_places V = places_kept (SteadyRow V) (steady_own V).names (steady_kept V) (steady_slot V)
 
 kind_slot : (p : Position) (n w : Tree) → IsKind p n w → (strict : Bool) (c : Slot) → fits strict c n ≡ true → is_body_slot p c ≡ true
 kind_slot (Stmt q) n w k strict c e = body_slot (Stmt q) c (taken strict c n k.read e)
 kind_slot p n w k strict c e = absurd k
 
-lexical_places : (V : Assured) → KeepsPlaces (LexicalRows V)
+pub lexical_places : (V : Assured) → KeepsPlaces (LexicalRows V)
 lexical_places V = places_kept (LexicalRows V) (lexical_own V).names (λ p n w r. kept_at p n w (lexical_kind V.unshared p n w r)) (λ p n w r. kind_slot p n w (lexical_kind V.unshared p n w r))
 
 pub steady_programs_lawful : SteadyProgramsAreLawful

@@ -175,13 +175,13 @@ module _ (V : Assured) (R : Position → Tree → Tree → Type 0) (k : KeepsOwn
     own_runs {t = t} {u = u} s b fit X = runs_alike V.unshared e z.unshared b t u (λ r x y f. plain_goes U (body_demand b) t u (own_goes s nothing (body_demand b) fit) r x y f) X
 
     -- and so does a node over it that is its own body
-    pub own_runs_over : (h : Shape) (n : ℕ) {ts us : Trees} → OwnStepIn R (child_position h Elsewhere (count ts)) ts us → (b : BodyKind) → Fits Elsewhere (body_demand b) → (X : VariableSet) → RunsAs e b b X (node h [] n ts) (node h [] n us)
-    own_runs_over h n {ts = ts} {us = us} s b fit X = runs_alike V.unshared e z.unshared b (node h [] n ts) (node h [] n us) (λ r x y f. plain_goes U (body_demand b) (node h [] n ts) (node h [] n us) (goes (body_demand b) fit) r x y f) X
+    pub own_runs_over : (h : Shape) (n : ℕ) (p : Position) {ts us : Trees} → OwnStepIn R (child_position h p (count ts)) ts us → (b : BodyKind) → Fits p (body_demand b) → (X : VariableSet) → RunsAs e b b X (node h [] n ts) (node h [] n us)
+    own_runs_over h n p {ts = ts} {us = us} s b fit X = runs_alike V.unshared e z.unshared b (node h [] n ts) (node h [] n us) (λ r x y f. plain_goes U (body_demand b) (node h [] n ts) (node h [] n us) (goes (body_demand b) fit) r x y f) X
       where
-        goes : (q : Demand) → Fits Elsewhere q → TreesGo U nothing q (node h [] n ts) (node h [] n us)
+        goes : (q : Demand) → Fits p q → TreesGo U nothing q (node h [] n ts) (node h [] n us)
         goes q f =
             one_node U sound h [] [] n n ts us nothing q (ap (naming h q [] n) (own_reads s)) refl (ap facts_all (own_reads s))
-            (own_goes_in s (needs h q nothing ts) (demand h (facts ts) q) (λ i. subst (λ m. Fits (child_position h Elsewhere m i) (demand h (facts ts) q i)) (facts_count ts) (fits_children h (facts ts) Elsewhere q f i)))
+            (own_goes_in s (needs h q nothing ts) (demand h (facts ts) q) (λ i. subst (λ m. Fits (child_position h p m i) (demand h (facts ts) q i)) (facts_count ts) (fits_children h (facts ts) p q f i)))
 
 -- bodies that are there stand for themselves
 pub kept_under : (S : BodySets) (W : VariableSet) (bs cs : List Body) → BodiesKept bs cs → BodiesUnder W S nothing bs cs

@@ -36,6 +36,7 @@ pub mod Members
 pub mod Steady
 pub mod OwnArrows
 pub mod OwnPrograms
+pub mod OwnParts
 pub mod Past
 pub mod PastArrows
 pub mod Cases

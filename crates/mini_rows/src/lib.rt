@@ -20,6 +20,7 @@ mod loop_guards;
 mod names;
 mod negations;
 mod operands;
+mod parts;
 mod past;
 mod programs;
 mod redexes;
@@ -49,6 +50,7 @@ pub use loop_guards::{loop_guards_are_lawful, loop_guards_lighten, loop_guards_m
 pub use names::{names_are_lawful, names_lighten};
 pub use negations::{negations_are_lawful, negations_lighten, negations_mean_the_same};
 pub use operands::{operands_are_lawful, operands_are_lighter, operands_mean_the_same};
+pub use parts::{own_parts_are_lawful, own_parts_lighten};
 pub use past::{
     past_steady_names_are_lawful, past_steady_names_are_lawful_in_arrows,
     past_steady_names_lighten, past_steady_names_lighten_arrows, past_steady_names_run_alike,
