@@ -2,13 +2,12 @@
 use Rattle.std.proofs.Common.{◌≡◌, ℕ, suc, ◌+◌, ◌<◌, ◌≤◌, Bool, true, false, refl, sym, ap, ◌∙◌, add-one, arith}
 use Rattle.std.specs.Prelude.{◌&&◌, if◌then◌else◌}
 use Rattle.mini_model.specs.declared.name.Name.{Name}
-use Rattle.mini_model.specs.Tree.{Tree, Trees, node, none, ◌▸◌, count, child_or_absent, children}
+use Rattle.mini_model.specs.Tree.{Tree, Trees, node, none, ◌▸◌, count, child_or_absent, children, shape_of}
 use Rattle.mini_laws.specs.Value.{VariableSet}
 use Rattle.mini_node.specs.Children.{rest_children}
 use Rattle.mini_node.specs.Walks.{from_first, next_child, no_rest}
-use Rattle.mini_rows.specs.Past.{passes_any, are_past, all_past}
+use Rattle.mini_rows.specs.Past.{passes_any, is_certain, are_past, all_past}
 use Rattle.mini_rows.specs.Unused.{names, begins_with}
-use Rattle.mini_past.specs.SubstitutePast.{is_certain}
 
 pub begins_none : (x : Name) (ts : Trees) → count ts ≡ 0 → begins_with x ts ≡ true
 begins_none x none e = refl
@@ -19,7 +18,7 @@ begins_some x none t h e = absurd (omega (arith, h))
 begins_some x (u ▸ ts) t h e = ap (names x) (sym e)
 
 module _ (H : VariableSet) (x : Name) (r : Tree) where
-  pub opened : (n : Tree) → are_past H x r n ≡ (is_certain x n && all_past H x r (children n))
+  pub opened : (n : Tree) → are_past H x r n ≡ (is_certain x r (shape_of n) (children n) && all_past H x r (children n))
   opened (node h xs m ts) = refl
 
   abbrev one : Tree → Trees → Bool → Bool

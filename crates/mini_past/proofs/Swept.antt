@@ -1,25 +1,39 @@
 -- Names that go from a list one after another; where one does, no direct eval comes about.
-use Rattle.std.proofs.Common.{◌≡◌, ℕ, suc, true, false, List, [], ◌∷◌, sym, ap, ◌∙◌, subst, inl, inr, true≢false}
-use Rattle.std.specs.Prelude.{not, ◌⊎◌, ◌&&◌, ◌||◌, Some}
+use Rattle.std.proofs.Common.{◌≡◌, ℕ, suc, Bool, true, false, List, [], ◌∷◌, refl, sym, ap, ◌∙◌, subst, inl, inr, true≢false}
+use Rattle.std.specs.Prelude.{not, ◌⊎◌, ◌&&◌, ◌||◌, Some, if◌then◌else◌}
 use Rattle.std.proofs.lemmas.Bool.{and_parts}
 use Rattle.mini_model.specs.declared.name.Name.{Name}
-use Rattle.mini_model.specs.Tree.{Tree, Trees, children, child_or_absent}
+use Rattle.mini_model.specs.Tree.{Tree, Trees, node, none, ◌▸◌, children, child_or_absent}
 use Rattle.mini_kept.specs.Without.{Assured}
 use Rattle.mini_laws.specs.ScopeList.{has_eval}
 use Rattle.mini_laws.specs.Value.{VariableSet}
 use Rattle.mini_node.specs.Children.{names_of, part, with_part}
-use Rattle.mini_rows.specs.Past.{held, are_past}
-use Rattle.mini_rows.specs.Unused.{names, is_first, reads_first}
+use Rattle.mini_rows.specs.Past.{held, passes_any, is_certain, are_past, all_past}
+use Rattle.mini_rows.specs.Unused.{names, may_go_on, begins_with, suits, is_placed, is_first, reads_first}
 use Rattle.mini_unused.specs.Chains.{Chain, still, Several}
 use Rattle.mini_unused.specs.RemoveUnusedDeclaration.{declares_list, is_free_at, list_at}
 use Rattle.mini_unused.specs.SubstituteNext.{put_named, is_mentioned_beside, is_mentioned_elsewhere, declarators_next, list_next}
 use Rattle.mini_unused.specs.SubstituteSingleUse.{declaration_left, last_place, is_declared_over, is_mentioned_around, list_single}
 use Rattle.mini_unused.proofs.Chains.{chain_joined, chain_once}
-use Rattle.mini_unused.proofs.Uneval.{Unseen, part_of, declaration_without, put_there, put_in_head, next_without, unseen_with, in_list}
+use Rattle.mini_unused.proofs.Uneval.{Unseen, part_of, declaration_without, suits_along, suits_among, put_there, put_in_head, next_without, unseen_with, in_list}
 use Rattle.mini_past.proofs.NextPlaces.{found}
 use Rattle.mini_past.specs.SubstitutePast.{may_pass_by, reads_past, reads_past_in, is_read_past, is_read_past_then, PastAt, PastNextAt, ReadPast, NextPast, PastGone, Calm, Swept}
 
 -- ---- no direct eval comes about
+
+mutual
+  past_along : (H : VariableSet) (x : Name) (r t : Tree) → are_past H x r t ≡ true → suits_along x r t ≡ true
+  past_along H x r (node h ys n ts) e =
+      let (a, b) = and_parts (is_certain x r h ts) (all_past H x r ts) e in
+      ap (λ c. c && suits_among x r ts) (and_parts (suits x r h ts) (is_placed false false h && (not (may_go_on h) || begins_with x ts)) a).0 ∙ past_among H x r ts b
+
+  past_among : (H : VariableSet) (x : Name) (r : Tree) (ts : Trees) → all_past H x r ts ≡ true → suits_among x r ts ≡ true
+  past_among H x r none e = refl
+  past_among H x r (t ▸ ts) e = by (names x t) e (past_along H x r t) (past_among H x r ts)
+    where
+      by : (c : Bool) → (if c then are_past H x r t else (passes_any H r t && all_past H x r ts)) ≡ true → (are_past H x r t ≡ true → suits_along x r t ≡ true) → (all_past H x r ts ≡ true → suits_among x r ts ≡ true) → (if c then suits_along x r t else suits_among x r ts) ≡ true
+      by true e f g = f e
+      by false e f g = g (and_parts (passes_any H r t) (all_past H x r ts) e).1
 
 once_put : (V : Assured) (xs : List Name) (o init : Tree) (ds : Trees) (j : ℕ) (ts : Trees) (i : ℕ) → is_read_past V xs o init ds j ts i ≡ true → has_eval init ≡ false → has_eval (child_or_absent ts (suc i)) ≡ false → has_eval (put_named xs init (child_or_absent ts (suc i))) ≡ false
 once_put V [] o init ds j ts i e f g = absurd (true≢false (sym e))
@@ -28,14 +42,16 @@ once_put V (x ∷ xs) o init ds j ts i e f g =
     let reads = reads_past (held V ts) x init head in
     let (a, p) = and_parts (not (names x o)) (reads && (not (is_declared_over x init ds j) && not (is_mentioned_around x ts i))) e in
     let (read, q) = and_parts reads (not (is_declared_over x init ds j) && not (is_mentioned_around x ts i)) p in
-    put_in_head x init head (and_parts (reads_first x head) (are_past (held V ts) x init head) read).0 f g
+    let (first, past) = and_parts (reads_first x head) (are_past (held V ts) x init head) read in
+    put_in_head x init head first (past_along (held V ts) x init head past) f g
 
 then_put : (V : Assured) (xs : List Name) (d e o : Tree) (ds : Trees) (j : ℕ) (ts : Trees) (i : ℕ) → is_read_past_then V xs d e o ds j ts i ≡ true → has_eval (part d 1) ≡ false → has_eval (part e 1) ≡ false → has_eval (put_named xs (part d 1) (part e 1)) ≡ false
 then_put V [] d e o ds j ts i h f g = absurd (true≢false (sym h))
 then_put V (x ∷ xs) d e o ds j ts i h f g =
     let reads = reads_past_in (held V ts) x (part d 1) (part e 1) in
     let (read, q) = and_parts reads (not (is_mentioned_beside x d e ds j) && (not (names x o) && not (is_mentioned_elsewhere x ts i))) h in
-    put_there x false (part d 1) (part e 1) (and_parts (is_first x false (part e 1)) (are_past (held V ts) x (part d 1) (part e 1)) read).0 f g
+    let (first, past) = and_parts (is_first x false (part e 1)) (are_past (held V ts) x (part d 1) (part e 1)) read in
+    put_there x false (part d 1) (part e 1) first (past_along (held V ts) x (part d 1) (part e 1) past) f g
 
 module _ (V : Assured) (W : VariableSet) (o l m : Tree) (c : Unseen o l) where
   read_gone : ReadPast V W o l m → Unseen o m

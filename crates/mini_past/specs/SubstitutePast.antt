@@ -12,15 +12,11 @@ use Rattle.mini_node.specs.Children.{names_of, part}
 use Rattle.mini_node.specs.Kinds.{is_listed}
 use Rattle.mini_rows.specs.Past.{held, are_past, PastFunctionRow, PastFunction}
 use Rattle.mini_rows.specs.PastArrows.{PastArrowRow, PastArrow}
-use Rattle.mini_rows.specs.Unused.{names, may_go_on, begins_with, is_constant, is_first, may_move, reads_first}
+use Rattle.mini_rows.specs.Unused.{names, is_constant, is_first, may_move, reads_first}
 use Rattle.mini_unused.specs.Chains.{Chain, Several}
 use Rattle.mini_unused.specs.RemoveUnusedDeclaration.{declares_name, declares_list, is_free_at, list_at, may_lose}
 use Rattle.mini_unused.specs.SubstituteNext.{is_declarator, is_mentioned_beside, is_mentioned_elsewhere, list_next}
 use Rattle.mini_unused.specs.SubstituteSingleUse.{last_place, is_declared_over, is_mentioned_around, list_single}
-
--- what mentions the name is evaluated whatever stands before it
-abbrev pub is_certain : Name → Tree → Bool
-is_certain x t = not (may_go_on (shape_of t)) || begins_with x (children t)
 
 -- of a declarator the initializer may move, and is no constant, and the name is free to go, or one of these variables
 abbrev pub may_pass : Tree → Bool

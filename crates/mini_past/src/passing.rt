@@ -1,17 +1,17 @@
 //! What may be evaluated before an initializer, whatever that does: constants, and names that are steady and initialised.
 
-ghost use Rattle.std.specs.Prelude.{◌≡◌};
+ghost use Rattle.std.specs.Prelude.{◌≡◌, false};
+ghost use Rattle.mini_model.specs.Tree.{children, shape_of};
 ghost use Rattle.mini_laws.specs.Value.{Declared};
 ghost use Rattle.mini_node.specs.Children.{names as names_in};
 ghost use Rattle.mini_rows.specs.Past as reading;
 ghost use Rattle.mini_rows.specs.Past.{held};
-ghost use Rattle.mini_rows.specs.Unused.{begins_with as it_begins_with};
-ghost use Rattle.mini_past.specs.SubstitutePast as row;
+ghost use Rattle.mini_rows.specs.Unused.{begins_with as it_begins_with, is_placed as is_it_placed};
 
-use mini_model::{Name, SymbolId};
+use mini_model::{Name, Shape, SymbolId};
 use mini_node::{Node, Nodes, is_identifier};
 use mini_steady::{SteadyNames, any_bind, binds, writes};
-use mini_unused::{is_constant, is_mentioned, may_go_on};
+use mini_unused::{is_constant, is_mentioned, may_go_on, suits};
 
 // The initializer neither declares nor writes it.
 fn leaves(init: &Node, name: &Name, symbol: SymbolId) -> bool
@@ -91,11 +91,20 @@ fn begins_with(name: &Name, nodes: &Nodes) -> bool
     is_mentioned(name, nodes.child(0))
 }
 
-// What mentions the name is evaluated whatever stands before it.
-fn is_certain(name: &Name, node: &Node) -> bool
-    ensures { result ≡ row.is_certain name.now node.now }
+// What is no property and isn't spread.
+fn is_no_entry(shape: &Shape) -> bool
+    ensures { result ≡ is_it_placed false false shape.now }
 {
-    !may_go_on(node.shape()) || begins_with(name, node.children())
+    !matches!(shape, Shape::ObjectProperty(_, _, _, _) | Shape::SpreadElement)
+}
+
+// What mentions the name is evaluated whatever stands before it, and the initializer may stand in its place.
+fn is_certain(name: &Name, init: &Node, node: &Node) -> bool
+    ensures { result ≡ reading.is_certain name.now init.now (shape_of node.now) (children node.now) }
+{
+    suits(name, init, node)
+        && (is_no_entry(node.shape())
+            && (!may_go_on(node.shape()) || begins_with(name, node.children())))
 }
 
 /// Each part that is evaluated before the variable is read may be evaluated before the initializer, and the read is reached whatever they
@@ -111,7 +120,7 @@ pub fn are_past<S: SteadyNames>(
 ) -> bool
     ensures { result ≡ reading.are_past (held (S.sets steady.now body) statements.now) name.now init.now node.now }
 {
-    is_certain(name, node) && all_past(name, init, node.children(), statements, body, steady)
+    is_certain(name, init, node) && all_past(name, init, node.children(), statements, body, steady)
 }
 
 // So may each of some parts up to the one that mentions it.

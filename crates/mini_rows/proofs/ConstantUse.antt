@@ -1,6 +1,6 @@
 -- A constant may be put in the place of a read of a variable that holds it, whatever is evaluated before.
-use Rattle.std.specs.Prelude.{codes, length, if◌then◌else◌}
-use Rattle.std.proofs.lemmas.Bool.{eq-eqb}
+use Rattle.std.specs.Prelude.{not, ◌&&◌, codes, length, if◌then◌else◌}
+use Rattle.std.proofs.lemmas.Bool.{and_parts, eq-eqb}
 use Rattle.std.proofs.Common.{◌≡◌, ℕ, suc, Bool, true, false, List, [], ◌∷◌, Some, None, refl, sym, ap, ◌∙◌, subst, true≢false}
 use Rattle.mini_model.specs.declared.name.Name.{Name}
 use Rattle.mini_model.specs.declared.shape.Shape.TheVariants as shape
@@ -9,7 +9,7 @@ use Rattle.mini_model.specs.Paths.{append}
 use Rattle.mini_model.specs.Weight.{same_text}
 use Rattle.mini_laws.specs.Value.{Value, Declared, VariableSet, Slot, Holds, choose, variable_eq, nothing, variables}
 use Rattle.mini_laws.specs.State.{State, Completion, ok, stop, halt, out, Environment, either, with_vars}
-use Rattle.mini_laws.specs.Demand.{Want, Val, Demand, As, Callee, AnEntry, Stat, Request, Reply}
+use Rattle.mini_laws.specs.Demand.{Want, Val, Demand, As, Callee, OfType, AnEntry, Stat, Request, Reply}
 use Rattle.mini_laws.specs.Command.{act, run, read_slot, at_variable, set_var}
 use Rattle.mini_laws.specs.Naming.{EvalName, PlainName, summary, summaries, facts_all, naming}
 use Rattle.mini_laws.specs.Asking.{demand}
@@ -29,13 +29,15 @@ use Rattle.mini_laws.proofs.Runs.{either_ok}
 use Rattle.mini_laws.proofs.Sparing.{Stays, steady_rules, steady_sound, itself}
 use Rattle.mini_laws.proofs.Truth.{coherent}
 use Rattle.mini_kept.specs.Without.{Unseen}
-use Rattle.mini_terms.specs.Reading.{is_item, by_value}
+use Rattle.mini_terms.specs.Reading.{is_item, by_value, is_typed_by_value}
+use Rattle.mini_terms.proofs.Reading.{typed_by_value}
 use Rattle.mini_rows.specs.Sketches.{shape_by, Asked, AsValue, asked_below}
-use Rattle.mini_rows.specs.Unused.{resolved, is_constant}
+use Rattle.mini_rows.specs.Unused.{resolved, is_constant, is_called_by_value, entries_below}
+use Rattle.mini_rows.proofs.CalledReads.{called_read, name_called_read}
 use Rattle.mini_rows.proofs.ItemReads.{item_read}
 use Rattle.mini_rows.proofs.Passing.{value_there}
 use Rattle.mini_rows.proofs.Avoiding.{Without, AllWithout, without, all_without, node_without, spared_by, spares}
-use Rattle.mini_rows.proofs.SingleUse.{head_of, before, place, Step, led, is_end, Well, Spared, Passed, summaries_led}
+use Rattle.mini_rows.proofs.SingleUse.{head_of, before, place, Step, led, is_end, end_of, Well, Spared, PassedIn, Passed, summaries_led}
 use Rattle.mini_rows.proofs.SingleMeaning.{Before, Suits, suits_below, first_goes}
 use Rattle.mini_rows.proofs.UnusedNames.{all_avoided}
 
@@ -139,6 +141,21 @@ module _ (e : Environment) (k : ℕ) (z : Unseen (alone (Declared k)) e) (v : Va
         (subst (λ x. Goes true (λ a. Both Holding l) (Both Holding l) Holding x (by_value AnEntry tt (ok v t))) (sym (item_read read refl e s ∙ ap (by_value AnEntry tt) (read_holds spelling s b.0.has)))
         (refl, b))
 
+    callee_goes : not (same_text spelling (codes "eval")) && is_called_by_value init ≡ true → (l : VariableSet) (s t : State) → Both Holding l s t → Goes true (λ a. Both Holding l) (Both Holding l) Holding (means e read Callee tt s) (means e init Callee tt t)
+    unfolding Goes by_value either
+    callee_goes c l s t b =
+        let (plain, called) = and_parts (not (same_text spelling (codes "eval"))) (is_called_by_value init) c in
+        subst (λ y. Goes true (λ a. Both Holding l) (Both Holding l) Holding (means e read Callee tt s) y) (sym (called_read init called e t ∙ ap (by_value Callee tt) (known t)))
+        (subst (λ x. Goes true (λ a. Both Holding l) (Both Holding l) Holding x (by_value Callee tt (ok v t))) (sym (name_called_read (resolved spelling k) plain e s ∙ ap (by_value Callee tt) (read_holds spelling s b.0.has)))
+        (refl, b))
+
+    type_goes : is_typed_by_value init ≡ true → (l : VariableSet) (s t : State) → Both Holding l s t → Goes true (λ a. Both Holding l) (Both Holding l) Holding (means e read OfType tt s) (means e init OfType tt t)
+    unfolding Goes
+    type_goes c l s t b =
+        subst (λ y. Goes true (λ a. Both Holding l) (Both Holding l) Holding (means e read OfType tt s) y) (sym (typed_by_value init c e t ∙ known t))
+        (subst (λ x. Goes true (λ a. Both Holding l) (Both Holding l) Holding x (ok v t)) (sym (typed_by_value read refl e s ∙ read_holds spelling s b.0.has))
+        (refl, b))
+
     -- ---- the path
 
     module _ (x : Name) (named : x.symbol ≡ Some (record { 0 = k })) (plain : summary read ≡ summary init) where
@@ -155,28 +172,29 @@ module _ (e : Environment) (k : ℕ) (z : Unseen (alone (Declared k)) e) (v : Va
       kids_without : (s : Step) (ss : List Step) → Spared x (s ∷ ss) → AllWithout k (summaries (append (before s.lead) (led ss read ▸ s.rest)))
       kids_without s ss f = all_joined (before s.lead) (led ss read) s.rest (all_avoided x k named (before s.lead) f.0.0) (led_without ss f.1) (all_avoided x k named s.rest f.0.1)
 
-      path_goes : (c : Asked) (ss : List Step) → Well c ss → Spared x ss → (q : Demand) → Suits c q (is_end ss) → (X : VariableSet) → TreesGo rules X q (led ss read) (led ss init)
+      path_goes : (m : Bool) (c : Asked) (ss : List Step) → Well c ss → Spared x ss → PassedIn m init spelling ss → (q : Demand) → Suits c q (end_of spelling init ss) → (X : VariableSet) → TreesGo rules X q (led ss read) (led ss init)
       unfolding TreesGo
-      path_goes AsValue [] w f (As d) u X r l wl ol s t b = value_goes d l s t b
-      path_goes AsValue [] w f AnEntry u X r l wl ol s t b = entry_goes l s t b
-      path_goes AsValue [] w f Callee u X r l wl ol s t b = absurd (true≢false u)
-      path_goes AsValue [] w f q u X r l wl ol s t b = absurd u
-      path_goes c [] w f q u X r l wl ol s t b = absurd w
-      path_goes c (s ∷ ss) w f q u X r l wl ol y y' b =
+      path_goes m AsValue [] w f p (As d) u X r l wl ol s t b = value_goes d l s t b
+      path_goes m AsValue [] w f p AnEntry u X r l wl ol s t b = entry_goes l s t b
+      path_goes m AsValue [] w f p Callee u X r l wl ol s t b = callee_goes u l s t b
+      path_goes m AsValue [] w f p OfType u X r l wl ol s t b = type_goes u l s t b
+      path_goes m AsValue [] w f p q u X r l wl ol s t b = absurd u
+      path_goes m c [] w f p q u X r l wl ol s t b = absurd w
+      path_goes m c (s ∷ ss) w f p q u X r l wl ol y y' b =
           let h = shape_by (head_of s.lead) in
           let ps = before s.lead in
           let kids = λ (t : Tree). append ps (led ss t ▸ s.rest) in
           let is = summaries (kids read) in
           let same : is ≡ summaries (kids init) = summaries_led s ss read init plain in
-          let below = suits_below c s.lead (is_end ss) w.0 (facts_all is) (there_before ps (led ss read) s.rest) q u r in
+          let below = suits_below c s.lead (is_end ss) w.0 (end_of spelling init ss) p.0.2 (facts_all is) (there_before ps (led ss read) s.rest) q u r in
           let first = all_avoided x k named ps f.0.0 in
           let last = all_avoided x k named s.rest f.0.1 in
           one_node rules sound h [] [] 0 0 (kids read) (kids init) X q (subst (λ js. Alive D e (naming h q [] 0 is) (naming h q [] 0 js)) same (alive_self D e h q [] 0 is tt), spared_by k h q [] 0 is refl (kids_without s ss f)) refl (ap facts_all same)
           (list_goes ps (led ss read) (led ss init) s.rest first last (needs h q X (kids read)) (demand h (facts_all is) q)
-          (path_goes (asked_below (head_of s.lead) c (place 0 ps)) ss w.1 f.1 (demand h (facts_all is) q (count ps)) below (needs h q X (kids read) (count ps)))) r l wl ol y y' b
+          (path_goes (entries_below m h (place 0 ps)) (asked_below (head_of s.lead) c (place 0 ps)) ss w.1 f.1 p.1 (demand h (facts_all is) q (count ps)) below (needs h q X (kids read) (count ps)))) r l wl ol y y' b
 
-      pub constant_goes : (c : Asked) (ss : List Step) → Well c ss → Spared x ss → (q : Demand) → Suits c q (is_end ss) → (r : Request q) (s t : State) → Agree D s t → s.vars (Declared k) ≡ Holds v → Goes true (λ a. Agree D) (Agree D) (Agree D) (means e (led ss read) q r s) (means e (led ss init) q r t)
-      constant_goes c ss w f q u r s t a h = agreeing (means e (led ss read) q r s) (means e (led ss init) q r t) (plain_goes rules q (led ss read) (led ss init) (path_goes c ss w f q u nothing) r s t (record { agree = a; has = h }))
+      pub constant_goes : (c : Asked) (ss : List Step) → Well c ss → Spared x ss → Passed init spelling ss → (q : Demand) → Suits c q (end_of spelling init ss) → (r : Request q) (s t : State) → Agree D s t → s.vars (Declared k) ≡ Holds v → Goes true (λ a. Agree D) (Agree D) (Agree D) (means e (led ss read) q r s) (means e (led ss init) q r t)
+      constant_goes c ss w f p q u r s t a h = agreeing (means e (led ss read) q r s) (means e (led ss init) q r t) (plain_goes rules q (led ss read) (led ss init) (path_goes false c ss w f p q u nothing) r s t (record { agree = a; has = h }))
 
 -- ---- whatever the initializer is
 
@@ -188,7 +206,7 @@ module _ (e : Environment) (k : ℕ) (z : Unseen (alone (Declared k)) e) (x : Na
   agrees v s = record { vars = λ y d. ap (λ c. choose c (Holds v) (s.vars y)) d; self = refl; answers = refl; turns = refl; events = refl }
 
   -- what a tree reads may be put there
-  pub moves_there : (c : Asked) (ss : List Step) → Well c ss → Spared x ss → Passed init ss → (q : Demand) → Suits c q (is_end ss) → (r : Request q) (s : State) → Goes true (λ a. Agree (alone (Declared k))) (Agree (alone (Declared k))) (Agree (alone (Declared k))) (either (means e init (As Val) tt s) (λ v t. means e (led ss (identifier (resolved spelling k))) q r (after v t)) (λ y t. stop y t)) (means e (led ss init) q r s)
+  pub moves_there : (c : Asked) (ss : List Step) → Well c ss → Spared x ss → Passed init spelling ss → (q : Demand) → Suits c q (end_of spelling init ss) → (r : Request q) (s : State) → Goes true (λ a. Agree (alone (Declared k))) (Agree (alone (Declared k))) (Agree (alone (Declared k))) (either (means e init (As Val) tt s) (λ v t. means e (led ss (identifier (resolved spelling k))) q r (after v t)) (λ y t. stop y t)) (means e (led ss init) q r s)
   moves_there c ss w f p q u r s = by (is_constant init) refl
     where
       by : (b : Bool) → is_constant init ≡ b → Goes true (λ a. Agree (alone (Declared k))) (Agree (alone (Declared k))) (Agree (alone (Declared k))) (either (means e init (As Val) tt s) (λ v t. means e (led ss (identifier (resolved spelling k))) q r (after v t)) (λ y t. stop y t)) (means e (led ss init) q r s)
@@ -197,4 +215,4 @@ module _ (e : Environment) (k : ℕ) (z : Unseen (alone (Declared k)) e) (x : Na
           let (there, known) = value_there e init o in
           let (v, is) = known in
           subst (λ c. Goes true (λ a. Agree (alone (Declared k))) (Agree (alone (Declared k))) (Agree (alone (Declared k))) c (means e (led ss init) q r s)) (sym (ap (λ y. either y (λ v t. means e (led ss (identifier (resolved spelling k))) q r (after v t)) (λ y t. stop y t)) (is s) ∙ either_ok v s (λ v t. means e (led ss (identifier (resolved spelling k))) q r (after v t)) (λ y t. stop y t)))
-          (constant_goes e k z v spelling init is item x named plain c ss w f q u r (after v s) s (agrees v s) (ap (λ b. choose b (Holds v) (s.vars (Declared k))) (eq-eqb k k refl)))
+          (constant_goes e k z v spelling init is item x named plain c ss w f p q u r (after v s) s (agrees v s) (ap (λ b. choose b (Holds v) (s.vars (Declared k))) (eq-eqb k k refl)))

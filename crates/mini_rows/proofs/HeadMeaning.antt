@@ -14,11 +14,11 @@ use Rattle.mini_terms.specs.Folds.{is_effect_free}
 use Rattle.mini_rows.specs.Lists.{declaration, Each, EachIn, EachOf, each_loop}
 use Rattle.mini_rows.specs.Declarations.{declarator}
 use Rattle.mini_rows.specs.Sketches.{shape_by, AsWholeItem}
-use Rattle.mini_rows.specs.Unused.{is_constant, resolved, names, any_names, declared_among, declared_left, may_move, put_first, are_passed, reads_first, reads_head, evaluated, Row71}
+use Rattle.mini_rows.specs.Unused.{is_constant, resolved, names, any_names, declared_among, declared_left, may_move, put_first, entries_below, are_passed, reads_first, reads_head, evaluated, Row71}
 use Rattle.mini_rows.proofs.FoldMeaning.{plain_read}
 use Rattle.mini_rows.proofs.NextKept.{next_unnamed}
 use Rattle.mini_rows.proofs.NextMeaning.{initial_goes}
-use Rattle.mini_rows.proofs.SingleUse.{surely, or_true, Lead, Doing, Giving, Raising, Testing, head_of, Step, led, is_end, Stands, Well, AllPass, PassedIn, Initial, heads, statement, unnamed, Outside, Over, Heads, path}
+use Rattle.mini_rows.proofs.SingleUse.{surely, or_true, Lead, Doing, Giving, Raising, Testing, head_of, Step, led, is_end, place, Stands, Well, AllPass, PassedIn, end_of, Initial, heads, statement, unnamed, Outside, Over, Heads, path}
 use Rattle.mini_rows.proofs.ListKeptHeads.{Seat, Loop, Choice, seated, rest}
 use Rattle.mini_rows.proofs.OpeningMeaning.{outside_goes}
 use Rattle.mini_rows.proofs.OverMeaning.{each_goes}
@@ -80,7 +80,7 @@ module _ (e : Environment) (spelling : List ℕ) (k : ℕ) (z : Unseen (alone (D
       let put : put_first x init head ≡ led steps init = t.puts init ∙ t.along (put_first x init t.inner) ∙ ap one (t.path.puts init) in
       let beside = subst (AllPass false init (shape_by (head_of t.lead)) 0) (sym t.front) tt in
       subst₂ (λ h w. GoesWith e k init h w s) (sym there) (sym put)
-      (moves_there e k z x refl reading.spelling init (sym (plain_read init (movable init moves))) (plain_item init (movable init moves)) AsWholeItem steps (t.stands (is_end t.path.steps), subst (λ c. Well c t.path.steps) (sym (t.below AsWholeItem)) t.path.well) ((ap (any_names x) t.front, t.free), t.path.spared) ((beside, or_true (is_constant init) (surely false (is_effect_free init) t.lead) (t.steady (is_effect_free init))), subst (λ m. PassedIn m init t.path.steps) (sym t.low) (t.path.passed_in false init (t.passed init passed))) (Stat None) tt [] s)
+      (moves_there e k z x refl reading.spelling init (sym (plain_read init (movable init moves))) (plain_item init (movable init moves)) AsWholeItem steps (t.stands (is_end t.path.steps), subst (λ c. Well c t.path.steps) (sym (t.below AsWholeItem)) t.path.well) ((ap (any_names x) t.front, t.free), t.path.spared) ((beside, or_true (is_constant init) (surely false (is_effect_free init) t.lead) (t.steady (is_effect_free init)), t.allows_any (end_of reading.spelling init t.path.steps), t.whole_any init), subst (λ m. PassedIn m init reading.spelling t.path.steps) (sym (ap (λ us. entries_below false (shape_by (head_of t.lead)) (place 0 us)) t.front ∙ t.low)) (t.path.passed_in false init (t.passed init passed))) (Stat None) tt [] s)
 
   scope_goes : (t : Outside x head) → are_passed x init head ≡ true → (s : State) → GoesWith e k init head (put_first x init head) s
   scope_goes t passed s =

@@ -192,6 +192,7 @@ pub mod NegationKept
 pub mod NegationLawful
 pub mod SequenceIdle
 pub mod SequenceCalls
+mod CalledReads
 pub mod SequenceYields
 pub mod SequencePaths
 pub mod SequenceMeaning

@@ -25,9 +25,9 @@ use Rattle.mini_rows.specs.Sketches.{shape_by, AsValue, asked_below}
 use Rattle.mini_rows.specs.Unused.{any_names, resolved}
 use Rattle.mini_rows.proofs.ListHeads.{Nothing, for_rest, for_is, for_absent_is}
 use Rattle.mini_rows.proofs.ListKeptHeads.{Seat, Loop, Choice, seated, rest}
-use Rattle.mini_rows.proofs.SingleUse.{Lead, Not, Plus, Minus, Tilde, Emptying, Beside, Deciding, Choosing, Passing, Called, Making, Waiting, Member, Keyed, Holding, Against, Given, Filling, Keying, Following, Branching, Failing, Storing, Gathering, Fielding, head_of, before, place, Step, led, is_end, Stands, Well, Spared, Passed, summary_led}
+use Rattle.mini_rows.proofs.SingleUse.{Lead, Not, Plus, Minus, Tilde, Typing, Emptying, Beside, Deciding, Choosing, Passing, Called, Making, Waiting, Member, Keyed, Linking, Holding, Against, Given, Filling, Keying, Following, Branching, Failing, Storing, Gathering, Fielding, Spreading, head_of, before, place, Step, led, is_end, Stands, Well, Spared, Passed, summary_led}
 use Rattle.mini_rows.proofs.ConstantUse.{moves_there}
-use Rattle.mini_rows.proofs.SingleMeaning.{Before, Later, later_bind, later_attempt, Reaches, reach_statement, one, next, by_summaries, node_is, stopped, reach_goes}
+use Rattle.mini_rows.proofs.SingleMeaning.{Before, Later, later_bind, later_attempt, Reaches, reach_statement, one, next, by_summaries, node_is, stopped, any_end, reach_goes}
 use Rattle.mini_rows.proofs.UnusedNames.{all_avoided}
 
 -- ---- behind what it asks a `switch` asks nothing of that any more
@@ -51,9 +51,9 @@ switch_later fs v = (
   λ y. tt,
 )
 
-switch_reaches : (f : Bool) (fs : List Facts) → Reaches f 0 0 (step shape.SwitchStatement [] fs (Stat None) [])
+switch_reaches : (f d : Bool) (fs : List Facts) → Reaches f d 0 0 (step shape.SwitchStatement [] fs (Stat None) [])
 unfolding step
-switch_reaches f fs = reach_statement f 0 0 (switch_step fs) (one f 0 0 (first_demand (As Val) Cases) (Unit {0}) tt _ (λ v. switch_later (function_facts fs) v))
+switch_reaches f d fs = reach_statement f d 0 0 (switch_step fs) (one f d 0 0 (first_demand (As Val) Cases) (Unit {0}) tt _ (λ v. switch_later (function_facts fs) v))
 
 -- nothing stands before
 none_before : (j : ℕ) → Before j 0 → ⊥
@@ -71,22 +71,25 @@ nothing_led (s ∷ ss) w t n = by s.lead w.0 (λ q. nothing_led ss (subst (λ c.
     by Plus s m = record { lets = refl; functions = refl; facts = refl; declared = refl }
     by Minus s m = record { lets = refl; functions = refl; facts = refl; declared = refl }
     by Tilde s m = record { lets = refl; functions = refl; facts = refl; declared = refl }
+    by Typing s m = record { lets = refl; functions = refl; facts = refl; declared = refl }
     by Emptying s m = record { lets = refl; functions = refl; facts = refl; declared = refl }
     by (Beside o) s m = record { lets = refl; functions = refl; facts = refl; declared = refl }
     by (Deciding o) s m = record { lets = refl; functions = refl; facts = refl; declared = refl }
     by Choosing s m = record { lets = refl; functions = refl; facts = refl; declared = refl }
     by Passing s m = record { lets = refl; functions = refl; facts = refl; declared = refl }
-    by Called s m = record { lets = refl; functions = refl; facts = refl; declared = refl }
+    by (Called o) s m = record { lets = refl; functions = refl; facts = refl; declared = refl }
     by Making s m = record { lets = refl; functions = refl; facts = refl; declared = refl }
     by (Waiting d) s m = record { lets = refl; functions = refl; facts = refl; declared = refl }
-    by Member s m = record { lets = refl; functions = refl; facts = refl; declared = refl }
-    by Keyed s m = record { lets = refl; functions = refl; facts = refl; declared = refl }
+    by (Member o) s m = record { lets = refl; functions = refl; facts = refl; declared = refl }
+    by (Keyed o) s m = record { lets = refl; functions = refl; facts = refl; declared = refl }
+    by Linking s m = record { lets = refl; functions = refl; facts = refl; declared = refl }
     by Holding s m = record { lets = refl; functions = refl; facts = refl; declared = refl }
     by Gathering s m = record { lets = refl; functions = refl; facts = refl; declared = refl }
+    by Spreading s m = record { lets = refl; functions = refl; facts = refl; declared = refl }
     by (Against o a) s m = record { lets = refl; functions = refl; facts = refl; declared = refl }
-    by (Given a) s m = record { lets = refl; functions = refl; facts = refl; declared = refl }
+    by (Given o a) s m = record { lets = refl; functions = refl; facts = refl; declared = refl }
     by (Filling a) s m = record { lets = refl; functions = refl; facts = refl; declared = refl }
-    by (Keying a) s m = record { lets = refl; functions = refl; facts = refl; declared = refl }
+    by (Keying o a) s m = record { lets = refl; functions = refl; facts = refl; declared = refl }
     by (Following o a) s m = record { lets = refl; functions = refl; facts = refl; declared = refl }
     by (Branching a) s m = record { lets = refl; functions = refl; facts = refl; declared = refl }
     by (Failing a d) s m = record { lets = refl; functions = refl; facts = refl; declared = refl }
@@ -96,7 +99,7 @@ nothing_led (s ∷ ss) w t n = by s.lead w.0 (λ q. nothing_led ss (subst (λ c.
 
 -- ---- the statements
 
-module _ (e : Environment) (k : ℕ) (z : Unseen (alone (Declared k)) e) (x : Name) (named : x.symbol ≡ Some (record { 0 = k })) (spelling : List ℕ) (init : Tree) (plain : summary (identifier (resolved spelling k)) ≡ summary init) (item : is_item init ≡ true) (ss : List Step) (w : Well AsValue ss) (f : Spared x ss) (p : Passed init ss) where
+module _ (e : Environment) (k : ℕ) (z : Unseen (alone (Declared k)) e) (x : Name) (named : x.symbol ≡ Some (record { 0 = k })) (spelling : List ℕ) (init : Tree) (plain : summary (identifier (resolved spelling k)) ≡ summary init) (item : is_item init ≡ true) (ss : List Step) (w : Well AsValue ss) (f : Spared x ss) (p : Passed init spelling ss) where
   abbrev D : VariableSet
   D = alone (Declared k)
 
@@ -126,8 +129,8 @@ module _ (e : Environment) (k : ℕ) (z : Unseen (alone (Declared k)) e) (x : Na
       let put_is : means e (switch put cases) (Stat None) [] t ≡ by_summaries e k z h (Stat None) [] is (put ▸ ts) t =
       node_is e k z h (Stat None) [] (put ▸ ts) t ∙ ap (λ i. by_summaries e k z h (Stat None) [] (i ∷ summaries ts) (put ▸ ts) t) (sym (summary_led ss (identifier (resolved spelling k)) init plain)) in
       subst₂ Go (sym (either_cong (means e init (As Val) tt t) _ _ _ _ (λ v y. there (after v y)) (λ y p. refl))) (sym put_is)
-      (reach_goes e k z h (Stat None) is σ none value put ts init tt (all_avoided x k named ts g) 0 (λ j b. b) (λ j b. absurd (none_before j b))
-      (λ r' s'. moves_there e k z x named spelling init plain item AsValue ss w f p (As Val) tt r' s') (step h [] (facts_all is) (Stat None) []) (switch_reaches (is_effect_free init) (facts_all is)) t)
+      (reach_goes e k z h (Stat None) is σ none value put ts init tt (all_avoided x k named ts g) 0 (λ j b. b) (λ j b. absurd (none_before j b)) false (λ s'. any_end (means e init (As Val) tt s'))
+      (λ r' s'. moves_there e k z x named spelling init plain item AsValue ss w f p (As Val) tt r' s') (step h [] (facts_all is) (Stat None) []) (switch_reaches (is_effect_free init) false (facts_all is)) t)
 
   nothing_value : Nothing value
   nothing_value = nothing_led ss w (identifier (resolved spelling k)) (record { lets = refl; functions = refl; facts = refl; declared = refl })

@@ -108,7 +108,7 @@ open_lets t e = by (is_target_shape (shape_of t)) refl e
 
 -- ---- the loops
 
-module _ (e : Environment) (k : ℕ) (z : Unseen (alone (Declared k)) e) (x : Name) (named : x.symbol ≡ Some (record { 0 = k })) (spelling : List ℕ) (init : Tree) (plain : summary (identifier (resolved spelling k)) ≡ summary init) (item : is_item init ≡ true) (ss : List Step) (well : Well AsValue ss) (f : Spared x ss) (p : Passed init ss) where
+module _ (e : Environment) (k : ℕ) (z : Unseen (alone (Declared k)) e) (x : Name) (named : x.symbol ≡ Some (record { 0 = k })) (spelling : List ℕ) (init : Tree) (plain : summary (identifier (resolved spelling k)) ≡ summary init) (item : is_item init ≡ true) (ss : List Step) (well : Well AsValue ss) (f : Spared x ss) (p : Passed init spelling ss) where
   abbrev D : VariableSet
   D = alone (Declared k)
 

@@ -37,7 +37,7 @@ use Rattle.mini_rows.proofs.ListStretches.{exec_one, exec_two, exec_more, exec_a
 use Rattle.mini_rows.proofs.ListStatements.{declarations_join, empty_is}
 use Rattle.mini_rows.proofs.PastParts.{Still, path_held}
 use Rattle.mini_rows.proofs.PastRuns.{past_goes}
-use Rattle.mini_rows.proofs.SingleUse.{Step, led, is_end, Well, Spared, statement, or_true}
+use Rattle.mini_rows.proofs.SingleUse.{Step, led, is_end, Well, Indirect, Spared, statement, or_true}
 use Rattle.mini_rows.proofs.Unbound.{unhidden}
 use Rattle.mini_rows.proofs.UnusedMeaning.{GoesWith, ReadThere, declared_then, list_read, all_join, same_append, same_symbol, movable}
 
@@ -95,7 +95,7 @@ module _ (e : Environment) (spelling : List ℕ) (k : ℕ) (z : Unseen (alone (D
       let there : head ≡ led steps (identifier (resolved reading.spelling k)) = t.is ∙ t.along t.inner ∙ ap one (t.path.is ∙ ap (led t.path.steps) read_as) in
       let put : put_first x init head ≡ led steps init = t.puts init ∙ t.along (put_first x init t.inner) ∙ ap one (t.path.puts init) in
       let spared : Spared x steps = ((ap (any_names x) t.front, t.free), t.path.spared) in
-      let past = path_held e k z init s H still ready x refl steps (identifier (resolved reading.spelling k)) (read_named spelling k reading.spelling) spared (sym (ap (are_past H x init) there) ∙ passed) in
+      let past = path_held e k z init s H still ready x refl steps (resolved reading.spelling k) (read_named spelling k reading.spelling) (t.direct (led t.path.steps (identifier (resolved reading.spelling k))), subst (λ u. Indirect u t.path.steps) read_as t.path.direct) spared (sym (ap (are_past H x init) there) ∙ passed) in
       subst₂ (λ h w. GoesWith e k init h w s) (sym there) (sym put)
       (past_goes e k z init s x refl reading.spelling (sym (plain_read init (movable init moves))) (plain_item init (movable init moves)) AsWholeItem steps (t.stands (is_end t.path.steps), subst (λ c. Well c t.path.steps) (sym (t.below AsWholeItem)) t.path.well) spared past (Stat None) tt [])
 

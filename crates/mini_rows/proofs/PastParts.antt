@@ -5,7 +5,7 @@ use Rattle.std.proofs.lemmas.Bool.{and_parts}
 use Rattle.mini_model.specs.declared.name.Name.{Name}
 use Rattle.mini_model.specs.declared.name.SymbolId.{SymbolId}
 use Rattle.mini_model.specs.declared.shape.Shape.TheVariants as shape
-use Rattle.mini_model.specs.Tree.{Tree, Trees, node, none, ◌▸◌, identifier}
+use Rattle.mini_model.specs.Tree.{Tree, Trees, node, none, ◌▸◌, identifier, shape_of}
 use Rattle.mini_model.specs.Paths.{append}
 use Rattle.mini_laws.specs.Value.{Value, Undefined, Declared, VariableSet, Slot, Holds, Missing, Uninitialised, choose, variable_eq}
 use Rattle.mini_laws.specs.State.{Item, State, Completion, ok, stop, either, Environment, with_vars}
@@ -23,15 +23,16 @@ use Rattle.mini_laws.proofs.Runs.{run_bind, either_eta}
 use Rattle.mini_laws.proofs.Sparing.{steady}
 use Rattle.mini_laws.proofs.Truth.{coherent}
 use Rattle.mini_kept.specs.Without.{Unseen}
-use Rattle.mini_terms.specs.Reading.{by_value}
+use Rattle.mini_terms.specs.Reading.{by_value, is_typed_by_value}
 use Rattle.mini_rows.specs.Sketches.{shape_by}
-use Rattle.mini_rows.specs.Past.{binds, writes, leaves, is_held_symbol, is_held, passes_any, are_past, all_past}
-use Rattle.mini_rows.specs.Unused.{is_like_one, names, any_names, may_go_on, begins_with, is_constant, resolved}
+use Rattle.mini_rows.specs.Past.{binds, writes, leaves, is_held_symbol, is_held, passes_any, is_certain, are_past, all_past}
+use Rattle.mini_rows.specs.Chains.{is_calm}
+use Rattle.mini_rows.specs.Unused.{is_like_one, is_childless, names, any_names, may_go_on, begins_with, is_constant, is_number_shape, is_called_by_value, is_placed, suits, resolved}
 use Rattle.mini_rows.proofs.ItemReads.{item_read}
 use Rattle.mini_rows.proofs.Passing.{Replies, constant_replies}
 use Rattle.mini_rows.proofs.PastSpared.{left_alone}
 use Rattle.mini_rows.proofs.PastRuns.{Held, AllHeld, HeldPath}
-use Rattle.mini_rows.proofs.SingleUse.{Lead, Following, Branching, Failing, Storing, Fielding, head_of, before, Step, led, is_steady, Spared}
+use Rattle.mini_rows.proofs.SingleUse.{Lead, Minus, Typing, Called as CalledLead, Given, Keying, Linking, Following, Branching, Failing, Storing, Fielding, Spreading, head_of, before, Step, led, is_end, is_steady, suited, whole, allows, Indirect, Spared}
 use Rattle.mini_rows.proofs.UnusedNames.{or_parts}
 use Rattle.mini_rows.proofs.WriteMeaning.{read_value}
 
@@ -133,13 +134,44 @@ module _ (e : Environment) (k : ℕ) (z : Unseen (alone (Declared k)) e) (init :
         let (c, d) = parts_held ps t ts others n b in
         ((part_held v a one, c), d)
 
-    steady_by : (l : Lead) → any_names x (before l) ≡ false → (u : Tree) (ts : Trees) → (not (may_go_on (shape_by (head_of l))) || begins_with x (append (before l) (u ▸ ts))) ≡ true → is_steady l ≡ true
-    steady_by (Following o a) f u ts e = absurd (true≢false (sym e ∙ (or_parts (names x a) false f).0))
-    steady_by (Branching a) f u ts e = absurd (true≢false (sym e ∙ (or_parts (names x a) false f).0))
-    steady_by (Failing a b) f u ts e = absurd (true≢false (sym e ∙ (or_parts (names x a) (any_names x (b ▸ none)) f).0))
-    steady_by (Storing o a) f u ts e = absurd (true≢false (sym e ∙ (or_parts (names x a) false f).0))
-    steady_by (Fielding c a) f u ts e = absurd (true≢false (sym e ∙ (or_parts (names x a) false f).0))
-    steady_by l f u ts e = refl
+    steady_by : (l : Lead) → any_names x (before l) ≡ false → (u : Tree) (ts : Trees) → is_placed false false (shape_by (head_of l)) ≡ true → (not (may_go_on (shape_by (head_of l))) || begins_with x (append (before l) (u ▸ ts))) ≡ true → is_steady l ≡ true
+    steady_by (Following o a) f u ts g e = absurd (true≢false (sym e ∙ (or_parts (names x a) false f).0))
+    steady_by (Branching a) f u ts g e = absurd (true≢false (sym e ∙ (or_parts (names x a) false f).0))
+    steady_by (Failing a b) f u ts g e = absurd (true≢false (sym e ∙ (or_parts (names x a) (any_names x (b ▸ none)) f).0))
+    steady_by (Storing o a) f u ts g e = absurd (true≢false (sym e ∙ (or_parts (names x a) false f).0))
+    steady_by (Given true a) f u ts g e = absurd (true≢false (sym e ∙ (or_parts (names x a) false f).0))
+    steady_by (Given false a) f u ts g e = refl
+    steady_by (Keying true a) f u ts g e = absurd (true≢false (sym e ∙ (or_parts (names x a) false f).0))
+    steady_by (Keying false a) f u ts g e = refl
+    steady_by (Fielding c a) f u ts g e = absurd (true≢false (sym g))
+    steady_by Spreading f u ts g e = absurd (true≢false (sym g))
+    steady_by l f u ts g e = refl
+
+    -- what may stand in the place of a name
+    suit_there : (b c : Bool) → b ≡ true → ((not b || c) && true) ≡ true → c ≡ true
+    suit_there b c n e = ap (λ d. not d || c) (sym n) ∙ (and_parts (not b || c) true e).0
+
+    suited_end : (l : Lead) (y : Name) (ts : Trees) → names x (identifier y) ≡ true → suits x init (shape_by (head_of l)) (append (before l) (identifier y ▸ ts)) ≡ true → suited init l true ≡ true
+    suited_end (CalledLead o) y ts n e = suit_there (names x (identifier y)) (is_called_by_value init) n e
+    suited_end Typing y ts n e = suit_there (names x (identifier y)) (is_typed_by_value init) n e
+    suited_end Minus y ts n e = suit_there (names x (identifier y)) (not (is_number_shape (shape_of init))) n e
+    suited_end Linking y ts n e = (and_parts (not (names x (identifier y)) || true) (is_calm init) e).1
+    suited_end l y ts n e = refl
+
+    suited_free : (l : Lead) → whole init l ≡ true → suited init l false ≡ true
+    suited_free (CalledLead o) w = refl
+    suited_free Typing w = refl
+    suited_free Minus w = refl
+    suited_free Linking w = w
+    suited_free l w = refl
+
+    whole_by : (l : Lead) (t : Tree) (ts : Trees) → suits x init (shape_by (head_of l)) (append (before l) (t ▸ ts)) ≡ true → whole init l ≡ true
+    whole_by Linking t ts e = (and_parts (not (is_childless t && names x t) || true) (is_calm init) e).1
+    whole_by l t ts e = refl
+
+    suited_by : (l : Lead) (ss : List Step) (y : Name) (ts : Trees) → names x (identifier y) ≡ true → suits x init (shape_by (head_of l)) (append (before l) (led ss (identifier y) ▸ ts)) ≡ true → suited init l (is_end ss) ≡ true
+    suited_by l [] y ts n e = suited_end l y ts n e
+    suited_by l (s ∷ ss) y ts n e = suited_free l (whole_by l (led (s ∷ ss) (identifier y)) ts e)
 
     first_true : (a b : Bool) → a ≡ true → (a || b) ≡ true
     first_true true b e = refl
@@ -157,10 +189,14 @@ module _ (e : Environment) (k : ℕ) (z : Unseen (alone (Declared k)) e) (init :
     led_there [] u n = n
     led_there (l ∷ ss) u n = any_there (before l.lead) (led ss u) l.rest (led_there ss u n)
 
-    pub path_held : (ss : List Step) (u : Tree) → names x u ≡ true → Spared x ss → are_past H x init (led ss u) ≡ true → HeldPath e k z init s ss
-    path_held [] u n f p = tt
-    path_held (l ∷ ss) u n f p =
-        let ts = append (before l.lead) (led ss u ▸ l.rest) in
-        let (a, b) = and_parts (not (may_go_on (shape_by (head_of l.lead))) || begins_with x ts) (all_past H x init ts) p in
-        let (c, d) = parts_held (before l.lead) (led ss u) l.rest f.0.0 (led_there ss u n) b in
-        ((c, steady_by l.lead f.0.0 (led ss u) l.rest a), path_held ss u n f.1 d)
+    pub path_held : (ss : List Step) (y : Name) → names x (identifier y) ≡ true → Indirect (identifier y) ss → Spared x ss → are_past H x init (led ss (identifier y)) ≡ true → HeldPath e k z init s y.spelling ss
+    path_held [] y n o f p = tt
+    path_held (l ∷ ss) y n o f p =
+        let h = shape_by (head_of l.lead) in
+        let u = led ss (identifier y) in
+        let ts = append (before l.lead) (u ▸ l.rest) in
+        let (certain, b) = and_parts (is_certain x init h ts) (all_past H x init ts) p in
+        let (suit, q) = and_parts (suits x init h ts) (is_placed false false h && (not (may_go_on h) || begins_with x ts)) certain in
+        let (placed, a) = and_parts (is_placed false false h) (not (may_go_on h) || begins_with x ts) q in
+        let (c, d) = parts_held (before l.lead) u l.rest f.0.0 (led_there ss (identifier y) n) b in
+        ((c, steady_by l.lead f.0.0 u l.rest placed a, allows y init l.lead ss (suited_by l.lead ss y l.rest n suit) o.0, whole_by l.lead u l.rest suit), path_held ss y n o.1 f.1 d)

@@ -6,7 +6,7 @@ use Rattle.mini_model.specs.Tree.{Tree, Trees, none, ◌▸◌, count, identifie
 use Rattle.mini_model.specs.Paths.{append}
 use Rattle.mini_laws.specs.Value.{Value, Declared, VariableSet, Holds}
 use Rattle.mini_laws.specs.State.{Stop, State, Completion, ok, stop, halt, out, Ends, done, ended, either, Environment, with_vars}
-use Rattle.mini_laws.specs.Demand.{Val, Demand, As, AnEntry, Callee, Request, Reply}
+use Rattle.mini_laws.specs.Demand.{Val, Demand, As, AnEntry, Callee, OfType, Request, Reply}
 use Rattle.mini_laws.specs.Command.{set_var, Command, ret, fails, stuck, op, kid, run}
 use Rattle.mini_laws.specs.Naming.{Summary, summary, summaries, facts_all, naming}
 use Rattle.mini_laws.specs.Asking.{demand}
@@ -14,15 +14,16 @@ use Rattle.mini_laws.specs.Step.{step, means, meaning}
 use Rattle.mini_laws.specs.Same.{Goes, Agree}
 use Rattle.mini_laws.specs.Substitution.{alone}
 use Rattle.mini_laws.specs.Congruence.{AllAvoid}
-use Rattle.mini_laws.proofs.Runs.{either_cong, either_assoc, either_ok, either_stop}
+use Rattle.mini_laws.proofs.Runs.{either_cong, either_ok}
 use Rattle.mini_laws.proofs.Simulation.{goes_either}
 use Rattle.mini_kept.specs.Without.{Unseen}
 use Rattle.mini_terms.specs.Reading.{is_item}
 use Rattle.mini_rows.specs.Sketches.{shape_by, Asked, AsValue, asked_below}
+use Rattle.mini_rows.specs.Chains.{is_calm}
 use Rattle.mini_rows.specs.Unused.{resolved}
 use Rattle.mini_rows.proofs.Passing.{Replies, Does}
-use Rattle.mini_rows.proofs.SingleMeaning.{Before, Later, Reaches, Suits, AllReply, asks, steady_sure, steady_earlier, steady_valued, next, later_goes, by_summaries, node_is, stopped, front_is, there_is, read_goes, entry_goes, all_spared, there_before}
-use Rattle.mini_rows.proofs.SingleUse.{head_of, before, place, Step, led, is_end, is_steady, Well, Spared, summaries_led}
+use Rattle.mini_rows.proofs.SingleMeaning.{Before, Later, Reaches, Suits, AllReply, asks, steady_sure, steady_earlier, steady_valued, next, May, joined, init_ends, whole_chains, later_goes, by_summaries, node_is, front_is, there_is, read_goes, entry_goes, callee_goes, type_goes, all_spared, there_before}
+use Rattle.mini_rows.proofs.SingleUse.{head_of, before, place, Step, led, is_end, end_of, whole, Allows, is_steady, Well, Spared, summaries_led}
 
 -- what goes on after a reply may rest on it
 pub by_reply : {A B : Type 0} (x : Completion A) (f g : A → State → Completion B) → ((v : A) (t : State) → x ≡ ok v t → f v t ≡ g v t) → next x f ≡ next x g
@@ -55,9 +56,9 @@ module _ (e : Environment) (k : ℕ) (z : Unseen (alone (Declared k)) e) (init :
   AllHeld none = Unit {0}
   AllHeld (t ▸ ts) = ((q : Demand) → Replies q → Held q (means e t q)) × AllHeld ts
 
-  abbrev pub HeldPath : List Step → Type 0
-  HeldPath [] = Unit {0}
-  HeldPath (s ∷ ss) = (AllHeld (before s.lead) × (is_steady s.lead ≡ true)) × HeldPath ss
+  abbrev pub HeldPath : List ℕ → List Step → Type 0
+  HeldPath spelling [] = Unit {0}
+  HeldPath spelling (s ∷ ss) = (AllHeld (before s.lead) × (is_steady s.lead ≡ true) × Allows s.lead (end_of spelling init ss) × (whole init s.lead ≡ true)) × HeldPath spelling ss
 
   abbrev front : Trees → (σ : ℕ → Demand) → (j : ℕ) → Does (σ j)
   front ps σ j r t = meaning e ps j (σ j) r t
@@ -84,31 +85,33 @@ module _ (e : Environment) (k : ℕ) (z : Unseen (alone (Declared k)) e) (init :
     abbrev Reached : {A : Type 0} → Command σ A → Type 0
     Reached c = Go (Started (λ v y. runs t c y)) (runs u c s)
 
-    module _ {A : Type 0} (r : Request (σ (count ps))) (c : Ends (Reply (σ (count ps)) r) → Command σ A) (stops : (y : Stop) → c (ended y) ≡ fails y) (later : (a : Reply (σ (count ps)) r) → Later (count ps) (c (done a))) where
+    abbrev Ends_with : {A : Type 0} (j : ℕ) (r : Request (σ j)) → (Ends (Reply (σ j) r) → Command σ A) → Type 0
+    Ends_with j r c = ((y : Stop) → May (is_calm init) y → c (ended y) ≡ fails y) × ((y : Stop) → Later (count ps) (c (ended y))) × ((a : Reply (σ j) r) → Later (count ps) (c (done a)))
+
+    module _ {A : Type 0} (r : Request (σ (count ps))) (c : Ends (Reply (σ (count ps)) r) → Command σ A) (known : Ends_with (count ps) r c) where
       abbrev goes_on_with : Tree → Reply (σ (count ps)) r → State → Completion A
       goes_on_with w a y = runs w (c (done a)) y
 
-      asked_there : (w : Tree) (y : State) → runs w (kid (count ps) r c) y ≡ next (means e w (σ (count ps)) r y) (goes_on_with w)
-      asked_there w y =
-          ap (λ x. either x (goes_on_with w) (λ x p. runs w (c (ended x)) p)) (there_is e k z ps w ts (σ (count ps)) r y)
-          ∙ either_cong (means e w (σ (count ps)) r y) _ _ _ _ (λ a p. refl) (λ x p. ap (λ d. runs w d p) (stops x))
+      abbrev ends_there : Tree → Stop → State → Completion A
+      ends_there w y z = runs w (c (ended y)) z
+
+      asked_there : (w : Tree) (y : State) → runs w (kid (count ps) r c) y ≡ either (means e w (σ (count ps)) r y) (goes_on_with w) (ends_there w)
+      asked_there w y = ap (λ x. either x (goes_on_with w) (ends_there w)) (there_is e k z ps w ts (σ (count ps)) r y)
 
       hit_here : Reached (kid (count ps) r c)
       hit_here =
           let v = means e init (As Val) tt s in
           subst₂ Go
-          (sym (either_cong v _ _ _ _ (λ p y. asked_there t (after p y)) (λ y p. refl) ∙ sym (either_assoc v (λ p y. means e t (σ (count ps)) r (after p y)) (λ y p. stop y p) (goes_on_with t) (λ y p. stop y p) ∙ either_cong v _ _ _ _ (λ p y. refl) (λ y p. either_stop y p (goes_on_with t) (λ y p. stop y p)))))
+          (sym (either_cong v _ _ _ _ (λ p y. asked_there t (after p y)) (λ y p. refl) ∙ joined (is_calm init) v (init_ends e init s) (λ p y. means e t (σ (count ps)) r (after p y)) (goes_on_with t) (ends_there t) (λ y n p. ap (λ d. runs t d p) (known.0 y n))))
           (sym (asked_there u s))
           (goes_either true (λ p. Agree D) (Agree D) (Agree D) (λ p. Agree D) (Agree D) (Started (λ p y. means e t (σ (count ps)) r y)) (means e u (σ (count ps)) r s) _ _ _ _
           (inner r)
-          (λ p x y g. later_goes e k z h q is ps t u ts first last (c (done p)) (later p) x y g) (λ p x y g. stopped e k z A p x y g))
+          (λ p x y g. later_goes e k z h q is ps t u ts first last (c (done p)) (known.2 p) x y g) (λ p x y g. later_goes e k z h q is ps t u ts first last (c (ended p)) (known.1 p) x y g))
 
-    hit_there : {A : Type 0} (j : ℕ) → j ≡ count ps → (r : Request (σ j)) (c : Ends (Reply (σ j) r) → Command σ A) → ((y : Stop) → c (ended y) ≡ fails y) → ((a : Reply (σ j) r) → Later (count ps) (c (done a))) → Reached (kid j r c)
-    hit_there {A} j p =
-        subst (λ j. (r : Request (σ j)) (c : Ends (Reply (σ j) r) → Command σ A) → ((y : Stop) → c (ended y) ≡ fails y) → ((a : Reply (σ j) r) → Later (count ps) (c (done a))) → Reached (kid j r c)) (sym p)
-        (λ r c stops later. hit_here r c stops later)
+    hit_there : {A : Type 0} (j : ℕ) → j ≡ count ps → (r : Request (σ j)) (c : Ends (Reply (σ j) r) → Command σ A) → Ends_with j r c → Reached (kid j r c)
+    hit_there {A} j p = subst (λ j. (r : Request (σ j)) (c : Ends (Reply (σ j) r) → Command σ A) → Ends_with j r c → Reached (kid j r c)) (sym p) (λ r c known. hit_here r c known)
 
-    reach_goes : {A : Type 0} (c : Command σ A) → Reaches false (count ps) (count ps) c → Reached c
+    reach_goes : {A : Type 0} (c : Command σ A) → Reaches false (is_calm init) (count ps) (count ps) c → Reached c
     reach_goes {A} (kid j r c) (inl l) =
         let F = λ (a : Reply (σ j) r) (y : State). runs t (c (done a)) y in
         let G = λ (a : Reply (σ j) r) (y : State). runs u (c (done a)) y in
@@ -116,7 +119,7 @@ module _ (e : Environment) (k : ℕ) (z : Unseen (alone (Declared k)) e) (init :
         let g = λ (x : Stop) (y : State). runs u (c (ended x)) y in
         subst₂ Go (either_cong (means e init (As Val) tt s) _ _ _ _ (λ v y. ap (λ x. either x F f) (sym (front_is e k z ps t ts j l.0.0 (σ j) r (after v y)))) (λ x y. refl)) (ap (λ x. either x G g) (sym (front_is e k z ps u ts j l.0.0 (σ j) r s)))
         (passed_goes (σ j) (front ps σ j) (held j l.0.0) r F G f g (λ a. reach_goes (c (done a)) (l.1 a)))
-    reach_goes (kid j r c) (inr (inl l)) = hit_there j l.here r c l.stops l.later
+    reach_goes (kid j r c) (inr (inl l)) = hit_there j l.here r c (l.stops, l.stopped_later, l.later)
     reach_goes (kid j r c) (inr (inr l)) = absurd (true≢false (sym l.0))
     reach_goes (ret a) l = absurd (true≢false (sym l.0))
     reach_goes (fails y) l = absurd (true≢false (sym l.0))
@@ -129,10 +132,11 @@ module _ (e : Environment) (k : ℕ) (z : Unseen (alone (Declared k)) e) (init :
     abbrev read : Tree
     read = identifier (resolved spelling k)
 
-    pub past_goes : (c : Asked) (ss : List Step) → Well c ss → Spared x ss → HeldPath ss → (q : Demand) → Suits c q (is_end ss) → (r : Request q) → Go (Started (λ v t. means e (led ss read) q r t)) (means e (led ss init) q r s)
+    pub past_goes : (c : Asked) (ss : List Step) → Well c ss → Spared x ss → HeldPath spelling ss → (q : Demand) → Suits c q (end_of spelling init ss) → (r : Request q) → Go (Started (λ v t. means e (led ss read) q r t)) (means e (led ss init) q r s)
     past_goes AsValue [] w f p (As v) u r = read_goes e k z spelling init v s
     past_goes AsValue [] w f p AnEntry u r = entry_goes e k z spelling init item s
-    past_goes AsValue [] w f p Callee u r = absurd (true≢false u)
+    past_goes AsValue [] w f p Callee u r = callee_goes e k z spelling init u s
+    past_goes AsValue [] w f p OfType u r = type_goes e k z spelling init u s
     past_goes AsValue [] w f p q u r = absurd u
     past_goes c [] w f p q u r = absurd w
     past_goes c (step_there ∷ ss) w f p q u r =
@@ -142,11 +146,11 @@ module _ (e : Environment) (k : ℕ) (z : Unseen (alone (Declared k)) e) (init :
         let kids = λ (t : Tree). append ps (led ss t ▸ step_there.rest) in
         let is = summaries (kids read) in
         let σ = demand h (facts_all is) q in
-        let a = asks false false c l (is_end ss) w.0 (facts_all is) (there_before e k z ps (led ss read) step_there.rest) q u tt r in
+        let a = asks false (is_calm init) false c l (is_end ss) w.0 (end_of spelling init ss) p.0.2 (whole_chains init l p.0.3) (facts_all is) (there_before e k z ps (led ss read) step_there.rest) q u tt r in
         let first = all_spared e k z x named ps f.0.0 in
         let last = all_spared e k z x named step_there.rest f.0.1 in
         let there = λ (y : State). node_is e k z h q r (kids read) y in
         let put : means e (led (step_there ∷ ss) init) q r s ≡ by_summaries e k z h q r is (kids init) s = node_is e k z h q r (kids init) s ∙ ap (λ i. by_summaries e k z h q r i (kids init) s) (sym (summaries_led step_there ss read init plain)) in
         subst₂ Go (sym (either_cong (means e init (As Val) tt s) _ _ _ _ (λ v y. there (after v y)) (λ y p. refl))) (sym put)
         (reach_goes h q is σ ps (led ss read) (led ss init) step_there.rest first last (held_front ps p.0.0 σ (subst (AllReply σ) (steady_valued l p.0.1) a.first))
-        (λ r'. past_goes (asked_below (head_of l) c (place 0 ps)) ss w.1 f.1 p.1 (σ (count ps)) a.below r') (step h [] (facts_all is) q r) (subst (λ us. Reaches false (count us) (count ps) (step h [] (facts_all is) q r)) (steady_earlier l p.0.1) (a.reaches (steady_sure false false l p.0.1))))
+        (λ r'. past_goes (asked_below (head_of l) c (place 0 ps)) ss w.1 f.1 p.1 (σ (count ps)) a.below r') (step h [] (facts_all is) q r) (subst (λ us. Reaches false (is_calm init) (count us) (count ps) (step h [] (facts_all is) q r)) (steady_earlier l p.0.1) (a.reaches (steady_sure false false l p.0.1))))

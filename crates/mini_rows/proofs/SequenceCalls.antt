@@ -48,7 +48,7 @@ plain_names : (xs : List Name) → is_spelled xs (codes "eval") ≡ false → is
 plain_names [] e = refl
 plain_names (x ∷ xs) e = kind_plain (is_none x.symbol) (same_text x.spelling (codes "undefined")) (same_text x.spelling (codes "NaN")) (same_text x.spelling (codes "Infinity")) (same_text x.spelling (codes "eval")) e
 
-names_called : (e : Environment) (xs : List Name) (n : ℕ) (ts : Trees) (s : State) → is_spelled xs (codes "eval") ≡ false → called e (node shape.Identifier xs n ts) s ≡ next (value e (node shape.Identifier xs n ts) s) (λ v z. ok (plain_call v) z)
+pub names_called : (e : Environment) (xs : List Name) (n : ℕ) (ts : Trees) (s : State) → is_spelled xs (codes "eval") ≡ false → called e (node shape.Identifier xs n ts) s ≡ next (value e (node shape.Identifier xs n ts) s) (λ v z. ok (plain_call v) z)
 unfolding means step
 names_called e xs n ts s h =
     name_kind e (naming shape.Identifier Callee (variables xs) n (summaries ts)) (naming shape.Identifier (As Val) (variables xs) n (summaries ts)) (λ i. Stat None) (λ i. Stat None) (λ i r z. meaning e ts i (Stat None) r z) (λ i r z. meaning e ts i (Stat None) r z) (first_kind (kinds xs)) refl s

@@ -1,5 +1,5 @@
 -- Where a tree that reads a variable may stand, there it may with an expression in the place of that.
-use Rattle.std.specs.Prelude.{ℕ, ◌≡◌, ◌⊎◌, refl, not, ◌&&◌, suc, Bool, true, false, List, [], ◌∷◌, nat_le}
+use Rattle.std.specs.Prelude.{ℕ, ◌≡◌, ◌⊎◌, refl, not, ◌&&◌, ◌||◌, suc, Bool, true, false, List, [], ◌∷◌, nat_le}
 use Rattle.std.proofs.Common.{ap, ◌∙◌, sym, subst₂, true≢false, inl, inr}
 use Rattle.std.proofs.lemmas.Bool.{and_parts}
 use Rattle.mini_model.specs.declared.name.Name.{Name}
@@ -8,12 +8,21 @@ use Rattle.mini_model.specs.declared.operator.AssignmentOperator.TheVariants.{As
 use Rattle.mini_model.specs.declared.shape.Shape.TheVariants as shape
 use Rattle.mini_model.specs.Tree.{Tree, Trees, node, none, ◌▸◌, count, children, identifier, shape_of}
 use Rattle.mini_model.specs.Paths.{append}
-use Rattle.mini_accept.specs.WellShaped.{nested, a_statement, an_init, an_expression, an_argument, an_object_property, a_key, a_target, a_simple_target, Slot, one, one_or_absent, many, many_or_holes, these, each, fits, fill, is_not_positive_number}
+use Rattle.mini_accept.specs.WellShaped.{nested, a_statement, an_init, an_expression, a_link, a_chain, has_optional, an_argument, an_object_property, a_key, a_target, a_simple_target, Slot, one, one_or_absent, many, many_or_holes, these, each, fits, fill, is_not_positive_number}
 use Rattle.mini_kept.proofs.Bools.{both}
-use Rattle.mini_kept.proofs.Expressions.{refused_here}
+use Rattle.mini_kept.proofs.Expressions.{refused_here, expression_taken}
 use Rattle.mini_rows.specs.Sketches.{shape_by, Asked, AsWholeItem, AsValue, AsValues, asked_below}
 use Rattle.mini_rows.specs.Unused.{is_number_shape, is_constant, is_first, put_first, are_passed, reads_first}
-use Rattle.mini_rows.proofs.SingleUse.{Lead, Not, Plus, Minus, Tilde, Emptying, Beside, Deciding, Choosing, Passing, Called, Making, Waiting, Member, Keyed, Holding, Against, Given, Filling, Keying, Following, Branching, Failing, Storing, Gathering, Fielding, Listing, Doing, Giving, Raising, Testing, head_of, before, place, Step, led, is_end, Stands, Well, suited, Suited, Path, path, statement}
+use Rattle.mini_rows.proofs.SingleUse.{Lead, Not, Plus, Minus, Tilde, Typing, Emptying, Beside, Deciding, Choosing, Passing, Called, Making, Waiting, Member, Keyed, Linking, Holding, Against, Given, Filling, Keying, Following, Branching, Failing, Storing, Gathering, Fielding, Spreading, Listing, Doing, Giving, Raising, Testing, head_of, before, place, Step, led, is_end, Stands, Well, suited, Suited, Path, path, statement}
+
+-- r is no number that stands right under a minus
+abbrev unsigned : Tree → Lead → Bool → Bool
+unsigned r Minus at_end = not at_end || not (is_number_shape (shape_of r))
+unsigned r l at_end = true
+
+abbrev Unsigned : Tree → List Step → Type 0
+Unsigned r [] = Unit {0}
+Unsigned r (s ∷ ss) = (unsigned r s.lead (is_end ss) ≡ true) × Unsigned r ss
 
 pub first_of : (a b c : Bool) → (a ≡ true → b ≡ true) → a && c ≡ true → b && c ≡ true
 first_of true b c f e = ap (λ d. d && c) (f refl) ∙ e
@@ -40,6 +49,8 @@ Takes AsValue (one_or_absent an_expression) = Unit {0}
 Takes AsValue (one an_argument) = Unit {0}
 Takes AsValue (one_or_absent an_argument) = Unit {0}
 Takes AsValue (one an_object_property) = Unit {0}
+Takes AsValue (one a_link) = Unit {0}
+Takes AsValue (one a_chain) = Unit {0}
 Takes AsValues (many an_expression) = Unit {0}
 Takes AsValues (many an_argument) = Unit {0}
 Takes AsValues (many an_object_property) = Unit {0}
@@ -66,6 +77,8 @@ taken_by strict y t e (one_or_absent an_expression) k f = or_absent strict t e
 taken_by strict y t e (one an_argument) k f = as_argument strict t e
 taken_by strict y t e (one_or_absent an_argument) k f = as_element strict t e
 taken_by strict y t e (one an_object_property) k f = absurd (refused_here strict (one an_object_property) shape.Identifier (y ∷ []) 0 none refl f)
+taken_by strict y t e (one a_link) k f = expression_taken strict (one a_link) t tt e
+taken_by strict y t e (one a_chain) k f = absurd (refused_here strict (one a_chain) shape.Identifier (y ∷ []) 0 none refl f)
 taken_by strict y t e s k f = absurd k
 
 count_put : (ps : Trees) (t u : Tree) (ts : Trees) → count (append ps (t ▸ ts)) ≡ count (append ps (u ▸ ts))
@@ -76,73 +89,177 @@ module _ (strict : Bool) where
   abbrev AsExpression : Lead → Slot → Type 0
   AsExpression l s = (ts : Trees) → fits strict s (node (shape_by (head_of l)) [] 0 ts) ≡ fits strict (one an_expression) (node (shape_by (head_of l)) [] 0 ts)
 
+  abbrev is_spreading : Lead → Bool
+  is_spreading Spreading = true
+  is_spreading l = false
+
   maybe_room : (l : Lead) (b : Bool) → Stands AsValue l b → AsExpression l (one_or_absent an_expression)
+  maybe_room (Called true) b s ts = refl
+  maybe_room (Called false) b s ts = refl
+  maybe_room (Member true) b s ts = refl
+  maybe_room (Member false) b s ts = refl
+  maybe_room (Keyed true) b s ts = refl
+  maybe_room (Keyed false) b s ts = refl
+  maybe_room (Given true a) b s ts = refl
+  maybe_room (Given false a) b s ts = refl
+  maybe_room (Keying true a) b s ts = refl
+  maybe_room (Keying false a) b s ts = refl
   maybe_room (Waiting true) b s ts = refl
   maybe_room (Waiting false) b s ts = refl
   maybe_room l b s ts = refl
 
-  argument_room : (l : Lead) (b : Bool) → Stands AsValue l b → AsExpression l (one an_argument)
-  argument_room (Waiting true) b s ts = refl
-  argument_room (Waiting false) b s ts = refl
-  argument_room l b s ts = refl
+  argument_room : (l : Lead) (b : Bool) → Stands AsValue l b → is_spreading l ≡ false → AsExpression l (one an_argument)
+  argument_room Spreading b s o ts = absurd (true≢false o)
+  argument_room (Called true) b s o ts = refl
+  argument_room (Called false) b s o ts = refl
+  argument_room (Member true) b s o ts = refl
+  argument_room (Member false) b s o ts = refl
+  argument_room (Keyed true) b s o ts = refl
+  argument_room (Keyed false) b s o ts = refl
+  argument_room (Given true a) b s o ts = refl
+  argument_room (Given false a) b s o ts = refl
+  argument_room (Keying true a) b s o ts = refl
+  argument_room (Keying false a) b s o ts = refl
+  argument_room (Waiting true) b s o ts = refl
+  argument_room (Waiting false) b s o ts = refl
+  argument_room l b s o ts = refl
 
-  element_room : (l : Lead) (b : Bool) → Stands AsValue l b → AsExpression l (one_or_absent an_argument)
-  element_room (Waiting true) b s ts = refl
-  element_room (Waiting false) b s ts = refl
-  element_room l b s ts = refl
+  element_room : (l : Lead) (b : Bool) → Stands AsValue l b → is_spreading l ≡ false → AsExpression l (one_or_absent an_argument)
+  element_room Spreading b s o ts = absurd (true≢false o)
+  element_room (Called true) b s o ts = refl
+  element_room (Called false) b s o ts = refl
+  element_room (Member true) b s o ts = refl
+  element_room (Member false) b s o ts = refl
+  element_room (Keyed true) b s o ts = refl
+  element_room (Keyed false) b s o ts = refl
+  element_room (Given true a) b s o ts = refl
+  element_room (Given false a) b s o ts = refl
+  element_room (Keying true a) b s o ts = refl
+  element_room (Keying false a) b s o ts = refl
+  element_room (Waiting true) b s o ts = refl
+  element_room (Waiting false) b s o ts = refl
+  element_room l b s o ts = refl
 
   -- what fits wherever the other does
   abbrev FitsAs : Asked → Tree → Tree → Type 0
   FitsAs c t u = (s : Slot) → Takes c s → fits strict s t ≡ true → fits strict s u ≡ true
 
   -- no other expression is a property
-  no_property : (l : Lead) (b : Bool) → Stands AsValue l b → (t u : Tree) (ts : Trees) → FitsAs (asked_below (head_of l) AsValue (place 0 (before l))) t u → fits strict (one an_object_property) (node (shape_by (head_of l)) [] 0 (append (before l) (t ▸ ts))) ≡ true → fits strict (one an_object_property) (node (shape_by (head_of l)) [] 0 (append (before l) (u ▸ ts))) ≡ true
-  no_property (Fielding g a) b s t u ts f e = second_of (fits strict (one (a_key g)) a) (fits strict (one an_expression) t) (fits strict (one an_expression) u) _ (f (one an_expression) tt) e
-  no_property l b s t u ts f e = absurd (refused_here strict (one an_object_property) (shape_by (head_of l)) [] 0 (append (before l) (t ▸ ts)) refl e)
+  no_property : (l : Lead) (b : Bool) → Stands AsValue l b → is_spreading l ≡ false → (t u : Tree) (ts : Trees) → FitsAs (asked_below (head_of l) AsValue (place 0 (before l))) t u → fits strict (one an_object_property) (node (shape_by (head_of l)) [] 0 (append (before l) (t ▸ ts))) ≡ true → fits strict (one an_object_property) (node (shape_by (head_of l)) [] 0 (append (before l) (u ▸ ts))) ≡ true
+  no_property Spreading b s o t u ts f e = absurd (true≢false o)
+  no_property (Fielding g a) b s o t u ts f e = second_of (fits strict (one (a_key g)) a) (fits strict (one an_expression) t) (fits strict (one an_expression) u) _ (f (one an_expression) tt) e
+  no_property l b s o t u ts f e = absurd (refused_here strict (one an_object_property) (shape_by (head_of l)) [] 0 (append (before l) (t ▸ ts)) refl e)
+
+  -- what is spread is an item of a list
+  spread_room : (s : Slot) → Takes AsValue s → (t u : Tree) (ts : Trees) → FitsAs AsValue t u → fits strict s (node shape.SpreadElement [] 0 (t ▸ ts)) ≡ true → fits strict s (node shape.SpreadElement [] 0 (u ▸ ts)) ≡ true
+  spread_room (one an_expression) k t u ts f e = absurd (refused_here strict (one an_expression) shape.SpreadElement [] 0 (t ▸ ts) refl e)
+  spread_room (one_or_absent an_expression) k t u ts f e = absurd (refused_here strict (one_or_absent an_expression) shape.SpreadElement [] 0 (t ▸ ts) refl e)
+  spread_room (one an_argument) k t u ts f e = first_of (fits strict (one an_expression) t) (fits strict (one an_expression) u) _ (f (one an_expression) tt) e
+  spread_room (one_or_absent an_argument) k t u ts f e = first_of (fits strict (one an_expression) t) (fits strict (one an_expression) u) _ (f (one an_expression) tt) e
+  spread_room (one an_object_property) k t u ts f e = first_of (fits strict (one an_expression) t) (fits strict (one an_expression) u) _ (f (one an_expression) tt) e
+  spread_room (one a_link) k t u ts f e = absurd (refused_here strict (one a_link) shape.SpreadElement [] 0 (t ▸ ts) refl e)
+  spread_room (one a_chain) k t u ts f e = absurd (refused_here strict (one a_chain) shape.SpreadElement [] 0 (t ▸ ts) refl e)
+  spread_room s k t u ts f e = absurd k
+
+  -- links, whose first part stands in the chain, too
+  abbrev is_link_lead : Lead → Bool
+  is_link_lead (Called o) = true
+  is_link_lead (Member o) = true
+  is_link_lead (Keyed o) = true
+  is_link_lead (Given o a) = true
+  is_link_lead (Keying o a) = true
+  is_link_lead l = false
+
+  link_room : (l : Lead) (b : Bool) → Stands AsValue l b → is_spreading l ≡ false → is_link_lead l ≡ false → AsExpression l (one a_link)
+  link_room Spreading b s o p ts = absurd (true≢false o)
+  link_room (Called q) b s o p ts = absurd (true≢false p)
+  link_room (Member q) b s o p ts = absurd (true≢false p)
+  link_room (Keyed q) b s o p ts = absurd (true≢false p)
+  link_room (Given q a) b s o p ts = absurd (true≢false p)
+  link_room (Keying q a) b s o p ts = absurd (true≢false p)
+  link_room (Waiting true) b s o p ts = refl
+  link_room (Waiting false) b s o p ts = refl
+  link_room l b s o p ts = refl
+
+  in_link : (l : Lead) (b : Bool) → Stands AsValue l b → is_spreading l ≡ false → (t u : Tree) (ts : Trees) → FitsAs (asked_below (head_of l) AsValue (place 0 (before l))) t u
+      → (fits strict (one an_expression) (node (shape_by (head_of l)) [] 0 (append (before l) (t ▸ ts))) ≡ true → fits strict (one an_expression) (node (shape_by (head_of l)) [] 0 (append (before l) (u ▸ ts))) ≡ true)
+      → fits strict (one a_link) (node (shape_by (head_of l)) [] 0 (append (before l) (t ▸ ts))) ≡ true → fits strict (one a_link) (node (shape_by (head_of l)) [] 0 (append (before l) (u ▸ ts))) ≡ true
+  in_link (Called q) b s o t u ts f g e = first_of (fits strict (one a_link) t) (fits strict (one a_link) u) _ (f (one a_link) tt) e
+  in_link (Member q) b s o t u ts f g e = first_of (fits strict (one a_link) t) (fits strict (one a_link) u) _ (f (one a_link) tt) e
+  in_link (Keyed q) b s o t u ts f g e = first_of (fits strict (one a_link) t) (fits strict (one a_link) u) _ (f (one a_link) tt) e
+  in_link (Given q a) b s o t u ts f g e = second_of (fits strict (one a_link) a) (fits strict (many an_argument) t) (fits strict (many an_argument) u) _ (f (many an_argument) tt) e
+  in_link (Keying q a) b s o t u ts f g e = second_of (fits strict (one a_link) a) (fits strict (one an_expression) t) (fits strict (one an_expression) u) _ (f (one an_expression) tt) e
+  in_link l b s o t u ts f g e = link_room l b s o refl (append (before l) (u ▸ ts)) ∙ g (sym (link_room l b s o refl (append (before l) (t ▸ ts))) ∙ e)
+
+  in_chain : (l : Lead) (b : Bool) → Stands AsValue l b → (t u : Tree) (ts : Trees) → (fits strict (one a_link) (node (shape_by (head_of l)) [] 0 (append (before l) (t ▸ ts))) ≡ true → fits strict (one a_link) (node (shape_by (head_of l)) [] 0 (append (before l) (u ▸ ts))) ≡ true)
+      → fits strict (one a_chain) (node (shape_by (head_of l)) [] 0 (append (before l) (t ▸ ts))) ≡ true → fits strict (one a_chain) (node (shape_by (head_of l)) [] 0 (append (before l) (u ▸ ts))) ≡ true
+  in_chain (Called q) b s t u ts g e = g e
+  in_chain (Member q) b s t u ts g e = g e
+  in_chain (Keyed q) b s t u ts g e = g e
+  in_chain (Given q a) b s t u ts g e = g e
+  in_chain (Keying q a) b s t u ts g e = g e
+  in_chain l b s t u ts g e = absurd (refused_here strict (one a_chain) (shape_by (head_of l)) [] 0 (append (before l) (t ▸ ts)) refl e)
+
+  other_room : (l : Lead) (b : Bool) → Stands AsValue l b → is_spreading l ≡ false → (s : Slot) → Takes AsValue s → (t u : Tree) (ts : Trees) → FitsAs (asked_below (head_of l) AsValue (place 0 (before l))) t u
+      → (fits strict (one an_expression) (node (shape_by (head_of l)) [] 0 (append (before l) (t ▸ ts))) ≡ true → fits strict (one an_expression) (node (shape_by (head_of l)) [] 0 (append (before l) (u ▸ ts))) ≡ true) → fits strict s (node (shape_by (head_of l)) [] 0 (append (before l) (t ▸ ts))) ≡ true → fits strict s (node (shape_by (head_of l)) [] 0 (append (before l) (u ▸ ts))) ≡ true
+  other_room l b s o (one an_expression) k t u ts f g e = g e
+  other_room l b s o (one_or_absent an_expression) k t u ts f g e = maybe_room l b s (append (before l) (u ▸ ts)) ∙ g (sym (maybe_room l b s (append (before l) (t ▸ ts))) ∙ e)
+  other_room l b s o (one an_argument) k t u ts f g e = argument_room l b s o (append (before l) (u ▸ ts)) ∙ g (sym (argument_room l b s o (append (before l) (t ▸ ts))) ∙ e)
+  other_room l b s o (one_or_absent an_argument) k t u ts f g e = element_room l b s o (append (before l) (u ▸ ts)) ∙ g (sym (element_room l b s o (append (before l) (t ▸ ts))) ∙ e)
+  other_room l b s o (one an_object_property) k t u ts f g e = no_property l b s o t u ts f e
+  other_room l b s o (one a_link) k t u ts f g e = in_link l b s o t u ts f g e
+  other_room l b s o (one a_chain) k t u ts f g e = in_chain l b s t u ts (λ h. in_link l b s o t u ts f g h) e
+  other_room l b s o r k t u ts f g e = absurd k
 
   room : (l : Lead) (b : Bool) → Stands AsValue l b → (s : Slot) → Takes AsValue s → (t u : Tree) (ts : Trees) → FitsAs (asked_below (head_of l) AsValue (place 0 (before l))) t u
       → (fits strict (one an_expression) (node (shape_by (head_of l)) [] 0 (append (before l) (t ▸ ts))) ≡ true → fits strict (one an_expression) (node (shape_by (head_of l)) [] 0 (append (before l) (u ▸ ts))) ≡ true) → fits strict s (node (shape_by (head_of l)) [] 0 (append (before l) (t ▸ ts))) ≡ true → fits strict s (node (shape_by (head_of l)) [] 0 (append (before l) (u ▸ ts))) ≡ true
-  room l b s (one an_expression) k t u ts f g e = g e
-  room l b s (one_or_absent an_expression) k t u ts f g e = maybe_room l b s (append (before l) (u ▸ ts)) ∙ g (sym (maybe_room l b s (append (before l) (t ▸ ts))) ∙ e)
-  room l b s (one an_argument) k t u ts f g e = argument_room l b s (append (before l) (u ▸ ts)) ∙ g (sym (argument_room l b s (append (before l) (t ▸ ts))) ∙ e)
-  room l b s (one_or_absent an_argument) k t u ts f g e = element_room l b s (append (before l) (u ▸ ts)) ∙ g (sym (element_room l b s (append (before l) (t ▸ ts))) ∙ e)
-  room l b s (one an_object_property) k t u ts f g e = no_property l b s t u ts f e
-  room l b s r k t u ts f g e = absurd k
+  room Spreading b s r k t u ts f g e = spread_room r k t u ts f e
+  room l b s r k t u ts f g e = other_room l b s refl r k t u ts f g e
 
-  value_step : (l : Lead) (b : Bool) → Stands AsValue l b → (t u : Tree) (ts : Trees) → (asked_below (head_of l) AsValue (place 0 (before l)) ≡ AsValues → count (children t) ≡ count (children u)) → (l ≡ Minus → is_not_positive_number u ≡ true) → FitsAs (asked_below (head_of l) AsValue (place 0 (before l))) t u
+  value_step : (l : Lead) (b : Bool) → Stands AsValue l b → (t u : Tree) (ts : Trees) → (asked_below (head_of l) AsValue (place 0 (before l)) ≡ AsValues → count (children t) ≡ count (children u)) → (l ≡ Minus → is_not_positive_number u ≡ true) → (has_optional t ≡ true → has_optional u ≡ true) → FitsAs (asked_below (head_of l) AsValue (place 0 (before l))) t u
       → fits strict (one an_expression) (node (shape_by (head_of l)) [] 0 (append (before l) (t ▸ ts))) ≡ true → fits strict (one an_expression) (node (shape_by (head_of l)) [] 0 (append (before l) (u ▸ ts))) ≡ true
-  value_step Not b s t u ts c n f e = first_of (fits strict (one an_expression) t) (fits strict (one an_expression) u) _ (f (one an_expression) tt) e
-  value_step Plus b s t u ts c n f e = first_of (fits strict (one an_expression) t) (fits strict (one an_expression) u) _ (f (one an_expression) tt) e
-  value_step Minus b s t u ts c n f e =
+  value_step Not b s t u ts c n p f e = first_of (fits strict (one an_expression) t) (fits strict (one an_expression) u) _ (f (one an_expression) tt) e
+  value_step Plus b s t u ts c n p f e = first_of (fits strict (one an_expression) t) (fits strict (one an_expression) u) _ (f (one an_expression) tt) e
+  value_step Minus b s t u ts c n p f e =
       let (x, y) = and_parts (is_not_positive_number t) (fits strict (one an_expression) t && fill strict (these []) ts) e in
       both (is_not_positive_number u) (fits strict (one an_expression) u && fill strict (these []) ts) (n refl) (first_of (fits strict (one an_expression) t) (fits strict (one an_expression) u) (fill strict (these []) ts) (f (one an_expression) tt) y)
-  value_step Tilde b s t u ts c n f e = first_of (fits strict (one an_expression) t) (fits strict (one an_expression) u) _ (f (one an_expression) tt) e
-  value_step Emptying b s t u ts c n f e = first_of (fits strict (one an_expression) t) (fits strict (one an_expression) u) _ (f (one an_expression) tt) e
-  value_step (Beside o) b s t u ts c n f e = first_of (fits strict (one an_expression) t) (fits strict (one an_expression) u) _ (f (one an_expression) tt) e
-  value_step (Deciding o) b s t u ts c n f e = first_of (fits strict (one an_expression) t) (fits strict (one an_expression) u) _ (f (one an_expression) tt) e
-  value_step Choosing b s t u ts c n f e = first_of (fits strict (one an_expression) t) (fits strict (one an_expression) u) _ (f (one an_expression) tt) e
-  value_step Passing b s t u ts c n f e =
+  value_step Tilde b s t u ts c n p f e = first_of (fits strict (one an_expression) t) (fits strict (one an_expression) u) _ (f (one an_expression) tt) e
+  value_step Typing b s t u ts c n p f e = first_of (fits strict (one an_expression) t) (fits strict (one an_expression) u) _ (f (one an_expression) tt) e
+  value_step Emptying b s t u ts c n p f e = first_of (fits strict (one an_expression) t) (fits strict (one an_expression) u) _ (f (one an_expression) tt) e
+  value_step (Beside o) b s t u ts c n p f e = first_of (fits strict (one an_expression) t) (fits strict (one an_expression) u) _ (f (one an_expression) tt) e
+  value_step (Deciding o) b s t u ts c n p f e = first_of (fits strict (one an_expression) t) (fits strict (one an_expression) u) _ (f (one an_expression) tt) e
+  value_step Choosing b s t u ts c n p f e = first_of (fits strict (one an_expression) t) (fits strict (one an_expression) u) _ (f (one an_expression) tt) e
+  value_step Passing b s t u ts c n p f e =
       let (x, y) = and_parts (nat_le 2 (count (children t))) (fits strict (many an_expression) t && fill strict (these []) ts) e in
       both (nat_le 2 (count (children u))) (fits strict (many an_expression) u && fill strict (these []) ts) (ap (nat_le 2) (sym (c refl)) ∙ x) (first_of (fits strict (many an_expression) t) (fits strict (many an_expression) u) (fill strict (these []) ts) (f (many an_expression) tt) y)
-  value_step Called b s t u ts c n f e = first_of (fits strict (one an_expression) t) (fits strict (one an_expression) u) _ (f (one an_expression) tt) e
-  value_step Making b s t u ts c n f e = first_of (fits strict (one an_expression) t) (fits strict (one an_expression) u) _ (f (one an_expression) tt) e
-  value_step (Waiting true) b s t u ts c n f e = first_of (fits strict (one an_expression) t) (fits strict (one an_expression) u) _ (f (one an_expression) tt) e
-  value_step (Waiting false) b s t u ts c n f e = first_of (fits strict (one_or_absent an_expression) t) (fits strict (one_or_absent an_expression) u) _ (f (one_or_absent an_expression) tt) e
-  value_step Member b s t u ts c n f e = first_of (fits strict (one an_expression) t) (fits strict (one an_expression) u) _ (f (one an_expression) tt) e
-  value_step Keyed b s t u ts c n f e = first_of (fits strict (one an_expression) t) (fits strict (one an_expression) u) _ (f (one an_expression) tt) e
-  value_step Holding b s t u ts c n f e = first_of (fits strict (many_or_holes an_argument) t) (fits strict (many_or_holes an_argument) u) _ (f (many_or_holes an_argument) tt) e
-  value_step (Against o a) b s t u ts c n f e = second_of (fits strict (one an_expression) a) (fits strict (one an_expression) t) (fits strict (one an_expression) u) _ (f (one an_expression) tt) e
-  value_step (Given a) b s t u ts c n f e = second_of (fits strict (one an_expression) a) (fits strict (many an_argument) t) (fits strict (many an_argument) u) _ (f (many an_argument) tt) e
-  value_step (Filling a) b s t u ts c n f e = second_of (fits strict (one an_expression) a) (fits strict (many an_argument) t) (fits strict (many an_argument) u) _ (f (many an_argument) tt) e
-  value_step (Keying a) b s t u ts c n f e = second_of (fits strict (one an_expression) a) (fits strict (one an_expression) t) (fits strict (one an_expression) u) _ (f (one an_expression) tt) e
-  value_step (Following o a) b s t u ts c n f e = second_of (fits strict (one an_expression) a) (fits strict (one an_expression) t) (fits strict (one an_expression) u) _ (f (one an_expression) tt) e
-  value_step (Branching a) b s t u ts c n f e = second_of (fits strict (one an_expression) a) (fits strict (one an_expression) t) (fits strict (one an_expression) u) _ (f (one an_expression) tt) e
-  value_step (Failing a d) b s t u ts c n f e = third_of (fits strict (one an_expression) a) (fits strict (one an_expression) d) (fits strict (one an_expression) t) (fits strict (one an_expression) u) _ (f (one an_expression) tt) e
-  value_step (Storing Assign a) b s t u ts c n f e = second_of (fits strict (one a_target) a) (fits strict (one an_expression) t) (fits strict (one an_expression) u) _ (f (one an_expression) tt) e
-  value_step (Storing o a) b s t u ts c n f e = second_of (fits strict (one a_simple_target) a) (fits strict (one an_expression) t) (fits strict (one an_expression) u) _ (f (one an_expression) tt) e
-  value_step Gathering b s t u ts c n f e = first_of (fits strict (many an_object_property) t) (fits strict (many an_object_property) u) _ (f (many an_object_property) tt) e
-  value_step (Fielding g a) b s t u ts c n f e = absurd (refused_here strict (one an_expression) (shape.ObjectProperty Init false false g) [] 0 (a ▸ (t ▸ ts)) refl e)
-  value_step l b s t u ts c n f e = absurd s
+  value_step (Called true) b s t u ts c n p f e = absurd (refused_here strict (one an_expression) (shape.CallExpression true) [] 0 (t ▸ ts) refl e)
+  value_step (Called false) b s t u ts c n p f e = first_of (fits strict (one an_expression) t) (fits strict (one an_expression) u) _ (f (one an_expression) tt) e
+  value_step Making b s t u ts c n p f e = first_of (fits strict (one an_expression) t) (fits strict (one an_expression) u) _ (f (one an_expression) tt) e
+  value_step (Waiting true) b s t u ts c n p f e = first_of (fits strict (one an_expression) t) (fits strict (one an_expression) u) _ (f (one an_expression) tt) e
+  value_step (Waiting false) b s t u ts c n p f e = first_of (fits strict (one_or_absent an_expression) t) (fits strict (one_or_absent an_expression) u) _ (f (one_or_absent an_expression) tt) e
+  value_step (Member true) b s t u ts c n p f e = absurd (refused_here strict (one an_expression) (shape.StaticMemberExpression true) [] 0 (t ▸ ts) refl e)
+  value_step (Member false) b s t u ts c n p f e = first_of (fits strict (one an_expression) t) (fits strict (one an_expression) u) _ (f (one an_expression) tt) e
+  value_step (Keyed true) b s t u ts c n p f e = absurd (refused_here strict (one an_expression) (shape.ComputedMemberExpression true) [] 0 (t ▸ ts) refl e)
+  value_step (Keyed false) b s t u ts c n p f e = first_of (fits strict (one an_expression) t) (fits strict (one an_expression) u) _ (f (one an_expression) tt) e
+  value_step Linking b s t u ts c n p f e =
+      let (x, y) = and_parts (has_optional t) (fits strict (one a_chain) t && fill strict (these []) ts) e in
+      both (has_optional u) (fits strict (one a_chain) u && fill strict (these []) ts) (p x) (first_of (fits strict (one a_chain) t) (fits strict (one a_chain) u) (fill strict (these []) ts) (f (one a_chain) tt) y)
+  value_step Holding b s t u ts c n p f e = first_of (fits strict (many_or_holes an_argument) t) (fits strict (many_or_holes an_argument) u) _ (f (many_or_holes an_argument) tt) e
+  value_step (Against o a) b s t u ts c n p f e = second_of (fits strict (one an_expression) a) (fits strict (one an_expression) t) (fits strict (one an_expression) u) _ (f (one an_expression) tt) e
+  value_step (Given true a) b s t u ts c n p f e = absurd (refused_here strict (one an_expression) (shape.CallExpression true) [] 0 (a ▸ (t ▸ ts)) refl e)
+  value_step (Given false a) b s t u ts c n p f e = second_of (fits strict (one an_expression) a) (fits strict (many an_argument) t) (fits strict (many an_argument) u) _ (f (many an_argument) tt) e
+  value_step (Filling a) b s t u ts c n p f e = second_of (fits strict (one an_expression) a) (fits strict (many an_argument) t) (fits strict (many an_argument) u) _ (f (many an_argument) tt) e
+  value_step (Keying true a) b s t u ts c n p f e = absurd (refused_here strict (one an_expression) (shape.ComputedMemberExpression true) [] 0 (a ▸ (t ▸ ts)) refl e)
+  value_step (Keying false a) b s t u ts c n p f e = second_of (fits strict (one an_expression) a) (fits strict (one an_expression) t) (fits strict (one an_expression) u) _ (f (one an_expression) tt) e
+  value_step (Following o a) b s t u ts c n p f e = second_of (fits strict (one an_expression) a) (fits strict (one an_expression) t) (fits strict (one an_expression) u) _ (f (one an_expression) tt) e
+  value_step (Branching a) b s t u ts c n p f e = second_of (fits strict (one an_expression) a) (fits strict (one an_expression) t) (fits strict (one an_expression) u) _ (f (one an_expression) tt) e
+  value_step (Failing a d) b s t u ts c n p f e = third_of (fits strict (one an_expression) a) (fits strict (one an_expression) d) (fits strict (one an_expression) t) (fits strict (one an_expression) u) _ (f (one an_expression) tt) e
+  value_step (Storing Assign a) b s t u ts c n p f e = second_of (fits strict (one a_target) a) (fits strict (one an_expression) t) (fits strict (one an_expression) u) _ (f (one an_expression) tt) e
+  value_step (Storing o a) b s t u ts c n p f e = second_of (fits strict (one a_simple_target) a) (fits strict (one an_expression) t) (fits strict (one an_expression) u) _ (f (one an_expression) tt) e
+  value_step Gathering b s t u ts c n p f e = first_of (fits strict (many an_object_property) t) (fits strict (many an_object_property) u) _ (f (many an_object_property) tt) e
+  value_step Spreading b s t u ts c n p f e = absurd (refused_here strict (one an_expression) shape.SpreadElement [] 0 (t ▸ ts) refl e)
+  value_step (Fielding g a) b s t u ts c n p f e = absurd (refused_here strict (one an_expression) (shape.ObjectProperty Init false false g) [] 0 (a ▸ (t ▸ ts)) refl e)
+  value_step l b s t u ts c n p f e = absurd s
 
   each_put : (s : Slot) (ps : Trees) (t u : Tree) (ts : Trees) → (fits strict s t ≡ true → fits strict s u ≡ true) → fill strict (each s) (append ps (t ▸ ts)) ≡ true → fill strict (each s) (append ps (u ▸ ts)) ≡ true
   each_put s none t u ts f e = first_of (fits strict s t) (fits strict s u) (fill strict (each s) ts) f e
@@ -168,22 +285,25 @@ module _ (strict : Bool) where
   below_value Plus b s e = cc e
   below_value Minus b s e = cc e
   below_value Tilde b s e = cc e
+  below_value Typing b s e = cc e
   below_value Emptying b s e = cc e
   below_value (Beside o) b s e = cc e
   below_value (Deciding o) b s e = cc e
   below_value Choosing b s e = cc e
   below_value Passing b s e = cc e
-  below_value Called b s e = cc e
+  below_value (Called o) b s e = cc e
   below_value Making b s e = cc e
   below_value (Waiting d) b s e = cc e
-  below_value Member b s e = cc e
-  below_value Keyed b s e = cc e
+  below_value (Member o) b s e = cc e
+  below_value (Keyed o) b s e = cc e
+  below_value Linking b s e = cc e
   below_value Holding b s e = cc e
   below_value Gathering b s e = cc e
+  below_value Spreading b s e = cc e
   below_value (Against o a) b s e = cc e
-  below_value (Given a) b s e = cc e
+  below_value (Given o a) b s e = cc e
   below_value (Filling a) b s e = cc e
-  below_value (Keying a) b s e = cc e
+  below_value (Keying o a) b s e = cc e
   below_value (Following o a) b s e = cc e
   below_value (Branching a) b s e = cc e
   below_value (Failing a d) b s e = cc e
@@ -199,44 +319,70 @@ module _ (strict : Bool) where
   number_of (Listing us) ts = refl
   number_of l ts = refl
 
-  no_positive : (r : Tree) → not (is_number_shape (shape_of r) && true) ≡ true → is_not_positive_number r ≡ true
+  no_positive : (r : Tree) → not (is_number_shape (shape_of r)) ≡ true → is_not_positive_number r ≡ true
   no_positive (node (shape.NumericLiteral n) xs k ts) e = absurd (true≢false (sym e))
   no_positive (node h xs k ts) e = refl
 
   -- right under a minus
-  no_number : (l : Lead) (ss : List Step) (t : Tree) → suited t l (is_end ss) ≡ true → l ≡ Minus → is_not_positive_number (led ss t) ≡ true
-  no_number l [] t e m = no_positive t (sym (ap (λ k. suited t k true) m) ∙ e)
+  no_number : (l : Lead) (ss : List Step) (t : Tree) → unsigned t l (is_end ss) ≡ true → l ≡ Minus → is_not_positive_number (led ss t) ≡ true
+  no_number l [] t e m = no_positive t (sym (ap (λ k. unsigned t k true) m) ∙ e)
   no_number l (s ∷ ss) t e m = number_of s.lead (append (before s.lead) (led ss t ▸ s.rest))
 
-  put_value : (c : Asked) (ss : List Step) → Well c ss → (c ≡ AsWholeItem → ⊥) → (y : Name) (r : Tree) → Suited r ss → ((s : Slot) → Takes AsValue s → fits strict s (identifier y) ≡ true → fits strict s r ≡ true) → FitsAs c (led ss (identifier y)) (led ss r)
+  -- a chain keeps its optional link
+  or_further : (o a b : Bool) → (a ≡ true → b ≡ true) → (o || a) ≡ true → (o || b) ≡ true
+  or_further true a b f e = refl
+  or_further false a b f e = f e
+
+  optional_by : (l : Lead) (t u : Tree) (ts : Trees) → (has_optional t ≡ true → has_optional u ≡ true) → has_optional (node (shape_by (head_of l)) [] 0 (append (before l) (t ▸ ts))) ≡ true → has_optional (node (shape_by (head_of l)) [] 0 (append (before l) (u ▸ ts))) ≡ true
+  optional_by (Called o) t u ts f e = or_further o (has_optional t) (has_optional u) f e
+  optional_by (Member o) t u ts f e = or_further o (has_optional t) (has_optional u) f e
+  optional_by (Keyed o) t u ts f e = or_further o (has_optional t) (has_optional u) f e
+  optional_by (Given o a) t u ts f e = e
+  optional_by (Keying o a) t u ts f e = e
+  optional_by l t u ts f e = absurd (true≢false (sym e))
+
+  still_optional : (ss : List Step) (y : Name) (r : Tree) → has_optional (led ss (identifier y)) ≡ true → has_optional (led ss r) ≡ true
+  still_optional [] y r e = absurd (true≢false (sym e))
+  still_optional (s ∷ ss) y r e = optional_by s.lead (led ss (identifier y)) (led ss r) s.rest (still_optional ss y r) e
+
+  put_value : (c : Asked) (ss : List Step) → Well c ss → (c ≡ AsWholeItem → ⊥) → (y : Name) (r : Tree) → Unsigned r ss → ((s : Slot) → Takes AsValue s → fits strict s (identifier y) ≡ true → fits strict s r ≡ true) → FitsAs c (led ss (identifier y)) (led ss r)
   put_value AsValue [] w n y r g f s k e = f s k e
   put_value AsValue (q ∷ ss) w n y r g f s k e =
       let inner = put_value (asked_below (head_of q.lead) AsValue (place 0 (before q.lead))) ss w.1 (below_value q.lead (is_end ss) w.0) y r g.1 f in
-      room q.lead (is_end ss) w.0 s k (led ss (identifier y)) (led ss r) q.rest inner (value_step q.lead (is_end ss) w.0 (led ss (identifier y)) (led ss r) q.rest (same_count (asked_below (head_of q.lead) AsValue (place 0 (before q.lead))) ss w.1 (identifier y) r) (no_number q.lead ss r g.0) inner) e
+      room q.lead (is_end ss) w.0 s k (led ss (identifier y)) (led ss r) q.rest inner (value_step q.lead (is_end ss) w.0 (led ss (identifier y)) (led ss r) q.rest (same_count (asked_below (head_of q.lead) AsValue (place 0 (before q.lead))) ss w.1 (identifier y) r) (no_number q.lead ss r g.0) (still_optional ss y r) inner) e
   put_value AsValues (q ∷ ss) w n y r g f s k e = list_step q.lead (is_end ss) w.0 (led ss (identifier y)) (led ss r) q.rest (put_value (asked_below (head_of q.lead) AsValues (place 0 (before q.lead))) ss w.1 (below_list q.lead (is_end ss) w.0) y r g.1 f) s k e
   put_value AsWholeItem ss w n y r g f s k e = absurd (n refl)
   put_value c [] w n y r g f s k e = absurd w
   put_value c (q ∷ ss) w n y r g f s k e = absurd w.0
 
   -- an expression along a path
-  put_along : (ss : List Step) → Well AsValue ss → (y : Name) (r : Tree) → Suited r ss → fits strict (one an_expression) r ≡ true → FitsAs AsValue (led ss (identifier y)) (led ss r)
+  put_along : (ss : List Step) → Well AsValue ss → (y : Name) (r : Tree) → Unsigned r ss → fits strict (one an_expression) r ≡ true → FitsAs AsValue (led ss (identifier y)) (led ss r)
   put_along ss w y r g f = put_value AsValue ss w (λ e. cc e) y r g (taken_by strict y r f)
 
 -- what may stand in the place of what a tree reads: no number, or what its parts pass
 abbrev pub MayStand : Name → Tree → Tree → Type 0
 MayStand x r t = (is_number_shape (shape_of r) ≡ false) ⊎ (are_passed x r t ≡ true)
 
-suited_lead : (r : Tree) → is_number_shape (shape_of r) ≡ false → (l : Lead) (b : Bool) → suited r l b ≡ true
-suited_lead r n Minus b = ap (λ c. not (c && b)) n
-suited_lead r n l b = refl
+unsigned_lead : (r : Tree) → is_number_shape (shape_of r) ≡ false → (l : Lead) (b : Bool) → unsigned r l b ≡ true
+unsigned_lead r n Minus true = ap (λ c. not c) n
+unsigned_lead r n Minus false = refl
+unsigned_lead r n l b = refl
 
-suited_all : (r : Tree) → is_number_shape (shape_of r) ≡ false → (ss : List Step) → Suited r ss
-suited_all r n [] = tt
-suited_all r n (s ∷ ss) = (suited_lead r n s.lead (is_end ss), suited_all r n ss)
+unsigned_all : (r : Tree) → is_number_shape (shape_of r) ≡ false → (ss : List Step) → Unsigned r ss
+unsigned_all r n [] = tt
+unsigned_all r n (s ∷ ss) = (unsigned_lead r n s.lead (is_end ss), unsigned_all r n ss)
 
-stands_there : (x : Name) (c : Asked) (t : Tree) (p : Path x c t) (r : Tree) → MayStand x r t → Suited r p.steps
-stands_there x c t p r (inl n) = suited_all r n p.steps
-stands_there x c t p r (inr e) = p.suit_in false r e
+suited_lead : (r : Tree) (l : Lead) (b : Bool) → suited r l b ≡ true → unsigned r l b ≡ true
+suited_lead r Minus b e = e
+suited_lead r l b e = refl
+
+suited_all : (r : Tree) (ss : List Step) → Suited r ss → Unsigned r ss
+suited_all r [] e = tt
+suited_all r (s ∷ ss) e = (suited_lead r s.lead (is_end ss) e.0, suited_all r ss e.1)
+
+stands_there : (x : Name) (c : Asked) (t : Tree) (p : Path x c t) (r : Tree) → MayStand x r t → Unsigned r p.steps
+stands_there x c t p r (inl n) = unsigned_all r n p.steps
+stands_there x c t p r (inr e) = suited_all r p.steps (p.suit_in false r e)
 
 number_constant : (t : Tree) → is_number_shape (shape_of t) ≡ true → is_constant t ≡ true
 number_constant (node (shape.NumericLiteral n) xs k none) e = refl
@@ -302,23 +448,26 @@ begun_there strict (s ∷ ss) w y e = by s.lead w.0 (append (before s.lead) (led
     by Plus s ts e = e
     by Minus s ts e = e
     by Tilde s ts e = e
+    by Typing s ts e = e
     by Emptying s ts e = e
     by (Beside o) s ts e = e
     by (Deciding o) s ts e = e
     by Choosing s ts e = e
     by Passing s ts e = e
-    by Called s ts e = e
+    by (Called o) s ts e = e
     by Making s ts e = e
     by (Waiting true) s ts e = e
     by (Waiting false) s ts e = e
-    by Member s ts e = e
-    by Keyed s ts e = e
+    by (Member o) s ts e = e
+    by (Keyed o) s ts e = e
+    by Linking s ts e = e
     by Holding s ts e = e
     by Gathering s ts e = e
+    by Spreading s ts e = e
     by (Against o a) s ts e = e
-    by (Given a) s ts e = e
+    by (Given o a) s ts e = e
     by (Filling a) s ts e = e
-    by (Keying a) s ts e = e
+    by (Keying o a) s ts e = e
     by (Following o a) s ts e = e
     by (Branching a) s ts e = e
     by (Failing a d) s ts e = e

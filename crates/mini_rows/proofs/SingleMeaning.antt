@@ -12,7 +12,7 @@ use Rattle.mini_model.specs.declared.operator.BinaryOperator.TheVariants as bina
 use Rattle.mini_model.specs.declared.operator.LogicalOperator.{LogicalOperator}
 use Rattle.mini_model.specs.declared.operator.LogicalOperator.TheVariants.{Or, And, Coalesce}
 use Rattle.mini_model.specs.declared.operator.UnaryOperator.{UnaryOperator}
-use Rattle.mini_model.specs.declared.operator.UnaryOperator.TheVariants.{UnaryPlus, UnaryNegation, BitwiseNot}
+use Rattle.mini_model.specs.declared.operator.UnaryOperator.TheVariants.{UnaryPlus, UnaryNegation, BitwiseNot, Typeof}
 use Rattle.mini_model.specs.declared.shape.Shape.{Shape}
 use Rattle.mini_model.specs.declared.shape.Shape.TheVariants as shape
 use Rattle.mini_model.specs.Tree.{Tree, Trees, node, none, ◌▸◌, count, identifier, shape_of}
@@ -21,14 +21,14 @@ use Rattle.mini_model.specs.Weight.{same_text}
 use Rattle.mini_laws.specs.Value.{Value, Boolean, Declared, VariableSet, Slot, Holds, choose, truth, is_nullish, variable_eq}
 use Rattle.mini_laws.specs.Conversion.{Made, makes, raises, outside, to_number, known_member}
 use Rattle.mini_laws.specs.Operators.{of_number, strictly_equal, loosely_equal, of_numbers, of_primitives}
-use Rattle.mini_laws.specs.State.{Hint, ForDefault, ForNumber, GetOf, CallOf, DirectEval, Coerce, Entry, Item, Stop, State, Completion, ok, stop, halt, out, Ends, done, ended, either, Environment, with_vars}
-use Rattle.mini_laws.specs.Demand.{Want, Val, Test, Unused, Demand, As, Callee, Target, AnEntry, Parts, Items, Stat, Reference, AMember, TargetRequest, Prepare, Fetch, Put, Called, Request, Reply, Says, says}
+use Rattle.mini_laws.specs.State.{Hint, ForDefault, ForNumber, GetOf, CallOf, DirectEval, Coerce, Entry, Item, Stop, Short, State, Completion, ok, stop, halt, out, Ends, done, ended, either, Environment, with_vars}
+use Rattle.mini_laws.specs.Demand.{Want, Val, Test, Unused, Demand, As, Callee, OfType, Target, AnEntry, Parts, Items, Stat, Reference, AMember, TargetRequest, Prepare, Fetch, Put, Called, Request, Reply, Says, says}
 use Rattle.mini_laws.specs.Command.{set_var, Command, ret, fails, stuck, op, kid, then, attempt, bind, shift, emit, act, Gets, run, read_slot, at_variable, is_object}
 use Rattle.mini_laws.specs.Naming.{EvalName, PlainName, Facts, Summary, summary, summaries, facts_all, naming}
-use Rattle.mini_laws.specs.Asking.{pass, demand, first_demand, parts_demand, logical_demand}
+use Rattle.mini_laws.specs.Asking.{pass, demand, first_demand, parts_demand, logical_demand, chained}
 use Rattle.mini_laws.specs.Replies.{reply, valued, passed, passing, merged, raise, of_made, of_option, primitive, hint_of, numeric, is_of_primitives, operate, loosely, or_event, get_member}
-use Rattle.mini_laws.specs.Expressions.{get_identifier, operate_by, binary_step, and_step, or_step, logical_step, conditional_step, sequence_step, not_step, property_step, number_step, void_step, call_event, call_step, new_step, array_step, object_step, yield_step, member_step, got, called_member}
-use Rattle.mini_laws.specs.Lists.{entries, parts}
+use Rattle.mini_laws.specs.Expressions.{get_identifier, operate_by, binary_step, and_step, or_step, logical_step, conditional_step, sequence_step, not_step, typeof_step, property_step, number_step, void_step, call_event, call_step, new_step, array_step, object_step, yield_step, chain_end, chain_value, chain_step, member_step, got, called_member}
+use Rattle.mini_laws.specs.Lists.{entries, parts, spread_step}
 use Rattle.mini_laws.specs.Targets.{as_member, AssignmentKind, Plainly, Computing, Deciding as DecidingKind, assignment_kind, assigns, AssignDemand, put_target, after_read, assign_by, assignment_step}
 use Rattle.mini_laws.specs.Statements.{if_step, return_step, throw_step}
 use Rattle.mini_laws.specs.Step.{entry, step, means, meaning}
@@ -45,14 +45,18 @@ use Rattle.mini_kept.specs.Without.{Unseen}
 use Rattle.mini_node.specs.Children.{part}
 use Rattle.mini_node.specs.Kinds.{is_identifier}
 use Rattle.mini_terms.specs.Folds.{is_effect_free}
-use Rattle.mini_terms.specs.Reading.{is_item, by_value}
+use Rattle.mini_terms.specs.Reading.{is_item, by_value, is_typed_by_value}
 use Rattle.mini_terms.specs.Sound.{Quiet}
 use Rattle.mini_terms.proofs.Dropping.{weak}
+use Rattle.mini_terms.proofs.Reading.{typed_by_value}
 use Rattle.mini_rows.specs.Sketches.{shape_by, Asked, AsWholeItem, AsValue, AsValues, asked_below}
-use Rattle.mini_rows.specs.Unused.{any_names, resolved, is_constant, is_plain_assignment, is_word, is_field, passes, passes_target, passes_item, entries_below}
+use Rattle.mini_rows.specs.Unused.{any_names, resolved, is_constant, is_plain_assignment, is_word, is_field, passes, passes_target, passes_item, entries_below, is_called_by_value}
+use Rattle.mini_rows.specs.Chains.{is_calm}
+use Rattle.mini_rows.proofs.CalledReads.{called_read, name_called_read}
+use Rattle.mini_rows.proofs.ChainCalm.{Calm as Calmly, tree_calm}
 use Rattle.mini_rows.proofs.ItemReads.{item_read}
 use Rattle.mini_rows.proofs.Passing.{Replies, Does, Mild, Replying, Quietly, constant_replies, word_replies, target_replies, field_replies, field_quietly, quiet_there, quietly, fetched_quietly, passes_by}
-use Rattle.mini_rows.proofs.SingleUse.{Lead, Not, Plus, Minus, Tilde, Emptying, Beside, Deciding, Choosing, Passing, Called as CalledLead, Making, Waiting, Member, Keyed, Holding, Against, Given as GivenLead, Filling, Keying, Following, Branching, Failing, Storing, Gathering, Fielding, Listing, Doing, Giving, Raising, Testing, head_of, before, place, Step, led, is_end, is_steady, surely, Stands, Well, Spared, AllPass, PassedIn, summaries_led}
+use Rattle.mini_rows.proofs.SingleUse.{Lead, Not, Plus, Minus, Tilde, Typing, Emptying, Beside, Deciding, Choosing, Passing, Called as CalledLead, Making, Waiting, Member, Keyed, Linking, Holding, Against, Given as GivenLead, Filling, Keying, Following, Branching, Failing, Storing, Gathering, Fielding, Spreading, Listing, Doing, Giving, Raising, Testing, head_of, before, place, Step, led, is_end, is_steady, surely, Stands, Well, Spared, AllPass, whole, End, free, end_of, Allows, PassedIn, summaries_led}
 use Rattle.mini_rows.proofs.UnusedNames.{all_avoided}
 
 -- ---- a command that doesn't ask a child any more
@@ -171,71 +175,87 @@ Before zero (suc j) = Unit {0}
 Before (suc i) (suc j) = Before i j
 Before i j = ⊥
 
-pub record Hits (i : ℕ) (σ : ℕ → Demand) (A : Type 0) (j : ℕ) (r : Request (σ j)) (k : Ends (Reply (σ j) r) → Command σ A) : Type 0 where
+-- an end that an initializer may have: one that ends no chain around it doesn't end short
+abbrev pub May : Bool → Stop → Type 0
+May true Short = ⊥
+May d y = Unit {0}
+
+pub record Hits (d : Bool) (i : ℕ) (σ : ℕ → Demand) (A : Type 0) (j : ℕ) (r : Request (σ j)) (k : Ends (Reply (σ j) r) → Command σ A) : Type 0 where
   pub here : j ≡ i
-  pub stops : (y : Stop) → k (ended y) ≡ fails y
+  pub stops : (y : Stop) → May d y → k (ended y) ≡ fails y
+  pub stopped_later : (y : Stop) → Later i (k (ended y))
   pub later : (a : Reply (σ j) r) → Later i (k (done a))
 
 -- so many of those before may be asked; where nothing is lost, it may end without asking the one at the place
-abbrev pub Reaches : Bool → ℕ → ℕ → {σ : ℕ → Demand} {A : Type 0} → Command σ A → Type 0
-Reaches f m i {σ} {A} (kid j r k) = ((Before j m × Mild f (σ j) r) × ((a : Reply (σ j) r) → Reaches f m i (k (done a)))) ⊎ (Hits i σ A j r k ⊎ ((f ≡ true) × Later i {σ = σ} (kid j r k)))
-Reaches f m i {σ} {A} c = (f ≡ true) × Later i {σ = σ} c
+abbrev pub Reaches : Bool → Bool → ℕ → ℕ → {σ : ℕ → Demand} {A : Type 0} → Command σ A → Type 0
+Reaches f d m i {σ} {A} (kid j r k) = ((Before j m × Mild f (σ j) r) × ((a : Reply (σ j) r) → Reaches f d m i (k (done a)))) ⊎ (Hits d i σ A j r k ⊎ ((f ≡ true) × Later i {σ = σ} (kid j r k)))
+Reaches f d m i {σ} {A} c = (f ≡ true) × Later i {σ = σ} c
 
-missed : (f : Bool) (m i : ℕ) {σ : ℕ → Demand} {A : Type 0} (c : Command σ A) → f ≡ true → Later i c → Reaches f m i c
-missed f m i (kid j r k) e l = inr (inr (e, l))
-missed f m i (ret a) e l = (e, l)
-missed f m i (fails y) e l = (e, l)
-missed f m i stuck e l = (e, l)
-missed f m i (op o k) e l = (e, l)
+missed : (f d : Bool) (m i : ℕ) {σ : ℕ → Demand} {A : Type 0} (c : Command σ A) → f ≡ true → Later i c → Reaches f d m i c
+missed f d m i (kid j r k) e l = inr (inr (e, l))
+missed f d m i (ret a) e l = (e, l)
+missed f d m i (fails y) e l = (e, l)
+missed f d m i stuck e l = (e, l)
+missed f d m i (op o k) e l = (e, l)
 
-reach_choose : (f : Bool) (m i : ℕ) {σ : ℕ → Demand} {A : Type 0} (b : Bool) (x y : Command σ A) → Reaches f m i x → Reaches f m i y → Reaches f m i (choose b x y)
-reach_choose f m i true x y t u = t
-reach_choose f m i false x y t u = u
+reach_choose : (f d : Bool) (m i : ℕ) {σ : ℕ → Demand} {A : Type 0} (b : Bool) (x y : Command σ A) → Reaches f d m i x → Reaches f d m i y → Reaches f d m i (choose b x y)
+reach_choose f d m i true x y t u = t
+reach_choose f d m i false x y t u = u
 
-reach_bind : (f : Bool) (m i : ℕ) {σ : ℕ → Demand} {A B : Type 0} (c : Command σ A) (g : A → Command σ B) → Reaches f m i c → ((a : A) → Later i (g a)) → Reaches f m i (bind c g)
-reach_bind f m i (kid j r k) g (inl t) h = inl (t.0, λ a. reach_bind f m i (k (done a)) g (t.1 a) h)
-reach_bind f m i (kid j r k) g (inr (inl t)) h = inr (inl (record { here = t.here; stops = λ y. ap (λ d. bind d g) (t.stops y); later = λ a. later_bind i (k (done a)) g (t.later a) h }))
-reach_bind f m i (kid j r k) g (inr (inr t)) h = inr (inr (t.0, later_bind i (kid j r k) g t.1 h))
-reach_bind f m i (ret a) g t h = missed f m i (g a) t.0 (h a)
-reach_bind f m i (fails y) g t h = (t.0, tt)
-reach_bind f m i stuck g t h = (t.0, tt)
-reach_bind f m i (op o k) g t h = (t.0, later_bind i (op o k) g t.1 h)
+reach_bind : (f d : Bool) (m i : ℕ) {σ : ℕ → Demand} {A B : Type 0} (c : Command σ A) (g : A → Command σ B) → Reaches f d m i c → ((a : A) → Later i (g a)) → Reaches f d m i (bind c g)
+reach_bind f d m i (kid j r k) g (inl t) h = inl (t.0, λ a. reach_bind f d m i (k (done a)) g (t.1 a) h)
+reach_bind f d m i (kid j r k) g (inr (inl t)) h = inr (inl (record { here = t.here; stops = λ y n. ap (λ d. bind d g) (t.stops y n); stopped_later = λ y. later_bind i (k (ended y)) g (t.stopped_later y) h; later = λ a. later_bind i (k (done a)) g (t.later a) h }))
+reach_bind f d m i (kid j r k) g (inr (inr t)) h = inr (inr (t.0, later_bind i (kid j r k) g t.1 h))
+reach_bind f d m i (ret a) g t h = missed f d m i (g a) t.0 (h a)
+reach_bind f d m i (fails y) g t h = (t.0, tt)
+reach_bind f d m i stuck g t h = (t.0, tt)
+reach_bind f d m i (op o k) g t h = (t.0, later_bind i (op o k) g t.1 h)
 
-pub reach_statement : (f : Bool) (m i : ℕ) {σ : ℕ → Demand} (c : Command σ (Unit {0})) → Reaches f m i c → Reaches f m i (attempt c (merged None))
-reach_statement f m i (kid j r k) (inl t) = inl (t.0, λ a. reach_statement f m i (k (done a)) (t.1 a))
-reach_statement f m i (kid j r k) (inr (inl t)) = inr (inl (record { here = t.here; stops = λ y. ap (λ d. attempt d (merged None)) (t.stops y); later = λ a. later_attempt i (k (done a)) (merged None) (t.later a) (λ u. tt) (λ y. tt) }))
-reach_statement f m i (kid j r k) (inr (inr t)) = inr (inr (t.0, later_attempt i (kid j r k) (merged None) t.1 (λ u. tt) (λ y. tt)))
-reach_statement f m i (ret a) t = (t.0, tt)
-reach_statement f m i (fails y) t = (t.0, tt)
-reach_statement f m i stuck t = (t.0, tt)
-reach_statement f m i (op o k) t = (t.0, later_attempt i (op o k) (merged None) t.1 (λ u. tt) (λ y. tt))
+pub reach_statement : (f d : Bool) (m i : ℕ) {σ : ℕ → Demand} (c : Command σ (Unit {0})) → Reaches f d m i c → Reaches f d m i (attempt c (merged None))
+reach_statement f d m i (kid j r k) (inl t) = inl (t.0, λ a. reach_statement f d m i (k (done a)) (t.1 a))
+reach_statement f d m i (kid j r k) (inr (inl t)) = inr (inl (record { here = t.here; stops = λ y n. ap (λ d. attempt d (merged None)) (t.stops y n); stopped_later = λ y. later_attempt i (k (ended y)) (merged None) (t.stopped_later y) (λ u. tt) (λ y. tt); later = λ a. later_attempt i (k (done a)) (merged None) (t.later a) (λ u. tt) (λ y. tt) }))
+reach_statement f d m i (kid j r k) (inr (inr t)) = inr (inr (t.0, later_attempt i (kid j r k) (merged None) t.1 (λ u. tt) (λ y. tt)))
+reach_statement f d m i (ret a) t = (t.0, tt)
+reach_statement f d m i (fails y) t = (t.0, tt)
+reach_statement f d m i stuck t = (t.0, tt)
+reach_statement f d m i (op o k) t = (t.0, later_attempt i (op o k) (merged None) t.1 (λ u. tt) (λ y. tt))
 
-reach_shift : (f : Bool) (m i : ℕ) (q : ℕ → Demand) {A : Type 0} (c : Command (λ i. q (suc i)) A) → Reaches f m i c → Reaches f (suc m) (suc i) (shift {q = q} c)
-reach_shift f m i q (kid j r k) (inl t) = inl (t.0, λ a. reach_shift f m i q (k (done a)) (t.1 a))
-reach_shift f m i q (kid j r k) (inr (inl t)) = inr (inl (record { here = ap suc t.here; stops = λ y. ap (shift {q = q}) (t.stops y); later = λ a. later_shifted i q (k (done a)) (t.later a) }))
-reach_shift f m i q (kid j r k) (inr (inr t)) = inr (inr (t.0, later_shifted i q (kid j r k) t.1))
-reach_shift f m i q (ret a) t = (t.0, tt)
-reach_shift f m i q (fails y) t = (t.0, tt)
-reach_shift f m i q stuck t = (t.0, tt)
-reach_shift f m i q (op o k) t = (t.0, later_shifted i q (op o k) t.1)
+reach_shift : (f d : Bool) (m i : ℕ) (q : ℕ → Demand) {A : Type 0} (c : Command (λ i. q (suc i)) A) → Reaches f d m i c → Reaches f d (suc m) (suc i) (shift {q = q} c)
+reach_shift f d m i q (kid j r k) (inl t) = inl (t.0, λ a. reach_shift f d m i q (k (done a)) (t.1 a))
+reach_shift f d m i q (kid j r k) (inr (inl t)) = inr (inl (record { here = ap suc t.here; stops = λ y n. ap (shift {q = q}) (t.stops y n); stopped_later = λ y. later_shifted i q (k (ended y)) (t.stopped_later y); later = λ a. later_shifted i q (k (done a)) (t.later a) }))
+reach_shift f d m i q (kid j r k) (inr (inr t)) = inr (inr (t.0, later_shifted i q (kid j r k) t.1))
+reach_shift f d m i q (ret a) t = (t.0, tt)
+reach_shift f d m i q (fails y) t = (t.0, tt)
+reach_shift f d m i q stuck t = (t.0, tt)
+reach_shift f d m i q (op o k) t = (t.0, later_shifted i q (op o k) t.1)
 
-reach_valued : (f : Bool) (m i : ℕ) (σ : ℕ → Demand) (q : Demand) → Replies q → (r : Request q) (c : Command σ Value) → Reaches f m i c → Reaches f m i (valued q r c)
-reach_valued f m i σ (As w) u r c b = reach_bind f m i c (reply (As w) r) b (λ v. tt)
-reach_valued f m i σ Callee u r c b = reach_bind f m i c (reply Callee r) b (λ v. tt)
-reach_valued f m i σ AnEntry u r c b = reach_bind f m i c (reply AnEntry r) b (λ v. tt)
-reach_valued f m i σ q u r c b = absurd u
+-- an expression is asked for what it gives
+abbrev pub Valued : Demand → Type 0
+Valued (As w) = Unit {0}
+Valued Callee = Unit {0}
+Valued OfType = Unit {0}
+Valued AnEntry = Unit {0}
+Valued q = ⊥
 
-reach_passing : (f : Bool) (m i : ℕ) (σ : ℕ → Demand) (q : Demand) → Replies q → (r : Request q) (c : Command σ (Says (pass q))) → Reaches f m i c → Reaches f m i (passing q r c)
-reach_passing f m i σ (As w) u r c b = reach_bind f m i c (passed (As w) r) b (λ v. tt)
-reach_passing f m i σ Callee u r c b = reach_bind f m i c (passed Callee r) b (λ v. tt)
-reach_passing f m i σ AnEntry u r c b = reach_bind f m i c (passed AnEntry r) b (λ v. tt)
-reach_passing f m i σ q u r c b = absurd u
+reach_valued : (f d : Bool) (m i : ℕ) (σ : ℕ → Demand) (q : Demand) → Valued q → (r : Request q) (c : Command σ Value) → Reaches f d m i c → Reaches f d m i (valued q r c)
+reach_valued f d m i σ (As w) u r c b = reach_bind f d m i c (reply (As w) r) b (λ v. tt)
+reach_valued f d m i σ Callee u r c b = reach_bind f d m i c (reply Callee r) b (λ v. tt)
+reach_valued f d m i σ OfType u r c b = reach_bind f d m i c (reply OfType r) b (λ v. tt)
+reach_valued f d m i σ AnEntry u r c b = reach_bind f d m i c (reply AnEntry r) b (λ v. tt)
+reach_valued f d m i σ q u r c b = absurd u
+
+reach_passing : (f d : Bool) (m i : ℕ) (σ : ℕ → Demand) (q : Demand) → Valued q → (r : Request q) (c : Command σ (Says (pass q))) → Reaches f d m i c → Reaches f d m i (passing q r c)
+reach_passing f d m i σ (As w) u r c b = reach_bind f d m i c (passed (As w) r) b (λ v. tt)
+reach_passing f d m i σ Callee u r c b = reach_bind f d m i c (passed Callee r) b (λ v. tt)
+reach_passing f d m i σ OfType u r c b = reach_bind f d m i c (passed OfType r) b (λ v. tt)
+reach_passing f d m i σ AnEntry u r c b = reach_bind f d m i c (passed AnEntry r) b (λ v. tt)
+reach_passing f d m i σ q u r c b = absurd u
 
 -- ---- each shape
 
 -- a command that goes on with nothing else of a child
-pub one : (f : Bool) (m i : ℕ) (σ : ℕ → Demand) (A : Type 0) (r : Request (σ i)) (g : Reply (σ i) r → Command σ A) → ((a : Reply (σ i) r) → Later i (g a)) → Reaches f m i {σ = σ} (kid i r ((then) g))
-one f m i σ A r g h = inr (inl (record { here = refl; stops = λ y. refl; later = h }))
+pub one : (f d : Bool) (m i : ℕ) (σ : ℕ → Demand) (A : Type 0) (r : Request (σ i)) (g : Reply (σ i) r → Command σ A) → ((a : Reply (σ i) r) → Later i (g a)) → Reaches f d m i {σ = σ} (kid i r ((then) g))
+one f d m i σ A r g h = inr (inl (record { here = refl; stops = λ y n. refl; stopped_later = λ y. tt; later = h }))
 
 -- an entry, or a list of entries
 abbrev pub Entries : Bool → Demand → Type 0
@@ -244,124 +264,178 @@ Entries true Items = Unit {0}
 Entries true AnEntry = Unit {0}
 Entries true q = ⊥
 
-module _ (f : Bool) where
-  number_begins : (o : UnaryOperator) → Reaches f 0 0 (number_step o)
-  number_begins o = one f 0 0 (λ i. As Val) Value tt _ (λ v. later_bind 0 (numeric v) (λ n. of_made (of_number o n)) (numeric_later 0 (λ i. As Val) v) (λ n. made_later 0 (λ i. As Val) (of_number o n)))
+module _ (f d : Bool) where
+  number_begins : (o : UnaryOperator) → Reaches f d 0 0 (number_step o)
+  number_begins o = one f d 0 0 (λ i. As Val) Value tt _ (λ v. later_bind 0 (numeric v) (λ n. of_made (of_number o n)) (numeric_later 0 (λ i. As Val) v) (λ n. made_later 0 (λ i. As Val) (of_number o n)))
 
-  binary_begins : (o : BinaryOperator) → Reaches f 0 0 (binary_step o)
-  binary_begins o = one f 0 0 (λ i. As Val) Value tt _ (λ v. (tt, (λ w. by_later 0 (λ i. As Val) o v w, λ y. tt)))
+  binary_begins : (o : BinaryOperator) → Reaches f d 0 0 (binary_step o)
+  binary_begins o = one f d 0 0 (λ i. As Val) Value tt _ (λ v. (tt, (λ w. by_later 0 (λ i. As Val) o v w, λ y. tt)))
 
-  binary_goes_on : (o : BinaryOperator) → Reaches f 1 1 (binary_step o)
-  binary_goes_on o = inl ((tt, tt), λ v. one f 1 1 (λ i. As Val) Value tt _ (λ w. by_later 1 (λ i. As Val) o v w))
+  binary_goes_on : (o : BinaryOperator) → Reaches f d 1 1 (binary_step o)
+  binary_goes_on o = inl ((tt, tt), λ v. one f d 1 1 (λ i. As Val) Value tt _ (λ w. by_later 1 (λ i. As Val) o v w))
 
-  logical_begins : (o : LogicalOperator) (w : Want) → Reaches f 0 0 (logical_step o w)
-  logical_begins And Val = one f 0 0 (λ i. As Val) Value tt _ (λ v. later_choose 0 (truth v) (kid 1 tt ((then) ret)) (ret v) (tt, (λ v. tt, λ y. tt)) tt)
-  logical_begins And Test = one f 0 0 (λ i. As Test) Bool tt _ (λ c. later_choose 0 c (kid 1 tt ((then) ret)) (ret false) (tt, (λ v. tt, λ y. tt)) tt)
-  logical_begins And Unused = one f 0 0 (logical_demand And Unused) (Unit {0}) tt _ (λ c. later_choose 0 {σ = logical_demand And Unused} c (kid 1 tt ((then) ret)) (ret tt) (tt, (λ v. tt, λ y. tt)) tt)
-  logical_begins Or Val = one f 0 0 (λ i. As Val) Value tt _ (λ v. later_choose 0 (truth v) (ret v) (kid 1 tt ((then) ret)) tt (tt, (λ v. tt, λ y. tt)))
-  logical_begins Or Test = one f 0 0 (λ i. As Test) Bool tt _ (λ c. later_choose 0 c (ret true) (kid 1 tt ((then) ret)) tt (tt, (λ v. tt, λ y. tt)))
-  logical_begins Or Unused = one f 0 0 (logical_demand Or Unused) (Unit {0}) tt _ (λ c. later_choose 0 {σ = logical_demand Or Unused} c (ret tt) (kid 1 tt ((then) ret)) tt (tt, (λ v. tt, λ y. tt)))
-  logical_begins Coalesce w = one f 0 0 (λ i. As Val) (Says w) tt _ (λ v. later_choose 0 (is_nullish v) _ _ (tt, (λ v. tt, λ y. tt)) tt)
+  logical_begins : (o : LogicalOperator) (w : Want) → Reaches f d 0 0 (logical_step o w)
+  logical_begins And Val = one f d 0 0 (λ i. As Val) Value tt _ (λ v. later_choose 0 (truth v) (kid 1 tt ((then) ret)) (ret v) (tt, (λ v. tt, λ y. tt)) tt)
+  logical_begins And Test = one f d 0 0 (λ i. As Test) Bool tt _ (λ c. later_choose 0 c (kid 1 tt ((then) ret)) (ret false) (tt, (λ v. tt, λ y. tt)) tt)
+  logical_begins And Unused = one f d 0 0 (logical_demand And Unused) (Unit {0}) tt _ (λ c. later_choose 0 {σ = logical_demand And Unused} c (kid 1 tt ((then) ret)) (ret tt) (tt, (λ v. tt, λ y. tt)) tt)
+  logical_begins Or Val = one f d 0 0 (λ i. As Val) Value tt _ (λ v. later_choose 0 (truth v) (ret v) (kid 1 tt ((then) ret)) tt (tt, (λ v. tt, λ y. tt)))
+  logical_begins Or Test = one f d 0 0 (λ i. As Test) Bool tt _ (λ c. later_choose 0 c (ret true) (kid 1 tt ((then) ret)) tt (tt, (λ v. tt, λ y. tt)))
+  logical_begins Or Unused = one f d 0 0 (logical_demand Or Unused) (Unit {0}) tt _ (λ c. later_choose 0 {σ = logical_demand Or Unused} c (ret tt) (kid 1 tt ((then) ret)) tt (tt, (λ v. tt, λ y. tt)))
+  logical_begins Coalesce w = one f d 0 0 (λ i. As Val) (Says w) tt _ (λ v. later_choose 0 (is_nullish v) _ _ (tt, (λ v. tt, λ y. tt)) tt)
 
-  conditional_begins : (w : Want) → Reaches f 0 0 (conditional_step w)
-  conditional_begins w = one f 0 0 (first_demand (As Test) (As w)) (Says w) tt _ (λ c. later_choose 0 {σ = first_demand (As Test) (As w)} c (kid 1 tt ((then) ret)) (kid 2 tt ((then) ret)) (tt, (λ v. tt, λ y. tt)) (tt, (λ v. tt, λ y. tt)))
+  conditional_begins : (w : Want) → Reaches f d 0 0 (conditional_step w)
+  conditional_begins w = one f d 0 0 (first_demand (As Test) (As w)) (Says w) tt _ (λ c. later_choose 0 {σ = first_demand (As Test) (As w)} c (kid 1 tt ((then) ret)) (kid 2 tt ((then) ret)) (tt, (λ v. tt, λ y. tt)) (tt, (λ v. tt, λ y. tt)))
 
-  member_begins : Reaches f 0 0 (member_step false)
-  member_begins = one f 0 0 (λ i. As Val) Reference tt _ (λ v. (tt, (λ u. tt, λ y. tt)))
+  member_begins : (o : Bool) → Reaches f d 0 0 (member_step o)
+  member_begins o = one f d 0 0 (λ i. As Val) Reference tt _ (λ v. later_choose 0 (o && is_nullish v) (fails Short) _ tt (tt, (λ u. tt, λ y. tt)))
 
-  member_goes_on : Reaches f 1 1 (member_step false)
-  member_goes_on = inl ((tt, tt), λ v. one f 1 1 (λ i. As Val) Reference tt _ (λ u. tt))
+  -- behind `?.` it may be left out
+  member_goes_on : (o : Bool) → (not o || f) ≡ true → Reaches f d 1 1 (member_step o)
+  member_goes_on false e = inl ((tt, tt), λ v. one f d 1 1 (λ i. As Val) Reference tt _ (λ u. tt))
+  member_goes_on true e = inl ((tt, tt), λ v. reach_choose f d 1 1 (is_nullish v) (fails Short) _ (e, tt) (one f d 1 1 (λ i. As Val) Reference tt _ (λ u. tt)))
 
-  as_member_reaches : (i : ℕ) → Reaches f i i (member_step false) → (q : Demand) → Replies q → (r : Request q) → Reaches f i i (as_member (member_step false) q r)
-  as_member_reaches i m (As w) u r = reach_valued f i i (λ i. As Val) (As w) tt r (bind (member_step false) got) (reach_bind f i i (member_step false) got m (got_later i (λ i. As Val)))
-  as_member_reaches i m AnEntry u r = reach_valued f i i (λ i. As Val) AnEntry tt r (bind (member_step false) got) (reach_bind f i i (member_step false) got m (got_later i (λ i. As Val)))
-  as_member_reaches i m Callee u r = reach_bind f i i (member_step false) called_member m (called_later i (λ i. As Val))
-  as_member_reaches i m q u r = absurd u
+  as_member_reaches : (o : Bool) (i : ℕ) → Reaches f d i i (member_step o) → (q : Demand) → Valued q → (r : Request q) → Reaches f d i i (as_member (member_step o) q r)
+  as_member_reaches o i m (As w) u r = reach_valued f d i i (λ i. As Val) (As w) tt r (bind (member_step o) got) (reach_bind f d i i (member_step o) got m (got_later i (λ i. As Val)))
+  as_member_reaches o i m AnEntry u r = reach_valued f d i i (λ i. As Val) AnEntry tt r (bind (member_step o) got) (reach_bind f d i i (member_step o) got m (got_later i (λ i. As Val)))
+  as_member_reaches o i m OfType u r = reach_valued f d i i (λ i. As Val) OfType tt r (bind (member_step o) got) (reach_bind f d i i (member_step o) got m (got_later i (λ i. As Val)))
+  as_member_reaches o i m Callee u r = reach_bind f d i i (member_step o) called_member m (called_later i (λ i. As Val))
+  as_member_reaches o i m q u r = absurd u
 
-  call_goes_on : Reaches f 1 1 (call_step false)
-  call_goes_on = inl ((tt, tt), λ g. one f 1 1 (first_demand Callee Items) Value tt _ (λ vs. call_later 1 (first_demand Callee Items) false g vs))
+  call_begins : (o : Bool) → Reaches f d 0 0 (call_step o)
+  call_begins o = one f d 0 0 (first_demand Callee Items) Value tt _ (λ g. later_choose 0 {σ = first_demand Callee Items} (o && is_nullish g.value) (fails Short) _ tt (tt, (λ vs. call_later 0 (first_demand Callee Items) o g vs, λ y. tt)))
 
-  new_goes_on : Reaches f 1 1 new_step
-  new_goes_on = inl ((tt, tt), λ g. one f 1 1 (first_demand (As Val) Items) Value tt _ (λ vs. (λ v. tt, λ y. tt)))
+  call_goes_on : (o : Bool) → (not o || f) ≡ true → Reaches f d 1 1 (call_step o)
+  call_goes_on false e = inl ((tt, tt), λ g. one f d 1 1 (first_demand Callee Items) Value tt _ (λ vs. call_later 1 (first_demand Callee Items) false g vs))
+  call_goes_on true e = inl ((tt, tt), λ g. reach_choose f d 1 1 {σ = first_demand Callee Items} (is_nullish g.value) (fails Short) _ (e, tt) (one f d 1 1 (first_demand Callee Items) Value tt _ (λ vs. call_later 1 (first_demand Callee Items) true g vs)))
 
-  parts_reach : (i n : ℕ) (w : Want) → Before i (suc n) → Reaches f i i (parts n w)
-  parts_reach zero zero w h = one f 0 0 (parts_demand zero w) (Says w) tt _ (λ a. tt)
-  parts_reach zero (suc n) w h = one f 0 0 (parts_demand (suc n) w) (Says w) tt _ (λ a. later_shift (parts_demand (suc n) w) (parts n w))
+  new_goes_on : Reaches f d 1 1 new_step
+  new_goes_on = inl ((tt, tt), λ g. one f d 1 1 (first_demand (As Val) Items) Value tt _ (λ vs. (λ v. tt, λ y. tt)))
+
+  parts_reach : (i n : ℕ) (w : Want) → Before i (suc n) → Reaches f d i i (parts n w)
+  parts_reach zero zero w h = one f d 0 0 (parts_demand zero w) (Says w) tt _ (λ a. tt)
+  parts_reach zero (suc n) w h = one f d 0 0 (parts_demand (suc n) w) (Says w) tt _ (λ a. later_shift (parts_demand (suc n) w) (parts n w))
   parts_reach (suc i) zero w h = absurd (no_less i h)
     where
       no_less : (i : ℕ) → Before i 0 → ⊥
       no_less zero h = h
       no_less (suc i) h = h
-  parts_reach (suc i) (suc n) w h = inl ((tt, tt), λ u. reach_shift f i i (parts_demand (suc n) w) (parts n w) (parts_reach i n w h))
+  parts_reach (suc i) (suc n) w h = inl ((tt, tt), λ u. reach_shift f d i i (parts_demand (suc n) w) (parts n w) (parts_reach i n w h))
 
-  entries_reach : (i n : ℕ) → Before i n → Reaches f i i (entries n)
+  entries_reach : (i n : ℕ) → Before i n → Reaches f d i i (entries n)
   entries_reach zero zero h = absurd h
   entries_reach (suc i) zero h = absurd h
-  entries_reach zero (suc n) h = one f 0 0 (λ i. AnEntry) (List Entry) tt _ (λ e. later_bind 0 (shift {q = λ i. AnEntry} (entries n)) (λ es. ret (e ∷ es)) (later_shift (λ i. AnEntry) (entries n)) (λ es. tt))
-  entries_reach (suc i) (suc n) h = inl ((tt, tt), λ e. reach_bind f (suc i) (suc i) (shift {q = λ i. AnEntry} (entries n)) (λ es. ret (e ∷ es)) (reach_shift f i i (λ i. AnEntry) (entries n) (entries_reach i n h)) (λ es. tt))
+  entries_reach zero (suc n) h = one f d 0 0 (λ i. AnEntry) (List Entry) tt _ (λ e. later_bind 0 (shift {q = λ i. AnEntry} (entries n)) (λ es. ret (e ∷ es)) (later_shift (λ i. AnEntry) (entries n)) (λ es. tt))
+  entries_reach (suc i) (suc n) h = inl ((tt, tt), λ e. reach_bind f d (suc i) (suc i) (shift {q = λ i. AnEntry} (entries n)) (λ es. ret (e ∷ es)) (reach_shift f d i i (λ i. AnEntry) (entries n) (entries_reach i n h)) (λ es. tt))
 
   -- one that may be left out
-  and_follows : (w : Want) → f ≡ true → Reaches f 1 1 (and_step w)
-  and_follows Val e = inl ((tt, tt), λ v. reach_choose f 1 1 (truth v) (kid 1 tt ((then) ret)) (ret v) (one f 1 1 (λ i. As Val) Value tt ret (λ v. tt)) (e, tt))
-  and_follows Test e = inl ((tt, tt), λ c. reach_choose f 1 1 c (kid 1 tt ((then) ret)) (ret false) (one f 1 1 (λ i. As Test) Bool tt ret (λ v. tt)) (e, tt))
-  and_follows Unused e = inl ((tt, tt), λ c. reach_choose f 1 1 {σ = logical_demand And Unused} c (kid 1 tt ((then) ret)) (ret tt) (one f 1 1 (logical_demand And Unused) (Unit {0}) tt ret (λ v. tt)) (e, tt))
+  and_follows : (w : Want) → f ≡ true → Reaches f d 1 1 (and_step w)
+  and_follows Val e = inl ((tt, tt), λ v. reach_choose f d 1 1 (truth v) (kid 1 tt ((then) ret)) (ret v) (one f d 1 1 (λ i. As Val) Value tt ret (λ v. tt)) (e, tt))
+  and_follows Test e = inl ((tt, tt), λ c. reach_choose f d 1 1 c (kid 1 tt ((then) ret)) (ret false) (one f d 1 1 (λ i. As Test) Bool tt ret (λ v. tt)) (e, tt))
+  and_follows Unused e = inl ((tt, tt), λ c. reach_choose f d 1 1 {σ = logical_demand And Unused} c (kid 1 tt ((then) ret)) (ret tt) (one f d 1 1 (logical_demand And Unused) (Unit {0}) tt ret (λ v. tt)) (e, tt))
 
-  or_follows : (w : Want) → f ≡ true → Reaches f 1 1 (or_step w)
-  or_follows Val e = inl ((tt, tt), λ v. reach_choose f 1 1 (truth v) (ret v) (kid 1 tt ((then) ret)) (e, tt) (one f 1 1 (λ i. As Val) Value tt ret (λ v. tt)))
-  or_follows Test e = inl ((tt, tt), λ c. reach_choose f 1 1 c (ret true) (kid 1 tt ((then) ret)) (e, tt) (one f 1 1 (λ i. As Test) Bool tt ret (λ v. tt)))
-  or_follows Unused e = inl ((tt, tt), λ c. reach_choose f 1 1 {σ = logical_demand Or Unused} c (ret tt) (kid 1 tt ((then) ret)) (e, tt) (one f 1 1 (logical_demand Or Unused) (Unit {0}) tt ret (λ v. tt)))
+  or_follows : (w : Want) → f ≡ true → Reaches f d 1 1 (or_step w)
+  or_follows Val e = inl ((tt, tt), λ v. reach_choose f d 1 1 (truth v) (ret v) (kid 1 tt ((then) ret)) (e, tt) (one f d 1 1 (λ i. As Val) Value tt ret (λ v. tt)))
+  or_follows Test e = inl ((tt, tt), λ c. reach_choose f d 1 1 c (ret true) (kid 1 tt ((then) ret)) (e, tt) (one f d 1 1 (λ i. As Test) Bool tt ret (λ v. tt)))
+  or_follows Unused e = inl ((tt, tt), λ c. reach_choose f d 1 1 {σ = logical_demand Or Unused} c (ret tt) (kid 1 tt ((then) ret)) (e, tt) (one f d 1 1 (logical_demand Or Unused) (Unit {0}) tt ret (λ v. tt)))
 
-  logical_follows : (o : LogicalOperator) (w : Want) → f ≡ true → Reaches f 1 1 (logical_step o w)
+  logical_follows : (o : LogicalOperator) (w : Want) → f ≡ true → Reaches f d 1 1 (logical_step o w)
   logical_follows And w e = and_follows w e
   logical_follows Or w e = or_follows w e
-  logical_follows Coalesce w e = inl ((tt, tt), λ v. reach_choose f 1 1 (is_nullish v) _ (ret (says w v)) (one f 1 1 (λ i. As Val) (Says w) tt _ (λ u. tt)) (e, tt))
+  logical_follows Coalesce w e = inl ((tt, tt), λ v. reach_choose f d 1 1 (is_nullish v) _ (ret (says w v)) (one f d 1 1 (λ i. As Val) (Says w) tt _ (λ u. tt)) (e, tt))
 
-  branch_follows : (w : Want) → f ≡ true → Reaches f 1 1 (conditional_step w)
-  branch_follows w e = inl ((tt, tt), λ c. reach_choose f 1 1 {σ = first_demand (As Test) (As w)} c (kid 1 tt ((then) ret)) (kid 2 tt ((then) ret)) (one f 1 1 (first_demand (As Test) (As w)) (Says w) tt ret (λ v. tt)) (inr (inr (e, (tt, (λ v. tt, λ y. tt))))))
+  branch_follows : (w : Want) → f ≡ true → Reaches f d 1 1 (conditional_step w)
+  branch_follows w e = inl ((tt, tt), λ c. reach_choose f d 1 1 {σ = first_demand (As Test) (As w)} c (kid 1 tt ((then) ret)) (kid 2 tt ((then) ret)) (one f d 1 1 (first_demand (As Test) (As w)) (Says w) tt ret (λ v. tt)) (inr (inr (e, (tt, (λ v. tt, λ y. tt))))))
 
-  other_follows : (w : Want) → f ≡ true → Reaches f 1 2 (conditional_step w)
-  other_follows w e = inl ((tt, tt), λ c. reach_choose f 1 2 {σ = first_demand (As Test) (As w)} c (kid 1 tt ((then) ret)) (kid 2 tt ((then) ret)) (inr (inr (e, (tt, (λ v. tt, λ y. tt))))) (one f 1 2 (first_demand (As Test) (As w)) (Says w) tt ret (λ v. tt)))
+  other_follows : (w : Want) → f ≡ true → Reaches f d 1 2 (conditional_step w)
+  other_follows w e = inl ((tt, tt), λ c. reach_choose f d 1 2 {σ = first_demand (As Test) (As w)} c (kid 1 tt ((then) ret)) (kid 2 tt ((then) ret)) (inr (inr (e, (tt, (λ v. tt, λ y. tt))))) (one f d 1 2 (first_demand (As Test) (As w)) (Says w) tt ret (λ v. tt)))
 
   -- the right side of an assignment, behind what is assigned to
   put_later : (reference : Reference) (v : Value) → Later 1 (put_target reference v)
   put_later reference v = (tt, (λ u. tt, λ y. tt))
 
-  stored_plainly : (reference : Reference) → Reaches f 1 1 (assign_by Plainly reference)
-  stored_plainly reference = one f 1 1 AssignDemand Value tt (put_target reference) (put_later reference)
+  stored_plainly : (reference : Reference) → Reaches f d 1 1 (assign_by Plainly reference)
+  stored_plainly reference = one f d 1 1 AssignDemand Value tt (put_target reference) (put_later reference)
 
-  stored_by : (k : AssignmentKind) → f ≡ true → (reference : Reference) → Reaches f 1 1 (assign_by k reference)
+  stored_by : (k : AssignmentKind) → f ≡ true → (reference : Reference) → Reaches f d 1 1 (assign_by k reference)
   stored_by Plainly e reference = stored_plainly reference
-  stored_by (Computing o) e reference = inl ((tt, e), λ a. one f 1 1 AssignDemand Value tt _ (λ b. later_bind 1 {σ = AssignDemand} (operate o a b) (put_target (after_read reference)) (operate_later 1 AssignDemand o a b) (put_later (after_read reference))))
-  stored_by (DecidingKind o) e reference = inl ((tt, e), λ a. reach_choose f 1 1 {σ = AssignDemand} (assigns o a) (kid 1 tt ((then) (put_target (after_read reference)))) (ret a) (one f 1 1 AssignDemand Value tt (put_target (after_read reference)) (put_later (after_read reference))) (e, tt))
+  stored_by (Computing o) e reference = inl ((tt, e), λ a. one f d 1 1 AssignDemand Value tt _ (λ b. later_bind 1 {σ = AssignDemand} (operate o a b) (put_target (after_read reference)) (operate_later 1 AssignDemand o a b) (put_later (after_read reference))))
+  stored_by (DecidingKind o) e reference = inl ((tt, e), λ a. reach_choose f d 1 1 {σ = AssignDemand} (assigns o a) (kid 1 tt ((then) (put_target (after_read reference)))) (ret a) (one f d 1 1 AssignDemand Value tt (put_target (after_read reference)) (put_later (after_read reference))) (e, tt))
 
-  stores : (o : AssignmentOperator) → (is_plain_assignment o || f) ≡ true → Reaches f 1 1 (assignment_step o)
+  stores : (o : AssignmentOperator) → (is_plain_assignment o || f) ≡ true → Reaches f d 1 1 (assignment_step o)
   stores Assign e = inl ((tt, tt), stored_plainly)
   stores o e = inl ((tt, tt), stored_by (assignment_kind o) e)
 
   -- the value of a property, behind a key that is written out
-  fields : (m : Bool) (q : Demand) → Replies q → Entries m q → (r : Request q) → (m || f) ≡ true → Reaches f 1 1 (entry q r (property_step Init false false false))
-  fields m AnEntry u n r e = reach_bind f 1 1 {σ = λ i. As Val} (property_step Init false false false) ret (inl ((tt, tt), λ key. one f 1 1 (λ i. As Val) Entry tt _ (λ v. tt))) (λ v. tt)
+  fields : (m : Bool) (q : Demand) → Valued q → Entries m q → (r : Request q) → (m || f) ≡ true → Reaches f d 1 1 (entry q r (property_step Init false false false))
+  fields m AnEntry u n r e = reach_bind f d 1 1 {σ = λ i. As Val} (property_step Init false false false) ret (inl ((tt, tt), λ key. one f d 1 1 (λ i. As Val) Entry tt _ (λ v. tt))) (λ v. tt)
   fields false (As w) u n r e = (e, tt)
   fields false Callee u n r e = (e, tt)
+  fields false OfType u n r e = (e, tt)
   fields false q u n r e = absurd u
   fields true Items u n r e = absurd u
   fields true q u n r e = absurd n
 
--- what is asked where a step stands
-abbrev pub Suits : Asked → Demand → Bool → Type 0
-Suits AsWholeItem (Stat None) at_end = Unit {0}
-Suits AsValue (As w) at_end = Unit {0}
-Suits AsValue AnEntry at_end = Unit {0}
-Suits AsValue Callee at_end = at_end ≡ false
-Suits AsValues (Parts w) at_end = Unit {0}
-Suits AsValues Items at_end = Unit {0}
-Suits c q at_end = ⊥
+  -- a chain
+  end_later : (σ : ℕ → Demand) (q : Demand) → Valued q → (r : Request q) (y : Stop) → Later 0 {σ = σ} (chain_end q r (ended y))
+  end_later σ (As w) u r Short = tt
+  end_later σ (As w) u r y = tt
+  end_later σ Callee u r Short = tt
+  end_later σ Callee u r y = tt
+  end_later σ OfType u r Short = tt
+  end_later σ OfType u r y = tt
+  end_later σ AnEntry u r Short = tt
+  end_later σ AnEntry u r y = tt
+  end_later σ q u r y = absurd u
 
-replies : (q : Demand) (b : Bool) → Suits AsValue q b → Replies q
-replies (As w) b u = tt
-replies AnEntry b u = tt
-replies Callee b u = tt
-replies q b u = absurd u
+  value_later : (σ : ℕ → Demand) (y : Stop) → Later 0 {σ = σ} (chain_value (ended y))
+  value_later σ Short = tt
+  value_later σ y = tt
+
+  whole_end : (σ : ℕ → Demand) (q : Demand) (r : Request q) (y : Stop) → May true y → chain_end {σ = σ} q r (ended y) ≡ fails y
+  whole_end σ q r Short n = absurd n
+  whole_end σ q r y n = refl
+
+  whole_value : (σ : ℕ → Demand) (y : Stop) → May true y → chain_value {σ = σ} (ended y) ≡ fails y
+  whole_value σ Short n = absurd n
+  whole_value σ y n = refl
+
+  chain_read : d ≡ true → Reaches f d 0 0 {σ = λ i. As Val} (kid 0 tt chain_value)
+  chain_read e = inr (inl (record { here = refl; stops = λ y n. whole_value (λ i. As Val) y (subst (λ d. May d y) e n); stopped_later = value_later (λ i. As Val); later = λ a. tt }))
+
+  chains : d ≡ true → (q : Demand) → Valued q → (r : Request q) → Reaches f d 0 0 (chain_step q r)
+  chains e (As w) u r = inr (inl (record { here = refl; stops = λ y n. whole_end (λ i. As w) (As w) r y (subst (λ d. May d y) e n); stopped_later = end_later (λ i. As w) (As w) tt r; later = λ a. tt }))
+  chains e Callee u r = inr (inl (record { here = refl; stops = λ y n. whole_end (λ i. Callee) Callee r y (subst (λ d. May d y) e n); stopped_later = end_later (λ i. Callee) Callee tt r; later = λ a. tt }))
+  chains e OfType u r = reach_bind f d 0 0 {σ = λ i. As Val} (kid 0 tt chain_value) (reply OfType r) (chain_read e) (λ v. tt)
+  chains e AnEntry u r = reach_bind f d 0 0 {σ = λ i. As Val} (kid 0 tt chain_value) (reply AnEntry r) (chain_read e) (λ v. tt)
+  chains e q u r = absurd u
+
+  -- what is spread
+  spreads : (m : Bool) (q : Demand) → Valued q → Entries m q → (r : Request q) → (m || f) ≡ true → Reaches f d 0 0 (entry q r spread_step)
+  spreads m AnEntry u n r e = reach_bind f d 0 0 {σ = λ i. As Val} spread_step ret (one f d 0 0 (λ i. As Val) Entry tt _ (λ v. (λ w. tt, λ y. tt))) (λ v. tt)
+  spreads false (As w) u n r e = (e, tt)
+  spreads false Callee u n r e = (e, tt)
+  spreads false OfType u n r e = (e, tt)
+  spreads false q u n r e = absurd u
+  spreads true Items u n r e = absurd u
+  spreads true q u n r e = absurd n
+
+-- what is asked where a step stands, of what allows so much
+abbrev pub Suits : Asked → Demand → End → Type 0
+Suits AsWholeItem (Stat None) b = Unit {0}
+Suits AsValue (As w) b = Unit {0}
+Suits AsValue AnEntry b = Unit {0}
+Suits AsValue Callee b = b.called ≡ true
+Suits AsValue OfType b = b.typed ≡ true
+Suits AsValues (Parts w) b = Unit {0}
+Suits AsValues Items b = Unit {0}
+Suits c q b = ⊥
+
+values : (q : Demand) (b : End) → Suits AsValue q b → Valued q
+values (As w) b u = tt
+values AnEntry b u = tt
+values Callee b u = tt
+values OfType b u = tt
+values q b u = absurd u
 
 -- the parts before that are evaluated before the one there
 abbrev pub earlier : Lead → Trees
@@ -377,20 +451,34 @@ abbrev pub AllReply : (ℕ → Demand) → Trees → Type 0
 AllReply σ none = Unit {0}
 AllReply σ (t ▸ ts) = Replies (σ 0) × AllReply (λ i. σ (suc i)) ts
 
-pub record Asks (f m : Bool) (c : Asked) (l : Lead) (fs : List Facts) (q : Demand) (r : Request q) (at_end : Bool) : Type 0 where
-  pub reaches : surely m f l ≡ true → Reaches f (count (earlier l)) (count (before l)) (step (shape_by (head_of l)) [] fs q r)
-  pub below : Suits (asked_below (head_of l) c (place 0 (before l))) (demand (shape_by (head_of l)) fs q (count (before l))) at_end
+-- of a chain the initializer ends none
+abbrev pub Chains : Bool → Lead → Type 0
+Chains d Linking = d ≡ true
+Chains d l = Unit {0}
+
+pub whole_chains : (r : Tree) (l : Lead) → whole r l ≡ true → Chains (is_calm r) l
+whole_chains r Linking e = e
+whole_chains r l e = tt
+
+always_chains : (l : Lead) → Chains true l
+always_chains Linking = refl
+always_chains l = tt
+
+pub record Asks (f d m : Bool) (c : Asked) (l : Lead) (fs : List Facts) (q : Demand) (r : Request q) (b : End) : Type 0 where
+  pub reaches : surely m f l ≡ true → Reaches f d (count (earlier l)) (count (before l)) (step (shape_by (head_of l)) [] fs q r)
+  pub below : Suits (asked_below (head_of l) c (place 0 (before l))) (demand (shape_by (head_of l)) fs q (count (before l))) b
   pub first : AllReply (demand (shape_by (head_of l)) fs q) (valued_before l)
 
-value_asks : (f m : Bool) (l : Lead) (b : Bool) → Stands AsValue l b → (fs : List Facts) (q : Demand) → Replies q → Entries m q → (r : Request q) → Asks f m AsValue l fs q r b
+value_asks : (f d m : Bool) (l : Lead) (o : Bool) → Stands AsValue l o → (b : End) → Allows l b → Chains d l → (fs : List Facts) (q : Demand) → Valued q → Entries m q → (r : Request q) → Asks f d m AsValue l fs q r b
 unfolding step
-value_asks f m Not b s fs q u n r = record { reaches = λ y. reach_valued f 0 0 (λ i. As Test) q u r not_step (one f 0 0 (λ i. As Test) Value tt _ (λ v. tt)); below = tt; first = tt }
-value_asks f m Plus b s fs q u n r = record { reaches = λ y. reach_valued f 0 0 (λ i. As Val) q u r (number_step UnaryPlus) (number_begins f UnaryPlus); below = tt; first = tt }
-value_asks f m Minus b s fs q u n r = record { reaches = λ y. reach_valued f 0 0 (λ i. As Val) q u r (number_step UnaryNegation) (number_begins f UnaryNegation); below = tt; first = tt }
-value_asks f m Tilde b s fs q u n r = record { reaches = λ y. reach_valued f 0 0 (λ i. As Val) q u r (number_step BitwiseNot) (number_begins f BitwiseNot); below = tt; first = tt }
-value_asks f m Emptying b s fs q u n r = record { reaches = λ y. reach_valued f 0 0 (λ i. As Val) q u r void_step (one f 0 0 (λ i. As Val) Value tt _ (λ v. tt)); below = tt; first = tt }
-value_asks f m (Beside o) b s fs q u n r = record { reaches = λ y. reach_valued f 0 0 (λ i. As Val) q u r (binary_step o) (binary_begins f o); below = tt; first = tt }
-value_asks f m (Deciding o) b s fs q u n r = record { reaches = λ y. reach_passing f 0 0 (logical_demand o (pass q)) q u r (logical_step o (pass q)) (logical_begins f o (pass q)); below = left o (pass q); first = tt }
+value_asks f d m Not v s b g w fs q u n r = record { reaches = λ y. reach_valued f d 0 0 (λ i. As Test) q u r not_step (one f d 0 0 (λ i. As Test) Value tt _ (λ v. tt)); below = tt; first = tt }
+value_asks f d m Plus v s b g w fs q u n r = record { reaches = λ y. reach_valued f d 0 0 (λ i. As Val) q u r (number_step UnaryPlus) (number_begins f d UnaryPlus); below = tt; first = tt }
+value_asks f d m Minus v s b g w fs q u n r = record { reaches = λ y. reach_valued f d 0 0 (λ i. As Val) q u r (number_step UnaryNegation) (number_begins f d UnaryNegation); below = tt; first = tt }
+value_asks f d m Tilde v s b g w fs q u n r = record { reaches = λ y. reach_valued f d 0 0 (λ i. As Val) q u r (number_step BitwiseNot) (number_begins f d BitwiseNot); below = tt; first = tt }
+value_asks f d m Typing v s b g w fs q u n r = record { reaches = λ y. reach_valued f d 0 0 (λ i. OfType) q u r typeof_step (one f d 0 0 (λ i. OfType) Value tt _ (λ v. tt)); below = g; first = tt }
+value_asks f d m Emptying v s b g w fs q u n r = record { reaches = λ y. reach_valued f d 0 0 (λ i. As Val) q u r void_step (one f d 0 0 (λ i. As Val) Value tt _ (λ v. tt)); below = tt; first = tt }
+value_asks f d m (Beside o) v s b g w fs q u n r = record { reaches = λ y. reach_valued f d 0 0 (λ i. As Val) q u r (binary_step o) (binary_begins f d o); below = tt; first = tt }
+value_asks f d m (Deciding o) v s b g w fs q u n r = record { reaches = λ y. reach_passing f d 0 0 (logical_demand o (pass q)) q u r (logical_step o (pass q)) (logical_begins f d o (pass q)); below = left o (pass q); first = tt }
   where
     left : (o : LogicalOperator) (w : Want) → Suits AsValue (logical_demand o w 0) b
     left And Val = tt
@@ -400,20 +488,20 @@ value_asks f m (Deciding o) b s fs q u n r = record { reaches = λ y. reach_pass
     left Or Test = tt
     left Or Unused = tt
     left Coalesce w = tt
-value_asks f m Choosing b s fs q u n r = record { reaches = λ y. reach_passing f 0 0 (first_demand (As Test) (As (pass q))) q u r (conditional_step (pass q)) (conditional_begins f (pass q)); below = tt; first = tt }
-value_asks f m Passing b s fs q u n r = record { reaches = λ y. reach_passing f 0 0 (λ i. Parts (pass q)) q u r (sequence_step (pass q)) (one f 0 0 (λ i. Parts (pass q)) (Says (pass q)) tt _ (λ v. tt)); below = tt; first = tt }
-value_asks f m CalledLead b s fs q u n r = record { reaches = λ y. reach_valued f 0 0 (first_demand Callee Items) q u r (call_step false) (one f 0 0 (first_demand Callee Items) Value tt _ (λ f. (tt, (λ vs. call_later 0 (first_demand Callee Items) false f vs, λ y. tt)))); below = s; first = tt }
-value_asks f m Making b s fs q u n r = record { reaches = λ y. reach_valued f 0 0 (first_demand (As Val) Items) q u r new_step (one f 0 0 (first_demand (As Val) Items) Value tt _ (λ f. (tt, (λ vs. (λ v. tt, λ y. tt), λ y. tt)))); below = tt; first = tt }
-value_asks f m (Waiting d) b s fs q u n r = record { reaches = λ y. reach_valued f 0 0 (λ i. As Val) q u r (yield_step d) (one f 0 0 (λ i. As Val) Value tt _ (λ v. (λ a. tt, λ y. tt))); below = tt; first = tt }
-value_asks f m Member b s fs q u n r = record { reaches = λ y. as_member_reaches f 0 (member_begins f) q u r; below = tt; first = tt }
-value_asks f m Keyed b s fs q u n r = record { reaches = λ y. as_member_reaches f 0 (member_begins f) q u r; below = tt; first = tt }
-value_asks f m Holding b s fs q u n r = record { reaches = λ y. reach_valued f 0 0 (λ i. Items) q u r array_step (one f 0 0 (λ i. Items) Value tt _ (λ vs. (λ v. tt, λ y. tt))); below = tt; first = tt }
-value_asks f m Gathering b s fs q u n r = record { reaches = λ y. reach_valued f 0 0 (λ i. Items) q u r object_step (one f 0 0 (λ i. Items) Value tt _ (λ vs. (λ v. tt, λ y. tt))); below = tt; first = tt }
-value_asks f m (Against o a) b s fs q u n r = record { reaches = λ y. reach_valued f 1 1 (λ i. As Val) q u r (binary_step o) (binary_goes_on f o); below = tt; first = (tt, tt) }
-value_asks f m (GivenLead a) b s fs q u n r = record { reaches = λ y. reach_valued f 1 1 (first_demand Callee Items) q u r (call_step false) (call_goes_on f); below = tt; first = (tt, tt) }
-value_asks f m (Filling a) b s fs q u n r = record { reaches = λ y. reach_valued f 1 1 (first_demand (As Val) Items) q u r new_step (new_goes_on f); below = tt; first = (tt, tt) }
-value_asks f m (Keying a) b s fs q u n r = record { reaches = λ y. as_member_reaches f 1 (member_goes_on f) q u r; below = tt; first = (tt, tt) }
-value_asks f m (Following o a) b s fs q u n r = record { reaches = λ y. reach_passing f 1 1 (logical_demand o (pass q)) q u r (logical_step o (pass q)) (logical_follows f o (pass q) y); below = behind o (pass q); first = (ahead o (pass q), tt) }
+value_asks f d m Choosing v s b g w fs q u n r = record { reaches = λ y. reach_passing f d 0 0 (first_demand (As Test) (As (pass q))) q u r (conditional_step (pass q)) (conditional_begins f d (pass q)); below = tt; first = tt }
+value_asks f d m Passing v s b g w fs q u n r = record { reaches = λ y. reach_passing f d 0 0 (λ i. Parts (pass q)) q u r (sequence_step (pass q)) (one f d 0 0 (λ i. Parts (pass q)) (Says (pass q)) tt _ (λ v. tt)); below = tt; first = tt }
+value_asks f d m (CalledLead o) v s b g w fs q u n r = record { reaches = λ y. reach_valued f d 0 0 (first_demand Callee Items) q u r (call_step o) (call_begins f d o); below = g; first = tt }
+value_asks f d m Making v s b g w fs q u n r = record { reaches = λ y. reach_valued f d 0 0 (first_demand (As Val) Items) q u r new_step (one f d 0 0 (first_demand (As Val) Items) Value tt _ (λ f. (tt, (λ vs. (λ v. tt, λ y. tt), λ y. tt)))); below = tt; first = tt }
+value_asks f d m (Waiting i) v s b g w fs q u n r = record { reaches = λ y. reach_valued f d 0 0 (λ i. As Val) q u r (yield_step i) (one f d 0 0 (λ i. As Val) Value tt _ (λ v. (λ a. tt, λ y. tt))); below = tt; first = tt }
+value_asks f d m (Member o) v s b g w fs q u n r = record { reaches = λ y. as_member_reaches f d o 0 (member_begins f d o) q u r; below = tt; first = tt }
+value_asks f d m (Keyed o) v s b g w fs q u n r = record { reaches = λ y. as_member_reaches f d o 0 (member_begins f d o) q u r; below = tt; first = tt }
+value_asks f d m Holding v s b g w fs q u n r = record { reaches = λ y. reach_valued f d 0 0 (λ i. Items) q u r array_step (one f d 0 0 (λ i. Items) Value tt _ (λ vs. (λ v. tt, λ y. tt))); below = tt; first = tt }
+value_asks f d m Gathering v s b g w fs q u n r = record { reaches = λ y. reach_valued f d 0 0 (λ i. Items) q u r object_step (one f d 0 0 (λ i. Items) Value tt _ (λ vs. (λ v. tt, λ y. tt))); below = tt; first = tt }
+value_asks f d m (Against o a) v s b g w fs q u n r = record { reaches = λ y. reach_valued f d 1 1 (λ i. As Val) q u r (binary_step o) (binary_goes_on f d o); below = tt; first = (tt, tt) }
+value_asks f d m (GivenLead o a) v s b g w fs q u n r = record { reaches = λ y. reach_valued f d 1 1 (first_demand Callee Items) q u r (call_step o) (call_goes_on f d o y); below = tt; first = (tt, tt) }
+value_asks f d m (Filling a) v s b g w fs q u n r = record { reaches = λ y. reach_valued f d 1 1 (first_demand (As Val) Items) q u r new_step (new_goes_on f d); below = tt; first = (tt, tt) }
+value_asks f d m (Keying o a) v s b g w fs q u n r = record { reaches = λ y. as_member_reaches f d o 1 (member_goes_on f d o y) q u r; below = tt; first = (tt, tt) }
+value_asks f d m (Following o a) v s b g w fs q u n r = record { reaches = λ y. reach_passing f d 1 1 (logical_demand o (pass q)) q u r (logical_step o (pass q)) (logical_follows f d o (pass q) y); below = behind o (pass q); first = (ahead o (pass q), tt) }
   where
     behind : (o : LogicalOperator) (w : Want) → Suits AsValue (logical_demand o w 1) b
     behind And Val = tt
@@ -432,23 +520,32 @@ value_asks f m (Following o a) b s fs q u n r = record { reaches = λ y. reach_p
     ahead Or Test = tt
     ahead Or Unused = tt
     ahead Coalesce w = tt
-value_asks f m (Branching a) b s fs q u n r = record { reaches = λ y. reach_passing f 1 1 (first_demand (As Test) (As (pass q))) q u r (conditional_step (pass q)) (branch_follows f (pass q) y); below = tt; first = (tt, tt) }
-value_asks f m (Failing a d) b s fs q u n r = record { reaches = λ y. reach_passing f 1 2 (first_demand (As Test) (As (pass q))) q u r (conditional_step (pass q)) (other_follows f (pass q) y); below = tt; first = (tt, tt) }
-value_asks f m (Storing o a) b s fs q u n r = record { reaches = λ y. reach_valued f 1 1 AssignDemand q u r (assignment_step o) (stores f o y); below = tt; first = tt }
-value_asks f m (Fielding false a) b s fs q u n r = record { reaches = λ y. fields f m q u n r y; below = tt; first = (tt, tt) }
-value_asks f m (Fielding true a) b s fs q u n r = record { reaches = λ y. absurd (true≢false (sym y)); below = tt; first = (tt, tt) }
-value_asks f m l b s fs q u n r = absurd s
+value_asks f d m (Branching a) v s b g w fs q u n r = record { reaches = λ y. reach_passing f d 1 1 (first_demand (As Test) (As (pass q))) q u r (conditional_step (pass q)) (branch_follows f d (pass q) y); below = tt; first = (tt, tt) }
+value_asks f d m (Failing a t) v s b g w fs q u n r = record { reaches = λ y. reach_passing f d 1 2 (first_demand (As Test) (As (pass q))) q u r (conditional_step (pass q)) (other_follows f d (pass q) y); below = tt; first = (tt, tt) }
+value_asks f d m (Storing o a) v s b g w fs q u n r = record { reaches = λ y. reach_valued f d 1 1 AssignDemand q u r (assignment_step o) (stores f d o y); below = tt; first = tt }
+value_asks f d m (Fielding false a) v s b g w fs q u n r = record { reaches = λ y. fields f d m q u n r y; below = tt; first = (tt, tt) }
+value_asks f d m (Fielding true a) v s b g w fs q u n r = record { reaches = λ y. absurd (true≢false (sym y)); below = tt; first = (tt, tt) }
+value_asks f d m Spreading v s b g w fs q u n r = record { reaches = λ y. spreads f d m q u n r y; below = tt; first = tt }
+value_asks f d m Linking v s b g w fs q u n r = record { reaches = λ y. chains f d w q u r; below = held q u g; first = tt }
+  where
+    held : (q : Demand) → Valued q → b.called ≡ true → Suits AsValue (chained q) b
+    held (As w) u g = tt
+    held Callee u g = g
+    held OfType u g = tt
+    held AnEntry u g = tt
+    held q u g = absurd u
+value_asks f d m l v s b g w fs q u n r = absurd s
 
-statement_asks : (f m : Bool) (l : Lead) (b : Bool) → Stands AsWholeItem l b → (fs : List Facts) (r : Request (Stat None)) → Asks f m AsWholeItem l fs (Stat None) r b
+statement_asks : (f d m : Bool) (l : Lead) (o : Bool) → Stands AsWholeItem l o → (b : End) → (fs : List Facts) (r : Request (Stat None)) → Asks f d m AsWholeItem l fs (Stat None) r b
 unfolding step
-statement_asks f m Doing b s fs r = record { reaches = λ y. reach_statement f 0 0 {σ = λ i. As Unused} (kid 0 tt ((then) ret)) (one f 0 0 (λ i. As Unused) (Unit {0}) tt ret (λ v. tt)); below = tt; first = tt }
-statement_asks f m Giving b s fs r = record { reaches = λ y. reach_statement f 0 0 return_step (one f 0 0 (λ i. As Val) (Unit {0}) tt _ (λ v. tt)); below = tt; first = tt }
-statement_asks f m Raising b s fs r = record { reaches = λ y. reach_statement f 0 0 throw_step (one f 0 0 (λ i. As Val) (Unit {0}) tt _ (λ v. tt)); below = tt; first = tt }
-statement_asks f m Testing b s fs r = record { reaches = λ y. reach_statement f 0 0 (if_step None) (one f 0 0 (first_demand (As Test) (Stat None)) (Unit {0}) tt _ (λ c. later_choose 0 {σ = first_demand (As Test) (Stat None)} c (kid 1 [] ((then) ret)) (kid 2 [] ((then) ret)) (tt, (λ u. tt, λ y. tt)) (tt, (λ u. tt, λ y. tt)))); below = tt; first = tt }
-statement_asks f m l b s fs r = absurd s
+statement_asks f d m Doing v s b fs r = record { reaches = λ y. reach_statement f d 0 0 {σ = λ i. As Unused} (kid 0 tt ((then) ret)) (one f d 0 0 (λ i. As Unused) (Unit {0}) tt ret (λ v. tt)); below = tt; first = tt }
+statement_asks f d m Giving v s b fs r = record { reaches = λ y. reach_statement f d 0 0 return_step (one f d 0 0 (λ i. As Val) (Unit {0}) tt _ (λ v. tt)); below = tt; first = tt }
+statement_asks f d m Raising v s b fs r = record { reaches = λ y. reach_statement f d 0 0 throw_step (one f d 0 0 (λ i. As Val) (Unit {0}) tt _ (λ v. tt)); below = tt; first = tt }
+statement_asks f d m Testing v s b fs r = record { reaches = λ y. reach_statement f d 0 0 (if_step None) (one f d 0 0 (first_demand (As Test) (Stat None)) (Unit {0}) tt _ (λ c. later_choose 0 {σ = first_demand (As Test) (Stat None)} c (kid 1 [] ((then) ret)) (kid 2 [] ((then) ret)) (tt, (λ u. tt, λ y. tt)) (tt, (λ u. tt, λ y. tt)))); below = tt; first = tt }
+statement_asks f d m l v s b fs r = absurd s
 
 -- the parts of a sequence are asked nothing but the last, and items each for the item
-parts_asked : (i n : ℕ) (w : Want) (b : Bool) → Before i (suc n) → Suits AsValue (parts_demand n w i) b
+parts_asked : (i n : ℕ) (w : Want) (b : End) → Before i (suc n) → Suits AsValue (parts_demand n w i) b
 parts_asked zero zero w b h = tt
 parts_asked zero (suc n) w b h = tt
 parts_asked (suc i) zero w b h = tt
@@ -467,27 +564,27 @@ entries_reply : (ts : Trees) → AllReply (λ i. AnEntry) ts
 entries_reply none = tt
 entries_reply (t ▸ ts) = (tt, entries_reply ts)
 
-list_asks : (f m : Bool) (l : Lead) (b : Bool) → Stands AsValues l b → (fs : List Facts) → Before (count (before l)) (length fs) → (q : Demand) → Suits AsValues q false → (r : Request q) → Asks f m AsValues l fs q r b
+list_asks : (f d m : Bool) (l : Lead) (o : Bool) → Stands AsValues l o → (b : End) → (fs : List Facts) → Before (count (before l)) (length fs) → (q : Demand) → Suits AsValues q free → (r : Request q) → Asks f d m AsValues l fs q r b
 unfolding step
-list_asks f m (Listing ts) b s [] h q u r = absurd (none_less (count ts) h)
+list_asks f d m (Listing ts) v s b [] h q u r = absurd (none_less (count ts) h)
   where
     none_less : (i : ℕ) → Before i 0 → ⊥
     none_less zero h = h
     none_less (suc i) h = h
-list_asks f m (Listing ts) b s (g ∷ fs) h (Parts w) u r = record { reaches = λ y. parts_reach f (count ts) (length fs) w h; below = parts_asked (count ts) (length fs) w b h; first = parts_reply (length fs) w ts }
-list_asks f m (Listing ts) b s (g ∷ fs) h Items u r = record { reaches = λ y. entries_reach f (count ts) (suc (length fs)) h; below = tt; first = entries_reply ts }
-list_asks f m (Listing ts) b s (g ∷ fs) h q u r = absurd u
-list_asks f m l b s fs h q u r = absurd s
+list_asks f d m (Listing ts) v s b (g ∷ fs) h (Parts w) u r = record { reaches = λ y. parts_reach f d (count ts) (length fs) w h; below = parts_asked (count ts) (length fs) w b h; first = parts_reply (length fs) w ts }
+list_asks f d m (Listing ts) v s b (g ∷ fs) h Items u r = record { reaches = λ y. entries_reach f d (count ts) (suc (length fs)) h; below = tt; first = entries_reply ts }
+list_asks f d m (Listing ts) v s b (g ∷ fs) h q u r = absurd u
+list_asks f d m l v s b fs h q u r = absurd s
 
-pub asks : (f m : Bool) (c : Asked) (l : Lead) (b : Bool) → Stands c l b → (fs : List Facts) → Before (count (before l)) (length fs) → (q : Demand) → Suits c q false → Entries m q → (r : Request q) → Asks f m c l fs q r b
-asks f m AsWholeItem l b s fs h (Stat None) u n r = statement_asks f m l b s fs r
-asks f m AsValue l b s fs h q u n r = value_asks f m l b s fs q (replies q false u) n r
-asks f m AsValues l b s fs h q u n r = list_asks f m l b s fs h q u r
-asks f m c l b s fs h q u n r = absurd u
+pub asks : (f d m : Bool) (c : Asked) (l : Lead) (o : Bool) → Stands c l o → (b : End) → Allows l b → Chains d l → (fs : List Facts) → Before (count (before l)) (length fs) → (q : Demand) → Suits c q free → Entries m q → (r : Request q) → Asks f d m c l fs q r b
+asks f d m AsWholeItem l v s b g w fs h (Stat None) u n r = statement_asks f d m l v s b fs r
+asks f d m AsValue l v s b g w fs h q u n r = value_asks f d m l v s b g w fs q (values q free u) n r
+asks f d m AsValues l v s b g w fs h q u n r = list_asks f d m l v s b fs h q u r
+asks f d m c l v s b g w fs h q u n r = absurd u
 
 -- what is asked of the part there
-pub suits_below : (c : Asked) (l : Lead) (b : Bool) → Stands c l b → (fs : List Facts) → Before (count (before l)) (length fs) → (q : Demand) → Suits c q false → (r : Request q) → Suits (asked_below (head_of l) c (place 0 (before l))) (demand (shape_by (head_of l)) fs q (count (before l))) b
-suits_below c l b s fs h q u r = (asks true false c l b s fs h q u tt r).below
+pub suits_below : (c : Asked) (l : Lead) (o : Bool) → Stands c l o → (b : End) → Allows l b → (fs : List Facts) → Before (count (before l)) (length fs) → (q : Demand) → Suits c q free → (r : Request q) → Suits (asked_below (head_of l) c (place 0 (before l))) (demand (shape_by (head_of l)) fs q (count (before l))) b
+suits_below c l v s b g fs h q u r = (asks true true false c l v s b g (always_chains l) fs h q u tt r).below
 
 -- one that is evaluated whatever is before it, which is asked for values
 pub steady_sure : (m f : Bool) (l : Lead) → is_steady l ≡ true → surely m f l ≡ true
@@ -496,6 +593,9 @@ steady_sure m f (Branching a) e = absurd (true≢false (sym e))
 steady_sure m f (Failing a b) e = absurd (true≢false (sym e))
 steady_sure m f (Storing o a) e = absurd (true≢false (sym e))
 steady_sure m f (Fielding c a) e = absurd (true≢false (sym e))
+steady_sure m f Spreading e = absurd (true≢false (sym e))
+steady_sure m f (GivenLead o a) e = ap (λ b. b || f) e
+steady_sure m f (Keying o a) e = ap (λ b. b || f) e
 steady_sure m f l e = refl
 
 pub steady_earlier : (l : Lead) → is_steady l ≡ true → earlier l ≡ before l
@@ -515,17 +615,51 @@ earlier_within (Failing t d) (suc (suc j)) b = absurd b
 earlier_within l j b = b
 
 -- what is asked below for entries
-entries_there : (m : Bool) (c : Asked) (l : Lead) (b : Bool) → Stands c l b → (fs : List Facts) (q : Demand) → Suits c q false → Entries m q → Entries (entries_below m (shape_by (head_of l))) (demand (shape_by (head_of l)) fs q (count (before l)))
-entries_there m c Holding b s fs q u n = tt
-entries_there m c Gathering b s fs q u n = tt
-entries_there true AsValues (Listing ts) b s fs Items u n = tt
-entries_there true AsValues (Listing ts) b s fs AnEntry u n = absurd u
-entries_there true AsValues (Listing ts) b s fs q u n = absurd n
-entries_there true c (Listing ts) b s fs q u n = absurd s
-entries_there true c l b s fs q u n = tt
-entries_there false c l b s fs q u n = tt
+entries_there : (m : Bool) (c : Asked) (l : Lead) (o : Bool) → Stands c l o → (fs : List Facts) (q : Demand) → Suits c q free → Entries m q → Entries (entries_below m (shape_by (head_of l)) (place 0 (before l))) (demand (shape_by (head_of l)) fs q (count (before l)))
+entries_there m c Holding v s fs q u n = tt
+entries_there m c Gathering v s fs q u n = tt
+entries_there m c (GivenLead o a) v s fs q u n = tt
+entries_there m c (Filling a) v s fs q u n = tt
+entries_there true AsValues (Listing ts) v s fs Items u n = tt
+entries_there true AsValues (Listing ts) v s fs AnEntry u n = absurd u
+entries_there true AsValues (Listing ts) v s fs q u n = absurd n
+entries_there true c (Listing ts) v s fs q u n = absurd s
+entries_there true c l v s fs q u n = tt
+entries_there false c l v s fs q u n = tt
 
 -- ---- runs
+
+abbrev pub Ending : Bool → {A : Type 0} → Completion A → Type 0
+Ending d (stop y s) = May d y
+Ending d x = Unit {0}
+
+pub any_end : {A : Type 0} (x : Completion A) → Ending false x
+any_end (ok a s) = tt
+any_end (stop y s) = tt
+any_end (halt y s) = tt
+any_end out = tt
+
+calm_end : {A : Type 0} (x : Completion A) → Calmly x → Ending true x
+calm_end (ok a s) c = tt
+calm_end (stop Short s) c = c
+calm_end (stop y s) c = tt
+calm_end (halt y s) c = tt
+calm_end out c = tt
+
+pub init_ends : (e : Environment) (init : Tree) (s : State) → Ending (is_calm init) (means e init (As Val) tt s)
+init_ends e init s = by (is_calm init) refl
+  where
+    by : (b : Bool) → is_calm init ≡ b → Ending b (means e init (As Val) tt s)
+    by true c = calm_end (means e init (As Val) tt s) (tree_calm e init c (As Val) tt tt s)
+    by false c = any_end (means e init (As Val) tt s)
+
+-- what goes on after both
+pub joined : {R A : Type 0} (d : Bool) (v : Completion Value) → Ending d v → (B : Value → State → Completion R) (F : R → State → Completion A) (G : Stop → State → Completion A) → ((y : Stop) → May d y → (z : State) → G y z ≡ stop y z) → either v (λ p y. either (B p y) F G) (λ y z. stop y z) ≡ either (either v B (λ y z. stop y z)) F G
+unfolding either
+joined d (ok p y) n B F G h = refl
+joined d (stop y z) n B F G h = sym (h y n z)
+joined d (halt y z) n B F G h = refl
+joined d out n B F G h = refl
 
 abbrev pub next : {A B : Type 0} → Completion A → (A → State → Completion B) → Completion B
 next x f = either x f (λ y z. stop y z)
@@ -624,6 +758,28 @@ module _ (e : Environment) (k : ℕ) (z : Unseen (alone (Declared k)) e) where
       subst₂ Go
       (either_cong (means e init (As Val) tt s) _ _ _ _ (λ v t. sym (item_read (identifier (resolved spelling k)) refl e (after v t) ∙ ap (by_value AnEntry tt) (read_is spelling v t))) (λ y t. refl))
       (sym (item_read init i e s)) (item_goes (means e init (As Val) tt s))
+
+  -- as a callee
+  call_goes : (x : Completion Value) → Go (next x (λ v s. by_value Callee tt (ok v (after v s)))) (by_value Callee tt x)
+  unfolding Goes either by_value
+  call_goes (ok v s) = (refl, agrees v s)
+  call_goes (stop y s) = (refl, itself s)
+  call_goes (halt y s) = (refl, itself s)
+  call_goes out = tt
+
+  pub callee_goes : (spelling : List ℕ) (init : Tree) → not (same_text spelling (codes "eval")) && is_called_by_value init ≡ true → (s : State) → Go (next (means e init (As Val) tt s) (λ v t. means e (identifier (resolved spelling k)) Callee tt (after v t))) (means e init Callee tt s)
+  callee_goes spelling init c s =
+      let (plain, called) = and_parts (not (same_text spelling (codes "eval"))) (is_called_by_value init) c in
+      subst₂ Go
+      (either_cong (means e init (As Val) tt s) _ _ _ _ (λ v t. sym (name_called_read (resolved spelling k) plain e (after v t) ∙ ap (by_value Callee tt) (read_is spelling v t))) (λ y t. refl))
+      (sym (called_read init called e s)) (call_goes (means e init (As Val) tt s))
+
+  -- under `typeof`
+  pub type_goes : (spelling : List ℕ) (init : Tree) → is_typed_by_value init ≡ true → (s : State) → Go (next (means e init (As Val) tt s) (λ v t. means e (identifier (resolved spelling k)) OfType tt (after v t))) (means e init OfType tt s)
+  type_goes spelling init c s =
+      subst₂ Go
+      (either_cong (means e init (As Val) tt s) _ _ _ _ (λ v t. sym (typed_by_value (identifier (resolved spelling k)) refl e (after v t))) (λ y t. refl))
+      (sym (typed_by_value init c e s)) (read_goes spelling init Val s)
 
   either_stopped : {A B : Type 0} (y : Stop) (p : State) (f : A → State → Completion B) → either (stop y p) f (λ y p. stop y p) ≡ stop y p
   unfolding either
@@ -739,9 +895,9 @@ module _ (e : Environment) (k : ℕ) (z : Unseen (alone (Declared k)) e) where
 
     calm_before : (m : Bool) (l : Lead) → AllPass m init (shape_by (head_of l)) 0 (before l) → AllAvoid D (before l) → (fs : List Facts) (q : Demand) → Entries m q → AllReply (demand (shape_by (head_of l)) fs q) (valued_before l) → AllCalm init (count (earlier l)) (before l) (demand (shape_by (head_of l)) fs q)
     calm_before m (Against o t) p a fs q n u = calm_one t none p.0 a.0 (λ i. As Val) u.0
-    calm_before m (GivenLead t) p a fs q n u = calm_one t none p.0 a.0 (first_demand Callee Items) u.0
+    calm_before m (GivenLead o t) p a fs q n u = calm_one t none p.0 a.0 (first_demand Callee Items) u.0
     calm_before m (Filling t) p a fs q n u = calm_one t none p.0 a.0 (first_demand (As Val) Items) u.0
-    calm_before m (Keying t) p a fs q n u = calm_one t none p.0 a.0 (λ i. As Val) u.0
+    calm_before m (Keying o t) p a fs q n u = calm_one t none p.0 a.0 (λ i. As Val) u.0
     calm_before m (Following o t) p a fs q n u = calm_one t none p.0 a.0 (logical_demand o (pass q)) u.0
     calm_before m (Branching t) p a fs q n u = calm_one t none p.0 a.0 (first_demand (As Test) (As (pass q))) u.0
     calm_before m (Failing t d) p a fs q n u = calm_one t (d ▸ none) p.0 a.0 (first_demand (As Test) (As (pass q))) u.0
@@ -789,42 +945,43 @@ module _ (e : Environment) (k : ℕ) (z : Unseen (alone (Declared k)) e) where
   -- ---- a node, with the expression in the place of the read
 
   module _ (h : Shape) (q : Demand) (is : List Summary) (σ : ℕ → Demand) (ps : Trees) (t u : Tree) (ts : Trees) (init : Tree) (first : AllAvoid D ps) (last : AllAvoid D ts) (m : ℕ) (within : (j : ℕ) → Before j m → Before j (count ps)) (calm : AllCalm init m ps σ)
-      (inner : (r : Request (σ (count ps))) (s : State) → Go (next (means e init (As Val) tt s) (λ v z. means e t (σ (count ps)) r (after v z))) (means e u (σ (count ps)) r s)) where
+      (d : Bool) (ends : (s : State) → Ending d (means e init (As Val) tt s)) (inner : (r : Request (σ (count ps))) (s : State) → Go (next (means e init (As Val) tt s) (λ v z. means e t (σ (count ps)) r (after v z))) (means e u (σ (count ps)) r s)) where
     abbrev runs : {A : Type 0} → Tree → Command σ A → State → Completion A
     runs w c y = run e (naming h q [] 0 is) (λ i r z. meaning e (append ps (w ▸ ts)) i (σ i) r z) c y
 
     abbrev Reached : {A : Type 0} → Command σ A → Type 0
     Reached c = (s : State) → Go (next (means e init (As Val) tt s) (λ v y. runs t c (after v y))) (runs u c s)
 
-    module _ {A : Type 0} (r : Request (σ (count ps))) (c : Ends (Reply (σ (count ps)) r) → Command σ A) (stops : (y : Stop) → c (ended y) ≡ fails y) (later : (a : Reply (σ (count ps)) r) → Later (count ps) (c (done a))) where
+    module _ {A : Type 0} (r : Request (σ (count ps))) (c : Ends (Reply (σ (count ps)) r) → Command σ A) (stops : (y : Stop) → May d y → c (ended y) ≡ fails y) (stopped_later : (y : Stop) → Later (count ps) (c (ended y))) (later : (a : Reply (σ (count ps)) r) → Later (count ps) (c (done a))) where
       abbrev goes_on_with : Tree → Reply (σ (count ps)) r → State → Completion A
       goes_on_with w a y = runs w (c (done a)) y
 
-      asked_there : (w : Tree) (z : State) → runs w (kid (count ps) r c) z ≡ next (means e w (σ (count ps)) r z) (goes_on_with w)
-      asked_there w z =
-          ap (λ x. either x (goes_on_with w) (λ y z. runs w (c (ended y)) z)) (there_is ps w ts (σ (count ps)) r z)
-          ∙ either_cong (means e w (σ (count ps)) r z) _ _ _ _ (λ a y. refl) (λ y z. ap (λ d. runs w d z) (stops y))
+      abbrev ends_with : Tree → Stop → State → Completion A
+      ends_with w y z = runs w (c (ended y)) z
+
+      asked_there : (w : Tree) (z : State) → runs w (kid (count ps) r c) z ≡ either (means e w (σ (count ps)) r z) (goes_on_with w) (ends_with w)
+      asked_there w z = ap (λ x. either x (goes_on_with w) (ends_with w)) (there_is ps w ts (σ (count ps)) r z)
 
       hit_here : Reached (kid (count ps) r c)
       hit_here s =
           let v = means e init (As Val) tt s in
           subst₂ Go
-          (sym (either_cong v _ _ _ _ (λ p y. asked_there t (after p y)) (λ y p. refl) ∙ sym (either_assoc v (λ p y. means e t (σ (count ps)) r (after p y)) (λ y p. stop y p) (goes_on_with t) (λ y p. stop y p) ∙ either_cong v _ _ _ _ (λ p y. refl) (λ y p. either_stopped y p (goes_on_with t)))))
+          (sym (either_cong v _ _ _ _ (λ p y. asked_there t (after p y)) (λ y p. refl) ∙ joined d v (ends s) (λ p y. means e t (σ (count ps)) r (after p y)) (goes_on_with t) (ends_with t) (λ y n p. ap (λ d. runs t d p) (stops y n))))
           (sym (asked_there u s))
           (goes_either true (λ p. Agree D) (Agree D) (Agree D) (λ p. Agree D) (Agree D) (next v (λ p y. means e t (σ (count ps)) r (after p y))) (means e u (σ (count ps)) r s) _ _ _ _
           (inner r s)
-          (λ p x y g. later_goes h q is ps t u ts first last (c (done p)) (later p) x y g) (λ p x y g. stopped A p x y g))
+          (λ p x y g. later_goes h q is ps t u ts first last (c (done p)) (later p) x y g) (λ p x y g. later_goes h q is ps t u ts first last (c (ended p)) (stopped_later p) x y g))
 
-    hit_there : {A : Type 0} (j : ℕ) → j ≡ count ps → (r : Request (σ j)) (c : Ends (Reply (σ j) r) → Command σ A) → ((y : Stop) → c (ended y) ≡ fails y) → ((a : Reply (σ j) r) → Later (count ps) (c (done a))) → Reached (kid j r c)
+    hit_there : {A : Type 0} (j : ℕ) → j ≡ count ps → (r : Request (σ j)) (c : Ends (Reply (σ j) r) → Command σ A) → ((y : Stop) → May d y → c (ended y) ≡ fails y) → ((y : Stop) → Later (count ps) (c (ended y))) → ((a : Reply (σ j) r) → Later (count ps) (c (done a))) → Reached (kid j r c)
     hit_there {A} j p =
-        subst (λ j. (r : Request (σ j)) (c : Ends (Reply (σ j) r) → Command σ A) → ((y : Stop) → c (ended y) ≡ fails y) → ((a : Reply (σ j) r) → Later (count ps) (c (done a))) → Reached (kid j r c)) (sym p)
-        (λ r c stops later. hit_here r c stops later)
+        subst (λ j. (r : Request (σ j)) (c : Ends (Reply (σ j) r) → Command σ A) → ((y : Stop) → May d y → c (ended y) ≡ fails y) → ((y : Stop) → Later (count ps) (c (ended y))) → ((a : Reply (σ j) r) → Later (count ps) (c (done a))) → Reached (kid j r c)) (sym p)
+        (λ r c stops stopped_later later. hit_here r c stops stopped_later later)
 
     -- where it isn't asked: the initializer does nothing but give a value, which nothing reads
     gone : {A : Type 0} (c : Command σ A) → is_effect_free init ≡ true → Later (count ps) c → Reached c
     gone c free l s = with_value init s (means e init (As Val) tt s) (quiet_there e init free s) (λ v y. runs t c y) (runs u c s) (λ v known. later_goes h q is ps t u ts first last c l (after v s) s (agrees v s))
 
-    pub reach_goes : {A : Type 0} (c : Command σ A) → Reaches (is_effect_free init) m (count ps) c → Reached c
+    pub reach_goes : {A : Type 0} (c : Command σ A) → Reaches (is_effect_free init) d m (count ps) c → Reached c
     reach_goes {A} (kid j r c) (inl l) s =
         let F = λ (a : Reply (σ j) r) (y : State). runs t (c (done a)) y in
         let G = λ (a : Reply (σ j) r) (y : State). runs u (c (done a)) y in
@@ -833,7 +990,7 @@ module _ (e : Environment) (k : ℕ) (z : Unseen (alone (Declared k)) e) where
         let b = within j l.0.0 in
         subst₂ Go (either_cong (means e init (As Val) tt s) _ _ _ _ (λ v y. ap (λ x. either x F f) (sym (front_is ps t ts j b (σ j) r (after v y)))) (λ x y. refl)) (ap (λ x. either x G g) (sym (front_is ps u ts j b (σ j) r s)))
         (passed_goes init s (σ j) (front ps σ j) r (calm j l.0.0 r l.0.1) F G f g (λ a. reach_goes (c (done a)) (l.1 a) s))
-    reach_goes (kid j r c) (inr (inl l)) s = hit_there j l.here r c l.stops l.later s
+    reach_goes (kid j r c) (inr (inl l)) s = hit_there j l.here r c l.stops l.stopped_later l.later s
     reach_goes (kid j r c) (inr (inr l)) s = gone (kid j r c) l.0 l.1 s
     reach_goes (ret a) l s = gone (ret a) l.0 l.1 s
     reach_goes (fails y) l s = gone (fails y) l.0 l.1 s
@@ -853,10 +1010,11 @@ module _ (e : Environment) (k : ℕ) (z : Unseen (alone (Declared k)) e) where
     abbrev read : Tree
     read = identifier (resolved spelling k)
 
-    pub first_goes : (m : Bool) (c : Asked) (ss : List Step) → Well c ss → Spared x ss → PassedIn m init ss → (q : Demand) → Suits c q (is_end ss) → Entries m q → (r : Request q) (s : State) → Go (next (means e init (As Val) tt s) (λ v t. means e (led ss read) q r (after v t))) (means e (led ss init) q r s)
+    pub first_goes : (m : Bool) (c : Asked) (ss : List Step) → Well c ss → Spared x ss → PassedIn m init spelling ss → (q : Demand) → Suits c q (end_of spelling init ss) → Entries m q → (r : Request q) (s : State) → Go (next (means e init (As Val) tt s) (λ v t. means e (led ss read) q r (after v t))) (means e (led ss init) q r s)
     first_goes m AsValue [] w f p (As v) u n r s = read_goes spelling init v s
     first_goes m AsValue [] w f p AnEntry u n r s = entry_goes spelling init item s
-    first_goes m AsValue [] w f p Callee u n r s = absurd (true≢false u)
+    first_goes m AsValue [] w f p Callee u n r s = callee_goes spelling init u s
+    first_goes m AsValue [] w f p OfType u n r s = type_goes spelling init u s
     first_goes m AsValue [] w f p q u n r s = absurd u
     first_goes m c [] w f p q u n r s = absurd w
     first_goes m c (s ∷ ss) w f p q u n r z =
@@ -865,12 +1023,12 @@ module _ (e : Environment) (k : ℕ) (z : Unseen (alone (Declared k)) e) where
         let kids = λ (t : Tree). append ps (led ss t ▸ s.rest) in
         let is = summaries (kids read) in
         let σ = demand h (facts_all is) q in
-        let a = asks (is_effect_free init) m c s.lead (is_end ss) w.0 (facts_all is) (there_before ps (led ss read) s.rest) q u n r in
+        let a = asks (is_effect_free init) (is_calm init) m c s.lead (is_end ss) w.0 (end_of spelling init ss) p.0.2 (whole_chains init s.lead p.0.3) (facts_all is) (there_before ps (led ss read) s.rest) q u n r in
         let sure = varied init varies (surely m (is_effect_free init) s.lead) p.0.1 in
         let first = all_spared x named ps f.0.0 in
         let last = all_spared x named s.rest f.0.1 in
         let there = λ (y : State). node_is h q r (kids read) y in
         let put : means e (led (s ∷ ss) init) q r z ≡ by_summaries h q r is (kids init) z = node_is h q r (kids init) z ∙ ap (λ i. by_summaries h q r i (kids init) z) (sym (summaries_led s ss read init plain)) in
         subst₂ Go (sym (either_cong (means e init (As Val) tt z) _ _ _ _ (λ v y. there (after v y)) (λ y p. refl))) (sym put)
-        (reach_goes h q is σ ps (led ss read) (led ss init) s.rest init first last (count (earlier s.lead)) (earlier_within s.lead) (calm_before init varies m s.lead p.0.0 first (facts_all is) q n a.first)
-        (λ r' s'. first_goes (entries_below m h) (asked_below (head_of s.lead) c (place 0 ps)) ss w.1 f.1 p.1 (σ (count ps)) a.below (entries_there m c s.lead (is_end ss) w.0 (facts_all is) q u n) r' s') (step h [] (facts_all is) q r) (a.reaches sure) z)
+        (reach_goes h q is σ ps (led ss read) (led ss init) s.rest init first last (count (earlier s.lead)) (earlier_within s.lead) (calm_before init varies m s.lead p.0.0 first (facts_all is) q n a.first) (is_calm init) (λ s'. init_ends e init s')
+        (λ r' s'. first_goes (entries_below m h (place 0 ps)) (asked_below (head_of s.lead) c (place 0 ps)) ss w.1 f.1 p.1 (σ (count ps)) a.below (entries_there m c s.lead (is_end ss) w.0 (facts_all is) q u n) r' s') (step h [] (facts_all is) q r) (a.reaches sure) z)

@@ -1,5 +1,5 @@
 -- A tree that reads a variable after the parts that stand before, as a path to that read: what leads there, and what stands beside it.
-use Rattle.std.specs.Prelude.{ℕ, zero, suc, ◌+◌, ◌≡◌, ◌⊎◌, refl, not, ◌&&◌, ◌||◌, Bool, true, false, List, [], ◌∷◌, if◌then◌else◌}
+use Rattle.std.specs.Prelude.{codes, ℕ, zero, suc, ◌+◌, ◌≡◌, ◌⊎◌, refl, not, ◌&&◌, ◌||◌, Bool, true, false, List, [], ◌∷◌, if◌then◌else◌}
 use Rattle.std.proofs.Common.{ap, ◌∙◌, sym, subst, subst₂, arith, inl, inr, true≢false}
 use Rattle.std.proofs.lemmas.Bool.{and_parts}
 use Rattle.mini_model.specs.declared.kind.PropertyKind.TheVariants.{Init}
@@ -8,21 +8,24 @@ use Rattle.mini_model.specs.declared.name.Name.{Name}
 use Rattle.mini_model.specs.declared.operator.AssignmentOperator.{AssignmentOperator}
 use Rattle.mini_model.specs.declared.operator.BinaryOperator.{BinaryOperator}
 use Rattle.mini_model.specs.declared.operator.LogicalOperator.{LogicalOperator}
-use Rattle.mini_model.specs.declared.operator.UnaryOperator.TheVariants.{LogicalNot, UnaryPlus, UnaryNegation, BitwiseNot, Void}
+use Rattle.mini_model.specs.declared.operator.UnaryOperator.TheVariants.{LogicalNot, UnaryPlus, UnaryNegation, BitwiseNot, Typeof, Void}
 use Rattle.mini_model.specs.declared.shape.Shape.{Shape}
 use Rattle.mini_model.specs.declared.shape.Shape.TheVariants as shape
 use Rattle.mini_model.specs.Tree.{Tree, Trees, node, none, ◌▸◌, listed, children, identifier, shape_of}
 use Rattle.mini_model.specs.Paths.{append}
 use Rattle.mini_model.specs.Weight.{same_text}
 use Rattle.mini_laws.specs.Naming.{summary, summaries, summary_of}
+use Rattle.mini_laws.specs.ScopeList.{is_eval_callee}
 use Rattle.mini_laws.specs.Symbols.{is_same}
 use Rattle.mini_node.specs.Children.{part, is_nameless, rest_children}
 use Rattle.mini_node.specs.Kinds.{is_identifier}
 use Rattle.mini_terms.specs.Folds.{is_effect_free}
-use Rattle.mini_rows.specs.Sketches.{Head, AList, Array, Unary, Binary, Logical, Conditional, Sequence, Call, New, StaticMember, ComputedMember, Yield, Object, Property, Assignment, OfExpression, Throw, Return, If, shape_by, Asked, AsWholeItem, AsValue, AsValues, asked_below, Leap}
+use Rattle.mini_terms.specs.Reading.{is_typed_by_value}
+use Rattle.mini_rows.specs.Sketches.{Head, AList, Array, Unary, Binary, Logical, Conditional, Sequence, Call, New, StaticMember, ComputedMember, Chain, Yield, Object, Property, Spread, Assignment, OfExpression, Throw, Return, If, shape_by, Asked, AsWholeItem, AsValue, AsValues, asked_below, Leap}
 use Rattle.mini_rows.specs.Lists.{declaration, Each, EachIn, EachOf, each_loop}
 use Rattle.mini_rows.specs.Declarations.{declarator}
-use Rattle.mini_rows.specs.Unused.{is_like_one, names, any_names, begins, goes_on, may_go_on, has_branches, leads, holds_list, is_childless, reads, is_first, leads_to, put_first, put_among, is_constant, passes_at, is_plain_assignment, is_sure, entries_below, begins_with, is_reached, is_number_shape, suits, are_passed_in, are_passed, all_passed, reads_first, is_declarator, declares_list, reads_declarator, reads_declarators, reads_initially, reads_outside, is_open_left, reads_over, reads_head, evaluated}
+use Rattle.mini_rows.specs.Chains.{is_calm}
+use Rattle.mini_rows.specs.Unused.{is_like_one, names, any_names, begins, goes_on, may_go_on, has_branches, leads, holds_list, is_childless, reads, is_first, leads_to, put_first, put_among, is_constant, passes_at, is_plain_assignment, is_sure, is_placed, entries_below, begins_with, is_reached, is_number_shape, is_called_by_value, suits, are_passed_in, are_passed, all_passed, reads_first, is_declarator, declares_list, reads_declarator, reads_declarators, reads_initially, reads_outside, is_open_left, reads_over, reads_head, evaluated}
 use Rattle.mini_rows.proofs.Arranging.{Plain, Below, sum_below, Local, Summed}
 use Rattle.mini_rows.proofs.ListKeptHeads.{Seat, Loop, Choice, seated, rest}
 
@@ -33,23 +36,26 @@ pub data Lead : Type 0 where
   Plus : Lead
   Minus : Lead
   Tilde : Lead
+  Typing : Lead
   Emptying : Lead
   Beside : BinaryOperator → Lead
   Deciding : LogicalOperator → Lead
   Choosing : Lead
   Passing : Lead
-  Called : Lead
+  Called : Bool → Lead
   Making : Lead
   Waiting : Bool → Lead
-  Member : Lead
-  Keyed : Lead
+  Member : Bool → Lead
+  Keyed : Bool → Lead
+  Linking : Lead
   Holding : Lead
   Gathering : Lead
+  Spreading : Lead
   -- after the first part
   Against : BinaryOperator → Tree → Lead
-  Given : Tree → Lead
+  Given : Bool → Tree → Lead
   Filling : Tree → Lead
-  Keying : Tree → Lead
+  Keying : Bool → Tree → Lead
   -- after the parts before, or not at all
   Following : LogicalOperator → Tree → Lead
   Branching : Tree → Lead
@@ -71,22 +77,25 @@ head_of Not = Unary LogicalNot
 head_of Plus = Unary UnaryPlus
 head_of Minus = Unary UnaryNegation
 head_of Tilde = Unary BitwiseNot
+head_of Typing = Unary Typeof
 head_of Emptying = Unary Void
 head_of (Beside o) = Binary o
 head_of (Deciding o) = Logical o
 head_of Choosing = Conditional
 head_of Passing = Sequence
-head_of Called = Call false
+head_of (Called o) = Call o
 head_of Making = New
 head_of (Waiting d) = Yield d
-head_of Member = StaticMember false
-head_of Keyed = ComputedMember false
+head_of (Member o) = StaticMember o
+head_of (Keyed o) = ComputedMember o
+head_of Linking = Chain
 head_of Holding = Array
 head_of Gathering = Object
+head_of Spreading = Spread
 head_of (Against o a) = Binary o
-head_of (Given a) = Call false
+head_of (Given o a) = Call o
 head_of (Filling a) = New
-head_of (Keying a) = ComputedMember false
+head_of (Keying o a) = ComputedMember o
 head_of (Following o a) = Logical o
 head_of (Branching a) = Conditional
 head_of (Failing a b) = Conditional
@@ -101,9 +110,9 @@ head_of Testing = If
 -- the parts before
 abbrev pub before : Lead → Trees
 before (Against o a) = a ▸ none
-before (Given a) = a ▸ none
+before (Given o a) = a ▸ none
 before (Filling a) = a ▸ none
-before (Keying a) = a ▸ none
+before (Keying o a) = a ▸ none
 before (Following o a) = a ▸ none
 before (Branching a) = a ▸ none
 before (Failing a b) = a ▸ (b ▸ none)
@@ -119,6 +128,9 @@ is_steady (Branching a) = false
 is_steady (Failing a b) = false
 is_steady (Storing o a) = false
 is_steady (Fielding c a) = false
+is_steady Spreading = false
+is_steady (Given o a) = not o
+is_steady (Keying o a) = not o
 is_steady l = true
 
 -- it is evaluated whatever they are; where nothing is lost by it, it may be left out
@@ -128,6 +140,9 @@ surely m is_free (Branching a) = is_free
 surely m is_free (Failing a b) = is_free
 surely m is_free (Storing o a) = is_plain_assignment o || is_free
 surely m is_free (Fielding c a) = not c && (m || is_free)
+surely m is_free Spreading = m || is_free
+surely m is_free (Given o a) = not o || is_free
+surely m is_free (Keying o a) = not o || is_free
 surely m is_free l = true
 
 -- the place after some parts
@@ -158,22 +173,25 @@ Stands AsValue Not at_end = Unit {0}
 Stands AsValue Plus at_end = Unit {0}
 Stands AsValue Minus at_end = Unit {0}
 Stands AsValue Tilde at_end = Unit {0}
+Stands AsValue Typing at_end = Unit {0}
 Stands AsValue Emptying at_end = Unit {0}
 Stands AsValue (Beside o) at_end = Unit {0}
 Stands AsValue (Deciding o) at_end = Unit {0}
 Stands AsValue Choosing at_end = Unit {0}
 Stands AsValue Passing at_end = Unit {0}
-Stands AsValue Called at_end = at_end ≡ false
+Stands AsValue (Called o) at_end = Unit {0}
 Stands AsValue Making at_end = Unit {0}
 Stands AsValue (Waiting d) at_end = Unit {0}
-Stands AsValue Member at_end = Unit {0}
-Stands AsValue Keyed at_end = Unit {0}
+Stands AsValue (Member o) at_end = Unit {0}
+Stands AsValue (Keyed o) at_end = Unit {0}
+Stands AsValue Linking at_end = at_end ≡ false
 Stands AsValue Holding at_end = Unit {0}
 Stands AsValue Gathering at_end = Unit {0}
+Stands AsValue Spreading at_end = Unit {0}
 Stands AsValue (Against o a) at_end = Unit {0}
-Stands AsValue (Given a) at_end = Unit {0}
+Stands AsValue (Given o a) at_end = Unit {0}
 Stands AsValue (Filling a) at_end = Unit {0}
-Stands AsValue (Keying a) at_end = Unit {0}
+Stands AsValue (Keying o a) at_end = Unit {0}
 Stands AsValue (Following o a) at_end = Unit {0}
 Stands AsValue (Branching a) at_end = Unit {0}
 Stands AsValue (Failing a b) at_end = Unit {0}
@@ -201,18 +219,80 @@ Sure m r l = (is_constant r || surely m (is_effect_free r) l) ≡ true
 
 -- r may stand there
 abbrev pub suited : Tree → Lead → Bool → Bool
-suited r Minus at_end = not (is_number_shape (shape_of r) && at_end)
+suited r Minus at_end = not at_end || not (is_number_shape (shape_of r))
+suited r Typing at_end = not at_end || is_typed_by_value r
+suited r (Called o) at_end = not at_end || is_called_by_value r
+suited r Linking at_end = is_calm r
 suited r l at_end = true
 
 abbrev pub Suited : Tree → List Step → Type 0
 Suited r [] = Unit {0}
 Suited r (s ∷ ss) = (suited r s.lead (is_end ss) ≡ true) × Suited r ss
 
-abbrev pub PassedIn : Bool → Tree → List Step → Type 0
-PassedIn m r [] = Unit {0}
-PassedIn m r (s ∷ ss) = (AllPass m r (shape_by (head_of s.lead)) 0 (before s.lead) × Sure m r s.lead) × PassedIn (entries_below m (shape_by (head_of s.lead))) r ss
+-- r ends no chain that stands there
+abbrev pub whole : Tree → Lead → Bool
+whole r Linking = is_calm r
+whole r l = true
 
-abbrev pub Passed : Tree → List Step → Type 0
+pub suited_whole : (r : Tree) (l : Lead) (b : Bool) → suited r l b ≡ true → whole r l ≡ true
+suited_whole r Linking b e = e
+suited_whole r l b e = refl
+
+-- no direct eval reads it, and what a chain holds is a link
+abbrev pub indirect : Lead → Tree → Bool
+indirect (Called o) t = not (is_eval_callee t)
+indirect Linking t = not (is_childless t)
+indirect l t = true
+
+abbrev pub Indirect : Tree → List Step → Type 0
+Indirect u [] = Unit {0}
+Indirect u (s ∷ ss) = (indirect s.lead (led ss u) ≡ true) × Indirect u ss
+
+-- what may be read of a name, and of r in its place, by their values: what is called, and what `typeof` reads
+pub record End : Type 0 where
+  pub called : Bool
+  pub typed : Bool
+
+abbrev pub free : End
+free = record { called = true; typed = true }
+
+-- of a name with this spelling
+abbrev pub end_at : List ℕ → Tree → End
+end_at spelling r = record { called = not (same_text spelling (codes "eval")) && is_called_by_value r; typed = is_typed_by_value r }
+
+-- of what isn't the name itself all of it
+abbrev pub end_of : List ℕ → Tree → List Step → End
+end_of spelling r [] = end_at spelling r
+end_of spelling r (s ∷ ss) = free
+
+abbrev pub Allows : Lead → End → Type 0
+Allows (Called o) b = b.called ≡ true
+Allows Linking b = b.called ≡ true
+Allows Typing b = b.typed ≡ true
+Allows l b = Unit {0}
+
+allows_end : (y : Name) (r : Tree) (l : Lead) → suited r l true ≡ true → indirect l (identifier y) ≡ true → Allows l (end_at y.spelling r)
+allows_end y r (Called o) e f = ap (λ b. b && is_called_by_value r) f ∙ e
+allows_end y r Linking e f = absurd (true≢false (sym f))
+allows_end y r Typing e f = e
+allows_end y r l e f = tt
+
+allows_free : (l : Lead) → Allows l free
+allows_free (Called o) = refl
+allows_free Linking = refl
+allows_free Typing = refl
+allows_free l = tt
+
+pub allows : (y : Name) (r : Tree) (l : Lead) (ss : List Step) → suited r l (is_end ss) ≡ true → indirect l (led ss (identifier y)) ≡ true → Allows l (end_of y.spelling r ss)
+allows y r l [] e f = allows_end y r l e f
+allows y r l (s ∷ ss) e f = allows_free l
+
+-- what is evaluated before the read of a name with this spelling may be evaluated before r, which may stand there
+abbrev pub PassedIn : Bool → Tree → List ℕ → List Step → Type 0
+PassedIn m r spelling [] = Unit {0}
+PassedIn m r spelling (s ∷ ss) = (AllPass m r (shape_by (head_of s.lead)) 0 (before s.lead) × Sure m r s.lead × Allows s.lead (end_of spelling r ss) × (whole r s.lead ≡ true)) × PassedIn (entries_below m (shape_by (head_of s.lead)) (place 0 (before s.lead))) r spelling ss
+
+abbrev pub Passed : Tree → List ℕ → List Step → Type 0
 Passed = PassedIn false
 
 -- ---- a tree as such a path
@@ -223,10 +303,11 @@ pub record Path (x : Name) (c : Asked) (t : Tree) : Type 0 where
   pub well : Well c steps
   pub spared : Spared x steps
   pub same : is_same x.symbol read.symbol ≡ true
+  pub direct : Indirect (identifier read) steps
   pub is : t ≡ led steps (identifier read)
   pub puts : (r : Tree) → put_first x r t ≡ led steps r
   pub ends : is_end steps ≡ is_childless t
-  pub passed_in : (m : Bool) (r : Tree) → are_passed_in x m r t ≡ true → PassedIn m r steps
+  pub passed_in : (m : Bool) (r : Tree) → are_passed_in x m r t ≡ true → PassedIn m r read.spelling steps
   pub suit_in : (m : Bool) (r : Tree) → are_passed_in x m r t ≡ true → Suited r steps
 
 abbrev asked : Bool → Asked
@@ -237,75 +318,98 @@ abbrev is_empty : Trees → Bool
 is_empty none = true
 is_empty (t ▸ ts) = false
 
-record Leads (b c : Bool) (h : Shape) (ts : Trees) : Type 0 where
+record Leads (b : Bool) (t : Tree) (h : Shape) (ts : Trees) : Type 0 where
   lead : Lead
   is : shape_by (head_of lead) ≡ h
   front : before lead ≡ ts
-  stands : Stands (asked b) lead c
+  stands : Stands (asked b) lead (is_childless t)
   below : asked_below (head_of lead) (asked b) (place 0 (before lead)) ≡ asked (holds_list h (place 0 ts))
-  sure : (m f : Bool) → (is_sure m f h || is_empty ts) ≡ true → surely m f lead ≡ true
-  suit : (r t : Tree) (us : Trees) → is_childless t ≡ c → suits r h (append ts (t ▸ us)) ≡ true → suited r lead c ≡ true
+  direct : indirect lead t ≡ true
+  sure : (m f : Bool) → (is_placed m f h && (is_sure f h || is_empty ts)) ≡ true → surely m f lead ≡ true
+  suit : (x : Name) (r : Tree) (us : Trees) → names x t ≡ true → suits x r h (append ts (t ▸ us)) ≡ true → suited r lead (is_childless t) ≡ true
 
 sure_there : (a : Bool) → (a || false) ≡ true → a ≡ true
 sure_there true e = refl
 sure_there false e = e
 
+-- an entry, where it is placed
+placed_there : (a b : Bool) → (a && b) ≡ true → a ≡ true
+placed_there a b e = (and_parts a b e).0
+
+placed_further : (a b : Bool) → (a && (b || false)) ≡ true → (b && a) ≡ true
+placed_further true b e = turned b e
+  where
+    turned : (b : Bool) → (b || false) ≡ true → (b && true) ≡ true
+    turned true e = refl
+    turned false e = e
+placed_further false b e = absurd (true≢false (sym e))
+
+suit_there : (a b c : Bool) → b ≡ true → ((not (a && b) || c) && true) ≡ true → (not a || c) ≡ true
+suit_there true b c n e = ap (λ d. not d || c) (sym n) ∙ (and_parts (not b || c) true e).0
+suit_there false b c n e = refl
+
 not_leaf : (c : Bool) → not c ≡ true → c ≡ false
 not_leaf true e = absurd (true≢false (sym e))
 not_leaf false e = refl
 
-begun_by : (c : Bool) (h : Shape) → begins h c ≡ true → Leads false c h none
-begun_by c (shape.UnaryExpression LogicalNot) e = record { lead = Not; is = refl; front = refl; stands = tt; below = refl; sure = λ m f q. refl; suit = λ r t us n e. refl }
-begun_by c (shape.UnaryExpression UnaryPlus) e = record { lead = Plus; is = refl; front = refl; stands = tt; below = refl; sure = λ m f q. refl; suit = λ r t us n e. refl }
-begun_by c (shape.UnaryExpression UnaryNegation) e = record { lead = Minus; is = refl; front = refl; stands = tt; below = refl; sure = λ m f q. refl; suit = λ r t us n e. ap (λ b. not (is_number_shape (shape_of r) && b)) (sym n) ∙ e }
-begun_by c (shape.UnaryExpression BitwiseNot) e = record { lead = Tilde; is = refl; front = refl; stands = tt; below = refl; sure = λ m f q. refl; suit = λ r t us n e. refl }
-begun_by c (shape.UnaryExpression Void) e = record { lead = Emptying; is = refl; front = refl; stands = tt; below = refl; sure = λ m f q. refl; suit = λ r t us n e. refl }
-begun_by c (shape.BinaryExpression o) e = record { lead = Beside o; is = refl; front = refl; stands = tt; below = refl; sure = λ m f q. refl; suit = λ r t us n e. refl }
-begun_by c (shape.LogicalExpression o) e = record { lead = Deciding o; is = refl; front = refl; stands = tt; below = refl; sure = λ m f q. refl; suit = λ r t us n e. refl }
-begun_by c shape.ConditionalExpression e = record { lead = Choosing; is = refl; front = refl; stands = tt; below = refl; sure = λ m f q. refl; suit = λ r t us n e. refl }
-begun_by c shape.SequenceExpression e = record { lead = Passing; is = refl; front = refl; stands = tt; below = refl; sure = λ m f q. refl; suit = λ r t us n e. refl }
-begun_by c (shape.CallExpression false) e = record { lead = Called; is = refl; front = refl; stands = not_leaf c e; below = refl; sure = λ m f q. refl; suit = λ r t us n e. refl }
-begun_by c shape.NewExpression e = record { lead = Making; is = refl; front = refl; stands = tt; below = refl; sure = λ m f q. refl; suit = λ r t us n e. refl }
-begun_by c shape.ArrayExpression e = record { lead = Holding; is = refl; front = refl; stands = tt; below = refl; sure = λ m f q. refl; suit = λ r t us n e. refl }
-begun_by c shape.ObjectExpression e = record { lead = Gathering; is = refl; front = refl; stands = tt; below = refl; sure = λ m f q. refl; suit = λ r t us n e. refl }
-begun_by c (shape.YieldExpression d) e = record { lead = Waiting d; is = refl; front = refl; stands = tt; below = refl; sure = λ m f q. refl; suit = λ r t us n e. refl }
-begun_by c (shape.StaticMemberExpression false) e = record { lead = Member; is = refl; front = refl; stands = tt; below = refl; sure = λ m f q. refl; suit = λ r t us n e. refl }
-begun_by c (shape.ComputedMemberExpression false) e = record { lead = Keyed; is = refl; front = refl; stands = tt; below = refl; sure = λ m f q. refl; suit = λ r t us n e. refl }
-begun_by c h e = absurd (true≢false (sym e))
+optional_there : (o f : Bool) → ((not o || f) || false) ≡ true → (not o || f) ≡ true
+optional_there o f e = sure_there (not o || f) e
 
-gone_on_by : (c : Bool) (h : Shape) (a : Tree) → (goes_on h || may_go_on h) ≡ true → Leads false c h (a ▸ none)
-gone_on_by c (shape.BinaryExpression o) a e = record { lead = Against o a; is = refl; front = refl; stands = tt; below = refl; sure = λ m f q. refl; suit = λ r t us n e. refl }
-gone_on_by c (shape.CallExpression false) a e = record { lead = Given a; is = refl; front = refl; stands = tt; below = refl; sure = λ m f q. refl; suit = λ r t us n e. refl }
-gone_on_by c shape.NewExpression a e = record { lead = Filling a; is = refl; front = refl; stands = tt; below = refl; sure = λ m f q. refl; suit = λ r t us n e. refl }
-gone_on_by c (shape.ComputedMemberExpression false) a e = record { lead = Keying a; is = refl; front = refl; stands = tt; below = refl; sure = λ m f q. refl; suit = λ r t us n e. refl }
-gone_on_by c (shape.LogicalExpression o) a e = record { lead = Following o a; is = refl; front = refl; stands = tt; below = refl; sure = λ m f q. sure_there f q; suit = λ r t us n e. refl }
-gone_on_by c shape.ConditionalExpression a e = record { lead = Branching a; is = refl; front = refl; stands = tt; below = refl; sure = λ m f q. sure_there f q; suit = λ r t us n e. refl }
-gone_on_by c (shape.AssignmentExpression o) a e = record { lead = Storing o a; is = refl; front = refl; stands = tt; below = refl; sure = λ m f q. sure_there (is_plain_assignment o || f) q; suit = λ r t us n e. refl }
-gone_on_by c (shape.ObjectProperty Init false false d) a e = record { lead = Fielding d a; is = refl; front = refl; stands = tt; below = refl; sure = λ m f q. sure_there (not d && (m || f)) q; suit = λ r t us n e. refl }
-gone_on_by c h a e = absurd (true≢false (sym e))
+begun_by : (t : Tree) (h : Shape) → begins h t ≡ true → Leads false t h none
+begun_by t (shape.UnaryExpression LogicalNot) e = record { lead = Not; is = refl; front = refl; stands = tt; below = refl; direct = refl; sure = λ m f q. refl; suit = λ x r us n e. refl }
+begun_by t (shape.UnaryExpression UnaryPlus) e = record { lead = Plus; is = refl; front = refl; stands = tt; below = refl; direct = refl; sure = λ m f q. refl; suit = λ x r us n e. refl }
+begun_by t (shape.UnaryExpression UnaryNegation) e = record { lead = Minus; is = refl; front = refl; stands = tt; below = refl; direct = refl; sure = λ m f q. refl; suit = λ x r us n e. suit_there (is_childless t) (names x t) (not (is_number_shape (shape_of r))) n e }
+begun_by t (shape.UnaryExpression BitwiseNot) e = record { lead = Tilde; is = refl; front = refl; stands = tt; below = refl; direct = refl; sure = λ m f q. refl; suit = λ x r us n e. refl }
+begun_by t (shape.UnaryExpression Typeof) e = record { lead = Typing; is = refl; front = refl; stands = tt; below = refl; direct = refl; sure = λ m f q. refl; suit = λ x r us n e. suit_there (is_childless t) (names x t) (is_typed_by_value r) n e }
+begun_by t (shape.UnaryExpression Void) e = record { lead = Emptying; is = refl; front = refl; stands = tt; below = refl; direct = refl; sure = λ m f q. refl; suit = λ x r us n e. refl }
+begun_by t (shape.BinaryExpression o) e = record { lead = Beside o; is = refl; front = refl; stands = tt; below = refl; direct = refl; sure = λ m f q. refl; suit = λ x r us n e. refl }
+begun_by t (shape.LogicalExpression o) e = record { lead = Deciding o; is = refl; front = refl; stands = tt; below = refl; direct = refl; sure = λ m f q. refl; suit = λ x r us n e. refl }
+begun_by t shape.ConditionalExpression e = record { lead = Choosing; is = refl; front = refl; stands = tt; below = refl; direct = refl; sure = λ m f q. refl; suit = λ x r us n e. refl }
+begun_by t shape.SequenceExpression e = record { lead = Passing; is = refl; front = refl; stands = tt; below = refl; direct = refl; sure = λ m f q. refl; suit = λ x r us n e. refl }
+begun_by t (shape.CallExpression o) e = record { lead = Called o; is = refl; front = refl; stands = tt; below = refl; direct = e; sure = λ m f q. refl; suit = λ x r us n e. suit_there (is_childless t) (names x t) (is_called_by_value r) n e }
+begun_by t shape.NewExpression e = record { lead = Making; is = refl; front = refl; stands = tt; below = refl; direct = refl; sure = λ m f q. refl; suit = λ x r us n e. refl }
+begun_by t shape.ArrayExpression e = record { lead = Holding; is = refl; front = refl; stands = tt; below = refl; direct = refl; sure = λ m f q. refl; suit = λ x r us n e. refl }
+begun_by t shape.ObjectExpression e = record { lead = Gathering; is = refl; front = refl; stands = tt; below = refl; direct = refl; sure = λ m f q. refl; suit = λ x r us n e. refl }
+begun_by t shape.SpreadElement e = record { lead = Spreading; is = refl; front = refl; stands = tt; below = refl; direct = refl; sure = λ m f q. placed_there (m || f) true q; suit = λ x r us n e. refl }
+begun_by t (shape.YieldExpression d) e = record { lead = Waiting d; is = refl; front = refl; stands = tt; below = refl; direct = refl; sure = λ m f q. refl; suit = λ x r us n e. refl }
+begun_by t (shape.StaticMemberExpression o) e = record { lead = Member o; is = refl; front = refl; stands = tt; below = refl; direct = refl; sure = λ m f q. refl; suit = λ x r us n e. refl }
+begun_by t shape.ChainExpression e = record { lead = Linking; is = refl; front = refl; stands = not_leaf (is_childless t) e; below = refl; direct = e; sure = λ m f q. refl; suit = λ x r us n e. (and_parts (not (is_childless t && names x t) || true) (is_calm r) e).1 }
+begun_by t (shape.ComputedMemberExpression o) e = record { lead = Keyed o; is = refl; front = refl; stands = tt; below = refl; direct = refl; sure = λ m f q. refl; suit = λ x r us n e. refl }
+begun_by t h e = absurd (true≢false (sym e))
 
-branched_by : (c : Bool) (h : Shape) (a b : Tree) → has_branches h ≡ true → Leads false c h (a ▸ (b ▸ none))
-branched_by c shape.ConditionalExpression a b e = record { lead = Failing a b; is = refl; front = refl; stands = tt; below = refl; sure = λ m f q. sure_there f q; suit = λ r t us n e. refl }
-branched_by c h a b e = absurd (true≢false (sym e))
+gone_on_by : (t : Tree) (h : Shape) (a : Tree) → (goes_on h || may_go_on h) ≡ true → Leads false t h (a ▸ none)
+gone_on_by t (shape.BinaryExpression o) a e = record { lead = Against o a; is = refl; front = refl; stands = tt; below = refl; direct = refl; sure = λ m f q. refl; suit = λ x r us n e. refl }
+gone_on_by t (shape.CallExpression o) a e = record { lead = Given o a; is = refl; front = refl; stands = tt; below = refl; direct = refl; sure = λ m f q. optional_there o f q; suit = λ x r us n e. refl }
+gone_on_by t shape.NewExpression a e = record { lead = Filling a; is = refl; front = refl; stands = tt; below = refl; direct = refl; sure = λ m f q. refl; suit = λ x r us n e. refl }
+gone_on_by t (shape.ComputedMemberExpression o) a e = record { lead = Keying o a; is = refl; front = refl; stands = tt; below = refl; direct = refl; sure = λ m f q. optional_there o f q; suit = λ x r us n e. refl }
+gone_on_by t (shape.LogicalExpression o) a e = record { lead = Following o a; is = refl; front = refl; stands = tt; below = refl; direct = refl; sure = λ m f q. sure_there f q; suit = λ x r us n e. refl }
+gone_on_by t shape.ConditionalExpression a e = record { lead = Branching a; is = refl; front = refl; stands = tt; below = refl; direct = refl; sure = λ m f q. sure_there f q; suit = λ x r us n e. refl }
+gone_on_by t (shape.AssignmentExpression o) a e = record { lead = Storing o a; is = refl; front = refl; stands = tt; below = refl; direct = refl; sure = λ m f q. sure_there (is_plain_assignment o || f) q; suit = λ x r us n e. refl }
+gone_on_by t (shape.ObjectProperty Init false false d) a e = record { lead = Fielding d a; is = refl; front = refl; stands = tt; below = refl; direct = refl; sure = λ m f q. placed_further (m || f) (not d) q; suit = λ x r us n e. refl }
+gone_on_by t h a e = absurd (true≢false (sym e))
+
+branched_by : (t : Tree) (h : Shape) (a b : Tree) → has_branches h ≡ true → Leads false t h (a ▸ (b ▸ none))
+branched_by t shape.ConditionalExpression a b e = record { lead = Failing a b; is = refl; front = refl; stands = tt; below = refl; direct = refl; sure = λ m f q. sure_there f q; suit = λ x r us n e. refl }
+branched_by t h a b e = absurd (true≢false (sym e))
 
 place_next : (i : ℕ) (ts : Trees) → place (suc i) ts ≡ suc (place i ts)
 place_next i none = refl
 place_next i (t ▸ ts) = place_next (suc i) ts
 
-no_later : (h : Shape) (c : Bool) (i : ℕ) → leads false h (suc (suc (suc i))) c ≡ true → ⊥
+no_later : (h : Shape) (c : Tree) (i : ℕ) → leads false h (suc (suc (suc i))) c ≡ true → ⊥
 no_later h c i e = true≢false (sym e)
 
 no_list_of : (i : ℕ) → holds_list shape.Listed i ≡ false
 no_list_of zero = refl
 no_list_of (suc i) = refl
 
-lead_by : (b c : Bool) (h : Shape) (ts : Trees) → leads b h (place 0 ts) c ≡ true → Leads b c h ts
-lead_by true c shape.Listed ts e = record { lead = Listing ts; is = refl; front = refl; stands = tt; below = ap asked (sym (no_list_of (place 0 ts))); sure = λ m f q. refl; suit = λ r t us n e. refl }
-lead_by true c h ts e = absurd (true≢false (sym e))
-lead_by false c h none e = begun_by c h e
-lead_by false c h (a ▸ none) e = gone_on_by c h a e
-lead_by false c h (a ▸ (b ▸ none)) e = branched_by c h a b e
-lead_by false c h (a ▸ (b ▸ (d ▸ ts))) e = absurd (no_later h c (place 0 ts) (sym (ap (λ i. leads false h i c) (place_next 2 ts ∙ ap suc (place_next 1 ts ∙ ap suc (place_next 0 ts)))) ∙ e))
+lead_by : (b : Bool) (t : Tree) (h : Shape) (ts : Trees) → leads b h (place 0 ts) t ≡ true → Leads b t h ts
+lead_by true t shape.Listed ts e = record { lead = Listing ts; is = refl; front = refl; stands = tt; below = ap asked (sym (no_list_of (place 0 ts))); direct = refl; sure = λ m f q. refl; suit = λ x r us n e. refl }
+lead_by true t h ts e = absurd (true≢false (sym e))
+lead_by false t h none e = begun_by t h e
+lead_by false t h (a ▸ none) e = gone_on_by t h a e
+lead_by false t h (a ▸ (b ▸ none)) e = branched_by t h a b e
+lead_by false t h (a ▸ (b ▸ (d ▸ ts))) e = absurd (no_later h t (place 0 ts) (sym (ap (λ i. leads false h i t) (place_next 2 ts ∙ ap suc (place_next 1 ts ∙ ap suc (place_next 0 ts)))) ∙ e))
 
 not_true : (b : Bool) → not b ≡ true → b ≡ false
 not_true true e = absurd (true≢false (sym e))
@@ -323,12 +427,13 @@ record Among (x : Name) (b : Bool) (h : Shape) (i : ℕ) (ts : Trees) : Type 0 w
   is : ts ≡ append first (one ▸ rest)
   earlier : any_names x first ≡ false
   later : any_names x rest ≡ false
-  leads : leads b h (place i first) (is_childless one) ≡ true
+  leads : leads b h (place i first) one ≡ true
+  mentions : names x one ≡ true
   path : Path x (asked (holds_list h (place i first))) one
   puts : (r : Tree) → put_among x r ts ≡ append first (put_first x r one ▸ rest)
-  passed : (m : Bool) (r : Tree) → all_passed x m r h i ts ≡ true → AllPass m r h i first × (are_passed_in x (entries_below m h) r one ≡ true)
+  passed : (m : Bool) (r : Tree) → all_passed x m r h i ts ≡ true → AllPass m r h i first × (are_passed_in x (entries_below m h (place i first)) r one ≡ true)
 
-this_one : (x : Name) (b : Bool) (h : Shape) (i : ℕ) (t : Tree) (ts : Trees) → names x t ≡ true → leads b h i (is_childless t) ≡ true → Path x (asked (holds_list h i)) t → any_names x ts ≡ false → Among x b h i (t ▸ ts)
+this_one : (x : Name) (b : Bool) (h : Shape) (i : ℕ) (t : Tree) (ts : Trees) → names x t ≡ true → leads b h i t ≡ true → Path x (asked (holds_list h i)) t → any_names x ts ≡ false → Among x b h i (t ▸ ts)
 this_one x b h i t ts n l p f = record {
   first = none;
   one = t;
@@ -337,9 +442,10 @@ this_one x b h i t ts n l p f = record {
   earlier = refl;
   later = f;
   leads = l;
+  mentions = n;
   path = p;
   puts = λ r. ap (λ c. if c then put_first x r t ▸ ts else t ▸ put_among x r ts) n;
-  passed = λ m r e. (tt, sym (ap (λ c. if c then are_passed_in x (entries_below m h) r t else (passes_at m r h i t && all_passed x m r h (suc i) ts)) n) ∙ e);
+  passed = λ m r e. (tt, sym (ap (λ c. if c then are_passed_in x (entries_below m h i) r t else (passes_at m r h i t && all_passed x m r h (suc i) ts)) n) ∙ e);
 }
 
 later_one : (x : Name) (b : Bool) (h : Shape) (i : ℕ) (t : Tree) (ts : Trees) → names x t ≡ false → Among x b h (suc i) ts → Among x b h i (t ▸ ts)
@@ -351,10 +457,11 @@ later_one x b h i t ts n a = record {
   earlier = ap (λ c. c || any_names x a.first) n ∙ a.earlier;
   later = a.later;
   leads = a.leads;
+  mentions = a.mentions;
   path = a.path;
   puts = λ r. ap (λ c. if c then put_first x r t ▸ ts else t ▸ put_among x r ts) n ∙ ap (λ us. t ▸ us) (a.puts r);
   passed = λ m r e.
-      let (p, q) = and_parts (passes_at m r h i t) (all_passed x m r h (suc i) ts) (sym (ap (λ c. if c then are_passed_in x (entries_below m h) r t else (passes_at m r h i t && all_passed x m r h (suc i) ts)) n) ∙ e) in
+      let (p, q) = and_parts (passes_at m r h i t) (all_passed x m r h (suc i) ts) (sym (ap (λ c. if c then are_passed_in x (entries_below m h i) r t else (passes_at m r h i t && all_passed x m r h (suc i) ts)) n) ∙ e) in
       let (f, g) = a.passed m r q in
       ((p, f), g);
 }
@@ -373,30 +480,34 @@ at_front x true first one rest n e = refl
 at_front x false none one rest n e = refl
 at_front x false (p ▸ ps) one rest n e = absurd (true≢false (sym (first_true (names x p) (any_names x ps) e) ∙ n))
 
-sure_by : (x : Name) (m : Bool) (r : Tree) (h : Shape) (first : Trees) (one : Tree) (rest : Trees) (s : Bool) → any_names x first ≡ false → ((is_sure m (is_effect_free r) h || is_empty first) ≡ true → s ≡ true) → is_reached x m r h (append first (one ▸ rest)) ≡ true → (is_constant r || s) ≡ true
+sure_by : (x : Name) (m : Bool) (r : Tree) (h : Shape) (first : Trees) (one : Tree) (rest : Trees) (s : Bool) → any_names x first ≡ false → ((is_placed m (is_effect_free r) h && (is_sure (is_effect_free r) h || is_empty first)) ≡ true → s ≡ true) → is_reached x m r h (append first (one ▸ rest)) ≡ true → (is_constant r || s) ≡ true
 sure_by x m r h first one rest s n f e = by (is_constant r) e
   where
-    by : (c : Bool) → (c || (is_sure m (is_effect_free r) h || begins_with x (append first (one ▸ rest)))) ≡ true → (c || s) ≡ true
+    by : (c : Bool) → (c || (is_placed m (is_effect_free r) h && (is_sure (is_effect_free r) h || begins_with x (append first (one ▸ rest))))) ≡ true → (c || s) ≡ true
     by true e = refl
-    by false e = f (at_front x (is_sure m (is_effect_free r) h) first one rest n e)
+    by false e =
+        let (p, q) = and_parts (is_placed m (is_effect_free r) h) (is_sure (is_effect_free r) h || begins_with x (append first (one ▸ rest))) e in
+        f ((λ k. p k && (is_sure (is_effect_free r) h || is_empty first)) ∙ at_front x (is_sure (is_effect_free r) h) first one rest n q)
 
 -- what is asked of the parts of a node
 record Parted (x : Name) (m : Bool) (r : Tree) (h : Shape) (ts : Trees) : Type 0 where
-  suit : suits r h ts ≡ true
+  suit : suits x r h ts ≡ true
   reached : is_reached x m r h ts ≡ true
   all : all_passed x m r h 0 ts ≡ true
 
-parted : (x : Name) (m : Bool) (r : Tree) (h : Shape) (ts : Trees) → suits r h ts && (is_reached x m r h ts && all_passed x m r h 0 ts) ≡ true → Parted x m r h ts
+parted : (x : Name) (m : Bool) (r : Tree) (h : Shape) (ts : Trees) → suits x r h ts && (is_reached x m r h ts && all_passed x m r h 0 ts) ≡ true → Parted x m r h ts
 parted x m r h ts e =
-    let (p, q) = and_parts (suits r h ts) (is_reached x m r h ts && all_passed x m r h 0 ts) e in
+    let (p, q) = and_parts (suits x r h ts) (is_reached x m r h ts && all_passed x m r h 0 ts) e in
     let (a, b) = and_parts (is_reached x m r h ts) (all_passed x m r h 0 ts) q in
     record { suit = p; reached = a; all = b }
 
 one_step : (x : Name) (b : Bool) (h : Shape) (t : Tree) (ts : Trees) → Among x b h 0 (t ▸ ts) → Path x (asked b) (node h [] 0 (t ▸ ts))
 one_step x b h t ts a =
-    let l = lead_by b (is_childless a.one) h a.first a.leads in
+    let l = lead_by b a.one h a.first a.leads in
     let p = a.path in
     let step : Step = record { lead = l.lead; rest = a.rest } in
+    let direct : indirect l.lead (led p.steps (identifier p.read)) ≡ true = ap (indirect l.lead) (sym p.is) ∙ l.direct in
+    let suit : (r : Tree) → suits x r h (append a.first (a.one ▸ a.rest)) ≡ true → suited r l.lead (is_end p.steps) ≡ true = λ r e. ap (suited r l.lead) p.ends ∙ l.suit x r a.rest a.mentions e in
     let along : (r u : Tree) → u ≡ led p.steps r → node h [] 0 (append a.first (u ▸ a.rest)) ≡ led (step ∷ p.steps) r = λ r u e k. node (sym l.is k) [] 0 (append (sym l.front k) (e k ▸ a.rest)) in
     record {
       steps = step ∷ p.steps;
@@ -404,6 +515,7 @@ one_step x b h t ts a =
       well = (subst (Stands (asked b) l.lead) (sym p.ends) l.stands, subst (λ c. Well c p.steps) (sym l.below) p.well);
       spared = ((ap (any_names x) l.front ∙ a.earlier, a.later), p.spared);
       same = p.same;
+      direct = (direct, p.direct);
       is = ap (node h [] 0) a.is ∙ along (identifier p.read) a.one p.is;
       puts = λ r. ap (node h [] 0) (a.puts r) ∙ along r (put_first x r a.one) (p.puts r);
       ends = refl;
@@ -411,12 +523,12 @@ one_step x b h t ts a =
           let d = parted x m r h (t ▸ ts) e in
           let (f, g) = a.passed m r d.all in
           let sure = sure_by x m r h a.first a.one a.rest (surely m (is_effect_free r) l.lead) a.earlier (l.sure m (is_effect_free r)) (subst (λ us. is_reached x m r h us ≡ true) a.is d.reached) in
-          ((subst₂ (λ k us. AllPass m r k 0 us) (sym l.is) (sym l.front) f, sure), subst (λ k. PassedIn (entries_below m k) r p.steps) (sym l.is) (p.passed_in (entries_below m h) r g));
+          let there = allows p.read r l.lead p.steps (suit r (subst (λ us. suits x r h us ≡ true) a.is d.suit)) direct in
+          ((subst₂ (λ k us. AllPass m r k 0 us) (sym l.is) (sym l.front) f, sure, there, suited_whole r l.lead (is_end p.steps) (suit r (subst (λ us. suits x r h us ≡ true) a.is d.suit))), subst₂ (λ k us. PassedIn (entries_below m k (place 0 us)) r p.read.spelling p.steps) (sym l.is) (sym l.front) (p.passed_in (entries_below m h (place 0 a.first)) r g));
       suit_in = λ m r e.
           let d = parted x m r h (t ▸ ts) e in
           let (f, g) = a.passed m r d.all in
-          let suit = l.suit r a.one a.rest refl (subst (λ us. suits r h us ≡ true) a.is d.suit) in
-          (ap (suited r l.lead) p.ends ∙ suit, p.suit_in (entries_below m h) r g);
+          (suit r (subst (λ us. suits x r h us ≡ true) a.is d.suit), p.suit_in (entries_below m h (place 0 a.first)) r g);
     }
 
 mutual
@@ -424,7 +536,7 @@ mutual
   path x true (node h ys n none) e = absurd (true≢false (sym e))
   path x false (node h ys n none) e =
       let (y, is, same) = read_is x (node h ys n none) e in
-      record { steps = []; read = y; well = tt; spared = tt; same = same; is = is; puts = λ r. refl; ends = refl; passed_in = λ m r e. tt; suit_in = λ m r e. tt }
+      record { steps = []; read = y; well = tt; spared = tt; same = same; direct = tt; is = is; puts = λ r. refl; ends = refl; passed_in = λ m r e. tt; suit_in = λ m r e. tt }
   path x b (node h [] zero (t ▸ ts)) e = one_step x b h t ts (among x b h 0 (t ▸ ts) e)
   path x b (node h [] (suc n) (t ▸ ts)) e = absurd (true≢false (sym e))
   path x b (node h (y ∷ ys) n (t ▸ ts)) e = absurd (true≢false (sym e))
@@ -433,9 +545,9 @@ mutual
   among x b h i none e = absurd (true≢false (sym e))
   among x b h i (t ▸ ts) e = by (names x t) refl e (path x (holds_list h i) t) (among x b h (suc i) ts)
     where
-      by : (c : Bool) → names x t ≡ c → (if c then (leads b h i (is_childless t) && (is_first x (holds_list h i) t && not (any_names x ts))) else leads_to x b h (suc i) ts) ≡ true → (is_first x (holds_list h i) t ≡ true → Path x (asked (holds_list h i)) t) → (leads_to x b h (suc i) ts ≡ true → Among x b h (suc i) ts) → Among x b h i (t ▸ ts)
+      by : (c : Bool) → names x t ≡ c → (if c then (leads b h i t && (is_first x (holds_list h i) t && not (any_names x ts))) else leads_to x b h (suc i) ts) ≡ true → (is_first x (holds_list h i) t ≡ true → Path x (asked (holds_list h i)) t) → (leads_to x b h (suc i) ts ≡ true → Among x b h (suc i) ts) → Among x b h i (t ▸ ts)
       by true n e f g =
-          let (l, p) = and_parts (leads b h i (is_childless t)) (is_first x (holds_list h i) t && not (any_names x ts)) e in
+          let (l, p) = and_parts (leads b h i t) (is_first x (holds_list h i) t && not (any_names x ts)) e in
           let (q, o) = and_parts (is_first x (holds_list h i) t) (not (any_names x ts)) p in
           this_one x b h i t ts n l (f q) (not_true (any_names x ts) o)
       by false n e f g = later_one x b h i t ts n (g e)
@@ -453,7 +565,7 @@ mutual
   any_mentioned x b h i none e = absurd (true≢false (sym e))
   any_mentioned x b h i (t ▸ ts) e = by (names x t) e (any_mentioned x b h (suc i) ts)
     where
-      by : (c : Bool) → (if c then (leads b h i (is_childless t) && (is_first x (holds_list h i) t && not (any_names x ts))) else leads_to x b h (suc i) ts) ≡ true → (leads_to x b h (suc i) ts ≡ true → any_names x ts ≡ true) → (c || any_names x ts) ≡ true
+      by : (c : Bool) → (if c then (leads b h i t && (is_first x (holds_list h i) t && not (any_names x ts))) else leads_to x b h (suc i) ts) ≡ true → (leads_to x b h (suc i) ts ≡ true → any_names x ts ≡ true) → (c || any_names x ts) ≡ true
       by true e f = refl
       by false e f = f e
 
@@ -462,8 +574,11 @@ pub record Statement (x : Name) (t : Tree) : Type 0 where
   pub lead : Lead
   pub stands : (b : Bool) → Stands AsWholeItem lead b
   pub front : before lead ≡ none
+  pub allows_any : (b : End) → Allows lead b
+  pub whole_any : (r : Tree) → whole r lead ≡ true
+  pub direct : (u : Tree) → indirect lead u ≡ true
   pub steady : (f : Bool) → surely false f lead ≡ true
-  pub low : entries_below false (shape_by (head_of lead)) ≡ false
+  pub low : entries_below false (shape_by (head_of lead)) 0 ≡ false
   pub below : (c : Asked) → asked_below (head_of lead) c (place 0 (before lead)) ≡ AsValue
   pub inner : Tree
   pub rest : Trees
@@ -475,14 +590,17 @@ pub record Statement (x : Name) (t : Tree) : Type 0 where
   pub passed : (r : Tree) → are_passed x r t ≡ true → are_passed x r inner ≡ true
 
 -- of this lead
-stated : (x : Name) (l : Lead) (t : Tree) (ts : Trees) → ((b : Bool) → Stands AsWholeItem l b) → before l ≡ none → ((f : Bool) → surely false f l ≡ true) → entries_below false (shape_by (head_of l)) ≡ false → ((c : Asked) → asked_below (head_of l) c (place 0 (before l)) ≡ AsValue) → is_first x false t && not (any_names x ts) ≡ true → Statement x (node (shape_by (head_of l)) [] 0 (t ▸ ts))
-stated x l t ts s o d k b e =
+stated : (x : Name) (l : Lead) (t : Tree) (ts : Trees) → ((b : Bool) → Stands AsWholeItem l b) → before l ≡ none → ((b : End) → Allows l b) → ((r : Tree) → whole r l ≡ true) → ((u : Tree) → indirect l u ≡ true) → ((f : Bool) → surely false f l ≡ true) → entries_below false (shape_by (head_of l)) 0 ≡ false → ((c : Asked) → asked_below (head_of l) c (place 0 (before l)) ≡ AsValue) → is_first x false t && not (any_names x ts) ≡ true → Statement x (node (shape_by (head_of l)) [] 0 (t ▸ ts))
+stated x l t ts s o g w i d k b e =
     let (q, f) = and_parts (is_first x false t) (not (any_names x ts)) e in
     let n = mentioned x false t q in
     record {
       lead = l;
       stands = s;
       front = o;
+      allows_any = g;
+      whole_any = w;
+      direct = i;
       steady = d;
       low = k;
       below = b;
@@ -493,15 +611,15 @@ stated x l t ts s o d k b e =
       is = refl;
       puts = λ r. ap (λ c. node (shape_by (head_of l)) [] 0 (if c then put_first x r t ▸ ts else t ▸ put_among x r ts)) n;
       along = λ u. ap (λ us. node (shape_by (head_of l)) [] 0 (append us (u ▸ ts))) (sym o);
-      passed = λ r e. let h = shape_by (head_of l) in sym (ap (λ m. are_passed_in x m r t) k) ∙ sym (ap (λ c. if c then are_passed_in x (entries_below false h) r t else (passes_at false r h 0 t && all_passed x false r h 1 ts)) n) ∙ (parted x false r h (t ▸ ts) e).all;
+      passed = λ r e. let h = shape_by (head_of l) in sym (ap (λ m. are_passed_in x m r t) k) ∙ sym (ap (λ c. if c then are_passed_in x (entries_below false h 0) r t else (passes_at false r h 0 t && all_passed x false r h 1 ts)) n) ∙ (parted x false r h (t ▸ ts) e).all;
     }
 
 pub statement : (x : Name) (t : Tree) → reads_first x t ≡ true → Statement x t
 statement x (node h ys n none) e = absurd (true≢false (sym e))
-statement x (node shape.ExpressionStatement [] zero (t ▸ ts)) e = stated x Doing t ts (λ b. tt) refl (λ f. refl) refl (λ c. refl) e
-statement x (node shape.ReturnStatement [] zero (t ▸ ts)) e = stated x Giving t ts (λ b. tt) refl (λ f. refl) refl (λ c. refl) e
-statement x (node shape.ThrowStatement [] zero (t ▸ ts)) e = stated x Raising t ts (λ b. tt) refl (λ f. refl) refl (λ c. refl) e
-statement x (node shape.IfStatement [] zero (t ▸ ts)) e = stated x Testing t ts (λ b. tt) refl (λ f. refl) refl (λ c. refl) e
+statement x (node shape.ExpressionStatement [] zero (t ▸ ts)) e = stated x Doing t ts (λ b. tt) refl (λ b. tt) (λ r. refl) (λ u. refl) (λ f. refl) refl (λ c. refl) e
+statement x (node shape.ReturnStatement [] zero (t ▸ ts)) e = stated x Giving t ts (λ b. tt) refl (λ b. tt) (λ r. refl) (λ u. refl) (λ f. refl) refl (λ c. refl) e
+statement x (node shape.ThrowStatement [] zero (t ▸ ts)) e = stated x Raising t ts (λ b. tt) refl (λ b. tt) (λ r. refl) (λ u. refl) (λ f. refl) refl (λ c. refl) e
+statement x (node shape.IfStatement [] zero (t ▸ ts)) e = stated x Testing t ts (λ b. tt) refl (λ b. tt) (λ r. refl) (λ u. refl) (λ f. refl) refl (λ c. refl) e
 statement x t e = absurd (true≢false (sym e))
 
 -- a declaration does in its first initializer
@@ -582,7 +700,7 @@ pub record Outside (x : Name) (t : Tree) : Type 0 where
   pub evaluates : evaluated t ≡ t
   pub passed : (r : Tree) → are_passed x r t ≡ true → are_passed x r value ≡ true
 
-outside_of : (x : Name) (s : Seat) (h : Shape) (value : Tree) (ts : Trees) → ((u : Tree) → seated s u ≡ node h [] 0 (u ▸ ts)) → rest s ≡ ts → evaluated (seated s value) ≡ seated s value → entries_below false h ≡ false → is_first x false value && not (any_names x (rest_children 0 ts)) ≡ true → Outside x (seated s value)
+outside_of : (x : Name) (s : Seat) (h : Shape) (value : Tree) (ts : Trees) → ((u : Tree) → seated s u ≡ node h [] 0 (u ▸ ts)) → rest s ≡ ts → evaluated (seated s value) ≡ seated s value → entries_below false h 0 ≡ false → is_first x false value && not (any_names x (rest_children 0 ts)) ≡ true → Outside x (seated s value)
 outside_of x s h value ts there same evaluates low e =
     let (a, b) = and_parts (is_first x false value) (not (any_names x (rest_children 0 ts))) e in
     let n = mentioned x false value a in
@@ -594,7 +712,7 @@ outside_of x s h value ts there same evaluates low e =
       is = refl;
       puts = λ r. ap (put_first x r) (there value) ∙ ap (λ c. node h [] 0 (if c then put_first x r value ▸ ts else value ▸ put_among x r ts)) n ∙ sym (there (put_first x r value));
       evaluates = evaluates;
-      passed = λ r e. sym (ap (λ m. are_passed_in x m r value) low) ∙ sym (ap (λ c. if c then are_passed_in x (entries_below false h) r value else (passes_at false r h 0 value && all_passed x false r h 1 ts)) n) ∙ (parted x false r h (value ▸ ts) (sym (ap (are_passed x r) (there value)) ∙ e)).all;
+      passed = λ r e. sym (ap (λ m. are_passed_in x m r value) low) ∙ sym (ap (λ c. if c then are_passed_in x (entries_below false h 0) r value else (passes_at false r h 0 value && all_passed x false r h 1 ts)) n) ∙ (parted x false r h (value ▸ ts) (sym (ap (are_passed x r) (there value)) ∙ e)).all;
     }
 
 outside : (x : Name) (t : Tree) → reads_outside x t ≡ true → Outside x t

@@ -26,7 +26,7 @@ use Rattle.mini_rows.proofs.BooleanWeights.{moved}
 use Rattle.mini_rows.proofs.ListWeights.{total, in_list, comma_list, declarators_append}
 use Rattle.mini_rows.proofs.ListKeptHeads as opening
 use Rattle.mini_rows.proofs.ListKeptHeads.{Loop, Choice, seated}
-use Rattle.mini_rows.proofs.SingleUse.{Lead, Not, Plus, Minus, Tilde, Emptying, Beside, Deciding, Choosing, Passing, Called, Making, Waiting, Member, Keyed, Holding, Against, Given, Filling, Keying, Following, Branching, Failing, Storing, Gathering, Fielding, Listing, Doing, Giving, Raising, Testing, head_of, before, place, Step, led, is_end, Stands, Well, Initial, heads, path, statement, Outside, Over, Heads, Path}
+use Rattle.mini_rows.proofs.SingleUse.{Lead, Not, Plus, Minus, Tilde, Typing, Emptying, Beside, Deciding, Choosing, Passing, Called, Making, Waiting, Member, Keyed, Linking, Holding, Against, Given, Filling, Keying, Following, Branching, Failing, Storing, Gathering, Fielding, Spreading, Listing, Doing, Giving, Raising, Testing, head_of, before, place, Step, led, is_end, Stands, Well, Initial, heads, path, statement, Outside, Over, Heads, Path}
 
 -- ---- where the steps stand
 
@@ -55,22 +55,25 @@ placed_value Not b s p n = tt
 placed_value Plus b s p n = tt
 placed_value Minus b s p n = tt
 placed_value Tilde b s p n = tt
+placed_value Typing b s p n = tt
 placed_value Emptying b s p n = tt
 placed_value (Beside o) b s p n = tt
 placed_value (Deciding o) b s p n = tt
 placed_value Choosing b s p n = tt
 placed_value Passing b s p n = tt
-placed_value Called b s p n = tt
+placed_value (Called o) b s p n = tt
 placed_value Making b s p n = tt
 placed_value (Waiting d) b s p n = tt
-placed_value Member b s p n = tt
-placed_value Keyed b s p n = tt
+placed_value (Member o) b s p n = tt
+placed_value (Keyed o) b s p n = tt
+placed_value Linking b s p n = tt
 placed_value Holding b s p n = tt
 placed_value Gathering b s p n = tt
+placed_value Spreading b s p n = tt
 placed_value (Against o a) b s p n = tt
-placed_value (Given a) b s p n = tt
+placed_value (Given o a) b s p n = tt
 placed_value (Filling a) b s p n = tt
-placed_value (Keying a) b s p n = tt
+placed_value (Keying o a) b s p n = tt
 placed_value (Following o a) b s p n = tt
 placed_value (Branching a) b s p n = tt
 placed_value (Failing a d) b s p n = tt
@@ -118,22 +121,25 @@ same_value Not b s q t u ts z = refl
 same_value Plus b s q t u ts z = refl
 same_value Minus b s q t u ts z = refl
 same_value Tilde b s q t u ts z = refl
+same_value Typing b s q t u ts z = refl
 same_value Emptying b s q t u ts z = ap (λ c. own_weight (Expr q) (shape.UnaryExpression Void) [] (record (outline t) { is_zero = c } ∷ outlines ts)) z
 same_value (Beside p) b s q t u ts z = refl
 same_value (Deciding p) b s q t u ts z = refl
 same_value Choosing b s q t u ts z = refl
 same_value Passing b s q t u ts z = refl
-same_value Called b s q t u ts z = refl
+same_value (Called o) b s q t u ts z = refl
 same_value Making b s q t u ts z = refl
 same_value (Waiting d) b s q t u ts z = refl
-same_value Member b s q t u ts z = refl
-same_value Keyed b s q t u ts z = refl
+same_value (Member o) b s q t u ts z = refl
+same_value (Keyed o) b s q t u ts z = refl
+same_value Linking b s q t u ts z = refl
 same_value Holding b s q t u ts z = refl
 same_value Gathering b s q t u ts z = refl
+same_value Spreading b s q t u ts z = refl
 same_value (Against o a) b s q t u ts z = refl
-same_value (Given a) b s q t u ts z = refl
+same_value (Given o a) b s q t u ts z = refl
 same_value (Filling a) b s q t u ts z = refl
-same_value (Keying a) b s q t u ts z = refl
+same_value (Keying o a) b s q t u ts z = refl
 same_value (Following o a) b s q t u ts z = refl
 same_value (Branching a) b s q t u ts z = refl
 same_value (Failing a d) b s q t u ts z = refl
@@ -146,22 +152,25 @@ same_there Not b s t u ts z = refl
 same_there Plus b s t u ts z = refl
 same_there Minus b s t u ts z = refl
 same_there Tilde b s t u ts z = refl
+same_there Typing b s t u ts z = refl
 same_there Emptying b s t u ts z = ap (λ c. own_weight Elsewhere (shape.UnaryExpression Void) [] (record (outline t) { is_zero = c } ∷ outlines ts)) z
 same_there (Beside p) b s t u ts z = refl
 same_there (Deciding p) b s t u ts z = refl
 same_there Choosing b s t u ts z = refl
 same_there Passing b s t u ts z = refl
-same_there Called b s t u ts z = refl
+same_there (Called o) b s t u ts z = refl
 same_there Making b s t u ts z = refl
 same_there (Waiting d) b s t u ts z = refl
-same_there Member b s t u ts z = refl
-same_there Keyed b s t u ts z = refl
+same_there (Member o) b s t u ts z = refl
+same_there (Keyed o) b s t u ts z = refl
+same_there Linking b s t u ts z = refl
 same_there Holding b s t u ts z = refl
 same_there Gathering b s t u ts z = refl
+same_there Spreading b s t u ts z = refl
 same_there (Against o a) b s t u ts z = refl
-same_there (Given a) b s t u ts z = refl
+same_there (Given o a) b s t u ts z = refl
 same_there (Filling a) b s t u ts z = refl
-same_there (Keying a) b s t u ts z = refl
+same_there (Keying o a) b s t u ts z = refl
 same_there (Following o a) b s t u ts z = refl
 same_there (Branching a) b s t u ts z = refl
 same_there (Failing a d) b s t u ts z = refl

@@ -23,7 +23,7 @@ use Rattle.mini_node.specs.Children.{names_of}
 use Rattle.mini_node.specs.Kinds.{is_identifier}
 use Rattle.mini_rows.specs.Lists.{block, declaration}
 use Rattle.mini_rows.specs.Declarations.{declarator}
-use Rattle.mini_rows.specs.Unused.{resolved, names, any_names, declared_among, declared_left, lets_go, may_go_on, begins_with, is_first, put_first, is_constant, reads_first, may_move, statements, function_with}
+use Rattle.mini_rows.specs.Unused.{resolved, names, any_names, declared_among, declared_left, lets_go, may_go_on, begins_with, suits, is_placed, is_first, put_first, is_constant, reads_first, may_move, statements, function_with}
 
 -- ---- what may be evaluated before the initializer
 
@@ -92,10 +92,15 @@ is_held H r t = is_identifier t && is_held_name H r (names_of t)
 abbrev pub passes_any : VariableSet → Tree → Tree → Bool
 passes_any H r t = is_constant t || is_held H r t
 
--- so may each part that is evaluated before the variable is read, and the read is reached whatever they are
+-- the part that mentions the name is evaluated whatever those before it are, and r may stand in its place. A property and what is spread are
+-- no such way
+abbrev pub is_certain : Name → Tree → Shape → Trees → Bool
+is_certain x r h ts = suits x r h ts && (is_placed false false h && (not (may_go_on h) || begins_with x ts))
+
+-- so is the read, and each part that is evaluated before it may be evaluated before r
 abbrev mutual
   pub are_past : VariableSet → Name → Tree → Tree → Bool
-  are_past H x r (node h ys n ts) = (not (may_go_on h) || begins_with x ts) && all_past H x r ts
+  are_past H x r (node h ys n ts) = is_certain x r h ts && all_past H x r ts
 
   pub all_past : VariableSet → Name → Tree → Trees → Bool
   all_past H x r none = true

@@ -6,7 +6,7 @@ use Rattle.mini_model.specs.declared.kind.VariableDeclarationKind.{VariableDecla
 use Rattle.mini_model.specs.declared.name.Name.{Name}
 use Rattle.mini_model.specs.declared.operator.AssignmentOperator.{AssignmentOperator}
 use Rattle.mini_model.specs.declared.operator.AssignmentOperator.TheVariants.{Assign}
-use Rattle.mini_model.specs.declared.operator.UnaryOperator.TheVariants.{LogicalNot, UnaryPlus, UnaryNegation, BitwiseNot, Void}
+use Rattle.mini_model.specs.declared.operator.UnaryOperator.TheVariants.{LogicalNot, UnaryPlus, UnaryNegation, BitwiseNot, Typeof, Void}
 use Rattle.mini_model.specs.declared.place.Position.{Position}
 use Rattle.mini_model.specs.declared.place.Position.TheVariants.{Expr, Stmt, Method, Elsewhere}
 use Rattle.mini_model.specs.declared.shape.Shape.{Shape}
@@ -15,7 +15,7 @@ use Rattle.mini_model.specs.Tree.{Tree, Trees, node, none, ◌▸◌, absent, li
 use Rattle.mini_model.specs.Paths.{append}
 use Rattle.mini_model.specs.Weight.{same_text, weight}
 use Rattle.mini_laws.specs.Naming.{is_lexical}
-use Rattle.mini_laws.specs.ScopeList.{has_eval}
+use Rattle.mini_laws.specs.ScopeList.{is_eval, is_eval_callee, has_eval}
 use Rattle.mini_laws.specs.Symbols.{is_same}
 use Rattle.mini_laws.specs.Value.{Declared, VariableSet, nothing}
 use Rattle.mini_laws.specs.Weights.{Lightens}
@@ -24,11 +24,13 @@ use Rattle.mini_node.specs.Children.{names_of, part, is_bare, is_nameless, rest_
 use Rattle.mini_node.specs.Kinds.{is_absent_part, is_listed, is_listed_shape, is_identifier}
 use Rattle.mini_terms.specs.Folds.{is_effect_free}
 use Rattle.mini_terms.specs.Parts.{leaves_nothing}
-use Rattle.mini_terms.specs.Reading.{is_item, is_plain_part}
+use Rattle.mini_terms.specs.Reading.{is_item, is_plain_part, is_typed_by_value}
 use Rattle.mini_rows.specs.Cases.{switch_case}
 use Rattle.mini_rows.specs.Lists.{block, switch, for_loop, declaration, declares_nothing, is_bare_var}
 pub use Rattle.mini_rows.specs.Lists.{resolved}
 use Rattle.mini_rows.specs.Declarations.{binding, declarator}
+use Rattle.mini_rows.specs.Chains.{is_calm}
+use Rattle.mini_rows.specs.ChainLinks.{is_lone_by}
 
 -- whether one of these names has the symbol of this one, or its spelling
 abbrev pub is_like_one : Name → List Name → Bool
@@ -109,26 +111,33 @@ pub record Row72Idle (W : VariableSet) (n w : Tree) : Type 0 where
 
 -- ---- a name that is read once, behind nothing but what may be evaluated after its initializer
 
--- what evaluates its first part before all else, and asks for its value alone. A name that is called by itself isn't such a part:
--- of a member in its place the object would be `this`
-abbrev pub begins : Shape → Bool → Bool
-begins (shape.UnaryExpression LogicalNot) is_leaf = true
-begins (shape.UnaryExpression UnaryPlus) is_leaf = true
-begins (shape.UnaryExpression UnaryNegation) is_leaf = true
-begins (shape.UnaryExpression BitwiseNot) is_leaf = true
-begins (shape.UnaryExpression Void) is_leaf = true
-begins (shape.BinaryExpression o) is_leaf = true
-begins (shape.LogicalExpression o) is_leaf = true
-begins shape.ConditionalExpression is_leaf = true
-begins shape.SequenceExpression is_leaf = true
-begins (shape.CallExpression false) is_leaf = not is_leaf
-begins shape.NewExpression is_leaf = true
-begins shape.ArrayExpression is_leaf = true
-begins shape.ObjectExpression is_leaf = true
-begins (shape.YieldExpression is_delegate) is_leaf = true
-begins (shape.StaticMemberExpression false) is_leaf = true
-begins (shape.ComputedMemberExpression false) is_leaf = true
-begins h is_leaf = false
+abbrev pub is_childless : Tree → Bool
+is_childless (node h ys n none) = true
+is_childless t = false
+
+-- what evaluates this part, its first one, before all else, and asks for its value, for what is called, or for what `typeof` reads. The name
+-- of a direct eval isn't such a part, and what a chain holds is a link
+abbrev pub begins : Shape → Tree → Bool
+begins (shape.UnaryExpression LogicalNot) t = true
+begins (shape.UnaryExpression UnaryPlus) t = true
+begins (shape.UnaryExpression UnaryNegation) t = true
+begins (shape.UnaryExpression BitwiseNot) t = true
+begins (shape.UnaryExpression Typeof) t = true
+begins (shape.UnaryExpression Void) t = true
+begins (shape.BinaryExpression o) t = true
+begins (shape.LogicalExpression o) t = true
+begins shape.ConditionalExpression t = true
+begins shape.SequenceExpression t = true
+begins (shape.CallExpression is_optional) t = not (is_eval_callee t)
+begins shape.NewExpression t = true
+begins shape.ArrayExpression t = true
+begins shape.ObjectExpression t = true
+begins shape.SpreadElement t = true
+begins (shape.YieldExpression is_delegate) t = true
+begins (shape.StaticMemberExpression is_optional) t = true
+begins (shape.ComputedMemberExpression is_optional) t = true
+begins shape.ChainExpression t = not (is_childless t)
+begins h t = false
 
 -- what evaluates its first part and then this one, and asks for the value of this one alone
 abbrev pub goes_on : Shape → Bool
@@ -139,12 +148,15 @@ goes_on (shape.ComputedMemberExpression false) = true
 goes_on h = false
 
 -- what evaluates its first part, or what is assigned to, or a key, and then, if at all, this one, and asks for the value of this one
--- alone. A property that is shorthand isn't such a part: its value repeats its key
+-- alone: a link with `?.` asks for it where its first part is neither undefined nor null. A property that is shorthand isn't such a part: its
+-- value repeats its key
 abbrev pub may_go_on : Shape → Bool
 may_go_on (shape.LogicalExpression o) = true
 may_go_on shape.ConditionalExpression = true
 may_go_on (shape.AssignmentExpression o) = true
 may_go_on (shape.ObjectProperty Init false false is_computed) = true
+may_go_on (shape.CallExpression true) = true
+may_go_on (shape.ComputedMemberExpression true) = true
 may_go_on h = false
 
 -- or it evaluates the third part
@@ -158,11 +170,11 @@ continues (suc zero) h = goes_on h || may_go_on h
 continues (suc (suc zero)) h = has_branches h
 continues i h = false
 
--- an expression, which evaluates the part at the place after those before it, if at all, or a list of parts
-abbrev pub leads : Bool → Shape → ℕ → Bool → Bool
-leads true h i is_leaf = is_listed_shape h
-leads false h zero is_leaf = begins h is_leaf
-leads false h (suc i) is_leaf = continues (suc i) h
+-- an expression, which evaluates this part, at the place, after those before it, if at all, or a list of parts
+abbrev pub leads : Bool → Shape → ℕ → Tree → Bool
+leads true h i t = is_listed_shape h
+leads false h zero t = begins h t
+leads false h (suc i) t = continues (suc i) h
 
 -- its first part is a list: the parts of a sequence, the elements of an array, or the properties of an object
 abbrev pub begins_list : Shape → Bool
@@ -182,10 +194,6 @@ abbrev pub holds_list : Shape → ℕ → Bool
 holds_list h zero = begins_list h
 holds_list h (suc i) = has_arguments h
 
-abbrev pub is_childless : Tree → Bool
-is_childless (node h ys n none) = true
-is_childless t = false
-
 abbrev pub has_symbol_of : Name → List Name → Bool
 has_symbol_of x [] = false
 has_symbol_of x (y ∷ ys) = is_same x.symbol y.symbol
@@ -203,7 +211,7 @@ abbrev mutual
   -- of the parts from a place on, the one that mentions it
   pub leads_to : Name → Bool → Shape → ℕ → Trees → Bool
   leads_to x in_list h i none = false
-  leads_to x in_list h i (t ▸ ts) = if names x t then (leads in_list h i (is_childless t) && (is_first x (holds_list h i) t && not (any_names x ts))) else leads_to x in_list h (suc i) ts
+  leads_to x in_list h i (t ▸ ts) = if names x t then (leads in_list h i t && (is_first x (holds_list h i) t && not (any_names x ts))) else leads_to x in_list h (suc i) ts
 
 -- another tree in the place of what is read there
 abbrev mutual
@@ -284,23 +292,34 @@ passes_at of_entries r (shape.ObjectProperty k is_method is_shorthand is_compute
 passes_at of_entries r shape.Listed i t = passes_item of_entries r t
 passes_at of_entries r h i t = passes r t
 
--- what evaluates the part behind its first one whatever that gives; where r has no effect, it may be left out. A property does as an
--- entry; a key that stands in brackets is converted before its value is evaluated
-abbrev pub is_sure : Bool → Bool → Shape → Bool
-is_sure of_entries is_free (shape.LogicalExpression o) = is_free
-is_sure of_entries is_free shape.ConditionalExpression = is_free
-is_sure of_entries is_free (shape.AssignmentExpression o) = is_plain_assignment o || is_free
-is_sure of_entries is_free (shape.ObjectProperty k is_method is_shorthand is_computed) = not is_computed && (of_entries || is_free)
-is_sure of_entries is_free h = true
+-- what evaluates the part behind its first one whatever that gives; where r has no effect, it may be left out. A key that stands in
+-- brackets is converted before the value is evaluated
+abbrev pub is_sure : Bool → Shape → Bool
+is_sure is_free (shape.LogicalExpression o) = is_free
+is_sure is_free shape.ConditionalExpression = is_free
+is_sure is_free (shape.AssignmentExpression o) = is_plain_assignment o || is_free
+is_sure is_free (shape.ObjectProperty k is_method is_shorthand is_computed) = not is_computed
+is_sure is_free (shape.CallExpression is_optional) = not is_optional || is_free
+is_sure is_free (shape.ComputedMemberExpression is_optional) = not is_optional || is_free
+is_sure is_free h = true
 
--- what asks its first part for entries: an array and an object; so does a list of which they are asked
-abbrev pub holds_entries : Shape → Bool
-holds_entries shape.ArrayExpression = true
-holds_entries shape.ObjectExpression = true
-holds_entries h = false
+-- a property and what is spread stand where an entry is asked, or r has no effect
+abbrev pub is_placed : Bool → Bool → Shape → Bool
+is_placed of_entries is_free (shape.ObjectProperty k is_method is_shorthand is_computed) = of_entries || is_free
+is_placed of_entries is_free shape.SpreadElement = of_entries || is_free
+is_placed of_entries is_free h = true
 
-abbrev pub entries_below : Bool → Shape → Bool
-entries_below of_entries h = holds_entries h || (of_entries && is_listed_shape h)
+-- what asks the part at the place for entries: an array and an object its elements and properties, a call and `new` their arguments; so does
+-- a list of which they are asked
+abbrev pub holds_entries : Shape → ℕ → Bool
+holds_entries shape.ArrayExpression i = true
+holds_entries shape.ObjectExpression i = true
+holds_entries (shape.CallExpression is_optional) (suc i) = true
+holds_entries shape.NewExpression (suc i) = true
+holds_entries h i = false
+
+abbrev pub entries_below : Bool → Shape → ℕ → Bool
+entries_below of_entries h i = holds_entries h i || (of_entries && is_listed_shape h)
 
 -- the first of some parts mentions the name, or there is none
 abbrev pub begins_with : Name → Trees → Bool
@@ -309,30 +328,52 @@ begins_with x (t ▸ ts) = names x t
 
 -- the part that mentions the name is evaluated whatever those before it are; or it needn't be, since r is a constant or has no effect
 abbrev pub is_reached : Name → Bool → Tree → Shape → Trees → Bool
-is_reached x of_entries r h ts = is_constant r || (is_sure of_entries (is_effect_free r) h || begins_with x ts)
+is_reached x of_entries r h ts = is_constant r || (is_placed of_entries (is_effect_free r) h && (is_sure (is_effect_free r) h || begins_with x ts))
 
 abbrev pub is_number_shape : Shape → Bool
 is_number_shape (shape.NumericLiteral n) = true
 is_number_shape h = false
 
-abbrev pub is_minus : Shape → Bool
-is_minus (shape.UnaryExpression UnaryNegation) = true
-is_minus h = false
+-- where it is called, its value is, without a `this`: it is no member and no chain, and no name of a direct eval (ECMA-262, "EvaluateCall")
+abbrev pub is_called_by : Shape → List Name → Bool
+is_called_by shape.Identifier xs = not (is_eval xs)
+is_called_by h xs = is_lone_by h
 
--- r may stand right under it, where the read is its first part: a number under `-` would be another literal
-abbrev pub suits : Tree → Shape → Trees → Bool
-suits r h ts = not (is_minus h && (is_number_shape (shape_of r) && is_childless (child_or_absent ts 0)))
+abbrev pub is_called_by_value : Tree → Bool
+is_called_by_value t = is_called_by (shape_of t) (names_of t)
+
+-- r may stand in the place of a name that is its first part: a number under `-` would be another literal, and `typeof` and a call read more of
+-- some expressions than their value
+abbrev pub suits_under : Tree → Shape → Bool
+suits_under r (shape.UnaryExpression UnaryNegation) = not (is_number_shape (shape_of r))
+suits_under r (shape.UnaryExpression Typeof) = is_typed_by_value r
+suits_under r (shape.CallExpression is_optional) = is_called_by_value r
+suits_under r h = true
+
+-- the first of some parts is such a name, or there is none
+abbrev pub begins_bare : Name → Trees → Bool
+begins_bare x none = true
+begins_bare x (t ▸ ts) = is_childless t && names x t
+
+-- in a chain r ends none around it: each optional link in it stands in a chain of its own
+abbrev pub suits_in : Tree → Shape → Bool
+suits_in r shape.ChainExpression = is_calm r
+suits_in r h = true
+
+-- so it may, where the read is that
+abbrev pub suits : Name → Tree → Shape → Trees → Bool
+suits x r h ts = (not (begins_bare x ts) || suits_under r h) && suits_in r h
 
 -- each part that is evaluated before the variable is read may be evaluated before r, the read is reached whatever they are, and r may stand
 -- in its place
 abbrev mutual
   pub are_passed_in : Name → Bool → Tree → Tree → Bool
-  are_passed_in x of_entries r (node h ys n ts) = suits r h ts && (is_reached x of_entries r h ts && all_passed x of_entries r h 0 ts)
+  are_passed_in x of_entries r (node h ys n ts) = suits x r h ts && (is_reached x of_entries r h ts && all_passed x of_entries r h 0 ts)
 
   -- from a place on
   pub all_passed : Name → Bool → Tree → Shape → ℕ → Trees → Bool
   all_passed x of_entries r h i none = true
-  all_passed x of_entries r h i (t ▸ ts) = if names x t then are_passed_in x (entries_below of_entries h) r t else (passes_at of_entries r h i t && all_passed x of_entries r h (suc i) ts)
+  all_passed x of_entries r h i (t ▸ ts) = if names x t then are_passed_in x (entries_below of_entries h i) r t else (passes_at of_entries r h i t && all_passed x of_entries r h (suc i) ts)
 
 -- of which no entry is asked
 abbrev pub are_passed : Name → Tree → Tree → Bool

@@ -1,4 +1,5 @@
 pub mod Operands
+pub mod CalmParts
 pub mod Evaluating
 pub mod Standing
 pub mod Unused

@@ -213,9 +213,9 @@ mutual
   lead_counted n x c h i none e = absurd (true≢false (sym e))
   lead_counted n x c h i (t ▸ ts) e = by (names x t) e (first_counted n x (holds_list h i) t) (lead_counted n x c h (suc i) ts)
     where
-      by : (d : Bool) → (if d then (leads c h i (is_childless t) && (is_first x (holds_list h i) t && not (any_names x ts))) else leads_to x c h (suc i) ts) ≡ true → (is_first x (holds_list h i) t ≡ true → 1 ≤ tally (bucket true n) (bucket true n x) t) → (leads_to x c h (suc i) ts ≡ true → 1 ≤ tallies (bucket true n) (bucket true n x) ts) → 1 ≤ tallies (bucket true n) (bucket true n x) (t ▸ ts)
+      by : (d : Bool) → (if d then (leads c h i t && (is_first x (holds_list h i) t && not (any_names x ts))) else leads_to x c h (suc i) ts) ≡ true → (is_first x (holds_list h i) t ≡ true → 1 ≤ tally (bucket true n) (bucket true n x) t) → (leads_to x c h (suc i) ts ≡ true → 1 ≤ tallies (bucket true n) (bucket true n x) ts) → 1 ≤ tallies (bucket true n) (bucket true n x) (t ▸ ts)
       by true e one others =
-          let (l, p) = and_parts (leads c h i (is_childless t)) (is_first x (holds_list h i) t && not (any_names x ts)) e in
+          let (l, p) = and_parts (leads c h i t) (is_first x (holds_list h i) t && not (any_names x ts)) e in
           let there = one (and_parts (is_first x (holds_list h i) t) (not (any_names x ts)) p).0 in
           omega (arith, there)
       by false e one others = let there = others e in omega (arith, there)

@@ -18,7 +18,7 @@ use Rattle.mini_node.specs.Walks.{next_child}
 use Rattle.mini_terms.specs.Folds.{is_effect_free}
 use Rattle.mini_rows.specs.Lists.{block, declaration}
 use Rattle.mini_rows.specs.Declarations.{binding, declarator}
-use Rattle.mini_rows.specs.Unused.{resolved, declared_among, declared_left, names, any_names, is_reached, leads, has_arguments, holds_list, is_childless, is_written_value, is_value_operator, is_constant, reads, is_first, leads_to, put_first, put_among, passes_branch, passes_at, is_sure, entries_below, suits, are_passed_in, are_passed, all_passed, is_head_shape, reads_first, reads_head, evaluated, may_move, lets_go, Row71}
+use Rattle.mini_rows.specs.Unused.{resolved, declared_among, declared_left, names, any_names, is_reached, leads, has_arguments, holds_list, is_childless, is_written_value, is_value_operator, is_constant, reads, is_first, leads_to, put_first, put_among, passes_branch, passes_at, is_sure, is_placed, holds_entries, entries_below, begins_bare, suits, are_passed_in, are_passed, all_passed, is_head_shape, reads_first, reads_head, evaluated, may_move, lets_go, Row71}
 use Rattle.mini_unused.specs.RemoveUnusedDeclaration.{declares_name, is_lexical_shape, declares_list, may_lose, is_free_at, list_at}
 use Rattle.mini_unused.specs.SubstituteNext.{put_named}
 use Rattle.mini_unused.specs.SubstituteSingleUse.{mention_place, may_lead, all_pass, is_reached_at, may_reach, is_head, reads_here, last_place, is_declared_over, is_mentioned_around, reads_next, is_read_once, is_single_declarator, is_single, declaration_left, list_single}
@@ -39,7 +39,7 @@ no_first none = refl
 no_first (t ▸ ts) = refl
 
 -- where a part leads at all
-pub leads_further : (h : Shape) (i : ℕ) (c : Bool) → (i ≡ 0 → ⊥) → (i ≡ 1 → ⊥) → (i ≡ 2 → ⊥) → leads false h i c ≡ false
+pub leads_further : (h : Shape) (i : ℕ) (c : Tree) → (i ≡ 0 → ⊥) → (i ≡ 1 → ⊥) → (i ≡ 2 → ⊥) → leads false h i c ≡ false
 leads_further h zero c f g k = absurd (f refl)
 leads_further h (suc zero) c f g k = absurd (g refl)
 leads_further h (suc (suc zero)) c f g k = absurd (k refl)
@@ -53,11 +53,23 @@ pub branch_further : (r : Tree) (i : ℕ) (t : Tree) → (i ≡ 0 → ⊥) → p
 branch_further r zero t f = absurd (f refl)
 branch_further r (suc i) t f = refl
 
-pub no_leaf : (ts : Trees) → count ts ≡ 0 → is_childless (child_or_absent ts 0) ≡ true
-no_leaf none e = refl
-no_leaf (t ▸ ts) e = absurd (omega (arith, e))
+pub bare_none : (x : Name) (ts : Trees) → count ts ≡ 0 → begins_bare x ts ≡ true
+bare_none x none e = refl
+bare_none x (t ▸ ts) e = absurd (omega (arith, e))
 
-pub reached_further : (m : Bool) (r : Tree) (h : Shape) (i : ℕ) → (i ≡ 0 → ⊥) → is_reached_at m r h i ≡ (is_constant r || is_sure m (is_effect_free r) h)
+pub bare_some : (x : Name) (ts : Trees) (t : Tree) → 0 < count ts → t ≡ child_or_absent ts 0 → begins_bare x ts ≡ (is_childless t && names x t)
+bare_some x none t h e = absurd (omega (arith, h))
+bare_some x (u ▸ ts) t h e = ap (λ v. is_childless v && names x v) (sym e)
+
+pub entries_further : (h : Shape) (i : ℕ) → (i ≡ 0 → ⊥) → holds_entries h i ≡ holds_entries h 1
+entries_further h zero f = absurd (f refl)
+entries_further shape.ArrayExpression (suc i) f = refl
+entries_further shape.ObjectExpression (suc i) f = refl
+entries_further (shape.CallExpression o) (suc i) f = refl
+entries_further shape.NewExpression (suc i) f = refl
+entries_further h (suc i) f = refl
+
+pub reached_further : (m : Bool) (r : Tree) (h : Shape) (i : ℕ) → (i ≡ 0 → ⊥) → is_reached_at m r h i ≡ (is_constant r || (is_placed m (is_effect_free r) h && is_sure (is_effect_free r) h))
 reached_further m r h zero f = absurd (f refl)
 reached_further m r h (suc i) f = refl
 
@@ -95,10 +107,10 @@ each_bool P false f g = g refl
 
 -- the part at a place, where there is one
 abbrev leads_there : Name → Bool → Shape → ℕ → ℕ → Trees → Bool
-leads_there x b h i p ts = leads b h i (is_childless (child_or_absent ts p)) && (is_first x (holds_list h i) (child_or_absent ts p) && not (any_names x (rest_children (suc p) ts)))
+leads_there x b h i p ts = leads b h i (child_or_absent ts p) && (is_first x (holds_list h i) (child_or_absent ts p) && not (any_names x (rest_children (suc p) ts)))
 
 abbrev leads_one : Name → Bool → Shape → ℕ → Tree → Trees → Bool → Bool
-leads_one x b h i t ts c = if c then (leads b h i (is_childless t) && (is_first x (holds_list h i) t && not (any_names x ts))) else leads_to x b h (suc i) ts
+leads_one x b h i t ts c = if c then (leads b h i t && (is_first x (holds_list h i) t && not (any_names x ts))) else leads_to x b h (suc i) ts
 
 leads_at : (x : Name) (b : Bool) (h : Shape) (i : ℕ) (ts : Trees) → mention_place x ts < count ts → leads_to x b h i ts ≡ leads_there x b h (i + mention_place x ts) (mention_place x ts) ts
 leads_at x b h i none l = absurd (omega (arith, l))
@@ -106,7 +118,7 @@ leads_at x b h i (t ▸ ts) l = by (names x t) refl l (leads_at x b h (suc i) ts
   where
     by : (c : Bool) → names x t ≡ c → mention_place x (t ▸ ts) < count (t ▸ ts) → (mention_place x ts < count ts → leads_to x b h (suc i) ts ≡ leads_there x b h (suc i + mention_place x ts) (mention_place x ts) ts) → leads_to x b h i (t ▸ ts) ≡ leads_there x b h (i + mention_place x (t ▸ ts)) (mention_place x (t ▸ ts)) (t ▸ ts)
     by true e l f =
-        ap (leads_one x b h i t ts) e ∙ (λ k. leads b h i (is_childless t) && (is_first x (holds_list h i) t && not (any_names x (sym (no_first ts) k)))) ∙ sym (ap (λ p. leads_there x b h (i + p) p (t ▸ ts)) (place_here x t ts e) ∙ ap (λ j. leads_there x b h j 0 (t ▸ ts)) (omega arith))
+        ap (leads_one x b h i t ts) e ∙ (λ k. leads b h i t && (is_first x (holds_list h i) t && not (any_names x (sym (no_first ts) k)))) ∙ sym (ap (λ p. leads_there x b h (i + p) p (t ▸ ts)) (place_here x t ts e) ∙ ap (λ j. leads_there x b h j 0 (t ▸ ts)) (omega arith))
     by false e l f =
         let q = mention_place x ts in
         let later = place_later x t ts e in
@@ -118,7 +130,7 @@ leads_nowhere x b h i (t ▸ ts) l = by (names x t) refl l (leads_nowhere x b h 
   where
     by : (c : Bool) → names x t ≡ c → count (t ▸ ts) ≤ mention_place x (t ▸ ts) → (count ts ≤ mention_place x ts → leads_to x b h (suc i) ts ≡ false) → leads_to x b h i (t ▸ ts) ≡ false
     by true e l f = let here = place_here x t ts e in absurd (omega (arith, l, here))
-    by false e l f = let later = place_later x t ts e in ap (λ c. if c then (leads b h i (is_childless t) && (is_first x (holds_list h i) t && not (any_names x ts))) else leads_to x b h (suc i) ts) e ∙ f (omega (arith, l, later))
+    by false e l f = let later = place_later x t ts e in ap (λ c. if c then (leads b h i t && (is_first x (holds_list h i) t && not (any_names x ts))) else leads_to x b h (suc i) ts) e ∙ f (omega (arith, l, later))
 
 and_false : (a : Bool) → (a && false) ≡ false
 and_false true = refl
@@ -141,7 +153,7 @@ first_by x b (node h xs n (t ▸ ts)) p m f a e l g i k =
     let us : Trees = t ▸ ts in
     let same = is_nameless (node h xs n us) in
     let there = leads_at x b h 0 us (omega (arith, e, l)) ∙ ap (λ j. leads_there x b h j (mention_place x us) us) (omega arith) ∙ sym (ap (λ j. leads_there x b h j j us) e) in
-    ap (λ c. same && c) there ∙ and_turned same (leads b h p (is_childless (child_or_absent us p))) (is_first x (holds_list h p) (child_or_absent us p) && not (any_names x (rest_children (suc p) us))) ∙ sym (λ j. g j && (i j && not (k j)))
+    ap (λ c. same && c) there ∙ and_turned same (leads b h p (child_or_absent us p)) (is_first x (holds_list h p) (child_or_absent us p) && not (any_names x (rest_children (suc p) us))) ∙ sym (λ j. g j && (i j && not (k j)))
 
 pub not_mentioned : (x : Name) (b : Bool) (t : Tree) (p : ℕ) → 0 < count (children t) → p ≡ mention_place x (children t) → count (children t) ≤ p → is_first x b t ≡ false
 not_mentioned x b (node h xs n none) p s e l = absurd (omega (arith, s))
@@ -224,21 +236,23 @@ all_stopped m r h ts i w c l k e p = go 0 ts i w i (omega arith) l k e p
     go n (t ▸ ts) (suc i) (suc w) j o l k e p = ap (λ b. passes_at m r h n t && b) (go (suc n) ts i w j (omega (arith, o)) (omega (arith, l)) (omega (arith, k)) e p) ∙ and_false (passes_at m r h n t)
 
 -- up to a place, and there
-abbrev passed_there : Name → Bool → Tree → Shape → ℕ → Trees → ℕ → Bool
-passed_there x m r h i ts p = all_pass m r h i (first_children p ts) && are_passed_in x (entries_below m h) r (child_or_absent ts p)
+abbrev passed_there : Name → Bool → Tree → Shape → ℕ → ℕ → Trees → ℕ → Bool
+passed_there x m r h i j ts p = all_pass m r h i (first_children p ts) && are_passed_in x (entries_below m h j) r (child_or_absent ts p)
 
 abbrev passed_one : Name → Bool → Tree → Shape → ℕ → Tree → Trees → Bool → Bool
-passed_one x m r h i t ts c = if c then are_passed_in x (entries_below m h) r t else (passes_at m r h i t && all_passed x m r h (suc i) ts)
+passed_one x m r h i t ts c = if c then are_passed_in x (entries_below m h i) r t else (passes_at m r h i t && all_passed x m r h (suc i) ts)
 
-passed_at : (x : Name) (m : Bool) (r : Tree) (h : Shape) (i : ℕ) (ts : Trees) → mention_place x ts < count ts → all_passed x m r h i ts ≡ passed_there x m r h i ts (mention_place x ts)
+passed_at : (x : Name) (m : Bool) (r : Tree) (h : Shape) (i : ℕ) (ts : Trees) → mention_place x ts < count ts → all_passed x m r h i ts ≡ passed_there x m r h i (i + mention_place x ts) ts (mention_place x ts)
 passed_at x m r h i none l = absurd (omega (arith, l))
 passed_at x m r h i (t ▸ ts) l = by (names x t) refl l (passed_at x m r h (suc i) ts)
   where
-    by : (c : Bool) → names x t ≡ c → mention_place x (t ▸ ts) < count (t ▸ ts) → (mention_place x ts < count ts → all_passed x m r h (suc i) ts ≡ passed_there x m r h (suc i) ts (mention_place x ts)) → all_passed x m r h i (t ▸ ts) ≡ passed_there x m r h i (t ▸ ts) (mention_place x (t ▸ ts))
-    by true e l f = ap (passed_one x m r h i t ts) e ∙ sym (ap (passed_there x m r h i (t ▸ ts)) (place_here x t ts e))
+    by : (c : Bool) → names x t ≡ c → mention_place x (t ▸ ts) < count (t ▸ ts) → (mention_place x ts < count ts → all_passed x m r h (suc i) ts ≡ passed_there x m r h (suc i) (suc i + mention_place x ts) ts (mention_place x ts)) → all_passed x m r h i (t ▸ ts) ≡ passed_there x m r h i (i + mention_place x (t ▸ ts)) (t ▸ ts) (mention_place x (t ▸ ts))
+    by true e l f = ap (passed_one x m r h i t ts) e ∙ sym (ap (λ p. passed_there x m r h i (i + p) (t ▸ ts) p) (place_here x t ts e) ∙ ap (λ j. passed_there x m r h i j (t ▸ ts) 0) (omega arith))
     by false e l f =
+        let q = mention_place x ts in
         let later = place_later x t ts e in
-        ap (passed_one x m r h i t ts) e ∙ ap (λ c. passes_at m r h i t && c) (f (omega (arith, l, later))) ∙ and_assoc (passes_at m r h i t) (all_pass m r h (suc i) (first_children (mention_place x ts) ts)) (are_passed_in x (entries_below m h) r (child_or_absent ts (mention_place x ts))) ∙ sym (ap (passed_there x m r h i (t ▸ ts)) later)
+        ap (passed_one x m r h i t ts) e ∙ ap (λ c. passes_at m r h i t && c) (f (omega (arith, l, later))) ∙ and_assoc (passes_at m r h i t) (all_pass m r h (suc i) (first_children q ts)) (are_passed_in x (entries_below m h (suc i + q)) r (child_or_absent ts q))
+        ∙ sym (ap (λ p. passed_there x m r h i (i + p) (t ▸ ts) p) later ∙ ap (λ j. passed_there x m r h i j (t ▸ ts) (suc q)) (omega arith))
 
 passed_nowhere : (x : Name) (m : Bool) (r : Tree) (h : Shape) (i : ℕ) (ts : Trees) → count ts ≤ mention_place x ts → all_passed x m r h i ts ≡ all_pass m r h i (first_children (count ts) ts)
 passed_nowhere x m r h i none l = refl
@@ -249,23 +263,25 @@ passed_nowhere x m r h i (t ▸ ts) l = by (names x t) refl l (passed_nowhere x 
     by false e l f = let later = place_later x t ts e in ap (passed_one x m r h i t ts) e ∙ ap (λ c. passes_at m r h i t && c) (f (omega (arith, l, later)))
 
 -- the part that mentions the name, by its place
-or_all : (a b : Bool) → (a || (b || true)) ≡ true
-or_all true b = refl
-or_all false true = refl
-or_all false false = refl
+begun_at : (a b c : Bool) → (a || (b && (c || true))) ≡ (a || b)
+begun_at true b c = refl
+begun_at false true true = refl
+begun_at false true false = refl
+begun_at false false c = refl
 
-or_none : (a b : Bool) → (a || (b || false)) ≡ (a || b)
-or_none true b = refl
-or_none false true = refl
-or_none false false = refl
+later_at : (a b c : Bool) → (a || (b && (c || false))) ≡ (a || (b && c))
+later_at true b c = refl
+later_at false true true = refl
+later_at false true false = refl
+later_at false false c = refl
 
 reached_place : (x : Name) (m : Bool) (r : Tree) (h : Shape) (ts : Trees) → is_reached x m r h ts ≡ is_reached_at m r h (mention_place x ts)
-reached_place x m r h none = or_all (is_constant r) (is_sure m (is_effect_free r) h)
+reached_place x m r h none = begun_at (is_constant r) (is_placed m (is_effect_free r) h) (is_sure (is_effect_free r) h)
 reached_place x m r h (t ▸ ts) = by (names x t) refl
   where
     by : (c : Bool) → names x t ≡ c → is_reached x m r h (t ▸ ts) ≡ is_reached_at m r h (mention_place x (t ▸ ts))
-    by true e = ap (λ c. is_constant r || (is_sure m (is_effect_free r) h || c)) e ∙ or_all (is_constant r) (is_sure m (is_effect_free r) h) ∙ sym (ap (is_reached_at m r h) (place_here x t ts e))
-    by false e = ap (λ c. is_constant r || (is_sure m (is_effect_free r) h || c)) e ∙ or_none (is_constant r) (is_sure m (is_effect_free r) h) ∙ sym (ap (is_reached_at m r h) (place_later x t ts e))
+    by true e = ap (λ c. is_constant r || (is_placed m (is_effect_free r) h && (is_sure (is_effect_free r) h || c))) e ∙ begun_at (is_constant r) (is_placed m (is_effect_free r) h) (is_sure (is_effect_free r) h) ∙ sym (ap (is_reached_at m r h) (place_here x t ts e))
+    by false e = ap (λ c. is_constant r || (is_placed m (is_effect_free r) h && (is_sure (is_effect_free r) h || c))) e ∙ later_at (is_constant r) (is_placed m (is_effect_free r) h) (is_sure (is_effect_free r) h) ∙ sym (ap (is_reached_at m r h) (place_later x t ts e))
 
 reached_by : (x : Name) (m : Bool) (r : Tree) (h : Shape) (ts : Trees) (p : ℕ) → p ≡ mention_place x ts → is_reached x m r h ts ≡ is_reached_at m r h p
 reached_by x m r h ts p e = reached_place x m r h ts ∙ sym (ap (is_reached_at m r h) e)
@@ -276,7 +292,7 @@ none_passed x m r h ts p e f = by (ltb p (count ts)) refl
     by : (b : Bool) → ltb p (count ts) ≡ b → all_passed x m r h 0 ts ≡ false
     by true k =
         let less = ltb-true p (count ts) k in
-        passed_at x m r h 0 ts (omega (arith, e, less)) ∙ sym (ap (passed_there x m r h 0 ts) e) ∙ ap (λ c. c && are_passed_in x (entries_below m h) r (child_or_absent ts p)) f
+        passed_at x m r h 0 ts (omega (arith, e, less)) ∙ sym (ap (λ q. passed_there x m r h 0 (0 + q) ts q) e) ∙ ap (λ c. c && are_passed_in x (entries_below m h (0 + p)) r (child_or_absent ts p)) f
     by false k =
         let more = ltb-false p (count ts) k in
         let within = place_within x ts in
@@ -287,32 +303,32 @@ none_passed x m r h ts p e f = by (ltb p (count ts)) refl
 abbrev before_passed : Name → Bool → Tree → Shape → Trees → Bool → Bool → Bool
 before_passed x m r h ts a b = a && (b && all_passed x m r h 0 ts)
 
-pub passed_none : (x : Name) (m : Bool) (r t : Tree) (p : ℕ) → p ≡ mention_place x (children t) → may_reach m r t p ≡ false → are_passed_in x m r t ≡ false
-passed_none x m r (node h xs n ts) p e f = by (suits r h ts) (is_reached_at m r h p) refl refl f
+pub passed_none : (x : Name) (m : Bool) (r t : Tree) (p : ℕ) → p ≡ mention_place x (children t) → may_reach x m r t p ≡ false → are_passed_in x m r t ≡ false
+passed_none x m r (node h xs n ts) p e f = by (suits x r h ts) (is_reached_at m r h p) refl refl f
   where
-    by : (a b : Bool) → suits r h ts ≡ a → is_reached_at m r h p ≡ b → (a && (b && all_pass m r h 0 (first_children p ts))) ≡ false → (suits r h ts && (is_reached x m r h ts && all_passed x m r h 0 ts)) ≡ false
+    by : (a b : Bool) → suits x r h ts ≡ a → is_reached_at m r h p ≡ b → (a && (b && all_pass m r h 0 (first_children p ts))) ≡ false → (suits x r h ts && (is_reached x m r h ts && all_passed x m r h 0 ts)) ≡ false
     by false b j k f = ap (λ c. c && (is_reached x m r h ts && all_passed x m r h 0 ts)) j
     by true true j k f = (λ q. before_passed x m r h ts (j q) ((reached_by x m r h ts p e ∙ k) q)) ∙ none_passed x m r h ts p e f
     by true false j k f = λ q. before_passed x m r h ts (j q) ((reached_by x m r h ts p e ∙ k) q)
 
 -- it is as what is asked of the parts before
-reached_all : (x : Name) (m : Bool) (r : Tree) (h : Shape) (ts : Trees) (p : ℕ) → p ≡ mention_place x ts → (suits r h ts && (is_reached_at m r h p && all_pass m r h 0 (first_children p ts))) ≡ true → ((suits r h ts && (is_reached x m r h ts && all_passed x m r h 0 ts)) ≡ all_passed x m r h 0 ts) × (all_pass m r h 0 (first_children p ts) ≡ true)
+reached_all : (x : Name) (m : Bool) (r : Tree) (h : Shape) (ts : Trees) (p : ℕ) → p ≡ mention_place x ts → (suits x r h ts && (is_reached_at m r h p && all_pass m r h 0 (first_children p ts))) ≡ true → ((suits x r h ts && (is_reached x m r h ts && all_passed x m r h 0 ts)) ≡ all_passed x m r h 0 ts) × (all_pass m r h 0 (first_children p ts) ≡ true)
 reached_all x m r h ts p e f =
-    let (j, g) = and_parts (suits r h ts) (is_reached_at m r h p && all_pass m r h 0 (first_children p ts)) f in
+    let (j, g) = and_parts (suits x r h ts) (is_reached_at m r h p && all_pass m r h 0 (first_children p ts)) f in
     let (k, a) = and_parts (is_reached_at m r h p) (all_pass m r h 0 (first_children p ts)) g in
     (λ q. before_passed x m r h ts (j q) ((reached_by x m r h ts p e ∙ k) q), a)
 
-pub passed_all : (x : Name) (m : Bool) (r t : Tree) (p : ℕ) → p ≡ mention_place x (children t) → count (children t) ≤ p → may_reach m r t p ≡ true → are_passed_in x m r t ≡ true
+pub passed_all : (x : Name) (m : Bool) (r t : Tree) (p : ℕ) → p ≡ mention_place x (children t) → count (children t) ≤ p → may_reach x m r t p ≡ true → are_passed_in x m r t ≡ true
 passed_all x m r (node h xs n ts) p e l f =
     let (k, g) = reached_all x m r h ts p e f in
     let within = place_within x ts in
     let same : count ts ≡ p = omega (arith, e, l, within) in
     k ∙ passed_nowhere x m r h 0 ts (omega (arith, e, l)) ∙ ap (λ j. all_pass m r h 0 (first_children j ts)) same ∙ g
 
-pub passed_below : (x : Name) (m : Bool) (r t : Tree) (p : ℕ) → p ≡ mention_place x (children t) → p < count (children t) → may_reach m r t p ≡ true → are_passed_in x m r t ≡ are_passed_in x (entries_below m (shape_of t)) r (part t p)
+pub passed_below : (x : Name) (m : Bool) (r t : Tree) (p : ℕ) → p ≡ mention_place x (children t) → p < count (children t) → may_reach x m r t p ≡ true → are_passed_in x m r t ≡ are_passed_in x (entries_below m (shape_of t) p) r (part t p)
 passed_below x m r (node h xs n ts) p e l f =
     let (k, g) = reached_all x m r h ts p e f in
-    k ∙ passed_at x m r h 0 ts (omega (arith, e, l)) ∙ sym (ap (passed_there x m r h 0 ts) e) ∙ ap (λ c. c && are_passed_in x (entries_below m h) r (child_or_absent ts p)) g
+    k ∙ passed_at x m r h 0 ts (omega (arith, e, l)) ∙ sym (ap (λ q. passed_there x m r h 0 (0 + q) ts q) e) ∙ ap (λ c. c && are_passed_in x (entries_below m h (0 + p)) r (child_or_absent ts p)) g ∙ ap (λ j. are_passed_in x (entries_below m h j) r (child_or_absent ts p)) (omega arith)
 
 -- of a statement
 

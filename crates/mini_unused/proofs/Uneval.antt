@@ -7,12 +7,12 @@ use Rattle.mini_model.specs.declared.name.Name.{Name}
 use Rattle.mini_model.specs.declared.shape.Shape.{Shape}
 use Rattle.mini_model.specs.declared.shape.Shape.TheVariants as shape
 use Rattle.mini_model.specs.Tree.{Tree, Trees, node, none, ◌▸◌, absent, listed, shape_of, children, child_or_absent, empty_statement, expression_statement}
-use Rattle.mini_laws.specs.ScopeList.{has_eval, any_has_eval, is_eval_call, is_eval_callee}
+use Rattle.mini_laws.specs.ScopeList.{has_eval, any_has_eval, is_eval, is_eval_call, is_eval_callee}
 use Rattle.mini_laws.specs.Value.{VariableSet}
 use Rattle.mini_node.specs.Children.{names_of, part, with_child, with_part, without, is_bare, is_nameless}
 use Rattle.mini_node.specs.Kinds.{is_listed}
 use Rattle.mini_rows.specs.Lists.{declaration, Each, EachIn, EachOf, each_loop}
-use Rattle.mini_rows.specs.Unused.{is_idle, any_names, names, begins, goes_on, may_go_on, has_branches, leads, holds_list, is_childless, is_first, leads_to, put_first, put_among, are_passed, is_head_shape, reads_first, reads_head, evaluated, may_move}
+use Rattle.mini_rows.specs.Unused.{is_idle, any_names, names, begins, goes_on, may_go_on, has_branches, leads, holds_list, is_childless, is_first, leads_to, put_first, put_among, is_reached, entries_below, passes_at, is_called_by_value, suits, are_passed, are_passed_in, all_passed, is_head_shape, reads_first, reads_head, evaluated, may_move}
 use Rattle.mini_unused.specs.RemoveUnusedDeclaration.{declares_list, declares_name, may_lose, is_free_at, is_unused_declarator, list_at, statement_left, let_left}
 use Rattle.mini_rows.specs.Declarations.{declarator}
 use Rattle.mini_unused.specs.SubstituteNext.{reads_then, put_named, is_declarator, is_mentioned_beside, is_mentioned_elsewhere, is_read_then, declarators_next, NextGone}
@@ -113,7 +113,7 @@ declaration_without t j d e = chosen (is_bare (part t 0) 1) empty_statement (let
 
 -- ---- what has another tree in the place of what is read first: no callee that is a name
 
-begun : (h : Shape) (c : Bool) → begins h c ≡ true → (xs : List Name) (n : ℕ) (ts : Trees) → is_eval_callee (node h xs n ts) ≡ false
+begun : (h : Shape) (c : Tree) → begins h c ≡ true → (xs : List Name) (n : ℕ) (ts : Trees) → is_eval_callee (node h xs n ts) ≡ false
 begun shape.Identifier c e xs n ts = absurd (true≢false (sym e))
 begun h c e xs n ts = refl
 
@@ -125,7 +125,7 @@ branched : (h : Shape) → has_branches h ≡ true → (xs : List Name) (n : ℕ
 branched shape.Identifier e xs n ts = absurd (true≢false (sym e))
 branched h e xs n ts = refl
 
-led_by : (h : Shape) (i : ℕ) (c : Bool) → leads false h i c ≡ true → (xs : List Name) (n : ℕ) (ts : Trees) → is_eval_callee (node h xs n ts) ≡ false
+led_by : (h : Shape) (i : ℕ) (c : Tree) → leads false h i c ≡ true → (xs : List Name) (n : ℕ) (ts : Trees) → is_eval_callee (node h xs n ts) ≡ false
 led_by h zero c e = begun h c e
 led_by h (suc zero) c e = gone_on h e
 led_by h (suc (suc zero)) c e = branched h e
@@ -134,29 +134,63 @@ led_by h (suc (suc (suc i))) c e = absurd (true≢false (sym e))
 -- of some parts from a place on, the one that leads there
 record Leading (x : Name) (h : Shape) (i : ℕ) (ts : Trees) : Type 0 where
   at : ℕ
-  leaf : Bool
-  leads : leads false h at leaf ≡ true
+  part : Tree
+  leads : leads false h at part ≡ true
 
 leading : (x : Name) (h : Shape) (i : ℕ) (ts : Trees) → leads_to x false h i ts ≡ true → Leading x h i ts
 leading x h i none e = absurd (true≢false (sym e))
 leading x h i (t ▸ ts) e = by (names x t) e (leading x h (suc i) ts)
   where
-    by : (c : Bool) → (if c then (leads false h i (is_childless t) && (is_first x (holds_list h i) t && not (any_names x ts))) else leads_to x false h (suc i) ts) ≡ true → (leads_to x false h (suc i) ts ≡ true → Leading x h (suc i) ts) → Leading x h i (t ▸ ts)
-    by true e f = record { at = i; leaf = is_childless t; leads = (and_parts (leads false h i (is_childless t)) (is_first x (holds_list h i) t && not (any_names x ts)) e).0 }
-    by false e f = let l = f e in record { at = l.at; leaf = l.leaf; leads = l.leads }
+    by : (c : Bool) → (if c then (leads false h i t && (is_first x (holds_list h i) t && not (any_names x ts))) else leads_to x false h (suc i) ts) ≡ true → (leads_to x false h (suc i) ts ≡ true → Leading x h (suc i) ts) → Leading x h i (t ▸ ts)
+    by true e f = record { at = i; part = t; leads = (and_parts (leads false h i t) (is_first x (holds_list h i) t && not (any_names x ts)) e).0 }
+    by false e f = let l = f e in record { at = l.at; part = l.part; leads = l.leads }
 
 -- a callee that is no name alone, with the tree in it
 callee : (x : Name) (r t : Tree) → is_childless t ≡ false → is_first x false t ≡ true → is_eval_callee (put_first x r t) ≡ false
 callee x r (node h ys n none) c e = absurd (true≢false c)
 callee x r (node h ys n (t ▸ ts)) c e =
     let l = leading x h 0 (t ▸ ts) (and_parts (is_nameless (node h ys n (t ▸ ts))) (leads_to x false h 0 (t ▸ ts)) e).1 in
-    led_by h l.at l.leaf l.leads ys n (put_among x r (t ▸ ts))
+    led_by h l.at l.part l.leads ys n (put_among x r (t ▸ ts))
 
--- a call of a name stays one, and is none of `eval`
-called : (x : Name) (b : Bool) (h : Shape) (r t : Tree) (ts us : Trees) → leads b h 0 (is_childless t) ≡ true → is_first x (holds_list h 0) t ≡ true → is_eval_call h (put_first x r t ▸ us) ≡ false
-called x true (shape.CallExpression false) r t ts us e f = absurd (true≢false (sym e))
-called x false (shape.CallExpression false) r t ts us e f = callee x r t (not_true (is_childless t) e) f
-called x b h r t ts us e f = refl
+-- ---- the tree may stand in each place on the way to the read
+
+abbrev mutual
+  pub suits_along : Name → Tree → Tree → Bool
+  suits_along x r (node h ys n ts) = suits x r h ts && suits_among x r ts
+
+  pub suits_among : Name → Tree → Trees → Bool
+  suits_among x r none = true
+  suits_among x r (t ▸ ts) = if names x t then suits_along x r t else suits_among x r ts
+
+mutual
+  pub passed_along : (x : Name) (m : Bool) (r t : Tree) → are_passed_in x m r t ≡ true → suits_along x r t ≡ true
+  passed_along x m r (node h ys n ts) e =
+      let (a, p) = and_parts (suits x r h ts) (is_reached x m r h ts && all_passed x m r h 0 ts) e in
+      let (b, q) = and_parts (is_reached x m r h ts) (all_passed x m r h 0 ts) p in
+      ap (λ c. c && suits_among x r ts) a ∙ passed_among x m r h 0 ts q
+
+  passed_among : (x : Name) (m : Bool) (r : Tree) (h : Shape) (i : ℕ) (ts : Trees) → all_passed x m r h i ts ≡ true → suits_among x r ts ≡ true
+  passed_among x m r h i none e = refl
+  passed_among x m r h i (t ▸ ts) e = by (names x t) e (passed_along x (entries_below m h i) r t) (passed_among x m r h (suc i) ts)
+    where
+      by : (c : Bool) → (if c then are_passed_in x (entries_below m h i) r t else (passes_at m r h i t && all_passed x m r h (suc i) ts)) ≡ true → (are_passed_in x (entries_below m h i) r t ≡ true → suits_along x r t ≡ true) → (all_passed x m r h (suc i) ts ≡ true → suits_among x r ts ≡ true) → (if c then suits_along x r t else suits_among x r ts) ≡ true
+      by true e f g = f e
+      by false e f g = g (and_parts (passes_at m r h i t) (all_passed x m r h (suc i) ts) e).1
+
+indirect : (r : Tree) → is_called_by_value r ≡ true → is_eval_callee r ≡ false
+indirect (node shape.Identifier xs n ts) e = not_true (is_eval xs) e
+indirect (node h xs n ts) e = refl
+
+-- so is one that is
+called_there : (x : Name) (r t : Tree) → is_first x false t ≡ true → names x t ≡ true → (not (is_childless t && names x t) || is_called_by_value r) ≡ true → is_eval_callee (put_first x r t) ≡ false
+called_there x r (node h ys n none) e f s = indirect r (sym (ap (λ c. not c || is_called_by_value r) f) ∙ s)
+called_there x r (node h ys n (t ▸ ts)) e f s = callee x r (node h ys n (t ▸ ts)) refl e
+
+-- a call is none of `eval`
+called : (x : Name) (b : Bool) (h : Shape) (r t : Tree) (ts us : Trees) → leads b h 0 t ≡ true → is_first x (holds_list h 0) t ≡ true → names x t ≡ true → suits x r h (t ▸ ts) ≡ true → is_eval_call h (put_first x r t ▸ us) ≡ false
+called x true (shape.CallExpression false) r t ts us e f n s = absurd (true≢false (sym e))
+called x false (shape.CallExpression false) r t ts us e f n s = called_there x r t f n (and_parts (not (is_childless t && names x t) || is_called_by_value r) true s).0
+called x b h r t ts us e f n s = refl
 
 same_callee : (h : Shape) (t : Tree) (ts us : Trees) → is_eval_call h (t ▸ ts) ≡ false → is_eval_call h (t ▸ us) ≡ false
 same_callee (shape.CallExpression false) t ts us e = e
@@ -171,54 +205,58 @@ no_callee h t ts e = (either_not (is_eval_call h (t ▸ ts)) (any_has_eval (t �
     either_not false b e = (refl, e)
 
 mutual
-  pub put_there : (x : Name) (b : Bool) (r t : Tree) → is_first x b t ≡ true → has_eval r ≡ false → has_eval t ≡ false → has_eval (put_first x r t) ≡ false
-  put_there x b r (node h ys n none) f e g = e
-  put_there x b r (node h [] zero (t ▸ ts)) f e g =
-      let (a, c) = put_in x b h 0 r (t ▸ ts) f e (below (node h [] 0 (t ▸ ts)) g) in
-      over (node h [] 0 (put_among x r (t ▸ ts))) (by (names x t) refl f) a
+  pub put_there : (x : Name) (b : Bool) (r t : Tree) → is_first x b t ≡ true → suits_along x r t ≡ true → has_eval r ≡ false → has_eval t ≡ false → has_eval (put_first x r t) ≡ false
+  put_there x b r (node h ys n none) f s e g = e
+  put_there x b r (node h [] zero (t ▸ ts)) f s e g =
+      let (o, i) = and_parts (suits x r h (t ▸ ts)) (suits_among x r (t ▸ ts)) s in
+      let (a, c) = put_in x b h 0 r (t ▸ ts) f i e (below (node h [] 0 (t ▸ ts)) g) in
+      over (node h [] 0 (put_among x r (t ▸ ts))) (by (names x t) refl f o) a
     where
-      by : (c : Bool) → names x t ≡ c → (if c then (leads b h 0 (is_childless t) && (is_first x (holds_list h 0) t && not (any_names x ts))) else leads_to x b h 1 ts) ≡ true → is_eval_call h (put_among x r (t ▸ ts)) ≡ false
-      by true n f =
-          let (l, p) = and_parts (leads b h 0 (is_childless t)) (is_first x (holds_list h 0) t && not (any_names x ts)) f in
-          ap (λ c. is_eval_call h (if c then put_first x r t ▸ ts else t ▸ put_among x r ts)) n ∙ called x b h r t ts ts l (and_parts (is_first x (holds_list h 0) t) (not (any_names x ts)) p).0
-      by false n f = ap (λ c. is_eval_call h (if c then put_first x r t ▸ ts else t ▸ put_among x r ts)) n ∙ same_callee h t ts (put_among x r ts) (no_callee h t ts g)
-  put_there x b r (node h [] (suc n) (t ▸ ts)) f e g = absurd (true≢false (sym f))
-  put_there x b r (node h (y ∷ ys) n (t ▸ ts)) f e g = absurd (true≢false (sym f))
+      by : (c : Bool) → names x t ≡ c → (if c then (leads b h 0 t && (is_first x (holds_list h 0) t && not (any_names x ts))) else leads_to x b h 1 ts) ≡ true → suits x r h (t ▸ ts) ≡ true → is_eval_call h (put_among x r (t ▸ ts)) ≡ false
+      by true n f o =
+          let (l, p) = and_parts (leads b h 0 t) (is_first x (holds_list h 0) t && not (any_names x ts)) f in
+          ap (λ c. is_eval_call h (if c then put_first x r t ▸ ts else t ▸ put_among x r ts)) n ∙ called x b h r t ts ts l (and_parts (is_first x (holds_list h 0) t) (not (any_names x ts)) p).0 n o
+      by false n f o = ap (λ c. is_eval_call h (if c then put_first x r t ▸ ts else t ▸ put_among x r ts)) n ∙ same_callee h t ts (put_among x r ts) (no_callee h t ts g)
+  put_there x b r (node h [] (suc n) (t ▸ ts)) f s e g = absurd (true≢false (sym f))
+  put_there x b r (node h (y ∷ ys) n (t ▸ ts)) f s e g = absurd (true≢false (sym f))
 
-  put_in : (x : Name) (b : Bool) (h : Shape) (i : ℕ) (r : Tree) (ts : Trees) → leads_to x b h i ts ≡ true → has_eval r ≡ false → any_has_eval ts ≡ false → (any_has_eval (put_among x r ts) ≡ false) × (any_has_eval ts ≡ false)
-  put_in x b h i r none f e g = absurd (true≢false (sym f))
-  put_in x b h i r (t ▸ ts) f e g =
+  put_in : (x : Name) (b : Bool) (h : Shape) (i : ℕ) (r : Tree) (ts : Trees) → leads_to x b h i ts ≡ true → suits_among x r ts ≡ true → has_eval r ≡ false → any_has_eval ts ≡ false → (any_has_eval (put_among x r ts) ≡ false) × (any_has_eval ts ≡ false)
+  put_in x b h i r none f s e g = absurd (true≢false (sym f))
+  put_in x b h i r (t ▸ ts) f s e g =
       let (a, c) = first_and_others t ts g in
-      (by (names x t) refl f a c (put_there x (holds_list h i) r t) (put_in x b h (suc i) r ts), g)
+      (by (names x t) refl f s a c (put_there x (holds_list h i) r t) (put_in x b h (suc i) r ts), g)
     where
-      by : (c : Bool) → names x t ≡ c → (if c then (leads b h i (is_childless t) && (is_first x (holds_list h i) t && not (any_names x ts))) else leads_to x b h (suc i) ts) ≡ true → has_eval t ≡ false → any_has_eval ts ≡ false
-          → (is_first x (holds_list h i) t ≡ true → has_eval r ≡ false → has_eval t ≡ false → has_eval (put_first x r t) ≡ false) → (leads_to x b h (suc i) ts ≡ true → has_eval r ≡ false → any_has_eval ts ≡ false → (any_has_eval (put_among x r ts) ≡ false) × (any_has_eval ts ≡ false)) → any_has_eval (put_among x r (t ▸ ts)) ≡ false
-      by true n f a c one others =
-          let (l, p) = and_parts (leads b h i (is_childless t)) (is_first x (holds_list h i) t && not (any_names x ts)) f in
-          ap (λ d. any_has_eval (if d then put_first x r t ▸ ts else t ▸ put_among x r ts)) n ∙ all_of (put_first x r t) ts (one (and_parts (is_first x (holds_list h i) t) (not (any_names x ts)) p).0 e a) c
-      by false n f a c one others = ap (λ d. any_has_eval (if d then put_first x r t ▸ ts else t ▸ put_among x r ts)) n ∙ all_of t (put_among x r ts) a (others f e c).0
+      by : (c : Bool) → names x t ≡ c → (if c then (leads b h i t && (is_first x (holds_list h i) t && not (any_names x ts))) else leads_to x b h (suc i) ts) ≡ true → (if c then suits_along x r t else suits_among x r ts) ≡ true → has_eval t ≡ false → any_has_eval ts ≡ false
+          → (is_first x (holds_list h i) t ≡ true → suits_along x r t ≡ true → has_eval r ≡ false → has_eval t ≡ false → has_eval (put_first x r t) ≡ false) → (leads_to x b h (suc i) ts ≡ true → suits_among x r ts ≡ true → has_eval r ≡ false → any_has_eval ts ≡ false → (any_has_eval (put_among x r ts) ≡ false) × (any_has_eval ts ≡ false)) → any_has_eval (put_among x r (t ▸ ts)) ≡ false
+      by true n f s a c one others =
+          let (l, p) = and_parts (leads b h i t) (is_first x (holds_list h i) t && not (any_names x ts)) f in
+          ap (λ d. any_has_eval (if d then put_first x r t ▸ ts else t ▸ put_among x r ts)) n ∙ all_of (put_first x r t) ts (one (and_parts (is_first x (holds_list h i) t) (not (any_names x ts)) p).0 s e a) c
+      by false n f s a c one others = ap (λ d. any_has_eval (if d then put_first x r t ▸ ts else t ▸ put_among x r ts)) n ∙ all_of t (put_among x r ts) a (others f s e c).0
 
 no_call : (h : Shape) → is_head_shape h ≡ true → (ts : Trees) → is_eval_call h ts ≡ false
 no_call (shape.CallExpression false) e ts = absurd (true≢false (sym e))
 no_call h e ts = refl
 
-pub put_in_head : (x : Name) (r t : Tree) → reads_first x t ≡ true → has_eval r ≡ false → has_eval t ≡ false → has_eval (put_first x r t) ≡ false
-put_in_head x r (node h ys n none) f e g = e
-put_in_head x r (node h ys n (t ▸ ts)) f e g =
+pub put_in_head : (x : Name) (r t : Tree) → reads_first x t ≡ true → suits_along x r t ≡ true → has_eval r ≡ false → has_eval t ≡ false → has_eval (put_first x r t) ≡ false
+put_in_head x r (node h ys n none) f i e g = e
+put_in_head x r (node h ys n (t ▸ ts)) f i e g =
     let (l, p) = and_parts (is_head_shape h) (is_nameless (node h ys n (t ▸ ts)) && (is_first x false t && not (any_names x ts))) f in
     let (m, q) = and_parts (is_nameless (node h ys n (t ▸ ts))) (is_first x false t && not (any_names x ts)) p in
     let (s, u) = and_parts (is_first x false t) (not (any_names x ts)) q in
     let (a, c) = first_and_others t ts (below (node h ys n (t ▸ ts)) g) in
-    ap (λ d. has_eval (node h ys n (if d then put_first x r t ▸ ts else t ▸ put_among x r ts))) (mentioned x false t s) ∙ over (node h ys n (put_first x r t ▸ ts)) (no_call h l (put_first x r t ▸ ts)) (all_of (put_first x r t) ts (put_there x false r t s e a) c)
+    ap (λ d. has_eval (node h ys n (if d then put_first x r t ▸ ts else t ▸ put_among x r ts))) (mentioned x false t s) ∙ over (node h ys n (put_first x r t ▸ ts)) (no_call h l (put_first x r t ▸ ts)) (all_of (put_first x r t) ts (put_there x false r t s (first_along t ts (mentioned x false t s) (and_parts (suits x r h (t ▸ ts)) (suits_among x r (t ▸ ts)) i).1) e a) c)
+  where
+    first_along : (t : Tree) (ts : Trees) → names x t ≡ true → suits_among x r (t ▸ ts) ≡ true → suits_along x r t ≡ true
+    first_along t ts n e = sym (ap (λ c. if c then suits_along x r t else suits_among x r ts) n) ∙ e
 
 -- in the first initializer of a declaration
-put_in_initial : (x : Name) (r t : Tree) → Initial x t → has_eval r ≡ false → has_eval t ≡ false → has_eval (put_first x r t) ≡ false
-put_in_initial x r t i e g =
+put_in_initial : (x : Name) (r t : Tree) (i : Initial x t) → suits_along x r i.value ≡ true → has_eval r ≡ false → has_eval t ≡ false → has_eval (put_first x r t) ≡ false
+put_in_initial x r t i s e g =
     let d = declarator i.binds i.value in
     let put = put_first x r i.value in
     let list = below (listed (d ▸ i.last)) (part_of (declaration i.kind (d ▸ i.last)) 0 (sym (ap has_eval i.is) ∙ g)) in
     let (a, b) = first_and_others d i.last list in
-    let there = over (declarator i.binds put) refl (all_of i.binds (put ▸ none) (part_of d 0 a) (all_of put none (put_there x false r i.value i.once e (part_of d 1 a)) nothing_there)) in
+    let there = over (declarator i.binds put) refl (all_of i.binds (put ▸ none) (part_of d 0 a) (all_of put none (put_there x false r i.value i.once s e (part_of d 1 a)) nothing_there)) in
     ap has_eval (i.puts r) ∙ declared i.kind (declarator i.binds put ▸ i.last) (all_of (declarator i.binds put) i.last there b)
 
 -- in what opens a scope
@@ -237,14 +275,14 @@ put_over : (c : Each) (l w a b : Tree) → (has_eval a ≡ false → has_eval b 
 put_over EachIn l w a b h g = over (each_loop EachIn l b w) refl (over_others l a b (w ▸ none) h (below (each_loop EachIn l a w) g))
 put_over EachOf l w a b h g = over (each_loop EachOf l b w) refl (over_others l a b (w ▸ none) h (below (each_loop EachOf l a w) g))
 
-put_there_head : (x : Name) (r t : Tree) → reads_head x t ≡ true → has_eval r ≡ false → has_eval t ≡ false → has_eval (put_first x r t) ≡ false
-put_there_head x r t f e g = by (heads x t f)
+put_there_head : (x : Name) (r t : Tree) → reads_head x t ≡ true → are_passed x r (evaluated t) ≡ true → has_eval r ≡ false → has_eval t ≡ false → has_eval (put_first x r t) ≡ false
+put_there_head x r t f p e g = by (heads x t f)
   where
     by : Heads x t → has_eval (put_first x r t) ≡ false
-    by (inl (o, p)) = put_in_head x r t o e g
-    by (inr (inl i)) = put_in_initial x r t i e g
-    by (inr (inr (inr i))) = ap has_eval (i.puts r) ∙ put_over i.kind i.left i.body i.value (put_first x r i.value) (put_there x false r i.value i.once e) (sym (ap has_eval i.is) ∙ g)
-    by (inr (inr (inl i))) = ap has_eval (i.puts r) ∙ put_outside i.seat i.value (put_first x r i.value) (put_there x false r i.value i.once e) (sym (ap has_eval i.is) ∙ g)
+    by (inl (o, q)) = put_in_head x r t o (passed_along x false r t (sym (ap (are_passed x r) q) ∙ p)) e g
+    by (inr (inl i)) = put_in_initial x r t i (passed_along x false r i.value (sym (ap (are_passed x r) i.evaluates) ∙ p)) e g
+    by (inr (inr (inr i))) = ap has_eval (i.puts r) ∙ put_over i.kind i.left i.body i.value (put_first x r i.value) (put_there x false r i.value i.once (passed_along x false r i.value (sym (ap (are_passed x r) i.evaluates) ∙ p)) e) (sym (ap has_eval i.is) ∙ g)
+    by (inr (inr (inl i))) = ap has_eval (i.puts r) ∙ put_outside i.seat i.value (put_first x r i.value) (put_there x false r i.value i.once (passed_along x false r i.value (i.passed r (sym (ap (are_passed x r) i.evaluates) ∙ p))) e) (sym (ap has_eval i.is) ∙ g)
 
 -- ---- a declaration whose declarator has another tree in what it reads first
 
@@ -292,13 +330,15 @@ once_put (x ∷ xs) o init ds j ts i e f g =
     let head = child_or_absent ts (suc i) in
     let (a, p) = and_parts (not (names x o)) (reads_next x init ts i && (not (is_declared_over x init ds j) && not (is_mentioned_around x ts i))) e in
     let read = (and_parts (reads_next x init ts i) (not (is_declared_over x init ds j) && not (is_mentioned_around x ts i)) p).0 in
-    put_there_head x init head (and_parts (reads_head x head) (are_passed x init (evaluated head)) read).0 f g
+    let (reads, passed) = and_parts (reads_head x head) (are_passed x init (evaluated head)) read in
+    put_there_head x init head reads passed f g
 
 then_put : (xs : List Name) (d e o : Tree) (ds : Trees) (j : ℕ) (ts : Trees) (i : ℕ) → is_read_then xs d e o ds j ts i ≡ true → has_eval (part d 1) ≡ false → has_eval (part e 1) ≡ false → has_eval (put_named xs (part d 1) (part e 1)) ≡ false
 then_put [] d e o ds j ts i h f g = absurd (true≢false (sym h))
 then_put (x ∷ xs) d e o ds j ts i h f g =
     let read = (and_parts (reads_then x (part d 1) e) (not (is_mentioned_beside x d e ds j) && (not (names x o) && not (is_mentioned_elsewhere x ts i))) h).0 in
-    put_there x false (part d 1) (part e 1) (and_parts (is_first x false (part e 1)) (are_passed x (part d 1) (part e 1)) read).0 f g
+    let (first, passed) = and_parts (is_first x false (part e 1)) (are_passed x (part d 1) (part e 1)) read in
+    put_there x false (part d 1) (part e 1) first (passed_along x false (part d 1) (part e 1) passed) f g
 
 module _ (W : VariableSet) (o l m : Tree) (c : Unseen o l) where
   name_gone : NameGone W o l m → Unseen o m

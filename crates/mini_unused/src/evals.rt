@@ -10,7 +10,8 @@ use mini_node::{Node, Nodes};
 /// The units of `eval`.
 const EVAL: [u16; 4] = [101, 118, 97, 108];
 
-fn is_eval_name(name: &Option<Name>) -> bool
+/// The spelling of a direct eval's name.
+pub fn is_eval_name(name: &Option<Name>) -> bool
     ensures { result ≡ scopes.is_eval (names name.now) }
 {
     match name {
@@ -19,7 +20,8 @@ fn is_eval_name(name: &Option<Name>) -> bool
     }
 }
 
-fn is_eval_callee(node: &Node) -> bool
+/// The name of a direct eval, where it is called.
+pub fn is_eval_callee(node: &Node) -> bool
     ensures { result ≡ scopes.is_eval_callee node.now }
 {
     matches!(node.shape(), Shape::Identifier) && is_eval_name(node.name())

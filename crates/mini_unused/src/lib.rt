@@ -2,6 +2,7 @@
 #![tactic(auto)]
 
 mod bodies;
+mod calm;
 mod catches;
 mod declarations;
 mod declares;
@@ -31,6 +32,6 @@ pub use names::{RemoveUnusedNames, remove_unused_name};
 pub use next_uses::{is_declarator, is_mentioned_beside, is_mentioned_elsewhere, substitute_next};
 pub use single_uses::{
     is_constant, is_declared_over, is_first, is_mentioned_around, last_declarator, may_go_on,
-    may_move, reads_first, substitute_in_list, substitute_single_uses,
+    may_move, reads_first, substitute_in_list, substitute_single_uses, suits,
 };
 pub use sweeping::{declarators_at, has_next};

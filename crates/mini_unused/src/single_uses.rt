@@ -14,23 +14,24 @@ ghost use Rattle.mini_unused.specs.SubstituteNext.{put_named as it_put_named, re
 ghost use Rattle.mini_unused.specs.SubstituteSingleUse as row;
 ghost use Rattle.mini_unused.specs.SubstituteSingleUse.{declaration_left, SingleAt, Removed};
 
+use crate::calm::is_calm;
 use crate::declarations::{
     declares_list, declares_name, is_lexical, may_lose, put_child, take_child, take_declarator,
 };
 use crate::declares::is_bare_var;
-use crate::evals::either_has_eval;
+use crate::evals::{either_has_eval, is_eval_callee, is_eval_name};
 use crate::mentions::{is_mentioned, is_mentioned_before, is_mentioned_from, is_same_symbol};
 use crate::next_uses::{is_declarator, substitute_next_uses};
 use crate::sweeping::sweep;
 use mini_context::Scopes;
 use mini_model::{AssignmentOperator, Name, OutOfMemory, PropertyKind, Shape, UnaryOperator};
 use mini_node::{Node, Nodes, discard, empty_statement, is_identifier, two};
-use mini_terms::{is_effect_free, is_item, is_plain_part};
+use mini_terms::{is_effect_free, is_item, is_plain_part, is_typed_by_value, stands};
 use std::alloc::Global;
 
-// What evaluates its first part before all else, and asks for its value alone.
-fn begins(shape: &Shape, is_leaf: bool) -> bool
-    ensures { result ≡ reading.begins shape.now is_leaf }
+// What evaluates this part, its first one, before all else, and asks for its value, for what is called, or for what `typeof` reads.
+fn begins(shape: &Shape, node: &Node) -> bool
+    ensures { result ≡ reading.begins shape.now node.now }
 {
     match shape {
         Shape::UnaryExpression(
@@ -38,6 +39,7 @@ fn begins(shape: &Shape, is_leaf: bool) -> bool
             | UnaryOperator::UnaryPlus
             | UnaryOperator::UnaryNegation
             | UnaryOperator::BitwiseNot
+            | UnaryOperator::Typeof
             | UnaryOperator::Void,
         )
         | Shape::BinaryExpression(_)
@@ -47,10 +49,12 @@ fn begins(shape: &Shape, is_leaf: bool) -> bool
         | Shape::NewExpression
         | Shape::ArrayExpression
         | Shape::ObjectExpression
+        | Shape::SpreadElement
         | Shape::YieldExpression(_)
-        | Shape::StaticMemberExpression(false)
-        | Shape::ComputedMemberExpression(false) => true,
-        Shape::CallExpression(false) => !is_leaf,
+        | Shape::StaticMemberExpression(_)
+        | Shape::ComputedMemberExpression(_) => true,
+        Shape::CallExpression(_) => !is_eval_callee(node),
+        Shape::ChainExpression => !is_childless(node),
         _ => false,
     }
 }
@@ -79,6 +83,8 @@ pub fn may_go_on(shape: &Shape) -> bool
             | Shape::ConditionalExpression
             | Shape::AssignmentExpression(_)
             | Shape::ObjectProperty(PropertyKind::Init, false, false, _)
+            | Shape::CallExpression(true)
+            | Shape::ComputedMemberExpression(true)
     )
 }
 
@@ -95,16 +101,16 @@ fn is_listed_shape(shape: &Shape) -> bool
     matches!(shape, Shape::Listed)
 }
 
-// An expression, which evaluates the part at the place after those before it, if at all, or a list of parts.
+// An expression, which evaluates this part, at the place, after those before it, if at all, or a list of parts.
 #[tactic(auto, using(crate::proofs::SingleUses::leads_further))]
-fn leads(in_list: bool, shape: &Shape, at: usize, is_leaf: bool) -> bool
-    ensures { result ≡ reading.leads in_list shape.now at is_leaf }
+fn leads(in_list: bool, shape: &Shape, at: usize, node: &Node) -> bool
+    ensures { result ≡ reading.leads in_list shape.now at node.now }
 {
     if in_list {
         return is_listed_shape(shape);
     }
     if at == 0 {
-        return begins(shape, is_leaf);
+        return begins(shape, node);
     }
     if at == 1 {
         return goes_on(shape) || may_go_on(shape);
@@ -184,7 +190,7 @@ fn may_lead(in_list: bool, node: &Node, at: usize) -> bool
     requires { at < count (children node.now) }
     ensures { result ≡ row.may_lead in_list node.now at }
 {
-    leads(in_list, node.shape(), at, is_childless(node.child(at))) && node.is_nameless()
+    leads(in_list, node.shape(), at, node.child(at)) && node.is_nameless()
 }
 
 /// An expression, or a list of parts, reads the variable after the parts that stand before, and nothing else in it mentions the name.
@@ -346,16 +352,29 @@ fn all_pass(of_entries: bool, init: &Node, shape: &Shape, nodes: &Nodes, end: us
 }
 
 // What evaluates the part behind its first one whatever that gives; where the initializer has no effect, it may be left out.
-fn is_sure(of_entries: bool, init: &Node, shape: &Shape) -> bool
-    ensures { result ≡ reading.is_sure of_entries (is_it_effect_free init.now) shape.now }
+fn is_sure(init: &Node, shape: &Shape) -> bool
+    ensures { result ≡ reading.is_sure (is_it_effect_free init.now) shape.now }
 {
     match shape {
         Shape::LogicalExpression(_) | Shape::ConditionalExpression => is_effect_free(init, true),
         Shape::AssignmentExpression(operator) => {
             is_plain_assignment(operator) || is_effect_free(init, true)
         }
-        Shape::ObjectProperty(_, _, _, is_computed) => {
-            !*is_computed && (of_entries || is_effect_free(init, true))
+        Shape::ObjectProperty(_, _, _, is_computed) => !*is_computed,
+        Shape::CallExpression(is_optional) | Shape::ComputedMemberExpression(is_optional) => {
+            !*is_optional || is_effect_free(init, true)
+        }
+        _ => true,
+    }
+}
+
+// A property and what is spread stand where an entry is asked, or the initializer has no effect.
+fn is_placed(of_entries: bool, init: &Node, shape: &Shape) -> bool
+    ensures { result ≡ reading.is_placed of_entries (is_it_effect_free init.now) shape.now }
+{
+    match shape {
+        Shape::ObjectProperty(_, _, _, _) | Shape::SpreadElement => {
+            of_entries || is_effect_free(init, true)
         }
         _ => true,
     }
@@ -367,15 +386,9 @@ fn is_reached(of_entries: bool, init: &Node, shape: &Shape, at: usize) -> bool
     ensures { result ≡ row.is_reached_at of_entries init.now shape.now at }
 {
     if at == 0 {
-        return true;
+        return is_constant(init) || is_placed(of_entries, init, shape);
     }
-    is_constant(init) || is_sure(of_entries, init, shape)
-}
-
-fn is_minus(shape: &Shape) -> bool
-    ensures { result ≡ reading.is_minus shape.now }
-{
-    matches!(shape, Shape::UnaryExpression(UnaryOperator::UnaryNegation))
+    is_constant(init) || (is_placed(of_entries, init, shape) && is_sure(init, shape))
 }
 
 fn is_number(shape: &Shape) -> bool
@@ -384,46 +397,91 @@ fn is_number(shape: &Shape) -> bool
     matches!(shape, Shape::NumericLiteral(_))
 }
 
-// Its first part has no parts, or there is none.
-#[tactic(auto, using(crate::proofs::SingleUses::no_leaf))]
-fn begins_with_leaf(node: &Node) -> bool
-    ensures { result ≡ reading.is_childless (child_or_absent (children node.now) 0) }
+// Where it is called, its value is, without a `this`.
+fn is_called_by_value(node: &Node) -> bool
+    ensures { result ≡ reading.is_called_by_value node.now }
 {
-    if node.children().len() == 0 {
-        return true;
+    match node.shape() {
+        Shape::Identifier => !is_eval_name(node.name()),
+        Shape::Function(false, _, _) | Shape::Class(false) | Shape::BigIntLiteral(_) => true,
+        _ => stands(node),
     }
-    is_childless(node.child(0))
 }
 
-// The initializer may stand right under it: a number under `-` would be another literal.
-fn suits(init: &Node, node: &Node) -> bool
-    ensures { result ≡ reading.suits init.now (shape_of node.now) (children node.now) }
+// The initializer may stand in the place of a name that is its first part: a number under `-` would be another literal, and `typeof`
+// and a call read more of some expressions than their value.
+fn suits_under(init: &Node, shape: &Shape) -> bool
+    ensures { result ≡ reading.suits_under init.now shape.now }
 {
-    !(is_minus(node.shape()) && (is_number(init.shape()) && begins_with_leaf(node)))
+    match shape {
+        Shape::UnaryExpression(UnaryOperator::UnaryNegation) => !is_number(init.shape()),
+        Shape::UnaryExpression(UnaryOperator::Typeof) => is_typed_by_value(init),
+        Shape::CallExpression(_) => is_called_by_value(init),
+        _ => true,
+    }
+}
+
+// The first of some parts is such a name, or there is none.
+#[tactic(auto, using(crate::proofs::SingleUses::bare_none, crate::proofs::SingleUses::bare_some))]
+fn begins_bare(name: &Name, nodes: &Nodes) -> bool
+    ensures { result ≡ reading.begins_bare name.now nodes.now }
+{
+    if nodes.len() == 0 {
+        return true;
+    }
+    is_childless(nodes.child(0)) && is_mentioned(name, nodes.child(0))
+}
+
+// In a chain the initializer ends none around it.
+fn suits_in(init: &Node, shape: &Shape) -> bool
+    ensures { result ≡ reading.suits_in init.now shape.now }
+{
+    match shape {
+        Shape::ChainExpression => is_calm(init),
+        _ => true,
+    }
+}
+
+/// So it may, where the read is that.
+pub fn suits(name: &Name, init: &Node, node: &Node) -> bool
+    ensures { result ≡ reading.suits name.now init.now (shape_of node.now) (children node.now) }
+{
+    (!begins_bare(name, node.children()) || suits_under(init, node.shape()))
+        && suits_in(init, node.shape())
 }
 
 // The part at the place is reached, those before it may be evaluated before the initializer, which may stand there.
-fn may_reach(of_entries: bool, init: &Node, node: &Node, at: usize) -> bool
+fn may_reach(name: &Name, of_entries: bool, init: &Node, node: &Node, at: usize) -> bool
     requires { at ≤ count (children node.now) }
-    ensures { result ≡ row.may_reach of_entries init.now node.now at }
+    ensures { result ≡ row.may_reach name.now of_entries init.now node.now at }
 {
-    suits(init, node)
+    suits(name, init, node)
         && (is_reached(of_entries, init, node.shape(), at)
             && all_pass(of_entries, init, node.shape(), node.children(), at))
 }
 
-// What asks its first part for entries: an array and an object.
-fn holds_entries(shape: &Shape) -> bool
-    ensures { result ≡ reading.holds_entries shape.now }
+// What asks the part at the place for entries: an array and an object, and a call and `new` for their arguments.
+#[tactic(auto, using(crate::proofs::SingleUses::entries_further))]
+fn holds_entries(shape: &Shape, at: usize) -> bool
+    ensures { result ≡ reading.holds_entries shape.now at }
 {
-    matches!(shape, Shape::ArrayExpression | Shape::ObjectExpression)
+    if at == 0 {
+        return matches!(shape, Shape::ArrayExpression | Shape::ObjectExpression);
+    }
+    matches!(
+        shape,
+        Shape::ArrayExpression
+            | Shape::ObjectExpression
+            | Shape::CallExpression(_)
+            | Shape::NewExpression
+    )
 }
 
 // So does a list of which they are asked.
-fn entries_below(of_entries: bool, shape: &Shape) -> bool
-    ensures { result ≡ reading.entries_below of_entries shape.now }
+fn entries_below(of_entries: bool, shape: &Shape, at: usize) -> bool
+    ensures { result ≡ reading.entries_below of_entries shape.now at }
 {
-    holds_entries(shape) || (of_entries && is_listed_shape(shape))
+    holds_entries(shape, at) || (of_entries && is_listed_shape(shape))
 }
 
 // Each part that is evaluated before the variable is read may be evaluated before the initializer, the read is reached whatever they
@@ -433,7 +491,7 @@ fn are_passed_in(name: &Name, of_entries: bool, init: &Node, node: &Node) -> boo
     ensures { result ≡ reading.are_passed_in name.now of_entries init.now node.now }
 {
     let at = mention_place(name, node.children());
-    if !may_reach(of_entries, init, node, at) {
+    if !may_reach(name, of_entries, init, node, at) {
         return false;
     }
     if at >= node.children().len() {
@@ -441,7 +499,7 @@ fn are_passed_in(name: &Name, of_entries: bool, init: &Node, node: &Node) -> boo
     }
     are_passed_in(
         name,
-        entries_below(of_entries, node.shape()),
+        entries_below(of_entries, node.shape(), at),
         init,
         node.child(at),
     )

@@ -18,6 +18,6 @@ returns-then-at-len t c =
 pub returns : goal.returns
 returns t c =
     let place = c.mention_place-at.ensures.place ∙ ap (mention_place c.args.name.now) c.children.ensures in
-    let lower = c.entries_below.ensures ∙ ap (entries_below c.args.of_entries) c.shape.ensures in
+    let lower = c.entries_below.ensures ∙ ap (λ h. entries_below c.args.of_entries h c.mention_place-at.result) c.shape.ensures in
     let below = passed_below c.args.name.now c.args.of_entries c.args.init.now c.args.node.now c.mention_place-at.result place (omega (arith, ap count c.children-2.ensures)) (sym c.if-not-may_reach.ensures) in
     c.are_passed_in.ensures ∙ (λ k. are_passed_in c.args.name.now (lower k) c.args.init.now (c.child.ensures.value k)) ∙ sym below
