@@ -95,7 +95,10 @@ fn begins_with(name: &Name, nodes: &Nodes) -> bool
 fn is_no_entry(shape: &Shape) -> bool
     ensures { result ≡ is_it_placed false false shape.now }
 {
-    !matches!(shape, Shape::ObjectProperty(_, _, _, _) | Shape::SpreadElement)
+    !matches!(
+        shape,
+        Shape::ObjectProperty(_, _, _, _) | Shape::SpreadElement
+    )
 }
 
 // What mentions the name is evaluated whatever stands before it, and the initializer may stand in its place.

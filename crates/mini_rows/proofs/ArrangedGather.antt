@@ -186,7 +186,8 @@ module _ (A : Type 0) (L B H : Tree → List A) (k : Fold A L B H) where
   value_silent New c e zero t = refl
   value_silent New c e (suc j) t = refl
   value_silent (StaticMember b) c e zero t = refl
-  value_silent (Property b d) c e zero t = refl
+  value_silent (Property b true) c e zero t = refl
+  value_silent (Property b false) c e zero t = refl
   value_silent Spread AsValue e j t = refl
   value_silent Spread c e j t = refl
   value_silent (Property b d) c e (suc j) t = refl

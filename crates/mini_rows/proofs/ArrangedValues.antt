@@ -13,7 +13,7 @@ use Rattle.mini_laws.specs.DeclaredNames.{own_names}
 use Rattle.mini_kept.proofs.Bools.{left, right}
 use Rattle.mini_kept.proofs.Expressions.{refused_here}
 use Rattle.mini_kept.proofs.Quiet.{is_quiet}
-use Rattle.mini_rows.specs.Sketches.{Head, AbsentPart, AList, Spread, Number, PropertyName, Call, StaticMember, ComputedMember, Yield, Assignment, shape_by, Sketch, part, under, list, Sketches, end, ◌▹◌, Items, no_items, item, items, Parts, list_at, filled, all_filled, items_filled, Asked, AsWhole, AsWholeList, AsWholeItem, AsValue, AsValues, AsWord, AsHeld, AsTarget, AsUpdated, AsBranch, AsItems, AsItem, asked_below, item_asked, is_statement_asked, Leap, leaps, Hole, leap_holes, parts_of, parts_from, parts_in}
+use Rattle.mini_rows.specs.Sketches.{Head, AbsentPart, AList, Property, Spread, Number, PropertyName, Call, StaticMember, ComputedMember, Yield, Assignment, shape_by, Sketch, part, under, list, Sketches, end, ◌▹◌, Items, no_items, item, items, Parts, list_at, filled, all_filled, items_filled, Asked, AsWhole, AsWholeList, AsWholeItem, AsValue, AsValues, AsWord, AsHeld, AsTarget, AsUpdated, AsBranch, AsItems, AsItem, asked_below, item_asked, is_statement_asked, Leap, leaps, Hole, leap_holes, parts_of, parts_from, parts_in}
 use Rattle.mini_rows.proofs.Arranging.{All, Any, Each, both_each}
 
 abbrev pub is_no_inner : Shape → Bool
@@ -43,6 +43,7 @@ suits AsValue (one a_link) = true
 suits AsValue (one a_chain) = true
 suits AsValue (one an_argument) = true
 suits AsValue (one an_object_property) = true
+suits AsValue (one (a_key true)) = true
 suits AsValue (one_or_absent an_argument) = true
 suits AsValue (one_or_absent an_expression) = true
 suits AsValue s = false
@@ -104,6 +105,13 @@ property_or_refused strict (shape.Class true) = refl
 property_or_refused strict (shape.Class false) = refl
 property_or_refused strict h = refl
 
+key_or_refused : (strict : Bool) (h : Shape) → (is_value h || is_refused (filling strict (one (a_key true)) h)) ≡ true
+key_or_refused strict (shape.Function true g ds) = refl
+key_or_refused strict (shape.Function false g ds) = refl
+key_or_refused strict (shape.Class true) = refl
+key_or_refused strict (shape.Class false) = refl
+key_or_refused strict h = refl
+
 element_or_refused : (strict : Bool) (h : Shape) → (is_value h || is_refused (filling strict (one_or_absent an_argument) h)) ≡ true
 element_or_refused strict (shape.Function true g ds) = refl
 element_or_refused strict (shape.Function false g ds) = refl
@@ -131,6 +139,7 @@ value_fits strict (one a_link) t e f = value_or strict (one a_link) t (link_or_r
 value_fits strict (one a_chain) t e f = value_or strict (one a_chain) t (chain_or_refused strict (shape_of t)) f
 value_fits strict (one an_argument) t e f = value_or strict (one an_argument) t (argument_or_refused strict (shape_of t)) f
 value_fits strict (one an_object_property) t e f = value_or strict (one an_object_property) t (property_or_refused strict (shape_of t)) f
+value_fits strict (one (a_key true)) t e f = value_or strict (one (a_key true)) t (key_or_refused strict (shape_of t)) f
 value_fits strict (one_or_absent an_argument) t e f = value_or strict (one_or_absent an_argument) t (element_or_refused strict (shape_of t)) f
 value_fits strict (one_or_absent an_expression) t e f = value_or strict (one_or_absent an_expression) t (maybe_or_refused strict (shape_of t)) f
 value_fits strict s t e f = absurd (cc e)
@@ -236,6 +245,8 @@ class_suits strict an_argument Spread AsValue e = refl
 class_suits strict an_argument Spread c e = refl
 class_suits strict an_object_property Spread AsValue e = refl
 class_suits strict an_object_property Spread c e = refl
+class_suits strict an_object_property (Property b true) c e = refl
+class_suits strict an_object_property (Property b false) c e = refl
 class_suits strict k (Assignment Assign) c e = refl
 class_suits strict k (Yield true) c e = refl
 class_suits strict k (Yield false) c e = refl

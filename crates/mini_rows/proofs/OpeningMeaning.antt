@@ -25,7 +25,7 @@ use Rattle.mini_rows.specs.Sketches.{shape_by, AsValue, asked_below}
 use Rattle.mini_rows.specs.Unused.{any_names, resolved}
 use Rattle.mini_rows.proofs.ListHeads.{Nothing, for_rest, for_is, for_absent_is}
 use Rattle.mini_rows.proofs.ListKeptHeads.{Seat, Loop, Choice, seated, rest}
-use Rattle.mini_rows.proofs.SingleUse.{Lead, Not, Plus, Minus, Tilde, Typing, Emptying, Beside, Deciding, Choosing, Passing, Called, Making, Waiting, Member, Keyed, Linking, Holding, Against, Given, Filling, Keying, Following, Branching, Failing, Storing, Gathering, Fielding, Spreading, head_of, before, place, Step, led, is_end, Stands, Well, Spared, Passed, summary_led}
+use Rattle.mini_rows.proofs.SingleUse.{Lead, Not, Plus, Minus, Tilde, Typing, Emptying, Beside, Deciding, Choosing, Passing, Called, Making, Waiting, Member, Keyed, Linking, Holding, Against, Given, Filling, Keying, Following, Branching, Failing, Storing, Gathering, Fielding, Spreading, Bracketing, head_of, before, place, Step, led, is_end, Stands, Well, Spared, Passed, summary_led}
 use Rattle.mini_rows.proofs.ConstantUse.{moves_there}
 use Rattle.mini_rows.proofs.SingleMeaning.{Before, Later, later_bind, later_attempt, Reaches, reach_statement, one, next, by_summaries, node_is, stopped, any_end, reach_goes}
 use Rattle.mini_rows.proofs.UnusedNames.{all_avoided}
@@ -86,6 +86,7 @@ nothing_led (s ∷ ss) w t n = by s.lead w.0 (λ q. nothing_led ss (subst (λ c.
     by Holding s m = record { lets = refl; functions = refl; facts = refl; declared = refl }
     by Gathering s m = record { lets = refl; functions = refl; facts = refl; declared = refl }
     by Spreading s m = record { lets = refl; functions = refl; facts = refl; declared = refl }
+    by Bracketing s m = record { lets = refl; functions = refl; facts = refl; declared = refl }
     by (Against o a) s m = record { lets = refl; functions = refl; facts = refl; declared = refl }
     by (Given o a) s m = record { lets = refl; functions = refl; facts = refl; declared = refl }
     by (Filling a) s m = record { lets = refl; functions = refl; facts = refl; declared = refl }

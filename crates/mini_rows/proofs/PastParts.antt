@@ -32,7 +32,7 @@ use Rattle.mini_rows.proofs.ItemReads.{item_read}
 use Rattle.mini_rows.proofs.Passing.{Replies, constant_replies}
 use Rattle.mini_rows.proofs.PastSpared.{left_alone}
 use Rattle.mini_rows.proofs.PastRuns.{Held, AllHeld, HeldPath}
-use Rattle.mini_rows.proofs.SingleUse.{Lead, Minus, Typing, Called as CalledLead, Given, Keying, Linking, Following, Branching, Failing, Storing, Fielding, Spreading, head_of, before, Step, led, is_end, is_steady, suited, whole, allows, Indirect, Spared}
+use Rattle.mini_rows.proofs.SingleUse.{Lead, Minus, Typing, Called as CalledLead, Given, Keying, Linking, Following, Branching, Failing, Storing, Fielding, Spreading, Bracketing, head_of, before, Step, led, is_end, is_steady, suited, whole, allows, Indirect, Spared}
 use Rattle.mini_rows.proofs.UnusedNames.{or_parts}
 use Rattle.mini_rows.proofs.WriteMeaning.{read_value}
 
@@ -145,6 +145,7 @@ module _ (e : Environment) (k : ℕ) (z : Unseen (alone (Declared k)) e) (init :
     steady_by (Keying false a) f u ts g e = refl
     steady_by (Fielding c a) f u ts g e = absurd (true≢false (sym g))
     steady_by Spreading f u ts g e = absurd (true≢false (sym g))
+    steady_by Bracketing f u ts g e = absurd (true≢false (sym g))
     steady_by l f u ts g e = refl
 
     -- what may stand in the place of a name

@@ -13,7 +13,7 @@ use Rattle.mini_kept.proofs.Bools.{both}
 use Rattle.mini_kept.proofs.Expressions.{refused_here, expression_taken}
 use Rattle.mini_rows.specs.Sketches.{shape_by, Asked, AsWholeItem, AsValue, AsValues, asked_below}
 use Rattle.mini_rows.specs.Unused.{is_number_shape, is_constant, is_first, put_first, are_passed, reads_first}
-use Rattle.mini_rows.proofs.SingleUse.{Lead, Not, Plus, Minus, Tilde, Typing, Emptying, Beside, Deciding, Choosing, Passing, Called, Making, Waiting, Member, Keyed, Linking, Holding, Against, Given, Filling, Keying, Following, Branching, Failing, Storing, Gathering, Fielding, Spreading, Listing, Doing, Giving, Raising, Testing, head_of, before, place, Step, led, is_end, Stands, Well, suited, Suited, Path, path, statement}
+use Rattle.mini_rows.proofs.SingleUse.{Lead, Not, Plus, Minus, Tilde, Typing, Emptying, Beside, Deciding, Choosing, Passing, Called, Making, Waiting, Member, Keyed, Linking, Holding, Against, Given, Filling, Keying, Following, Branching, Failing, Storing, Gathering, Fielding, Spreading, Bracketing, Listing, Doing, Giving, Raising, Testing, head_of, before, place, Step, led, is_end, Stands, Well, suited, Suited, Path, path, statement}
 
 -- r is no number that stands right under a minus
 abbrev unsigned : Tree → Lead → Bool → Bool
@@ -49,6 +49,7 @@ Takes AsValue (one_or_absent an_expression) = Unit {0}
 Takes AsValue (one an_argument) = Unit {0}
 Takes AsValue (one_or_absent an_argument) = Unit {0}
 Takes AsValue (one an_object_property) = Unit {0}
+Takes AsValue (one (a_key true)) = Unit {0}
 Takes AsValue (one a_link) = Unit {0}
 Takes AsValue (one a_chain) = Unit {0}
 Takes AsValues (many an_expression) = Unit {0}
@@ -77,6 +78,7 @@ taken_by strict y t e (one_or_absent an_expression) k f = or_absent strict t e
 taken_by strict y t e (one an_argument) k f = as_argument strict t e
 taken_by strict y t e (one_or_absent an_argument) k f = as_element strict t e
 taken_by strict y t e (one an_object_property) k f = absurd (refused_here strict (one an_object_property) shape.Identifier (y ∷ []) 0 none refl f)
+taken_by strict y t e (one (a_key true)) k f = expression_taken strict (one (a_key true)) t tt e
 taken_by strict y t e (one a_link) k f = expression_taken strict (one a_link) t tt e
 taken_by strict y t e (one a_chain) k f = absurd (refused_here strict (one a_chain) shape.Identifier (y ∷ []) 0 none refl f)
 taken_by strict y t e s k f = absurd k
@@ -147,6 +149,7 @@ module _ (strict : Bool) where
   -- no other expression is a property
   no_property : (l : Lead) (b : Bool) → Stands AsValue l b → is_spreading l ≡ false → (t u : Tree) (ts : Trees) → FitsAs (asked_below (head_of l) AsValue (place 0 (before l))) t u → fits strict (one an_object_property) (node (shape_by (head_of l)) [] 0 (append (before l) (t ▸ ts))) ≡ true → fits strict (one an_object_property) (node (shape_by (head_of l)) [] 0 (append (before l) (u ▸ ts))) ≡ true
   no_property Spreading b s o t u ts f e = absurd (true≢false o)
+  no_property Bracketing b s o t u ts f e = first_of (fits strict (one (a_key true)) t) (fits strict (one (a_key true)) u) _ (f (one (a_key true)) tt) e
   no_property (Fielding g a) b s o t u ts f e = second_of (fits strict (one (a_key g)) a) (fits strict (one an_expression) t) (fits strict (one an_expression) u) _ (f (one an_expression) tt) e
   no_property l b s o t u ts f e = absurd (refused_here strict (one an_object_property) (shape_by (head_of l)) [] 0 (append (before l) (t ▸ ts)) refl e)
 
@@ -157,9 +160,25 @@ module _ (strict : Bool) where
   spread_room (one an_argument) k t u ts f e = first_of (fits strict (one an_expression) t) (fits strict (one an_expression) u) _ (f (one an_expression) tt) e
   spread_room (one_or_absent an_argument) k t u ts f e = first_of (fits strict (one an_expression) t) (fits strict (one an_expression) u) _ (f (one an_expression) tt) e
   spread_room (one an_object_property) k t u ts f e = first_of (fits strict (one an_expression) t) (fits strict (one an_expression) u) _ (f (one an_expression) tt) e
+  spread_room (one (a_key true)) k t u ts f e = absurd (refused_here strict (one (a_key true)) shape.SpreadElement [] 0 (t ▸ ts) refl e)
   spread_room (one a_link) k t u ts f e = absurd (refused_here strict (one a_link) shape.SpreadElement [] 0 (t ▸ ts) refl e)
   spread_room (one a_chain) k t u ts f e = absurd (refused_here strict (one a_chain) shape.SpreadElement [] 0 (t ▸ ts) refl e)
   spread_room s k t u ts f e = absurd k
+
+  key_room : (l : Lead) (b : Bool) → Stands AsValue l b → AsExpression l (one (a_key true))
+  key_room (Called true) b s ts = refl
+  key_room (Called false) b s ts = refl
+  key_room (Member true) b s ts = refl
+  key_room (Member false) b s ts = refl
+  key_room (Keyed true) b s ts = refl
+  key_room (Keyed false) b s ts = refl
+  key_room (Given true a) b s ts = refl
+  key_room (Given false a) b s ts = refl
+  key_room (Keying true a) b s ts = refl
+  key_room (Keying false a) b s ts = refl
+  key_room (Waiting true) b s ts = refl
+  key_room (Waiting false) b s ts = refl
+  key_room l b s ts = refl
 
   -- links, whose first part stands in the chain, too
   abbrev is_link_lead : Lead → Bool
@@ -207,6 +226,7 @@ module _ (strict : Bool) where
   other_room l b s o (one an_argument) k t u ts f g e = argument_room l b s o (append (before l) (u ▸ ts)) ∙ g (sym (argument_room l b s o (append (before l) (t ▸ ts))) ∙ e)
   other_room l b s o (one_or_absent an_argument) k t u ts f g e = element_room l b s o (append (before l) (u ▸ ts)) ∙ g (sym (element_room l b s o (append (before l) (t ▸ ts))) ∙ e)
   other_room l b s o (one an_object_property) k t u ts f g e = no_property l b s o t u ts f e
+  other_room l b s o (one (a_key true)) k t u ts f g e = key_room l b s (append (before l) (u ▸ ts)) ∙ g (sym (key_room l b s (append (before l) (t ▸ ts))) ∙ e)
   other_room l b s o (one a_link) k t u ts f g e = in_link l b s o t u ts f g e
   other_room l b s o (one a_chain) k t u ts f g e = in_chain l b s t u ts (λ h. in_link l b s o t u ts f g h) e
   other_room l b s o r k t u ts f g e = absurd k
@@ -257,6 +277,7 @@ module _ (strict : Bool) where
   value_step (Storing Assign a) b s t u ts c n p f e = second_of (fits strict (one a_target) a) (fits strict (one an_expression) t) (fits strict (one an_expression) u) _ (f (one an_expression) tt) e
   value_step (Storing o a) b s t u ts c n p f e = second_of (fits strict (one a_simple_target) a) (fits strict (one an_expression) t) (fits strict (one an_expression) u) _ (f (one an_expression) tt) e
   value_step Gathering b s t u ts c n p f e = first_of (fits strict (many an_object_property) t) (fits strict (many an_object_property) u) _ (f (many an_object_property) tt) e
+  value_step Bracketing b s t u ts c n p f e = absurd (refused_here strict (one an_expression) (shape.ObjectProperty Init false false true) [] 0 (t ▸ ts) refl e)
   value_step Spreading b s t u ts c n p f e = absurd (refused_here strict (one an_expression) shape.SpreadElement [] 0 (t ▸ ts) refl e)
   value_step (Fielding g a) b s t u ts c n p f e = absurd (refused_here strict (one an_expression) (shape.ObjectProperty Init false false g) [] 0 (a ▸ (t ▸ ts)) refl e)
   value_step l b s t u ts c n p f e = absurd s
@@ -300,6 +321,7 @@ module _ (strict : Bool) where
   below_value Holding b s e = cc e
   below_value Gathering b s e = cc e
   below_value Spreading b s e = cc e
+  below_value Bracketing b s e = cc e
   below_value (Against o a) b s e = cc e
   below_value (Given o a) b s e = cc e
   below_value (Filling a) b s e = cc e
@@ -464,6 +486,7 @@ begun_there strict (s ∷ ss) w y e = by s.lead w.0 (append (before s.lead) (led
     by Holding s ts e = e
     by Gathering s ts e = e
     by Spreading s ts e = e
+    by Bracketing s ts e = e
     by (Against o a) s ts e = e
     by (Given o a) s ts e = e
     by (Filling a) s ts e = e

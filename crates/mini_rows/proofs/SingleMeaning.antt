@@ -19,15 +19,15 @@ use Rattle.mini_model.specs.Tree.{Tree, Trees, node, none, ◌▸◌, count, ide
 use Rattle.mini_model.specs.Paths.{append}
 use Rattle.mini_model.specs.Weight.{same_text}
 use Rattle.mini_laws.specs.Value.{Value, Boolean, Declared, VariableSet, Slot, Holds, choose, truth, is_nullish, variable_eq}
-use Rattle.mini_laws.specs.Conversion.{Made, makes, raises, outside, to_number, known_member}
+use Rattle.mini_laws.specs.Conversion.{key_value, Made, makes, raises, outside, to_number, known_member}
 use Rattle.mini_laws.specs.Operators.{of_number, strictly_equal, loosely_equal, of_numbers, of_primitives}
-use Rattle.mini_laws.specs.State.{Hint, ForDefault, ForNumber, GetOf, CallOf, DirectEval, Coerce, Entry, Item, Stop, Short, State, Completion, ok, stop, halt, out, Ends, done, ended, either, Environment, with_vars}
+use Rattle.mini_laws.specs.State.{Hint, ForDefault, ForNumber, ForString, GetOf, CallOf, DirectEval, Coerce, Entry, Item, Stop, Short, State, Completion, ok, stop, halt, out, Ends, done, ended, either, Environment, with_vars}
 use Rattle.mini_laws.specs.Demand.{Want, Val, Test, Unused, Demand, As, Callee, OfType, Target, AnEntry, Parts, Items, Stat, Reference, AMember, TargetRequest, Prepare, Fetch, Put, Called, Request, Reply, Says, says}
 use Rattle.mini_laws.specs.Command.{set_var, Command, ret, fails, stuck, op, kid, then, attempt, bind, shift, emit, act, Gets, run, read_slot, at_variable, is_object}
 use Rattle.mini_laws.specs.Naming.{EvalName, PlainName, Facts, Summary, summary, summaries, facts_all, naming}
 use Rattle.mini_laws.specs.Asking.{pass, demand, first_demand, parts_demand, logical_demand, chained}
 use Rattle.mini_laws.specs.Replies.{reply, valued, passed, passing, merged, raise, of_made, of_option, primitive, hint_of, numeric, is_of_primitives, operate, loosely, or_event, get_member}
-use Rattle.mini_laws.specs.Expressions.{get_identifier, operate_by, binary_step, and_step, or_step, logical_step, conditional_step, sequence_step, not_step, typeof_step, property_step, number_step, void_step, call_event, call_step, new_step, array_step, object_step, yield_step, chain_end, chain_value, chain_step, member_step, got, called_member}
+use Rattle.mini_laws.specs.Expressions.{get_identifier, operate_by, binary_step, and_step, or_step, logical_step, conditional_step, sequence_step, not_step, typeof_step, property_key, property_step, number_step, void_step, call_event, call_step, new_step, array_step, object_step, yield_step, chain_end, chain_value, chain_step, member_step, got, called_member}
 use Rattle.mini_laws.specs.Lists.{entries, parts, spread_step}
 use Rattle.mini_laws.specs.Targets.{as_member, AssignmentKind, Plainly, Computing, Deciding as DecidingKind, assignment_kind, assigns, AssignDemand, put_target, after_read, assign_by, assignment_step}
 use Rattle.mini_laws.specs.Statements.{if_step, return_step, throw_step}
@@ -56,7 +56,7 @@ use Rattle.mini_rows.proofs.CalledReads.{called_read, name_called_read}
 use Rattle.mini_rows.proofs.ChainCalm.{Calm as Calmly, tree_calm}
 use Rattle.mini_rows.proofs.ItemReads.{item_read}
 use Rattle.mini_rows.proofs.Passing.{Replies, Does, Mild, Replying, Quietly, constant_replies, word_replies, target_replies, field_replies, field_quietly, quiet_there, quietly, fetched_quietly, passes_by}
-use Rattle.mini_rows.proofs.SingleUse.{Lead, Not, Plus, Minus, Tilde, Typing, Emptying, Beside, Deciding, Choosing, Passing, Called as CalledLead, Making, Waiting, Member, Keyed, Linking, Holding, Against, Given as GivenLead, Filling, Keying, Following, Branching, Failing, Storing, Gathering, Fielding, Spreading, Listing, Doing, Giving, Raising, Testing, head_of, before, place, Step, led, is_end, is_steady, surely, Stands, Well, Spared, AllPass, whole, End, free, end_of, Allows, PassedIn, summaries_led}
+use Rattle.mini_rows.proofs.SingleUse.{Lead, Not, Plus, Minus, Tilde, Typing, Emptying, Beside, Deciding, Choosing, Passing, Called as CalledLead, Making, Waiting, Member, Keyed, Linking, Holding, Against, Given as GivenLead, Filling, Keying, Following, Branching, Failing, Storing, Gathering, Fielding, Spreading, Bracketing, Listing, Doing, Giving, Raising, Testing, head_of, before, place, Step, led, is_end, is_steady, surely, Stands, Well, Spared, AllPass, whole, End, free, end_of, Allows, PassedIn, summaries_led}
 use Rattle.mini_rows.proofs.UnusedNames.{all_avoided}
 
 -- ---- a command that doesn't ask a child any more
@@ -409,6 +409,19 @@ module _ (f d : Bool) where
   chains e AnEntry u r = reach_bind f d 0 0 {σ = λ i. As Val} (kid 0 tt chain_value) (reply AnEntry r) (chain_read e) (λ v. tt)
   chains e q u r = absurd u
 
+  -- the key in brackets of one
+  key_later : (v : Value) → Later 0 {σ = λ i. As Val} (property_key true v)
+  key_later v = later_bind 0 (primitive ForString v) (λ key. ret (key_value key)) (primitive_later 0 (λ i. As Val) ForString v) (λ x. tt)
+
+  brackets : (m : Bool) (q : Demand) → Valued q → Entries m q → (r : Request q) → (m || f) ≡ true → Reaches f d 0 0 (entry q r (property_step Init false false true))
+  brackets m AnEntry u n r e = reach_bind f d 0 0 {σ = λ i. As Val} (property_step Init false false true) ret (one f d 0 0 (λ i. As Val) Entry tt _ (λ v. later_bind 0 (property_key true v) _ (key_later v) (λ key. (tt, (λ w. tt, λ y. tt))))) (λ v. tt)
+  brackets false (As w) u n r e = (e, tt)
+  brackets false Callee u n r e = (e, tt)
+  brackets false OfType u n r e = (e, tt)
+  brackets false q u n r e = absurd u
+  brackets true Items u n r e = absurd u
+  brackets true q u n r e = absurd n
+
   -- what is spread
   spreads : (m : Bool) (q : Demand) → Valued q → Entries m q → (r : Request q) → (m || f) ≡ true → Reaches f d 0 0 (entry q r spread_step)
   spreads m AnEntry u n r e = reach_bind f d 0 0 {σ = λ i. As Val} spread_step ret (one f d 0 0 (λ i. As Val) Entry tt _ (λ v. (λ w. tt, λ y. tt))) (λ v. tt)
@@ -525,6 +538,7 @@ value_asks f d m (Failing a t) v s b g w fs q u n r = record { reaches = λ y. r
 value_asks f d m (Storing o a) v s b g w fs q u n r = record { reaches = λ y. reach_valued f d 1 1 AssignDemand q u r (assignment_step o) (stores f d o y); below = tt; first = tt }
 value_asks f d m (Fielding false a) v s b g w fs q u n r = record { reaches = λ y. fields f d m q u n r y; below = tt; first = (tt, tt) }
 value_asks f d m (Fielding true a) v s b g w fs q u n r = record { reaches = λ y. absurd (true≢false (sym y)); below = tt; first = (tt, tt) }
+value_asks f d m Bracketing v s b g w fs q u n r = record { reaches = λ y. brackets f d m q u n r y; below = tt; first = tt }
 value_asks f d m Spreading v s b g w fs q u n r = record { reaches = λ y. spreads f d m q u n r y; below = tt; first = tt }
 value_asks f d m Linking v s b g w fs q u n r = record { reaches = λ y. chains f d w q u r; below = held q u g; first = tt }
   where
@@ -594,6 +608,7 @@ steady_sure m f (Failing a b) e = absurd (true≢false (sym e))
 steady_sure m f (Storing o a) e = absurd (true≢false (sym e))
 steady_sure m f (Fielding c a) e = absurd (true≢false (sym e))
 steady_sure m f Spreading e = absurd (true≢false (sym e))
+steady_sure m f Bracketing e = absurd (true≢false (sym e))
 steady_sure m f (GivenLead o a) e = ap (λ b. b || f) e
 steady_sure m f (Keying o a) e = ap (λ b. b || f) e
 steady_sure m f l e = refl

@@ -51,6 +51,7 @@ pub data Lead : Type 0 where
   Holding : Lead
   Gathering : Lead
   Spreading : Lead
+  Bracketing : Lead
   -- after the first part
   Against : BinaryOperator → Tree → Lead
   Given : Bool → Tree → Lead
@@ -92,6 +93,7 @@ head_of Linking = Chain
 head_of Holding = Array
 head_of Gathering = Object
 head_of Spreading = Spread
+head_of Bracketing = Property false true
 head_of (Against o a) = Binary o
 head_of (Given o a) = Call o
 head_of (Filling a) = New
@@ -129,6 +131,7 @@ is_steady (Failing a b) = false
 is_steady (Storing o a) = false
 is_steady (Fielding c a) = false
 is_steady Spreading = false
+is_steady Bracketing = false
 is_steady (Given o a) = not o
 is_steady (Keying o a) = not o
 is_steady l = true
@@ -141,6 +144,7 @@ surely m is_free (Failing a b) = is_free
 surely m is_free (Storing o a) = is_plain_assignment o || is_free
 surely m is_free (Fielding c a) = not c && (m || is_free)
 surely m is_free Spreading = m || is_free
+surely m is_free Bracketing = m || is_free
 surely m is_free (Given o a) = not o || is_free
 surely m is_free (Keying o a) = not o || is_free
 surely m is_free l = true
@@ -188,6 +192,7 @@ Stands AsValue Linking at_end = at_end ≡ false
 Stands AsValue Holding at_end = Unit {0}
 Stands AsValue Gathering at_end = Unit {0}
 Stands AsValue Spreading at_end = Unit {0}
+Stands AsValue Bracketing at_end = Unit {0}
 Stands AsValue (Against o a) at_end = Unit {0}
 Stands AsValue (Given o a) at_end = Unit {0}
 Stands AsValue (Filling a) at_end = Unit {0}
@@ -371,6 +376,7 @@ begun_by t shape.NewExpression e = record { lead = Making; is = refl; front = re
 begun_by t shape.ArrayExpression e = record { lead = Holding; is = refl; front = refl; stands = tt; below = refl; direct = refl; sure = λ m f q. refl; suit = λ x r us n e. refl }
 begun_by t shape.ObjectExpression e = record { lead = Gathering; is = refl; front = refl; stands = tt; below = refl; direct = refl; sure = λ m f q. refl; suit = λ x r us n e. refl }
 begun_by t shape.SpreadElement e = record { lead = Spreading; is = refl; front = refl; stands = tt; below = refl; direct = refl; sure = λ m f q. placed_there (m || f) true q; suit = λ x r us n e. refl }
+begun_by t (shape.ObjectProperty Init false false true) e = record { lead = Bracketing; is = refl; front = refl; stands = tt; below = refl; direct = refl; sure = λ m f q. placed_there (m || f) true q; suit = λ x r us n e. refl }
 begun_by t (shape.YieldExpression d) e = record { lead = Waiting d; is = refl; front = refl; stands = tt; below = refl; direct = refl; sure = λ m f q. refl; suit = λ x r us n e. refl }
 begun_by t (shape.StaticMemberExpression o) e = record { lead = Member o; is = refl; front = refl; stands = tt; below = refl; direct = refl; sure = λ m f q. refl; suit = λ x r us n e. refl }
 begun_by t shape.ChainExpression e = record { lead = Linking; is = refl; front = refl; stands = not_leaf (is_childless t) e; below = refl; direct = e; sure = λ m f q. refl; suit = λ x r us n e. (and_parts (not (is_childless t && names x t) || true) (is_calm r) e).1 }

@@ -26,7 +26,7 @@ use Rattle.mini_rows.proofs.BooleanWeights.{moved}
 use Rattle.mini_rows.proofs.ListWeights.{total, in_list, comma_list, declarators_append}
 use Rattle.mini_rows.proofs.ListKeptHeads as opening
 use Rattle.mini_rows.proofs.ListKeptHeads.{Loop, Choice, seated}
-use Rattle.mini_rows.proofs.SingleUse.{Lead, Not, Plus, Minus, Tilde, Typing, Emptying, Beside, Deciding, Choosing, Passing, Called, Making, Waiting, Member, Keyed, Linking, Holding, Against, Given, Filling, Keying, Following, Branching, Failing, Storing, Gathering, Fielding, Spreading, Listing, Doing, Giving, Raising, Testing, head_of, before, place, Step, led, is_end, Stands, Well, Initial, heads, path, statement, Outside, Over, Heads, Path}
+use Rattle.mini_rows.proofs.SingleUse.{Lead, Not, Plus, Minus, Tilde, Typing, Emptying, Beside, Deciding, Choosing, Passing, Called, Making, Waiting, Member, Keyed, Linking, Holding, Against, Given, Filling, Keying, Following, Branching, Failing, Storing, Gathering, Fielding, Spreading, Bracketing, Listing, Doing, Giving, Raising, Testing, head_of, before, place, Step, led, is_end, Stands, Well, Initial, heads, path, statement, Outside, Over, Heads, Path}
 
 -- ---- where the steps stand
 
@@ -70,6 +70,7 @@ placed_value Linking b s p n = tt
 placed_value Holding b s p n = tt
 placed_value Gathering b s p n = tt
 placed_value Spreading b s p n = tt
+placed_value Bracketing b s p n = tt
 placed_value (Against o a) b s p n = tt
 placed_value (Given o a) b s p n = tt
 placed_value (Filling a) b s p n = tt
@@ -136,6 +137,7 @@ same_value Linking b s q t u ts z = refl
 same_value Holding b s q t u ts z = refl
 same_value Gathering b s q t u ts z = refl
 same_value Spreading b s q t u ts z = refl
+same_value Bracketing b s q t u ts z = refl
 same_value (Against o a) b s q t u ts z = refl
 same_value (Given o a) b s q t u ts z = refl
 same_value (Filling a) b s q t u ts z = refl
@@ -167,6 +169,7 @@ same_there Linking b s t u ts z = refl
 same_there Holding b s t u ts z = refl
 same_there Gathering b s t u ts z = refl
 same_there Spreading b s t u ts z = refl
+same_there Bracketing b s t u ts z = refl
 same_there (Against o a) b s t u ts z = refl
 same_there (Given o a) b s t u ts z = refl
 same_there (Filling a) b s t u ts z = refl

@@ -165,12 +165,17 @@ abbrev pub spread_asked : Asked → Asked
 spread_asked AsValue = AsValue
 spread_asked c = AsWord
 
+-- a key that stands in brackets is an expression
+abbrev pub key_asked : Bool → Asked
+key_asked true = AsValue
+key_asked false = AsWord
+
 abbrev pub asked_below : Head → Asked → ℕ → Asked
 asked_below AList c i = item_asked c
 asked_below Sequence c i = AsValues
 asked_below Array c i = AsValues
 asked_below Object c i = AsValues
-asked_below (Property is_shorthand is_computed) c zero = AsWord
+asked_below (Property is_shorthand is_computed) c zero = key_asked is_computed
 asked_below Spread c i = spread_asked c
 asked_below (Call is_optional) c (suc i) = AsValues
 asked_below New c (suc i) = AsValues

@@ -116,7 +116,7 @@ is_childless (node h ys n none) = true
 is_childless t = false
 
 -- what evaluates this part, its first one, before all else, and asks for its value, for what is called, or for what `typeof` reads. The name
--- of a direct eval isn't such a part, and what a chain holds is a link
+-- of a direct eval isn't such a part, and what a chain holds is a link. Of a property it is a key in brackets
 abbrev pub begins : Shape → Tree → Bool
 begins (shape.UnaryExpression LogicalNot) t = true
 begins (shape.UnaryExpression UnaryPlus) t = true
@@ -133,6 +133,7 @@ begins shape.NewExpression t = true
 begins shape.ArrayExpression t = true
 begins shape.ObjectExpression t = true
 begins shape.SpreadElement t = true
+begins (shape.ObjectProperty Init false false true) t = true
 begins (shape.YieldExpression is_delegate) t = true
 begins (shape.StaticMemberExpression is_optional) t = true
 begins (shape.ComputedMemberExpression is_optional) t = true

@@ -50,6 +50,7 @@ fn begins(shape: &Shape, node: &Node) -> bool
         | Shape::ArrayExpression
         | Shape::ObjectExpression
         | Shape::SpreadElement
+        | Shape::ObjectProperty(PropertyKind::Init, false, false, true)
         | Shape::YieldExpression(_)
         | Shape::StaticMemberExpression(_)
         | Shape::ComputedMemberExpression(_) => true,
