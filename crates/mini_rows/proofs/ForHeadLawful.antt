@@ -1,7 +1,7 @@
 -- What the rows of names that nothing mentions write of the head of a `for` is loosely lawful.
 use Rattle.std.specs.Prelude.{ℕ, ◌≡◌, ◌⊎◌, refl, ◌&&◌, Bool, true, false, [], Contains, Option, None, nat_le}
-use Rattle.std.proofs.Common.{ap, ◌∙◌, sym, subst, inl, inr, true≢false}
-use Rattle.std.proofs.lemmas.Bool.{and_parts}
+use Rattle.std.proofs.Common.{ap, ◌∙◌, sym, subst, inl, inr, true≢false, arith}
+use Rattle.std.proofs.lemmas.Bool.{and_parts, le-leb}
 use Rattle.mini_model.specs.declared.kind.VariableDeclarationKind.{VariableDeclarationKind}
 use Rattle.mini_model.specs.declared.name.Name.{Name}
 use Rattle.mini_model.specs.declared.place.Position.{Position}
@@ -9,16 +9,25 @@ use Rattle.mini_model.specs.declared.place.Position.TheVariants.{Stmt}
 use Rattle.mini_model.specs.declared.seat.StmtSeat.{StmtSeat}
 use Rattle.mini_model.specs.declared.shape.Shape.{Shape}
 use Rattle.mini_model.specs.declared.shape.Shape.TheVariants as shape
-use Rattle.mini_model.specs.Tree.{Tree, Trees, none, ◌▸◌, shape_of, count}
+use Rattle.mini_model.specs.Tree.{Tree, Trees, none, ◌▸◌, absent, shape_of, count, empty_statement}
 use Rattle.mini_model.specs.Paths.{append}
 use Rattle.mini_accept.specs.WellShaped.{Depth, in_module, in_body, nested, Class, a_statement, a_declarator, a_key, a_private_or_key, an_inner_key, a_default_export, an_init, an_expression, Slot, one, one_or_absent, each, filling, filling_by, fits, fill}
 use Rattle.mini_laws.specs.Value.{Declared, VariableSet, nothing}
 use Rattle.mini_laws.specs.State.{Environment}
 use Rattle.mini_laws.specs.Demand.{Tail, Stat}
 use Rattle.mini_laws.specs.Naming.{summary}
+use Rattle.mini_laws.specs.DeclaredNames.{names_of, has_inner}
+use Rattle.mini_laws.specs.Early.{early_names, scope_declarations, early_jumps, targets_of}
 use Rattle.mini_laws.specs.Same.{Same}
+use Rattle.mini_laws.specs.Scoped.{Scoped, Unmentioned}
+use Rattle.mini_laws.specs.Scopes.{scopes_by}
+use Rattle.mini_laws.specs.Step.{means}
+use Rattle.mini_laws.specs.Symbols.{declared as declared_in}
 use Rattle.mini_laws.specs.Substitution.{alone}
 use Rattle.mini_laws.specs.Bodies.{arrow_kind}
+use Rattle.mini_laws.proofs.Anywhere.{in_each_tail}
+use Rattle.mini_laws.proofs.Congruent.{transitive}
+use Rattle.mini_kept.specs.Carried.{numbers}
 use Rattle.mini_kept.specs.Declaring.{declared}
 use Rattle.mini_kept.specs.KeepsFrames.{is_in_body, is_body_slot, IsShownAlike, NoPort, NoDeclaration, KeepsFunction, KeepsHolder}
 use Rattle.mini_kept.specs.KeepsLoosely.{KeepsLoosely}
@@ -37,35 +46,38 @@ use Rattle.mini_kept.proofs.ShownFrames.{kept_shown}
 use Rattle.mini_kept.proofs.WithoutLists.{from_kept}
 use Rattle.mini_rows.specs.Declarations.{binding, declarator}
 use Rattle.mini_rows.specs.Lists.{declaration, for_loop}
-use Rattle.mini_rows.specs.Unused.{resolved, declared_among, declared_left, names, any_names, ForRow}
+use Rattle.mini_rows.specs.Unused.{resolved, declared_among, declared_left, head_left, names, any_names, ForRow}
 use Rattle.mini_rows.proofs.DeclaredKept.{idle_leaves, idle_names}
 use Rattle.mini_rows.proofs.ForHeadKept.{for_less, for_kept, for_keeps, for_fixed, for_frames, for_bodies, for_declares}
+use Rattle.mini_rows.proofs.ListLoops.{for_none_is}
 use Rattle.mini_rows.proofs.ListShapes.{init_declares, append_fits, both_fit, first_fits}
 use Rattle.mini_rows.proofs.UnusedKept.{LeavesThere, NamesThere}
 use Rattle.mini_rows.proofs.UnusedLawful.{Dropped, in_tails, idle_vanishes}
 use Rattle.mini_rows.proofs.UnusedMeaning.{for_same}
 use Rattle.mini_rows.proofs.UnusedNames.{or_parts, unmentioned, all_avoided}
+use Rattle.mini_rows.proofs.Weaker.{weaker_goes}
 
--- ---- the declaration without the declarator fits where it stood
+-- ---- what is left of the declaration fits where it stood
 
-some_left : (K : VariableDeclarationKind) (ds : Trees) → nat_le 1 (count ds) ≡ true → declared_left K ds ≡ declaration K ds
-some_left K none e = absurd (true≢false (sym e))
-some_left K (t ▸ ds) e = refl
+-- what is so of nothing and of a declaration over others is so of what is left
+left_by : (P : Trees → Tree → Type 0) (K : VariableDeclarationKind) → P none absent → ((t : Tree) (ts : Trees) → P (t ▸ ts) (declaration K (t ▸ ts))) → (ds : Trees) → P ds (head_left K ds)
+left_by P K f g none = f
+left_by P K f g (t ▸ ds) = g t ds
 
-module _ (K : VariableDeclarationKind) (x : Name) (first : Trees) (init : Tree) (last : Trees) (some : nat_le 1 (count (append first last)) ≡ true) (test update body : Tree) where
+module _ (K : VariableDeclarationKind) (x : Name) (first : Trees) (init : Tree) (last : Trees) (test update body : Tree) where
   abbrev before : Tree
   before = declared_among K x first init last
 
   abbrev after : Tree
-  after = declaration K (append first last)
+  after = head_left K (append first last)
 
-  head_fits : (strict : Bool) → fits strict (one_or_absent an_init) before ≡ true → fits strict (one_or_absent an_init) after ≡ true
+  pub head_fits : (strict : Bool) → fits strict (one_or_absent an_init) before ≡ true → fits strict (one_or_absent an_init) after ≡ true
   head_fits strict e =
       let ds = append first (declarator (binding x) init ▸ last) in
       let all = (and_parts (nat_le 1 (count ds)) (fill strict (each (one a_declarator)) ds && true) (sym (init_declares strict K ds) ∙ e)).1 in
       let (f, g) = both_fit strict (one a_declarator) first (declarator (binding x) init ▸ last) (left (fill strict (each (one a_declarator)) ds) true all) in
       let rest = append_fits strict (one a_declarator) first last f (first_fits strict (one a_declarator) (declarator (binding x) init) last g).1 in
-      init_declares strict K (append first last) ∙ both (nat_le 1 (count (append first last))) (fill strict (each (one a_declarator)) (append first last) && true) some (both (fill strict (each (one a_declarator)) (append first last)) true rest refl)
+      left_by (λ ds t. fill strict (each (one a_declarator)) ds ≡ true → fits strict (one_or_absent an_init) t ≡ true) K (λ h. refl) (λ t ts h. init_declares strict K (t ▸ ts) ∙ both (nat_le 1 (count (t ▸ ts))) (fill strict (each (one a_declarator)) (t ▸ ts) && true) (le-leb 1 (count (t ▸ ts)) (omega arith)) (both (fill strict (each (one a_declarator)) (t ▸ ts)) true h refl)) (append first last) rest
 
   abbrev Rest : Bool → Bool
   Rest strict = fits strict (one_or_absent an_expression) test && (fits strict (one_or_absent an_expression) update && (fits strict (one (a_statement nested)) body && true))
@@ -101,6 +113,43 @@ module _ (K : VariableDeclarationKind) (x : Name) (first : Trees) (init : Tree) 
   in_slot strict p (one_or_absent c) e = let (f, g) = in_class strict c e in (f, g)
   in_slot strict p s e = absurd (refused strict s refl e)
 
+-- ---- what is left of the declaration, and what is left of it as a statement
+
+no_statement_leaves : (x : Name) (d : Trees) → LeavesThere x d (empty_statement ▸ none) → LeavesThere x d (absent ▸ none)
+unfolding has_inner Scoped scopes_by Unmentioned declared_in numbers early_names scope_declarations early_jumps targets_of
+no_statement_leaves x d l = record {
+  inner = l.inner;
+  inner_back = l.inner_back;
+  scoped = l.scoped;
+  unmentioned = l.unmentioned;
+  symbols = l.symbols;
+  numbered = l.numbered;
+  once = l.once;
+  targets = l.targets;
+  framed = l.framed;
+  bodied = l.bodied;
+  fixed = l.fixed;
+  fixed_back = l.fixed_back;
+  declares = l.declares;
+}
+
+no_statement_names : (x : Name) (d : Trees) → NamesThere x d (empty_statement ▸ none) → NamesThere x d (absent ▸ none)
+unfolding names_of
+no_statement_names x d n = record { first = n.first; last = n.last; names = n.names; left = n.left; others_first = n.others_first; others_last = n.others_last; hoists = n.hoists; clash = n.clash }
+
+pub left_leaves : (x : Name) (K : VariableDeclarationKind) (d : Tree) (ts : Trees) → LeavesThere x (d ▸ none) (declared_left K ts ▸ none) → LeavesThere x (d ▸ none) (head_left K ts ▸ none)
+left_leaves x K d none l = no_statement_leaves x (d ▸ none) l
+left_leaves x K d (t ▸ ts) l = l
+
+left_names : (x : Name) (K : VariableDeclarationKind) (d : Tree) (ts : Trees) → NamesThere x (d ▸ none) (declared_left K ts ▸ none) → NamesThere x (d ▸ none) (head_left K ts ▸ none)
+left_names x K d none n = no_statement_names x (d ▸ none) n
+left_names x K d (t ▸ ts) n = n
+
+-- a `for` with a declaration of no name means the same without it
+left_same : (e : Environment) (D : VariableSet) (K : VariableDeclarationKind) (t u b : Tree) (ds : Trees) (o : Option Tail) → Same e D nothing (Stat o) (for_loop (declaration K ds) t u b) (for_loop (head_left K ds) t u b)
+left_same e D K t u b none o = in_each_tail e D nothing (for_loop (declaration K none) t u b) (for_loop absent t u b) (record { by = λ r s i. weaker_goes D (means e (for_loop (declaration K none) t u b) (Stat None) r s) (means e (for_loop absent t u b) (Stat None) r s) (inr (for_none_is e t u b K r s)) }) o
+left_same e D K t u b (d ▸ ds) o = record { by = λ r s i. weaker_goes D (means e (for_loop (declaration K (d ▸ ds)) t u b) (Stat o) r s) (means e (for_loop (declaration K (d ▸ ds)) t u b) (Stat o) r s) (inr refl) }
+
 -- ---- a name that is dropped
 
 module _ (q : StmtSeat) (n w : Tree) (r : ForRow n w) where
@@ -114,7 +163,7 @@ module _ (q : StmtSeat) (n w : Tree) (r : ForRow n w) where
   d = declared_among r.kind x r.first r.init r.last
 
   abbrev v : Tree
-  v = declaration r.kind (append r.first r.last)
+  v = head_left r.kind (append r.first r.last)
 
   abbrev this : Tree
   this = for_loop d r.test r.update r.body
@@ -122,14 +171,11 @@ module _ (q : StmtSeat) (n w : Tree) (r : ForRow n w) where
   abbrev that : Tree
   that = for_loop v r.test r.update r.body
 
-  left_is : declared_left r.kind (append r.first r.last) ≡ v
-  left_is = some_left r.kind (append r.first r.last) r.others
-
   leaves : LeavesThere x (d ▸ none) (v ▸ none)
-  leaves = subst (λ t. LeavesThere x (d ▸ none) (t ▸ none)) left_is (idle_leaves r.kind x r.symbol refl r.first r.init r.last (idle_vanishes r.init r.idle) r.declared_earlier r.declared_later)
+  leaves = left_leaves x r.kind d (append r.first r.last) (idle_leaves r.kind x r.symbol refl r.first r.init r.last (idle_vanishes r.init r.idle) r.declared_earlier r.declared_later)
 
   names_there : NamesThere x (d ▸ none) (v ▸ none)
-  names_there = subst (λ t. NamesThere x (d ▸ none) (t ▸ none)) left_is (idle_names r.kind x r.symbol refl r.first r.init r.last (idle_vanishes r.init r.idle) r.declared_earlier r.declared_later r.lexical)
+  names_there = left_names x r.kind d (append r.first r.last) (idle_names r.kind x r.symbol refl r.first r.init r.last (idle_vanishes r.init r.idle) r.declared_earlier r.declared_later r.lexical)
 
   in_test : (names x r.test ≡ false) × (any_names x (r.update ▸ (r.body ▸ none)) ≡ false)
   in_test = or_parts (names x r.test) (any_names x (r.update ▸ (r.body ▸ none))) r.later
@@ -141,7 +187,10 @@ module _ (q : StmtSeat) (n w : Tree) (r : ForRow n w) where
   in_body_free = (or_parts (names x r.body) false in_update.1).0
 
   same : (e : Environment) → Unseen D e → (t : Option Tail) → Same e D nothing (Stat t) this that
-  same e u t = for_same e r.spelling r.symbol u r.kind r.lexical r.first r.last r.init r.idle (all_avoided x r.symbol refl r.first r.declared_earlier) (all_avoided x r.symbol refl r.last r.declared_later) (r.test ▸ (r.update ▸ (r.body ▸ none))) (all_avoided x r.symbol refl (r.test ▸ (r.update ▸ (r.body ▸ none))) r.later) t
+  same e u t =
+      transitive e D nothing (Stat t) this (for_loop (declaration r.kind (append r.first r.last)) r.test r.update r.body) that
+      (for_same e r.spelling r.symbol u r.kind r.lexical r.first r.last r.init r.idle (all_avoided x r.symbol refl r.first r.declared_earlier) (all_avoided x r.symbol refl r.last r.declared_later) (r.test ▸ (r.update ▸ (r.body ▸ none))) (all_avoided x r.symbol refl (r.test ▸ (r.update ▸ (r.body ▸ none))) r.later) t)
+      (left_same e D r.kind r.test r.update r.body (append r.first r.last) t)
 
   dropped : Dropped q r.symbol this that
   dropped =
@@ -166,16 +215,16 @@ module _ (q : StmtSeat) (n w : Tree) (r : ForRow n w) where
 
   in_place : (strict : Bool) (s : Slot) → fits strict s n ≡ true → (fits strict s w ≡ true) × (is_body_slot (Stmt q) s ≡ true)
   in_place strict s e =
-      let (f, g) = in_slot r.kind x r.first r.init r.last r.others r.test r.update r.body strict (Stmt q) s (sym (ap (fits strict s) r.shape) ∙ e) in
+      let (f, g) = in_slot r.kind x r.first r.init r.last r.test r.update r.body strict (Stmt q) s (sym (ap (fits strict s) r.shape) ∙ e) in
       (ap (fits strict s) r.written ∙ f, g)
 
 -- ---- all
 
 -- whatever is told by the shape
-shaped : (P : Tree → Tree → Type 0) → ((K : VariableDeclarationKind) (ds es : Trees) (t u b : Tree) → P (for_loop (declaration K ds) t u b) (for_loop (declaration K es) t u b)) → (n w : Tree) → ForRow n w → P n w
+shaped : (P : Tree → Tree → Type 0) → ((i j t u b : Tree) → P (for_loop i t u b) (for_loop j t u b)) → (n w : Tree) → ForRow n w → P n w
 shaped P f n w r =
-    let before = append r.first (declarator (binding (resolved r.spelling r.symbol)) r.init ▸ r.last) in
-    subst (λ t. P t w) (sym r.shape) (subst (P (for_loop (declaration r.kind before) r.test r.update r.body)) (sym r.written) (f r.kind before (append r.first r.last) r.test r.update r.body))
+    let before = declared_among r.kind (resolved r.spelling r.symbol) r.first r.init r.last in
+    subst (λ t. P t w) (sym r.shape) (subst (P (for_loop before r.test r.update r.body)) (sym r.written) (f before (head_left r.kind (append r.first r.last)) r.test r.update r.body))
 
 -- of a statement
 abbrev pub OfFor : Position → Tree → Tree → Type 0
@@ -191,21 +240,21 @@ pub heads_loose : (K : Shape → Bool) → LawfulLoosely K OfFor
 heads_loose K = record {
   shapes = record {
     fitting = at_statement (λ p n w. (strict : Bool) (s : Slot) → fits_place p s ≡ true → fits strict s n ≡ true → fits strict s w ≡ true) (λ q n w r strict s o e. (in_place q n w r strict s e).0);
-    asked = at_statement AskedAlike (λ q. shaped (AskedAlike (Stmt q)) (λ K ds es t u b. record { absent = λ g. absurd (true≢false (sym g)); body = λ g. absurd (true≢false (sym g)); optional = λ g. absurd (true≢false (sym g)); number = λ g h. refl; spelled = λ r g. absurd (cc g); plain = refl }));
+    asked = at_statement AskedAlike (λ q. shaped (AskedAlike (Stmt q)) (λ i j t u b. record { absent = λ g. absurd (true≢false (sym g)); body = λ g. absurd (true≢false (sym g)); optional = λ g. absurd (true≢false (sym g)); number = λ g h. refl; spelled = λ r g. absurd (cc g); plain = refl }));
   };
   places = record {
     names = record {
       places = at_statement (λ p n w. (is_rewritten_place p ≡ true) ⊎ KeepsRoot p n w) (λ q n w r. inl refl);
-      pieces = at_statement (λ p n w. is_piece (shape_of n) ≡ false) (λ q. shaped (λ n w. is_piece (shape_of n) ≡ false) (λ K ds es t u b. refl));
+      pieces = at_statement (λ p n w. is_piece (shape_of n) ≡ false) (λ q. shaped (λ n w. is_piece (shape_of n) ≡ false) (λ i j t u b. refl));
       keeps = at_statement (λ p n w. (strict : Bool) (s : Slot) → fits_place p s ≡ true → fits strict s n ≡ true → KeepsLoosely p n w) (λ q n w r strict s o e. (row_dropped q n w r).keeps);
     };
     slots = at_statement (λ p n w. (strict : Bool) (s : Slot) → fits_place p s ≡ true → fits strict s n ≡ true → ((is_body_slot p s ≡ true) ⊎ IsShownAlike s n w) ⊎ KeepsHolder n w) (λ q n w r strict s o e. inl (inl (in_place q n w r strict s e).1));
-    ports = at_statement (λ p n w. (strict : Bool) (d : Depth) → fits strict (one (a_statement d)) n ≡ true → (m : Bool) → NoPort m n w ⊎ KeepsFunction n w) (λ q n w r strict d e m. inl (shaped (NoPort m) (λ K ds es t u b. (refl, refl)) n w r));
+    ports = at_statement (λ p n w. (strict : Bool) (d : Depth) → fits strict (one (a_statement d)) n ≡ true → (m : Bool) → NoPort m n w ⊎ KeepsFunction n w) (λ q n w r strict d e m. inl (shaped (NoPort m) (λ i j t u b. (refl, refl)) n w r));
     listed = λ p n w e c. absurd (at_statement (λ p n w. is_statement_list p ≡ true → ⊥) (λ q n w r e. cc e) p n w c e);
-    exported = at_statement (λ p n w. (strict : Bool) → fits strict (one a_default_export) n ≡ true → NoDeclaration n w ⊎ KeepsFunction n w) (λ q n w r strict e. inl (shaped NoDeclaration (λ K ds es t u b. (refl, refl)) n w r));
+    exported = at_statement (λ p n w. (strict : Bool) → fits strict (one a_default_export) n ≡ true → NoDeclaration n w ⊎ KeepsFunction n w) (λ q n w r strict e. inl (shaped NoDeclaration (λ i j t u b. (refl, refl)) n w r));
   };
-  reads = at_statement (λ p n w. summary n ≡ summary w) (λ q. shaped (λ n w. summary n ≡ summary w) (λ K ds es t u b. refl));
-  kind = at_statement (λ p n w. (strict : Bool) (s : Slot) → fits strict s n ≡ true → arrow_kind (shape_of n) ≡ arrow_kind (shape_of w)) (λ q n w r strict s e. shaped (λ n w. arrow_kind (shape_of n) ≡ arrow_kind (shape_of w)) (λ K ds es t u b. refl) n w r);
+  reads = at_statement (λ p n w. summary n ≡ summary w) (λ q. shaped (λ n w. summary n ≡ summary w) (λ i j t u b. refl));
+  kind = at_statement (λ p n w. (strict : Bool) (s : Slot) → fits strict s n ≡ true → arrow_kind (shape_of n) ≡ arrow_kind (shape_of w)) (λ q n w r strict s e. shaped (λ n w. arrow_kind (shape_of n) ≡ arrow_kind (shape_of w)) (λ i j t u b. refl) n w r);
   declared = at_statement (λ p n w. (y : Name) → Contains (declared w) y → Contains (declared n) y) (λ q n w r. (row_dropped q n w r).declared_there);
   instances = at_statement (λ p n w. Stays p n w ⊎ ((k : ℕ) × Drops K k p n w)) (λ q n w r. inr (r.symbol, (row_dropped q n w r).drops K));
 }

@@ -2,24 +2,26 @@
 use Rattle.std.proofs.Common.{◌≡◌, ℕ, zero, suc, Bool, true, false, [], ◌∷◌, Option, Some, None, refl, sym, ap, ◌∙◌, inl, inr, ⊎_elim, true≢false}
 use Rattle.std.specs.Prelude.{◌⊎◌, ◌||◌}
 use Rattle.std.proofs.lemmas.Bool.{and_parts}
-use Rattle.mini_model.specs.declared.kind.VariableDeclarationKind.TheVariants.{Var}
+use Rattle.mini_model.specs.declared.kind.VariableDeclarationKind.{VariableDeclarationKind}
+use Rattle.mini_model.specs.declared.kind.VariableDeclarationKind.TheVariants.{Var, Let, Const}
 use Rattle.mini_model.specs.declared.shape.Shape.TheVariants as shape
 use Rattle.mini_model.specs.Tree.{Tree, Trees, node, none, ◌▸◌, absent, shape_of}
 use Rattle.mini_laws.specs.Value.{Value, choose, is_nullish}
 use Rattle.mini_laws.specs.State.{NextOf, KeysOf, IteratorOf, Item, State, Thrown, Returned, Broken, Continued, Short, Completion, ok, stop, Ends, done, ended, either, Environment}
 use Rattle.mini_laws.specs.Demand.{Val, LoopTail, Demand, As, Stat, LabelSet}
 use Rattle.mini_laws.specs.Command.{hide, turn, fuel, Naming, Command, ret, fails, op, kid, then, attempt, bind, repeat, loop, emit, Kids, act, run}
-use Rattle.mini_laws.specs.Naming.{Declared, Variables, AClass, summary}
+use Rattle.mini_laws.specs.Naming.{Declared, Variables, AClass, is_lexical, summary}
 use Rattle.mini_laws.specs.Asking.{for_demand, each_demand}
 use Rattle.mini_laws.specs.Replies.{as_ended}
 use Rattle.mini_laws.specs.Statements.{scoped}
-use Rattle.mini_laws.specs.Loops.{after_body, has_label, for_test, for_turn, for_turns, for_step, give_left, each_turn, turn_of, next_of, on_next, keys_in, for_in_step, closing, values_of, for_of_step}
+use Rattle.mini_laws.specs.Loops.{after_body, has_label, copied, for_test, for_turn, for_turns, for_step, give_left, each_turn, turn_of, next_of, on_next, keys_in, for_in_step, closing, values_of, for_of_step}
 use Rattle.mini_laws.specs.Step.{step, means, meaning}
-use Rattle.mini_laws.proofs.Runs.{either_cong, run_bind}
+use Rattle.mini_laws.proofs.Runs.{either_cong, either_ok, run_bind}
 use Rattle.mini_laws.proofs.Stretching.{run_attempt}
 use Rattle.mini_laws.proofs.Tailing.{finished, finish_none}
 use Rattle.mini_rows.specs.Lists.{EachOf, each_loop, for_in, for_loop, declaration, declares_nothing, is_var_shape, is_bare_var, is_plain_left}
-use Rattle.mini_rows.proofs.ListHeads.{nothing_by, for_names, for_kids, for_rest, scoped_is, leaving_nothing}
+use Rattle.mini_rows.proofs.ListHeads.{nothing_by, for_names, for_kids, for_rest, for_absent_is, scoped_is, leaving_nothing}
+use Rattle.mini_rows.proofs.ListStatements.{declaration_is, declare_none}
 
 -- ---- commands that do the same over two families of children
 
@@ -74,36 +76,74 @@ module _ (e : Environment) (names : Naming) (q p : ℕ → Demand) (K : Kids q) 
 abbrev a_var : Option Declared
 a_var = Some (Variables Var)
 
-module _ (e : Environment) (names : Naming) (has_no_test : Bool) (labels : LabelSet) (K : Kids (for_demand None)) (L : Kids (for_demand a_var)) where
+-- where no name is in scope none is copied
+copies_none : (e : Environment) (d : Option Declared) (q : ℕ → Demand) (L : Kids q) {A : Type 0} (c : Command q A) (z : State) → run {q = q} e (for_names []) L c z ≡ run {q = q} e (for_names []) L (copied d c) z
+unfolding act either
+copies_none e (Some (Variables Var)) q L c z = refl
+copies_none e (Some (Variables Let)) q L c z = refl
+copies_none e (Some (Variables Const)) q L c z = refl
+copies_none e (Some AClass) q L c z = refl
+copies_none e None q L c z = refl
+
+-- without an expression in its head, and with a declaration of no name in scope
+module _ (e : Environment) (d : Option Declared) (has_no_test : Bool) (labels : LabelSet) (K : Kids (for_demand None)) (L : Kids (for_demand d)) where
+  abbrev Both : {A : Type 0} → Command (for_demand None) A → Command (for_demand d) A → Type 0
+  Both c c' = Alike e (for_names []) (for_demand None) (for_demand d) K L c c'
+
   abbrev again : Bool → Command (for_demand None) Bool
   again c = choose c (kid 2 tt (then (λ u. ret true))) (ret false)
 
-  abbrev var_again : Bool → Command (for_demand a_var) Bool
-  var_again c = choose c (kid 2 tt (then (λ u. ret true))) (ret false)
+  abbrev again_there : Bool → Command (for_demand d) Bool
+  again_there c = choose c (copied d (kid 2 tt (then (λ u. ret true)))) (ret false)
 
-  tests_alike : ((z : State) → K 1 tt z ≡ L 1 tt z) → (b : Bool) → Alike e names (for_demand None) (for_demand a_var) K L (for_test None b) (for_test a_var b)
+  tests_alike : ((z : State) → K 1 tt z ≡ L 1 tt z) → (b : Bool) → Both (for_test None b) (for_test d b)
   tests_alike h true z = refl
   tests_alike h false z = ap (λ x. either x (λ a y. ok a y) (λ y w. stop y w)) (h z)
 
-  ends_alike : ((z : State) → K 2 tt z ≡ L 2 tt z) → (x : Ends (Unit {0})) → Alike e names (for_demand None) (for_demand a_var) K L (bind (after_body labels x) again) (bind (after_body labels x) var_again)
-  ends_alike h x = bind_alike e names (for_demand None) (for_demand a_var) K L (after_body labels x) (after_body labels x) again var_again (after_alike e names (for_demand None) (for_demand a_var) K L labels x)
-      (λ c. choose_alike e names (for_demand None) (for_demand a_var) K L c (kid 2 tt (then (λ u. ret true))) (ret false) (kid 2 tt (then (λ u. ret true))) (ret false) (λ z. ap (λ x. either x (λ a y. ok true y) (λ y w. stop y w)) (h z)) (λ z. refl))
+  updates_alike : ((z : State) → K 2 tt z ≡ L 2 tt z) → Both (kid 2 tt (then (λ u. ret true))) (copied d (kid 2 tt (then (λ u. ret true))))
+  updates_alike h z = ap (λ x. either x (λ a y. ok true y) (λ y w. stop y w)) (h z) ∙ copies_none e d (for_demand d) L (kid 2 tt (then (λ u. ret true))) z
 
-  turns_alike : ((z : State) → K 1 tt z ≡ L 1 tt z) → ((z : State) → K 2 tt z ≡ L 2 tt z) → ((z : State) → K 3 [] z ≡ L 3 [] z) → Alike e names (for_demand None) (for_demand a_var) K L (for_turns None has_no_test labels) (for_turns a_var has_no_test labels)
-  turns_alike h1 h2 h3 =
-      loop_alike e names (for_demand None) (for_demand a_var) K L (for_turn None has_no_test labels) (for_turn a_var has_no_test labels)
-      (bind_alike e names (for_demand None) (for_demand a_var) K L (for_test None has_no_test) (for_test a_var has_no_test) _ _ (tests_alike h1 has_no_test)
-      (λ b. choose_alike e names (for_demand None) (for_demand a_var) K L b _ _ _ _ (λ z. ap (λ x. either x (λ a y. run {q = for_demand None} e names K (bind (after_body labels (done a)) again) y) (λ x y. run {q = for_demand None} e names K (bind (after_body labels (ended x)) again) y)) (h3 z) ∙ either_cong (L 3 [] z) _ _ _ _ (λ a y. ends_alike h2 (done a) y) (λ x y. ends_alike h2 (ended x) y)) (λ z. refl)))
+  ends_alike : ((z : State) → K 2 tt z ≡ L 2 tt z) → (x : Ends (Unit {0})) → Both (bind (after_body labels x) again) (bind (after_body labels x) again_there)
+  ends_alike h x = bind_alike e (for_names []) (for_demand None) (for_demand d) K L (after_body labels x) (after_body labels x) again again_there (after_alike e (for_names []) (for_demand None) (for_demand d) K L labels x)
+      (λ c. choose_alike e (for_names []) (for_demand None) (for_demand d) K L c (kid 2 tt (then (λ u. ret true))) (ret false) (copied d (kid 2 tt (then (λ u. ret true)))) (ret false) (updates_alike h) (λ z. refl))
 
--- with a `var` in its head
+  turn_alike : ((z : State) → K 1 tt z ≡ L 1 tt z) → ((z : State) → K 2 tt z ≡ L 2 tt z) → ((z : State) → K 3 [] z ≡ L 3 [] z) → Both (for_turn None has_no_test labels) (for_turn d has_no_test labels)
+  turn_alike h1 h2 h3 =
+      bind_alike e (for_names []) (for_demand None) (for_demand d) K L (for_test None has_no_test) (for_test d has_no_test) _ _ (tests_alike h1 has_no_test)
+      (λ b. choose_alike e (for_names []) (for_demand None) (for_demand d) K L b _ _ _ _ (λ z. ap (λ x. either x (λ a y. run {q = for_demand None} e (for_names []) K (bind (after_body labels (done a)) again) y) (λ x y. run {q = for_demand None} e (for_names []) K (bind (after_body labels (ended x)) again) y)) (h3 z) ∙ either_cong (L 3 [] z) _ _ _ _ (λ a y. ends_alike h2 (done a) y) (λ x y. ends_alike h2 (ended x) y)) (λ z. refl))
+
+  turns_alike : ((z : State) → K 1 tt z ≡ L 1 tt z) → ((z : State) → K 2 tt z ≡ L 2 tt z) → ((z : State) → K 3 [] z ≡ L 3 [] z) → Both (for_turns None has_no_test labels) (for_turns d has_no_test labels)
+  turns_alike h1 h2 h3 z =
+      loop_alike e (for_names []) (for_demand None) (for_demand d) K L (for_turn None has_no_test labels) (for_turn d has_no_test labels) (turn_alike h1 h2 h3) z
+      ∙ copies_none e d (for_demand d) L (loop (for_turn d has_no_test labels)) z
+
 module _ (e : Environment) (test update body : Tree) where
-  pub for_var_is : (ds : Trees) (r : LabelSet) (s : State) → means e (for_loop (declaration Var ds) test update body) (Stat None) r s ≡ either (means e (declaration Var ds) (Stat None) [] s) (λ u z. for_rest e test update body r z) (λ x z. stop x z)
+  -- with a declaration in its head that names nothing in scope
+  for_declared_is : (k : VariableDeclarationKind) (ds : Trees) → (summary (declaration k ds)).lets ≡ [] → (r : LabelSet) (s : State) → means e (for_loop (declaration k ds) test update body) (Stat None) r s ≡ either (means e (declaration k ds) (Stat None) [] s) (λ u z. for_rest e test update body r z) (λ x z. stop x z)
   unfolding means meaning step for_rest
-  for_var_is ds r s =
-      finished e (for_names []) (for_demand a_var) (for_kids e test update body (declaration Var ds) a_var) None (for_step a_var (summary test).facts.absent r) s ∙ finish_none _
-      ∙ scoped_is e (for_names []) {q = for_demand a_var} (kid 0 [] (then (λ u. for_turns a_var (summary test).facts.absent r))) (for_kids e test update body (declaration Var ds) a_var) s
+  for_declared_is k ds h r s =
+      finished e (for_names (summary (declaration k ds)).lets) (for_demand (Some (Variables k))) (for_kids e test update body (declaration k ds) (Some (Variables k))) None (for_step (Some (Variables k)) (summary test).facts.absent r) s ∙ finish_none _
+      ∙ ap (λ l. run {q = for_demand (Some (Variables k))} e (for_names l) (for_kids e test update body (declaration k ds) (Some (Variables k))) (for_step (Some (Variables k)) (summary test).facts.absent r) s) h
+      ∙ scoped_is e (for_names []) {q = for_demand (Some (Variables k))} (kid 0 [] (then (λ u. for_turns (Some (Variables k)) (summary test).facts.absent r))) (for_kids e test update body (declaration k ds) (Some (Variables k))) s
       ∙ leaving_nothing (for_names []) refl _
-      ∙ either_cong (means e (declaration Var ds) (Stat None) [] s) _ _ _ _ (λ u z. sym (turns_alike e (for_names []) (summary test).facts.absent r (for_kids e test update body absent None) (for_kids e test update body (declaration Var ds) a_var) (λ z. refl) (λ z. refl) (λ z. refl) z)) (λ x z. refl)
+      ∙ either_cong (means e (declaration k ds) (Stat None) [] s) _ _ _ _ (λ u z. sym (turns_alike e (Some (Variables k)) (summary test).facts.absent r (for_kids e test update body absent None) (for_kids e test update body (declaration k ds) (Some (Variables k))) (λ z. refl) (λ z. refl) (λ z. refl) z)) (λ x z. refl)
+
+  -- with a `var` in its head
+  pub for_var_is : (ds : Trees) (r : LabelSet) (s : State) → means e (for_loop (declaration Var ds) test update body) (Stat None) r s ≡ either (means e (declaration Var ds) (Stat None) [] s) (λ u z. for_rest e test update body r z) (λ x z. stop x z)
+  for_var_is ds = for_declared_is Var ds refl
+
+  no_lets : (k : VariableDeclarationKind) → (summary (declaration k none)).lets ≡ []
+  no_lets Var = refl
+  no_lets Let = refl
+  no_lets Const = refl
+
+  -- and with a declaration of no name it does what it does without one
+  pub for_none_is : (k : VariableDeclarationKind) (r : LabelSet) (s : State) → means e (for_loop (declaration k none) test update body) (Stat None) r s ≡ means e (for_loop absent test update body) (Stat None) r s
+  for_none_is k r s =
+      for_declared_is k none (no_lets k) r s
+      ∙ ap (λ x. either x (λ u z. for_rest e test update body r z) (λ x z. stop x z)) (declaration_is e k none [] s ∙ declare_none e (is_lexical k) s)
+      ∙ either_ok tt s _ _
+      ∙ sym (for_absent_is e test update body r s)
 
 -- ---- `for..in`
 

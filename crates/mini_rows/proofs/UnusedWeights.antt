@@ -10,7 +10,7 @@ use Rattle.mini_model.specs.declared.place.Position.TheVariants.{Expr, Stmt, Met
 use Rattle.mini_model.specs.declared.seat.Seat.{Seat}
 use Rattle.mini_model.specs.declared.seat.StmtSeat.{StmtSeat}
 use Rattle.mini_model.specs.declared.seat.StmtSeat.TheVariants as stmt_seat
-use Rattle.mini_model.specs.Tree.{Tree, Trees, none, ◌▸◌, count, listed, shape_of, empty_statement, expression_statement}
+use Rattle.mini_model.specs.Tree.{Tree, Trees, none, ◌▸◌, absent, count, listed, shape_of, empty_statement, expression_statement}
 use Rattle.mini_model.specs.Paths.{append}
 use Rattle.mini_model.specs.Position.{argument_seat, statement_expression_seat, whole_seat, item_position}
 use Rattle.mini_model.specs.Weight.{commas_weight, outline, outlines, one_chooses, braces_weight, weight, weights}
@@ -18,8 +18,8 @@ use Rattle.mini_laws.specs.Value.{VariableSet}
 use Rattle.mini_laws.proofs.Seats.{moved}
 use Rattle.mini_rows.specs.Declarations.{binding, declarator}
 use Rattle.mini_rows.specs.Cases.{switch_case}
-use Rattle.mini_rows.specs.Lists.{block, switch, declaration}
-use Rattle.mini_rows.specs.Unused.{resolved, declared_among, declared_one, declared_left, put_first, is_definition, BlockRow, ArrowBodyRow, FunctionBodyRow, ModuleRow, StaticBlockRow, switch_around, SwitchRow, ForRow, UnusedRow, UnusedLighten, UnusedLighter}
+use Rattle.mini_rows.specs.Lists.{block, switch, declaration, for_loop}
+use Rattle.mini_rows.specs.Unused.{resolved, declared_among, declared_one, declared_left, head_left, put_first, is_definition, BlockRow, ArrowBodyRow, FunctionBodyRow, ModuleRow, StaticBlockRow, switch_around, SwitchRow, ForRow, UnusedRow, UnusedLighten, UnusedLighter}
 use Rattle.mini_terms.specs.Reading.{is_plain_part}
 use Rattle.mini_rows.proofs.SingleWeights.{single_falls, next_falls}
 use Rattle.mini_rows.proofs.ListWeights.{total, list_is, body_is, in_list, comma_list, declarators_append}
@@ -160,19 +160,22 @@ switch_lighter q n w r =
       ap (weight (Stmt q)) r.written,
     )
 
+-- without a declarator there is one less, or none
+for_falls : (q : StmtSeat) (K : VariableDeclarationKind) (x : Name) (first last : Trees) (init t u b : Tree) → weight (Stmt q) (for_loop (declaration K (append first last)) t u b) < weight (Stmt q) (for_loop (declared_among K x first init last) t u b)
+for_falls q K x first last init t u b =
+    let d = declarator (binding x) init in
+    omega (arith, commas_fall first last d, comma_list (append first last), comma_list (append first (d ▸ last)), declarators_append first last, declarators_append first (d ▸ last))
+
+none_falls : (q : StmtSeat) (K : VariableDeclarationKind) (x : Name) (init t u b : Tree) → weight (Stmt q) (for_loop absent t u b) < weight (Stmt q) (for_loop (declared_one K x init) t u b)
+none_falls q K x init t u b = omega arith
+
+head_falls : (q : StmtSeat) (K : VariableDeclarationKind) (x : Name) (first last : Trees) (init t u b : Tree) → weight (Stmt q) (for_loop (head_left K (append first last)) t u b) < weight (Stmt q) (for_loop (declared_among K x first init last) t u b)
+head_falls q K x none none init t u b = none_falls q K x init t u b
+head_falls q K x none (d ▸ last) init t u b = for_falls q K x none (d ▸ last) init t u b
+head_falls q K x (d ▸ first) last init t u b = for_falls q K x (d ▸ first) last init t u b
+
 for_lighter : (q : StmtSeat) (n w : Tree) → ForRow n w → weight (Stmt q) w < weight (Stmt q) n
-for_lighter q n w r =
-    let d = declarator (binding (resolved r.spelling r.symbol)) r.init in
-    omega (
-      arith,
-      commas_fall r.first r.last d,
-      comma_list (append r.first r.last),
-      comma_list (append r.first (d ▸ r.last)),
-      declarators_append r.first r.last,
-      declarators_append r.first (d ▸ r.last),
-      ap (weight (Stmt q)) r.shape,
-      ap (weight (Stmt q)) r.written,
-    )
+for_lighter q n w r = omega (arith, head_falls q r.kind (resolved r.spelling r.symbol) r.first r.last r.init r.test r.update r.body, ap (weight (Stmt q)) r.shape, ap (weight (Stmt q)) r.written)
 
 pub unused_lighter : UnusedLighter
 unused_lighter W (Stmt q) n w (inl r) = block_lighter q n w r

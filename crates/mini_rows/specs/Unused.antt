@@ -635,8 +635,14 @@ pub record SwitchRow (n w : Tree) : Type 0 where
 
 -- ---- in the head of a `for`
 
--- 72 among the declarators of its head: `for (let i = 0, x = 1; i < a; i++) b(i);` becomes `for (let i = 0; i < a; i++) b(i);`. What is
--- declared there is seen in the loop alone (ECMA-262, "ForLoopEvaluation")
+-- what is left there of a declaration: nothing, where no declarator is
+abbrev pub head_left : VariableDeclarationKind → Trees → Tree
+head_left k none = absent
+head_left k (d ▸ ds) = declaration k (d ▸ ds)
+
+-- 72 among the declarators of its head: `for (let i = 0, x = 1; i < a; i++) b(i);` becomes `for (let i = 0; i < a; i++) b(i);`, and
+-- `for (let x = 1; a; b) c();` becomes `for (; a; b) c();`. What is declared there is seen in the loop alone, and copied for each turn
+-- (ECMA-262, "ForLoopEvaluation", "CreatePerIterationEnvironment"); of what nobody sees no copy is missed
 pub record ForRow (n w : Tree) : Type 0 where
   pub kind : VariableDeclarationKind
   pub first : Trees
@@ -649,15 +655,13 @@ pub record ForRow (n w : Tree) : Type 0 where
   pub body : Tree
   pub lexical : is_lexical kind ≡ true
   pub idle : is_idle init ≡ true
-  -- there is another declarator
-  pub others : nat_le 1 (count (append first last)) ≡ true
   pub declared_earlier : any_names (resolved spelling symbol) first ≡ false
   pub initial : names (resolved spelling symbol) init ≡ false
   pub declared_later : any_names (resolved spelling symbol) last ≡ false
   pub later : any_names (resolved spelling symbol) (test ▸ (update ▸ (body ▸ none))) ≡ false
   pub unseen : has_eval (for_loop (declared_among kind (resolved spelling symbol) first init last) test update body) ≡ false
   pub shape : n ≡ for_loop (declared_among kind (resolved spelling symbol) first init last) test update body
-  pub written : w ≡ for_loop (declaration kind (append first last)) test update body
+  pub written : w ≡ for_loop (head_left kind (append first last)) test update body
 
 -- a row reads n as w at this place: a function may be a statement, an expression, the value of a method, or exported, a program stands
 -- nowhere else, and a static block in a class. A block that is no body and a switch keep each

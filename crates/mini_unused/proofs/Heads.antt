@@ -1,25 +1,25 @@
 -- The head of a `for`: its parts are read like the statements of a block, of which its declaration is the first.
 use Rattle.std.proofs.Common.{◌≡◌, ℕ, zero, suc, ◌<◌, ◌≤◌, Bool, true, false, List, [], ◌∷◌, refl, sym, ap, ◌∙◌, subst, inl, inr, true≢false, arith}
-use Rattle.std.specs.Prelude.{◌&&◌, ◌||◌, nat_le, Some, None}
-use Rattle.std.proofs.lemmas.Bool.{and_parts, le-leb, leb-true}
+use Rattle.std.specs.Prelude.{◌⊎◌, ◌&&◌, ◌||◌, Some, None, if◌then◌else◌}
+use Rattle.std.proofs.lemmas.Bool.{and_parts}
 use Rattle.mini_model.specs.declared.name.Name.{Name}
 use Rattle.mini_model.specs.declared.place.Position.TheVariants.{Stmt}
 use Rattle.mini_model.specs.declared.seat.StmtSeat.{StmtSeat}
 use Rattle.mini_model.specs.declared.shape.Shape.TheVariants as shape
-use Rattle.mini_model.specs.Tree.{Tree, Trees, node, none, ◌▸◌, listed, shape_of, children, count, child_or_absent, empty_statement}
+use Rattle.mini_model.specs.Tree.{Tree, Trees, node, none, ◌▸◌, absent, listed, shape_of, children, count, child_or_absent, empty_statement}
 use Rattle.mini_model.specs.Paths.{append}
 use Rattle.mini_laws.specs.ScopeList.{has_eval, any_has_eval}
 use Rattle.mini_laws.specs.Value.{VariableSet, nothing}
-use Rattle.mini_node.specs.Children.{names_of, part, with_part, is_bare}
+use Rattle.mini_node.specs.Children.{names_of, part, with_part, without, is_bare, first_children, rest_children}
 use Rattle.mini_node.specs.Kinds.{is_block}
 use Rattle.mini_rows.specs.Declarations.{binding, declarator}
 use Rattle.mini_rows.specs.Lists.{block, declaration, declares_nothing, for_loop}
-use Rattle.mini_rows.specs.Unused.{resolved, declared_among, is_idle, UnusedRow, ForRow}
-use Rattle.mini_unused.specs.RemoveUnusedDeclaration.{declares_name, declares_list, is_lexical_shape, may_go, is_alone, is_unused_declarator, list_at, is_unused, UnusedOf, let_left, open_in, is_function, is_switch, is_for_shape, has_head, Applied, AppliedInHead}
+use Rattle.mini_rows.specs.Unused.{resolved, declared_among, head_left, is_idle, UnusedRow, ForRow}
+use Rattle.mini_unused.specs.RemoveUnusedDeclaration.{declares_name, declares_list, is_lexical_shape, is_free_at, may_lose, may_go, is_alone, is_unused_declarator, list_at, is_unused, UnusedOf, let_left, open_in, is_function, is_switch, is_for_shape, has_head, is_idle_at, head_without, Applied, AppliedInHead, IdleDropped}
 use Rattle.mini_unused.specs.Chains.{still}
 use Rattle.mini_unused.proofs.Chains.{several_moves}
 use Rattle.mini_unused.proofs.Unused.{no_outside, and_both, without_is, parts_of, ds, d, init, first, last, tests, kind, let_there, one, x, unused, statement_is, list_is, Read, unused_there, declarator_within, no_block}
-use Rattle.mini_unused.proofs.Holders.{or_none, count_more, no_function, no_switch}
+use Rattle.mini_unused.proofs.Holders.{or_none, no_function, no_switch}
 
 -- ---- what is outside of it mentions nothing
 
@@ -42,7 +42,6 @@ record Head (t : Tree) : Type 0 where
   is : t ≡ for_loop (part t 0) (part t 1) (part t 2) (part t 3)
   lexical : is_lexical_shape (shape_of (part t 0)) ≡ true
   declares : declares_list (part t 0) ≡ true
-  several : 2 ≤ count (children (part (part t 0) 0))
 
 for_is : (t : Tree) → is_for_shape (shape_of t) && is_bare t 4 ≡ true → t ≡ for_loop (part t 0) (part t 1) (part t 2) (part t 3)
 for_is (node shape.ForStatement [] zero (a ▸ (b ▸ (c ▸ (e ▸ none))))) h = refl
@@ -50,16 +49,18 @@ for_is t h = absurd (true≢false (sym h))
 
 head : (t : Tree) → has_head t ≡ true → Head t
 head t h =
-    let (a, p) = and_parts (is_for_shape (shape_of t)) (is_bare t 4 && (is_lexical_shape (shape_of (part t 0)) && (declares_list (part t 0) && nat_le 2 (count (children (part (part t 0) 0)))))) h in
-    let (b, q) = and_parts (is_bare t 4) (is_lexical_shape (shape_of (part t 0)) && (declares_list (part t 0) && nat_le 2 (count (children (part (part t 0) 0))))) p in
-    let (c, r) = and_parts (is_lexical_shape (shape_of (part t 0))) (declares_list (part t 0) && nat_le 2 (count (children (part (part t 0) 0)))) q in
-    let (e, f) = and_parts (declares_list (part t 0)) (nat_le 2 (count (children (part (part t 0) 0)))) r in
-    record { is = for_is t (and_both (is_for_shape (shape_of t)) (is_bare t 4) a b); lexical = c; declares = e; several = leb-true 2 (count (children (part (part t 0) 0))) f }
+    let (a, p) = and_parts (is_for_shape (shape_of t)) (is_bare t 4 && (is_lexical_shape (shape_of (part t 0)) && declares_list (part t 0))) h in
+    let (b, q) = and_parts (is_bare t 4) (is_lexical_shape (shape_of (part t 0)) && declares_list (part t 0)) p in
+    let (c, e) = and_parts (is_lexical_shape (shape_of (part t 0))) (declares_list (part t 0)) q in
+    record { is = for_is t (and_both (is_for_shape (shape_of t)) (is_bare t 4) a b); lexical = c; declares = e }
 
-not_one : (us : Trees) → 2 ≤ count us → is_bare (listed us) 1 ≡ false
-not_one none h = absurd (omega (arith, h))
-not_one (a ▸ none) h = absurd (omega (arith, h))
-not_one (a ▸ (b ▸ us)) h = refl
+-- what is left of the declarators
+head_left_is : (k : VariableDeclarationKind) (us : Trees) (j : ℕ) → j < count us → (if is_bare (listed us) 1 then absent else declaration k (without us j)) ≡ head_left k (append (first_children j us) (rest_children (suc j) us))
+head_left_is k none j h = absurd (omega (arith, h))
+head_left_is k (t ▸ none) zero h = refl
+head_left_is k (t ▸ none) (suc j) h = absurd (omega (arith, h))
+head_left_is k (t ▸ (c ▸ us)) zero h = refl
+head_left_is k (t ▸ (c ▸ us)) (suc j) h = ap (λ vs. declaration k (t ▸ vs)) (without_is (c ▸ us) j)
 
 block_evals : (ts : Trees) → has_eval (block ts) ≡ any_has_eval ts
 unfolding has_eval
@@ -71,7 +72,7 @@ for_evals a b c e = refl
 
 -- ---- such a declarator is what the row says
 
-module _ (a b c e : Tree) (lexical : is_lexical_shape (shape_of a) ≡ true) (several : 2 ≤ count (children (part a 0))) (j : ℕ) (g : j < count (children (part a 0))) (u : is_unused nothing no_outside (a ▸ (b ▸ (c ▸ (e ▸ none)))) 0 j ≡ true) (v : has_eval (for_loop a b c e) ≡ false) where
+module _ (a b c e : Tree) (lexical : is_lexical_shape (shape_of a) ≡ true) (j : ℕ) (g : j < count (children (part a 0))) (idle : is_idle (part (part (part a 0) j) 1) ≡ true) (u : is_unused nothing no_outside (a ▸ (b ▸ (c ▸ (e ▸ none)))) 0 j ≡ true) (v : has_eval (for_loop a b c e) ≡ false) where
   abbrev all : Trees
   all = a ▸ (b ▸ (c ▸ (e ▸ none)))
 
@@ -90,21 +91,7 @@ module _ (a b c e : Tree) (lexical : is_lexical_shape (shape_of a) ≡ true) (se
   is_there : a ≡ there
   is_there = statement_is as_block 0 j refl within g nothing u unseen
 
-  only_others : count (ds as_block 0 j refl within g nothing u unseen) ≡ suc (count (append (first as_block 0 j refl within g nothing u unseen) (last as_block 0 j refl within g nothing u unseen)))
-  only_others = ap count (parts_of (ds as_block 0 j refl within g nothing u unseen) j g) ∙ count_more (first as_block 0 j refl within g nothing u unseen) (d as_block 0 j refl within g nothing u unseen) (last as_block 0 j refl within g nothing u unseen)
-
-  idle_there : is_idle (init as_block 0 j refl within g nothing u unseen) ≡ true
-  idle_there =
-      let i = init as_block 0 j refl within g nothing u unseen in
-      let goes = (tests as_block 0 j refl within g nothing u unseen).2 in
-      let bare : is_bare (part a 0) 1 ≡ false = ap (λ l. is_bare l 1) (list_is as_block 0 j refl within g nothing u unseen) ∙ not_one (children (part a 0)) several in
-      by (is_idle i) (sym (ap (λ y. is_idle i || (y && declares_nothing i)) bare) ∙ goes)
-    where
-      by : (y : Bool) → (y || false) ≡ true → y ≡ true
-      by true h = refl
-      by false h = h
-
-  in_head : ForRow (for_loop a b c e) (for_loop (let_left a j) b c e)
+  in_head : ForRow (for_loop a b c e) (for_loop (head_without a j) b c e)
   in_head =
       let k = kind as_block 0 j refl within g nothing u unseen in
       let s = one as_block 0 j refl within g nothing u unseen in
@@ -123,29 +110,29 @@ module _ (a b c e : Tree) (lexical : is_lexical_shape (shape_of a) ≡ true) (se
         update = c;
         body = e;
         lexical = sym (ap (λ y. is_lexical_shape (shape_of y)) is_there) ∙ lexical;
-        idle = idle_there;
-        others = le-leb 1 (count (append f l)) (omega (arith, several, only_others));
+        idle = idle;
         declared_earlier = alone_there.declared_earlier;
         initial = alone_there.initial;
         declared_later = alone_there.declared_later;
         later = alone_there.later;
         unseen = sym (ap (λ y. has_eval (for_loop y b c e)) is_there) ∙ v;
         shape = ap (λ y. for_loop y b c e) is_there;
-        written = ap (λ y. for_loop (let_left y j) b c e) (let_there as_block 0 j refl within g nothing u unseen) ∙ ap (λ vs. for_loop (declaration k vs) b c e) (without_is us j);
+        written = ap (λ y. for_loop (head_without y j) b c e) (let_there as_block 0 j refl within g nothing u unseen) ∙ ap (λ h. for_loop h b c e) (head_left_is k us j g);
       }
 
-pub dropped_there : (W : VariableSet) (t : Tree) (j : ℕ) → has_head t ≡ true → UnusedOf (open_in empty_statement W) empty_statement (children t) 0 (Some j) → has_eval t ≡ false → (u : Tree) → u ≡ with_part t 0 (let_left (part t 0) j) → AppliedInHead t u true
-dropped_there W t j h n v u e =
+dropped_there : (W : VariableSet) (t : Tree) (j : ℕ) → has_head t ≡ true → UnusedOf (open_in empty_statement W) empty_statement (children t) 0 (Some j) → (u : Tree) → IdleDropped t j u true → AppliedInHead t u true
+dropped_there W t j h n u d =
     let r = head t h in
     let a = part t 0 in
     let b = part t 1 in
     let c = part t 2 in
     let z = part t 3 in
     let ts = ap children r.is in
+    let idle = (and_parts (declares_name (part (part a 0) j)) (is_idle (part (part (part a 0) j) 1)) d.0).1 in
     let found = sym (same_test W (a ▸ (b ▸ (c ▸ (z ▸ none)))) j r.lexical) ∙ sym (ap (λ us. is_unused (open_in empty_statement W) empty_statement us 0 j) ts) ∙ n.2 in
     let inside = subst (λ us. j < count (children (list_at us 0))) ts n.1 in
-    let row = in_head a b c z r.lexical r.several j inside found (sym (ap has_eval r.is) ∙ v) in
-    subst (λ y. ForRow y u) (sym r.is) (subst (ForRow (for_loop a b c z)) (sym (e ∙ ap (λ y. with_part y 0 (let_left a j)) r.is)) row)
+    let row = in_head a b c z r.lexical j inside idle found (sym (ap has_eval r.is) ∙ d.1) in
+    subst (λ y. ForRow y u) (sym r.is) (subst (ForRow (for_loop a b c z)) (sym (d.2 ∙ ap (λ y. with_part y 0 (head_without a j)) r.is)) row)
 
 -- ---- where there is none, no row reads it
 
@@ -181,8 +168,48 @@ none_there W t h n = (refl, by)
         let moved = subst (λ us. UnusedOf (open_in empty_statement W) empty_statement us 0 None) (ap children r.shape) n in
         true≢false (sym (same_test W ts (count r.first) r.lexical ∙ here) ∙ moved (count r.first) inside)
 
-pub seen_there : (t : Tree) → has_eval t ≡ true → AppliedInHead t t false
+seen_there : (t : Tree) → has_eval t ≡ true → AppliedInHead t t false
 seen_there t e = (refl, λ w r. true≢false (sym e ∙ ap has_eval r.shape ∙ r.unseen))
+
+-- and where something misses the initializer of the first that nothing mentions, it is the only one
+
+single_there : (first : Trees) (c : Tree) (last : Trees) → is_bare (listed (append first (c ▸ last))) 1 ≡ true → (j : ℕ) → j < count (append first (c ▸ last)) → child_or_absent (append first (c ▸ last)) j ≡ c
+single_there none c none e zero h = refl
+single_there none c none e (suc j) h = absurd (omega (arith, h))
+single_there none c (b ▸ last) e j h = absurd (true≢false (sym e))
+single_there (a ▸ none) c last e j h = absurd (true≢false (sym e))
+single_there (a ▸ (b ▸ first)) c last e j h = absurd (true≢false (sym e))
+
+missed_there : (W : VariableSet) (t : Tree) (j : ℕ) → UnusedOf (open_in empty_statement W) empty_statement (children t) 0 (Some j) → is_idle_at (part (part t 0) 0) j ≡ false → AppliedInHead t t false
+missed_there W t j n e = (refl, by)
+  where
+    by : (w : Tree) → ForRow t w → ⊥
+    by w r =
+        let x = resolved r.spelling r.symbol in
+        let d = declarator (binding x) r.init in
+        let l = listed (append r.first (d ▸ r.last)) in
+        let same = ap (λ y. part (part y 0) 0) r.shape in
+        let inside : j < count (append r.first (d ▸ r.last)) = subst (λ us. j < count (children (list_at us 0))) (ap children r.shape) n.1 in
+        let u = sym (ap (λ us. is_unused (open_in empty_statement W) empty_statement us 0 j) (ap children r.shape)) ∙ n.2 in
+        let f = sym (ap (λ y. is_idle_at y j) same) ∙ e in
+        let i = part (part l j) 1 in
+        let free = is_free_at (children (for_loop (declared_among r.kind x r.first r.init r.last) r.test r.update r.body)) 0 in
+        let lost = may_lose free (open_in empty_statement W) (names_of (part (part l j) 0)) in
+        let alone_there = is_alone (names_of (part (part l j) 0)) empty_statement i (append r.first (d ▸ r.last)) j (children (for_loop (declared_among r.kind x r.first r.init r.last) r.test r.update r.body)) 0 in
+        let (named, p) = and_parts (declares_name (part l j)) (lost && (may_go i l && alone_there)) u in
+        let (z, q) = and_parts lost (may_go i l && alone_there) p in
+        let (goes, y) = and_parts (may_go i l) alone_there q in
+        let missed : is_idle i ≡ false = sym (ap (λ b. b && is_idle i) named) ∙ f in
+        let (single, present) = and_parts (is_bare l 1) (declares_nothing i) (sym (ap (λ b. b || (is_bare l 1 && declares_nothing i)) missed) ∙ goes) in
+        true≢false (sym r.idle ∙ sym (ap (λ y. is_idle (part y 1)) (single_there r.first d r.last single j inside)) ∙ missed)
+
+pub idle_dropped : (W : VariableSet) (t : Tree) (j : ℕ) → has_head t ≡ true → UnusedOf (open_in empty_statement W) empty_statement (children t) 0 (Some j) → (u : Tree) (b : Bool) → IdleDropped t j u b → AppliedInHead t u b
+idle_dropped W t j h n u true d = dropped_there W t j h n u d
+idle_dropped W t j h n u false d = by d.1
+  where
+    by : (is_idle_at (part (part t 0) 0) j ≡ false) ⊎ (has_eval t ≡ true) → AppliedInHead t u false
+    by (inl e) = (d.0, (missed_there W t j n e).1)
+    by (inr e) = (d.0, (seen_there t e).1)
 
 -- ---- as a statement
 

@@ -94,18 +94,9 @@ no_function W t e w r = true≢false (sym (ap is_function r.shape) ∙ e)
 no_arrow : (W : VariableSet) (t : Tree) → has_statements t ≡ false → (w : Tree) → ArrowBodyRow W t w → ⊥
 no_arrow W t e w r = true≢false (sym (ap has_statements r.shape) ∙ e)
 
--- a `for` that a row reads has a head with several declarators
-
-pub count_more : (us : Trees) (c : Tree) (vs : Trees) → count (append us (c ▸ vs)) ≡ suc (count (append us vs))
-count_more none c vs = refl
-count_more (u ▸ us) c vs = ap suc (count_more us c vs)
-
+-- a `for` that a row reads has a head
 row_has_head : (t w : Tree) → ForRow t w → has_head t ≡ true
-row_has_head t w r =
-    let d = declarator (binding (resolved r.spelling r.symbol)) r.init in
-    let ds = append r.first (d ▸ r.last) in
-    let some = leb-true 1 (count (append r.first r.last)) r.others in
-    ap has_head r.shape ∙ and_both (kinds.is_lexical r.kind) (nat_le 2 (count ds)) r.lexical (le-leb 2 (count ds) (omega (arith, some, count_more r.first d r.last)))
+row_has_head t w r = ap has_head r.shape ∙ and_both (kinds.is_lexical r.kind) true r.lexical refl
 
 pub no_head : (t : Tree) → has_head t ≡ false → (w : Tree) → ForRow t w → ⊥
 no_head t e w r = true≢false (sym (row_has_head t w r) ∙ e)

@@ -94,6 +94,15 @@ and_none : (a : Bool) → (a && false) ≡ false
 and_none true = refl
 and_none false = refl
 
+-- what is asked last where it stands first
+pub last_true : (a b : Bool) → b ≡ true → a ≡ (a && b)
+last_true true b e = sym e
+last_true false b e = refl
+
+pub last_false : (a b : Bool) → b ≡ false → false ≡ (a && b)
+last_false true b e = sym e
+last_false false b e = refl
+
 pub and_both : (a b : Bool) → a ≡ true → b ≡ true → a && b ≡ true
 and_both a b e f = ap (λ x. x && b) e ∙ f
 

@@ -2,14 +2,15 @@
 -- `{ let x, y = b(); c(y); }` becomes `{ let y = b(); c(y); }`; so do the statements of a function, of a module and of a static
 -- block, and there each `var`, too, and the cases of a switch
 -- and the head of a `for`.
-use Rattle.std.specs.Prelude.{◌≡◌, ◌<◌, ◌≤◌, ℕ, suc, nat_eq, nat_le, Bool, true, false, not, ◌&&◌, ◌||◌, List, [], ◌∷◌, Option, Some, None, is_some, if◌then◌else◌}
+use Rattle.std.specs.Prelude.{◌≡◌, ◌⊎◌, ◌<◌, ◌≤◌, ℕ, suc, nat_eq, Bool, true, false, not, ◌&&◌, ◌||◌, List, [], ◌∷◌, Option, Some, None, is_some, if◌then◌else◌}
 use Rattle.mini_model.specs.declared.name.Name.{Name}
 use Rattle.mini_model.specs.declared.name.SymbolId.{SymbolId}
 use Rattle.mini_model.specs.declared.place.Position.{Position}
 use Rattle.mini_model.specs.declared.shape.Shape.{Shape}
 use Rattle.mini_model.specs.declared.shape.Shape.TheVariants as shape
-use Rattle.mini_model.specs.Tree.{Tree, Trees, shape_of, count, child_or_absent, empty_statement, expression_statement, children}
+use Rattle.mini_model.specs.Tree.{Tree, Trees, absent, shape_of, count, child_or_absent, empty_statement, expression_statement, children}
 use Rattle.mini_laws.specs.Naming.{is_lexical}
+use Rattle.mini_laws.specs.ScopeList.{has_eval}
 use Rattle.mini_laws.specs.Value.{Declared, Global, VariableSet}
 use Rattle.mini_node.specs.Children.{names_of, like, part, with_part, without, is_bare, first_children, rest_children}
 use Rattle.mini_node.specs.Kinds.{is_listed, is_named_leaf}
@@ -76,12 +77,15 @@ may_lose free W xs = free || may_write_in W xs
 abbrev pub may_go : Tree → Tree → Bool
 may_go init l = is_idle init || (is_bare l 1 && declares_nothing init)
 
--- no name like this one stands in what is outside of the statements, as a function's parameters, in the initializer of the
--- declarator at the place, in another declarator of the `let` at its place, or in another statement
+-- no name like this one stands in the initializer of the declarator at the place, in another declarator of the `let` at its place, or in
+-- another statement
+abbrev pub is_alone_inside : Name → Tree → Trees → ℕ → Trees → ℕ → Bool
+is_alone_inside x init ds j ts i = not (names x init) && (not (any_names x (rest_children (suc j) ds)) && (not (any_names x (rest_children (suc i) ts)) && (not (any_names x (first_children j ds)) && not (any_names x (first_children i ts)))))
+
+-- nor in what is outside of the statements, as a function's parameters
 abbrev pub is_alone : List Name → Tree → Tree → Trees → ℕ → Trees → ℕ → Bool
 is_alone [] o init ds j ts i = false
-is_alone (x ∷ xs) o init ds j ts i =
-    not (names x o) && (not (names x init) && (not (any_names x (rest_children (suc j) ds)) && (not (any_names x (rest_children (suc i) ts)) && (not (any_names x (first_children j ds)) && not (any_names x (first_children i ts))))))
+is_alone (x ∷ xs) o init ds j ts i = not (names x o) && is_alone_inside x init ds j ts i
 
 -- the declarator at the place in the list of a declaration, which is a statement at its place, has a name that nothing else mentions,
 -- which is free to go, or one of these variables
@@ -206,18 +210,31 @@ abbrev pub AppliedInCases : Tree → ℕ → Tree → Bool → Type 0
 AppliedInCases t i u true = Several SwitchRow t u
 AppliedInCases t i u false = (u ≡ t) × ((w : Tree) (r : SwitchRow t w) → i ≤ count r.first → ⊥)
 
--- a `for` over a `let` or a `const` of several declarators
+-- a `for` over a `let` or a `const`
 abbrev pub is_for_shape : Shape → Bool
 is_for_shape shape.ForStatement = true
 is_for_shape _ = false
 
 abbrev pub has_head : Tree → Bool
-has_head t = is_for_shape (shape_of t) && (is_bare t 4 && (is_lexical_shape (shape_of (part t 0)) && (declares_list (part t 0) && nat_le 2 (count (children (part (part t 0) 0))))))
+has_head t = is_for_shape (shape_of t) && (is_bare t 4 && (is_lexical_shape (shape_of (part t 0)) && declares_list (part t 0)))
+
+-- of a list of declarators the one at the place has a name, and an initializer that nothing misses
+abbrev pub is_idle_at : Tree → ℕ → Bool
+is_idle_at l j = declares_name (part l j) && is_idle (part (part l j) 1)
+
+-- what is left of the head without it: nothing, where it is the only one
+abbrev pub head_without : Tree → ℕ → Tree
+head_without t j = if is_bare (part t 0) 1 then absent else let_left t j
 
 -- one call of it for the head of a `for`
 abbrev pub AppliedInHead : Tree → Tree → Bool → Type 0
 AppliedInHead t u true = ForRow t u
 AppliedInHead t u false = (u ≡ t) × ((w : Tree) → ForRow t w → ⊥)
+
+-- the declarator at the place goes from it, or nothing misses its initializer only where a direct eval stands there
+abbrev pub IdleDropped : Tree → ℕ → Tree → Bool → Type 0
+IdleDropped t j u true = (is_idle_at (part (part t 0) 0) j ≡ true) × (has_eval t ≡ false) × (u ≡ with_part t 0 (head_without (part t 0) j))
+IdleDropped t j u false = (u ≡ t) × ((is_idle_at (part (part t 0) 0) j ≡ false) ⊎ (has_eval t ≡ true))
 
 -- no row of these variables reads it as anything
 abbrev pub RestsOver : VariableSet → Position → Tree → Type 0

@@ -63,10 +63,14 @@ reads_here x r t = reads_head x t && are_passed x r (evaluated t)
 abbrev pub reads_next : Name → Tree → Trees → ℕ → Bool
 reads_next x r ts i = reads_here x r (child_or_absent ts (suc i))
 
--- the next statement reads the name, and no name like it stands elsewhere, nor in what is outside of the statements
+-- the next statement reads the name, and no name like it stands elsewhere in the statements
+abbrev pub is_read_inside : Name → Tree → Trees → ℕ → Trees → ℕ → Bool
+is_read_inside x init ds j ts i = reads_next x init ts i && (not (is_declared_over x init ds j) && not (is_mentioned_around x ts i))
+
+-- nor in what is outside of them
 abbrev pub is_read_once : List Name → Tree → Tree → Trees → ℕ → Trees → ℕ → Bool
 is_read_once [] o init ds j ts i = false
-is_read_once (x ∷ xs) o init ds j ts i = not (names x o) && (reads_next x init ts i && (not (is_declared_over x init ds j) && not (is_mentioned_around x ts i)))
+is_read_once (x ∷ xs) o init ds j ts i = not (names x o) && is_read_inside x init ds j ts i
 
 -- so is the name of the declarator at the place, whose initializer may move, and which is free to go, or one of these variables
 abbrev pub is_single_declarator : Bool → VariableSet → Tree → ℕ → Tree → Trees → ℕ → Bool

@@ -14,7 +14,7 @@ ghost use Rattle.mini_node.specs.Kinds.{is_listed as is_it_listed};
 ghost use Rattle.mini_rows.specs.Unused.{is_idle as is_it_idle};
 ghost use Rattle.mini_unused.specs.Lighter.{unused_is_lighter};
 ghost use Rattle.mini_unused.specs.RemoveUnusedDeclaration as row;
-ghost use Rattle.mini_unused.specs.RemoveUnusedDeclaration.{declares_name as it_declares_name, declares_list as it_declares_list, is_lexical_shape, is_free_at, let_left, marked, open_in, case_at, with_statements, UnusedIn, UnusedOf, UnusedAt, Applied, AppliedInCase, AppliedInCases, AppliedInFunction, AppliedInHead, Gives, Rests};
+ghost use Rattle.mini_unused.specs.RemoveUnusedDeclaration.{declares_name as it_declares_name, declares_list as it_declares_list, is_lexical_shape, is_free_at, let_left, marked, open_in, case_at, with_statements, UnusedIn, UnusedOf, UnusedAt, Applied, AppliedInCase, AppliedInCases, AppliedInFunction, AppliedInHead, IdleDropped, Gives, Rests};
 ghost use Rattle.mini_unused.specs.SubstituteSingleUse.{Removed};
 
 use crate::declares::declares_nothing;
@@ -132,8 +132,31 @@ pub fn may_go(init: &Node, list: &Node) -> bool
     is_idle(init) || list.is_bare(1) && declares_nothing(init)
 }
 
-/// Whether the name stands neither outside of the statements, nor in its initializer, nor in the other declarators, nor in the other
-/// statements. What follows is looked at first: a name that is used mostly is soon.
+// Whether the name stands neither in its initializer, nor in the other declarators, nor in the other statements. What follows is looked at
+// first: a name that is used mostly is soon.
+fn is_alone_inside(
+    name: &Name,
+    init: &Node,
+    declarators: &Nodes,
+    which: usize,
+    statements: &Nodes,
+    at: usize,
+) -> bool
+    requires declarator { which < count declarators.now }
+    requires statement { at < count statements.now }
+    requires fits { which + 1 < 2 ^ 64 }
+    requires fits_too { at + 1 < 2 ^ 64 }
+    ensures { result ≡ row.is_alone_inside name.now init.now declarators.now which statements.now at }
+{
+    !is_mentioned(name, init)
+        && !is_mentioned_from(name, declarators, which + 1)
+        && !is_mentioned_from(name, statements, at + 1)
+        && !is_mentioned_before(name, declarators, which)
+        && !is_mentioned_before(name, statements, at)
+}
+
+/// Nor outside of the statements, where is looked last: that may be all of a body.
+#[tactic(auto, using(crate::proofs::Unused::last_true, crate::proofs::Unused::last_false))]
 pub fn is_alone(
     name: &Option<Name>,
     outside: &Node,
@@ -151,12 +174,8 @@ pub fn is_alone(
 {
     match name {
         Some(name) => {
-            !is_mentioned(name, outside)
-                && !is_mentioned(name, init)
-                && !is_mentioned_from(name, declarators, which + 1)
-                && !is_mentioned_from(name, statements, at + 1)
-                && !is_mentioned_before(name, declarators, which)
-                && !is_mentioned_before(name, statements, at)
+            is_alone_inside(name, init, declarators, which, statements, at)
+                && !is_mentioned(name, outside)
         }
         None => false,
     }
@@ -447,7 +466,7 @@ fn remove_unused_in_switch(
     remove_in_cases(alloc, node, 0, scopes)
 }
 
-// A `for` over a `let` or a `const` of several declarators.
+// A `for` over a `let` or a `const`.
 fn has_head(node: &Node) -> bool
     ensures kind { result ≡ row.has_head node.now }
     ensures parts { result ≡ true → count (children node.now) ≡ 4 }
@@ -456,10 +475,9 @@ fn has_head(node: &Node) -> bool
         && node.is_bare(4)
         && is_lexical(node.child(0).shape())
         && declares_list(node.child(0))
-        && node.child(0).child(0).children().len() >= 2
 }
 
-// Of these the first whose name nothing else in the `for` mentions, and that may go.
+// Of its declarators the first whose name nothing else in the `for` mentions, and that may go from a list of statements.
 fn unused_in_head(alloc: Global, node: &Node, scopes: &Scopes) -> Option<usize>
     requires { 0 < count (children node.now) }
     ensures { UnusedOf (open_in is_nothing (marked scopes.now)) is_nothing (children node.now) 0 result }
@@ -470,17 +488,48 @@ fn unused_in_head(alloc: Global, node: &Node, scopes: &Scopes) -> Option<usize>
     found
 }
 
-// The declarator at the index goes.
+// Of a list of declarators the one at the index has a name, and an initializer that nothing misses.
+fn is_idle_at(list: &Node, which: usize) -> bool
+    requires { which < count (children list.now) }
+    ensures { result ≡ row.is_idle_at list.now which }
+{
+    let declarator = list.child(which);
+    declares_name(declarator) && is_idle(declarator.child(1))
+}
+
+// The declarator at the index goes, and with the only one the head.
 #[tactic(auto, using(crate::proofs::Unused::same_parts, crate::proofs::Unused::part_twice))]
 fn drop_in_head(node: &mut Node, which: usize)
     requires head { 0 < count (children node.old) }
     requires list { 0 < count (children (part node.old 0)) }
     requires declarator { which < count (children (part (part node.old 0) 0)) }
-    ensures { node.new ≡ with_part node.old 0 (let_left (part node.old 0) which) }
+    ensures { node.new ≡ with_part node.old 0 (row.head_without (part node.old 0) which) }
 {
     let mut head = take_child(node, 0);
+    if head.child(0).is_bare(1) {
+        discard(head);
+        return;
+    }
     discard(take_declarator(&mut head, which));
     put_child(node, 0, head);
+}
+
+// The declarator at the index of the head goes, where nothing misses its initializer.
+fn drop_idle_in_head(node: &mut Node, which: usize) -> bool
+    requires head { row.has_head node.old ≡ true }
+    requires parts { 0 < count (children node.old) }
+    requires list { 0 < count (children (part node.old 0)) }
+    requires declarator { which < count (children (part (part node.old 0) 0)) }
+    ensures { IdleDropped node.old which node.new result }
+{
+    if !is_idle_at(node.child(0).child(0), which) {
+        return false;
+    }
+    if has_eval(node) {
+        return false;
+    }
+    drop_in_head(node, which);
+    true
 }
 
 // Of the head of a `for` such a declarator goes.
@@ -490,13 +539,7 @@ fn remove_in_head(alloc: Global, node: &mut Node, scopes: &Scopes) -> bool
     ensures { AppliedInHead node.old node.new result }
 {
     match unused_in_head(alloc, node, scopes) {
-        Some(which) => {
-            if has_eval(node) {
-                return false;
-            }
-            drop_in_head(node, which);
-            true
-        }
+        Some(which) => drop_idle_in_head(node, which),
         None => false,
     }
 }

@@ -719,7 +719,27 @@ pub fn reads_next(name: &Name, init: &Node, statements: &Nodes, at: usize) -> bo
     reads_here(name, init, statements.child(at + 1))
 }
 
-/// The next statement reads the name first, and nothing else mentions it.
+// The next statement reads the name first, and nothing else in the statements mentions it.
+fn is_read_inside(
+    name: &Name,
+    init: &Node,
+    declarators: &Nodes,
+    which: usize,
+    statements: &Nodes,
+    at: usize,
+) -> bool
+    requires declarator { which < count declarators.now }
+    requires next { at + 1 < count statements.now }
+    requires fits { at + 2 < 2 ^ 64 }
+    ensures { result ≡ row.is_read_inside name.now init.now declarators.now which statements.now at }
+{
+    reads_next(name, init, statements, at)
+        && !is_declared_over(name, init, declarators, which)
+        && !is_mentioned_around(name, statements, at)
+}
+
+/// Nor does what stands outside of them, where is looked last.
+#[tactic(auto, using(crate::proofs::Unused::last_true, crate::proofs::Unused::last_false))]
 pub fn is_read_once(
     name: &Option<Name>,
     outside: &Node,
@@ -736,10 +756,8 @@ pub fn is_read_once(
 {
     match name {
         Some(name) => {
-            !is_mentioned(name, outside)
-                && reads_next(name, init, statements, at)
-                && !is_declared_over(name, init, declarators, which)
-                && !is_mentioned_around(name, statements, at)
+            is_read_inside(name, init, declarators, which, statements, at)
+                && !is_mentioned(name, outside)
         }
         None => false,
     }
