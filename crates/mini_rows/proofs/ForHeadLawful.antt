@@ -9,7 +9,7 @@ use Rattle.mini_model.specs.declared.place.Position.TheVariants.{Stmt}
 use Rattle.mini_model.specs.declared.seat.StmtSeat.{StmtSeat}
 use Rattle.mini_model.specs.declared.shape.Shape.{Shape}
 use Rattle.mini_model.specs.declared.shape.Shape.TheVariants as shape
-use Rattle.mini_model.specs.Tree.{Tree, Trees, none, ◌▸◌, absent, shape_of, count, empty_statement}
+use Rattle.mini_model.specs.Tree.{Tree, Trees, node, none, ◌▸◌, absent, shape_of, count, empty_statement}
 use Rattle.mini_model.specs.Paths.{append}
 use Rattle.mini_accept.specs.WellShaped.{Depth, in_module, in_body, nested, Class, a_statement, a_declarator, a_key, a_private_or_key, an_inner_key, a_default_export, an_init, an_expression, Slot, one, one_or_absent, each, filling, filling_by, fits, fill}
 use Rattle.mini_laws.specs.Value.{Declared, VariableSet, nothing}
@@ -53,7 +53,7 @@ use Rattle.mini_rows.proofs.ListLoops.{for_none_is}
 use Rattle.mini_rows.proofs.ListShapes.{init_declares, append_fits, both_fit, first_fits}
 use Rattle.mini_rows.proofs.UnusedKept.{LeavesThere, NamesThere}
 use Rattle.mini_rows.proofs.UnusedLawful.{Dropped, in_tails, idle_vanishes}
-use Rattle.mini_rows.proofs.UnusedMeaning.{for_same}
+use Rattle.mini_rows.proofs.UnusedMeaning.{for_same, never_written}
 use Rattle.mini_rows.proofs.UnusedNames.{or_parts, unmentioned, all_avoided}
 use Rattle.mini_rows.proofs.Weaker.{weaker_goes}
 
@@ -146,9 +146,14 @@ left_names x K d none n = no_statement_names x (d ▸ none) n
 left_names x K d (t ▸ ts) n = n
 
 -- a `for` with a declaration of no name means the same without it
-left_same : (e : Environment) (D : VariableSet) (K : VariableDeclarationKind) (t u b : Tree) (ds : Trees) (o : Option Tail) → Same e D nothing (Stat o) (for_loop (declaration K ds) t u b) (for_loop (head_left K ds) t u b)
-left_same e D K t u b none o = in_each_tail e D nothing (for_loop (declaration K none) t u b) (for_loop absent t u b) (record { by = λ r s i. weaker_goes D (means e (for_loop (declaration K none) t u b) (Stat None) r s) (means e (for_loop absent t u b) (Stat None) r s) (inr (for_none_is e t u b K r s)) }) o
-left_same e D K t u b (d ▸ ds) o = record { by = λ r s i. weaker_goes D (means e (for_loop (declaration K (d ▸ ds)) t u b) (Stat o) r s) (means e (for_loop (declaration K (d ▸ ds)) t u b) (Stat o) r s) (inr refl) }
+pub left_same : (e : Environment) (D : VariableSet) (K : VariableDeclarationKind) (rest ds : Trees) (o : Option Tail) → Same e D nothing (Stat o) (node shape.ForStatement [] 0 (declaration K ds ▸ rest)) (node shape.ForStatement [] 0 (head_left K ds ▸ rest))
+left_same e D K rest none o =
+    let this = node shape.ForStatement [] 0 (declaration K none ▸ rest) in
+    let that = node shape.ForStatement [] 0 (absent ▸ rest) in
+    in_each_tail e D nothing this that (record { by = λ r s i. weaker_goes D (means e this (Stat None) r s) (means e that (Stat None) r s) (inr (for_none_is e K rest r s)) }) o
+left_same e D K rest (d ▸ ds) o =
+    let this = node shape.ForStatement [] 0 (declaration K (d ▸ ds) ▸ rest) in
+    record { by = λ r s i. weaker_goes D (means e this (Stat o) r s) (means e this (Stat o) r s) (inr refl) }
 
 -- ---- a name that is dropped
 
@@ -189,8 +194,8 @@ module _ (q : StmtSeat) (n w : Tree) (r : ForRow n w) where
   same : (e : Environment) → Unseen D e → (t : Option Tail) → Same e D nothing (Stat t) this that
   same e u t =
       transitive e D nothing (Stat t) this (for_loop (declaration r.kind (append r.first r.last)) r.test r.update r.body) that
-      (for_same e r.spelling r.symbol u r.kind r.lexical r.first r.last r.init r.idle (all_avoided x r.symbol refl r.first r.declared_earlier) (all_avoided x r.symbol refl r.last r.declared_later) (r.test ▸ (r.update ▸ (r.body ▸ none))) (all_avoided x r.symbol refl (r.test ▸ (r.update ▸ (r.body ▸ none))) r.later) t)
-      (left_same e D r.kind r.test r.update r.body (append r.first r.last) t)
+      (for_same e r.spelling r.symbol u r.kind (never_written r.kind e r.symbol r.lexical) r.first r.last r.init r.idle (all_avoided x r.symbol refl r.first r.declared_earlier) (all_avoided x r.symbol refl r.last r.declared_later) (r.test ▸ (r.update ▸ (r.body ▸ none))) (all_avoided x r.symbol refl (r.test ▸ (r.update ▸ (r.body ▸ none))) r.later) t)
+      (left_same e D r.kind (r.test ▸ (r.update ▸ (r.body ▸ none))) (append r.first r.last) t)
 
   dropped : Dropped q r.symbol this that
   dropped =

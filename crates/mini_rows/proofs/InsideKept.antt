@@ -13,7 +13,7 @@ use Rattle.mini_laws.specs.declared.names.Targets.{Targets}
 use Rattle.mini_laws.specs.declared.names.Use.{Use}
 use Rattle.mini_laws.specs.Bodies.{Around, Body, below, bodies, bodies_from}
 use Rattle.mini_laws.specs.DeclaredNames.{names_of, all_names, is_inner, has_inner, any_inner}
-use Rattle.mini_laws.specs.Early.{Path, own_declarations, scope_declarations, clashing, early_names, all_early_names, targets_of, turned, turn_of, is_bad_jump, is_bad, jump_of, early_jumps, all_early_jumps, is_loop}
+use Rattle.mini_laws.specs.Early.{Path, own_declarations, scope_declarations, clashing, early_names, all_early_names, targets_of, turned, turn_of, label_by, is_bad_jump, is_bad, jump_of, early_jumps, all_early_jumps, is_loop}
 use Rattle.mini_laws.specs.declared.names.Turn.{Turn}
 use Rattle.mini_laws.specs.declared.names.Turn.TheVariants as turn
 use Rattle.mini_laws.specs.Fixity.{fixed_by, fixed_by_any}
@@ -45,26 +45,33 @@ use Rattle.mini_rows.specs.Unused.{resolved, any_names}
 use Rattle.mini_rows.specs.Sketches.{AsWhole}
 use Rattle.mini_rows.proofs.ArrangedBodies.{quiet, split_bodies, split_frames, Among, split_names, both_names, rank, FixedBy, fixed_below, below_fixed}
 use Rattle.mini_rows.proofs.Arranging.{Below}
-use Rattle.mini_rows.proofs.InsideStages.{Stage, Braces, Then, Else, While, Doing, For, ForIn, ForOf, Labeled, Tried, Caught, Finally, Switched, Items, Cases, Case, Handler, from, to, head, before, over, joined_all, hoists, lexical, scopes, behind, Fine, fine, writes, frameless, propertyless, bodyless, around, undeclaring, same_label, same_label_for, loops, hoisted_less, BlockLess, scope_less, body_less, block_less}
+use Rattle.mini_rows.proofs.InsideStages.{Stage, Braces, Then, Else, While, Doing, For, ForIn, ForOf, Labeled, Tried, Caught, Finally, Switched, Items, Cases, Case, Handler, Heading, from, to, head, before, over, joined_all, hoists, lexical, scopes, behind, Fine, fine, writes, frameless, propertyless, bodyless, around, undeclaring, same_label, same_label_for, loops, hoisted_less, BlockLess, scope_less, body_less, block_less}
 use Rattle.mini_rows.proofs.UnusedNames.{Other, other_both, all_unmentioned, all_other}
 
 -- ---- where it stands
 
 -- what it fills: a statement may have to be a block, and may be missing
+abbrev pub statement_slot : Bool → Bool → Depth → Slot
+statement_slot false false o = one (statement_class o)
+statement_slot false true o = one_or_absent (statement_class o)
+statement_slot true false o = one a_block
+statement_slot true true o = one_or_absent a_block
+
 abbrev pub slot : Way → Bool → Bool → Depth → Slot
-slot way.Statement false false o = one (statement_class o)
-slot way.Statement false true o = one_or_absent (statement_class o)
-slot way.Statement true false o = one a_block
-slot way.Statement true true o = one_or_absent a_block
+slot way.Statement b m o = statement_slot b m o
+slot way.Held b m o = statement_slot b m o
 slot way.Statements b m o = many (statement_class o)
 slot way.Cases b m o = many case_class
 slot way.Case b m o = one case_class
 slot way.Catch b m o = one_or_absent catch_class
+slot way.Head b m o = one_or_absent an_init
 
 -- ---- what is kept
 
 pub record Keeping (s : List ℕ) (k : ℕ) (w : Way) (t u : Tree) : Type 0 where
-  pub shape : shape_of u ≡ shape_of t
+  pub label : label_by (shape_of u) ≡ label_by (shape_of t)
+  -- what a `for` begins with may go
+  pub missing : (w ≡ way.Head → ⊥) → is_absent u ≡ is_absent t
   pub lexical : names_of declared.Lexical u ≡ names_of declared.Lexical t
   pub first : List Name
   pub last : List Name
@@ -262,19 +269,19 @@ module _ (c d : Tree) (post : Trees) (s : List ℕ) (k : ℕ) (g : Stage) (kept 
   once_there e =
       let (a, b) = empty_both (clashing [] (scope_declarations (head g) [] ts)) (all_early_names [] 0 ts) e in
       both_empty (clashing [] (scope_declarations (head g) [] us)) (all_early_names [] 0 us)
-      (still_free (scope_declarations (head g) [] ts) (scope_declarations (head g) [] us) (scope_less g c d post (kept.clash false) kept.block child_less) a)
+      (still_free (scope_declarations (head g) [] ts) (scope_declarations (head g) [] us) (scope_less g c d post kept.lexical (kept.clash false) kept.block child_less) a)
       (joined_once c d post [] 0 (before g) kept.once b)
 
   turned_same : (r : Turn) (a : Targets) → turned r us a ≡ turned r ts a
   turned_same turn.Same a = refl
   turned_same turn.InLoop a = refl
   turned_same turn.InSwitch a = refl
-  turned_same turn.Labeled a = ap (λ l. record a { labels = a.labels ++ l ∷ [] }) (same_label_for (before g) c d post kept.shape kept.loop)
+  turned_same turn.Labeled a = ap (λ l. record a { labels = a.labels ++ l ∷ [] }) (same_label_for (before g) c d post kept.label kept.loop)
   turned_same (turn.InFunction y) a = refl
   turned_same turn.Outside a = refl
 
   same_bad : (a : Targets) → is_bad_jump (head g) us a ≡ is_bad_jump (head g) ts a
-  same_bad a = ap (λ l. is_bad (jump_of (head g)) l a) (same_label (before g) c d post kept.shape)
+  same_bad a = ap (λ l. is_bad (jump_of (head g)) l a) (same_label (before g) c d post kept.label)
 
   abbrev bad : Bool → List Path
   bad b = if b then [] ∷ [] else []
@@ -337,9 +344,6 @@ node_fixed : (g : Stage) (c d : Tree) (post : Trees) (y : Variable) (j : ℕ) �
 node_fixed g c d post y j f e =
     subst (λ z. rank z ≤ j) (sym (of_children (head g) [] 0 (join (before g) d post) y (writes g))) (joined_fixed c d post y j (before g) f (subst (λ z. rank z ≤ j) (of_children (head g) [] 0 (join (before g) c post) y (writes g)) e))
 
-absent_same : (t u : Tree) → shape_of u ≡ shape_of t → is_absent u ≡ is_absent t
-absent_same (node h xs n hs) (node i ys m is) e = ap (λ g. is_absent (node g [] 0 none)) e
-
 -- the child fills its slot as before, and so does the node
 stage_fits : (s : List ℕ) (k : ℕ) (g : Stage) (c d : Tree) (post : Trees) → Keeping s k (to g) c d → (strict b : Bool) (o : Depth) → fits strict (slot (from g) b false o) (over g c post) ≡ true → fits strict (slot (from g) b false o) (over g d post) ≡ true
 stage_fits s k Braces c d post kept strict false o e = whole_fits c d post s k Braces kept strict true true (many (statement_class nested) ∷ []) false false nested (λ z. refl) refl e
@@ -356,14 +360,15 @@ stage_fits s k (For a u v) c d post kept strict false o e = whole_fits c d post 
 stage_fits s k (ForIn a u) c d post kept strict false o e = whole_fits c d post s k (ForIn a u) kept strict true true (one (a_loop_left true) ∷ one an_expression ∷ one (statement_class nested) ∷ []) false false nested (λ z. refl) refl e
 stage_fits s k (ForOf a u) c d post kept strict false o e = whole_fits c d post s k (ForOf a u) kept strict true true (one (a_loop_left false) ∷ one an_expression ∷ one (statement_class nested) ∷ []) false false nested (λ z. refl) refl e
 stage_fits s k (Labeled a) c d post kept strict false o e = whole_fits c d post s k (Labeled a) kept strict true true (one a_label ∷ one (statement_class nested) ∷ []) false false nested (λ z. refl) refl e
+stage_fits s k Heading c d post kept strict false o e = whole_fits c d post s k Heading kept strict true true (one_or_absent an_init ∷ one_or_absent an_expression ∷ one_or_absent an_expression ∷ one (statement_class nested) ∷ []) false false nested (λ z. z) refl e
 stage_fits s k (Switched a) c d post kept strict false o e = whole_fits c d post s k (Switched a) kept strict true true (one an_expression ∷ many case_class ∷ []) false false nested (λ z. refl) refl e
 stage_fits s k Tried c d post kept strict false o e = whole_fits c d post s k Tried kept strict (is_whole (statement_class o) shape.TryStatement [] 0 (c ▸ post)) (is_whole (statement_class o) shape.TryStatement [] 0 (d ▸ post)) (one a_block ∷ one_or_absent catch_class ∷ one_or_absent a_block ∷ []) true false nested (λ z. z) refl e
 stage_fits s k (Caught a) c d post kept strict false o e =
     whole_fits c d post s k (Caught a) kept strict (is_whole (statement_class o) shape.TryStatement [] 0 (a ▸ (c ▸ post))) (is_whole (statement_class o) shape.TryStatement [] 0 (a ▸ (d ▸ post))) (one a_block ∷ one_or_absent catch_class ∷ one_or_absent a_block ∷ []) false false nested
-    (λ z. ap (λ b. not (b && is_absent (child_or_absent post 0))) (absent_same c d kept.shape) ∙ z) refl e
+    (λ z. ap (λ b. not (b && is_absent (child_or_absent post 0))) (kept.missing (λ y. cc y)) ∙ z) refl e
 stage_fits s k (Finally a u) c d post kept strict false o e =
     whole_fits c d post s k (Finally a u) kept strict (is_whole (statement_class o) shape.TryStatement [] 0 (a ▸ (u ▸ (c ▸ post)))) (is_whole (statement_class o) shape.TryStatement [] 0 (a ▸ (u ▸ (d ▸ post)))) (one a_block ∷ one_or_absent catch_class ∷ one_or_absent a_block ∷ []) true true nested
-    (λ z. ap (λ b. not (is_absent u && b)) (absent_same c d kept.shape) ∙ z) refl e
+    (λ z. ap (λ b. not (is_absent u && b)) (kept.missing (λ y. cc y)) ∙ z) refl e
 stage_fits s k g c d post kept strict true o e = absurd (refused_here strict (slot (from g) true false o) (head g) [] 0 (join (before g) c post) refl e)
 
 -- ---- the whole
@@ -371,7 +376,8 @@ stage_fits s k g c d post kept strict true o e = absurd (refused_here strict (sl
 pub step : (s : List ℕ) (k : ℕ) (g : Stage) (c d : Tree) (post : Trees) → any_names (resolved s k) (before g) ≡ false → any_names (resolved s k) post ≡ false → Keeping s k (to g) c d → Keeping s k (from g) (over g c post) (over g d post)
 unfolding Unmentioned
 step s k g c d post earlier later kept = record {
-  shape = refl;
+  label = refl;
+  missing = λ z. refl;
   lexical = lexical g c d post kept.lexical;
   first = first_names c d post s k g kept;
   last = last_names c d post s k g kept;
@@ -395,4 +401,34 @@ step s k g c d post earlier later kept = record {
   clash = λ o. body_less g o c d post (kept.clash o) (all_less c d post s k g kept);
   block = λ w. block_less g w c d post (kept.clash false);
   fits_there = λ strict b m o e. named c d post s k g kept m b o strict post d ∙ stage_fits s k g c d post kept strict b o (sym (named c d post s k g kept m b o strict post c) ∙ e);
+}
+
+-- a statement in no list keeps no less
+pub keeps_held : (s : List ℕ) (k : ℕ) (t u : Tree) → Keeping s k way.Statement t u → Keeping s k way.Held t u
+keeps_held s k t u kept = record {
+  label = kept.label;
+  missing = λ f. kept.missing (λ y. cc y);
+  lexical = kept.lexical;
+  first = kept.first;
+  last = kept.last;
+  hoisted = kept.hoisted;
+  left = kept.left;
+  others_first = kept.others_first;
+  others_last = kept.others_last;
+  loop = kept.loop;
+  inner = kept.inner;
+  scoped = λ v env f. kept.scoped v env tt;
+  unmentioned = kept.unmentioned;
+  symbols = λ v y f. kept.symbols v y tt;
+  numbered = kept.numbered;
+  once = kept.once;
+  targets = kept.targets;
+  framed = kept.framed;
+  bodied = kept.bodied;
+  fixed = kept.fixed;
+  fixed_back = kept.fixed_back;
+  declares = kept.declares;
+  clash = kept.clash;
+  block = λ w. absurd (cc w);
+  fits_there = kept.fits_there;
 }

@@ -12,10 +12,9 @@ use Rattle.mini_kept.proofs.Loosely.{loose_narrowed}
 use Rattle.mini_rows.specs.Inside.{above, Holder, Arrow, Function, Module, Static, over, stands_at, InsideRow, InsideContracts, InsideIsLawful}
 use Rattle.mini_rows.specs.Unused.{resolved, names, any_names}
 use Rattle.mini_rows.proofs.FunctionBodyLawful.{OfUnused, held_loose}
-use Rattle.mini_rows.proofs.InsideLoses.{loses}
-use Rattle.mini_rows.proofs.InsideNames.{row_vars, row_plain}
+use Rattle.mini_rows.proofs.InsideMeaning.{EndLoses, end_loses}
 use Rattle.mini_rows.proofs.UnusedNames.{or_parts}
-use Rattle.mini_rows.proofs.UnusedStretches.{Stretch, row_stretch}
+use Rattle.mini_rows.proofs.UnusedStretches.{Stretch}
 
 -- ---- nothing else in the body mentions it
 
@@ -48,20 +47,20 @@ in_front x (Static n) e = refl
 -- ---- so its statements lose the name
 
 module _ (W : VariableSet) (n w : Tree) (r : InsideRow W n w) where
-  abbrev whole : Tree
-  whole = listed (over r.holder absent ▸ (listed (append r.first (absent ▸ r.last)) ▸ above r.place))
+  abbrev outer : Trees
+  outer = over r.holder absent ▸ (listed (append r.first (absent ▸ r.last)) ▸ above r.place)
 
-  abbrev inner : Stretch W whole r.list r.left
-  inner = row_stretch W whole r.list r.left refl r.row
+  abbrev inner : EndLoses W r.end outer r.read r.put
+  inner = end_loses W r.end outer r.read r.put r.row
 
   abbrev x : Name
   x = resolved inner.spelling inner.symbol
 
   abbrev earlier : Trees
-  earlier = append r.first (plug r.place (listed r.list) ▸ r.last)
+  earlier = append r.first (plug r.place r.read ▸ r.last)
 
   abbrev later : Trees
-  later = append r.first (plug r.place (listed r.left) ▸ r.last)
+  later = append r.first (plug r.place r.put ▸ r.last)
 
   stretch : Stretch W (front r.holder) earlier later
   stretch =
@@ -73,9 +72,9 @@ module _ (W : VariableSet) (n w : Tree) (r : InsideRow W n w) where
         symbol = inner.symbol;
         before = r.first;
         after = r.last;
-        d = plug r.place (listed r.list) ▸ none;
-        w = plug r.place (listed r.left) ▸ none;
-        loses = loses W whole r.list r.left inner (row_vars W whole r.list r.left refl r.row (row_plain W whole r.list r.left refl r.row r.plain)) r.place r.there own;
+        d = plug r.place r.read ▸ none;
+        w = plug r.place r.put ▸ none;
+        loses = inner.loses r.place r.there own;
         outside = in_front x r.holder held_free;
         earlier = before;
         later = after;

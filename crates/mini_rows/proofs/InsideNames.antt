@@ -70,7 +70,7 @@ unfolding names_of
 left_lexical none = refl
 left_lexical (t ▸ ts) = refl
 
-no_var : (K : VariableDeclarationKind) (P : VariableDeclarationKind → Type 0) → not (is_lexical K) ≡ true → P Var → P K
+pub no_var : (K : VariableDeclarationKind) (P : VariableDeclarationKind → Type 0) → not (is_lexical K) ≡ true → P Var → P K
 no_var Var P v p = p
 no_var Let P v p = absurd (true≢false (sym v))
 no_var Const P v p = absurd (true≢false (sym v))
@@ -79,7 +79,7 @@ value_vars : (x : Name) (init : Tree) → VarThere x (declared_one Var x init �
 unfolding names_of
 value_vars x init = record { lexical = refl; first = []; last = []; names = refl; left = refl; others_first = tt; others_last = tt }
 
-idle_vars : (x : Name) (first : Trees) (init : Tree) (last : Trees) → any_names x first ≡ false → any_names x last ≡ false → VarThere x (declared_among Var x first init last ▸ none) (declared_left Var (append first last) ▸ none)
+pub idle_vars : (x : Name) (first : Trees) (init : Tree) (last : Trees) → any_names x first ≡ false → any_names x last ≡ false → VarThere x (declared_among Var x first init last ▸ none) (declared_left Var (append first last) ▸ none)
 unfolding names_of
 idle_vars x first init last f g = record {
   lexical = ap (λ xs. xs ++ []) (left_lexical (append first last));
@@ -302,7 +302,8 @@ module _ (W : VariableSet) (p : Tree) (a b : Trees) (t : Stretch W p a b) (v : V
       subst (λ ts. Keeping t.spelling t.symbol way.Statements (listed ts) (listed b)) (sym t.read_is)
       (subst (λ ts. Keeping t.spelling t.symbol way.Statements (listed (around t.d)) (listed ts)) (sym t.written_is)
       (record {
-        shape = refl;
+        label = refl;
+        missing = λ f. refl;
         lexical = lexical_around;
         first = all_names declared.Hoisted t.before ++ v.first;
         last = v.last ++ all_names declared.Hoisted t.after;

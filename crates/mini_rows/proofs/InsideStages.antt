@@ -14,18 +14,18 @@ use Rattle.mini_laws.specs.DeclaredNames.{names_of, all_names}
 use Rattle.mini_laws.specs.Early.{Path, own_declarations, declarations, scope_declarations, at_child, in_param, label_by, label_in, label_for, is_loop, last_is_loop, last_by, is_labeled, is_loop_shape, children_of_node}
 use Rattle.mini_laws.specs.Fixity.{fixity_by}
 use Rattle.mini_laws.specs.Path.{join}
-use Rattle.mini_laws.specs.Scopes.{use_of, opening_of, scopes_by, lexical_scope}
+use Rattle.mini_laws.specs.Scopes.{use_of, is_alone, opening_of, scopes_by, lexical_scope}
 use Rattle.mini_laws.specs.State.{Writable}
 use Rattle.mini_kept.specs.Declaring.{declared_by}
 use Rattle.mini_kept.specs.Frames.{frame_of, property_below}
-use Rattle.mini_kept.specs.KeepsNames.{is_read}
+use Rattle.mini_kept.specs.KeepsNames.{is_read, unplaced}
 use Rattle.mini_kept.specs.SameNames.{NoMoreClash}
 use Rattle.mini_kept.proofs.Clashes.{counted_unplaced, no_more_same, no_more_both}
 use Rattle.mini_kept.proofs.Unplaced.{as_body, all_as_body, declared_is, own_both}
 use Rattle.mini_kept.specs.SameNames.{counted}
 use Rattle.mini_rows.specs.declared.inside.Way.{Way}
 use Rattle.mini_rows.specs.declared.inside.Way.TheVariants as way
-use Rattle.mini_rows.specs.Inside.{way_in}
+use Rattle.mini_rows.specs.Inside.{statement_way, way_in}
 use Rattle.mini_rows.proofs.ArrangedBodies.{quiet}
 use Rattle.mini_rows.proofs.FunctionBodyKept.{clash_there}
 
@@ -49,6 +49,8 @@ pub data Stage : Type 0 where
   Cases : Trees → Stage
   Case : Tree → Stage
   Handler : Tree → Stage
+  -- what a `for` begins with
+  Heading : Stage
 
 -- what each stands as
 abbrev pub from : Stage → Way
@@ -65,6 +67,15 @@ to (Caught t) = way.Catch
 to (Switched t) = way.Cases
 to (Cases ts) = way.Case
 to (Case t) = way.Statements
+to (Then a) = way.Held
+to (Else a b) = way.Held
+to (While a) = way.Held
+to Doing = way.Held
+to (For a b c) = way.Held
+to (ForIn a b) = way.Held
+to (ForOf a b) = way.Held
+to (Labeled a) = way.Held
+to Heading = way.Head
 to g = way.Statement
 
 abbrev pub head : Stage → Shape
@@ -85,6 +96,7 @@ head (Items ts) = shape.Listed
 head (Cases ts) = shape.Listed
 head (Case a) = shape.SwitchCase
 head (Handler a) = shape.CatchClause
+head Heading = shape.ForStatement
 
 abbrev pub before : Stage → Trees
 before Braces = none
@@ -104,14 +116,20 @@ before (Items ts) = ts
 before (Cases ts) = ts
 before (Case a) = a ▸ none
 before (Handler a) = a ▸ none
+before Heading = none
 
 abbrev pub over : Stage → Tree → Trees → Tree
 over g c post = node (head g) [] 0 (join (before g) c post)
 
+-- a statement stands in a list or in none
+abbrev pub plainly : Way → Way
+plainly way.Held = way.Statement
+plainly s = s
+
 -- each step of the way is one of them
 pub record View (s : Way) (h : Shape) (pre : Trees) (r : Way) : Type 0 where
   pub stage : Stage
-  pub from_is : from stage ≡ s
+  pub from_is : from stage ≡ plainly s
   pub head_is : head stage ≡ h
   pub before_is : before stage ≡ pre
   pub to_is : to stage ≡ r
@@ -120,54 +138,62 @@ abbrev given : Option Way → Way
 given None = way.Case
 given (Some r) = r
 
-at : (g : Stage) (r : Way) → Some (to g) ≡ Some r → View (from g) (head g) (before g) r
-at g r e = record { stage = g; from_is = refl; head_is = refl; before_is = refl; to_is = ap given e }
+at : (s : Way) (g : Stage) (r : Way) → from g ≡ plainly s → Some (to g) ≡ Some r → View s (head g) (before g) r
+at s g r f e = record { stage = g; from_is = f; head_is = refl; before_is = refl; to_is = ap given e }
 
 none_some : {A : Type 0} {x : A} → None ≡ Some x → ⊥
 none_some e = cc e
 
+in_statement : (h : Shape) (pre : Trees) (r : Way) → statement_way h (count pre) ≡ Some r → View way.Statement h pre r
+in_statement shape.BlockStatement none r e = at way.Statement Braces r refl e
+in_statement shape.BlockStatement (a ▸ pre) r e = absurd (none_some e)
+in_statement shape.IfStatement none r e = absurd (none_some e)
+in_statement shape.IfStatement (a ▸ none) r e = at way.Statement (Then a) r refl e
+in_statement shape.IfStatement (a ▸ (b ▸ none)) r e = at way.Statement (Else a b) r refl e
+in_statement shape.IfStatement (a ▸ (b ▸ (c ▸ pre))) r e = absurd (none_some e)
+in_statement shape.WhileStatement none r e = absurd (none_some e)
+in_statement shape.WhileStatement (a ▸ none) r e = at way.Statement (While a) r refl e
+in_statement shape.WhileStatement (a ▸ (b ▸ pre)) r e = absurd (none_some e)
+in_statement shape.DoWhileStatement none r e = at way.Statement Doing r refl e
+in_statement shape.DoWhileStatement (a ▸ pre) r e = absurd (none_some e)
+in_statement shape.ForStatement none r e = at way.Statement Heading r refl e
+in_statement shape.ForStatement (a ▸ none) r e = absurd (none_some e)
+in_statement shape.ForStatement (a ▸ (b ▸ none)) r e = absurd (none_some e)
+in_statement shape.ForStatement (a ▸ (b ▸ (c ▸ none))) r e = at way.Statement (For a b c) r refl e
+in_statement shape.ForStatement (a ▸ (b ▸ (c ▸ (d ▸ pre)))) r e = absurd (none_some e)
+in_statement shape.ForInStatement none r e = absurd (none_some e)
+in_statement shape.ForInStatement (a ▸ none) r e = absurd (none_some e)
+in_statement shape.ForInStatement (a ▸ (b ▸ none)) r e = at way.Statement (ForIn a b) r refl e
+in_statement shape.ForInStatement (a ▸ (b ▸ (c ▸ pre))) r e = absurd (none_some e)
+in_statement shape.ForOfStatement none r e = absurd (none_some e)
+in_statement shape.ForOfStatement (a ▸ none) r e = absurd (none_some e)
+in_statement shape.ForOfStatement (a ▸ (b ▸ none)) r e = at way.Statement (ForOf a b) r refl e
+in_statement shape.ForOfStatement (a ▸ (b ▸ (c ▸ pre))) r e = absurd (none_some e)
+in_statement shape.LabeledStatement none r e = absurd (none_some e)
+in_statement shape.LabeledStatement (a ▸ none) r e = at way.Statement (Labeled a) r refl e
+in_statement shape.LabeledStatement (a ▸ (b ▸ pre)) r e = absurd (none_some e)
+in_statement shape.TryStatement none r e = at way.Statement Tried r refl e
+in_statement shape.TryStatement (a ▸ none) r e = at way.Statement (Caught a) r refl e
+in_statement shape.TryStatement (a ▸ (b ▸ none)) r e = at way.Statement (Finally a b) r refl e
+in_statement shape.TryStatement (a ▸ (b ▸ (c ▸ pre))) r e = absurd (none_some e)
+in_statement shape.SwitchStatement none r e = absurd (none_some e)
+in_statement shape.SwitchStatement (a ▸ none) r e = at way.Statement (Switched a) r refl e
+in_statement shape.SwitchStatement (a ▸ (b ▸ pre)) r e = absurd (none_some e)
+in_statement h pre r e = absurd (none_some e)
+
+held_too : (h : Shape) (pre : Trees) (r : Way) → View way.Statement h pre r → View way.Held h pre r
+held_too h pre r v = record { stage = v.stage; from_is = v.from_is; head_is = v.head_is; before_is = v.before_is; to_is = v.to_is }
+
 pub view : (s : Way) (h : Shape) (pre : Trees) (r : Way) → way_in s h (count pre) ≡ Some r → View s h pre r
-view way.Statement shape.BlockStatement none r e = at Braces r e
-view way.Statement shape.BlockStatement (a ▸ pre) r e = absurd (none_some e)
-view way.Statement shape.IfStatement none r e = absurd (none_some e)
-view way.Statement shape.IfStatement (a ▸ none) r e = at (Then a) r e
-view way.Statement shape.IfStatement (a ▸ (b ▸ none)) r e = at (Else a b) r e
-view way.Statement shape.IfStatement (a ▸ (b ▸ (c ▸ pre))) r e = absurd (none_some e)
-view way.Statement shape.WhileStatement none r e = absurd (none_some e)
-view way.Statement shape.WhileStatement (a ▸ none) r e = at (While a) r e
-view way.Statement shape.WhileStatement (a ▸ (b ▸ pre)) r e = absurd (none_some e)
-view way.Statement shape.DoWhileStatement none r e = at Doing r e
-view way.Statement shape.DoWhileStatement (a ▸ pre) r e = absurd (none_some e)
-view way.Statement shape.ForStatement none r e = absurd (none_some e)
-view way.Statement shape.ForStatement (a ▸ none) r e = absurd (none_some e)
-view way.Statement shape.ForStatement (a ▸ (b ▸ none)) r e = absurd (none_some e)
-view way.Statement shape.ForStatement (a ▸ (b ▸ (c ▸ none))) r e = at (For a b c) r e
-view way.Statement shape.ForStatement (a ▸ (b ▸ (c ▸ (d ▸ pre)))) r e = absurd (none_some e)
-view way.Statement shape.ForInStatement none r e = absurd (none_some e)
-view way.Statement shape.ForInStatement (a ▸ none) r e = absurd (none_some e)
-view way.Statement shape.ForInStatement (a ▸ (b ▸ none)) r e = at (ForIn a b) r e
-view way.Statement shape.ForInStatement (a ▸ (b ▸ (c ▸ pre))) r e = absurd (none_some e)
-view way.Statement shape.ForOfStatement none r e = absurd (none_some e)
-view way.Statement shape.ForOfStatement (a ▸ none) r e = absurd (none_some e)
-view way.Statement shape.ForOfStatement (a ▸ (b ▸ none)) r e = at (ForOf a b) r e
-view way.Statement shape.ForOfStatement (a ▸ (b ▸ (c ▸ pre))) r e = absurd (none_some e)
-view way.Statement shape.LabeledStatement none r e = absurd (none_some e)
-view way.Statement shape.LabeledStatement (a ▸ none) r e = at (Labeled a) r e
-view way.Statement shape.LabeledStatement (a ▸ (b ▸ pre)) r e = absurd (none_some e)
-view way.Statement shape.TryStatement none r e = at Tried r e
-view way.Statement shape.TryStatement (a ▸ none) r e = at (Caught a) r e
-view way.Statement shape.TryStatement (a ▸ (b ▸ none)) r e = at (Finally a b) r e
-view way.Statement shape.TryStatement (a ▸ (b ▸ (c ▸ pre))) r e = absurd (none_some e)
-view way.Statement shape.SwitchStatement none r e = absurd (none_some e)
-view way.Statement shape.SwitchStatement (a ▸ none) r e = at (Switched a) r e
-view way.Statement shape.SwitchStatement (a ▸ (b ▸ pre)) r e = absurd (none_some e)
-view way.Statements shape.Listed pre r e = at (Items pre) r e
-view way.Cases shape.Listed pre r e = at (Cases pre) r e
+view way.Statement h pre r e = in_statement h pre r e
+view way.Held h pre r e = held_too h pre r (in_statement h pre r e)
+view way.Statements shape.Listed pre r e = at way.Statements (Items pre) r refl e
+view way.Cases shape.Listed pre r e = at way.Cases (Cases pre) r refl e
 view way.Case shape.SwitchCase none r e = absurd (none_some e)
-view way.Case shape.SwitchCase (a ▸ none) r e = at (Case a) r e
+view way.Case shape.SwitchCase (a ▸ none) r e = at way.Case (Case a) r refl e
 view way.Case shape.SwitchCase (a ▸ (b ▸ pre)) r e = absurd (none_some e)
 view way.Catch shape.CatchClause none r e = absurd (none_some e)
-view way.Catch shape.CatchClause (a ▸ none) r e = at (Handler a) r e
+view way.Catch shape.CatchClause (a ▸ none) r e = at way.Catch (Handler a) r refl e
 view way.Catch shape.CatchClause (a ▸ (b ▸ pre)) r e = absurd (none_some e)
 view s h pre r e = absurd (none_some e)
 
@@ -201,6 +227,7 @@ pub scopes : (g : Stage) (v : Use) (c d : Tree) (post : Trees) → names_of decl
 unfolding scopes_by
 scopes Braces v c d post e = ap (λ xs. lexical_scope xs ∷ []) e
 scopes (Switched a) v c d post e = ap (λ xs. [] ∷ lexical_scope xs ∷ []) e
+scopes Heading v c d post e = ap (λ xs. lexical_scope xs ∷ []) e
 scopes g v c d post e = refl
 
 -- the index of what stands behind some, of which the first has this one
@@ -208,14 +235,25 @@ abbrev pub behind : ℕ → Trees → ℕ
 behind i none = i
 behind i (t ▸ pre) = behind (suc i) pre
 
--- a list of statements is read
+-- a list of statements is read, and so is what a `for` begins with; what stands in no list stands alone
 abbrev pub Fine : Way → Use → Type 0
 Fine way.Statements v = is_read v ≡ true
+Fine way.Head v = is_read v ≡ true
+Fine way.Held v = is_alone v ≡ true
 Fine s v = Unit {0}
 
 pub fine : (g : Stage) (v : Use) → Fine (from g) v → Fine (to g) (use_of (head g) v (behind 0 (before g)))
 fine Braces v f = refl
 fine (Case a) v f = refl
+fine (Then a) v f = refl
+fine (Else a b) v f = refl
+fine (While a) v f = refl
+fine Doing v f = refl
+fine (For a b c) v f = refl
+fine (ForIn a b) v f = refl
+fine (ForOf a b) v f = refl
+fine (Labeled a) v f = refl
+fine Heading v f = refl
 fine g v f = tt
 
 -- ---- what stands in no such node
@@ -246,12 +284,12 @@ undeclaring g = refl
 
 -- ---- jumps
 
-pub same_label : (pre : Trees) (c d : Tree) (post : Trees) → shape_of d ≡ shape_of c → label_in (join pre d post) ≡ label_in (join pre c post)
-same_label none c d post s = ap label_by s
+pub same_label : (pre : Trees) (c d : Tree) (post : Trees) → label_by (shape_of d) ≡ label_by (shape_of c) → label_in (join pre d post) ≡ label_in (join pre c post)
+same_label none c d post s = s
 same_label (t ▸ pre) c d post s = refl
 
-pub same_label_for : (pre : Trees) (c d : Tree) (post : Trees) → shape_of d ≡ shape_of c → is_loop d ≡ is_loop c → label_for (join pre d post) ≡ label_for (join pre c post)
-same_label_for none c d post s e = ap (λ h. record { name = unwrap_or (label_by h) []; is_loop = is_loop (child_or_absent post 0) }) s
+pub same_label_for : (pre : Trees) (c d : Tree) (post : Trees) → label_by (shape_of d) ≡ label_by (shape_of c) → is_loop d ≡ is_loop c → label_for (join pre d post) ≡ label_for (join pre c post)
+same_label_for none c d post s e = ap (λ l. record { name = unwrap_or l []; is_loop = is_loop (child_or_absent post 0) }) s
 same_label_for (t ▸ none) c d post s e = ap (λ b. record { name = unwrap_or (label_by (shape_of t)) []; is_loop = b }) e
 same_label_for (t ▸ (u ▸ pre)) c d post s e = refl
 
@@ -291,28 +329,37 @@ declared_less p c d less =
     let is = λ (t : Tree) (s : List ℕ) (l : Bool). sym (counted_unplaced l s (declarations declared.Hoisted false p t)) ∙ ap (counted l s) (declared_is declared.Hoisted false p t) in
     placed_less (declarations declared.Hoisted false p d) (declarations declared.Hoisted false p c) (own_declarations false [] (names_of declared.Hoisted d)) (own_declarations false [] (names_of declared.Hoisted c)) (is d) (is c) less
 
+-- the same lexical names do
+lexical_less : (p : Path) (c d : Tree) → names_of declared.Lexical d ≡ names_of declared.Lexical c → NoMoreClash (declarations declared.Lexical true p d) (declarations declared.Lexical true p c)
+lexical_less p c d e =
+    let own = λ (t : Tree). own_declarations true [] (names_of declared.Lexical t) in
+    let is = λ (t : Tree) (s : List ℕ) (l : Bool). sym (counted_unplaced l s (declarations declared.Lexical true p t)) ∙ ap (counted l s) (declared_is declared.Lexical true p t) in
+    placed_less (declarations declared.Lexical true p d) (declarations declared.Lexical true p c) (own d) (own c) (is d) (is c) (no_more_same (own c) (own d) (ap (λ xs. unplaced (own_declarations true [] xs)) e))
+
 -- what a block in it declares
 abbrev pub BlockLess : Tree → Tree → Type 0
 BlockLess c d = NoMoreClash (as_body false (child_or_absent (children_of_node d) 0)) (as_body false (child_or_absent (children_of_node c) 0))
 
-pub scope_less : (g : Stage) (c d : Tree) (post : Trees) → NoMoreClash (as_body false d) (as_body false c) → (to g ≡ way.Statement → BlockLess c d) → NoMoreClash (own_declarations false [] (names_of declared.Hoisted d)) (own_declarations false [] (names_of declared.Hoisted c))
+pub scope_less : (g : Stage) (c d : Tree) (post : Trees) → names_of declared.Lexical d ≡ names_of declared.Lexical c → NoMoreClash (as_body false d) (as_body false c) → (to g ≡ way.Statement → BlockLess c d) → NoMoreClash (own_declarations false [] (names_of declared.Hoisted d)) (own_declarations false [] (names_of declared.Hoisted c))
     → NoMoreClash (scope_declarations (head g) [] (join (before g) d post)) (scope_declarations (head g) [] (join (before g) c post))
 unfolding scope_declarations
-scope_less Braces c d post b k h = clash_there false (0 ∷ []) c d b
-scope_less (Switched a) c d post b k h = clash_there false (1 ∷ []) c d b
-scope_less (For t u v) c d post b k h =
+scope_less Braces c d post l b k h = clash_there false (0 ∷ []) c d b
+scope_less (Switched a) c d post l b k h = clash_there false (1 ∷ []) c d b
+scope_less (For t u v) c d post l b k h =
     let own = at_child declared.Lexical true [] (t ▸ none) 0 in
     no_more_both own own (declarations declared.Hoisted false (3 ∷ []) c) (declarations declared.Hoisted false (3 ∷ []) d) (no_more_same own own refl) (declared_less (3 ∷ []) c d h)
-scope_less (ForIn t u) c d post b k h =
+scope_less (ForIn t u) c d post l b k h =
     let own = at_child declared.Lexical true [] (t ▸ none) 0 in
     no_more_both own own (declarations declared.Hoisted false (2 ∷ []) c) (declarations declared.Hoisted false (2 ∷ []) d) (no_more_same own own refl) (declared_less (2 ∷ []) c d h)
-scope_less (ForOf t u) c d post b k h =
+scope_less (ForOf t u) c d post l b k h =
     let own = at_child declared.Lexical true [] (t ▸ none) 0 in
     no_more_both own own (declarations declared.Hoisted false (2 ∷ []) c) (declarations declared.Hoisted false (2 ∷ []) d) (no_more_same own own refl) (declared_less (2 ∷ []) c d h)
-scope_less (Handler t) c d post b k h =
+scope_less (Handler t) c d post l b k h =
     let own = in_param [] (t ▸ none) in
     no_more_both own own _ _ (no_more_same own own refl) (clash_there false (1 ∷ (0 ∷ [])) (child_or_absent (children_of_node c) 0) (child_or_absent (children_of_node d) 0) (k refl))
-scope_less g c d post b k h = no_more_same [] [] refl
+scope_less Heading c d post l b k h =
+    no_more_both (declarations declared.Lexical true (0 ∷ []) c) (declarations declared.Lexical true (0 ∷ []) d) _ _ (lexical_less (0 ∷ []) c d l) (no_more_same _ _ refl)
+scope_less g c d post l b k h = no_more_same [] [] refl
 
 joined_less : (o : Bool) (pre : Trees) (c d : Tree) (post : Trees) → NoMoreClash (as_body o d) (as_body o c) → NoMoreClash (all_as_body o (join pre d post)) (all_as_body o (join pre c post))
 joined_less o none c d post b = no_more_both (as_body o c) (as_body o d) (all_as_body o post) (all_as_body o post) b (no_more_same (all_as_body o post) (all_as_body o post) refl)
@@ -331,6 +378,7 @@ pub block_less : (g : Stage) → from g ≡ way.Statement → (c d : Tree) (post
 block_less Braces s c d post b = b
 block_less Doing s c d post b = b
 block_less Tried s c d post b = b
+block_less Heading s c d post b = b
 block_less (Items pre) s c d post b = absurd (cc s)
 block_less (Cases pre) s c d post b = absurd (cc s)
 block_less (Then a) s c d post b = no_more_same (as_body false a) (as_body false a) refl

@@ -3,26 +3,32 @@ use Rattle.std.specs.Prelude.{ℕ, zero, suc, ◌+◌, ◌<◌, ◌≤◌, ◌�
 use Rattle.std.proofs.Common.{ap, ◌∙◌, sym, subst, inl, inr, true≢false, arith}
 use Rattle.mini_model.specs.declared.place.Position.{Position}
 use Rattle.mini_model.specs.declared.place.Position.TheVariants.{Expr, Stmt, StatementList, Elsewhere}
+use Rattle.mini_model.specs.declared.kind.VariableDeclarationKind.TheVariants.{Var}
+use Rattle.mini_model.specs.declared.seat.StmtSeat.{StmtSeat}
 use Rattle.mini_model.specs.declared.seat.StmtSeat.TheVariants as stmt_seat
 use Rattle.mini_model.specs.declared.shape.Shape.{Shape}
-use Rattle.mini_model.specs.Tree.{Tree, Trees, none, ◌▸◌, absent, listed, count, expression_statement}
+use Rattle.mini_model.specs.declared.shape.Shape.TheVariants as shape
+use Rattle.mini_model.specs.Tree.{Tree, Trees, node, none, ◌▸◌, absent, listed, count, expression_statement}
 use Rattle.mini_model.specs.Paths.{append}
 use Rattle.mini_model.specs.Position.{child_position}
 use Rattle.mini_model.specs.Weight.{plain_outline, outline, outlines, one_chooses, weight}
-use Rattle.mini_laws.specs.Path.{Path, here, inside, count_joined, plug, position_at}
+use Rattle.mini_laws.specs.Path.{Path, here, inside, join, count_joined, plug, position_at}
 use Rattle.mini_laws.specs.Value.{VariableSet}
 use Rattle.mini_laws.proofs.Weights.{replacement, own_kept}
 use Rattle.mini_rows.specs.Declarations.{declarator}
 use Rattle.mini_rows.specs.declared.inside.Way.{Way}
 use Rattle.mini_rows.specs.declared.inside.Way.TheVariants as way
-use Rattle.mini_rows.specs.Inside.{above, way_in, is_way, Holder, Arrow, Function, Module, Static, over, stands_at, InsideRow, InsideLighter, InsideLightens}
+use Rattle.mini_rows.specs.Inside.{above, way_in, is_way_to, ListEnd, HeldEnd, HeadEnd, EndRow, Holder, Arrow, Function, Module, Static, over, stands_at, InsideRow, InsideLighter, InsideLightens}
 use Rattle.mini_rows.specs.Lists.{block, declaration}
 use Rattle.mini_rows.specs.Unused.{resolved, declared_one, declared_among, declared_left, put_first, BlockRow}
-use Rattle.mini_rows.proofs.InsideLoses.{no_way}
-use Rattle.mini_rows.proofs.InsideStages.{Stage, Braces, Case, to, head, before, view}
+use Rattle.mini_rows.proofs.InsideEnds.{is_simple, held_row}
+use Rattle.mini_rows.proofs.InsideLoses.{no_way, ways_same}
+use Rattle.mini_rows.proofs.InsideMeaning.{last_step, by_stage}
+use Rattle.mini_rows.proofs.InsideStages.{Stage, Braces, Then, Else, While, Doing, For, ForIn, ForOf, Labeled, Case, Heading, to, head, before, view}
+use Rattle.mini_rows.proofs.InsideStages.{over as over_node}
 use Rattle.mini_rows.proofs.ListWeights.{total, list_is, body_is, in_list}
 use Rattle.mini_rows.proofs.UnusedStretches.{Stretch, stretch, row_stretch}
-use Rattle.mini_rows.proofs.UnusedWeights.{same_choice, same_chooses, block_lighter}
+use Rattle.mini_rows.proofs.UnusedWeights.{same_choice, same_chooses, block_lighter, head_falls}
 
 -- ---- the outline of the list
 
@@ -72,11 +78,20 @@ row_outline W p a b (inr (inr (inr r))) =
 
 abbrev Placed : Way → Position → Type 0
 Placed way.Statements p = p ≡ StatementList
+Placed way.Held p = (q : StmtSeat) × (p ≡ Stmt q)
 Placed w p = Unit {0}
 
 placed : (g : Stage) (p : Position) (m : ℕ) → Placed (to g) (child_position (head g) p m (count (before g)))
 placed Braces p m = refl
 placed (Case a) p m = refl
+placed (Then a) p m = (_, refl)
+placed (Else a b) p m = (_, refl)
+placed (While a) p m = (_, refl)
+placed Doing p m = (_, refl)
+placed (For a b c) p m = (_, refl)
+placed (ForIn a b) p m = (_, refl)
+placed (ForOf a b) p m = (_, refl)
+placed (Labeled a) p m = (_, refl)
 placed g p m = tt
 
 step_placed : (w : Way) (h : Shape) (pre : Trees) (r : Way) (p : Position) (m : ℕ) → way_in w h (count pre) ≡ Some r → Placed r (child_position h p m (count pre))
@@ -84,54 +99,99 @@ step_placed w h pre r p m e =
     let v = view w h pre r e in
     subst (λ pre. Placed r (child_position h p m (count pre))) v.before_is (subst (λ h. Placed r (child_position h p m (count (before v.stage)))) v.head_is (subst (λ r. Placed r (child_position (head v.stage) p m (count (before v.stage)))) v.to_is (placed v.stage p m)))
 
-placed_by : (w : Way) (h : Shape) (pre : Trees) (k : Path) (p : Position) (m : ℕ) (P : Position → Type 0) (r : Option Way) → way_in w h (count pre) ≡ r → ((r : Way) → is_way (Some r) k ≡ true → Placed r (child_position h p m (count pre)) → P (child_position h p m (count pre))) → is_way r k ≡ true → P (child_position h p m (count pre))
-placed_by w h pre k p m P None z rest e = absurd (no_way k e)
-placed_by w h pre k p m P (Some r) z rest e = rest r e (step_placed w h pre r p m z)
+module _ (z : Way) where
+  placed_by : (w : Way) (h : Shape) (pre : Trees) (k : Path) (p : Position) (m : ℕ) (P : Position → Type 0) (r : Option Way) → way_in w h (count pre) ≡ r → ((r : Way) → is_way_to z (Some r) k ≡ true → Placed r (child_position h p m (count pre)) → P (child_position h p m (count pre))) → is_way_to z r k ≡ true → P (child_position h p m (count pre))
+  placed_by w h pre k p m P None y rest e = absurd (no_way z k e)
+  placed_by w h pre k p m P (Some r) y rest e = rest r e (step_placed w h pre r p m y)
 
-list_placed : (w : Way) (k : Path) (p : Position) → is_way (Some w) k ≡ true → Placed w p → position_at k p ≡ StatementList
-list_placed way.Statements here p e f = f
-list_placed way.Statement here p e f = absurd (true≢false (sym e))
-list_placed way.Cases here p e f = absurd (true≢false (sym e))
-list_placed way.Case here p e f = absurd (true≢false (sym e))
-list_placed way.Catch here p e f = absurd (true≢false (sym e))
-list_placed w (inside h [] zero pre k post) p e f =
-    placed_by w h pre k p (count_joined pre post) (λ z. position_at k z ≡ StatementList) (way_in w h (count pre)) refl (λ r g b. list_placed r k (child_position h p (count_joined pre post) (count pre)) g b) e
-list_placed w (inside h [] (suc n) pre k post) p e f = absurd (true≢false (sym e))
-list_placed w (inside h (y ∷ ys) n pre k post) p e f = absurd (true≢false (sym e))
+  end_placed : (w : Way) (k : Path) (p : Position) → is_way_to z (Some w) k ≡ true → Placed w p → Placed z (position_at k p)
+  end_placed w here p e f = subst (λ y. Placed y p) (sym (ways_same z w e)) f
+  end_placed w (inside h [] zero pre k post) p e f =
+      placed_by w h pre k p (count_joined pre post) (λ y. Placed z (position_at k y)) (way_in w h (count pre)) refl (λ r g b. end_placed r k (child_position h p (count_joined pre post) (count pre)) g b) e
+  end_placed w (inside h [] (suc n) pre k post) p e f = absurd (true≢false (sym e))
+  end_placed w (inside h (y ∷ ys) n pre k post) p e f = absurd (true≢false (sym e))
+
+-- ---- what it loses
+
+abbrev at_item : Position
+at_item = Stmt stmt_seat.List
+
+-- a statement that is neither a loop nor labelled weighs the same wherever it stands
+simple_weight : (q : StmtSeat) (t : Tree) → is_simple t ≡ true → weight (Stmt q) t ≡ weight at_item t
+simple_weight q (node shape.ExpressionStatement xs n ts) e = refl
+simple_weight q (node shape.EmptyStatement xs n ts) e = refl
+simple_weight q (node (shape.VariableDeclaration Var) xs n ts) e = refl
+simple_weight q (node h xs n ts) e = absurd (true≢false (sym e))
+
+simple_outline : (t : Tree) → is_simple t ≡ true → outline t ≡ plain_outline
+simple_outline (node shape.ExpressionStatement xs n ts) e = refl
+simple_outline (node shape.EmptyStatement xs n ts) e = refl
+simple_outline (node (shape.VariableDeclaration Var) xs n ts) e = refl
+simple_outline (node h xs n ts) e = absurd (true≢false (sym e))
+
+rows_fall : (W : VariableSet) (o list left : Trees) → BlockRow W (block (listed o ▸ list)) (block (listed o ▸ left)) → total left + 1 ≤ total list
+rows_fall W o list left r =
+    let less = block_lighter stmt_seat.List (block (listed o ▸ list)) (block (listed o ▸ left)) r in
+    omega (arith, less, list_is (listed o ▸ list), list_is (listed o ▸ left))
+
+list_falls : (W : VariableSet) (o : Trees) (a b : Tree) → ListEnd W o a b → (k : Path) → is_way_to way.Statements (Some way.Statement) k ≡ true → weight at_item (plug k b) + 1 ≤ weight at_item (plug k a)
+list_falls W o a b r k e =
+    let same = ap outline r.shape ∙ stretched_outline W (listed o) r.list r.left (row_stretch W (listed o) r.list r.left refl r.row) (row_outline W o r.list r.left r.row) ∙ sym (ap outline r.written) in
+    let whole = replacement k a b at_item in
+    let above = own_kept k a b at_item same in
+    let there = end_placed way.Statements way.Statement k at_item e tt in
+    let old : weight (position_at k at_item) a ≡ weight StatementList (listed r.list) = λ i. weight (there i) (r.shape i) in
+    let new : weight (position_at k at_item) b ≡ weight StatementList (listed r.left) = λ i. weight (there i) (r.written i) in
+    omega (arith, whole, above, old, new, rows_fall W o r.list r.left r.row, list_is r.list, list_is r.left)
+
+held_falls : (W : VariableSet) (o : Trees) (a b : Tree) → HeldEnd W o a b → (k : Path) → is_way_to way.Held (Some way.Statement) k ≡ true → weight at_item (plug k b) + 1 ≤ weight at_item (plug k a)
+held_falls W o a b r k e =
+    let h = (held_row W (listed o) a b refl r.row r.plain).0 in
+    let whole = replacement k a b at_item in
+    let above = own_kept k a b at_item (simple_outline a h.simple ∙ sym (simple_outline b h.simple_left)) in
+    let (q, there) = end_placed way.Held way.Statement k at_item e tt in
+    let old = ap (λ p. weight p a) there ∙ simple_weight q a h.simple in
+    let new = ap (λ p. weight p b) there ∙ simple_weight q b h.simple_left in
+    omega (arith, whole, above, old, new, rows_fall W o (a ▸ none) (b ▸ none) r.row)
+
+heading_falls : (W : VariableSet) (o : Trees) (a b : Tree) → HeadEnd W o a b → (g : Stage) → to g ≡ way.Head → (post : Trees) (p : Position) → (weight p (over_node g b post) < weight p (over_node g a post)) × (outline (over_node g a post) ≡ outline (over_node g b post))
+heading_falls W o a b r Heading e post p =
+    let less = head_falls p Var (resolved r.spelling r.symbol) r.first r.last r.init post in
+    (omega (arith, less, ap (λ t. weight p (node shape.ForStatement [] 0 (t ▸ post))) r.shape, ap (λ t. weight p (node shape.ForStatement [] 0 (t ▸ post))) r.written), refl)
+heading_falls W o a b r g e post p = absurd (cc e)
+
+head_end_falls : (W : VariableSet) (o : Trees) (a b : Tree) → HeadEnd W o a b → (k : Path) → is_way_to way.Head (Some way.Statement) k ≡ true → weight at_item (plug k b) + 1 ≤ weight at_item (plug k a)
+head_end_falls W o a b r k e =
+    let c = last_step way.Head k refl e in
+    let n = node c.kind [] 0 (join c.pre a c.post) in
+    let w = node c.kind [] 0 (join c.pre b c.post) in
+    let (less, same) = by_stage (λ h pre. (weight (position_at c.place at_item) (node h [] 0 (join pre b c.post)) < weight (position_at c.place at_item) (node h [] 0 (join pre a c.post))) × (outline (node h [] 0 (join pre a c.post)) ≡ outline (node h [] 0 (join pre b c.post)))) c.end c.kind c.pre way.Head c.goes (λ g h. heading_falls W o a b r g h c.post (position_at c.place at_item)) in
+    let whole = replacement c.place n w at_item in
+    let above = own_kept c.place n w at_item same in
+    omega (arith, less, whole, above, ap (weight at_item) (c.plugs a), ap (weight at_item) (c.plugs b))
+
+end_falls : (W : VariableSet) (z : Way) (o : Trees) (a b : Tree) → EndRow z W o a b → (k : Path) → is_way_to z (Some way.Statement) k ≡ true → weight at_item (plug k b) + 1 ≤ weight at_item (plug k a)
+end_falls W way.Statements o a b r = list_falls W o a b r
+end_falls W way.Held o a b r = held_falls W o a b r
+end_falls W way.Head o a b r = head_end_falls W o a b r
+end_falls W z o a b r = absurd r
 
 -- ---- the body
 
 module _ (W : VariableSet) (n w : Tree) (r : InsideRow W n w) where
-  abbrev whole : Trees
-  whole = over r.holder absent ▸ (listed (append r.first (absent ▸ r.last)) ▸ above r.place)
-
-  lists_fall : total r.left + 1 ≤ total r.list
-  lists_fall =
-      let front = listed whole in
-      let less = block_lighter stmt_seat.List (block (front ▸ r.list)) (block (front ▸ r.left)) r.row in
-      omega (arith, less, list_is (front ▸ r.list), list_is (front ▸ r.left))
-
-  same_outline : outline (listed r.list) ≡ outline (listed r.left)
-  same_outline = let front = listed whole in stretched_outline W front r.list r.left (row_stretch W front r.list r.left refl r.row) (row_outline W whole r.list r.left r.row)
-
-  statement_falls : total (plug r.place (listed r.left) ▸ none) + 1 ≤ total (plug r.place (listed r.list) ▸ none)
-  statement_falls =
-      let at = Stmt stmt_seat.List in
-      let whole = replacement r.place (listed r.list) (listed r.left) at in
-      let above = own_kept r.place (listed r.list) (listed r.left) at same_outline in
-      let there = list_placed way.Statement r.place at r.there tt in
-      let old = ap (λ q. weight q (listed r.list)) there in
-      let new = ap (λ q. weight q (listed r.left)) there in
-      omega (arith, whole, above, old, new, lists_fall, list_is r.list, list_is r.left)
-
   abbrev earlier : Trees
-  earlier = append r.first (plug r.place (listed r.list) ▸ r.last)
+  earlier = append r.first (plug r.place r.read ▸ r.last)
 
   abbrev later : Trees
-  later = append r.first (plug r.place (listed r.left) ▸ r.last)
+  later = append r.first (plug r.place r.put ▸ r.last)
+
+  statement_falls : total (plug r.place r.put ▸ none) + 1 ≤ total (plug r.place r.read ▸ none)
+  statement_falls =
+      let less = end_falls W r.end (over r.holder absent ▸ (listed (append r.first (absent ▸ r.last)) ▸ above r.place)) r.read r.put r.row r.place r.there in
+      omega (arith, less)
 
   body_falls : total later + 1 ≤ total earlier
-  body_falls = let less = in_list r.first (plug r.place (listed r.list) ▸ none) (plug r.place (listed r.left) ▸ none) r.last 1 statement_falls in omega (arith, less, list_is earlier, list_is later)
+  body_falls = let less = in_list r.first (plug r.place r.read ▸ none) (plug r.place r.put ▸ none) r.last 1 statement_falls in omega (arith, less, list_is earlier, list_is later)
 
 held_lighter : (o : Holder) (p : Position) (a b : Trees) → stands_at o p ≡ true → total b + 1 ≤ total a → weight p (over o (listed b)) < weight p (over o (listed a))
 held_lighter (Arrow ds n ps) (Expr s) a b e f = omega (arith, f, body_is a, body_is b)

@@ -273,5 +273,7 @@ pub mod InsideStages
 pub mod InsideKept
 pub mod InsideNames
 pub mod InsideLoses
+pub mod InsideEnds
+pub mod InsideMeaning
 pub mod InsideLawful
 pub mod InsideWeights

@@ -8,9 +8,9 @@ use Rattle.mini_model.specs.declared.shape.Shape.TheVariants as shape
 use Rattle.mini_model.specs.Tree.{Tree, Trees, node, none, ◌▸◌, absent, shape_of}
 use Rattle.mini_laws.specs.Value.{Value, choose, is_nullish}
 use Rattle.mini_laws.specs.State.{NextOf, KeysOf, IteratorOf, Item, State, Thrown, Returned, Broken, Continued, Short, Completion, ok, stop, Ends, done, ended, either, Environment}
-use Rattle.mini_laws.specs.Demand.{Val, LoopTail, Demand, As, Stat, LabelSet}
+use Rattle.mini_laws.specs.Demand.{Val, Unused, LoopTail, Demand, As, Stat, LabelSet}
 use Rattle.mini_laws.specs.Command.{hide, turn, fuel, Naming, Command, ret, fails, op, kid, then, attempt, bind, repeat, loop, emit, Kids, act, run}
-use Rattle.mini_laws.specs.Naming.{Declared, Variables, AClass, is_lexical, summary}
+use Rattle.mini_laws.specs.Naming.{Declared, Variables, AClass, is_lexical, summary, facts, nth_absent}
 use Rattle.mini_laws.specs.Asking.{for_demand, each_demand}
 use Rattle.mini_laws.specs.Replies.{as_ended}
 use Rattle.mini_laws.specs.Statements.{scoped}
@@ -20,7 +20,7 @@ use Rattle.mini_laws.proofs.Runs.{either_cong, either_ok, run_bind}
 use Rattle.mini_laws.proofs.Stretching.{run_attempt}
 use Rattle.mini_laws.proofs.Tailing.{finished, finish_none}
 use Rattle.mini_rows.specs.Lists.{EachOf, each_loop, for_in, for_loop, declaration, declares_nothing, is_var_shape, is_bare_var, is_plain_left}
-use Rattle.mini_rows.proofs.ListHeads.{nothing_by, for_names, for_kids, for_rest, for_absent_is, scoped_is, leaving_nothing}
+use Rattle.mini_rows.proofs.ListHeads.{nothing_by, for_names, for_kids, for_rest, scoped_is, leaving_nothing}
 use Rattle.mini_rows.proofs.ListStatements.{declaration_is, declare_none}
 
 -- ---- commands that do the same over two families of children
@@ -132,18 +132,40 @@ module _ (e : Environment) (test update body : Tree) where
   pub for_var_is : (ds : Trees) (r : LabelSet) (s : State) → means e (for_loop (declaration Var ds) test update body) (Stat None) r s ≡ either (means e (declaration Var ds) (Stat None) [] s) (λ u z. for_rest e test update body r z) (λ x z. stop x z)
   for_var_is ds = for_declared_is Var ds refl
 
-  no_lets : (k : VariableDeclarationKind) → (summary (declaration k none)).lets ≡ []
-  no_lets Var = refl
-  no_lets Let = refl
-  no_lets Const = refl
+no_lets : (k : VariableDeclarationKind) → (summary (declaration k none)).lets ≡ []
+no_lets Var = refl
+no_lets Let = refl
+no_lets Const = refl
 
-  -- and with a declaration of no name it does what it does without one
-  pub for_none_is : (k : VariableDeclarationKind) (r : LabelSet) (s : State) → means e (for_loop (declaration k none) test update body) (Stat None) r s ≡ means e (for_loop absent test update body) (Stat None) r s
-  for_none_is k r s =
-      for_declared_is k none (no_lets k) r s
-      ∙ ap (λ x. either x (λ u z. for_rest e test update body r z) (λ x z. stop x z)) (declaration_is e k none [] s ∙ declare_none e (is_lexical k) s)
-      ∙ either_ok tt s _ _
-      ∙ sym (for_absent_is e test update body r s)
+absent_unused : (e : Environment) (s : State) → means e absent (As Unused) tt s ≡ ok tt s
+unfolding means step
+absent_unused e s = refl
+
+-- with a declaration of no name it does what it does without one, whatever stands behind it
+module _ (e : Environment) (k : VariableDeclarationKind) (rest : Trees) (labels : LabelSet) where
+  abbrev with_kids : Kids (for_demand (Some (Variables k)))
+  with_kids j r z = meaning e (declaration k none ▸ rest) j (for_demand (Some (Variables k)) j) r z
+
+  abbrev without_kids : Kids (for_demand None)
+  without_kids j r z = meaning e (absent ▸ rest) j (for_demand None j) r z
+
+  abbrev no_test : Bool
+  no_test = nth_absent (facts rest) 0
+
+  begun_alike : Both e (Some (Variables k)) no_test labels without_kids with_kids (kid 0 tt (then (λ u. for_turns None no_test labels))) (kid 0 [] (then (λ u. for_turns (Some (Variables k)) no_test labels)))
+  unfolding meaning
+  begun_alike z =
+      ap (λ x. either x (λ u y. run {q = for_demand None} e (for_names []) without_kids (for_turns None no_test labels) y) (λ x y. stop x y)) (absent_unused e z) ∙ either_ok tt z _ _
+      ∙ turns_alike e (Some (Variables k)) no_test labels without_kids with_kids (λ z. refl) (λ z. refl) (λ z. refl) z
+      ∙ sym (ap (λ x. either x (λ u y. run {q = for_demand (Some (Variables k))} e (for_names []) with_kids (for_turns (Some (Variables k)) no_test labels) y) (λ x y. stop x y)) (declaration_is e k none [] z ∙ declare_none e (is_lexical k) z) ∙ either_ok tt z _ _)
+
+  pub for_none_is : (s : State) → means e (node shape.ForStatement [] 0 (declaration k none ▸ rest)) (Stat None) labels s ≡ means e (node shape.ForStatement [] 0 (absent ▸ rest)) (Stat None) labels s
+  unfolding means step
+  for_none_is s =
+      finished e (for_names (summary (declaration k none)).lets) (for_demand (Some (Variables k))) with_kids None (for_step (Some (Variables k)) no_test labels) s ∙ finish_none _
+      ∙ ap (λ l. run {q = for_demand (Some (Variables k))} e (for_names l) with_kids (for_step (Some (Variables k)) no_test labels) s) (no_lets k)
+      ∙ sym (scoped_alike e (for_names []) (for_demand None) (for_demand (Some (Variables k))) without_kids with_kids (kid 0 tt (then (λ u. for_turns None no_test labels))) (kid 0 [] (then (λ u. for_turns (Some (Variables k)) no_test labels))) begun_alike s)
+      ∙ sym (finished e (for_names []) (for_demand None) without_kids None (for_step None no_test labels) s ∙ finish_none _)
 
 -- ---- `for..in`
 

@@ -440,7 +440,7 @@ declared_lets Var k ds first last ys f g = inr (sym g)
 
 -- ---- the head of a `for`
 
-module _ (e : Environment) (spelling : List ℕ) (k : ℕ) (z : Unseen (alone (Declared k)) e) (K : VariableDeclarationKind) (lexical : is_lexical K ≡ true) (first last : Trees) (init : Tree) (h : is_idle init ≡ true) where
+module _ (e : Environment) (spelling : List ℕ) (k : ℕ) (z : Unseen (alone (Declared k)) e) (K : VariableDeclarationKind) (permit : is_lexical K ≡ false → e.fixed (Declared k) ≡ Writable) (first last : Trees) (init : Tree) (h : is_idle init ≡ true) where
   abbrev with_it : Tree
   with_it = declared_among K (resolved spelling k) first init last
 
@@ -454,7 +454,7 @@ module _ (e : Environment) (spelling : List ℕ) (k : ℕ) (z : Unseen (alone (D
   head_same : AllAvoid (alone (Declared k)) last → Same e (alone (Declared k)) nothing (Stat None) with_it without_it
   head_same a = record {
     by = λ r s i. subst₂ (Goes true (λ u. Agree (alone (Declared k))) (Agree (alone (Declared k))) (Agree (alone (Declared k)))) (unlabeled (append first (declarator (binding (resolved spelling k)) init ▸ last)) r s) (unlabeled (append first last) r s)
-        (among_go e spelling k z K (λ f. absurd (true≢false (sym lexical ∙ f))) first last init h a s);
+        (among_go e spelling k z K permit first last init h a s);
   }
 
   head_lets : OneLess k (summary with_it).lets (summary without_it).lets

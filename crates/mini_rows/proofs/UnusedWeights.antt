@@ -1,5 +1,5 @@
 -- What the rows of names that nothing mentions write is lighter.
-use Rattle.std.proofs.Common.{◌≡◌, ℕ, ◌+◌, ◌<◌, ◌≤◌, List, refl, sym, ap, ◌∙◌, inl, inr, arith}
+use Rattle.std.proofs.Common.{◌≡◌, ℕ, ◌+◌, ◌<◌, ◌≤◌, List, [], refl, sym, ap, ◌∙◌, inl, inr, arith}
 use Rattle.std.specs.Prelude.{not, if◌then◌else◌}
 use Rattle.std.proofs.lemmas.Bool.{and_parts}
 use Rattle.mini_model.specs.declared.kind.VariableDeclarationKind.{VariableDeclarationKind}
@@ -10,15 +10,16 @@ use Rattle.mini_model.specs.declared.place.Position.TheVariants.{Expr, Stmt, Met
 use Rattle.mini_model.specs.declared.seat.Seat.{Seat}
 use Rattle.mini_model.specs.declared.seat.StmtSeat.{StmtSeat}
 use Rattle.mini_model.specs.declared.seat.StmtSeat.TheVariants as stmt_seat
-use Rattle.mini_model.specs.Tree.{Tree, Trees, none, ◌▸◌, absent, count, listed, shape_of, empty_statement, expression_statement}
+use Rattle.mini_model.specs.declared.shape.Shape.TheVariants as shape
+use Rattle.mini_model.specs.Tree.{Tree, Trees, node, none, ◌▸◌, absent, count, listed, shape_of, empty_statement, expression_statement}
 use Rattle.mini_model.specs.Paths.{append}
 use Rattle.mini_model.specs.Position.{argument_seat, statement_expression_seat, whole_seat, item_position}
-use Rattle.mini_model.specs.Weight.{commas_weight, outline, outlines, one_chooses, braces_weight, weight, weights}
+use Rattle.mini_model.specs.Weight.{Outline, own_weight, commas_weight, outline, outlines, one_chooses, braces_weight, weight, weights}
 use Rattle.mini_laws.specs.Value.{VariableSet}
 use Rattle.mini_laws.proofs.Seats.{moved}
 use Rattle.mini_rows.specs.Declarations.{binding, declarator}
 use Rattle.mini_rows.specs.Cases.{switch_case}
-use Rattle.mini_rows.specs.Lists.{block, switch, declaration, for_loop}
+use Rattle.mini_rows.specs.Lists.{block, switch, declaration}
 use Rattle.mini_rows.specs.Unused.{resolved, declared_among, declared_one, declared_left, head_left, put_first, is_definition, BlockRow, ArrowBodyRow, FunctionBodyRow, ModuleRow, StaticBlockRow, switch_around, SwitchRow, ForRow, UnusedRow, UnusedLighten, UnusedLighter}
 use Rattle.mini_terms.specs.Reading.{is_plain_part}
 use Rattle.mini_rows.proofs.SingleWeights.{single_falls, next_falls}
@@ -160,22 +161,36 @@ switch_lighter q n w r =
       ap (weight (Stmt q)) r.written,
     )
 
--- without a declarator there is one less, or none
-for_falls : (q : StmtSeat) (K : VariableDeclarationKind) (x : Name) (first last : Trees) (init t u b : Tree) → weight (Stmt q) (for_loop (declaration K (append first last)) t u b) < weight (Stmt q) (for_loop (declared_among K x first init last) t u b)
-for_falls q K x first last init t u b =
+-- a `for` itself weighs the same whatever its parts are
+own_for : (p : Position) (os us : List Outline) → own_weight p shape.ForStatement [] os ≡ own_weight p shape.ForStatement [] us
+own_for (Expr s) os us = refl
+own_for (Stmt q) os us = refl
+own_for p os us = refl
+
+-- without a declarator its head has one less, or there is none
+for_falls : (p : Position) (K : VariableDeclarationKind) (x : Name) (first last : Trees) (init : Tree) (rest : Trees) → weight p (node shape.ForStatement [] 0 (declaration K (append first last) ▸ rest)) < weight p (node shape.ForStatement [] 0 (declared_among K x first init last ▸ rest))
+for_falls p K x first last init rest =
     let d = declarator (binding x) init in
-    omega (arith, commas_fall first last d, comma_list (append first last), comma_list (append first (d ▸ last)), declarators_append first last, declarators_append first (d ▸ last))
+    omega (
+      arith,
+      own_for p (outlines (declaration K (append first last) ▸ rest)) (outlines (declared_among K x first init last ▸ rest)),
+      commas_fall first last d,
+      comma_list (append first last),
+      comma_list (append first (d ▸ last)),
+      declarators_append first last,
+      declarators_append first (d ▸ last),
+    )
 
-none_falls : (q : StmtSeat) (K : VariableDeclarationKind) (x : Name) (init t u b : Tree) → weight (Stmt q) (for_loop absent t u b) < weight (Stmt q) (for_loop (declared_one K x init) t u b)
-none_falls q K x init t u b = omega arith
+none_falls : (p : Position) (K : VariableDeclarationKind) (x : Name) (init : Tree) (rest : Trees) → weight p (node shape.ForStatement [] 0 (absent ▸ rest)) < weight p (node shape.ForStatement [] 0 (declared_one K x init ▸ rest))
+none_falls p K x init rest = omega (arith, own_for p (outlines (absent ▸ rest)) (outlines (declared_one K x init ▸ rest)))
 
-head_falls : (q : StmtSeat) (K : VariableDeclarationKind) (x : Name) (first last : Trees) (init t u b : Tree) → weight (Stmt q) (for_loop (head_left K (append first last)) t u b) < weight (Stmt q) (for_loop (declared_among K x first init last) t u b)
-head_falls q K x none none init t u b = none_falls q K x init t u b
-head_falls q K x none (d ▸ last) init t u b = for_falls q K x none (d ▸ last) init t u b
-head_falls q K x (d ▸ first) last init t u b = for_falls q K x (d ▸ first) last init t u b
+pub head_falls : (p : Position) (K : VariableDeclarationKind) (x : Name) (first last : Trees) (init : Tree) (rest : Trees) → weight p (node shape.ForStatement [] 0 (head_left K (append first last) ▸ rest)) < weight p (node shape.ForStatement [] 0 (declared_among K x first init last ▸ rest))
+head_falls p K x none none init rest = none_falls p K x init rest
+head_falls p K x none (d ▸ last) init rest = for_falls p K x none (d ▸ last) init rest
+head_falls p K x (d ▸ first) last init rest = for_falls p K x (d ▸ first) last init rest
 
 for_lighter : (q : StmtSeat) (n w : Tree) → ForRow n w → weight (Stmt q) w < weight (Stmt q) n
-for_lighter q n w r = omega (arith, head_falls q r.kind (resolved r.spelling r.symbol) r.first r.last r.init r.test r.update r.body, ap (weight (Stmt q)) r.shape, ap (weight (Stmt q)) r.written)
+for_lighter q n w r = omega (arith, head_falls (Stmt q) r.kind (resolved r.spelling r.symbol) r.first r.last r.init (r.test ▸ (r.update ▸ (r.body ▸ none))), ap (weight (Stmt q)) r.shape, ap (weight (Stmt q)) r.written)
 
 pub unused_lighter : UnusedLighter
 unused_lighter W (Stmt q) n w (inl r) = block_lighter q n w r

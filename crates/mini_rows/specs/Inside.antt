@@ -1,5 +1,6 @@
 -- Rows 71 and 72 of a `var` that stands further inside the body that it belongs to, with the JavaScript before and after.
 use Rattle.std.specs.Prelude.{◌≡◌, ◌<◌, ◌||◌, ℕ, zero, suc, Bool, true, false, List, [], Option, Some, None, if◌then◌else◌}
+use Rattle.mini_model.specs.declared.kind.VariableDeclarationKind.TheVariants.{Var}
 use Rattle.mini_model.specs.declared.place.Position.{Position}
 use Rattle.mini_model.specs.declared.place.Position.TheVariants.{Expr, Stmt, Method, Elsewhere}
 use Rattle.mini_model.specs.declared.shape.Shape.{Shape}
@@ -9,14 +10,15 @@ use Rattle.mini_model.specs.Paths.{append}
 use Rattle.mini_model.specs.Weight.{weight}
 use Rattle.mini_laws.specs.Naming.{is_lexical}
 use Rattle.mini_laws.specs.Path.{Path, here, inside, join, plug}
-use Rattle.mini_laws.specs.Value.{VariableSet}
+use Rattle.mini_laws.specs.ScopeList.{has_eval}
+use Rattle.mini_laws.specs.Value.{Declared, VariableSet}
 use Rattle.mini_laws.specs.Weights.{Lightens}
 use Rattle.mini_kept.specs.Loosely.{LawfulWith}
 use Rattle.mini_node.specs.Kinds.{is_listed_shape}
 use Rattle.mini_rows.specs.declared.inside.Way.{Way}
 use Rattle.mini_rows.specs.declared.inside.Way.TheVariants as way
 use Rattle.mini_rows.specs.Lists.{block}
-use Rattle.mini_rows.specs.Unused.{BlockRow}
+use Rattle.mini_rows.specs.Unused.{resolved, names, any_names, declared_among, head_left, is_idle, BlockRow}
 
 -- ---- the way to it
 
@@ -30,24 +32,28 @@ abbrev pub first_of : Option Way → Option Way → Option Way
 first_of (Some w) o = Some w
 first_of None o = o
 
--- in the branches of an `if`, and in a `try`: its block, its handler and what runs finally
+-- in the branches of an `if`, which stand in no list, and in a `try`: its block, its handler and what runs finally
 abbrev pub branch_way : ℕ → Option Way
-branch_way i = first_of (at_place 1 way.Statement i) (at_place 2 way.Statement i)
+branch_way i = first_of (at_place 1 way.Held i) (at_place 2 way.Held i)
 
 abbrev pub try_way : ℕ → Option Way
 try_way i = first_of (at_place 1 way.Catch i) (first_of (at_place 0 way.Statement i) (at_place 2 way.Statement i))
+
+-- in a `for`: its head and its body
+abbrev pub for_way : ℕ → Option Way
+for_way i = first_of (at_place 0 way.Head i) (at_place 3 way.Held i)
 
 -- what stands at the child of a statement, where a `var` in it is one of what is around the statement (ECMA-262, "Static Semantics:
 -- VarDeclaredNames"): none goes into a function or a class
 abbrev pub statement_way : Shape → ℕ → Option Way
 statement_way shape.BlockStatement i = at_place 0 way.Statements i
 statement_way shape.IfStatement i = branch_way i
-statement_way shape.WhileStatement i = at_place 1 way.Statement i
-statement_way shape.DoWhileStatement i = at_place 0 way.Statement i
-statement_way shape.ForStatement i = at_place 3 way.Statement i
-statement_way shape.ForInStatement i = at_place 2 way.Statement i
-statement_way shape.ForOfStatement i = at_place 2 way.Statement i
-statement_way shape.LabeledStatement i = at_place 1 way.Statement i
+statement_way shape.WhileStatement i = at_place 1 way.Held i
+statement_way shape.DoWhileStatement i = at_place 0 way.Held i
+statement_way shape.ForStatement i = for_way i
+statement_way shape.ForInStatement i = at_place 2 way.Held i
+statement_way shape.ForOfStatement i = at_place 2 way.Held i
+statement_way shape.LabeledStatement i = at_place 1 way.Held i
 statement_way shape.TryStatement i = try_way i
 statement_way shape.SwitchStatement i = at_place 1 way.Cases i
 statement_way h i = None
@@ -63,22 +69,33 @@ is_catch_shape h = false
 -- and at that of what else stands on the way
 abbrev pub way_in : Way → Shape → ℕ → Option Way
 way_in way.Statement h i = statement_way h i
+way_in way.Held h i = statement_way h i
+way_in way.Head h i = None
 way_in way.Statements h i = if is_listed_shape h then Some way.Statement else None
 way_in way.Cases h i = if is_listed_shape h then Some way.Case else None
 way_in way.Case h i = if is_case_shape h then at_place 1 way.Statements i else None
 way_in way.Catch h i = if is_catch_shape h then at_place 1 way.Statement i else None
 
--- the place is a list of statements that is reached so
-abbrev pub is_way : Option Way → Path → Bool
-is_way (Some way.Statements) here = true
-is_way s here = false
-is_way (Some s) (inside h [] zero pre k post) = is_way (way_in s h (count pre)) k
-is_way s (inside h xs n pre k post) = false
+-- whether two are the same
+abbrev pub same_way : Way → Way → Bool
+same_way way.Statement way.Statement = true
+same_way way.Held way.Held = true
+same_way way.Statements way.Statements = true
+same_way way.Cases way.Cases = true
+same_way way.Case way.Case = true
+same_way way.Catch way.Catch = true
+same_way way.Head way.Head = true
+same_way e s = false
 
--- a list of statements
-abbrev pub are_statements : Way → Bool
-are_statements way.Statements = true
-are_statements s = false
+-- the place is reached so, and this stands there
+abbrev pub is_way_to : Way → Option Way → Path → Bool
+is_way_to e (Some s) here = same_way e s
+is_way_to e (Some s) (inside h [] zero pre k post) = is_way_to e (way_in s h (count pre)) k
+is_way_to e s k = false
+
+-- a list of statements does
+abbrev pub is_way : Option Way → Path → Bool
+is_way s k = is_way_to way.Statements s k
 
 -- the nodes on the way to it, each without what the way goes into
 abbrev pub above : Path → Trees
@@ -126,22 +143,63 @@ abbrev pub has_lexical : Trees → Bool
 has_lexical none = false
 has_lexical (t ▸ ts) = is_lexical_shape (shape_of t) || has_lexical ts
 
+-- `{ var x = b(); return x.c; }` becomes `{ ; return b().c; }`, and `{ var x = a(); b(); }` becomes `{ a(); b(); }`: a list of statements in
+-- which no `let` and no `const` stands, so that what goes is a `var`, with what stands outside of it
+pub record ListEnd (W : VariableSet) (o : Trees) (n w : Tree) : Type 0 where
+  pub list : Trees
+  pub left : Trees
+  pub row : BlockRow W (block (listed o ▸ list)) (block (listed o ▸ left))
+  pub plain : has_lexical list ≡ false
+  pub shape : n ≡ listed list
+  pub written : w ≡ listed left
+
+-- `if (a) var x = b();` becomes `if (a) b();`, and `while (a) var x = b(), y = x.c;` becomes `while (a) var y = b().c;`: a `var` in no list, which
+-- is read like a list of this one statement
+pub record HeldEnd (W : VariableSet) (o : Trees) (n w : Tree) : Type 0 where
+  pub row : BlockRow W (block (listed o ▸ (n ▸ none))) (block (listed o ▸ (w ▸ none)))
+  pub plain : has_lexical (n ▸ none) ≡ false
+
+-- `for (var x = 1, y = 2; a; b) c(y);` becomes `for (var y = 2; a; b) c(y);`, and `for (var x; a; b) c();` becomes `for (; a; b) c();`: what a `for`
+-- begins with, where nothing misses the initializer
+pub record HeadEnd (W : VariableSet) (o : Trees) (n w : Tree) : Type 0 where
+  pub first : Trees
+  pub spelling : List ℕ
+  pub symbol : ℕ
+  pub init : Tree
+  pub last : Trees
+  pub goes : W (Declared symbol) ≡ true
+  pub idle : is_idle init ≡ true
+  pub outside : any_names (resolved spelling symbol) o ≡ false
+  pub declared_earlier : any_names (resolved spelling symbol) first ≡ false
+  pub initial : names (resolved spelling symbol) init ≡ false
+  pub declared_later : any_names (resolved spelling symbol) last ≡ false
+  pub unseen : has_eval (block (listed o ▸ (declared_among Var (resolved spelling symbol) first init last ▸ none))) ≡ false
+  pub shape : n ≡ declared_among Var (resolved spelling symbol) first init last
+  pub written : w ≡ head_left Var (append first last)
+
+-- what is read at the end of a way, below these nodes
+abbrev pub EndRow : Way → VariableSet → Trees → Tree → Tree → Type 0
+EndRow way.Statements W o n w = ListEnd W o n w
+EndRow way.Held W o n w = HeldEnd W o n w
+EndRow way.Head W o n w = HeadEnd W o n w
+EndRow s W o n w = ⊥
+
 -- `function f(a) { if (a) { var x = b(); return x.c; } }` becomes `function f(a) { if (a) { ; return b().c; } }`, and
 -- `function f(a) { for (;;) { var x = a(); b(); } }` becomes `function f(a) { for (;;) { a(); b(); } }`. All else that stands in the body, with
 -- what it belongs to, is read like what stands before the declaration in a block. Each turn of a loop runs the list anew, so what reads
--- the name right behind its declaration reads what that has written. In the list stands no `let` and no `const`, so that what goes is a `var`
+-- the name right behind its declaration reads what that has written
 pub record InsideRow (W : VariableSet) (n w : Tree) : Type 0 where
   pub holder : Holder
   pub first : Trees
   pub place : Path
   pub last : Trees
-  pub list : Trees
-  pub left : Trees
-  pub row : BlockRow W (block (listed (over holder absent ▸ (listed (append first (absent ▸ last)) ▸ above place)) ▸ list)) (block (listed (over holder absent ▸ (listed (append first (absent ▸ last)) ▸ above place)) ▸ left))
-  pub plain : has_lexical list ≡ false
-  pub there : is_way (Some way.Statement) place ≡ true
-  pub shape : n ≡ over holder (listed (append first (plug place (listed list) ▸ last)))
-  pub written : w ≡ over holder (listed (append first (plug place (listed left) ▸ last)))
+  pub end : Way
+  pub read : Tree
+  pub put : Tree
+  pub row : EndRow end W (over holder absent ▸ (listed (append first (absent ▸ last)) ▸ above place)) read put
+  pub there : is_way_to end (Some way.Statement) place ≡ true
+  pub shape : n ≡ over holder (listed (append first (plug place read ▸ last)))
+  pub written : w ≡ over holder (listed (append first (plug place put ▸ last)))
 
 -- at this place, where it weighs less
 pub record InsideContracts (W : VariableSet) (p : Position) (n w : Tree) : Type 0 where

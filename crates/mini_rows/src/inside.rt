@@ -6,12 +6,16 @@ ghost use Rattle.mini_rows.specs.Inside.{InsideIsLawful, InsideLightens, InsideL
 #[derive(Clone, Copy)]
 pub enum Way {
     Statement,
+    /// One that stands in no list: a branch, the body of a loop, or under a label.
+    Held,
     /// A list of statements.
     Statements,
     /// Those of a switch, in a list.
     Cases,
     Case,
     Catch,
+    /// What a `for` begins with.
+    Head,
 }
 
 /// What the row writes keeps all that a program has to keep, but a name that nothing mentions: it means the same where nobody

@@ -15,10 +15,9 @@ use Rattle.mini_laws.specs.Path.{Path, here, inside, plug}
 use Rattle.mini_laws.specs.Value.{VariableSet}
 use Rattle.mini_laws.specs.Weights.{is_here}
 use Rattle.mini_node.specs.Children.{part, with_part, number_of}
+use Rattle.mini_rows.specs.declared.inside.Way.{Way}
 use Rattle.mini_rows.specs.declared.inside.Way.TheVariants as way
-use Rattle.mini_rows.specs.Inside.{is_way, above, Holder, Arrow, Function, Module, Static, over, stands_at, InsideRow, InsideContracts}
-use Rattle.mini_rows.specs.Lists.{block}
-use Rattle.mini_rows.specs.Unused.{BlockRow}
+use Rattle.mini_rows.specs.Inside.{is_way_to, above, EndRow, Holder, Arrow, Function, Module, Static, over, stands_at, InsideRow, InsideContracts}
 use Rattle.mini_rows.proofs.InsideLoses.{no_way}
 use Rattle.mini_rows.proofs.InsideWeights.{inside_lighter}
 use Rattle.mini_context.specs.declared.context.TraverseCtx.{TraverseCtx}
@@ -60,22 +59,22 @@ list_over (Static n) l = refl
 
 -- ---- a path on the way in a list begins with one of its nodes
 
-record ListWay (k : Path) : Type 0 where
+record ListWay (z : Way) (k : Path) : Type 0 where
   pre : Trees
   rest : Path
   post : Trees
   is : k ≡ inside shape.Listed [] 0 pre rest post
-  there : is_way (Some way.Statement) rest ≡ true
+  there : is_way_to z (Some way.Statement) rest ≡ true
 
-listed_way : (h : Shape) (pre : Trees) (k : Path) (post : Trees) → is_way (Some way.Statements) (inside h [] 0 pre k post) ≡ true → ListWay (inside h [] 0 pre k post)
-listed_way shape.Listed pre k post e = record { pre = pre; rest = k; post = post; is = refl; there = e }
-listed_way h pre k post e = absurd (no_way k e)
+listed_way : (z : Way) (h : Shape) (pre : Trees) (k : Path) (post : Trees) → is_way_to z (Some way.Statements) (inside h [] 0 pre k post) ≡ true → ListWay z (inside h [] 0 pre k post)
+listed_way z shape.Listed pre k post e = record { pre = pre; rest = k; post = post; is = refl; there = e }
+listed_way z h pre k post e = absurd (no_way z k e)
 
-list_way : (k : Path) → is_way (Some way.Statements) k ≡ true → is_here k ≡ false → ListWay k
-list_way here e f = absurd (true≢false f)
-list_way (inside h [] zero pre k post) e f = listed_way h pre k post e
-list_way (inside h [] (suc n) pre k post) e f = absurd (true≢false (sym e))
-list_way (inside h (x ∷ xs) n pre k post) e f = absurd (true≢false (sym e))
+list_way : (z : Way) (k : Path) → is_way_to z (Some way.Statements) k ≡ true → is_here k ≡ false → ListWay z k
+list_way z here e f = absurd (true≢false f)
+list_way z (inside h [] zero pre k post) e f = listed_way z h pre k post e
+list_way z (inside h [] (suc n) pre k post) e f = absurd (true≢false (sym e))
+list_way z (inside h (x ∷ xs) n pre k post) e f = absurd (true≢false (sym e))
 
 -- ---- a step
 
@@ -98,9 +97,9 @@ module _ (W : VariableSet) (o : Holder) where
 
   step_row : (ts : Trees) (u : Tree) → Below (listed ts) u → HolderStep (over o (listed ts)) (over o u) × IsList u
   step_row ts u m =
-      let k = list_way m.place m.way (m.below refl) in
-      let this : ts ≡ append k.pre (plug k.rest (listed m.list) ▸ k.post) = ap children (m.shape ∙ ap (λ q. plug q (listed m.list)) k.is) ∙ join_append k.pre (plug k.rest (listed m.list)) k.post in
-      let that : u ≡ listed (append k.pre (plug k.rest (listed m.left) ▸ k.post)) = m.written ∙ ap (λ q. plug q (listed m.left)) k.is ∙ ap listed (join_append k.pre (plug k.rest (listed m.left)) k.post) in
+      let k = list_way m.end m.place m.way (m.below refl) in
+      let this : ts ≡ append k.pre (plug k.rest m.read ▸ k.post) = ap children (m.shape ∙ ap (λ q. plug q m.read) k.is) ∙ join_append k.pre (plug k.rest m.read) k.post in
+      let that : u ≡ listed (append k.pre (plug k.rest m.put ▸ k.post)) = m.written ∙ ap (λ q. plug q m.put) k.is ∙ ap listed (join_append k.pre (plug k.rest m.put) k.post) in
       let around : append (over o absent ▸ none) (above m.place) ≡ (over o absent ▸ (listed (append k.pre (absent ▸ k.post)) ▸ above k.rest)) = ap (λ q. over o absent ▸ above q) k.is ∙ ap (λ us. over o absent ▸ (listed us ▸ above k.rest)) (join_append k.pre absent k.post) in (
         record {
           row = record {
@@ -108,10 +107,10 @@ module _ (W : VariableSet) (o : Holder) where
             first = k.pre;
             place = k.rest;
             last = k.post;
-            list = m.list;
-            left = m.left;
-            row = subst (λ us. BlockRow W (block (listed us ▸ m.list)) (block (listed us ▸ m.left))) around m.row;
-            plain = m.plain;
+            end = m.end;
+            read = m.read;
+            put = m.put;
+            row = subst (λ us. EndRow m.end W us m.read m.put) around m.row;
             there = k.there;
             shape = ap (λ us. over o (listed us)) this;
             written = ap (over o) that;
@@ -128,14 +127,13 @@ module _ (W : VariableSet) (o : Holder) where
 
   read_below : (ts : Trees) (m : Tree) → BelowWalked W (over o absent ▸ none) way.Statements (listed ts) m false → (w : Tree) → InsideRow W (over o (listed ts)) w → ⊥
   read_below ts m r w row =
-      let these = listed (append row.first (plug row.place (listed row.list) ▸ row.last)) in
+      let these = listed (append row.first (plug row.place row.read ▸ row.last)) in
       let outside : over o absent ≡ over row.holder absent = sym (emptied_over o (listed ts)) ∙ ap emptied row.shape ∙ emptied_over row.holder these in
       let list : listed ts ≡ these = sym (list_over o (listed ts)) ∙ ap list_in row.shape ∙ list_over row.holder these in
-      let joined : these ≡ plug (inside shape.Listed [] 0 row.first row.place row.last) (listed row.list) = ap listed (sym (join_append row.first (plug row.place (listed row.list)) row.last)) in
+      let joined : these ≡ plug (inside shape.Listed [] 0 row.first row.place row.last) row.read = ap listed (sym (join_append row.first (plug row.place row.read) row.last)) in
       let around : (over row.holder absent ▸ (listed (append row.first (absent ▸ row.last)) ▸ above row.place)) ≡ append (over o absent ▸ none) (above (inside shape.Listed [] 0 row.first row.place row.last)) =
       λ j. sym outside j ▸ (listed (sym (join_append row.first absent row.last) j) ▸ above row.place) in
-      r.1 shape.Listed [] 0 row.first row.place row.last row.list row.there row.plain (list ∙ joined) (block (listed (append (over o absent ▸ none) (above (inside shape.Listed [] 0 row.first row.place row.last))) ▸ row.left))
-      (subst (λ us. BlockRow W (block (listed us ▸ row.list)) (block (listed us ▸ row.left))) around row.row)
+      r.1 shape.Listed [] 0 row.first row.place row.last row.end row.read row.put row.there (list ∙ joined) (subst (λ us. EndRow row.end W us row.read row.put) around row.row)
 
   held : (ts : Trees) (m : Tree) (c : Bool) → BelowWalked W (over o absent ▸ none) way.Statements (listed ts) m c → InHolder (over o (listed ts)) (over o m) c
   held ts m true r = several_over Below HolderStep IsList (over o) step_on (listed ts) m refl r
@@ -210,14 +208,14 @@ function_read (Static n) l e = absurd (true≢false (sym e))
 
 pub no_function_here : (W : VariableSet) (t : Tree) → is_function t ≡ false → InFunction W t t false
 no_function_here W t e =
-    (refl, λ w s. let row = s.row in true≢false (sym (function_read row.holder (append row.first (plug row.place (listed row.list) ▸ row.last)) s.function) ∙ sym (ap is_function row.shape) ∙ e))
+    (refl, λ w s. let row = s.row in true≢false (sym (function_read row.holder (append row.first (plug row.place row.read ▸ row.last)) s.function) ∙ sym (ap is_function row.shape) ∙ e))
 
 -- ---- where a function stands
 
 module _ (W : VariableSet) (p : Position) (t : Tree) (f : (o : Holder) → is_function_holder o ≡ true → stands_at o p ≡ true) (g : (o : Holder) (l : Trees) → t ≡ over o (listed l) → stands_at o p ≡ true → is_function_holder o ≡ true) where
   by_function : (u : Tree) (c : Bool) → InFunction W t u c → AppliedInside W p t u c
   by_function u true r = moved W p (FunctionStep W) (λ v w s. contract W p v w s.row (f s.row.holder s.function)) t u r
-  by_function u false r = (r.0, λ w row e. r.1 w (record { row = row; function = g row.holder (append row.first (plug row.place (listed row.list) ▸ row.last)) row.shape e }))
+  by_function u false r = (r.0, λ w row e. r.1 w (record { row = row; function = g row.holder (append row.first (plug row.place row.read ▸ row.last)) row.shape e }))
 
 in_statements : (q : StmtSeat) (o : Holder) → stands_at o (Stmt q) ≡ is_function_holder o
 in_statements q (Arrow directives n ps) = refl

@@ -2,31 +2,39 @@
 use Rattle.std.specs.Prelude.{ℕ, zero, suc, ◌≡◌, ◌<◌, ◌||◌, ◌&&◌, not, refl, Bool, true, false, List, [], ◌∷◌, Some, None}
 use Rattle.std.proofs.Common.{ap, ◌∙◌, sym, subst, subst₂, true≢false, arith}
 use Rattle.std.proofs.lemmas.Bool.{and_parts}
+use Rattle.mini_model.specs.declared.kind.VariableDeclarationKind.{VariableDeclarationKind}
+use Rattle.mini_model.specs.declared.kind.VariableDeclarationKind.TheVariants.{Var, Let, Const}
 use Rattle.mini_model.specs.declared.name.Name.{Name}
 use Rattle.mini_model.specs.declared.shape.Shape.{Shape}
 use Rattle.mini_model.specs.Tree.{Tree, Trees, node, none, ◌▸◌, absent, listed, count, children, shape_of, child_or_absent}
 use Rattle.mini_model.specs.Paths.{append}
+use Rattle.mini_laws.specs.Naming as kinds
 use Rattle.mini_laws.specs.Path.{Path, here, inside, join, plug}
 use Rattle.mini_laws.specs.ScopeList.{has_eval, any_has_eval}
 use Rattle.mini_laws.specs.Value.{VariableSet}
-use Rattle.mini_node.specs.Children.{part, with_part, with_child, first_children, rest_children, is_nameless}
-use Rattle.mini_node.specs.Kinds.{is_listed}
+use Rattle.mini_node.specs.Children.{part, with_part, with_child, first_children, rest_children, is_bare, is_nameless}
+use Rattle.mini_node.specs.Kinds.{is_listed, is_listed_shape}
 use Rattle.mini_node.specs.Made.{listed_is}
 use Rattle.mini_node.specs.Walks.{with_same, append_none}
 use Rattle.mini_rows.specs.declared.inside.Way.{Way}
 use Rattle.mini_rows.specs.declared.inside.Way.TheVariants as way
-use Rattle.mini_rows.specs.Inside.{is_way, way_in, above, has_lexical, are_statements}
-use Rattle.mini_rows.specs.Lists.{block}
-use Rattle.mini_rows.specs.Unused.{names, any_names, BlockRow}
-use Rattle.mini_rows.proofs.InsideLoses.{no_way}
+use Rattle.mini_rows.specs.Declarations.{binding, declarator}
+use Rattle.mini_rows.specs.Inside.{is_way_to, way_in, above, has_lexical, ListEnd, HeldEnd, HeadEnd, EndRow}
+use Rattle.mini_rows.specs.Lists.{block, declaration, declares_nothing}
+use Rattle.mini_rows.specs.Unused.{resolved, names, any_names, declared_among, head_left, is_idle, lets_go, BlockRow}
+use Rattle.mini_rows.proofs.InsideEnds.{single_left}
+use Rattle.mini_rows.proofs.InsideLoses.{no_way, ways_same}
 use Rattle.mini_rows.proofs.InsideNames.{still_plain}
-use Rattle.mini_unused.specs.Chains.{Several}
-use Rattle.mini_unused.specs.RemoveUnusedDeclaration.{open_in}
+use Rattle.mini_unused.specs.Chains.{Several, still}
+use Rattle.mini_unused.specs.RemoveUnusedDeclaration.{open_in, declares_list, declares_name, is_lexical_shape, is_unused, is_idle_at, head_without, UnusedOf}
 use Rattle.mini_unused.specs.SubstituteSingleUse.{Gone, Removed}
 use Rattle.mini_unused.proofs.Chains.{chain_joined, several_over}
 use Rattle.mini_unused.proofs.Chains as chains
-use Rattle.mini_unused.proofs.Holders.{row_behind, none_behind, left_listed, put_back}
-use Rattle.mini_unused.specs.Further.{pushed, is_plain, InStep, BelowStep, NothingAt, Walked, HereWalked, BelowWalked, WalkedAt, ChildWalked}
+use Rattle.mini_unused.proofs.Heads.{head_left_is, missed_declarator}
+use Rattle.mini_unused.proofs.Holders.{row_behind, none_behind, left_listed, put_back, unused_there}
+use Rattle.mini_unused.proofs.Unused.{no_outside, and_both, kind, first, last, init, let_there, one, goes, statement_is, unused, Read, declarator_within}
+use Rattle.mini_unused.proofs.Unused.{unused_there as read_there}
+use Rattle.mini_unused.specs.Further.{pushed, is_plain, is_var, InStep, BelowStep, NothingAt, Walked, HereWalked, BelowWalked, WalkedAt, ChildWalked, HeadingFound}
 
 -- ---- lists of nodes
 
@@ -80,13 +88,13 @@ module _ (W : VariableSet) (a : Trees) (s : Way) where
       let around : append (append a (hole h ts i ▸ none)) (above m.place) ≡ append a (above (inside h [] 0 pre m.place post)) = append_more a (hole h ts i) (above m.place) ∙ ap (λ u. append a (u ▸ above m.place)) (over absent) in
       record {
         place = inside h [] 0 pre m.place post;
-        list = m.list;
-        left = m.left;
-        way = ap (λ n. is_way (way_in s h n) m.place) (count_first ts i k) ∙ ap (λ o. is_way o m.place) e ∙ m.way;
-        plain = m.plain;
-        row = subst (λ us. BlockRow W (block (listed us ▸ m.list)) (block (listed us ▸ m.left))) around m.row;
-        shape = ap (λ c. node h [] 0 (with_child ts i c)) m.shape ∙ over (plug m.place (listed m.list));
-        written = ap (λ c. node h [] 0 (with_child ts i c)) m.written ∙ over (plug m.place (listed m.left));
+        end = m.end;
+        read = m.read;
+        put = m.put;
+        way = ap (λ n. is_way_to m.end (way_in s h n) m.place) (count_first ts i k) ∙ ap (λ o. is_way_to m.end o m.place) e ∙ m.way;
+        row = subst (λ us. EndRow m.end W us m.read m.put) around m.row;
+        shape = ap (λ c. node h [] 0 (with_child ts i c)) m.shape ∙ over (plug m.place m.read);
+        written = ap (λ c. node h [] 0 (with_child ts i c)) m.written ∙ over (plug m.place m.put);
         below = λ z. refl;
       }
 
@@ -98,27 +106,27 @@ module _ (W : VariableSet) (a : Trees) (s : Way) where
   -- what the way doesn't go into
   nothing_lifted : (h : Shape) (ts : Trees) (i : ℕ) (r : Way) → way_in s h i ≡ Some r → ((k : Path) → NothingAt W (append a (hole h ts i ▸ none)) r (child_or_absent ts i) k)
       → (g : Shape) (xs : List Name) (n : ℕ) (pre : Trees) (k : Path) (post : Trees) → count pre ≡ i → NothingAt W a s (node h [] 0 ts) (inside g xs n pre k post)
-  nothing_lifted h ts i r e f g [] zero pre k post q list way plain is w row =
-      let these : ts ≡ join pre (plug k (listed list)) post = ap children is in
+  nothing_lifted h ts i r e f g [] zero pre k post q end read put way is row =
+      let these : ts ≡ join pre (plug k read) post = ap children is in
       let shaped : h ≡ g = ap shape_of is in
       let at : i ≡ count pre = sym q in
-      let there : child_or_absent ts i ≡ plug k (listed list) = (λ j. child_or_absent (these j) (at j)) ∙ joined_child pre (plug k (listed list)) post in
-      let emptied : hole h ts i ≡ node g [] 0 (join pre absent post) = (λ j. node (shaped j) [] 0 (with_child (these j) (at j) absent)) ∙ ap (node g [] 0) (joined_with pre (plug k (listed list)) absent post) in
+      let there : child_or_absent ts i ≡ plug k read = (λ j. child_or_absent (these j) (at j)) ∙ joined_child pre (plug k read) post in
+      let emptied : hole h ts i ≡ node g [] 0 (join pre absent post) = (λ j. node (shaped j) [] 0 (with_child (these j) (at j) absent)) ∙ ap (node g [] 0) (joined_with pre (plug k read) absent post) in
       let asked : way_in s h i ≡ way_in s g (count pre) = λ j. way_in s (shaped j) (at j) in
-      let route : is_way (Some r) k ≡ true = ap (λ o. is_way o k) (sym e ∙ asked) ∙ way in
+      let route : is_way_to end (Some r) k ≡ true = ap (λ o. is_way_to end o k) (sym e ∙ asked) ∙ way in
       let around : append a (above (inside g [] 0 pre k post)) ≡ append (append a (hole h ts i ▸ none)) (above k) = sym (append_more a (hole h ts i) (above k) ∙ ap (λ u. append a (u ▸ above k)) emptied) in
-      f k list route plain there w (subst (λ us. BlockRow W (block (listed us ▸ list)) w) around row)
-  nothing_lifted h ts i r e f g [] (suc n) pre k post q list way plain is w row = absurd (true≢false (sym way))
-  nothing_lifted h ts i r e f g (x ∷ xs) n pre k post q list way plain is w row = absurd (true≢false (sym way))
+      f k end read put route there (subst (λ us. EndRow end W us read put) around row)
+  nothing_lifted h ts i r e f g [] (suc n) pre k post q end read put way is row = absurd (true≢false (sym way))
+  nothing_lifted h ts i r e f g (x ∷ xs) n pre k post q end read put way is row = absurd (true≢false (sym way))
 
   no_way_in : (h : Shape) (ts : Trees) (i : ℕ) → way_in s h i ≡ None → (g : Shape) (xs : List Name) (n : ℕ) (pre : Trees) (k : Path) (post : Trees) → count pre ≡ i → NothingAt W a s (node h [] 0 ts) (inside g xs n pre k post)
-  no_way_in h ts i e g [] zero pre k post q list way plain is w row =
+  no_way_in h ts i e g [] zero pre k post q end read put way is row =
       let shaped : h ≡ g = ap shape_of is in
       let at : i ≡ count pre = sym q in
       let asked : way_in s h i ≡ way_in s g (count pre) = λ j. way_in s (shaped j) (at j) in
-      absurd (no_way k (ap (λ o. is_way o k) (sym e ∙ asked) ∙ way))
-  no_way_in h ts i e g [] (suc n) pre k post q list way plain is w row = absurd (true≢false (sym way))
-  no_way_in h ts i e g (x ∷ xs) n pre k post q list way plain is w row = absurd (true≢false (sym way))
+      absurd (no_way end k (ap (λ o. is_way_to end o k) (sym e ∙ asked) ∙ way))
+  no_way_in h ts i e g [] (suc n) pre k post q end read put way is row = absurd (true≢false (sym way))
+  no_way_in h ts i e g (x ∷ xs) n pre k post q end read put way is row = absurd (true≢false (sym way))
 
   -- ---- a node without a name and a number
 
@@ -133,15 +141,15 @@ module _ (W : VariableSet) (a : Trees) (s : Way) where
   at_some (node h [] (suc n) ts) i u r c z k e m = absurd (true≢false (sym z))
   at_some (node h (x ∷ xs) n ts) i u r c z k e m = absurd (true≢false (sym z))
 
-  -- ---- the list itself
+  -- ---- the end itself
 
   weakened : (t u : Tree) → BelowStep W a s t u → InStep W a s t u
-  weakened t u m = record { place = m.place; list = m.list; left = m.left; way = m.way; plain = m.plain; row = m.row; shape = m.shape; written = m.written; below = λ z. absurd (true≢false (sym z)) }
+  weakened t u m = record { place = m.place; end = m.end; read = m.read; put = m.put; way = m.way; row = m.row; shape = m.shape; written = m.written; below = λ z. absurd (true≢false (sym z)) }
 
   all_weakened : (t u : Tree) → Several (BelowStep W a s) t u → Several (InStep W a s) t u
   all_weakened t u x = several_over (BelowStep W a s) (InStep W a s) (λ z. Unit {0}) (λ z. z) (λ z w q r. (weakened z w r, tt)) t u tt x
 
-  -- first what stands in it, and then the list itself
+  -- first what stands in it, and then the node itself
   pub walked : (t u v : Tree) (c d : Bool) → BelowWalked W a s t u c → HereWalked W a s u v d → Walked W a s t v (c || d)
   walked t u v true true x y = several_then (InStep W a s) t u v (all_weakened t u x) y
   walked t u v true false x y = subst (Several (InStep W a s) t) (sym y.0) (all_weakened t u x)
@@ -159,6 +167,12 @@ evals : (a : Trees) → has_eval (listed a) ≡ any_has_eval a
 unfolding has_eval
 evals a = refl
 
+-- nothing is read where no end is
+no_end : (W : VariableSet) (a : Trees) (s : Way) (t : Tree) → ((read put : Tree) → t ≡ read → EndRow s W a read put → ⊥) → NothingAt W a s t here
+no_end W a s t f end read put way is row =
+    let same = ways_same end s way in
+    f read put is (subst (λ us. EndRow s W us read put) (append_none a) (subst (λ z. EndRow z W (append a none) read put) same row))
+
 -- what stays a list without a `let` and a `const`
 abbrev IsPlain : Tree → Type 0
 IsPlain t = (t ≡ listed (children t)) × (has_lexical (children t) ≡ false)
@@ -170,13 +184,13 @@ module _ (W : VariableSet) (a : Trees) where
       let is = left_listed W (listed a) ts u m in (
         record {
           place = here;
-          list = ts;
-          left = children u;
+          end = way.Statements;
+          read = listed ts;
+          put = u;
           way = refl;
-          plain = f;
-          row = subst (λ us. BlockRow W (block (listed us ▸ ts)) (block (listed us ▸ children u))) (sym (append_none a)) row;
+          row = subst (λ us. ListEnd W us (listed ts) u) (sym (append_none a)) (record { list = ts; left = children u; row = row; plain = f; shape = refl; written = is });
           shape = refl;
-          written = is;
+          written = refl;
           below = λ z. absurd (true≢false (sym z));
         },
         (is, still_plain W (listed a) ts (children u) refl row f),
@@ -187,35 +201,257 @@ module _ (W : VariableSet) (a : Trees) where
       let (step, plain) = gone_here (children t) u f (subst (λ v. Gone W (listed a) v u) is m) in
       (subst (λ v. InStep W a way.Statements v u) (sym is) step, plain)
 
+  list_rests : (ts : Trees) (m : Tree) → Removed W (listed a) (listed ts) m false → (read put : Tree) → listed ts ≡ read → ListEnd W a read put → ⊥
+  list_rests ts m r read put is row = none_behind W (listed a) a ts (mentions a) (evals a) m r (listed a ▸ row.list) (ap (λ t. listed a ▸ children t) (sym (is ∙ row.shape))) (block (listed a ▸ row.left)) row.row
+
   here_removed : (ts : Trees) (m : Tree) (c : Bool) → has_lexical ts ≡ false → Removed W (listed a) (listed ts) m c → HereWalked W a way.Statements (listed ts) m c
   here_removed ts m true f r = several_over (Gone W (listed a)) (InStep W a way.Statements) IsPlain (λ z. z) here_gone (listed ts) m (refl, f) r
-  here_removed ts m false f r = (r.0, λ list way plain is w row. none_behind W (listed a) a ts (mentions a) (evals a) m r (listed a ▸ list) (ap (λ t. listed a ▸ children t) (sym is)) w (subst (λ us. BlockRow W (block (listed us ▸ list)) w) (append_none a) row))
+  here_removed ts m false f r = (r.0, no_end W a way.Statements (listed ts) (list_rests ts m r))
 
-is_statements : (s : Way) → are_statements s ≡ true → way.Statements ≡ s
-is_statements way.Statements e = refl
-is_statements s e = absurd (true≢false (sym e))
+  -- ---- a `var` in no list
+
+  -- what stays a list of one statement
+  abbrev IsOne : Tree → Type 0
+  IsOne v = (v ≡ listed (part v 0 ▸ none)) × (has_lexical (part v 0 ▸ none) ≡ false)
+
+  one_gone : (t u : Tree) → has_lexical (t ▸ none) ≡ false → Gone W (listed a) (listed (t ▸ none)) u → InStep W a way.Held t (part u 0) × IsOne u
+  one_gone t u f m =
+      let row = row_behind W (listed a) a (t ▸ none) (mentions a) (evals a) u m in
+      let is = left_listed W (listed a) (t ▸ none) u m in
+      let (v, one) = single_left W (listed a) t (children u) refl row f in
+      let whole : u ≡ listed (v ▸ none) = is ∙ ap listed one in
+      let first : part u 0 ≡ v = ap (λ z. part z 0) whole in
+      let this = subst (λ us. BlockRow W (block (listed a ▸ (t ▸ none))) (block (listed a ▸ us))) (one ∙ ap (λ z. z ▸ none) (sym first)) row in
+      let plain = still_plain W (listed a) (t ▸ none) (part u 0 ▸ none) refl this f in (
+        record {
+          place = here;
+          end = way.Held;
+          read = t;
+          put = part u 0;
+          way = refl;
+          row = subst (λ us. HeldEnd W us t (part u 0)) (sym (append_none a)) (record { row = this; plain = f });
+          shape = refl;
+          written = refl;
+          below = λ z. absurd (true≢false (sym z));
+        },
+        (whole ∙ ap (λ z. listed (z ▸ none)) (sym first), plain),
+      )
+
+  held_gone : (v u : Tree) → IsOne v → Gone W (listed a) v u → InStep W a way.Held (part v 0) (part u 0) × IsOne u
+  held_gone v u (is, f) m = one_gone (part v 0) u f (subst (λ z. Gone W (listed a) z u) is m)
+
+  held_rests : (t m : Tree) → Removed W (listed a) (listed (t ▸ none)) m false → (read put : Tree) → t ≡ read → HeldEnd W a read put → ⊥
+  held_rests t m r read put is row = none_behind W (listed a) a (t ▸ none) (mentions a) (evals a) m r (listed a ▸ (read ▸ none)) (ap (λ z. listed a ▸ (z ▸ none)) (sym is)) (block (listed a ▸ (put ▸ none))) row.row
+
+  held_removed : (t m : Tree) (c : Bool) → has_lexical (t ▸ none) ≡ false → Removed W (listed a) (listed (t ▸ none)) m c → HereWalked W a way.Held t (part m 0) c
+  held_removed t m true f r = several_over (Gone W (listed a)) (InStep W a way.Held) IsOne (λ z. part z 0) held_gone (listed (t ▸ none)) m (refl, f) r
+  held_removed t m false f r = (ap (λ z. part z 0) r.0, no_end W a way.Held t (held_rests t m r))
 
 not_true : (b : Bool) → not b ≡ true → b ≡ false
 not_true true e = absurd (true≢false (sym e))
 not_true false e = refl
 
 -- above it stands a list of nodes
-pub here_by : (W : VariableSet) (o : Tree) (s : Way) (t m : Tree) (c : Bool) → is_listed o ≡ true → is_plain s t ≡ true → Removed (open_in o W) o t m c → HereWalked W (children o) s t m c
-here_by W o s t m c e p r =
-    let (statements, rest) = and_parts (are_statements s) (is_listed t && not (has_lexical (children t))) p in
-    let (list, plain) = and_parts (is_listed t) (not (has_lexical (children t))) rest in
+pub here_by : (W : VariableSet) (o t m : Tree) (c : Bool) → is_listed o ≡ true → is_plain t ≡ true → Removed (open_in o W) o t m c → HereWalked W (children o) way.Statements t m c
+here_by W o t m c e p r =
+    let (list, plain) = and_parts (is_listed t) (not (has_lexical (children t))) p in
     let over = listed_is o e in
     let this = listed_is t list in
-    subst (λ s. HereWalked W (children o) s t m c) (is_statements s statements)
-    (subst (λ v. HereWalked W (children o) way.Statements v m c) (sym this)
-    (here_removed W (children o) (children t) m c (not_true (has_lexical (children t)) plain) (subst₂ (λ z v. Removed (open_in z W) z v m c) over this r)))
+    subst (λ v. HereWalked W (children o) way.Statements v m c) (sym this)
+    (here_removed W (children o) (children t) m c (not_true (has_lexical (children t)) plain) (subst₂ (λ z v. Removed (open_in z W) z v m c) over this r))
 
-pub nothing_here : (W : VariableSet) (a : Trees) (s : Way) (t : Tree) → is_plain s t ≡ false → HereWalked W a s t t false
-nothing_here W a s t f = (refl, by s f)
+pub no_list_here : (W : VariableSet) (a : Trees) (t : Tree) → is_plain t ≡ false → HereWalked W a way.Statements t t false
+no_list_here W a t f = (refl, no_end W a way.Statements t (λ read put is row. true≢false (sym (ap is_plain (is ∙ row.shape) ∙ ap not row.plain) ∙ f)))
+
+var_plain : (t : Tree) → is_var t ≡ true → has_lexical (t ▸ none) ≡ false
+var_plain t e = ap (λ b. b || false) (not_true (is_lexical_shape (shape_of t)) (and_parts (declares_list t) (not (is_lexical_shape (shape_of t))) e).1)
+
+pub held_by : (W : VariableSet) (o t l m : Tree) (c : Bool) → is_listed o ≡ true → is_var t ≡ true → l ≡ listed (t ▸ none) → Removed (open_in o W) o l m c → (u : Tree) → u ≡ part m 0 → HereWalked W (children o) way.Held t u c
+held_by W o t l m c e v f r u g =
+    subst (λ z. HereWalked W (children o) way.Held t z c) (sym g)
+    (held_removed W (children o) t m c (var_plain t v) (subst₂ (λ z y. Removed (open_in z W) z y m c) (listed_is o e) f r))
+
+-- what a row reads there is a `var`
+
+declares_there : (o t : Tree) (before : Trees) (k : VariableDeclarationKind) (ds after : Trees) → is_listed_shape (shape_of o) ≡ true → o ▸ (t ▸ none) ≡ append before (declaration k ds ▸ after) → declares_list t ≡ true
+declares_there o t none k ds after e f = absurd (true≢false (sym e ∙ ap (λ us. is_listed_shape (shape_of (child_or_absent us 0))) f))
+declares_there o t (b ▸ none) k ds after e f = ap (λ us. declares_list (child_or_absent us 1)) f
+declares_there o t (b ▸ (c ▸ before)) k ds after e f = let n = ap count f in let m = joined_count before (declaration k ds) after in absurd (omega (arith, n, m))
   where
-    by : (s : Way) → is_plain s t ≡ false → NothingAt W a s t here
-    by way.Statements f list route plain is w row = absurd (true≢false (sym (ap (is_plain way.Statements) is ∙ ap not plain) ∙ f))
-    by s f list route plain is w row = absurd (true≢false (sym route))
+    joined_count : (us : Trees) (d : Tree) (vs : Trees) → 0 < count (append us (d ▸ vs))
+    joined_count none d vs = omega arith
+    joined_count (u ▸ us) d vs = let rest = joined_count us d vs in omega (arith, rest)
+
+abbrev statements_of : Tree → Trees
+statements_of t = children (part t 0)
+
+row_declares : (W : VariableSet) (a : Trees) (t w : Tree) → BlockRow W (block (listed a ▸ (t ▸ none))) w → declares_list t ≡ true
+row_declares W a t w (inl r) = declares_there (listed a) t r.before r.kind (declarator (binding (resolved r.spelling r.symbol)) r.init ▸ none) r.after refl (ap statements_of r.shape)
+row_declares W a t w (inr (inl r)) = declares_there (listed a) t r.before r.kind (append r.first (declarator (binding (resolved r.spelling r.symbol)) r.init ▸ r.last)) r.after refl (ap statements_of r.shape)
+row_declares W a t w (inr (inr (inl r))) = declares_there (listed a) t r.before r.kind (append r.first (declarator (binding (resolved r.spelling r.symbol)) r.init ▸ none)) (r.head ▸ r.after) refl (ap statements_of r.shape)
+row_declares W a t w (inr (inr (inr r))) = declares_there (listed a) t r.before r.kind (append r.first (declarator (binding (resolved r.spelling r.symbol)) r.init ▸ (declarator r.binds r.value ▸ r.last))) r.after refl (ap statements_of r.shape)
+
+or_left : (a b : Bool) → (a || b) ≡ false → a ≡ false
+or_left true b e = absurd (true≢false e)
+or_left false b e = refl
+
+pub no_held_here : (W : VariableSet) (a : Trees) (t : Tree) → is_var t ≡ false → HereWalked W a way.Held t t false
+no_held_here W a t f = (refl, no_end W a way.Held t by)
+  where
+    by : (read put : Tree) → t ≡ read → HeldEnd W a read put → ⊥
+    by read put is row =
+        let declared = row_declares W a read (block (listed a ▸ (put ▸ none))) row.row in
+        true≢false (sym (and_both (declares_list read) (not (is_lexical_shape (shape_of read))) declared (ap not (or_left (is_lexical_shape (shape_of read)) false row.plain))) ∙ ap is_var (sym is) ∙ f)
+
+-- ---- what a `for` begins with
+
+pub no_heading_here : (W : VariableSet) (a : Trees) (t : Tree) → is_var t ≡ false → HereWalked W a way.Head t t false
+no_heading_here W a t f = (refl, no_end W a way.Head t (λ read put is row. true≢false (sym (ap is_var (is ∙ row.shape)) ∙ f)))
+
+pub no_such_end : (W : VariableSet) (a : Trees) (s : Way) (t : Tree) → ((read put : Tree) → EndRow s W a read put → ⊥) → HereWalked W a s t t false
+no_such_end W a s t f = (refl, no_end W a s t (λ read put is row. f read put row))
+
+module _ (W : VariableSet) (a : Trees) (t : Tree) (v : is_var t ≡ true) where
+  abbrev as_block : Tree
+  as_block = block (listed a ▸ (t ▸ none))
+
+  block_sees : has_eval as_block ≡ (has_eval (listed a) || has_eval (listed (t ▸ none)))
+  unfolding has_eval
+  block_sees = or_false (any_has_eval a || (has_eval t || false))
+    where
+      or_false : (b : Bool) → (b || false) ≡ b
+      or_false true = refl
+      or_false false = refl
+
+  module _ (j : ℕ) (g : j < count (children (part t 0))) (u : is_unused W (listed a) (t ▸ none) 0 j ≡ true) (i : is_idle_at (part t 0) j ≡ true) (n : (has_eval (listed a) || has_eval (listed (t ▸ none))) ≡ false) where
+    second : 1 < count (listed a ▸ (t ▸ none))
+    second = omega arith
+
+    test : is_unused W no_outside (listed a ▸ (t ▸ none)) 1 j ≡ true
+    test = sym (unused_there W (listed a) a (t ▸ none) (mentions a) (evals a) 0 j) ∙ u
+
+    quiet : has_eval as_block ≡ false
+    quiet = block_sees ∙ n
+
+    kind_is : kind as_block 1 j refl second g W test quiet ≡ Var
+    kind_is = only_var (kind as_block 1 j refl second g W test quiet) (ap (λ z. is_lexical_shape (shape_of z)) (sym (let_there as_block 1 j refl second g W test quiet)) ∙ not_true (is_lexical_shape (shape_of t)) (and_parts (declares_list t) (not (is_lexical_shape (shape_of t))) v).1)
+      where
+        only_var : (k : VariableDeclarationKind) → kinds.is_lexical k ≡ false → k ≡ Var
+        only_var Var e = refl
+        only_var Let e = absurd (true≢false e)
+        only_var Const e = absurd (true≢false e)
+
+    heading_row : HeadEnd W a t (head_without t j)
+    heading_row =
+        let s = one as_block 1 j refl second g W test quiet in
+        let f = first as_block 1 j refl second g W test quiet in
+        let l = last as_block 1 j refl second g W test quiet in
+        let k = kind as_block 1 j refl second g W test quiet in
+        let z = init as_block 1 j refl second g W test quiet in
+        let x = resolved s.spelling s.symbol in
+        let alone_there = unused as_block 1 j refl second g W test quiet in
+        let is : t ≡ declared_among Var x f z l = statement_is as_block 1 j refl second g W test quiet ∙ ap (λ k. declared_among k x f z l) kind_is in
+        record {
+          first = f;
+          spelling = s.spelling;
+          symbol = s.symbol;
+          init = z;
+          last = l;
+          goes = sym (ap (λ k. lets_go W k s.symbol) kind_is) ∙ goes as_block 1 j refl second g W test quiet;
+          idle = (and_parts (declares_name (part (part t 0) j)) (is_idle (part (part (part t 0) j) 1)) i).1;
+          outside = or_left (any_names x a) false alone_there.earlier;
+          declared_earlier = alone_there.declared_earlier;
+          initial = alone_there.initial;
+          declared_later = alone_there.declared_later;
+          unseen = ap (λ z. has_eval (block (listed a ▸ (z ▸ none)))) (sym is) ∙ quiet;
+          shape = is;
+          written = ap (λ z. head_without z j) (let_there as_block 1 j refl second g W test quiet) ∙ head_left_is k (children (part t 0)) j g ∙ ap (λ k. head_left k (append f l)) kind_is;
+        }
+
+  -- a row of it is told by the tests
+
+  abbrev named : {w : Tree} → HeadEnd W a t w → Name
+  named r = resolved r.spelling r.symbol
+
+  as_read : (w : Tree) (r : HeadEnd W a t w) → Read W (block (listed a ▸ (declared_among Var (named r) r.first r.init r.last ▸ none)))
+  as_read w r = record {
+    before = listed a ▸ none;
+    kind = Var;
+    first = r.first;
+    spelling = r.spelling;
+    symbol = r.symbol;
+    init = r.init;
+    last = r.last;
+    after = none;
+    lost = r.goes;
+    goes = ap (λ b. b || (is_bare (listed (append r.first (declarator (binding (named r)) r.init ▸ r.last))) 1 && declares_nothing r.init)) r.idle;
+    unused = record { earlier = ap (λ b. b || false) r.outside; declared_earlier = r.declared_earlier; initial = r.initial; declared_later = r.declared_later; later = refl; unseen = r.unseen };
+    shape = refl;
+  }
+
+  no_unused : UnusedOf W (listed a) (t ▸ none) 0 None → (w : Tree) → HeadEnd W a t w → ⊥
+  unfolding as_read
+  no_unused n w r =
+      let ts = listed a ▸ (declared_among Var (named r) r.first r.init r.last ▸ none) in
+      let read = as_read w r in
+      let here_told = read_there W (block ts) read in
+      let inside = declarator_within W (block ts) read in
+      let moved = subst (λ z. UnusedOf W (listed a) (z ▸ none) 0 None) r.shape n in
+      true≢false (sym (unused_there W (listed a) a (declared_among Var (named r) r.first r.init r.last ▸ none) (mentions a) (evals a) 0 (count r.first) ∙ here_told) ∙ moved (count r.first) inside)
+
+  seen_here : (has_eval (listed a) || has_eval (listed (t ▸ none))) ≡ true → (w : Tree) → HeadEnd W a t w → ⊥
+  seen_here e w r = true≢false (sym e ∙ sym block_sees ∙ ap (λ z. has_eval (block (listed a ▸ (z ▸ none)))) r.shape ∙ r.unseen)
+
+  missed_here : (j : ℕ) → UnusedOf W (listed a) (t ▸ none) 0 (Some j) → is_idle_at (part t 0) j ≡ false → (w : Tree) → HeadEnd W a t w → ⊥
+  missed_here j n e w r =
+      let d = declared_among Var (named r) r.first r.init r.last in
+      let inside = subst (λ z. j < count (children (part z 0))) r.shape n.1 in
+      let u = sym (ap (λ z. is_unused W (listed a) (z ▸ none) 0 j) r.shape) ∙ n.2 in
+      missed_declarator false W (listed a) (named r) r.first r.init r.last (d ▸ none) 0 j inside u (sym (ap (λ z. is_idle_at (part z 0) j) r.shape) ∙ e) r.idle
+
+-- as the code tells
+pub found_none : (W : VariableSet) (o t : Tree) → is_listed o ≡ true → is_var t ≡ true → UnusedOf (open_in o W) o (t ▸ none) 0 None → HeadingFound (open_in o W) o t None
+found_none W o t e v n = no_unused (open_in o W) (children o) t v (subst (λ z. UnusedOf (open_in o W) z (t ▸ none) 0 None) (listed_is o e) n)
+
+pub found_missed : (W : VariableSet) (o t : Tree) (j : ℕ) → is_listed o ≡ true → is_var t ≡ true → UnusedOf (open_in o W) o (t ▸ none) 0 (Some j) → (is_idle_at (part t 0) j && not (has_eval o || has_eval (listed (t ▸ none)))) ≡ false → HeadingFound (open_in o W) o t None
+found_missed W o t j e v n f = by (is_idle_at (part t 0) j) refl
+  where
+    here_found : UnusedOf (open_in o W) (listed (children o)) (t ▸ none) 0 (Some j)
+    here_found = subst (λ z. UnusedOf (open_in o W) z (t ▸ none) 0 (Some j)) (listed_is o e) n
+
+    seen_by : (b : Bool) → not b ≡ false → b ≡ true
+    seen_by true e = refl
+    seen_by false e = absurd (true≢false e)
+
+    by : (b : Bool) → is_idle_at (part t 0) j ≡ b → HeadingFound (open_in o W) o t None
+    by true i = seen_here (open_in o W) (children o) t v (sym (ap (λ z. has_eval z || has_eval (listed (t ▸ none))) (listed_is o e)) ∙ seen_by (has_eval o || has_eval (listed (t ▸ none))) (sym (ap (λ b. b && not (has_eval o || has_eval (listed (t ▸ none)))) i) ∙ f))
+    by false i = missed_here (open_in o W) (children o) t v j here_found i
+
+pub found_some : (W : VariableSet) (o t : Tree) (j : ℕ) → UnusedOf (open_in o W) o (t ▸ none) 0 (Some j) → (is_idle_at (part t 0) j && not (has_eval o || has_eval (listed (t ▸ none)))) ≡ true → HeadingFound (open_in o W) o t (Some j)
+found_some W o t j n f =
+    let (i, q) = and_parts (is_idle_at (part t 0) j) (not (has_eval o || has_eval (listed (t ▸ none)))) f in
+    (n, i, not_true (has_eval o || has_eval (listed (t ▸ none))) q)
+
+pub heading_gone : (W : VariableSet) (o t : Tree) (j : ℕ) → is_listed o ≡ true → is_var t ≡ true → HeadingFound (open_in o W) o t (Some j) → (u : Tree) → u ≡ head_without t j → HereWalked W (children o) way.Head t u true
+heading_gone W o t j e v h u f =
+    let a = children o in
+    let h2 = subst (λ z. HeadingFound (open_in z W) z t (Some j)) (listed_is o e) h in
+    let row = heading_row W a t v j h2.0.1 h2.0.2 h2.1 h2.2 in
+    let step : InStep W a way.Head t (head_without t j) = record {
+      place = here;
+      end = way.Head;
+      read = t;
+      put = head_without t j;
+      way = refl;
+      row = subst (λ us. HeadEnd W us t (head_without t j)) (sym (append_none a)) row;
+      shape = refl;
+      written = refl;
+      below = λ z. absurd (true≢false (sym z));
+    } in
+    subst (λ z. Several (InStep W a way.Head) t z) (sym f) (record { next = head_without t j; first = step; others = still (head_without t j) })
+
+pub heading_rests : (W : VariableSet) (o t : Tree) → is_listed o ≡ true → HeadingFound (open_in o W) o t None → (u : Tree) → u ≡ t → HereWalked W (children o) way.Head t u false
+heading_rests W o t e h u f = (f, no_end W (children o) way.Head t (λ read put is row. subst (λ z. HeadingFound (open_in z W) z t None) (listed_is o e) h put (subst (λ z. HeadEnd W (children o) z put) (sym is) row)))
 
 -- ---- the nodes above
 

@@ -10,7 +10,7 @@ use Rattle.mini_node.specs.Children.{part, with_part, with_child, is_nameless}
 use Rattle.mini_node.specs.Walks.{count_with}
 use Rattle.mini_tree.proofs.Edits.{others_with, part_within}
 use Rattle.mini_rows.specs.declared.inside.Way.{Way}
-use Rattle.mini_rows.specs.Inside.{is_way}
+use Rattle.mini_rows.specs.Inside.{is_way_to}
 use Rattle.mini_unused.specs.Chains.{Several}
 use Rattle.mini_unused.specs.Further.{BelowStep, NothingAt, BelowWalked, WalkedAt}
 use Rattle.mini_unused.proofs.FurtherSteps.{several_then, joined_within}
@@ -79,9 +79,9 @@ module _ (W : VariableSet) (a : Trees) (s : Way) where
       by true y = y
       by false y = (
         y.0,
-        λ h xs n pre k post list way plain is w row.
-            let within : count pre < count (children t) = subst (λ z. count pre < count (children z)) (sym is) (joined_within pre (plug k (listed list)) post) in
-            y.1 h xs n pre k post (omega (arith, within, e)) list way plain is w row,
+        λ h xs n pre k post end read put way is row.
+            let within : count pre < count (children t) = subst (λ z. count pre < count (children z)) (sym is) (joined_within pre (plug k read) post) in
+            y.1 h xs n pre k post (omega (arith, within, e)) end read put way is row,
       )
 
   -- a child that hasn't been gone into is smaller than the node
@@ -93,12 +93,12 @@ module _ (W : VariableSet) (a : Trees) (s : Way) where
   walked_closed t z = (refl, by)
     where
       by : (h : Shape) (xs : List Name) (n : ℕ) (pre : Trees) (k : Path) (post : Trees) → NothingAt W a s t (inside h xs n pre k post)
-      by h xs n pre k post list way plain is w row = absurd (true≢false (sym (bare h xs n pre k post list way) ∙ sym (ap is_nameless is) ∙ z))
+      by h xs n pre k post end read put way is row = absurd (true≢false (sym (bare h xs n pre k post way) ∙ sym (ap is_nameless is) ∙ z))
         where
-          bare : (h : Shape) (xs : List Name) (n : ℕ) (pre : Trees) (k : Path) (post : Trees) (list : Trees) → is_way (Some s) (inside h xs n pre k post) ≡ true → is_nameless (plug (inside h xs n pre k post) (listed list)) ≡ true
-          bare h [] zero pre k post list way = refl
-          bare h [] (suc n) pre k post list way = absurd (true≢false (sym way))
-          bare h (x ∷ xs) n pre k post list way = absurd (true≢false (sym way))
+          bare : (h : Shape) (xs : List Name) (n : ℕ) (pre : Trees) (k : Path) (post : Trees) → is_way_to end (Some s) (inside h xs n pre k post) ≡ true → is_nameless (plug (inside h xs n pre k post) read) ≡ true
+          bare h [] zero pre k post way = refl
+          bare h [] (suc n) pre k post way = absurd (true≢false (sym way))
+          bare h (x ∷ xs) n pre k post way = absurd (true≢false (sym way))
 
 -- with the nodes above it, which are as they were
 pub record Going (W : VariableSet) (s : Way) (above now : Tree) (i : ℕ) (t u : Tree) (changed : Bool) : Type 0 where

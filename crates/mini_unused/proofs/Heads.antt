@@ -55,7 +55,7 @@ head t h =
     record { is = for_is t (and_both (is_for_shape (shape_of t)) (is_bare t 4) a b); lexical = c; declares = e }
 
 -- what is left of the declarators
-head_left_is : (k : VariableDeclarationKind) (us : Trees) (j : ℕ) → j < count us → (if is_bare (listed us) 1 then absent else declaration k (without us j)) ≡ head_left k (append (first_children j us) (rest_children (suc j) us))
+pub head_left_is : (k : VariableDeclarationKind) (us : Trees) (j : ℕ) → j < count us → (if is_bare (listed us) 1 then absent else declaration k (without us j)) ≡ head_left k (append (first_children j us) (rest_children (suc j) us))
 head_left_is k none j h = absurd (omega (arith, h))
 head_left_is k (t ▸ none) zero h = refl
 head_left_is k (t ▸ none) (suc j) h = absurd (omega (arith, h))
@@ -180,28 +180,32 @@ single_there none c (b ▸ last) e j h = absurd (true≢false (sym e))
 single_there (a ▸ none) c last e j h = absurd (true≢false (sym e))
 single_there (a ▸ (b ▸ first)) c last e j h = absurd (true≢false (sym e))
 
+pub missed_declarator : (free : Bool) (W : VariableSet) (o : Tree) (x : Name) (first : Trees) (v : Tree) (last ts : Trees) (i j : ℕ) → j < count (append first (declarator (binding x) v ▸ last)) → is_unused_declarator free W (listed (append first (declarator (binding x) v ▸ last))) j o ts i ≡ true → is_idle_at (listed (append first (declarator (binding x) v ▸ last))) j ≡ false → is_idle v ≡ true → ⊥
+missed_declarator free W o x first v last ts i j inside u f idle =
+    let d = declarator (binding x) v in
+    let us = append first (d ▸ last) in
+    let l = listed us in
+    let z = part (part l j) 1 in
+    let lost = may_lose free W (names_of (part (part l j) 0)) in
+    let alone_there = is_alone (names_of (part (part l j) 0)) o z us j ts i in
+    let (named, p) = and_parts (declares_name (part l j)) (lost && (may_go z l && alone_there)) u in
+    let (y, q) = and_parts lost (may_go z l && alone_there) p in
+    let (goes, y) = and_parts (may_go z l) alone_there q in
+    let missed : is_idle z ≡ false = sym (ap (λ b. b && is_idle z) named) ∙ f in
+    let (single, present) = and_parts (is_bare l 1) (declares_nothing z) (sym (ap (λ b. b || (is_bare l 1 && declares_nothing z)) missed) ∙ goes) in
+    true≢false (sym idle ∙ sym (ap (λ y. is_idle (part y 1)) (single_there first d last single j inside)) ∙ missed)
+
 missed_there : (W : VariableSet) (t : Tree) (j : ℕ) → UnusedOf (open_in empty_statement W) empty_statement (children t) 0 (Some j) → is_idle_at (part (part t 0) 0) j ≡ false → AppliedInHead t t false
 missed_there W t j n e = (refl, by)
   where
     by : (w : Tree) → ForRow t w → ⊥
     by w r =
         let x = resolved r.spelling r.symbol in
-        let d = declarator (binding x) r.init in
-        let l = listed (append r.first (d ▸ r.last)) in
-        let same = ap (λ y. part (part y 0) 0) r.shape in
-        let inside : j < count (append r.first (d ▸ r.last)) = subst (λ us. j < count (children (list_at us 0))) (ap children r.shape) n.1 in
+        let us = append r.first (declarator (binding x) r.init ▸ r.last) in
+        let ts = children (for_loop (declared_among r.kind x r.first r.init r.last) r.test r.update r.body) in
+        let inside : j < count us = subst (λ us. j < count (children (list_at us 0))) (ap children r.shape) n.1 in
         let u = sym (ap (λ us. is_unused (open_in empty_statement W) empty_statement us 0 j) (ap children r.shape)) ∙ n.2 in
-        let f = sym (ap (λ y. is_idle_at y j) same) ∙ e in
-        let i = part (part l j) 1 in
-        let free = is_free_at (children (for_loop (declared_among r.kind x r.first r.init r.last) r.test r.update r.body)) 0 in
-        let lost = may_lose free (open_in empty_statement W) (names_of (part (part l j) 0)) in
-        let alone_there = is_alone (names_of (part (part l j) 0)) empty_statement i (append r.first (d ▸ r.last)) j (children (for_loop (declared_among r.kind x r.first r.init r.last) r.test r.update r.body)) 0 in
-        let (named, p) = and_parts (declares_name (part l j)) (lost && (may_go i l && alone_there)) u in
-        let (z, q) = and_parts lost (may_go i l && alone_there) p in
-        let (goes, y) = and_parts (may_go i l) alone_there q in
-        let missed : is_idle i ≡ false = sym (ap (λ b. b && is_idle i) named) ∙ f in
-        let (single, present) = and_parts (is_bare l 1) (declares_nothing i) (sym (ap (λ b. b || (is_bare l 1 && declares_nothing i)) missed) ∙ goes) in
-        true≢false (sym r.idle ∙ sym (ap (λ y. is_idle (part y 1)) (single_there r.first d r.last single j inside)) ∙ missed)
+        missed_declarator (is_free_at ts 0) (open_in empty_statement W) empty_statement x r.first r.init r.last ts 0 j inside u (sym (ap (λ y. is_idle_at (part (part y 0) 0) j) r.shape) ∙ e) r.idle
 
 pub idle_dropped : (W : VariableSet) (t : Tree) (j : ℕ) → has_head t ≡ true → UnusedOf (open_in empty_statement W) empty_statement (children t) 0 (Some j) → (u : Tree) (b : Bool) → IdleDropped t j u b → AppliedInHead t u b
 idle_dropped W t j h n u true d = dropped_there W t j h n u d

@@ -161,7 +161,7 @@ module _ (W : VariableSet) (outside : Tree) (front ts : Trees) (mentions : (x : 
       let f = any_names x (first_children i ts) in
       ap (λ p. not p && (not a && (not b && (not c && (not d && not f))))) (mentions x) ∙ alone_pulled (any_names x front) a b c d f
 
-  unused_there : (i j : ℕ) → is_unused W outside ts i j ≡ is_unused W no_outside behind (suc i) j
+  pub unused_there : (i j : ℕ) → is_unused W outside ts i j ≡ is_unused W no_outside behind (suc i) j
   unused_there i j =
       let l = list_at ts i in
       ap (λ b. declares_list (child_or_absent ts i) && (declares_name (part l j) && (may_lose (is_free_at ts i) W (names_of (part (part l j) 0)) && (may_go (part (part l j) 1) l && b)))) (alone_there (names_of (part (part l j) 0)) (part (part l j) 1) (children l) j i)

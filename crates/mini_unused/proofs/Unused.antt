@@ -255,7 +255,7 @@ module _ (t : Tree) (i j : ℕ) (b : is_block t ≡ true) (h : i < count (childr
   abbrev pub x : Name
   x = resolved one.spelling one.symbol
 
-  goes : lets_go W kind one.symbol ≡ true
+  pub goes : lets_go W kind one.symbol ≡ true
   goes = sym (λ k. may_lose (is_lexical_shape (shape_of (let_there k))) W (names_of (part (one.is k) 0))) ∙ tests.4
 
   nothing_else : Quiet x init ds j ts i

@@ -1,12 +1,12 @@
--- 71 and 72 of a `var` further inside: the walk to the lists in which one may stand, with the nodes above it, each without what the way
--- goes into.
-use Rattle.std.specs.Prelude.{◌≡◌, ◌&&◌, not, ℕ, Bool, true, false, List, Some}
+-- 71 and 72 of a `var` further inside: the walk to where one may stand, with the nodes above it, each without what the way goes into.
+use Rattle.std.specs.Prelude.{◌≡◌, ◌&&◌, ◌||◌, not, ℕ, Bool, true, false, List, Option, Some, None}
 use Rattle.mini_model.specs.declared.name.Name.{Name}
 use Rattle.mini_model.specs.declared.place.Position.{Position}
 use Rattle.mini_model.specs.declared.shape.Shape.{Shape}
-use Rattle.mini_model.specs.Tree.{Tree, Trees, node, none, ◌▸◌, absent, listed, count, children}
+use Rattle.mini_model.specs.Tree.{Tree, Trees, node, none, ◌▸◌, absent, listed, count, children, shape_of}
 use Rattle.mini_model.specs.Paths.{append}
 use Rattle.mini_laws.specs.Path.{Path, here, inside, plug}
+use Rattle.mini_laws.specs.ScopeList.{has_eval}
 use Rattle.mini_laws.specs.Value.{VariableSet}
 use Rattle.mini_laws.specs.Weights.{is_here}
 use Rattle.mini_laws.specs.Writable.{writable_in}
@@ -14,35 +14,38 @@ use Rattle.mini_node.specs.Children.{part, with_part}
 use Rattle.mini_node.specs.Kinds.{is_listed}
 use Rattle.mini_rows.specs.declared.inside.Way.{Way}
 use Rattle.mini_rows.specs.declared.inside.Way.TheVariants as way
-use Rattle.mini_rows.specs.Inside.{is_way, above, has_lexical, are_statements, Holder, Function, stands_at, InsideRow, InsideContracts}
-use Rattle.mini_rows.specs.Lists.{block}
-use Rattle.mini_rows.specs.Unused.{BlockRow}
+use Rattle.mini_rows.specs.Inside.{is_way_to, above, has_lexical, HeadEnd, EndRow, Holder, Function, stands_at, InsideRow, InsideContracts}
 use Rattle.mini_tree.specs.Rule as rule
 use Rattle.mini_unused.specs.Chains.{Several}
+use Rattle.mini_unused.specs.RemoveUnusedDeclaration.{declares_list, is_lexical_shape, is_idle_at, UnusedOf}
 
 -- a list of nodes with another one
 abbrev pub pushed : Tree → Tree → Tree
 pushed (node h xs n ts) t = node h xs n (append ts (t ▸ none))
 
 -- a list of statements in which no `let` and no `const` stands
-abbrev pub is_plain : Way → Tree → Bool
-is_plain s t = are_statements s && (is_listed t && not (has_lexical (children t)))
+abbrev pub is_plain : Tree → Bool
+is_plain t = is_listed t && not (has_lexical (children t))
 
--- below some nodes, a list that stands further inside loses a name; or the node may be the list itself
+-- a `var`, with its list of declarators
+abbrev pub is_var : Tree → Bool
+is_var t = declares_list t && not (is_lexical_shape (shape_of t))
+
+-- below some nodes, what stands at the end of a way loses a name; or the node may be that end itself
 pub record Loses (W : VariableSet) (a : Trees) (s : Way) (further : Bool) (t u : Tree) : Type 0 where
   pub place : Path
-  pub list : Trees
-  pub left : Trees
-  pub way : is_way (Some s) place ≡ true
-  pub plain : has_lexical list ≡ false
-  pub row : BlockRow W (block (listed (append a (above place)) ▸ list)) (block (listed (append a (above place)) ▸ left))
-  pub shape : t ≡ plug place (listed list)
-  pub written : u ≡ plug place (listed left)
+  pub end : Way
+  pub read : Tree
+  pub put : Tree
+  pub way : is_way_to end (Some s) place ≡ true
+  pub row : EndRow end W (append a (above place)) read put
+  pub shape : t ≡ plug place read
+  pub written : u ≡ plug place put
   pub below : further ≡ true → is_here place ≡ false
 
--- no row reads the list at the place, if one stands there
+-- no row reads what stands at the place, if a way ends there
 abbrev pub NothingAt : VariableSet → Trees → Way → Tree → Path → Type 0
-NothingAt W a s t k = (list : Trees) → is_way (Some s) k ≡ true → has_lexical list ≡ false → t ≡ plug k (listed list) → (w : Tree) → BlockRow W (block (listed (append a (above k)) ▸ list)) w → ⊥
+NothingAt W a s t k = (end : Way) (read put : Tree) → is_way_to end (Some s) k ≡ true → t ≡ plug k read → EndRow end W (append a (above k)) read put → ⊥
 
 abbrev pub InStep : VariableSet → Trees → Way → Tree → Tree → Type 0
 InStep W a s = Loses W a s false
@@ -59,6 +62,12 @@ Walked W a s t u false = (u ≡ t) × ((k : Path) → NothingAt W a s t k)
 abbrev pub HereWalked : VariableSet → Trees → Way → Tree → Tree → Bool → Type 0
 HereWalked W a s t u true = Several (InStep W a s) t u
 HereWalked W a s t u false = (u ≡ t) × NothingAt W a s t here
+
+-- of what a `for` begins with, alone in a list, the place of a declarator whose name nothing else mentions and whose initializer nothing
+-- misses; or there is none that a row reads
+abbrev pub HeadingFound : VariableSet → Tree → Tree → Option ℕ → Type 0
+HeadingFound W o t (Some j) = UnusedOf W o (t ▸ none) 0 (Some j) × (is_idle_at (part t 0) j ≡ true) × ((has_eval o || has_eval (listed (t ▸ none))) ≡ false)
+HeadingFound W o t None = (w : Tree) → HeadEnd W (children o) t w → ⊥
 
 -- of what stands in it
 abbrev pub BelowWalked : VariableSet → Trees → Way → Tree → Tree → Bool → Type 0

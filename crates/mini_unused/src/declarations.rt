@@ -26,7 +26,7 @@ use mini_context::{Scopes, TraverseCtx};
 use mini_model::{Name, OutOfMemory, Position, Shape, VariableDeclarationKind};
 use mini_node::{
     Node, Nodes, discard, empty_statement, expression_statement, is_absent_part, is_block,
-    is_listed, two,
+    is_listed, taken, two,
 };
 use mini_terms::{has_no_effect, leaves_nothing};
 use mini_tree::Rule;
@@ -233,8 +233,8 @@ fn unused_in(
     None
 }
 
-// Of the statement, where it is a declaration.
-fn unused_of(outside: &Node, statements: &Nodes, at: usize, scopes: &Scopes) -> Option<usize>
+/// Of the statement, where it is a declaration.
+pub fn unused_of(outside: &Node, statements: &Nodes, at: usize, scopes: &Scopes) -> Option<usize>
     requires statement { at < count statements.now }
     requires fits { at + 1 < 2 ^ 64 }
     ensures { UnusedOf (open_in outside.now (marked scopes.now)) outside.now statements.now at result }
@@ -488,8 +488,8 @@ fn unused_in_head(alloc: Global, node: &Node, scopes: &Scopes) -> Option<usize>
     found
 }
 
-// Of a list of declarators the one at the index has a name, and an initializer that nothing misses.
-fn is_idle_at(list: &Node, which: usize) -> bool
+/// Of a list of declarators the one at the index has a name, and an initializer that nothing misses.
+pub fn is_idle_at(list: &Node, which: usize) -> bool
     requires { which < count (children list.now) }
     ensures { result ≡ row.is_idle_at list.now which }
 {
@@ -497,25 +497,34 @@ fn is_idle_at(list: &Node, which: usize) -> bool
     declares_name(declarator) && is_idle(declarator.child(1))
 }
 
-// The declarator at the index goes, and with the only one the head.
+/// Of what a `for` begins with the declarator at the index goes, and with the only one all of it.
+pub fn drop_from_head(alloc: Global, head: &mut Node, which: usize)
+    requires list { 0 < count (children head.old) }
+    requires declarator { which < count (children (part head.old 0)) }
+    ensures { head.new ≡ row.head_without head.old which }
+{
+    if head.child(0).is_bare(1) {
+        discard(taken(alloc, head));
+        return;
+    }
+    discard(take_declarator(head, which));
+}
+
+// Of a `for` it does.
 #[tactic(auto, using(crate::proofs::Unused::same_parts, crate::proofs::Unused::part_twice))]
-fn drop_in_head(node: &mut Node, which: usize)
+fn drop_in_head(alloc: Global, node: &mut Node, which: usize)
     requires head { 0 < count (children node.old) }
     requires list { 0 < count (children (part node.old 0)) }
     requires declarator { which < count (children (part (part node.old 0) 0)) }
     ensures { node.new ≡ with_part node.old 0 (row.head_without (part node.old 0) which) }
 {
     let mut head = take_child(node, 0);
-    if head.child(0).is_bare(1) {
-        discard(head);
-        return;
-    }
-    discard(take_declarator(&mut head, which));
+    drop_from_head(alloc, &mut head, which);
     put_child(node, 0, head);
 }
 
 // The declarator at the index of the head goes, where nothing misses its initializer.
-fn drop_idle_in_head(node: &mut Node, which: usize) -> bool
+fn drop_idle_in_head(alloc: Global, node: &mut Node, which: usize) -> bool
     requires head { row.has_head node.old ≡ true }
     requires parts { 0 < count (children node.old) }
     requires list { 0 < count (children (part node.old 0)) }
@@ -528,7 +537,7 @@ fn drop_idle_in_head(node: &mut Node, which: usize) -> bool
     if has_eval(node) {
         return false;
     }
-    drop_in_head(node, which);
+    drop_in_head(alloc, node, which);
     true
 }
 
@@ -539,7 +548,7 @@ fn remove_in_head(alloc: Global, node: &mut Node, scopes: &Scopes) -> bool
     ensures { AppliedInHead node.old node.new result }
 {
     match unused_in_head(alloc, node, scopes) {
-        Some(which) => drop_idle_in_head(node, which),
+        Some(which) => drop_idle_in_head(alloc, node, which),
         None => false,
     }
 }

@@ -30,10 +30,13 @@ fn first_of(one: Option<Way>, other: Option<Way>) -> Option<Way>
 fn branch_way(at: usize) -> Option<Way>
     ensures { result ≡ inside.branch_way at }
 {
-    first_of(
-        at_place(1, Way::Statement, at),
-        at_place(2, Way::Statement, at),
-    )
+    first_of(at_place(1, Way::Held, at), at_place(2, Way::Held, at))
+}
+
+fn for_way(at: usize) -> Option<Way>
+    ensures { result ≡ inside.for_way at }
+{
+    first_of(at_place(0, Way::Head, at), at_place(3, Way::Held, at))
 }
 
 fn try_way(at: usize) -> Option<Way>
@@ -55,12 +58,12 @@ fn statement_way(shape: &Shape, at: usize) -> Option<Way>
     match shape {
         Shape::BlockStatement => at_place(0, Way::Statements, at),
         Shape::IfStatement => branch_way(at),
-        Shape::WhileStatement => at_place(1, Way::Statement, at),
-        Shape::DoWhileStatement => at_place(0, Way::Statement, at),
-        Shape::ForStatement => at_place(3, Way::Statement, at),
-        Shape::ForInStatement => at_place(2, Way::Statement, at),
-        Shape::ForOfStatement => at_place(2, Way::Statement, at),
-        Shape::LabeledStatement => at_place(1, Way::Statement, at),
+        Shape::WhileStatement => at_place(1, Way::Held, at),
+        Shape::DoWhileStatement => at_place(0, Way::Held, at),
+        Shape::ForStatement => for_way(at),
+        Shape::ForInStatement => at_place(2, Way::Held, at),
+        Shape::ForOfStatement => at_place(2, Way::Held, at),
+        Shape::LabeledStatement => at_place(1, Way::Held, at),
         Shape::TryStatement => try_way(at),
         Shape::SwitchStatement => at_place(1, Way::Cases, at),
         _ => None,
@@ -103,19 +106,13 @@ pub fn way_in(way: Way, shape: &Shape, at: usize) -> Option<Way>
     ensures { result ≡ inside.way_in way shape.now at }
 {
     match way {
-        Way::Statement => statement_way(shape, at),
+        Way::Statement | Way::Held => statement_way(shape, at),
         Way::Statements => item_way(shape, Way::Statement),
         Way::Cases => item_way(shape, Way::Case),
         Way::Case => case_way(shape, at),
         Way::Catch => catch_way(shape, at),
+        Way::Head => None,
     }
-}
-
-/// Whether it is a list of statements.
-pub fn are_statements(way: Way) -> bool
-    ensures { result ≡ inside.are_statements way }
-{
-    matches!(way, Way::Statements)
 }
 
 fn is_lexical_kind(kind: VariableDeclarationKind) -> bool

@@ -1,0 +1,20 @@
+use Rattle.std.proofs.Common.{sym}
+use Rattle.mini_model.specs.Tree.{children}
+use Rattle.mini_rows.specs.declared.inside.Way.TheVariants as way
+use Rattle.mini_unused.specs.RemoveUnusedDeclaration.{marked, open_in}
+use Rattle.mini_unused.specs.SubstituteSingleUse.{Removed}
+use Rattle.mini_unused.specs.Further.{HereWalked}
+use Rattle.mini_unused.proofs.FurtherSteps.{here_by, no_list_here}
+use Rattle.mini_unused.proofs.Holders.{where_ok}
+use Rattle.mini_unused.proofs.further.remove_in_plain_list.Goals as goal
+
+pub returns-then-not-is_plain_list : goal.returns-then-not-is_plain_list
+returns-then-not-is_plain_list c = no_list_here (marked c.args.scopes.now) (children c.args.above.now) c.args.node.now (sym c.if-not-is_plain_list.ensures)
+
+pub returns : goal.returns
+returns c =
+    let W = marked c.args.scopes.now in
+    let o = c.args.above.now in
+    let t = c.args.node.now in
+    let u = c.remove_in_list.new.list in
+    where_ok c.remove_in_list.result (λ changed. Removed (open_in o W) o t u changed) (λ changed. HereWalked W (children o) way.Statements t u changed) (λ changed r. here_by W o t u changed c.requires (sym c.if-not-is_plain_list.ensures) r) c.remove_in_list.ensures
