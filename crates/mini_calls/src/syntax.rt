@@ -248,7 +248,7 @@ impl PeepholeOptimizations {
         mini_switch::minimize_switch_statement(alloc, node)
     }
 
-    /// Of a `switch` over a value that is written out one case is left, with the statements that run. The answer says whether others
+    /// Of a `switch` over a value that is known one case is left, with the statements that run. The answer says whether others
     /// went; the only error is that memory runs out.
     pub fn drop_unreachable_switch_cases(
         &self,
@@ -261,8 +261,8 @@ impl PeepholeOptimizations {
         mini_switch::drop_unreachable_switch_cases(alloc, node)
     }
 
-    /// Whether the statements of a case may stand in a branch: it has no test, or one that writes a value out, nothing in it is scoped,
-    /// and none but a last `break;` leaves it by a `break` without a label (ECMA-262, "The switch Statement").
+    /// Whether the statements of a case may stand in a branch or a block: it has no test, or one that writes a value out, and then nothing in it is
+    /// scoped; and none but a last `break;` leaves it by a `break` without a label (ECMA-262, "The switch Statement").
     pub fn can_switch_case_be_inlined(&self, case: &Node) -> bool
         ensures { result ≡ row_of_minimize_switch_statements.can_be_inlined case.now }
     {

@@ -15,7 +15,7 @@ use Rattle.mini_rows.specs.Spellings.{PlainForm, a_number, a_text, a_boolean, a_
 use Rattle.mini_rows.specs.Unused.{names}
 use Rattle.mini_syntax.specs.Forms.{is_plain}
 use Rattle.mini_syntax.proofs.FormsAre.{plain_is, plain_passes}
-use Rattle.mini_switch.specs.MinimizeSwitchStatements.{ends_in_break, unbroken_count, before_break, some_breaks, is_case, holds_one_case, the_case, inlined, stay_inside}
+use Rattle.mini_switch.specs.MinimizeSwitchStatements.{ends_in_break, unbroken_count, before_break, some_breaks, is_case, holds_one_case, the_case, enclosed, written_for, inlined, stay_inside}
 use Rattle.mini_switch.proofs.Switches.{not_true, switch_is, statements_are, listed_breaks, before_is}
 use Rattle.mini_lexical.specs.MinimizeLexicalStatement.{AppliedBy, can_be_branch, inlines}
 use Rattle.mini_lexical.proofs.HeldNames.{and_one, both_true, held_first, held_ended}
@@ -72,10 +72,10 @@ module _ (V : VariableSet) where
       statements : Trees
       statements = children (part (the_case t) 1)
 
-      chosen : (x : Tree) (f : PlainForm) → x ≡ plain f → (ss : Trees) → (if is_absent_part x then block (expression_statement (part t 0) ▸ ss) else if_alone (binary StrictEquality (part t 0) x) (block ss)) ≡ if_alone (binary StrictEquality (part t 0) (plain f)) (block ss)
+      chosen : (x : Tree) (f : PlainForm) → x ≡ plain f → (ss : Trees) → written_for (part t 0) x ss ≡ if_alone (binary StrictEquality (part t 0) (plain f)) (block ss)
       chosen x f e ss =
-          ap (λ y. if is_absent_part y then block (expression_statement (part t 0) ▸ ss) else if_alone (binary StrictEquality (part t 0) y) (block ss)) e
-          ∙ ap (λ b. if b then block (expression_statement (part t 0) ▸ ss) else if_alone (binary StrictEquality (part t 0) (plain f)) (block ss)) (there f)
+          ap (λ y. written_for (part t 0) y ss) e
+          ∙ ap (λ b. if b then block (expression_statement (part t 0) ▸ enclosed ss) else if_alone (binary StrictEquality (part t 0) (plain f)) (block ss)) (there f)
 
   passes : (n w : Tree) → Row80Lexical V n w → inlines V n ≡ true
   passes n w r =

@@ -1,39 +1,25 @@
 -- 78 of a `do` that is run once, `remove_last_break`: `do { a(); break; } while (0);` becomes `do { a(); } while (0);`, and
 -- `do break; while (0);` becomes `do ; while (0);`.
-use Rattle.std.specs.Prelude.{ℕ, zero, suc, ℤ, pos, Bool, true, false, ◌&&◌, ◌||◌, List, [], Option, Some, None, if◌then◌else◌}
-use Rattle.mini_model.specs.declared.operator.UnaryOperator.{UnaryOperator}
-use Rattle.mini_model.specs.declared.operator.UnaryOperator.TheVariants.{Void, LogicalNot}
+use Rattle.std.specs.Prelude.{Bool, true, false, not, ◌&&◌, ◌||◌, Option, Some, None, if◌then◌else◌}
 use Rattle.mini_model.specs.declared.shape.Shape.{Shape}
 use Rattle.mini_model.specs.declared.shape.Shape.TheVariants as shape
 use Rattle.mini_model.specs.Tree.{Tree, empty_statement, shape_of, children}
 use Rattle.mini_node.specs.Children.{part, is_bare, like, with_child}
-use Rattle.mini_node.specs.Kinds.{number, string, is_null, unary_operator, is_absent_part, is_block}
+use Rattle.mini_node.specs.Kinds.{is_absent_part, is_block}
+use Rattle.mini_laws.specs.Value.{Value, truth}
+use Rattle.mini_terms.specs.Calculated.{operand_value}
 use Rattle.mini_rows.specs.Lists.{block}
 use Rattle.mini_logic.specs.LastContinue.{last_of, before_last}
 
--- ---- a value that is written out and is false
+-- ---- a test that gives a false value
 
-abbrev pub is_zero : Option ℤ → Bool
-is_zero (Some (pos zero)) = true
-is_zero _ = false
+abbrev pub is_false : Option Value → Bool
+is_false (Some v) = not (truth v)
+is_false None = false
 
-abbrev pub is_one : Option ℤ → Bool
-is_one (Some (pos (suc zero))) = true
-is_one _ = false
-
-abbrev pub is_empty_text : Option (List ℕ) → Bool
-is_empty_text (Some []) = true
-is_empty_text _ = false
-
--- `void 0` and `!1`
-abbrev pub fails_under : Option UnaryOperator → Option ℤ → Bool
-fails_under (Some Void) n = is_zero n
-fails_under (Some LogicalNot) n = is_one n
-fails_under _ n = false
-
--- `0`, `""`, `null`, `void 0` or `!1`
+-- and does nothing else
 abbrev pub fails : Tree → Bool
-fails t = is_zero (number t) || (is_empty_text (string t) || (is_null t || fails_under (unary_operator t) (number (part t 0))))
+fails t = is_false (operand_value t)
 
 -- ---- the end of the body
 
@@ -67,8 +53,11 @@ is_do_shape _ = false
 abbrev pub is_do : Tree → Bool
 is_do t = is_do_shape (shape_of t) && is_bare t 2
 
+abbrev pub is_broken : Tree → Bool
+is_broken t = is_do t && is_broken_end (part t 0)
+
 abbrev pub is_read : Tree → Bool
-is_read t = is_do t && (is_broken_end (part t 0) && fails (part t 1))
+is_read t = is_broken t && fails (part t 1)
 
 abbrev pub left_in : Tree → Tree
 left_in t = like t (with_child (children t) 0 (left_of (part t 0)))

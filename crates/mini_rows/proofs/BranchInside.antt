@@ -209,7 +209,7 @@ never_any : (x : Name) (ys : List Name) → clashes_any (record { spelling = x.s
 never_any x [] = refl
 never_any x (y ∷ ys) = never_any x ys
 
-hoisted_free : (ys xs : List Name) → clashing (own_declarations false [] ys) (own_declarations false [] xs) ≡ []
+pub hoisted_free : (ys xs : List Name) → clashing (own_declarations false [] ys) (own_declarations false [] xs) ≡ []
 hoisted_free ys [] = refl
 hoisted_free ys (x ∷ xs) =
     ap (λ b. if b then [] ∷ clashing (own_declarations false [] ys ++ own_declarations false [] (x ∷ [])) (own_declarations false [] xs) else clashing (own_declarations false [] ys ++ own_declarations false [] (x ∷ [])) (own_declarations false [] xs)) (never_any x ys)

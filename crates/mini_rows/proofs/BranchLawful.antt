@@ -37,7 +37,7 @@ use Rattle.mini_rows.specs.Sketches.{AbsentPart, Return, part, under, end, ◌�
 use Rattle.mini_rows.specs.Spellings.{IsUndefined, PlainForm, a_number, a_text, a_boolean, a_null, a_big_int, a_template, a_void, plain, binary}
 use Rattle.mini_rows.specs.Cases.{switch_case, one_case, ended, breaks_out, OneCaseRow}
 use Rattle.mini_rows.specs.Loops.{bare_break, is_test, Tested, test_of, is_tested, also, Leaving, leaves_by, goes_by, runs_on, is_loose, Leading, led}
-use Rattle.mini_rows.specs.DeadCases.{known, Choices, no_choices, choice, cases_of, before_others, left_all, left_cases, are_ended, running, DeadCaseRow}
+use Rattle.mini_rows.specs.DeadCases.{Choices, no_choices, choice, cases_of, before_others, left_all, left_cases, are_ended, running, DeadCaseRow}
 use Rattle.mini_rows.specs.Branches.{IsEmpty, IsIdleVoid, Row60, has_else, is_other_branch, as_consequent, Surrounding, Consequent, Alternate, WhileBody, DoBody, ForBody, InBody, OfBody, around, conjunct_seat, bare_continue, Row82Empty, after, with_not, without_not, Row82Ends, Row83, IfRow, BodyRow, BranchRow, BranchContracts}
 use Rattle.mini_rows.proofs.ArrangedLawful.{kept_is_lawful, kept_is_loose, fixed_is_lawful, kept_loosely}
 use Rattle.mini_rows.proofs.ArrangedStatements.{statements_arranged}
@@ -47,7 +47,7 @@ use Rattle.mini_rows.proofs.BodyEnds.{continue_idle, break_idle, emptied, shorte
 use Rattle.mini_rows.proofs.BranchEnds.{ending_written, ends_kept}
 use Rattle.mini_rows.proofs.BranchParts.{Value, core_then, said_then, value_itself, said_itself, value_not, said_not, empty_is_idle, turned_core, turned_said, chosen_core, chosen_said, tested_core, tested_said, nested_core, nested_said}
 use Rattle.mini_rows.proofs.BranchSame.{branches_same}
-use Rattle.mini_rows.proofs.CaseKept.{case_is_kept, case_says, default_is_kept, default_says}
+use Rattle.mini_rows.proofs.CaseKept.{case_is_kept, case_says, default_is_kept, default_says, scoped_is_kept, scoped_says}
 use Rattle.mini_rows.proofs.DeadCaseKept.{AllQuiet, CasesKept, kept_declared, over_core, over_fixed, left_case, taken_kept, none_kept}
 use Rattle.mini_rows.proofs.ListShapes.{left_fits}
 use Rattle.mini_rows.proofs.UnreachedNames.{names_named}
@@ -565,11 +565,25 @@ row_80_default d b ss u s = record {
   said = default_says d b ss s u;
 }
 
+row_80_scoped : (d : Tree) (b : Bool) (ss : Trees) → breaks_out (listed ss) ≡ false → Kind (one_case d absent (ended b ss)) (block (expression_statement d ▸ (block ss ▸ none)))
+row_80_scoped d b ss s = record {
+  read = refl;
+  before = refl;
+  after = refl;
+  fitting = λ strict e.
+      let (discriminant, test, body) = one_case_fits strict d absent (ended b ss) e in
+      let inner = both (fill strict (each statement) ss) true (fill_ended strict b ss body) refl in
+      both (fits strict statement (expression_statement d) && (fits strict statement (block ss) && true)) true (both (fits strict statement (expression_statement d)) (fits strict statement (block ss) && true) (both (fits strict expression d) true discriminant refl) (both (fits strict statement (block ss)) true inner refl)) refl;
+  core = λ strict e. scoped_is_kept d b ss s (expression_is_quiet strict d (one_case_fits strict d absent (ended b ss) e).0);
+  said = scoped_says d b ss s;
+}
+
 row_80 : (n w : Tree) → OneCaseRow n w → Kind n w
 row_80 n w (inl r) = kind_along n _ w _ r.shape r.written (row_80_case r.discriminant r.test r.is_ended r.statements r.stays)
-row_80 n w (inr r) = kind_along n _ w _ r.shape r.written (row_80_default r.discriminant r.is_ended r.statements r.unscoped r.stays)
+row_80 n w (inr (inl r)) = kind_along n _ w _ r.shape r.written (row_80_default r.discriminant r.is_ended r.statements r.unscoped r.stays)
+row_80 n w (inr (inr r)) = kind_along n _ w _ r.shape r.written (row_80_scoped r.discriminant r.is_ended r.statements r.stays)
 
--- a `switch` over a value that is written out: its cases
+-- a `switch` over a value that is known: its cases
 
 abbrev AllFit : Bool → Choices → Type 0
 AllFit strict no_choices = Unit {0}
@@ -651,7 +665,7 @@ kind_kept q n w k = core_kept q n w k.before k.after (λ strict s e. k.core stri
 stood_along : (n n' w w' : Tree) → n ≡ n' → w ≡ w' → Stood n' w' → Stood n w
 stood_along n n' w w' e f k = subst (λ x. Stood x w) (sym e) (subst (λ y. Stood n' y) (sym f) k)
 
--- of a `switch` over a value that is written out
+-- of a `switch` over a value that is known
 module _ (q : StmtSeat) (d : Tree) (cs ds : Choices) (k : CasesKept cs ds) (f : (strict : Bool) → AllFit strict cs → AllFit strict ds) where
   abbrev this : Tree
   this = switch d (listed (cases_of cs))
@@ -685,12 +699,12 @@ row_81 : (q : StmtSeat) (n w : Tree) → DeadCaseRow n w → Dead q n w
 row_81 q n w (inl r) =
     let cs = choice r.test r.statements r.after in
     dead_along q n _ w _ r.shape r.written
-    (dead_over q (known r.value) (before_others r.before cs) (left_case r.before r.test r.statements r.after) (taken_kept r.before r.test r.statements r.after r.loose r.dropped r.rest_dropped) (λ strict a.
+    (dead_over q r.discriminant (before_others r.before cs) (left_case r.before r.test r.statements r.after) (taken_kept r.before r.test r.statements r.after r.loose r.dropped r.rest_dropped) (λ strict a.
     let b = fit_later strict r.before cs a in
     ((b.0.0, fit_append strict (left_cases r.before) (running r.statements r.after) (fit_cases_left strict r.before (fit_earlier strict r.before cs a)) (fit_running strict r.statements r.after b.0.1 b.1)), tt)))
 row_81 q n w (inr r) =
     let cs = choice r.test r.statements r.after in
-    dead_along q n _ w _ r.shape r.written (dead_over q (known r.value) cs (choice r.test (left_cases cs) no_choices) (none_kept r.test r.statements r.after r.loose r.dropped) (λ strict a. ((a.0.0, fit_cases_left strict cs a), tt)))
+    dead_along q n _ w _ r.shape r.written (dead_over q r.discriminant cs (choice r.test (left_cases cs) no_choices) (none_kept r.test r.statements r.after r.loose r.dropped) (λ strict a. ((a.0.0, fit_cases_left strict cs a), tt)))
 
 -- where the test ends in a `!`
 ends_stood : (n w : Tree) → Row82Ends n w → Stood n w

@@ -32,7 +32,7 @@ use Rattle.mini_rows.proofs.DoOnce.{row_78_once, row_78_never}
 use Rattle.mini_rows.proofs.LoopTests.{row_84}
 use Rattle.mini_rows.proofs.BooleanMeaning.{then_same}
 use Rattle.mini_rows.proofs.CaseMeaning.{one_case_same}
-use Rattle.mini_rows.proofs.DeadCaseMeaning.{dead_case_same}
+use Rattle.mini_rows.proofs.DeadCaseMeaning.{dead_case_same, dead_case_reads}
 
 -- 60: `void a` means `void 0` where a has no effect
 
@@ -99,20 +99,24 @@ body_same n w (inr (inr (inl (inl r)))) = replaced n _ w _ r.shape r.written (ro
 body_same n w (inr (inr (inl (inr r)))) = replaced n _ w _ r.shape r.written (row_78_never r.test r.fails)
 body_same n w (inr (inr (inr r))) = replaced n _ w _ r.shape r.written (row_84 r.init r.update r.x r.test r.leading r.leaving (and_parts (is_there r.x) (not (may_leap r.x)) r.asked).0 r.tested r.unscoped r.loose)
 
-switch_same : (n w : Tree) → SwitchRow n w → SameStatement n w
-switch_same n w (inl r) = one_case_same n w r
-switch_same n w (inr r) = dead_case_same n w r
+switch_same : (q : StmtSeat) (n w : Tree) → SwitchRow n w → SameAt (Stmt q) n w
+switch_same q n w (inl r) = statement_same n w (one_case_same n w r) q
+switch_same q n w (inr r) = dead_case_same q n w r
+
+switch_reads : (n w : Tree) → SwitchRow n w → summary n ≡ summary w
+switch_reads n w (inl r) = (one_case_same n w r).read
+switch_reads n w (inr r) = dead_case_reads n w r
 
 row_same : (p : Position) (n w : Tree) → BranchRow p n w → SameAt p n w
 row_same (Stmt q) n w (inl (inl r)) = return_same q n w r
-row_same (Stmt q) n w (inl (inr r)) = statement_same n w (switch_same n w r) q
+row_same (Stmt q) n w (inl (inr r)) = switch_same q n w r
 row_same (Stmt q) n w (inr (inl r)) = statement_same n w (body_same n w r) q
 row_same (Stmt q) n w (inr (inr r)) = statement_same n w (if_same n w r) q
 row_same p n w r = absurd r
 
 row_reads : (p : Position) (n w : Tree) → BranchRow p n w → summary n ≡ summary w
 row_reads (Stmt q) n w (inl (inl r)) = ap summary r.shape ∙ sym (ap summary r.written)
-row_reads (Stmt q) n w (inl (inr r)) = (switch_same n w r).read
+row_reads (Stmt q) n w (inl (inr r)) = switch_reads n w r
 row_reads (Stmt q) n w (inr (inl r)) = (body_same n w r).read
 row_reads (Stmt q) n w (inr (inr r)) = (if_same n w r).read
 row_reads p n w r = absurd r

@@ -333,7 +333,8 @@ ends_outlined q n w (inr r) = outlined (Stmt q) n _ w _ r.shape r.written (recor
 
 switch_outlined : (q : StmtSeat) (n w : Tree) → SwitchRow n w → Outlined (Stmt q) n w
 switch_outlined q n w (inl (inl r)) = outlined (Stmt q) n _ w _ r.shape r.written (record { absent = refl; items = refl; is_zero = refl; chooses = inl (λ e. e) })
-switch_outlined q n w (inl (inr r)) = outlined (Stmt q) n _ w _ r.shape r.written (record { absent = refl; items = refl; is_zero = refl; chooses = inl (λ e. e) })
+switch_outlined q n w (inl (inr (inl r))) = outlined (Stmt q) n _ w _ r.shape r.written (record { absent = refl; items = refl; is_zero = refl; chooses = inl (λ e. e) })
+switch_outlined q n w (inl (inr (inr r))) = outlined (Stmt q) n _ w _ r.shape r.written (record { absent = refl; items = refl; is_zero = refl; chooses = inl (λ e. e) })
 switch_outlined q n w (inr (inl r)) = outlined (Stmt q) n _ w _ r.shape r.written (record { absent = refl; items = refl; is_zero = refl; chooses = inl (λ e. e) })
 switch_outlined q n w (inr (inr r)) = outlined (Stmt q) n _ w _ r.shape r.written (record { absent = refl; items = refl; is_zero = refl; chooses = inl (λ e. e) })
 

@@ -24,7 +24,7 @@ use Rattle.mini_laws.specs.Scopes.{use_of, scopes_by, at_or_empty, lexical_scope
 use Rattle.mini_laws.specs.Resolved.{Environment}
 use Rattle.mini_laws.specs.Scoped.{Scoped, AllScoped}
 use Rattle.mini_laws.specs.Symbols.{declared as declared_in, declared_from, symbols_in, times}
-use Rattle.mini_laws.specs.Early.{Path, in_body, scope_declarations, clashing, early_names, all_early_names, jump_of, label_in, turn_of, is_bad, is_bad_jump, turned, targets_of, early_jumps, all_early_jumps}
+use Rattle.mini_laws.specs.Early.{Path, own_declarations, in_body, scope_declarations, clashing, early_names, all_early_names, jump_of, label_in, turn_of, is_bad, is_bad_jump, turned, targets_of, early_jumps, all_early_jumps}
 use Rattle.mini_laws.proofs.Drops.{moved}
 use Rattle.mini_laws.specs.Value.{Variable, choose}
 use Rattle.mini_laws.specs.State.{Fixed, Writable, KeepsOld, Constant}
@@ -34,17 +34,17 @@ use Rattle.mini_kept.specs.AlikeBodies.{BodiesKept}
 use Rattle.mini_kept.specs.Carried.{numbers, all_numbers}
 use Rattle.mini_kept.specs.Declaring.{declared as declared_names, declared_all}
 use Rattle.mini_kept.specs.Frames.{frames, frames_from}
-use Rattle.mini_kept.specs.KeepsNames.{count_of}
+use Rattle.mini_kept.specs.KeepsNames.{count_of, unplaced}
 use Rattle.mini_kept.proofs.Anywhere.{once_anywhere, targets_anywhere}
 use Rattle.mini_kept.proofs.Below.{empty_both, both_empty}
 use Rattle.mini_kept.proofs.BodyLists.{kept_itself}
 use Rattle.mini_kept.proofs.Fixed.{of_children, of_if, of_statement, of_absent}
 use Rattle.mini_kept.proofs.Quiet.{IsQuiet, no_names}
-use Rattle.mini_kept.proofs.Unplaced.{as_body, all_as_body, body_same, free_same}
+use Rattle.mini_kept.proofs.Unplaced.{as_body, all_as_body, body_is, body_same, free_same}
 use Rattle.mini_rows.specs.Lists.{block, is_unscoped, are_unscoped}
 use Rattle.mini_rows.specs.Spellings.{PlainForm, a_number, a_text, a_boolean, a_null, a_big_int, a_template, a_void, plain, binary}
 use Rattle.mini_rows.specs.Cases.{switch_case, one_case, bare_break, ended, lets_out, is_bare, breaks_out, any_breaks_out}
-use Rattle.mini_rows.proofs.BranchInside.{quiet, no_lexical}
+use Rattle.mini_rows.proofs.BranchInside.{quiet, no_lexical, hoisted_free}
 use Rattle.mini_rows.proofs.BranchAround.{Core, Said}
 use Rattle.mini_rows.proofs.UnbrokenRuns.{or_first, or_second, and_then}
 
@@ -260,6 +260,13 @@ module _ {A : Type 0} where
   in_block : (ds xs : List A) → ((ds ++ []) ++ xs) ++ [] ≡ ds ++ xs
   in_block ds xs = append-nil ((ds ++ []) ++ xs) ∙ ap (λ r. r ++ xs) (append-nil ds)
 
+  -- `{ a; { .. } }`, with the names of the inner block
+  in_nested : (ds xs : List A) → ((ds ++ []) ++ ((xs ++ []) ++ [])) ++ [] ≡ ds ++ xs
+  in_nested ds xs = append-nil ((ds ++ []) ++ ((xs ++ []) ++ [])) ∙ (λ k. append-nil ds k ++ (append-nil (xs ++ []) ∙ append-nil xs) k)
+
+  in_nested_after : (ds ls xs : List A) → ((ds ++ []) ++ ((ls ++ (xs ++ [])) ++ [])) ++ [] ≡ ds ++ (ls ++ xs)
+  in_nested_after ds ls xs = append-nil ((ds ++ []) ++ ((ls ++ (xs ++ [])) ++ [])) ∙ (λ k. append-nil ds k ++ (append-nil (ls ++ (xs ++ [])) ∙ ap (λ r. ls ++ r) (append-nil xs)) k)
+
 or_alone : (d t x : Bool) → t ≡ false → (d || (((t || (x || false)) || false) || false)) ≡ (d || x)
 or_alone true t x e = refl
 or_alone false t true e = ap (λ b. (((b || true) || false) || false)) e
@@ -274,6 +281,15 @@ or_block : (d x : Bool) → (((d || false) || x) || false) ≡ (d || x)
 or_block true x = refl
 or_block false true = refl
 or_block false false = refl
+
+own_unplaced : (xs : List Name) → unplaced (own_declarations false [] xs) ≡ own_declarations false [] xs
+own_unplaced [] = refl
+own_unplaced (x ∷ xs) = ap (λ r. record { spelling = x.spelling; is_lexical = false; at = [] } ∷ r) (own_unplaced xs)
+
+or_nested : (d x : Bool) → (((d || false) || ((x || false) || false)) || false) ≡ (d || x)
+or_nested true x = refl
+or_nested false true = refl
+or_nested false false = refl
 
 strict_none : (f : Fixed) → stricter f Writable ≡ f
 strict_none Writable = refl
@@ -483,6 +499,134 @@ module _ (d t : Tree) (ts ss : Trees) (blank : Blank t) (k : Shorter ts ss) wher
   pub case_said : Said n w
   case_said = record { fixed = λ z. sym (w_fixed z); declared = λ z c. subst (λ xs. Contains xs z) w_declared c }
 
+  -- ---- `{ a; { .. } }`
+
+  abbrev y : Tree
+  y = block (expression_statement d ▸ (block ss ▸ none))
+
+  y_names : IsQuiet d → (o : Declared) → names_of o y ≡ names_of o n
+  unfolding names_of
+  y_names q declared.Bound = refl
+  y_names q declared.Lexical = refl
+  y_names q declared.Hoisted = append-nil ((hoists ++ []) ++ []) ∙ append-nil (hoists ++ []) ∙ append-nil hoists ∙ sym (n_hoisted q)
+
+  y_body : IsQuiet d → body_names y ≡ body_names n
+  unfolding body_names names_of
+  y_body q = y_names q declared.Hoisted
+
+  y_inner : has_inner y ≡ has_inner n
+  unfolding has_inner
+  y_inner = or_nested (has_inner d) (any_inner ss) ∙ sym n_inner
+
+  y_scope : lexical_scope (lexical_names (listed (expression_statement d ▸ (block ss ▸ none)))) ≡ []
+  unfolding names_of with_names
+  y_scope = refl
+
+  y_symbols : (u : Use) → declared_in u y ≡ declared_in Read d ++ (symbols_in scope ++ declared_in Read (listed ss))
+  unfolding declared_in scopes_by
+  y_symbols u =
+      ap (λ bs. symbols_in bs ++ (((declared_in Read d ++ []) ++ ((symbols_in (lexical_scope (lexical_names (listed ss))) ++ (declared_from (λ j. []) (λ j. Read) 0 ss ++ [])) ++ [])) ++ [])) y_scope
+      ∙ ap (λ bs. ((declared_in Read d ++ []) ++ ((symbols_in bs ++ (declared_from (λ j. []) (λ j. Read) 0 ss ++ [])) ++ [])) ++ []) block_scope
+      ∙ in_nested_after (declared_in Read d) (symbols_in scope) (declared_from (λ j. []) (λ j. Read) 0 ss)
+
+  y_scoped : (u : Use) (env : Environment) → Scoped u env n → Scoped u env y
+  unfolding Scoped scopes_by
+  y_scoped u env r =
+      let (first, second) = n_scoped u env r in
+      let same : ((env ++ []) ++ []) ++ [] ≡ env = append-nil ((env ++ []) ++ []) ∙ append-nil (env ++ []) ∙ append-nil env in (
+        tt,
+        subst (λ bs. AllScoped (at_or_empty (bs ∷ [])) (use_of shape.BlockStatement u) 0 env (listed (expression_statement d ▸ (block ss ▸ none)) ▸ none)) (sym y_scope)
+            ((
+              (
+                tt,
+                (
+                  (tt, (moved Read env (((env ++ []) ++ []) ++ []) d (sym same) first, tt)),
+                  (
+                    (tt, subst (λ bs. AllScoped (at_or_empty (bs ∷ [])) (use_of shape.BlockStatement Read) 0 (((env ++ []) ++ []) ++ []) (listed ss ▸ none)) (sym block_scope) ((tt, subst (λ v. AllScoped (λ j. []) (λ j. Read) 0 (v ++ scope) ss) (sym same) second), tt)),
+                    tt,
+                  ),
+                ),
+              ),
+              tt,
+            )),
+      )
+
+  -- only names of `var`s are declared in the outer one
+  y_declares : as_body false (listed (expression_statement d ▸ (block ss ▸ none))) ≡ own_declarations false [] hoists
+  unfolding names_of
+  y_declares = append-nil (own_declarations false [] (hoists ++ [])) ∙ ap (own_declarations false []) (append-nil hoists)
+
+  y_free : (p : Path) → clashing [] (in_body false p (listed (expression_statement d ▸ (block ss ▸ none)) ▸ none) 0) ≡ []
+  y_free p = free_same (own_declarations false [] hoists) (in_body false p (listed (expression_statement d ▸ (block ss ▸ none)) ▸ none) 0) (body_is false (p ++ 0 ∷ []) (listed (expression_statement d ▸ (block ss ▸ none))) ∙ y_declares ∙ sym (own_unplaced hoists)) (hoisted_free [] hoists)
+
+  y_once : (p : Path) → early_names p n ≡ [] → early_names p y ≡ []
+  unfolding early_names scope_declarations
+  y_once p e =
+      let (own, (first, second)) = n_once p e in
+      let at : Path = p ++ 0 ∷ [] in
+      let within : Path = (at ++ 1 ∷ []) ++ 0 ∷ [] in
+      both_empty (clashing [] (in_body false p (listed (expression_statement d ▸ (block ss ▸ none)) ▸ none) 0)) (((early_names ((at ++ 0 ∷ []) ++ 0 ∷ []) d ++ []) ++ ((clashing [] (in_body false (at ++ 1 ∷ []) (listed ss ▸ none) 0) ++ (all_early_names within 0 ss ++ [])) ++ [])) ++ [])
+      (y_free p)
+      (both_empty ((early_names ((at ++ 0 ∷ []) ++ 0 ∷ []) d ++ []) ++ ((clashing [] (in_body false (at ++ 1 ∷ []) (listed ss ▸ none) 0) ++ (all_early_names within 0 ss ++ [])) ++ [])) []
+      (both_empty (early_names ((at ++ 0 ∷ []) ++ 0 ∷ []) d ++ []) ((clashing [] (in_body false (at ++ 1 ∷ []) (listed ss ▸ none) 0) ++ (all_early_names within 0 ss ++ [])) ++ [])
+      (both_empty (early_names ((at ++ 0 ∷ []) ++ 0 ∷ []) d) [] (once_anywhere (p ++ 0 ∷ []) ((at ++ 0 ∷ []) ++ 0 ∷ []) d first) refl)
+      (both_empty (clashing [] (in_body false (at ++ 1 ∷ []) (listed ss ▸ none) 0) ++ (all_early_names within 0 ss ++ [])) []
+      (both_empty (clashing [] (in_body false (at ++ 1 ∷ []) (listed ss ▸ none) 0)) (all_early_names within 0 ss ++ [])
+      (free_same (in_body false p (d ▸ (cases ▸ none)) 1) (in_body false (at ++ 1 ∷ []) (listed ss ▸ none) 0) (body_same false within (p ++ 1 ∷ []) cases (listed ss) (sym cases_body)) own)
+      (both_empty (all_early_names within 0 ss) [] (once_anywhere (((p ++ 1 ∷ []) ++ 0 ∷ []) ++ 1 ∷ []) within (listed ss) second) refl))
+      refl))
+      refl)
+
+  y_targets : (a : Targets) (p : Path) → early_jumps a p n ≡ [] → early_jumps a p y ≡ []
+  unfolding early_jumps targets_of
+  y_targets a p e =
+      let (first, second) = n_targets a p e in
+      let at : Path = p ++ 0 ∷ [] in
+      let within : Path = (at ++ 1 ∷ []) ++ 0 ∷ [] in
+      both_empty ((early_jumps a ((at ++ 0 ∷ []) ++ 0 ∷ []) d ++ []) ++ ((all_early_jumps (λ j. a) within 0 ss ++ []) ++ [])) []
+      (both_empty (early_jumps a ((at ++ 0 ∷ []) ++ 0 ∷ []) d ++ []) ((all_early_jumps (λ j. a) within 0 ss ++ []) ++ [])
+      (both_empty (early_jumps a ((at ++ 0 ∷ []) ++ 0 ∷ []) d) [] (targets_anywhere a (p ++ 0 ∷ []) ((at ++ 0 ∷ []) ++ 0 ∷ []) d first) refl)
+      (both_empty (all_early_jumps (λ j. a) within 0 ss ++ []) [] (both_empty (all_early_jumps (λ j. a) within 0 ss) [] (targets_anywhere a (((p ++ 1 ∷ []) ++ 0 ∷ []) ++ 1 ∷ []) within (listed ss) second) refl) refl))
+      refl
+
+  y_numbers : numbers y ≡ numbers n
+  unfolding numbers
+  y_numbers = in_nested (numbers d) (all_numbers ss) ∙ sym n_numbers
+
+  y_bodies : (a : Around) → bodies a y ≡ bodies a n
+  y_bodies a = in_nested (bodies (quiet a) d) (bodies_from (λ j. quiet a) 0 ss) ∙ sym (n_bodies a)
+
+  y_frames : frames None y ≡ frames None n
+  y_frames = in_nested (frames None d) (frames_from (λ j. None) 0 ss) ∙ sym n_frames
+
+  y_declared : declared_names y ≡ declared_names n
+  y_declared = in_nested (declared_names d) (declared_all ss) ∙ sym n_declared
+
+  y_fixed : (z : Variable) → fixed_by y z ≡ fixed_by n z
+  y_fixed z =
+      of_children shape.BlockStatement [] 0 (listed (expression_statement d ▸ (block ss ▸ none)) ▸ none) z refl
+      ∙ strict_none (fixed_by (listed (expression_statement d ▸ (block ss ▸ none))) z)
+      ∙ of_children shape.Listed [] 0 (expression_statement d ▸ (block ss ▸ none)) z refl
+      ∙ (λ i. stricter (of_statement d z i) (stricter (of_children shape.BlockStatement [] 0 (listed ss ▸ none) z refl i) Writable))
+      ∙ (λ i. stricter (fixed_by d z) (stricter (stricter (of_children shape.Listed [] 0 ss z refl i) Writable) Writable))
+      ∙ ap (stricter (fixed_by d z)) (strict_none (stricter (fixed_by_any ss z) Writable) ∙ strict_none (fixed_by_any ss z))
+      ∙ sym (n_fixed z)
+
+  pub scoped_core : IsQuiet d → Core n y
+  scoped_core q = record {
+    kept = record { names = y_names q; body = y_body q; inner = y_inner; symbols = λ u x. omega (arith, ap (times x) (y_symbols u ∙ sym (n_symbols u))) };
+    scoped = y_scoped;
+    numbers = λ m. omega (arith, ap (count_of m) y_numbers);
+    once = y_once;
+    targets = y_targets;
+    loop = refl;
+    bodies = λ a. subst (BodiesKept (bodies a n)) (sym (y_bodies a)) (kept_itself (bodies a n));
+    frames = λ f c. subst (λ fs. Contains fs f) y_frames c;
+  }
+
+  pub scoped_said : Said n y
+  scoped_said = record { fixed = λ z. sym (y_fixed z); declared = λ z c. subst (λ xs. Contains xs z) y_declared c }
+
   module _ (left : all_names declared.Lexical ss ≡ []) where
     -- ---- `{ a; .. }`
 
@@ -643,3 +787,9 @@ module _ (d : Tree) (b : Bool) (ss : Trees) (s : breaks_out (listed ss) ≡ fals
 
   pub default_says : are_unscoped ss ≡ true → Said (one_case d absent (ended b ss)) (block (expression_statement d ▸ ss))
   default_says u = default_said d absent (ended b ss) ss blank_absent (shorter b ss s) (no_lexicals ss u)
+
+  pub scoped_is_kept : IsQuiet d → Core (one_case d absent (ended b ss)) (block (expression_statement d ▸ (block ss ▸ none)))
+  scoped_is_kept q = scoped_core d absent (ended b ss) ss blank_absent (shorter b ss s) q
+
+  pub scoped_says : Said (one_case d absent (ended b ss)) (block (expression_statement d ▸ (block ss ▸ none)))
+  scoped_says = scoped_said d absent (ended b ss) ss blank_absent (shorter b ss s)

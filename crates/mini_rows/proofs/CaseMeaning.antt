@@ -1,6 +1,7 @@
 -- What a `switch` of one case does, and what the rows write for it.
-use Rattle.std.proofs.Common.{◌≡◌, Bool, true, false, [], ◌++◌, Some, None, refl, sym, ap, ◌∙◌, inl, inr}
+use Rattle.std.proofs.Common.{◌≡◌, Bool, true, false, List, [], ◌++◌, Some, None, refl, sym, ap, ◌∙◌, inl, inr}
 use Rattle.std.proofs.lemmas.Bool.{and_parts}
+use Rattle.std.proofs.lemmas.List.{append-nil}
 use Rattle.std.specs.Prelude.{◌&&◌}
 use Rattle.mini_model.specs.declared.operator.BinaryOperator.TheVariants.{StrictEquality}
 use Rattle.mini_model.specs.declared.shape.Shape.TheVariants as shape
@@ -11,19 +12,20 @@ use Rattle.mini_laws.specs.Operators.{strictly_equal}
 use Rattle.mini_laws.specs.State.{State, Stop, Thrown, Returned, Broken, Continued, Short, Completion, ok, stop, halt, out, either, Environment}
 use Rattle.mini_laws.specs.Demand.{Val, Test, Unused, As, Stat, Cases, ACase, AskTest, AskBody, LabelSet}
 use Rattle.mini_laws.specs.Command.{Naming, Command, ret, kid, then, bind, run}
-use Rattle.mini_laws.specs.Naming.{summary, summaries, function_names, naming}
+use Rattle.mini_laws.specs.Naming.{summary, summaries, facts, lets_all, functions_all, function_facts, function_names, naming}
 use Rattle.mini_laws.specs.Lists.{is_case, or_default, enter_case}
-use Rattle.mini_laws.specs.Statements.{create_functions}
+use Rattle.mini_laws.specs.Statements.{create_functions, block_step}
 use Rattle.mini_laws.specs.Step.{step, means, meaning}
 use Rattle.mini_laws.specs.Truth.{told}
 use Rattle.mini_laws.proofs.Runs.{either_cong, either_assoc, either_eta, either_ok, either_stop}
 use Rattle.mini_laws.proofs.Stretching.{exec}
+use Rattle.mini_laws.proofs.Tailing.{finished, finish_none, creates_alone, closed, hidden, block_runs}
 use Rattle.mini_laws.proofs.Truth.{coherent}
 use Rattle.mini_rows.specs.Lists.{block, switch, is_unscoped, are_unscoped}
 use Rattle.mini_rows.specs.Spellings.{PlainForm, a_number, a_text, a_boolean, a_null, a_big_int, a_template, a_void, plain, binary}
-use Rattle.mini_rows.specs.Cases.{switch_case, one_case, bare_break, ended, breaks_out, Row80Case, Row80Default, OneCaseRow}
+use Rattle.mini_rows.specs.Cases.{switch_case, one_case, bare_break, ended, breaks_out, Row80Case, Row80Default, Row80Scoped, OneCaseRow}
 use Rattle.mini_rows.proofs.BranchMeaning.{SameStatement, equal_statement, replaced}
-use Rattle.mini_rows.proofs.ListHeads.{Nothing, nothing_by, leave, leave_nothing, leaving_nothing, unbroke, switch_names, no_kids, switch_rest, switch_is}
+use Rattle.mini_rows.proofs.ListHeads.{Nothing, nothing_by, leave, leaving, leave_nothing, leaving_nothing, unbroke, switch_names, no_kids, switch_rest, switch_is}
 use Rattle.mini_rows.proofs.ListStatements.{expression_is, if_is, absent_is, read_nothing, block_is}
 use Rattle.mini_rows.proofs.ListStretches.{ReadSame, exec_more, exec_one, exec_append, listed_is}
 use Rattle.mini_rows.proofs.UnbrokenRuns.{NotBroken, Unbroken, never_broken}
@@ -247,6 +249,102 @@ default_same n w r =
     replaced n _ w _ r.shape r.written
     (equal_statement _ _ (λ e ls s. default_means e r.discriminant (nothing_by r.discriminant r.value) r.statements r.is_ended r.unscoped r.stays ls s) refl)
 
+-- ---- 80 of `default` with lexical names: the scope of the cases is that of the block
+
+module _ (e : Environment) (ts : Trees) where
+  abbrev cases : Tree
+  cases = listed (switch_case absent ts ▸ none)
+
+  abbrev block_names : Naming
+  block_names = naming shape.BlockStatement (Stat None) [] 0 (summaries (listed ts ▸ none))
+
+  around : {A : Type 0} (xs : List A) → ([] ++ (xs ++ [])) ++ [] ≡ xs
+  around xs = append-nil (xs ++ []) ∙ append-nil xs
+
+  same_names : switch_names [] [] cases ≡ block_names
+  same_names = λ i. record { own = []; written = []; bound = []; number = 0; scope = (around (lets_all (summaries ts)) i ++ []) ++ function_names (around (functions_all (summaries ts)) i ++ []); functions = around (functions_all (summaries ts)) i ++ [] }
+
+  same_facts : function_facts (facts (cases ▸ none)) ≡ function_facts (facts (listed ts ▸ none))
+  same_facts = λ i. around (function_facts (facts ts)) i ++ []
+
+  abbrev creates : State → Completion (Unit {0})
+  creates z = run {q = λ i. Stat None} e block_names no_kids (create_functions true (function_facts (facts (listed ts ▸ none))) 0) (leave block_names z)
+
+  -- the functions are created, and the statements are run
+  abbrev runs : State → Completion (Unit {0})
+  runs z = leaving block_names (either (creates z) (λ u y. means e (listed ts) (Stat None) [] y) (λ x y. stop x y))
+
+  block_runs_so : (r : LabelSet) (z : State) → means e (block ts) (Stat None) r z ≡ runs z
+  unfolding means meaning step closed hidden
+  block_runs_so r z =
+      finished e block_names (λ i. Stat None) (λ i r z. meaning e (listed ts ▸ none) i (Stat None) r z) None (block_step None (facts (listed ts ▸ none))) z ∙ finish_none _
+      ∙ block_runs e block_names (meaning e (listed ts ▸ none)) None (facts (listed ts ▸ none)) z
+      ∙ ap (λ C. leaving block_names (either C (λ u y. means e (listed ts) (Stat None) [] y) (λ x y. stop x y))) (creates_alone e block_names (λ i. Stat None) (λ i. Stat None) (λ i. meaning e (listed ts ▸ none) i (Stat None)) no_kids true (function_facts (facts (listed ts ▸ none))) 0 (leave block_names z))
+
+  scoped_rest : (v : Value) (z : State) → switch_rest e [] [] [] cases v z ≡ leaving block_names (either (creates z) (λ u y. caught (means e cases Cases v y)) (λ x y. stop x y))
+  unfolding switch_rest
+  scoped_rest v z = λ i. leaving (same_names i) (either (run {q = λ j. Stat None} e (same_names i) no_kids (create_functions true (same_facts i) 0) (leave (same_names i) z)) (λ u y. caught (means e cases Cases v y)) (λ x y. stop x y))
+
+module _ (e : Environment) (d : Tree) (u : Nothing d) (ss : Trees) (b : Bool) (stays : breaks_out (listed ss) ≡ false) where
+  -- without its `break;` it declares the same
+  ended_names : block_names e (ended b ss) ≡ block_names e ss
+  ended_names = by b
+    where
+      longer_lets : (ts : Trees) → lets_all (summaries (append ts (bare_break ▸ none))) ≡ lets_all (summaries ts)
+      longer_lets none = refl
+      longer_lets (t ▸ ts) = ap (λ r. (summary t).lets ++ r) (longer_lets ts)
+
+      longer_functions : (ts : Trees) → functions_all (summaries (append ts (bare_break ▸ none))) ≡ functions_all (summaries ts)
+      longer_functions none = refl
+      longer_functions (t ▸ ts) = ap (λ r. (summary t).functions ++ r) (longer_functions ts)
+
+      by : (c : Bool) → block_names e (ended c ss) ≡ block_names e ss
+      by false = refl
+      by true = λ i. record { own = []; written = []; bound = []; number = 0; scope = (longer_lets ss i ++ []) ++ function_names (longer_functions ss i ++ []); functions = longer_functions ss i ++ [] }
+
+  ended_facts : function_facts (facts (listed (ended b ss) ▸ none)) ≡ function_facts (facts (listed ss ▸ none))
+  ended_facts = by b
+    where
+      longer : (ts : Trees) → function_facts (facts (append ts (bare_break ▸ none))) ≡ function_facts (facts ts)
+      longer none = refl
+      longer (t ▸ ts) = ap (λ r. (summary t).facts.functions ++ r) (longer ts)
+
+      by : (c : Bool) → function_facts (facts (listed (ended c ss) ▸ none)) ≡ function_facts (facts (listed ss ▸ none))
+      by false = refl
+      by true = ap (λ r. r ++ []) (longer ss)
+
+  ended_creates : (z : State) → creates e (ended b ss) z ≡ creates e ss z
+  ended_creates z = λ i. run {q = λ j. Stat None} e (ended_names i) no_kids (create_functions true (ended_facts i) 0) (leave (ended_names i) z)
+
+  case_runs : (v : Value) (z : State) → switch_rest e [] [] [] (cases e (ended b ss)) v z ≡ runs e ss z
+  case_runs v z =
+      scoped_rest e (ended b ss) v z
+      ∙ (λ i. leaving (ended_names i) (either (ended_creates z i) (λ u y. caught (means e (cases e (ended b ss)) Cases v y)) (λ x y. stop x y)))
+      ∙ ap (leaving (block_names e ss)) (either_cong (creates e ss z) _ _ _ _ (λ u y. ap caught (cases_choose e absent (ended b ss) v y ∙ chooses_default e absent (ended b ss) v y) ∙ body_ends e ss stays b y) (λ x y. refl))
+
+  scoped_means : (r : LabelSet) (s : State) → means e (one_case d absent (ended b ss)) (Stat None) r s ≡ means e (block (expression_statement d ▸ (block ss ▸ none))) (Stat None) r s
+  unfolding told
+  scoped_means r s =
+      switch_is e d (cases e (ended b ss)) r s
+      ∙ ap (λ l. either (means e d (As Val) tt s) (λ v z. switch_rest e l (summary d).functions (summary d).facts.functions (cases e (ended b ss)) v z) (λ x z. stop x z)) u.lets
+      ∙ ap (λ l. either (means e d (As Val) tt s) (λ v z. switch_rest e [] l (summary d).facts.functions (cases e (ended b ss)) v z) (λ x z. stop x z)) u.functions
+      ∙ ap (λ l. either (means e d (As Val) tt s) (λ v z. switch_rest e [] [] l (cases e (ended b ss)) v z) (λ x z. stop x z)) u.facts
+      ∙ either_cong (means e d (As Val) tt s) _ _ _ _ (λ v z. case_runs v z) (λ x z. refl)
+      ∙ sym (
+      block_is e (expression_statement d ▸ (block ss ▸ none)) (read_nothing (expression_statement d ▸ (block ss ▸ none)) refl) r s
+      ∙ listed_is e (expression_statement d ▸ (block ss ▸ none)) [] s
+      ∙ exec_more e (expression_statement d) (block ss ▸ none) s
+      ∙ ap (λ x. either x (λ u z. exec e (block ss ▸ none) None z) (λ x z. stop x z)) (expression_is e d [] s ∙ coherent d Unused e s)
+      ∙ either_assoc (means e d (As Val) tt s) _ _ _ _
+      ∙ either_cong (means e d (As Val) tt s) _ _ _ _ (λ v z. either_ok tt z _ _ ∙ exec_one e (block ss) z ∙ block_runs_so e ss [] z) (λ x z. either_stop x z _ _)
+      )
+
+scoped_same : (n w : Tree) → Row80Scoped n w → SameStatement n w
+scoped_same n w r =
+    replaced n _ w _ r.shape r.written
+    (equal_statement _ _ (λ e ls s. scoped_means e r.discriminant (nothing_by r.discriminant r.value) r.statements r.is_ended r.stays ls s) refl)
+
 pub one_case_same : (n w : Tree) → OneCaseRow n w → SameStatement n w
 one_case_same n w (inl r) = case_same n w r
-one_case_same n w (inr r) = default_same n w r
+one_case_same n w (inr (inl r)) = default_same n w r
+one_case_same n w (inr (inr r)) = scoped_same n w r

@@ -58,6 +58,15 @@ default_lighter q d b ss =
     let braces = braces_light q (first_chooses (outlines (listed (expression_statement d ▸ ss) ▸ none))) in
     omega (arith, expression, all, braces)
 
+scoped_lighter : (q : StmtSeat) (d : Tree) (b : Bool) (ss : Trees) → weight (Stmt q) (block (expression_statement d ▸ (block ss ▸ none))) < weight (Stmt q) (one_case d absent (ended b ss))
+scoped_lighter q d b ss =
+    let expression = moved statement_expression_seat whole_seat refl d in
+    let all = total_ended b ss in
+    let braces = braces_light q (first_chooses (outlines (listed (expression_statement d ▸ (block ss ▸ none)) ▸ none))) in
+    let inner = braces_light stmt_seat.List (first_chooses (outlines (listed ss ▸ none))) in
+    omega (arith, expression, all, braces, inner)
+
 pub one_case_lighter : (q : StmtSeat) (n w : Tree) → OneCaseRow n w → weight (Stmt q) w < weight (Stmt q) n
 one_case_lighter q n w (inl r) = omega (arith, case_lighter q r.discriminant r.test r.is_ended r.statements, ap (weight (Stmt q)) r.shape, ap (weight (Stmt q)) r.written)
-one_case_lighter q n w (inr r) = omega (arith, default_lighter q r.discriminant r.is_ended r.statements, ap (weight (Stmt q)) r.shape, ap (weight (Stmt q)) r.written)
+one_case_lighter q n w (inr (inl r)) = omega (arith, default_lighter q r.discriminant r.is_ended r.statements, ap (weight (Stmt q)) r.shape, ap (weight (Stmt q)) r.written)
+one_case_lighter q n w (inr (inr r)) = omega (arith, scoped_lighter q r.discriminant r.is_ended r.statements, ap (weight (Stmt q)) r.shape, ap (weight (Stmt q)) r.written)

@@ -14,7 +14,7 @@ use Rattle.mini_model.specs.Position.{whole_seat, item_position}
 use Rattle.mini_model.specs.Weight.{outline, outlines, commas_weight, weight, weights}
 use Rattle.mini_laws.specs.declared.names.Declared.TheVariants as declared
 use Rattle.mini_laws.specs.DeclaredNames.{names_of, all_names}
-use Rattle.mini_rows.specs.DeadCases.{Known, known, Choices, no_choices, choice, cases_of, before_others, switch_over, hoists_nothing, are_plain_declarators, is_plain_var, leaves_little, all_go, left_all, left_cases, test_goes, cases_go, are_ended, running, rest_goes, are_several, DeadCaseRow}
+use Rattle.mini_rows.specs.DeadCases.{Choices, no_choices, choice, cases_of, before_others, switch_over, hoists_nothing, are_plain_declarators, is_plain_var, leaves_little, all_go, left_all, left_cases, test_goes, cases_go, are_ended, running, rest_goes, are_several, DeadCaseRow}
 use Rattle.mini_rows.specs.Lists.{declaration, encloses, bare_declarators, declared_bare, left_behind, is_lighter_left}
 use Rattle.mini_rows.proofs.DeadCaseKept.{hoists_none}
 use Rattle.mini_rows.proofs.ListWeights.{total, list_is, total_append, capped_lighter}
@@ -36,7 +36,7 @@ heap_is : (n : ℕ) (cs : Choices) → weights (item_position Elsewhere n) (case
 heap_is n no_choices = refl
 heap_is n (choice t ss cs) = let rest = heap_is n cs in let own = list_is ss in omega (arith, rest, own)
 
-switch_is : (q : StmtSeat) (k : Known) (cs : Choices) → weight (Stmt q) (switch_over k cs) ≡ 20 + weight (Expr whole_seat) (known k) + heap cs
+switch_is : (q : StmtSeat) (k : Tree) (cs : Choices) → weight (Stmt q) (switch_over k cs) ≡ 20 + weight (Expr whole_seat) k + heap cs
 switch_is q k cs = let all = heap_is (count (cases_of cs)) cs in omega (arith, all)
 
 -- the cases before others
@@ -124,13 +124,13 @@ none_after : later no_choices ≡ 0
 unfolding later
 none_after = refl
 
-taken_lighter : (q : StmtSeat) (k : Known) (bs : Choices) (t : Tree) (ss : Trees) (cs : Choices) → are_several bs cs ≡ true → cases_go bs ≡ true → rest_goes ss cs ≡ true → weight (Stmt q) (switch_over k (choice t (append (left_cases bs) (running ss cs)) no_choices)) < weight (Stmt q) (switch_over k (before_others bs (choice t ss cs)))
+taken_lighter : (q : StmtSeat) (k : Tree) (bs : Choices) (t : Tree) (ss : Trees) (cs : Choices) → are_several bs cs ≡ true → cases_go bs ≡ true → rest_goes ss cs ≡ true → weight (Stmt q) (switch_over k (choice t (append (left_cases bs) (running ss cs)) no_choices)) < weight (Stmt q) (switch_over k (before_others bs (choice t ss cs)))
 taken_lighter q k bs t ss cs e g h =
     let n = switch_is q k (before_others bs (choice t ss cs)) in
     let w = switch_is q k (choice t (append (left_cases bs) (running ss cs)) no_choices) in
     omega (arith, n, w, heap_before bs (choice t ss cs), total_append (left_cases bs) (running ss cs), cases_fall bs g, runs_lighter ss cs h, some_later bs cs e)
 
-none_lighter : (q : StmtSeat) (k : Known) (t : Tree) (ss : Trees) (cs : Choices) → are_several no_choices cs ≡ true → cases_go (choice t ss cs) ≡ true → weight (Stmt q) (switch_over k (choice t (left_cases (choice t ss cs)) no_choices)) < weight (Stmt q) (switch_over k (choice t ss cs))
+none_lighter : (q : StmtSeat) (k : Tree) (t : Tree) (ss : Trees) (cs : Choices) → are_several no_choices cs ≡ true → cases_go (choice t ss cs) ≡ true → weight (Stmt q) (switch_over k (choice t (left_cases (choice t ss cs)) no_choices)) < weight (Stmt q) (switch_over k (choice t ss cs))
 none_lighter q k t ss cs e g =
     let n = switch_is q k (choice t ss cs) in
     let w = switch_is q k (choice t (left_cases (choice t ss cs)) no_choices) in
@@ -139,5 +139,5 @@ none_lighter q k t ss cs e g =
     omega (arith, n, w, total_append (left_all ss) (left_cases cs), all_fall ss own, cases_fall cs others, none_after, some_later no_choices cs e)
 
 pub dead_case_lighter : (q : StmtSeat) (n w : Tree) → DeadCaseRow n w → weight (Stmt q) w < weight (Stmt q) n
-dead_case_lighter q n w (inl r) = omega (arith, taken_lighter q r.value r.before r.test r.statements r.after r.several r.dropped r.rest_dropped, ap (weight (Stmt q)) r.shape, ap (weight (Stmt q)) r.written)
-dead_case_lighter q n w (inr r) = omega (arith, none_lighter q r.value r.test r.statements r.after r.several r.dropped, ap (weight (Stmt q)) r.shape, ap (weight (Stmt q)) r.written)
+dead_case_lighter q n w (inl r) = omega (arith, taken_lighter q r.discriminant r.before r.test r.statements r.after r.several r.dropped r.rest_dropped, ap (weight (Stmt q)) r.shape, ap (weight (Stmt q)) r.written)
+dead_case_lighter q n w (inr r) = omega (arith, none_lighter q r.discriminant r.test r.statements r.after r.several r.dropped, ap (weight (Stmt q)) r.shape, ap (weight (Stmt q)) r.written)

@@ -13,24 +13,22 @@ use Rattle.mini_laws.proofs.Breaking.{do_same}
 use Rattle.mini_laws.proofs.Tailing.{tail_same}
 use Rattle.mini_laws.proofs.Truth.{coherent}
 use Rattle.mini_rows.specs.Branches.{DoBody, around, IsFalse}
-use Rattle.mini_rows.specs.DeadCases.{known, value_of}
 use Rattle.mini_rows.specs.Lists.{block}
 use Rattle.mini_rows.specs.Loops.{bare_break}
 use Rattle.mini_rows.proofs.BranchLoops.{loop_same, row_79}
 use Rattle.mini_rows.proofs.BranchMeaning.{SameStatement, equal_statement, empty_does}
-use Rattle.mini_rows.proofs.DeadCaseMeaning.{known_means}
+use Rattle.mini_rows.proofs.ConstantRuns.{operand_done}
 
--- a value that is written out and is false fails as a test in each state
+-- a test that gives a false value in each state fails in each
 told_value : (v : Value) (s : State) → told Test (ok v s) ≡ ok (truth v) s
 unfolding told either
 told_value v s = refl
 
 gives_false : (e : Environment) (t : Tree) → IsFalse t → GivesFalse e t
 gives_false e t h s =
-    ap (λ u. means e u (As Test) tt s) h.is
-    ∙ coherent (known h.value) Test e s
-    ∙ ap (told Test) (known_means e h.value s)
-    ∙ told_value (value_of h.value) s
+    coherent t Test e s
+    ∙ ap (told Test) (operand_done e t h.value h.is s)
+    ∙ told_value h.value s
     ∙ ap (λ b. ok b s) h.fails
 
 appended : (a b : Trees) → append a b ≡ stretch.append a b

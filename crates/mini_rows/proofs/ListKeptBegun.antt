@@ -21,7 +21,7 @@ use Rattle.mini_laws.specs.DeclaredNames.{lexical_names, has_inner, any_inner, n
 use Rattle.mini_laws.specs.Scopes.{scopes_by, lexical_scope}
 use Rattle.mini_laws.specs.Resolved.{Environment}
 use Rattle.mini_laws.specs.Symbols.{declared as declared_in, symbols_in, times}
-use Rattle.mini_laws.specs.Early.{clashing, own_declarations}
+use Rattle.mini_laws.specs.Early.{clashing, own_declarations, declarations}
 use Rattle.mini_laws.proofs.Changes.{times_both}
 use Rattle.mini_laws.specs.Value.{Variable, VariableSet}
 use Rattle.mini_laws.specs.State.{Writable}
@@ -38,7 +38,7 @@ use Rattle.mini_kept.proofs.Bools.{left}
 use Rattle.mini_kept.proofs.Fixed.{of_children}
 use Rattle.mini_kept.proofs.Quiet.{no_names}
 use Rattle.mini_kept.proofs.Unplaced.{as_body}
-use Rattle.mini_rows.specs.Lists.{sequence, return_statement, throw_statement, of_parts, Return, Throw, If, Switch, For, resolved, declarator, assigned, Holder, Statement, Heading, Going, Declaring, holding, holds_well, begins_well, are_parts, declaration, Each, EachIn, EachOf, each_loop, Beginning, Alone, Init, Before, begun, begun_without, InList, Row70}
+use Rattle.mini_rows.specs.Lists.{sequence, return_statement, throw_statement, of_parts, Return, Throw, If, Switch, For, resolved, declarator, assigned, Holder, Statement, Heading, Going, Declaring, Looping, for_loop, holding, holds_well, begins_well, are_parts, declaration, Each, EachIn, EachOf, each_loop, Beginning, Alone, Init, Before, begun, begun_without, InList, Row70}
 use Rattle.mini_rows.specs.DeadCases.{known}
 use Rattle.mini_rows.specs.Lets.{Row70Let}
 use Rattle.mini_rows.specs.Arranged.{KeptAt}
@@ -76,6 +76,23 @@ record Spots (Q : Asked → Tree → Type 0) (P : Tree → Type 0) (H : Holder �
   seats : (s : Seat) (e d : Tree) → P e → P d → Opens Q (seated s) e d
   loops : (k : Each) (l w : Tree) → H (Going k l w) → (e d : Tree) → P e → P d → Opens Q (λ t. each_loop k l t w) e d
   firsts : (kind : VariableDeclarationKind) (id : Tree) (ds : Trees) (e d : Tree) → P e → P d → Opens Q (λ t. declaration kind (declarator id t ▸ ds)) e d
+  looped : (id : Tree) (ds : Trees) (u v w e d : Tree) → P e → P d → Opens Q (λ t. for_loop (declaration Var (declarator id t ▸ ds)) u v w) e d
+
+-- a declaration stands in the head of a `for` as an expression does
+through : (Q : Asked → Tree → Type 0) → ((t : Tree) → Q AsValue t → Q AsWholeItem t) → ((t : Tree) → Q AsWholeItem t → Q AsValue t) → (f g : Tree → Tree) (e d : Tree) → Opens Q g (f e) (f d) → Opens Q f e d → Opens Q (λ t. g (f t)) e d
+through Q as_item as_value f g e d o i = record {
+  Beside = i.Beside × o.Beside;
+  down = λ q.
+      let (x, r) = o.down q in
+      let (y, b) = i.down (as_item (f e) x) in
+      (y, (b, r));
+  up = λ q r. o.up (as_value (f d) (i.up q r.0)) r.1;
+}
+
+-- which declares no lexical name
+var_unlexical : (ds : Trees) → Unlexical (declaration Var ds)
+unfolding names_of declarations
+var_unlexical ds = record { names = refl; nowhere = λ p. refl }
 
 module _ (J : Leap → Type 0) (Q : Asked → Tree → Type 0) (l : Local J Q) where
   statement_opens : (e d : Tree) → Opens Q expression_statement e d
@@ -107,6 +124,7 @@ module _ (J : Leap → Type 0) (Q : Asked → Tree → Type 0) (l : Local J Q) w
   holder_opens P H k e d p q (Heading (For u v w)) n = k.seats (Loop u v w) e d p q
   holder_opens P H k e d p q (Going c l w) n = k.loops c l w n e d p q
   holder_opens P H k e d p q (Declaring kind x ds) n = k.firsts kind x ds e d p q
+  holder_opens P H k e d p q (Looping x ds u v w) n = k.looped x ds u v w e d p q
 
   module _ (P : Tree → Type 0) (H : Holder → Type 0) (k : Spots Q P H) where
     -- an assignment, and what is left without it
@@ -146,6 +164,7 @@ record Sums (m : Asked → Tree → ℕ) (P : Tree → Type 0) : Type 0 where
   seats : (s : Seat) → (c : ℕ) × ((e : Tree) → P e → m AsWholeItem (seated s e) ≡ m AsValue e + c)
   loops : (k : Each) (l w : Tree) → (c : ℕ) × ((e : Tree) → m AsWholeItem (each_loop k l e w) ≡ m AsValue e + c)
   firsts : (kind : VariableDeclarationKind) (id : Tree) (ds : Trees) → (c : ℕ) × ((e : Tree) → m AsWholeItem (declaration kind (declarator id e ▸ ds)) ≡ m AsValue e + c)
+  looped : (id : Tree) (ds : Trees) (u v w : Tree) → (c : ℕ) × ((e : Tree) → m AsWholeItem (for_loop (declaration Var (declarator id e ▸ ds)) u v w) ≡ m AsValue e + c)
 
 module _ (m : Asked → Tree → ℕ) (l : Summed m) (P : Tree → Type 0) (k : Sums m P) where
   held_sum : (h : Holder) → (c : ℕ) × ((e : Tree) → P e → m AsWholeItem (holding h e) ≡ m AsValue e + c)
@@ -157,6 +176,7 @@ module _ (m : Asked → Tree → ℕ) (l : Summed m) (P : Tree → Type 0) (k : 
   held_sum (Heading (For u v w)) = k.seats (Loop u v w)
   held_sum (Going c x w) = let (n, is) = k.loops c x w in (n, λ e p. is e)
   held_sum (Declaring kind x ds) = let (n, is) = k.firsts kind x ds in (n, λ e p. is e)
+  held_sum (Looping x ds u v w) = let (n, is) = k.looped x ds u v w in (n, λ e p. is e)
 
   begun_sum : m AsValue absent ≡ 0 → (b : Beginning) (a : Tree) → Needs P anything b a → m AsValue a + sum_all m AsWholeItem (begun_without b) ≤ m AsWholeItem (begun b a)
   unfolding Needs
@@ -332,36 +352,48 @@ Plainly h = Unit {0}
 abbrev Freely : (Asked → Tree → Type 0) → Type 1
 Freely Q = Spots Q (λ t. Unit {0}) anything
 
+abbrev declared_with : Tree → Trees → Tree → Tree
+declared_with id ds t = declaration Var (declarator id t ▸ ds)
+
 inner_spots : (b : Bool) → Freely (InnerIf b)
-inner_spots b = record { seats = λ s e d p q. inner_seat s e d b; loops = λ k l w n e d p q. spots.inner_loop k l w e d b; firsts = λ kind x ds e d p q. spots.inner_first kind x ds e d b }
+inner_spots b = record { seats = λ s e d p q. inner_seat s e d b; loops = λ k l w n e d p q. spots.inner_loop k l w e d b; firsts = λ kind x ds e d p q. spots.inner_first kind x ds e d b; looped = λ x ds u v w e d p q. through (InnerIf b) (λ t r. r) (λ t r. r) (declared_with x ds) (seated (Loop u v w)) e d (inner_seat (Loop u v w) (declared_with x ds e) (declared_with x ds d) b) (spots.inner_first Var x ds e d b) }
 
 fixed_spots : (z : Variable) (m : ℕ) → Freely (FixedBy z m)
-fixed_spots z m = record { seats = λ s e d p q. fixed_seat s e d z m; loops = λ k l w n e d p q. spots.fixed_loop k l w e d z m; firsts = λ kind x ds e d p q. spots.fixed_first kind x ds e d z m }
+fixed_spots z m = record { seats = λ s e d p q. fixed_seat s e d z m; loops = λ k l w n e d p q. spots.fixed_loop k l w e d z m; firsts = λ kind x ds e d p q. spots.fixed_first kind x ds e d z m; looped = λ x ds u v w e d p q. through (FixedBy z m) (λ t r. r) (λ t r. r) (declared_with x ds) (seated (Loop u v w)) e d (fixed_seat (Loop u v w) (declared_with x ds e) (declared_with x ds d) z m) (spots.fixed_first Var x ds e d z m) }
 
 declares_spots : (xs : List Name) → Freely (Declares xs)
-declares_spots xs = record { seats = λ s e d p q. declares_seat s e d xs; loops = λ k l w n e d p q. spots.declares_loop k l w e d xs; firsts = λ kind x ds e d p q. spots.declares_first kind x ds e d xs }
+declares_spots xs = record { seats = λ s e d p q. declares_seat s e d xs; loops = λ k l w n e d p q. spots.declares_loop k l w e d xs; firsts = λ kind x ds e d p q. spots.declares_first kind x ds e d xs; looped = λ x ds u v w e d p q. through (Declares xs) (λ t r. r) (λ t r. r) (declared_with x ds) (seated (Loop u v w)) e d (declares_seat (Loop u v w) (declared_with x ds e) (declared_with x ds d) xs) (spots.declares_first Var x ds e d xs) }
 
 frames_spots : (fs : List Frame) → Freely (HasFrames fs)
-frames_spots fs = record { seats = λ s e d p q. frames_seat s e d fs; loops = λ k l w n e d p q. spots.frames_loop k l w e d fs; firsts = λ kind x ds e d p q. spots.frames_first kind x ds e d fs }
+frames_spots fs = record { seats = λ s e d p q. frames_seat s e d fs; loops = λ k l w n e d p q. spots.frames_loop k l w e d fs; firsts = λ kind x ds e d p q. spots.frames_first kind x ds e d fs; looped = λ x ds u v w e d p q. through (HasFrames fs) (λ t r. r) (λ t r. r) (declared_with x ds) (seated (Loop u v w)) e d (frames_seat (Loop u v w) (declared_with x ds e) (declared_with x ds d) fs) (spots.frames_first Var x ds e d fs) }
 
 bodies_spots : (bs : List Body) (r : Around) → Freely (HasBodies bs r)
-bodies_spots bs r = record { seats = λ s e d p q. bodies_seat s e d bs r; loops = λ k l w n e d p q. spots.bodies_loop k l w e d bs r; firsts = λ kind x ds e d p q. spots.bodies_first kind x ds e d bs r }
+bodies_spots bs r = record { seats = λ s e d p q. bodies_seat s e d bs r; loops = λ k l w n e d p q. spots.bodies_loop k l w e d bs r; firsts = λ kind x ds e d p q. spots.bodies_first kind x ds e d bs r; looped = λ x ds u v w e d p q. through (HasBodies bs r) (λ t r. r) (λ t r. r) (declared_with x ds) (seated (Loop u v w)) e d (bodies_seat (Loop u v w) (declared_with x ds e) (declared_with x ds d) bs r) (spots.bodies_first Var x ds e d bs r) }
 
 targets_spots : (g : Targets) → Freely (Aimed g)
-targets_spots g = record { seats = λ s e d p q. targets_seat s e d g; loops = λ k l w n e d p q. spots.targets_loop k l w e d g; firsts = λ kind x ds e d p q. spots.targets_first kind x ds e d g }
+targets_spots g = record { seats = λ s e d p q. targets_seat s e d g; loops = λ k l w n e d p q. spots.targets_loop k l w e d g; firsts = λ kind x ds e d p q. spots.targets_first kind x ds e d g; looped = λ x ds u v w e d p q. through (Aimed g) (λ t r. r) (λ t r. r) (declared_with x ds) (seated (Loop u v w)) e d (targets_seat (Loop u v w) (declared_with x ds e) (declared_with x ds d) g) (spots.targets_first Var x ds e d g) }
 
 once_spots : Spots Once Unlexical anything
-once_spots = record { seats = once_seat; loops = λ k l w n e d p q. spots.once_loop k l w e d; firsts = λ kind x ds e d p q. spots.once_first kind x ds e d }
+once_spots = record { seats = once_seat; loops = λ k l w n e d p q. spots.once_loop k l w e d; firsts = λ kind x ds e d p q. spots.once_first kind x ds e d; looped = λ x ds u v w e d p q. through Once (λ t r. r) (λ t r. r) (declared_with x ds) (seated (Loop u v w)) e d (once_seat (Loop u v w) (declared_with x ds e) (declared_with x ds d) (var_unlexical (declarator x e ▸ ds)) (var_unlexical (declarator x d ▸ ds))) (spots.once_first Var x ds e d) }
 
 scoped_spots : (env : Environment) → Spots (ScopedAs Read env) Unlexical Plainly
 unfolding Plainly
-scoped_spots env = record { seats = λ s e d. scoped_seat s e d env; loops = λ k l w n e d p q. spots.scoped_loop k l w e d (left_scope l n) env; firsts = λ kind x ds e d p q. spots.scoped_first kind x ds e d env }
+scoped_spots env = record { seats = λ s e d. scoped_seat s e d env; loops = λ k l w n e d p q. spots.scoped_loop k l w e d (left_scope l n) env; firsts = λ kind x ds e d p q. spots.scoped_first kind x ds e d env; looped = λ x ds u v w e d p q. through (ScopedAs Read env) (λ t r. r) (λ t r. r) (declared_with x ds) (seated (Loop u v w)) e d (scoped_seat (Loop u v w) (declared_with x ds e) (declared_with x ds d) env (var_unlexical (declarator x e ▸ ds)) (var_unlexical (declarator x d ▸ ds))) (spots.scoped_first Var x ds e d env) }
+
+summed_through : (m : Asked → Tree → ℕ) (f g : Tree → Tree) (a : ℕ) → ((e : Tree) → m AsWholeItem (g (f e)) ≡ m AsWholeItem (f e) + a) → (b : ℕ) × ((e : Tree) → m AsWholeItem (f e) ≡ m AsValue e + b) → (c : ℕ) × ((e : Tree) → m AsWholeItem (g (f e)) ≡ m AsValue e + c)
+summed_through m f g a h (b, k) = (b + a, λ e. omega (arith, h e, k e))
+
+symbols_through : (o : Use) (y : Option SymbolId) (x : Tree) (ds : Trees) (u v w : Tree) → (c : ℕ) × ((e : Tree) → symbol_times o y AsWholeItem (for_loop (declared_with x ds e) u v w) ≡ symbol_times o y AsValue e + c)
+symbols_through o y x ds u v w =
+    let (a, h) = seat_symbols o y (Loop u v w) in
+    let (b, k) = spots.symbols_first Var x ds Read y in
+    (b + a, λ e. omega (arith, h (declared_with x ds e) (var_unlexical (declarator x e ▸ ds)), k e))
 
 number_sums : (n : ℕ) → Sums (number_times n) (λ t. Unit {0})
-number_sums n = record { seats = seat_numbers n; loops = λ k l w. spots.numbers_loop k l w n; firsts = λ kind x ds. spots.numbers_first kind x ds n }
+number_sums n = record { seats = seat_numbers n; loops = λ k l w. spots.numbers_loop k l w n; firsts = λ kind x ds. spots.numbers_first kind x ds n; looped = λ x ds u v w. summed_through (number_times n) (declared_with x ds) (seated (Loop u v w)) (seat_numbers n (Loop u v w)).0 (λ e. (seat_numbers n (Loop u v w)).1 (declared_with x ds e) tt) (spots.numbers_first Var x ds n) }
 
 symbol_sums : (u : Use) (x : Option SymbolId) → Sums (symbol_times u x) Unlexical
-symbol_sums u x = record { seats = seat_symbols u x; loops = λ k l w. spots.symbols_loop k l w u x; firsts = λ kind y ds. spots.symbols_first kind y ds u x }
+symbol_sums o y = record { seats = seat_symbols o y; loops = λ k l w. spots.symbols_loop k l w o y; firsts = λ kind x ds. spots.symbols_first kind x ds o y; looped = λ x ds u v w. symbols_through o y x ds u v w }
 
 -- ---- names
 
@@ -423,6 +455,21 @@ seat_same s e j p q =
       ports = λ m. seated_port m s j ∙ sym (seated_port m s e);
     }
 
+looped_hoists : (x : Tree) (ds : Trees) (u v w e j : Tree) → names_of declared.Hoisted (for_loop (declared_with x ds j) u v w) ≡ names_of declared.Hoisted (for_loop (declared_with x ds e) u v w)
+unfolding names_of
+looped_hoists x ds u v w e j = refl
+
+looped_same : (x : Tree) (ds : Trees) (u v w e j : Tree) → Names (for_loop (declared_with x ds e) u v w) (for_loop (declared_with x ds j) u v w)
+looped_same x ds u v w e j =
+    let s = Loop u v w in
+    let hoists = looped_hoists x ds u v w e j in
+    record {
+      names = λ d. seated_names d s (declared_with x ds e) (declared_with x ds j) hoists;
+      body = seated_body s (declared_with x ds j) ∙ hoists ∙ sym (seated_body s (declared_with x ds e));
+      as_body = λ o. seated_as_body o s (declared_with x ds j) ∙ ap (own_declarations false []) hoists ∙ sym (seated_as_body o s (declared_with x ds e));
+      ports = λ m. seated_port m s (declared_with x ds j) ∙ sym (seated_port m s (declared_with x ds e));
+    }
+
 held_same : (h : Holder) (e j : Tree) → is_value (shape_of e) ≡ true → is_value (shape_of j) ≡ true → Names (holding h e) (holding h j)
 held_same Statement e j p q = record { names = λ d. statement_names d j ∙ sym (statement_names d e); body = statement_body j ∙ sym (statement_body e); as_body = λ o. statement_as_body o j ∙ sym (statement_as_body o e); ports = λ m. refl }
 held_same (Heading Return) e j p q = return_same e j
@@ -432,6 +479,7 @@ held_same (Heading (Switch cases)) e j p q = seat_same (Choice cases) e j p q
 held_same (Heading (For u v w)) e j p q = seat_same (Loop u v w) e j p q
 held_same (Going k l w) e j p q = spots.same_loop k l w e j p q
 held_same (Declaring kind x ds) e j p q = spots.same_first kind x ds e j
+held_same (Looping x ds u v w) e j p q = looped_same x ds u v w e j
 
 -- the expression that is left is one
 LeftValue : Beginning → Type 0
@@ -548,6 +596,7 @@ module _ (kind : VariableDeclarationKind) (free : IsWritten kind) (ds : Trees) (
   left_calm (Before (Going EachIn l w) q qs) = ((refl, refl), tt)
   left_calm (Before (Going EachOf l w) q qs) = ((refl, refl), tt)
   left_calm (Before (Declaring k z cs) q qs) = ((refl, refl), tt)
+  left_calm (Before (Looping z cs u v w) q qs) = (seated_calm (Loop u v w) (declared_with z cs (of_parts q qs)), tt)
 
   stretched_one : ((strict : Bool) (k : Depth) → fill strict (each (one (a_statement k))) read ≡ true → LeftValue b) → Stretched read put
   stretched_one values = record {
@@ -581,6 +630,7 @@ held_sequence strict k (Going EachOf l w) ts f =
     let r = (and_parts (fits strict (one (a_loop_left false)) l) (fits strict (one an_expression) (sequence ts) && (fits strict (one (a_statement nested)) w && true)) f).1 in
     left (fits strict (one an_expression) (sequence ts)) (fits strict (one (a_statement nested)) w && true) r
 held_sequence strict k (Declaring kind x ds) ts f = shape_law.first_sequence strict k kind x ds ts f
+held_sequence strict k (Looping x ds u v w) ts f = shape_law.first_sequence strict k Var x ds ts (shape_law.looped_first strict k x ds (sequence ts) u v w f)
 
 -- the head of a loop declares no lexical name there
 held_plainly : (strict : Bool) (k : Depth) (h : Holder) (e : Tree) → holds_well h ≡ true → fits strict (one (a_statement k)) (holding h e) ≡ true → Plainly h
@@ -590,6 +640,7 @@ held_plainly strict k (Heading h) e p f = tt
 held_plainly strict k (Going EachIn l w) e p f = left_lexical strict true l p (left (fits strict (one (a_loop_left true)) l) (fits strict (one an_expression) e && (fits strict (one (a_statement nested)) w && true)) f)
 held_plainly strict k (Going EachOf l w) e p f = left_lexical strict false l p (left (fits strict (one (a_loop_left false)) l) (fits strict (one an_expression) e && (fits strict (one (a_statement nested)) w && true)) f)
 held_plainly strict k (Declaring kind x ds) e p f = tt
+held_plainly strict k (Looping x ds u v w) e p f = tt
 
 left_value : (strict : Bool) (k : Depth) (b : Beginning) (a : Tree) → begins_well b ≡ true → fits strict (one (a_statement k)) (begun b a) ≡ true → LeftValue b
 unfolding LeftValue

@@ -25,7 +25,7 @@ use Rattle.mini_laws.proofs.Truth.{coherent}
 use Rattle.mini_laws.proofs.Rows.{Equal, equal_same}
 use Rattle.mini_node.specs.Walks.{append_none}
 use Rattle.mini_rows.specs.Switches.{Switches}
-use Rattle.mini_rows.specs.Lists.{declares_nothing, is_one_part_shape, are_parts, of_parts, block, return_statement, throw_statement, switch, for_loop, for_in, declaration, or_void, Head, Return, Throw, If, Switch, For, with_head, Row66Empty, Row66Joined, Row67, Row67Absent, Row67In, Row68, Row68Free, Row68Init, Row73, Row73Bare, Row76, Row79, SequencesRow, LoopRow, JoinRow, StretchRow, InList, ListRow, Row74, NeighbourRow, Saying, AsStatement, AsReturn, AsThrow, says, Row77, Leap, Breaks, Continues, leap, Row77Leap, Row77Unreached, declared_bare, left_behind, is_unscoped, sequence, resolved, assigned, Statement, Heading, Beginning, Alone, Init, Before, begun, begun_without, begins_well, Row70, Each, EachIn, EachOf, Row69, is_plain_left, declarator, Going, Declaring, each_loop}
+use Rattle.mini_rows.specs.Lists.{declares_nothing, is_one_part_shape, are_parts, of_parts, block, return_statement, throw_statement, switch, for_loop, for_in, declaration, or_void, Head, Return, Throw, If, Switch, For, with_head, Row66Empty, Row66Joined, Row67, Row67Absent, Row67In, Row68, Row68Free, Row68Init, Row73, Row73Bare, Row76, Row79, SequencesRow, LoopRow, JoinRow, StretchRow, InList, ListRow, Row74, NeighbourRow, Saying, AsStatement, AsReturn, AsThrow, says, Row77, Leap, Breaks, Continues, leap, Row77Leap, Row77Unreached, declared_bare, left_behind, is_unscoped, sequence, resolved, assigned, Statement, Heading, Beginning, Alone, Init, Before, begun, begun_without, begins_well, Row70, Each, EachIn, EachOf, Row69, is_plain_left, declarator, Going, Declaring, Looping, each_loop}
 use Rattle.mini_rows.specs.ListLaws.{ListsMeanSame}
 use Rattle.mini_rows.proofs.ListStretches.{ReadSame, SameStretch, exec_one, exec_two, exec_more, listed_is, in_list, list_does, list_reads, replaced, read_in_list}
 use Rattle.mini_rows.proofs.ListParts.{joined_is}
@@ -382,6 +382,25 @@ module _ (kind : VariableDeclarationKind) (id : Tree) (ds : Trees) where
       (record { rest = declares_first; before = λ e s. first_is e (of_parts q qs) (parts_declare q qs h) s; after = λ e s. first_is e (sequence (p ▸ (q ▸ qs))) refl s })
       (record { lets = refl; functions = refl; facts = refl; texts = refl })
 
+-- and of a `var` in the head of a `for`
+module _ (id : Tree) (ds : Trees) (test update body : Tree) where
+  loops_on : Environment → Value → State → Completion (Unit {0})
+  loops_on e v s = either (declares_first Var id ds e v s) (λ u z. for_rest e test update body [] z) (λ y z. stop y z)
+
+  looped_is : (e : Environment) (b : Tree) → declares_nothing b ≡ true → (s : State) → means e (for_loop (declaration Var (declarator id b ▸ ds)) test update body) (Stat None) [] s ≡ either (means e b (As Val) tt s) (λ v z. loops_on e v z) (λ y z. stop y z)
+  unfolding loops_on
+  looped_is e b h s =
+      for_var_is e test update body (declarator id b ▸ ds) [] s
+      ∙ ap (λ c. either c (λ u z. for_rest e test update body [] z) (λ y z. stop y z)) (first_is Var id ds e b h s)
+      ∙ either_assoc (means e b (As Val) tt s) _ _ _ _
+      ∙ either_cong (means e b (As Val) tt s) _ _ _ _ (λ v z. refl) (λ y z. either_stop y z _ _)
+
+  into_looped : (p : Tree) (q : Tree) (qs : Trees) → are_parts q qs ≡ true → SameStretch (expression_statement p ▸ (for_loop (declaration Var (declarator id (of_parts q qs) ▸ ds)) test update body ▸ none)) (for_loop (declaration Var (declarator id (sequence (p ▸ (q ▸ qs))) ▸ ds)) test update body ▸ none)
+  into_looped p q qs h =
+      into_head p none q qs Val (λ d. for_loop (declaration Var (declarator id d ▸ ds)) test update body)
+      (record { rest = loops_on; before = λ e s. looped_is e (of_parts q qs) (parts_declare q qs h) s; after = λ e s. looped_is e (sequence (p ▸ (q ▸ qs))) refl s })
+      (record { lets = refl; functions = refl; facts = refl; texts = refl })
+
 pub begun_same : (b : Beginning) (x : Name) (value : Tree) → begins_well b ≡ true → SameStretch (expression_statement (assigned x value) ▸ begun_without b) (begun b (assigned x value) ▸ none)
 begun_same Alone x value h = record { by = λ e s. refl; read = record { lets = refl; functions = refl; facts = refl; texts = refl } }
 begun_same (Init u v w) x value h = init_alone (assigned x value) refl u v w
@@ -389,6 +408,7 @@ begun_same (Before Statement q qs) x value h = joined_twice (assigned x value) q
 begun_same (Before (Heading head) q qs) x value h = enters (assigned x value) none q qs head h
 begun_same (Before (Going k left body) q qs) x value h = into_each k left body (and_parts (is_plain_left left) (are_parts q qs) h).0 (assigned x value) q qs
 begun_same (Before (Declaring kind y ds) q qs) x value h = into_first kind y ds (assigned x value) q qs h
+begun_same (Before (Looping y ds u v w) q qs) x value h = into_looped y ds u v w (assigned x value) q qs h
 
 with_none : (ts : Trees) → append ts none ≡ ts
 with_none none = refl

@@ -18,7 +18,7 @@ use Rattle.mini_kept.proofs.Bools.{left, right, both}
 use Rattle.mini_kept.proofs.Expressions.{expression_taken, two_fit}
 use Rattle.mini_kept.proofs.Placed.{statements_slot}
 use Rattle.mini_rows.specs.Switches.{Switches}
-use Rattle.mini_rows.specs.Lists.{block, sequence, return_statement, throw_statement, switch, for_loop, declaration, or_void, void_zero, of_parts, is_one_part, are_parts, is_unscoped, are_unscoped, Head as ListHead, Return, Throw, If, Switch, For, with_head, for_in, SequencesRow, LoopRow, JoinRow, StretchRow, InList, NeighbourRow, says, leap, resolved, binding, declarator, assigned, declares_nothing, Statement, Heading, Beginning, Alone, Init, Before, begun, begun_without, begins_well, Each, EachIn, EachOf, each_loop, bare_var, bare_declarators, declared_bare, left_behind, Going, Declaring}
+use Rattle.mini_rows.specs.Lists.{block, sequence, return_statement, throw_statement, switch, for_loop, declaration, or_void, void_zero, of_parts, is_one_part, are_parts, is_unscoped, are_unscoped, Head as ListHead, Return, Throw, If, Switch, For, with_head, for_in, SequencesRow, LoopRow, JoinRow, StretchRow, InList, NeighbourRow, says, leap, resolved, binding, declarator, assigned, declares_nothing, Statement, Heading, Beginning, Alone, Init, Before, begun, begun_without, begins_well, Each, EachIn, EachOf, each_loop, bare_var, bare_declarators, declared_bare, left_behind, Going, Declaring, Looping}
 use Rattle.mini_rows.proofs.UnreachedNames.{AllNamed, names_named}
 
 abbrev pub expression : Slot
@@ -417,6 +417,21 @@ module _ (strict : Bool) where
       let all = more_fit (one a_declarator) (declarator id (of_parts q qs)) ds value others in
       (f, just d (declaration kind new) (declaration_anywhere strict d kind new ∙ both (nat_le 1 (count new)) (fill strict (each (one a_declarator)) new && true) some (both (fill strict (each (one a_declarator)) new) true all refl)))
 
+  -- and of a `var` in the head of a `for`
+  pub looped_first : (d : Depth) (id : Tree) (ds : Trees) (e u v w : Tree) → Fits (statement d) (for_loop (declaration Var (declarator id e ▸ ds)) u v w) → Fits (statement d) (declaration Var (declarator id e ▸ ds))
+  looped_first d id ds e u v w f =
+      let all = declarator id e ▸ ds in
+      declaration_anywhere strict d Var all ∙ sym (init_declares strict Var all) ∙ (and_parts (fits strict (one_or_absent an_init) (declaration Var all)) (loop_rest u v w) f).0
+
+  first_looped : (d : Depth) (id : Tree) (ds : Trees) (a q : Tree) (qs : Trees) (u v w : Tree) → are_parts q qs ≡ true → Fits (statement d) (for_loop (declaration Var (declarator id (sequence (a ▸ (q ▸ qs))) ▸ ds)) u v w) → Leaves a (for_loop (declaration Var (declarator id (of_parts q qs) ▸ ds)) u v w ▸ none) d
+  unfolding Leaves
+  first_looped d id ds a q qs u v w k f =
+      let new = declarator id (of_parts q qs) ▸ ds in
+      let old = declarator id (sequence (a ▸ (q ▸ qs))) ▸ ds in
+      let (x, y) = first_leaves Var id ds a q qs d k (looped_first d id ds (sequence (a ▸ (q ▸ qs))) u v w f) in
+      let head = init_declares strict Var new ∙ sym (declaration_anywhere strict d Var new) ∙ left (fits strict (statement d) (declaration Var new)) true y in
+      (x, just d (for_loop (declaration Var new) u v w) (both (fits strict (one_or_absent an_init) (declaration Var new)) (loop_rest u v w) head (and_parts (fits strict (one_or_absent an_init) (declaration Var old)) (loop_rest u v w) f).1))
+
   begun_leaves : (b : Beginning) (y : Name) (value : Tree) (d : Depth) → begins_well b ≡ true → Fits (statement d) (begun b (assigned y value)) → Leaves (assigned y value) (begun_without b) d
   unfolding Leaves
   begun_leaves Alone y value d k e = (of_expression d (assigned y value) e, refl)
@@ -429,6 +444,7 @@ module _ (strict : Bool) where
   begun_leaves (Before (Heading h) q qs) y value d k e = head_leaves h (assigned y value) q qs d k e
   begun_leaves (Before (Going c l w) q qs) y value d k e = each_leaves c l w (assigned y value) q qs d e
   begun_leaves (Before (Declaring kind x ds) q qs) y value d k e = first_leaves kind x ds (assigned y value) q qs d k e
+  begun_leaves (Before (Looping x ds u v w) q qs) y value d k e = first_looped d x ds (assigned y value) q qs u v w k e
 
   pub begun_fit : (kind : VariableDeclarationKind) (ds : Trees) (x y : Name) (es : Trees) (value : Tree) (b : Beginning) → declares_nothing value ≡ true → begins_well b ≡ true → Fitting (declaration kind (append ds (declarator (binding x) absent ▸ es)) ▸ (begun b (assigned y value) ▸ none)) (declaration kind (append ds (declarator (binding x) value ▸ es)) ▸ begun_without b)
   unfolding Leaves

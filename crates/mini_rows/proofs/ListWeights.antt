@@ -23,7 +23,7 @@ use Rattle.mini_laws.specs.Weights.{counts_items}
 use Rattle.mini_laws.proofs.Seats.{is_inner, placed, placed_node, moved}
 use Rattle.mini_node.specs.Walks.{append_none}
 use Rattle.mini_rows.specs.Switches.{Switches}
-use Rattle.mini_rows.specs.Lists.{of_parts, is_one_part_shape, declares_nothing, are_parts, sequence, or_void, return_statement, throw_statement, is_unscoped, Head, Return, Throw, If, Switch, For, with_head, Row66Empty, Row66Joined, Row67, Row67Absent, Row67In, Row68, Row68Free, Row68Init, Row73, Row73Bare, Row76, Row79, SequencesRow, LoopRow, JoinRow, StretchRow, InList, ListRow, ListsLighter, Row74, Row75, Row78, block, alternate_of, bare_return, AtEnd, EndRow, NeighbourRow, Saying, AsStatement, AsReturn, AsThrow, says, Row77, Leap, Breaks, Continues, leap, Row77Leap, left_behind, Row77Unreached, declaration, resolved, binding, declarator, assigned, Holder, Statement, Heading, holding, Beginning, Alone, Init, Before, begun, begun_without, Row70, Each, EachIn, EachOf, each_loop, bare_var, Row69, Going, Declaring}
+use Rattle.mini_rows.specs.Lists.{of_parts, is_one_part_shape, declares_nothing, are_parts, sequence, or_void, return_statement, throw_statement, is_unscoped, Head, Return, Throw, If, Switch, For, with_head, Row66Empty, Row66Joined, Row67, Row67Absent, Row67In, Row68, Row68Free, Row68Init, Row73, Row73Bare, Row76, Row79, SequencesRow, LoopRow, JoinRow, StretchRow, InList, ListRow, ListsLighter, Row74, Row75, Row78, block, alternate_of, bare_return, AtEnd, EndRow, NeighbourRow, Saying, AsStatement, AsReturn, AsThrow, says, Row77, Leap, Breaks, Continues, leap, Row77Leap, left_behind, Row77Unreached, declaration, resolved, binding, declarator, assigned, Holder, Statement, Heading, holding, Beginning, Alone, Init, Before, begun, begun_without, Row70, Each, EachIn, EachOf, each_loop, bare_var, Row69, Going, Declaring, Looping}
 use Rattle.mini_rows.specs.ListLaws.{ListsLighten}
 
 -- the statements of a list, wherever in it they stand
@@ -392,6 +392,10 @@ held_falls (Heading (For u v w)) p q qs = let falls = first_falls false true p q
 held_falls (Going EachIn left body) p q qs = let falls = first_falls false false p q qs in omega (arith, falls)
 held_falls (Going EachOf left body) p q qs = let falls = argument_falls p q qs in omega (arith, falls)
 held_falls (Declaring kind id ds) p q qs =
+    let falls = argument_falls p q qs in
+    let sign = parts_present q qs in
+    omega (arith, falls, sign, commas_there none (declarator id (of_parts q qs)) (declarator id (sequence (p ▸ (q ▸ qs)))) ds, comma_list (declarator id (of_parts q qs) ▸ ds), comma_list (declarator id (sequence (p ▸ (q ▸ qs))) ▸ ds))
+held_falls (Looping id ds u v w) p q qs =
     let falls = argument_falls p q qs in
     let sign = parts_present q qs in
     omega (arith, falls, sign, commas_there none (declarator id (of_parts q qs)) (declarator id (sequence (p ▸ (q ▸ qs)))) ds, comma_list (declarator id (of_parts q qs) ▸ ds), comma_list (declarator id (sequence (p ▸ (q ▸ qs))) ▸ ds))

@@ -1,6 +1,6 @@
 -- Rows of `if`, of blocks as branches and as bodies of loops, of a `switch`, and of `return` without a value: each is a shape and what is
 -- written in its place, with the JavaScript before and after.
-use Rattle.std.specs.Prelude.{◌≡◌, ◌⊎◌, ◌<◌, Bool, true, false, not, [], if◌then◌else◌}
+use Rattle.std.specs.Prelude.{◌≡◌, ◌⊎◌, ◌<◌, Bool, true, false, not, [], Some, if◌then◌else◌}
 use Rattle.mini_model.specs.declared.operator.LogicalOperator.TheVariants.{Or, And}
 use Rattle.mini_model.specs.declared.operator.UnaryOperator.TheVariants.{Void}
 use Rattle.mini_model.specs.declared.place.Position.{Position}
@@ -13,14 +13,15 @@ use Rattle.mini_model.specs.Tree.{Tree, Trees, node, none, ◌▸◌, shape_of, 
 use Rattle.mini_model.specs.Position.{if_test_seat, left_operand_seat, statement_expression_seat}
 use Rattle.mini_model.specs.Weight.{weight}
 use Rattle.mini_model.specs.Terms.{not_of, has_negated_result}
-use Rattle.mini_laws.specs.Value.{truth}
+use Rattle.mini_laws.specs.Value.{Value, truth}
+use Rattle.mini_terms.specs.Calculated.{operand_value}
 use Rattle.mini_terms.specs.Folds.{is_effect_free}
 use Rattle.mini_terms.specs.Parts.{leaves_nothing}
 use Rattle.mini_rows.specs.Lists.{block, return_statement, is_unscoped, sequence}
 use Rattle.mini_rows.specs.Loops.{bare_break, Row84}
 use Rattle.mini_rows.specs.Spellings.{IsUndefined}
 use Rattle.mini_rows.specs.Cases.{OneCaseRow}
-use Rattle.mini_rows.specs.DeadCases.{Known, known, value_of, DeadCaseRow}
+use Rattle.mini_rows.specs.DeadCases.{DeadCaseRow}
 
 -- ---- terms
 
@@ -135,11 +136,11 @@ pub record Row78Whole (n w : Tree) : Type 0 where
 
 -- ---- 78, of a `do` that is run once
 
--- a value that is written out and is false: `0`, `""`, `!1`, `null`, `void 0`
+-- a test that does nothing but give a value that is false: `0`, `""`, `!1`, `null`, `void 0`, the name `undefined`, which no scope declares
 pub record IsFalse (t : Tree) : Type 0 where
-  pub value : Known
-  pub fails : truth (value_of value) ≡ false
-  pub is : t ≡ known value
+  pub value : Value
+  pub fails : truth value ≡ false
+  pub is : operand_value t ≡ Some value
 
 -- `do { a(); break; } while (0);` becomes `do { a(); } while (0);`: behind its body the loop ends either way
 pub record Row78Once (n w : Tree) : Type 0 where
@@ -280,7 +281,7 @@ Row78Do n w = Row78Once n w ⊎ Row78Never n w
 abbrev pub BodyRow : Tree → Tree → Type 0
 BodyRow n w = Row79 n w ⊎ (Row78 n w ⊎ (Row78Do n w ⊎ Row84 n w))
 
--- of a `switch` of one case, and of one over a value that is written out
+-- of a `switch` of one case, and of one over a value that is known
 abbrev pub SwitchRow : Tree → Tree → Type 0
 SwitchRow n w = OneCaseRow n w ⊎ DeadCaseRow n w
 

@@ -86,7 +86,19 @@ pub record Row80Default (n w : Tree) : Type 0 where
   pub shape : n ≡ one_case discriminant absent (ended is_ended statements)
   pub written : w ≡ block (expression_statement discriminant ▸ statements)
 
+-- `switch (a) { default: let x = b(); c(x); break; }` becomes `{ a; { let x = b(); c(x); } }`: the discriminant is evaluated outside of the scope
+-- of the cases (ECMA-262, "The switch Statement"), so it stands outside of the block that has their names
+pub record Row80Scoped (n w : Tree) : Type 0 where
+  pub discriminant : Tree
+  pub statements : Trees
+  pub is_ended : Bool
+  pub value : declares_nothing discriminant ≡ true
+  pub scoped : are_unscoped statements ≡ false
+  pub stays : breaks_out (listed statements) ≡ false
+  pub shape : n ≡ one_case discriminant absent (ended is_ended statements)
+  pub written : w ≡ block (expression_statement discriminant ▸ (block statements ▸ none))
+
 -- ---- all
 
 abbrev pub OneCaseRow : Tree → Tree → Type 0
-OneCaseRow n w = Row80Case n w ⊎ Row80Default n w
+OneCaseRow n w = Row80Case n w ⊎ (Row80Default n w ⊎ Row80Scoped n w)

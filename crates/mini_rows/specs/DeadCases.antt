@@ -1,11 +1,13 @@
--- The rows of a `switch` over a value that is written out: of its cases one is left, which has the statements that run.
-use Rattle.std.specs.Prelude.{◌≡◌, ◌⊎◌, ◌&&◌, ◌||◌, not, ℤ, pos, ℕ, zero, Bool, true, false, List, [], ◌∷◌, if◌then◌else◌}
+-- The rows of a `switch` over a value that is known: of its cases one is left, which has the statements that run.
+use Rattle.std.specs.Prelude.{◌≡◌, ◌⊎◌, ◌&&◌, ◌||◌, not, ℤ, pos, ℕ, zero, Bool, true, false, List, [], ◌∷◌, Option, Some, None, if◌then◌else◌}
 use Rattle.mini_model.specs.declared.kind.VariableDeclarationKind.TheVariants.{Var}
 use Rattle.mini_model.specs.declared.shape.Shape.TheVariants as shape
 use Rattle.mini_model.specs.Paths.{append}
 use Rattle.mini_model.specs.Tree.{Tree, Trees, node, none, ◌▸◌, leaf, absent, listed, is_absent, negation}
-use Rattle.mini_laws.specs.Value.{Value, Undefined, Null, Boolean, Number, String}
+use Rattle.mini_laws.specs.Value.{Value, Undefined, Null, Boolean, Number, String, choose}
 use Rattle.mini_laws.specs.Operators.{strictly_equal}
+use Rattle.mini_terms.specs.Calculated.{free_value}
+use Rattle.mini_terms.specs.Folds.{is_effect_free}
 use Rattle.mini_rows.specs.Cases.{switch_case}
 use Rattle.mini_rows.specs.Lists.{switch, void_zero, is_var_shape, are_unscoped, declares_nothing, any, are_terminated, encloses, left_behind, is_lighter_left}
 use Rattle.mini_rows.specs.Loops.{is_body_shape}
@@ -35,9 +37,15 @@ value_of (a_truth b) = Boolean b
 value_of a_null = Null
 value_of undefined = Undefined
 
--- the second is the case of the first (ECMA-262, "CaseClauseIsSelected")
-abbrev pub selects : Known → Known → Bool
-selects k l = strictly_equal (value_of k) (value_of l)
+-- ---- values that are known
+
+-- what a discriminant gives where it gives a value, whatever it does besides: of `a(), 1 << 30` that is 1073741824
+abbrev pub asked : Tree → Option Value
+asked d = choose (declares_nothing d) (free_value d) None
+
+-- the value of a test without an effect, as `2`, `1 << 30`, `"a" + 1` and `void a`
+abbrev pub tested : Tree → Option Value
+tested t = choose (is_effect_free t) (asked t) None
 
 -- ---- cases
 
@@ -55,9 +63,9 @@ abbrev pub before_others : Choices → Choices → Choices
 before_others no_choices cs = cs
 before_others (choice test statements bs) cs = choice test statements (before_others bs cs)
 
--- `switch (2) { .. }`
-abbrev pub switch_over : Known → Choices → Tree
-switch_over k cs = switch (known k) (listed (cases_of cs))
+-- `switch (d) { .. }`
+abbrev pub switch_over : Tree → Choices → Tree
+switch_over d cs = switch d (listed (cases_of cs))
 
 -- nothing in them is a `let`, a `const`, a class or a function
 abbrev pub are_loose : Choices → Bool
@@ -133,36 +141,36 @@ rest_goes statements (choice test others cs) = if are_ended statements then case
 
 -- ---- which case is taken
 
--- a test that doesn't select its case
-pub record Missed (k : Known) (test : Tree) : Type 0 where
-  pub value : Known
-  pub is : test ≡ known value
-  pub other : selects k value ≡ false
+-- a test that doesn't select its case (ECMA-262, "CaseClauseIsSelected")
+pub record Missed (v : Value) (test : Tree) : Type 0 where
+  pub value : Value
+  pub is : tested test ≡ Some value
+  pub other : strictly_equal v value ≡ false
 
-abbrev pub AllMissed : Known → Choices → Type 0
-AllMissed k no_choices = Unit {0}
-AllMissed k (choice test statements cs) = Missed k test × AllMissed k cs
+abbrev pub AllMissed : Value → Choices → Type 0
+AllMissed v no_choices = Unit {0}
+AllMissed v (choice test statements cs) = Missed v test × AllMissed v cs
 
 -- and `default` among such cases
-abbrev pub AllPassed : Known → Choices → Type 0
-AllPassed k no_choices = Unit {0}
-AllPassed k (choice test statements cs) = (Missed k test ⊎ (test ≡ absent)) × AllPassed k cs
+abbrev pub AllPassed : Value → Choices → Type 0
+AllPassed v no_choices = Unit {0}
+AllPassed v (choice test statements cs) = (Missed v test ⊎ (test ≡ absent)) × AllPassed v cs
 
 -- the first case whose test is the value
-pub record Selected (k : Known) (before : Choices) (test : Tree) : Type 0 where
-  pub value : Known
-  pub is : test ≡ known value
-  pub equal : selects k value ≡ true
-  pub passed : AllPassed k before
+pub record Selected (v : Value) (before : Choices) (test : Tree) : Type 0 where
+  pub value : Value
+  pub is : tested test ≡ Some value
+  pub equal : strictly_equal v value ≡ true
+  pub passed : AllPassed v before
 
 -- and where there is none, `default`
-pub record Default (k : Known) (before : Choices) (test : Tree) (after : Choices) : Type 0 where
+pub record Default (v : Value) (before : Choices) (test : Tree) (after : Choices) : Type 0 where
   pub is : test ≡ absent
-  pub missed : AllMissed k before
-  pub missed_later : AllMissed k after
+  pub missed : AllMissed v before
+  pub missed_later : AllMissed v after
 
-abbrev pub Taken : Known → Choices → Tree → Choices → Type 0
-Taken k before test after = Selected k before test ⊎ Default k before test after
+abbrev pub Taken : Value → Choices → Tree → Choices → Type 0
+Taken v before test after = Selected v before test ⊎ Default v before test after
 
 -- there are others
 abbrev pub are_several : Choices → Choices → Bool
@@ -174,33 +182,38 @@ are_several before after = true
 -- `switch (2) { case 1: a(); case 2: b(); case 3: c(); break; case d: e(); }` becomes `switch (2) { case 2: b(); c(); break; }`, and
 -- `switch (2) { case 1: a(); default: b(); case 3: c(); }` becomes `switch (2) { default: b(); c(); }`. The names that a `var` declares in what
 -- goes are declared in the case that is left, before what runs or after it: `switch (2) { case 1: var x = a(); case 2: b(x); }` becomes
--- `switch (2) { case 2: var x; b(x); }`, and so of `for (var x of a) b();` and of `var { x } = a();`
+-- `switch (2) { case 2: var x; b(x); }`, and so of `for (var x of a) b();` and of `var { x } = a();`. `switch (a(), 1 << 30) { case 1 << 20: b(); case d: c(); }`
+-- stays, since d may be the value
 pub record Row81 (n w : Tree) : Type 0 where
-  pub value : Known
+  pub discriminant : Tree
+  pub value : Value
   pub before : Choices
   pub test : Tree
   pub statements : Trees
   pub after : Choices
+  pub asks : asked discriminant ≡ Some value
   pub taken : Taken value before test after
   pub several : are_several before after ≡ true
   pub loose : are_loose (before_others before (choice test statements after)) ≡ true
   pub dropped : cases_go before ≡ true
   pub rest_dropped : rest_goes statements after ≡ true
-  pub shape : n ≡ switch_over value (before_others before (choice test statements after))
-  pub written : w ≡ switch_over value (choice test (append (left_cases before) (running statements after)) no_choices)
+  pub shape : n ≡ switch_over discriminant (before_others before (choice test statements after))
+  pub written : w ≡ switch_over discriminant (choice test (append (left_cases before) (running statements after)) no_choices)
 
 -- `switch (2) { case 1: a(); case 3: var x = b(); }` becomes `switch (2) { case 1: var x; }`
 pub record Row81None (n w : Tree) : Type 0 where
-  pub value : Known
+  pub discriminant : Tree
+  pub value : Value
   pub test : Tree
   pub statements : Trees
   pub after : Choices
+  pub asks : asked discriminant ≡ Some value
   pub missed : AllMissed value (choice test statements after)
   pub several : are_several no_choices after ≡ true
   pub loose : are_loose (choice test statements after) ≡ true
   pub dropped : cases_go (choice test statements after) ≡ true
-  pub shape : n ≡ switch_over value (choice test statements after)
-  pub written : w ≡ switch_over value (choice test (left_cases (choice test statements after)) no_choices)
+  pub shape : n ≡ switch_over discriminant (choice test statements after)
+  pub written : w ≡ switch_over discriminant (choice test (left_cases (choice test statements after)) no_choices)
 
 abbrev pub DeadCaseRow : Tree → Tree → Type 0
 DeadCaseRow n w = Row81 n w ⊎ Row81None n w

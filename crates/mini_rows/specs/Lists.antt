@@ -577,18 +577,20 @@ each_loop EachIn left right body = for_in left right body
 each_loop EachOf left right body = node shape.ForOfStatement [] 0 (left ▸ (right ▸ (body ▸ none)))
 
 -- what holds an expression that is evaluated first: `e;`, a head, what a `for..in` or `for..of` goes over, or the first initializer of
--- a declaration
+-- a declaration, or of a `var` in the head of a `for`
 pub data Holder : Type 0 where
   Statement : Holder
   Heading : Head → Holder
   Going : Each → Tree → Tree → Holder
   Declaring : VariableDeclarationKind → Tree → Trees → Holder
+  Looping : Tree → Trees → Tree → Tree → Tree → Holder
 
 abbrev pub holding : Holder → Tree → Tree
 holding Statement e = expression_statement e
 holding (Heading h) e = with_head h e
 holding (Going k left body) e = each_loop k left e body
 holding (Declaring kind id ds) e = declaration kind (declarator id e ▸ ds)
+holding (Looping id ds test update body) e = for_loop (declaration Var (declarator id e ▸ ds)) test update body
 
 -- the head of a loop declares no lexical name, which would be uninitialised there
 abbrev pub holds_well : Holder → Bool
@@ -618,7 +620,8 @@ begins_well (Before h q qs) = holds_well h && are_parts q qs
 begins_well _ = true
 
 -- 70: `var a, c; a = b;` becomes `var a = b, c;`, `var a; return a = b, d;` becomes `var a = b; return d;`,
--- `var a; for (c of (a = b, d)) e` becomes `var a = b; for (c of d) e`, and `var a; let c = (a = b, d);` becomes `var a = b; let c = d;`
+-- `var a; for (c of (a = b, d)) e` becomes `var a = b; for (c of d) e`, `var a; let c = (a = b, d);` becomes `var a = b; let c = d;`,
+-- and `var a; for (var c = (a = b, d); e; f) g` becomes `var a = b; for (var c = d; e; f) g`
 pub record Row70 (a b : Trees) : Type 0 where
   pub ds : Trees
   pub spelling : List ℕ

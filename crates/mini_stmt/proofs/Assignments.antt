@@ -18,7 +18,7 @@ use Rattle.mini_node.specs.Lends.{with_children}
 use Rattle.mini_node.specs.Kinds.{is_absent_part, is_identifier, is_named_leaf, is_listed, is_sequence, is_expression_statement, same_symbol, same_names}
 use Rattle.mini_node.specs.Made.{listed_is, absent_is, sequence_is, expression_statement_is, identifier_is}
 use Rattle.mini_node.specs.Walks.{from_first, next_child, no_rest, append_one}
-use Rattle.mini_rows.specs.Lists.{of_parts, are_parts, sequence, for_loop, declaration, declares_nothing, resolved, binding, declarator, assigned, is_declarator_shape, is_bare_declarator, are_bare_declarators, Head, Return, Throw, If, Switch, For, with_head, Holder, Statement, Heading, Going, Declaring, holding, holds_well, is_plain_left, Beginning, Alone, Init, Before, begun, begun_without, begins_well, Row70, Each, EachIn, EachOf, each_loop, bare_var, Row69, EntersRow, InList}
+use Rattle.mini_rows.specs.Lists.{of_parts, are_parts, sequence, for_loop, declaration, declares_nothing, resolved, binding, declarator, assigned, is_declarator_shape, is_bare_declarator, are_bare_declarators, Head, Return, Throw, If, Switch, For, with_head, Holder, Statement, Heading, Going, Declaring, Looping, holding, holds_well, is_plain_left, Beginning, Alone, Init, Before, begun, begun_without, begins_well, Row70, Each, EachIn, EachOf, each_loop, bare_var, Row69, EntersRow, InList}
 use Rattle.mini_stmt.specs.JoinHeads.{is_for, is_for_in, has_head}
 use Rattle.mini_stmt.specs.JoinVars.{declared_kind, declares}
 use Rattle.mini_stmt.specs.JoinGuards.{last_after, JoinsOthers}
@@ -26,7 +26,7 @@ use Rattle.mini_rows.specs.Switches.{Switches}
 use Rattle.mini_stmt.specs.MinimizeStatements.{Changes, Moves, is_quiet, reversed, StretchRests, MinimizesList}
 use Rattle.mini_stmt.specs.MinimizeStatements as list
 use Rattle.mini_stmt.specs.JoinGuards as guards
-use Rattle.mini_stmt.specs.JoinAssignments.{is_led, goes_over, begins_with_one, is_kind, declares_first, holds, held, with_first, with_held, is_assign_shape, assigns_name, is_binding_shape, declares_bare, takes_name, TakesAt, leaves_parts, holds_sequence, holds_alone, beginning_of, assigns_first, may_enter, enters, EntersAt, other_parts, left_alone, left_of, with_value, Entered, is_for_of, takes_head, declares_one, heads, joins_var, heads_last, enters_first, are_entered, enters_last, EntersLast, PutEntered, AllEntered, Rests, JoinsAssignments}
+use Rattle.mini_stmt.specs.JoinAssignments.{is_led, goes_over, begins_with_one, is_kind, declares_first, loops_first, holds_plainly, held_plainly, with_plainly, holds, held, with_first, with_held, is_assign_shape, assigns_name, is_binding_shape, declares_bare, takes_name, TakesAt, leaves_parts, holds_sequence, holds_alone, beginning_of, assigns_first, may_enter, enters, EntersAt, other_parts, left_alone, left_of, with_value, Entered, is_for_of, takes_head, declares_one, heads, joins_var, heads_last, enters_first, are_entered, enters_last, EntersLast, PutEntered, AllEntered, Rests, JoinsAssignments}
 use Rattle.mini_stmt.proofs.Parts.{not_true, below}
 use Rattle.mini_stmt.proofs.Follows.{head_by, for_is, for_in_is, with_other, declared_is, declares_is}
 use Rattle.mini_stmt.proofs.Guards.{last_pushed, last_is, apart_rests, all_rest}
@@ -179,17 +179,17 @@ starts_by u h =
     of_kind (Some k) f j ts g e = of_list k f ts g e
     of_kind None f j ts g e = absurd (true≢false (sym j))
 
--- whichever holds an expression
-record Held (u : Tree) : Type 0 where
+-- whatever holds an expression, other than a `var` in the head of a `for`
+record HeldPlainly (u : Tree) : Type 0 where
   holder : Holder
   well : holds_well holder ≡ true
-  is : u ≡ holding holder (held u)
-  other : (e : Tree) → with_held u e ≡ holding holder e
+  is : u ≡ holding holder (held_plainly u)
+  other : (e : Tree) → with_plainly u e ≡ holding holder e
 
-held_by : (u : Tree) → holds u ≡ true → Held u
-held_by u h = by (is_led u) (goes_over u) (declares_first u) refl refl refl h
+plainly_by : (u : Tree) → holds_plainly u ≡ true → HeldPlainly u
+plainly_by u h = by (is_led u) (goes_over u) (declares_first u) refl refl refl h
   where
-    by : (a b c : Bool) → is_led u ≡ a → goes_over u ≡ b → declares_first u ≡ c → a || (b || c) ≡ true → Held u
+    by : (a b c : Bool) → is_led u ≡ a → goes_over u ≡ b → declares_first u ≡ c → a || (b || c) ≡ true → HeldPlainly u
     by true b c e f g h =
         let l = led_by u e in record {
           holder = l.holder;
@@ -219,6 +219,47 @@ held_by u h = by (is_led u) (goes_over u) (declares_first u) refl refl refl h
         }
     by false false false e f g h = absurd (true≢false (sym h))
 
+-- a `var` in the head of a `for`
+record Looped (u : Tree) : Type 0 where
+  id : Tree
+  others : Trees
+  is : u ≡ for_loop (declaration Var (declarator id (part (part (part (part u 0) 0) 0) 1) ▸ others)) (part u 1) (part u 2) (part u 3)
+
+looped_by : (u : Tree) → loops_first u ≡ true → Looped u
+looped_by u h =
+    let (loop, rest) = and_parts (is_for u) (declares Var (part u 0) && declares_first (part u 0)) h in
+    let (var, one) = and_parts (declares Var (part u 0)) (declares_first (part u 0)) rest in
+    let head = starts_by (part u 0) one in
+    let d = declarator head.id (part (part (part (part u 0) 0) 0) 1) in
+    let list : children (part (part u 0) 0) ≡ d ▸ head.others = ap (λ t. children (part t 0)) head.is in
+    record { id = head.id; others = head.others; is = for_is u loop ∙ ap (λ t. for_loop t (part u 1) (part u 2) (part u 3)) (declares_is Var (part u 0) var ∙ ap (declaration Var) list) }
+
+-- whichever holds an expression
+record Held (u : Tree) : Type 0 where
+  holder : Holder
+  well : holds_well holder ≡ true
+  is : u ≡ holding holder (held u)
+  other : (e : Tree) → with_held u e ≡ holding holder e
+
+held_by : (u : Tree) → holds u ≡ true → Held u
+held_by u h = by (loops_first u) refl h
+  where
+    by : (b : Bool) → loops_first u ≡ b → b || holds_plainly u ≡ true → Held u
+    by true e h =
+        let l = looped_by u e in record {
+          holder = Looping l.id l.others (part u 1) (part u 2) (part u 3);
+          well = refl;
+          is = l.is ∙ ap (λ t. for_loop (declaration Var (declarator l.id t ▸ l.others)) (part u 1) (part u 2) (part u 3)) (sym (ap (λ c. if c then part (part (part (part u 0) 0) 0) 1 else held_plainly u) e));
+          other = λ x. ap (λ c. if c then with_part u 0 (with_first (part u 0) x) else with_plainly u x) e ∙ ap (λ v. with_part v 0 (with_first (part v 0) x)) l.is;
+        }
+    by false e h =
+        let l = plainly_by u h in record {
+          holder = l.holder;
+          well = l.well;
+          is = l.is ∙ ap (holding l.holder) (sym (ap (λ c. if c then part (part (part (part u 0) 0) 0) 1 else held_plainly u) e));
+          other = λ x. ap (λ c. if c then with_part u 0 (with_first (part u 0) x) else with_plainly u x) e ∙ l.other x;
+        }
+
 -- what the calls are given
 pub kind_there : (t : Tree) (o : Option VariableDeclarationKind) → o ≡ declared_kind t → is_there o ≡ true → 0 < count (children t)
 kind_there t (Some k) e f = let is = ap (λ x. count (children x)) (declared_is t k (sym e)) in omega (arith, is)
@@ -232,21 +273,27 @@ several_parts (a ▸ (q ▸ qs)) e = omega arith
 sequence_held : (u : Tree) → holds_sequence u ≡ true → 1 < count (children (part (held u) 0))
 sequence_held u e = several_parts (children (part (held u) 0)) (and_parts (is_sequence (held u)) (leaves_parts (children (part (held u) 0))) (and_parts (holds u) (is_sequence (held u) && leaves_parts (children (part (held u) 0))) e).1).1
 
-pub led_parts : (u : Tree) → holds_sequence u ≡ true → is_led u ≡ true → 1 < count (children (part (part u 0) 0))
-led_parts u e l = subst (λ t. 1 < count (children (part t 0))) (ap (λ c. if c then part u 0 else (if goes_over u then part u 1 else (if declares_first u then part (part (part u 0) 0) 1 else u))) l) (sequence_held u e)
+pub looped_parts : (u : Tree) → holds_sequence u ≡ true → loops_first u ≡ true → 1 < count (children (part (part (part (part (part u 0) 0) 0) 1) 0))
+looped_parts u e l = subst (λ t. 1 < count (children (part t 0))) (ap (λ c. if c then part (part (part (part u 0) 0) 0) 1 else held_plainly u) l) (sequence_held u e)
+
+plain_is : (u : Tree) → loops_first u ≡ false → held u ≡ held_plainly u
+plain_is u n = ap (λ c. if c then part (part (part (part u 0) 0) 0) 1 else held_plainly u) n
+
+pub led_parts : (u : Tree) → holds_sequence u ≡ true → loops_first u ≡ false → is_led u ≡ true → 1 < count (children (part (part u 0) 0))
+led_parts u e n l = subst (λ t. 1 < count (children (part t 0))) (plain_is u n ∙ ap (λ c. if c then part u 0 else (if goes_over u then part u 1 else (if declares_first u then part (part (part u 0) 0) 1 else u))) l) (sequence_held u e)
 
 pub record FirstHeld (u : Tree) : Type 0 where
   pub some : 0 < count (children u)
   pub declarator : 1 < count (children (part (part u 0) 0))
   pub parts : 1 < count (children (part (part (part (part u 0) 0) 1) 0))
 
-pub first_held : (u : Tree) → holds_sequence u ≡ true → is_led u ≡ false → goes_over u ≡ false → FirstHeld u
-first_held u e l g =
+pub first_held : (u : Tree) → holds_sequence u ≡ true → loops_first u ≡ false → is_led u ≡ false → goes_over u ≡ false → FirstHeld u
+first_held u e n l g =
     let there = (and_parts (holds u) (is_sequence (held u) && leaves_parts (children (part (held u) 0))) e).0 in
-    let starts = sym (ap (λ b. b || (goes_over u || declares_first u)) l ∙ ap (λ b. b || declares_first u) g) ∙ there in
+    let starts = sym (ap (λ b. b || holds_plainly u) n ∙ ap (λ b. b || (goes_over u || declares_first u)) l ∙ ap (λ b. b || declares_first u) g) ∙ there in
     let is = (starts_by u starts).is in
     let here : held u ≡ part (part (part u 0) 0) 1 =
-    ap (λ c. if c then part u 0 else (if goes_over u then part u 1 else (if declares_first u then part (part (part u 0) 0) 1 else u))) l ∙ ap (λ c. if c then part u 1 else (if declares_first u then part (part (part u 0) 0) 1 else u)) g
+    plain_is u n ∙ ap (λ c. if c then part u 0 else (if goes_over u then part u 1 else (if declares_first u then part (part (part u 0) 0) 1 else u))) l ∙ ap (λ c. if c then part u 1 else (if declares_first u then part (part (part u 0) 0) 1 else u)) g
     ∙ ap (λ c. if c then part (part (part u 0) 0) 1 else u) starts in
     let children_is = ap (λ t. count (children t)) is in
     let declarator_is = ap (λ t. count (children (part (part t 0) 0))) is in
@@ -373,28 +420,72 @@ head_first (If u v) e = refl
 head_first (Switch cases) e = refl
 head_first (For u v w) e = refl
 
-holder_has : (h : Holder) (e : Tree) → holds_well h ≡ true → holds (holding h e) ≡ true
-holder_has Statement e w = refl
-holder_has (Heading h) e w = let u = with_head h e in ap (λ b. (is_expression_statement u || b) || (goes_over u || declares_first u)) (head_has h e) ∙ ap (λ b. b || (goes_over u || declares_first u)) (or_true (is_expression_statement u))
-holder_has (Going EachIn l x) e w = ap (λ b. b || declares_first (each_loop EachIn l e x)) w
-holder_has (Going EachOf l x) e w = ap (λ b. b || declares_first (each_loop EachOf l e x)) w
-holder_has (Declaring k x ds) e w = refl
+-- an expression of parts is no `var`
+holder_plain : (h : Holder) (ts : Trees) → loops_first (holding h (sequence ts)) ≡ false → holds_well h ≡ true → (holds_plainly (holding h (sequence ts)) ≡ true) × (held_plainly (holding h (sequence ts)) ≡ sequence ts)
+holder_plain Statement ts n w = (refl, refl)
+holder_plain (Heading h) ts n w =
+    let e = sequence ts in
+    let u = with_head h e in (
+      ap (λ b. (is_expression_statement u || b) || (goes_over u || declares_first u)) (head_has h e) ∙ ap (λ b. b || (goes_over u || declares_first u)) (or_true (is_expression_statement u)),
+      ap (λ b. if is_expression_statement u || b then part u 0 else (if goes_over u then part u 1 else (if declares_first u then part (part (part u 0) 0) 1 else u))) (head_has h e)
+          ∙ ap (λ b. if b then part u 0 else (if goes_over u then part u 1 else (if declares_first u then part (part (part u 0) 0) 1 else u))) (or_true (is_expression_statement u)) ∙ head_first h e,
+    )
+holder_plain (Going EachIn l x) ts n w =
+    let e = sequence ts in
+    let u = each_loop EachIn l e x in
+    (ap (λ b. b || declares_first u) w, ap (λ b. if b then e else (if declares_first u then part (part (part u 0) 0) 1 else u)) w)
+holder_plain (Going EachOf l x) ts n w =
+    let e = sequence ts in
+    let u = each_loop EachOf l e x in
+    (ap (λ b. b || declares_first u) w, ap (λ b. if b then e else (if declares_first u then part (part (part u 0) 0) 1 else u)) w)
+holder_plain (Declaring k x ds) ts n w = (refl, refl)
+holder_plain (Looping x ds u v b) ts n w = absurd (true≢false n)
 
-holder_first : (h : Holder) (e : Tree) → holds_well h ≡ true → held (holding h e) ≡ e
-holder_first Statement e w = refl
-holder_first (Heading h) e w =
-    let u = with_head h e in
-    ap (λ b. if is_expression_statement u || b then part u 0 else (if goes_over u then part u 1 else (if declares_first u then part (part (part u 0) 0) 1 else u))) (head_has h e)
-    ∙ ap (λ b. if b then part u 0 else (if goes_over u then part u 1 else (if declares_first u then part (part (part u 0) 0) 1 else u))) (or_true (is_expression_statement u)) ∙ head_first h e
-holder_first (Going EachIn l x) e w = let u = each_loop EachIn l e x in ap (λ b. if b then e else (if declares_first u then part (part (part u 0) 0) 1 else u)) w
-holder_first (Going EachOf l x) e w = let u = each_loop EachOf l e x in ap (λ b. if b then e else (if declares_first u then part (part (part u 0) 0) 1 else u)) w
-holder_first (Declaring k x ds) e w = refl
+-- whether it is a `for` whose head is a `var`
+is_looping : Holder → Bool
+is_looping (Looping x ds u v w) = true
+is_looping h = false
+
+holder_loops : (h : Holder) (ts : Trees) → loops_first (holding h (sequence ts)) ≡ is_looping h
+unfolding is_looping
+holder_loops Statement ts = refl
+holder_loops (Heading Return) ts = refl
+holder_loops (Heading Throw) ts = refl
+holder_loops (Heading (If u v)) ts = refl
+holder_loops (Heading (Switch cases)) ts = refl
+holder_loops (Heading (For u v w)) ts = refl
+holder_loops (Going EachIn l w) ts = refl
+holder_loops (Going EachOf l w) ts = refl
+holder_loops (Declaring kind x ds) ts = refl
+holder_loops (Looping x ds u v w) ts = refl
+
+-- it holds the sequence
+record Holding (u e : Tree) : Type 0 where
+  there : holds u ≡ true
+  same : held u ≡ e
+
+holder_holds : (h : Holder) (ts : Trees) → holds_well h ≡ true → Holding (holding h (sequence ts)) (sequence ts)
+unfolding is_looping
+holder_holds h ts k = by (is_looping h) refl
+  where
+    looped : (h : Holder) → is_looping h ≡ true → Holding (holding h (sequence ts)) (sequence ts)
+    looped (Looping x ds u v w) e = record { there = refl; same = refl }
+    looped h e = absurd (true≢false (sym e))
+
+    by : (b : Bool) → is_looping h ≡ b → Holding (holding h (sequence ts)) (sequence ts)
+    by true e = looped h e
+    by false e =
+        let u = holding h (sequence ts) in
+        let none = holder_loops h ts ∙ e in
+        let (there, same) = holder_plain h ts none k in
+        record { there = ap (λ b. b || holds_plainly u) none ∙ there; same = ap (λ c. if c then part (part (part (part u 0) 0) 0) 1 else held_plainly u) none ∙ same }
 
 holds_tells : (h : Holder) (a q : Tree) (qs : Trees) → holds_well h ≡ true → are_parts q qs ≡ true → holds_sequence (holding h (sequence (a ▸ (q ▸ qs)))) ≡ true
 holds_tells h a q qs w k =
     let e = sequence (a ▸ (q ▸ qs)) in
-    ap (λ b. b && (is_sequence (held (holding h e)) && leaves_parts (children (part (held (holding h e)) 0)))) (holder_has h e w)
-    ∙ ap (λ x. is_sequence x && leaves_parts (children (part x 0))) (holder_first h e w) ∙ k
+    let found = holder_holds h (a ▸ (q ▸ qs)) w in
+    ap (λ b. b && (is_sequence (held (holding h e)) && leaves_parts (children (part (held (holding h e)) 0)))) found.there
+    ∙ ap (λ x. is_sequence x && leaves_parts (children (part x 0))) found.same ∙ k
 
 -- it is told, and so is what it begins with
 pub record Told (b : Beginning) (a : Tree) : Type 0 where
@@ -410,7 +501,7 @@ told_by (Before h q qs) x value k =
     let told = holds_tells h (assigned x value) q qs well parts in
     record {
       holds = ap (λ b. b || holds_alone (holding h e)) told;
-      first = ap (λ c. if c then part (part (held (holding h e)) 0) 0 else part (holding h e) 0) told ∙ ap (λ y. part (part y 0) 0) (holder_first h e well);
+      first = ap (λ c. if c then part (part (held (holding h e)) 0) 0 else part (holding h e) 0) told ∙ ap (λ y. part (part y 0) 0) (holder_holds h (assigned x value ▸ (q ▸ qs)) well).same;
     }
 
 name_taken : (s t : List ℕ) (k : ℕ) (ds es : Trees) → are_bare_declarators es ≡ true → takes_name (identifier (resolved t k)) (append ds (declarator (binding (resolved s k)) absent ▸ es)) ≡ true
@@ -694,6 +785,7 @@ holder_smaller (Heading (For u v w)) e d k = omega (arith, k)
 holder_smaller (Going EachIn l w) e d k = omega (arith, k)
 holder_smaller (Going EachOf l w) e d k = omega (arith, k)
 holder_smaller (Declaring kind x ds) e d k = omega (arith, k)
+holder_smaller (Looping x ds u v w) e d k = omega (arith, k)
 
 begun_smaller : (b : Beginning) (x : Name) (value : Tree) → node_counts (begun_without b) < node_count (begun b (assigned x value))
 begun_smaller Alone x value = omega arith
@@ -807,6 +899,7 @@ some_part u h = by (begins_by u h)
     held_parts (Going EachIn l w) e = omega arith
     held_parts (Going EachOf l w) e = omega arith
     held_parts (Declaring kind x ds) e = omega arith
+    held_parts (Looping x ds u v w) e = omega arith
 
     begun_parts : (b : Beginning) (a : Tree) → 0 < count (children (begun b a))
     begun_parts Alone a = omega arith

@@ -82,26 +82,39 @@ is_kind None = false
 abbrev pub declares_first : Tree → Bool
 declares_first u = is_kind (declared_kind u) && begins_with_one (children (part u 0))
 
--- what holds an expression that is evaluated first
+-- a `for` whose head is a `var`
+abbrev pub loops_first : Tree → Bool
+loops_first u = is_for u && (declares Var (part u 0) && declares_first (part u 0))
+
+-- what holds an expression that is evaluated first, other than that
+abbrev pub holds_plainly : Tree → Bool
+holds_plainly u = is_led u || (goes_over u || declares_first u)
+
 abbrev pub holds : Tree → Bool
-holds u = is_led u || (goes_over u || declares_first u)
+holds u = loops_first u || holds_plainly u
 
 -- that expression
-abbrev pub held : Tree → Tree
-held u =
+abbrev pub held_plainly : Tree → Tree
+held_plainly u =
     if is_led u then part u 0 else (
     if goes_over u then part u 1 else (
     if declares_first u then part (part (part u 0) 0) 1 else u))
+
+abbrev pub held : Tree → Tree
+held u = if loops_first u then part (part (part (part u 0) 0) 0) 1 else held_plainly u
 
 -- another first initializer
 abbrev pub with_first : Tree → Tree → Tree
 with_first u e = with_part u 0 (with_part (part u 0) 0 (with_part (part (part u 0) 0) 1 e))
 
 -- the same with another expression there
-abbrev pub with_held : Tree → Tree → Tree
-with_held u e =
+abbrev pub with_plainly : Tree → Tree → Tree
+with_plainly u e =
     if is_led u then with_part u 0 e else (
     if goes_over u then with_part u 1 e else with_first u e)
+
+abbrev pub with_held : Tree → Tree → Tree
+with_held u e = if loops_first u then with_part u 0 (with_first (part u 0) e) else with_plainly u e
 
 -- a sequence is there
 abbrev pub holds_sequence : Tree → Bool

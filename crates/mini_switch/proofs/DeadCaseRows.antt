@@ -1,153 +1,52 @@
--- The rewrite of a `switch` over a value is that of the rows 81, and always lighter.
+-- The rewrite of a `switch` over a value that is known is that of the rows 81, and always lighter.
 use Rattle.std.proofs.Common.{◌≡◌, ℕ, zero, suc, ◌+◌, ◌-◌, ◌<◌, Bool, true, false, Some, None, Option, refl, sym, ap, subst, ◌∙◌, inl, inr, arith}
-use Rattle.std.specs.Prelude.{◌⊎◌, ◌&&◌, ◌||◌, nat_lt, is_some, unwrap_or, ℤ, pos, List, [], ◌∷◌, if◌then◌else◌}
+use Rattle.std.specs.Prelude.{◌⊎◌, ◌&&◌, ◌||◌, nat_lt, is_some, unwrap_or, if◌then◌else◌}
 use Rattle.std.proofs.lemmas.Bool.{and_parts, false≢true}
-use Rattle.mini_model.specs.declared.operator.UnaryOperator.{UnaryOperator}
-use Rattle.mini_model.specs.declared.operator.UnaryOperator.TheVariants.{LogicalNot}
 use Rattle.mini_model.specs.declared.place.Position.TheVariants.{Stmt}
 use Rattle.mini_model.specs.declared.seat.StmtSeat.{StmtSeat}
 use Rattle.mini_model.specs.declared.shape.Shape.TheVariants as shape
-use Rattle.mini_model.specs.Tree.{Tree, Trees, node, none, ◌▸◌, shape_of, children, count, absent, listed, negation}
-use Rattle.mini_laws.specs.Value.{Undefined}
-use Rattle.mini_laws.specs.Operators.{strictly_equal, same_number, same_boolean}
-use Rattle.mini_model.specs.Weight.{same_text}
+use Rattle.mini_model.specs.Tree.{Tree, Trees, node, none, ◌▸◌, shape_of, children, count, absent, listed}
+use Rattle.mini_laws.specs.Value.{Value}
+use Rattle.mini_laws.specs.Operators.{strictly_equal}
 use Rattle.mini_node.specs.Children.{part, first_children, rest_children}
-use Rattle.mini_node.specs.Equal.{same_tree}
-use Rattle.mini_node.specs.Kinds.{number, unary_operator, is_absent_part}
-use Rattle.mini_node.specs.Made.{number_is, unary_is}
-use Rattle.mini_node.proofs.Equality.{tree_same as same_is_equal, tree_itself as each_is_itself}
-use Rattle.mini_terms.specs.Const.{const}
+use Rattle.mini_node.specs.Kinds.{is_absent_part}
 use Rattle.mini_rows.specs.Branches.{SwitchRow}
 use Rattle.mini_rows.specs.Cases.{switch_case}
 use Rattle.mini_model.specs.Paths.{append}
-use Rattle.mini_rows.specs.DeadCases.{Known, a_number, a_text, a_truth, a_null, undefined, known, value_of, selects, Choices, no_choices, choice, cases_of, before_others, switch_over, are_loose, left_cases, cases_go, running, rest_goes, Missed, AllMissed, AllPassed, Taken, are_several, DeadCaseRow}
+use Rattle.mini_rows.specs.DeadCases.{asked, tested, Choices, no_choices, choice, cases_of, before_others, switch_over, are_loose, left_cases, cases_go, running, rest_goes, Missed, AllMissed, AllPassed, Taken, are_several, DeadCaseRow}
 use Rattle.mini_rows.specs.Lists.{switch}
-use Rattle.mini_rows.specs.Spellings.{PlainForm, a_boolean, a_big_int, a_template, a_void, plain}
-use Rattle.mini_rows.specs.Spellings as form
 use Rattle.mini_rows.proofs.BranchWeights.{branch_lighter}
 use Rattle.mini_tree.specs.Rule.{Applied}
 use Rattle.mini_tree.proofs.Reaching.{moves_once}
-use Rattle.mini_syntax.specs.Forms.{first_of, is_plain}
+use Rattle.mini_syntax.specs.Forms.{first_of}
 use Rattle.mini_switch.specs.MinimizeSwitchStatements.{is_case, inlines, inlined, Gives, Rests}
-use Rattle.mini_switch.specs.DropUnreachableSwitchCases.{is_digit, is_not, is_truth, is_value_shape, is_known, are_cases, choices_of, is_settled, selected, any_default, two_defaults, default_left, only_default, or_default, entry, later_go, others_go, place_by, holds_cases, is_read, place, left_by, left_at, dropped_at, written_by, either_written}
-use Rattle.mini_syntax.proofs.FormsAre.{either_true, plain_is, same_texts}
+use Rattle.mini_switch.specs.DropUnreachableSwitchCases.{are_cases, choices_of, verdict_by, verdict, selected_by, selected, any_default, two_defaults, default_left, only_default, or_default, entry, later_go, others_go, place_by, holds_cases, is_read, place_over, place, left_by, left_at, dropped_at, written_by, either_written}
 use Rattle.mini_switch.proofs.Switches.{listed_is, case_is, absent_is, row_of, never}
 
--- ---- values that are written out
+-- ---- what the verdict says of a test
 
-digit_is : (t : Tree) → is_digit (number t) ≡ true → (b : Bool) × (negation t ≡ known (a_truth b))
-digit_is t e = go (number t) refl e
+record Told (k : Value) (t : Tree) (b : Bool) : Type 0 where
+  value : Value
+  is : tested t ≡ Some value
+  equal : strictly_equal k value ≡ b
+
+told : (k : Value) (t : Tree) (b : Bool) → verdict k t ≡ Some b → Told k t b
+told k t b e = go (tested t) refl e
   where
-    go : (o : Option ℤ) → number t ≡ o → is_digit o ≡ true → (b : Bool) × (negation t ≡ known (a_truth b))
-    go (Some (pos zero)) h e = (true, ap negation (number_is t (pos 0) h))
-    go (Some (pos (suc zero))) h e = (false, ap negation (number_is t (pos 1) h))
-    go o h e = absurd (cc e)
+    go : (o : Option Value) → tested t ≡ o → verdict_by k o ≡ Some b → Told k t b
+    go (Some w) h e = record { value = w; is = h; equal = ap (λ o. unwrap_or o false) e }
+    go None h e = absurd (cc e)
 
-truth_is : (t : Tree) → is_truth t ≡ true → (k : Known) × (t ≡ known k)
-truth_is t e = let (over, digit) = and_parts (is_not (unary_operator t)) (is_digit (number (part t 0))) e in go (unary_operator t) refl over digit
+-- it is no `default`
+tested_there : (t : Tree) (w : Value) → tested t ≡ Some w → is_absent_part t ≡ false
+tested_there t w e = go (is_absent_part t) refl
   where
-    go : (o : Option UnaryOperator) → unary_operator t ≡ o → is_not o ≡ true → is_digit (number (part t 0)) ≡ true → (k : Known) × (t ≡ known k)
-    go (Some LogicalNot) h v d = let b = digit_is (part t 0) d in (a_truth b.0, unary_is t LogicalNot h ∙ b.1)
-    go (Some o) h v d = absurd (cc v)
-    go None h v d = absurd (cc v)
+    nothing : None ≡ Some w → ⊥
+    nothing e = cc e
 
-plain_known : (t : Tree) → is_value_shape (shape_of t) ≡ true → (f : PlainForm) → t ≡ plain f → (k : Known) × (t ≡ known k)
-plain_known t h (form.a_number n) e = (a_number n, e)
-plain_known t h (form.a_text s) e = (a_text s, e)
-plain_known t h (form.a_boolean b) e = absurd (false≢true (sym (ap (λ u. is_value_shape (shape_of u)) e) ∙ h))
-plain_known t h form.a_null e = (a_null, e)
-plain_known t h (form.a_big_int n) e = absurd (false≢true (sym (ap (λ u. is_value_shape (shape_of u)) e) ∙ h))
-plain_known t h (form.a_template l raw s) e = absurd (false≢true (sym (ap (λ u. is_value_shape (shape_of u)) e) ∙ h))
-plain_known t h form.a_void e = (undefined, e)
-
-known_is : (t : Tree) → is_known t ≡ true → (k : Known) × (t ≡ known k)
-known_is t e = let (shape, either) = and_parts (is_value_shape (shape_of t)) (is_plain t || is_truth t) e in go shape (either_true (is_plain t) (is_truth t) either)
-  where
-    go : is_value_shape (shape_of t) ≡ true → (is_plain t ≡ true) ⊎ (is_truth t ≡ true) → (k : Known) × (t ≡ known k)
-    go s (inl h) = let f = plain_is t h in plain_known t s f.0 f.1
-    go s (inr h) = truth_is t h
-
-known_passes : (k : Known) → is_known (known k) ≡ true
-known_passes (a_number n) = refl
-known_passes (a_text s) = refl
-known_passes (a_truth true) = refl
-known_passes (a_truth false) = refl
-known_passes a_null = refl
-known_passes undefined = refl
-
-known_there : (k : Known) → is_absent_part (known k) ≡ false
-known_there (a_number n) = refl
-known_there (a_text s) = refl
-known_there (a_truth true) = refl
-known_there (a_truth false) = refl
-known_there a_null = refl
-known_there undefined = refl
-
--- two are equal where their forms are
-
-const_is : (k : Known) → const (known k) ≡ Some (value_of k)
-const_is (a_number n) = refl
-const_is (a_text s) = refl
-const_is (a_truth true) = refl
-const_is (a_truth false) = refl
-const_is a_null = refl
-const_is undefined = refl
-
-same_text_itself : (s : List ℕ) → same_text s s ≡ true
-same_text_itself [] = refl
-same_text_itself (c ∷ s) = grind (arith, same_text_itself s)
-
-number_itself : (n : ℤ) → same_number n n ≡ true
-number_itself n = grind arith
-
-number_equal : (m n : ℤ) → same_number m n ≡ true → m ≡ n
-number_equal m n e = grind arith
-
-boolean_itself : (b : Bool) → same_boolean b b ≡ true
-boolean_itself true = refl
-boolean_itself false = refl
-
-boolean_equal : (a b : Bool) → same_boolean a b ≡ true → a ≡ b
-boolean_equal true true e = refl
-boolean_equal true false e = absurd (false≢true e)
-boolean_equal false true e = absurd (false≢true e)
-boolean_equal false false e = refl
-
-selects_itself : (k : Known) → selects k k ≡ true
-selects_itself (a_number n) = number_itself n
-selects_itself (a_text s) = same_text_itself s
-selects_itself (a_truth b) = boolean_itself b
-selects_itself a_null = refl
-selects_itself undefined = refl
-
-selects_equal : (k l : Known) → selects k l ≡ true → known k ≡ known l
-selects_equal (a_number m) (a_number n) e = ap (λ i. known (a_number i)) (number_equal m n e)
-selects_equal (a_text s) (a_text r) e = ap (λ i. known (a_text i)) (same_texts s r e)
-selects_equal (a_truth a) (a_truth b) e = ap (λ i. known (a_truth i)) (boolean_equal a b e)
-selects_equal a_null a_null e = refl
-selects_equal undefined undefined e = refl
-selects_equal k l e = absurd (cc e)
-
-equal_selects : (k l : Known) → known k ≡ known l → selects k l ≡ true
-equal_selects k l e =
-    let value : value_of k ≡ value_of l = ap (λ o. unwrap_or o Undefined) (sym (const_is k) ∙ ap const e ∙ const_is l) in
-    sym (ap (strictly_equal (value_of k)) value) ∙ selects_itself k
-
-same_selects : (k l : Known) → same_tree (known k) (known l) ≡ selects k l
-same_selects k l = go (same_tree (known k) (known l)) (selects k l) refl refl
-  where
-    go : (a b : Bool) → same_tree (known k) (known l) ≡ a → selects k l ≡ b → a ≡ b
-    go true true e f = refl
-    go true false e f = absurd (false≢true (sym f ∙ equal_selects k l (same_is_equal (known k) (known l) e)))
-    go false true e f = absurd (false≢true (sym e ∙ ap (same_tree (known k)) (sym (selects_equal k l f)) ∙ each_is_itself (known k)))
-    go false false e f = refl
-
-not_absent : (k : Known) → same_tree (known k) absent ≡ false
-not_absent k = go (same_tree (known k) absent) refl
-  where
-    go : (b : Bool) → same_tree (known k) absent ≡ b → b ≡ false
-    go true e = absurd (false≢true (sym (known_there k) ∙ ap is_absent_part (same_is_equal (known k) absent e)))
-    go false e = refl
+    go : (b : Bool) → is_absent_part t ≡ b → b ≡ false
+    go true h = absurd (nothing (sym (ap tested (absent_is t h)) ∙ e))
+    go false h = refl
 
 -- ---- cases
 
@@ -244,42 +143,46 @@ split_here : (c : Tree) (cs : Trees) → Split (c ▸ cs) (count (c ▸ cs))
 unfolding size
 split_here c cs = record { before = no_choices; test = part c 0; statements = children (part c 1); after = choices_of cs; is = refl; left = ap suc (size_is cs) }
 
-module _ (k : Known) where
-  settled_passes : (t : Tree) → is_settled t ≡ true → same_tree (known k) t ≡ false → Missed k t ⊎ (t ≡ absent)
-  settled_passes t e f = go (either_true (is_absent_part t) (is_known t) e)
+module _ (k : Value) where
+  some_is : {a b : ℕ} → Some a ≡ Some b → a ≡ b
+  some_is e = ap (λ o. unwrap_or o 0) e
+
+  -- from a case on, or from a later one on
+  Step : Tree → Trees → ℕ → Type 0
+  Step c cs r = ((verdict k (part c 0) ≡ Some true) × (count (c ▸ cs) ≡ r)) ⊎ ((Missed k (part c 0) ⊎ (part c 0 ≡ absent)) × (selected k cs ≡ Some r))
+
+  stepped : (c : Tree) (cs : Trees) (r : ℕ) → selected k (c ▸ cs) ≡ Some r → Step c cs r
+  unfolding Step
+  stepped c cs r e = go (verdict k (part c 0)) (is_absent_part (part c 0)) refl refl e
     where
-      go : (is_absent_part t ≡ true) ⊎ (is_known t ≡ true) → Missed k t ⊎ (t ≡ absent)
-      go (inl a) = inr (absent_is t a)
-      go (inr a) = let l = known_is t a in inl (record { value = l.0; is = l.1; other = sym (same_selects k l.0) ∙ sym (ap (same_tree (known k)) l.1) ∙ f })
+      go : (o : Option Bool) (a : Bool) → verdict k (part c 0) ≡ o → is_absent_part (part c 0) ≡ a → selected_by o a (count (c ▸ cs)) (selected k cs) ≡ Some r → Step c cs r
+      go (Some true) a h f e = inl (h, some_is e)
+      go (Some false) a h f e = let s = told k (part c 0) false h in inr (inl (record { value = s.value; is = s.is; other = s.equal }), e)
+      go None true h f e = inr (inr (absent_is (part c 0) f), e)
+      go None false h f e = absurd (cc e)
 
   record Found (ts : Trees) (r : ℕ) : Type 0 where
     split : Split ts r
     passed : AllPassed k split.before
-    same : same_tree (known k) split.test ≡ true
+    same : verdict k split.test ≡ Some true
 
-  some_is : {a b : ℕ} → Some a ≡ Some b → a ≡ b
-  some_is e = ap (λ o. unwrap_or o 0) e
-
-  found : (ts : Trees) (r : ℕ) → selected (known k) ts ≡ Some (suc r) → Found ts (suc r)
-  unfolding split_more split_here
+  found : (ts : Trees) (r : ℕ) → selected k ts ≡ Some (suc r) → Found ts (suc r)
+  unfolding split_more split_here Step
   found none r e = let no : 0 ≡ suc r = some_is e in absurd (omega (arith, no))
-  found (c ▸ cs) r e = go (same_tree (known k) (part c 0)) refl e (is_settled (part c 0)) refl (λ h. found cs r h)
+  found (c ▸ cs) r e = by (stepped c cs (suc r) e) (λ h. found cs r h)
     where
-      go : (b : Bool) → same_tree (known k) (part c 0) ≡ b → (if b then Some (count (c ▸ cs)) else (if is_settled (part c 0) then selected (known k) cs else None)) ≡ Some (suc r) → (a : Bool) → is_settled (part c 0) ≡ a → (selected (known k) cs ≡ Some (suc r) → Found cs (suc r)) → Found (c ▸ cs) (suc r)
-      go true s e a f rec = subst (Found (c ▸ cs)) (some_is e) (record { split = split_here c cs; passed = tt; same = s })
-      go false s e true f rec =
-          let later = rec (sym (ap (λ a. if a then selected (known k) cs else None) f) ∙ e) in
-          record { split = split_more c cs (suc r) later.split; passed = (settled_passes (part c 0) f s, later.passed); same = later.same }
-      go false s e false f rec = absurd (cc (sym (ap (λ a. if a then selected (known k) cs else None) f) ∙ e))
+      by : Step c cs (suc r) → (selected k cs ≡ Some (suc r) → Found cs (suc r)) → Found (c ▸ cs) (suc r)
+      by (inl (s, n)) rec = subst (Found (c ▸ cs)) n (record { split = split_here c cs; passed = tt; same = s })
+      by (inr (p, h)) rec = let later = rec h in record { split = split_more c cs (suc r) later.split; passed = (p, later.passed); same = later.same }
 
-  all_passed : (ts : Trees) → selected (known k) ts ≡ Some 0 → AllPassed k (choices_of ts)
+  all_passed : (ts : Trees) → selected k ts ≡ Some 0 → AllPassed k (choices_of ts)
+  unfolding Step
   all_passed none e = tt
-  all_passed (c ▸ cs) e = go (same_tree (known k) (part c 0)) refl e (is_settled (part c 0)) refl (λ h. all_passed cs h)
+  all_passed (c ▸ cs) e = by (stepped c cs 0 e) (λ h. all_passed cs h)
     where
-      go : (b : Bool) → same_tree (known k) (part c 0) ≡ b → (if b then Some (count (c ▸ cs)) else (if is_settled (part c 0) then selected (known k) cs else None)) ≡ Some 0 → (a : Bool) → is_settled (part c 0) ≡ a → (selected (known k) cs ≡ Some 0 → AllPassed k (choices_of cs)) → AllPassed k (choices_of (c ▸ cs))
-      go true s e a f rec = let no : suc (count cs) ≡ 0 = some_is e in absurd (omega (arith, no))
-      go false s e true f rec = (settled_passes (part c 0) f s, rec (sym (ap (λ a. if a then selected (known k) cs else None) f) ∙ e))
-      go false s e false f rec = absurd (cc (sym (ap (λ a. if a then selected (known k) cs else None) f) ∙ e))
+      by : Step c cs 0 → (selected k cs ≡ Some 0 → AllPassed k (choices_of cs)) → AllPassed k (choices_of (c ▸ cs))
+      by (inl (s, n)) rec = absurd (omega (arith, n))
+      by (inr (p, h)) rec = (p, rec h)
 
   passed_missed : (t : Tree) → Missed k t ⊎ (t ≡ absent) → is_absent_part t ≡ false → Missed k t
   passed_missed t (inl m) e = m
@@ -340,15 +243,15 @@ several_is (choice u us bs) t ss cs h = refl
 more_than_one : (n : ℕ) → nat_lt 1 n ≡ true → 1 < n
 more_than_one n e = grind arith
 
-module _ (t : Tree) (k : Known) (value : part t 0 ≡ known k) (is : t ≡ switch (part t 0) (listed (children (part t 1)))) (shaped : are_cases (children (part t 1)) ≡ true) (several : 1 < count (children (part t 1))) (loose : are_loose (choices_of (children (part t 1))) ≡ true) where
+module _ (t : Tree) (k : Value) (asks : asked (part t 0) ≡ Some k) (is : t ≡ switch (part t 0) (listed (children (part t 1)))) (shaped : are_cases (children (part t 1)) ≡ true) (several : 1 < count (children (part t 1))) (loose : are_loose (choices_of (children (part t 1))) ≡ true) where
   abbrev ts : Trees
   ts = children (part t 1)
 
-  shape_is : (cs : Choices) → choices_of ts ≡ cs → t ≡ switch_over k cs
-  shape_is cs e = is ∙ ap (λ d. switch d (listed ts)) value ∙ ap (λ us. switch (known k) (listed us)) (cases_are ts shaped ∙ ap cases_of e)
+  shape_is : (cs : Choices) → choices_of ts ≡ cs → t ≡ switch_over (part t 0) cs
+  shape_is cs e = is ∙ ap (λ us. switch (part t 0) (listed us)) (cases_are ts shaped ∙ ap cases_of e)
 
-  made_is : (i : ℕ) (x : Tree) → left_at i ts ≡ x → dropped_at t i ≡ switch (known k) (listed (x ▸ none))
-  made_is i x e = ap (λ d. switch d (listed (left_at i ts ▸ none))) value ∙ ap (λ y. switch (known k) (listed (y ▸ none))) e
+  made_is : (i : ℕ) (x : Tree) → left_at i ts ≡ x → dropped_at t i ≡ switch (part t 0) (listed (x ▸ none))
+  made_is i x e = ap (λ y. switch (part t 0) (listed (y ▸ none))) e
 
   taken_row : (r : ℕ) (s : Split ts r) → Taken k s.before s.test s.after → others_go (count ts - r) ts ≡ true → DeadCaseRow t (dropped_at t (count ts - r))
   unfolding size
@@ -358,7 +261,9 @@ module _ (t : Tree) (k : Known) (value : part t 0 ≡ known k) (is : t ≡ switc
       let later : choices_of (rest_children (count ts - r) ts) ≡ choice s.test s.statements s.after = rest_dropped (count ts - r) ts ∙ (λ i. drop (at i) (s.is i)) ∙ drop_before s.before (choice s.test s.statements s.after) in
       let (gone, rest) = and_parts (cases_go (choices_of (first_children (count ts - r) ts))) (later_go (choices_of (rest_children (count ts - r) ts))) go in
       inl (record {
+        discriminant = part t 0;
         value = k;
+        asks = asks;
         before = s.before;
         test = s.test;
         statements = s.statements;
@@ -384,7 +289,9 @@ module _ (t : Tree) (k : Known) (value : part t 0 ≡ known k) (is : t ≡ switc
       by : (cs : Choices) → choices_of ts ≡ cs → AllMissed k cs → cases_go cs ≡ true → left_at (count ts - 0) ts ≡ left_by (choices_of ts) (choices_of (first_children (count ts - 0) ts)) no_choices → 1 < size cs → are_loose cs ≡ true → DeadCaseRow t (dropped_at t (count ts - 0))
       by no_choices e m g l h u = absurd (omega (arith, h))
       by (choice x ss cs) e m g l h u = inr (record {
+        discriminant = part t 0;
         value = k;
+        asks = asks;
         test = x;
         statements = ss;
         after = cs;
@@ -396,8 +303,8 @@ module _ (t : Tree) (k : Known) (value : part t 0 ≡ known k) (is : t ≡ switc
         written = made_is (count ts - 0) (switch_case x (left_cases (choice x ss cs))) (l ∙ ap (λ c. left_by c (choices_of (first_children (count ts - 0) ts)) no_choices) e);
       })
 
-  entered_row : (i : ℕ) → place_by ts (entry (known k) ts) ≡ Some i → DeadCaseRow t (dropped_at t i)
-  entered_row i e = by_selected (selected (known k) ts) refl e
+  entered_row : (i : ℕ) → place_by ts (entry k ts) ≡ Some i → DeadCaseRow t (dropped_at t i)
+  entered_row i e = by_selected (selected k ts) refl e
     where
       some_place : {a b : ℕ} → Some a ≡ Some b → a ≡ b
       some_place e = ap (λ o. unwrap_or o 0) e
@@ -420,13 +327,14 @@ module _ (t : Tree) (k : Known) (value : part t 0 ≡ known k) (is : t ≡ switc
           let d = fallen k ts r p f in
           row_at (suc r) at (taken_row (suc r) d.split (inr (record { is = d.default; missed = d.missed; missed_later = d.later })) go)
 
-      by_selected : (o : Option ℕ) → selected (known k) ts ≡ o → place_by ts (or_default ts o) ≡ Some i → DeadCaseRow t (dropped_at t i)
+      by_selected : (o : Option ℕ) → selected k ts ≡ o → place_by ts (or_default ts o) ≡ Some i → DeadCaseRow t (dropped_at t i)
       by_selected None f e = absurd (cc e)
       by_selected (Some zero) f e = by_default (all_passed k ts f) (only_default ts) refl e
       by_selected (Some (suc r)) f e =
           let (go, at) = placed (suc r) e in
           let d = found k ts r f in
-          row_at (suc r) at (taken_row (suc r) d.split (inl (record { value = k; is = sym (same_is_equal (known k) d.split.test d.same); equal = selects_itself k; passed = d.passed })) go)
+          let s = told k d.split.test true d.same in
+          row_at (suc r) at (taken_row (suc r) d.split (inl (record { value = s.value; is = s.is; equal = s.equal; passed = d.passed })) go)
 
 switch_is : (t : Tree) → holds_cases t ≡ true → t ≡ switch (part t 0) (listed (children (part t 1)))
 switch_is (node shape.SwitchStatement [] zero (d ▸ (cs ▸ none))) e = ap (λ y. node shape.SwitchStatement [] 0 (d ▸ (y ▸ none))) (listed_is cs e)
@@ -435,50 +343,37 @@ switch_is t e = absurd (false≢true e)
 row_at : (t : Tree) (i : ℕ) → place t ≡ Some i → DeadCaseRow t (dropped_at t i)
 row_at t i e = go (is_read t) refl e
   where
-    read : is_read t ≡ true → place_by (children (part t 1)) (entry (part t 0) (children (part t 1))) ≡ Some i → DeadCaseRow t (dropped_at t i)
-    read h e =
+    read : is_read t ≡ true → (o : Option Value) → asked (part t 0) ≡ o → place_over (children (part t 1)) o ≡ Some i → DeadCaseRow t (dropped_at t i)
+    read h None a e = absurd (cc e)
+    read h (Some v) a e =
         let ts = children (part t 1) in
-        let (holds, rest) = and_parts (holds_cases t) (is_known (part t 0) && (nat_lt 1 (count ts) && (are_cases ts && are_loose (choices_of ts)))) h in
-        let (value, more) = and_parts (is_known (part t 0)) (nat_lt 1 (count ts) && (are_cases ts && are_loose (choices_of ts))) rest in
+        let (holds, more) = and_parts (holds_cases t) (nat_lt 1 (count ts) && (are_cases ts && are_loose (choices_of ts))) h in
         let (several, all) = and_parts (nat_lt 1 (count ts)) (are_cases ts && are_loose (choices_of ts)) more in
         let (shaped, loose) = and_parts (are_cases ts) (are_loose (choices_of ts)) all in
-        let l = known_is (part t 0) value in
-        entered_row t l.0 l.1 (switch_is t holds) shaped (more_than_one (count ts) several) loose i (ap (λ d. place_by (children (part t 1)) (entry d (children (part t 1)))) (sym l.1) ∙ e)
+        entered_row t v a (switch_is t holds) shaped (more_than_one (count ts) several) loose i e
 
-    go : (b : Bool) → is_read t ≡ b → (if b then place_by (children (part t 1)) (entry (part t 0) (children (part t 1))) else None) ≡ Some i → DeadCaseRow t (dropped_at t i)
-    go true h e = read h e
+    go : (b : Bool) → is_read t ≡ b → (if b then place_over (children (part t 1)) (asked (part t 0)) else None) ≡ Some i → DeadCaseRow t (dropped_at t i)
+    go true h e = read h (asked (part t 0)) refl e
     go false h e = absurd (cc e)
 
 -- ---- where nothing is written no row reads it
 
-module _ (k : Known) where
-  missed_same : (t : Tree) → Missed k t → same_tree (known k) t ≡ false
-  missed_same t m = ap (same_tree (known k)) m.is ∙ same_selects k m.value ∙ m.other
-
-  missed_settled : (t : Tree) → Missed k t → is_settled t ≡ true
-  missed_settled t m = ap is_settled m.is ∙ ap (λ b. b || is_known (known m.value)) (known_there m.value) ∙ known_passes m.value
+module _ (k : Value) where
+  missed_verdict : (t : Tree) → Missed k t → verdict k t ≡ Some false
+  missed_verdict t m = ap (verdict_by k) m.is ∙ ap Some m.other
 
   missed_there : (t : Tree) → Missed k t → is_absent_part t ≡ false
-  missed_there t m = ap is_absent_part m.is ∙ known_there m.value
+  missed_there t m = tested_there t m.value m.is
 
-  passed_same : (t : Tree) → Missed k t ⊎ (t ≡ absent) → same_tree (known k) t ≡ false
-  passed_same t (inl m) = missed_same t m
-  passed_same t (inr a) = ap (same_tree (known k)) a ∙ not_absent k
+  selected_later : (t : Tree) (ss : Trees) (cs : Choices) → Missed k t ⊎ (t ≡ absent) → selected k (cases_of (choice t ss cs)) ≡ selected k (cases_of cs)
+  selected_later t ss cs (inl m) = ap (λ o. selected_by o (is_absent_part t) (count (cases_of (choice t ss cs))) (selected k (cases_of cs))) (missed_verdict t m)
+  selected_later t ss cs (inr a) = ap (λ x. selected_by (verdict k x) (is_absent_part x) (count (cases_of (choice t ss cs))) (selected k (cases_of cs))) a
 
-  passed_settled : (t : Tree) → Missed k t ⊎ (t ≡ absent) → is_settled t ≡ true
-  passed_settled t (inl m) = missed_settled t m
-  passed_settled t (inr a) = ap is_settled a
-
-  selected_later : (t : Tree) (ss : Trees) (cs : Choices) → Missed k t ⊎ (t ≡ absent) → selected (known k) (cases_of (choice t ss cs)) ≡ selected (known k) (cases_of cs)
-  selected_later t ss cs p =
-      ap (λ b. if b then Some (count (cases_of (choice t ss cs))) else (if is_settled t then selected (known k) (cases_of cs) else None)) (passed_same t p)
-      ∙ ap (λ b. if b then selected (known k) (cases_of cs) else None) (passed_settled t p)
-
-  selected_before : (bs cs : Choices) → AllPassed k bs → selected (known k) (cases_of (before_others bs cs)) ≡ selected (known k) (cases_of cs)
+  selected_before : (bs cs : Choices) → AllPassed k bs → selected k (cases_of (before_others bs cs)) ≡ selected k (cases_of cs)
   selected_before no_choices cs p = refl
   selected_before (choice t ss bs) cs p = selected_later t ss (before_others bs cs) p.0 ∙ selected_before bs cs p.1
 
-  none_selected : (cs : Choices) → AllMissed k cs → selected (known k) (cases_of cs) ≡ Some 0
+  none_selected : (cs : Choices) → AllMissed k cs → selected k (cases_of cs) ≡ Some 0
   none_selected no_choices p = refl
   none_selected (choice t ss cs) p = selected_later t ss cs (inl p.0) ∙ none_selected cs p.1
 
@@ -501,18 +396,18 @@ module _ (k : Known) where
   missed_passed no_choices p = tt
   missed_passed (choice t ss cs) p = (inl p.0, missed_passed cs p.1)
 
-  taken_entry : (bs : Choices) (t : Tree) (ss : Trees) (cs : Choices) → Taken k bs t cs → entry (known k) (cases_of (before_others bs (choice t ss cs))) ≡ Some (count (cases_of (choice t ss cs)))
+  taken_entry : (bs : Choices) (t : Tree) (ss : Trees) (cs : Choices) → Taken k bs t cs → entry k (cases_of (before_others bs (choice t ss cs))) ≡ Some (count (cases_of (choice t ss cs)))
   taken_entry bs t ss cs (inl h) =
       ap (or_default (cases_of (before_others bs (choice t ss cs))))
       (selected_before bs (choice t ss cs) h.passed
-      ∙ ap (λ b. if b then Some (count (cases_of (choice t ss cs))) else (if is_settled t then selected (known k) (cases_of cs) else None)) (ap (same_tree (known k)) h.is ∙ same_selects k h.value ∙ h.equal))
+      ∙ ap (λ o. selected_by o (is_absent_part t) (count (cases_of (choice t ss cs))) (selected k (cases_of cs))) (ap (verdict_by k) h.is ∙ ap Some h.equal))
   taken_entry bs t ss cs (inr h) =
       ap (or_default (cases_of (before_others bs (choice t ss cs)))) (selected_before bs (choice t ss cs) (missed_passed bs h.missed) ∙ selected_later t ss cs (inr h.is) ∙ none_selected cs h.missed_later)
       ∙ only_before bs (choice t ss cs) h.missed
       ∙ ap (λ b. if (if b then any_default (cases_of cs) else two_defaults (cases_of cs)) then None else Some (if b then count (cases_of (choice t ss cs)) else default_left (cases_of cs))) (ap is_absent_part h.is)
       ∙ ap (λ b. if b then None else Some (count (cases_of (choice t ss cs)))) (no_default cs h.missed_later)
 
-  none_entry : (cs : Choices) → AllMissed k cs → entry (known k) (cases_of cs) ≡ Some 0
+  none_entry : (cs : Choices) → AllMissed k cs → entry k (cases_of cs) ≡ Some 0
   none_entry cs p = ap (or_default (cases_of cs)) (none_selected cs p) ∙ none_only cs p
 
   less_than : (n : ℕ) → 1 < n → nat_lt 1 n ≡ true
@@ -521,11 +416,10 @@ module _ (k : Known) where
   both_true : (a b : Bool) → a ≡ true → b ≡ true → (a && b) ≡ true
   both_true a b e f = ap (λ c. c && b) e ∙ f
 
-  reads : (cs : Choices) → are_loose cs ≡ true → 1 < size cs → is_read (switch_over k cs) ≡ true
-  reads cs l s =
-      both_true (is_known (known k)) (nat_lt 1 (count (cases_of cs)) && (are_cases (cases_of cs) && are_loose (choices_of (cases_of cs)))) (known_passes k)
-      (both_true (nat_lt 1 (count (cases_of cs))) (are_cases (cases_of cs) && are_loose (choices_of (cases_of cs))) (less_than (count (cases_of cs)) (omega (arith, s, count_is cs)))
-      (both_true (are_cases (cases_of cs)) (are_loose (choices_of (cases_of cs))) (each_case cs) (ap are_loose (choices_are cs) ∙ l)))
+  reads : (d : Tree) (cs : Choices) → are_loose cs ≡ true → 1 < size cs → is_read (switch_over d cs) ≡ true
+  reads d cs l s =
+      both_true (nat_lt 1 (count (cases_of cs))) (are_cases (cases_of cs) && are_loose (choices_of (cases_of cs))) (less_than (count (cases_of cs)) (omega (arith, s, count_is cs)))
+      (both_true (are_cases (cases_of cs)) (are_loose (choices_of (cases_of cs))) (each_case cs) (ap are_loose (choices_are cs) ∙ l))
 
   some_several : (bs : Choices) (t : Tree) (ss : Trees) (cs : Choices) → are_several bs cs ≡ true → 1 < size (before_others bs (choice t ss cs))
   unfolding size
@@ -533,36 +427,36 @@ module _ (k : Known) where
   some_several no_choices t ss (choice u us cs) e = omega arith
   some_several (choice u us bs) t ss cs e = let all = size_before bs (choice t ss cs) in omega (arith, all)
 
-  read_place : (cs : Choices) (r : ℕ) → is_read (switch_over k cs) ≡ true → entry (known k) (cases_of cs) ≡ Some r → others_go (count (cases_of cs) - r) (cases_of cs) ≡ true → place (switch_over k cs) ≡ Some (count (cases_of cs) - r)
-  read_place cs r e f g =
-      ap (λ b. if b then place_by (cases_of cs) (entry (known k) (cases_of cs)) else None) e ∙ ap (place_by (cases_of cs)) f
+  read_place : (d : Tree) → asked d ≡ Some k → (cs : Choices) (r : ℕ) → is_read (switch_over d cs) ≡ true → entry k (cases_of cs) ≡ Some r → others_go (count (cases_of cs) - r) (cases_of cs) ≡ true → place (switch_over d cs) ≡ Some (count (cases_of cs) - r)
+  read_place d a cs r e f g =
+      ap (λ b. if b then place_over (cases_of cs) (asked d) else None) e ∙ ap (place_over (cases_of cs)) a ∙ ap (place_by (cases_of cs)) f
       ∙ ap (λ b. if b then Some (count (cases_of cs) - r) else None) g
 
-  taken_place : (bs : Choices) (t : Tree) (ss : Trees) (cs : Choices) → Taken k bs t cs → are_several bs cs ≡ true → are_loose (before_others bs (choice t ss cs)) ≡ true → cases_go bs ≡ true → rest_goes ss cs ≡ true → (i : ℕ) × (place (switch_over k (before_others bs (choice t ss cs))) ≡ Some i)
+  taken_place : (d : Tree) → asked d ≡ Some k → (bs : Choices) (t : Tree) (ss : Trees) (cs : Choices) → Taken k bs t cs → are_several bs cs ≡ true → are_loose (before_others bs (choice t ss cs)) ≡ true → cases_go bs ≡ true → rest_goes ss cs ≡ true → (i : ℕ) × (place (switch_over d (before_others bs (choice t ss cs))) ≡ Some i)
   unfolding size
-  taken_place bs t ss cs h s l g r =
+  taken_place d a bs t ss cs h s l g r =
       let all = before_others bs (choice t ss cs) in
       let ts = cases_of all in
       let i = count ts - count (cases_of (choice t ss cs)) in
       let at : i ≡ size bs = omega (arith, count_is all, count_is cs, size_before bs (choice t ss cs)) in
       let earlier : choices_of (first_children i ts) ≡ bs = first_taken i ts ∙ (λ j. take (at j) (choices_are all j)) ∙ take_before bs (choice t ss cs) in
       let later : choices_of (rest_children i ts) ≡ choice t ss cs = rest_dropped i ts ∙ (λ j. drop (at j) (choices_are all j)) ∙ drop_before bs (choice t ss cs) in
-      (i, read_place all (count (cases_of (choice t ss cs))) (reads all l (some_several bs t ss cs s)) (taken_entry bs t ss cs h) (both_true (cases_go (choices_of (first_children i ts))) (later_go (choices_of (rest_children i ts))) (ap cases_go earlier ∙ g) (ap later_go later ∙ r)))
+      (i, read_place d a all (count (cases_of (choice t ss cs))) (reads d all l (some_several bs t ss cs s)) (taken_entry bs t ss cs h) (both_true (cases_go (choices_of (first_children i ts))) (later_go (choices_of (rest_children i ts))) (ap cases_go earlier ∙ g) (ap later_go later ∙ r)))
 
-  none_place : (t : Tree) (ss : Trees) (cs : Choices) → AllMissed k (choice t ss cs) → are_several no_choices cs ≡ true → are_loose (choice t ss cs) ≡ true → cases_go (choice t ss cs) ≡ true → (i : ℕ) × (place (switch_over k (choice t ss cs)) ≡ Some i)
+  none_place : (d : Tree) → asked d ≡ Some k → (t : Tree) (ss : Trees) (cs : Choices) → AllMissed k (choice t ss cs) → are_several no_choices cs ≡ true → are_loose (choice t ss cs) ≡ true → cases_go (choice t ss cs) ≡ true → (i : ℕ) × (place (switch_over d (choice t ss cs)) ≡ Some i)
   unfolding size
-  none_place t ss cs h s l g =
+  none_place d a t ss cs h s l g =
       let all = choice t ss cs in
       let ts = cases_of all in
       let i = count ts - 0 in
       let at : i ≡ size all = omega (arith, count_is all) in
       let earlier : choices_of (first_children i ts) ≡ all = first_taken i ts ∙ (λ j. take (at j) (choices_are all j)) ∙ take_all all in
       let later : choices_of (rest_children i ts) ≡ no_choices = rest_dropped i ts ∙ (λ j. drop (at j) (choices_are all j)) ∙ drop_all all in
-      (i, read_place all 0 (reads all l (some_several no_choices t ss cs s)) (none_entry all h) (both_true (cases_go (choices_of (first_children i ts))) (later_go (choices_of (rest_children i ts))) (ap cases_go earlier ∙ g) (ap later_go later)))
+      (i, read_place d a all 0 (reads d all l (some_several no_choices t ss cs s)) (none_entry all h) (both_true (cases_go (choices_of (first_children i ts))) (later_go (choices_of (rest_children i ts))) (ap cases_go earlier ∙ g) (ap later_go later)))
 
 row_place : (n w : Tree) → DeadCaseRow n w → (i : ℕ) × (place n ≡ Some i)
-row_place n w (inl r) = let p = taken_place r.value r.before r.test r.statements r.after r.taken r.several r.loose r.dropped r.rest_dropped in (p.0, ap place r.shape ∙ p.1)
-row_place n w (inr r) = let p = none_place r.value r.test r.statements r.after r.missed r.several r.loose r.dropped in (p.0, ap place r.shape ∙ p.1)
+row_place n w (inl r) = let p = taken_place r.value r.discriminant r.asks r.before r.test r.statements r.after r.taken r.several r.loose r.dropped r.rest_dropped in (p.0, ap place r.shape ∙ p.1)
+row_place n w (inr r) = let p = none_place r.value r.discriminant r.asks r.test r.statements r.after r.missed r.several r.loose r.dropped in (p.0, ap place r.shape ∙ p.1)
 
 never_dropped : (n w : Tree) → place n ≡ None → DeadCaseRow n w → ⊥
 never_dropped n w e r = let p = row_place n w r in cc (sym e ∙ p.1)

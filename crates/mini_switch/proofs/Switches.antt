@@ -15,7 +15,7 @@ use Rattle.mini_rows.specs.Cases.{switch_case, one_case, bare_break, ended, lets
 use Rattle.mini_rows.specs.Lists.{block, is_unscoped, are_unscoped, declares_nothing}
 use Rattle.mini_rows.specs.Spellings.{plain, binary}
 use Rattle.mini_syntax.specs.Forms.{is_plain}
-use Rattle.mini_switch.specs.MinimizeSwitchStatements.{is_label_shape, has_label, is_bare_break, ends_in_break, unbroken_count, before_break, some_breaks, is_case, stay, can_be_inlined, holds_one_case, the_case, inlines, inlined}
+use Rattle.mini_switch.specs.MinimizeSwitchStatements.{is_label_shape, has_label, is_bare_break, ends_in_break, unbroken_count, before_break, some_breaks, is_case, stay_inside, may_be_tested, can_be_inlined, enclosed, holds_one_case, the_case, inlines, inlined}
 use Rattle.mini_syntax.proofs.FormsAre.{one_item, plain_is, plain_passes}
 
 -- ---- what the tests of the code say
@@ -148,13 +148,6 @@ statements_are ts = go (ends_in_break ts) refl
     go true e = let some = there ts e in last_is (count ts - 1) ts (omega (arith, some)) e
     go false e = sym (all_first ts (count ts) (omega arith))
 
-unscoped_first : (k : ℕ) (ts : Trees) → are_unscoped ts ≡ true → are_unscoped (first_children k ts) ≡ true
-unscoped_first k none e = refl
-unscoped_first zero (t ▸ ts) e = refl
-unscoped_first (suc k) (t ▸ ts) e =
-    let (own, rest) = and_parts (is_unscoped t) (are_unscoped ts) e in
-    ap (λ b. b && are_unscoped (first_children k ts)) own ∙ unscoped_first k ts rest
-
 pub listed_breaks : (i : ℕ) (ts : Trees) → any_breaks_out shape.Listed i ts ≡ some_breaks ts
 listed_breaks i none = refl
 listed_breaks i (t ▸ ts) = ap (λ b. breaks_out t || b) (listed_breaks (suc i) ts)
@@ -193,6 +186,11 @@ before_is true ss e =
 
 -- ---- what is written is what the row writes
 
+unscoped_ended : (b : Bool) (ss : Trees) → are_unscoped (ended b ss) ≡ are_unscoped ss
+unscoped_ended false ss = refl
+unscoped_ended true none = refl
+unscoped_ended true (t ▸ ss) = ap (λ b. is_unscoped t && b) (unscoped_ended true ss)
+
 module _ (t : Tree) (h : inlines t ≡ true) where
   abbrev statements : Trees
   statements = children (part (the_case t) 1)
@@ -200,51 +198,60 @@ module _ (t : Tree) (h : inlines t ≡ true) where
   abbrev test : Tree
   test = part (the_case t) 0
 
+  abbrev left : Trees
+  left = before_break statements
+
+  unscoped_left : are_unscoped statements ≡ are_unscoped left
+  unscoped_left = ap are_unscoped (statements_are statements) ∙ unscoped_ended (ends_in_break statements) left
+
   abbrev chosen : Bool → Tree
-  chosen b = if b then block (expression_statement (part t 0) ▸ before_break statements) else if_alone (binary StrictEquality (part t 0) test) (block (before_break statements))
+  chosen b = if b then block (expression_statement (part t 0) ▸ enclosed left) else if_alone (binary StrictEquality (part t 0) test) (block left)
+
+  abbrev by_default : Bool → Tree
+  by_default b = block (expression_statement (part t 0) ▸ (if b then left else (block left ▸ none)))
 
   pub row_of : OneCaseRow t (inlined t)
   row_of =
       let (one, rest) = and_parts (holds_one_case t) (declares_nothing (part t 0) && can_be_inlined (the_case t)) h in
       let (value, inlinable) = and_parts (declares_nothing (part t 0)) (can_be_inlined (the_case t)) rest in
-      let (case, more) = and_parts (is_case (the_case t)) ((is_absent_part test || is_plain test) && stay statements) inlinable in
-      let (written_out, stays) = and_parts (is_absent_part test || is_plain test) (stay statements) more in
-      let (unscoped, calm) = and_parts (are_unscoped statements) (not (some_breaks (before_break statements))) stays in
+      let (case, more) = and_parts (is_case (the_case t)) (may_be_tested test statements && stay_inside statements) inlinable in
+      let (tested, stays) = and_parts (may_be_tested test statements) (stay_inside statements) more in
       let is = switch_is t one case ∙ ap (one_case (part t 0) test) (statements_are statements) in
-      go (is_absent_part test) refl value (unscoped_first (unbroken_count statements) statements unscoped) (listed_breaks 0 (before_break statements) ∙ not_true (some_breaks (before_break statements)) calm) is written_out
+      go (is_absent_part test) refl value (listed_breaks 0 left ∙ not_true (some_breaks left) stays) is tested
     where
-      go : (b : Bool) → is_absent_part test ≡ b → declares_nothing (part t 0) ≡ true → are_unscoped (before_break statements) ≡ true → breaks_out (listed (before_break statements)) ≡ false → t ≡ one_case (part t 0) test (ended (ends_in_break statements) (before_break statements)) → (b || is_plain test) ≡ true → OneCaseRow t (inlined t)
-      go true e value unscoped stays is f =
-          inr (record { discriminant = part t 0; statements = before_break statements; is_ended = ends_in_break statements; value = value; unscoped = unscoped; stays = stays; shape = is ∙ ap (λ x. one_case (part t 0) x (ended (ends_in_break statements) (before_break statements))) (absent_is test e); written = ap chosen e })
-      go false e value unscoped stays is f =
-          let form = plain_is test f in
-          inl (record { discriminant = part t 0; test = form.0; statements = before_break statements; is_ended = ends_in_break statements; value = value; unscoped = unscoped; stays = stays; shape = is ∙ ap (λ x. one_case (part t 0) x (ended (ends_in_break statements) (before_break statements))) form.1; written = ap chosen e ∙ ap (λ x. if_alone (binary StrictEquality (part t 0) x) (block (before_break statements))) form.1 })
+      default_by : (b : Bool) → are_unscoped left ≡ b → declares_nothing (part t 0) ≡ true → breaks_out (listed left) ≡ false → t ≡ one_case (part t 0) absent (ended (ends_in_break statements) left) → inlined t ≡ by_default b → OneCaseRow t (inlined t)
+      default_by true u value stays is w = inr (inl (record { discriminant = part t 0; statements = left; is_ended = ends_in_break statements; value = value; unscoped = u; stays = stays; shape = is; written = w }))
+      default_by false u value stays is w = inr (inr (record { discriminant = part t 0; statements = left; is_ended = ends_in_break statements; value = value; scoped = u; stays = stays; shape = is; written = w }))
+
+      go : (b : Bool) → is_absent_part test ≡ b → declares_nothing (part t 0) ≡ true → breaks_out (listed left) ≡ false → t ≡ one_case (part t 0) test (ended (ends_in_break statements) left) → (b || (is_plain test && are_unscoped statements)) ≡ true → OneCaseRow t (inlined t)
+      go true e value stays is f =
+          default_by (are_unscoped left) refl value stays (is ∙ ap (λ x. one_case (part t 0) x (ended (ends_in_break statements) left)) (absent_is test e)) (ap chosen e)
+      go false e value stays is f =
+          let (written_out, unscoped) = and_parts (is_plain test) (are_unscoped statements) f in
+          let form = plain_is test written_out in
+          inl (record { discriminant = part t 0; test = form.0; statements = left; is_ended = ends_in_break statements; value = value; unscoped = sym unscoped_left ∙ unscoped; stays = stays; shape = is ∙ ap (λ x. one_case (part t 0) x (ended (ends_in_break statements) left)) form.1; written = ap chosen e ∙ ap (λ x. if_alone (binary StrictEquality (part t 0) x) (block left)) form.1 })
 
 -- ---- where nothing is written the row doesn't read it
 
 both_true : (a b : Bool) → a ≡ true → b ≡ true → (a && b) ≡ true
 both_true a b e f = ap (λ c. c && b) e ∙ f
 
-unscoped_ended : (b : Bool) (ss : Trees) → are_unscoped ss ≡ true → are_unscoped (ended b ss) ≡ true
-unscoped_ended false ss h = h
-unscoped_ended true none h = refl
-unscoped_ended true (t ▸ ss) h =
-    let (first, rest) = and_parts (is_unscoped t) (are_unscoped ss) h in
-    both_true (is_unscoped t) (are_unscoped (ended true ss)) first (unscoped_ended true ss rest)
+stays_so : (b : Bool) (ss : Trees) → breaks_out (listed ss) ≡ false → stay_inside (ended b ss) ≡ true
+stays_so b ss s = let calm = sym (listed_breaks 0 ss) ∙ s in ap not (ap some_breaks (before_is b ss calm) ∙ calm)
 
-stays_so : (b : Bool) (ss : Trees) → are_unscoped ss ≡ true → breaks_out (listed ss) ≡ false → stay (ended b ss) ≡ true
-stays_so b ss u s =
-    let calm = sym (listed_breaks 0 ss) ∙ s in
-    both_true (are_unscoped (ended b ss)) (not (some_breaks (before_break (ended b ss)))) (unscoped_ended b ss u) (ap not (ap some_breaks (before_is b ss calm) ∙ calm))
+default_passes : (d : Tree) (b : Bool) (ss : Trees) → declares_nothing d ≡ true → breaks_out (listed ss) ≡ false → inlines (one_case d absent (ended b ss)) ≡ true
+default_passes d b ss v s = both_true (declares_nothing d) (can_be_inlined (switch_case absent (ended b ss))) v (stays_so b ss s)
 
 passes : (n w : Tree) → OneCaseRow n w → inlines n ≡ true
 passes n w (inl r) =
+    let left = ended r.is_ended r.statements in
     ap inlines r.shape
-    ∙ both_true (declares_nothing r.discriminant) (can_be_inlined (switch_case (plain r.test) (ended r.is_ended r.statements))) r.value
-    (both_true (is_absent_part (plain r.test) || is_plain (plain r.test)) (stay (ended r.is_ended r.statements)) (or_second (is_absent_part (plain r.test)) (is_plain (plain r.test)) (plain_passes r.test)) (stays_so r.is_ended r.statements r.unscoped r.stays))
-passes n w (inr r) =
-    ap inlines r.shape
-    ∙ both_true (declares_nothing r.discriminant) (can_be_inlined (switch_case absent (ended r.is_ended r.statements))) r.value (stays_so r.is_ended r.statements r.unscoped r.stays)
+    ∙ both_true (declares_nothing r.discriminant) (can_be_inlined (switch_case (plain r.test) left)) r.value
+    (both_true (may_be_tested (plain r.test) left) (stay_inside left)
+    (or_second (is_absent_part (plain r.test)) (is_plain (plain r.test) && are_unscoped left) (both_true (is_plain (plain r.test)) (are_unscoped left) (plain_passes r.test) (unscoped_ended r.is_ended r.statements ∙ r.unscoped)))
+    (stays_so r.is_ended r.statements r.stays))
+passes n w (inr (inl r)) = ap inlines r.shape ∙ default_passes r.discriminant r.is_ended r.statements r.value r.stays
+passes n w (inr (inr r)) = ap inlines r.shape ∙ default_passes r.discriminant r.is_ended r.statements r.value r.stays
 
 pub never : (n w : Tree) → inlines n ≡ false → OneCaseRow n w → ⊥
 never n w e r = false≢true (sym e ∙ passes n w r)

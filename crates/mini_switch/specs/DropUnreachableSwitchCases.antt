@@ -1,47 +1,20 @@
 -- 81, `drop_unreachable_switch_cases`: `switch (2) { case 1: a(); case 2: b(); case 3: c(); }` becomes `switch (2) { case 2: b(); c(); }`.
-use Rattle.std.specs.Prelude.{ℕ, zero, suc, ◌-◌, nat_lt, ℤ, pos, Bool, true, false, ◌&&◌, ◌||◌, Option, Some, None, if◌then◌else◌}
-use Rattle.mini_model.specs.declared.operator.UnaryOperator.{UnaryOperator}
-use Rattle.mini_model.specs.declared.operator.UnaryOperator.TheVariants.{LogicalNot}
+use Rattle.std.specs.Prelude.{ℕ, zero, ◌-◌, nat_lt, Bool, true, false, ◌&&◌, ◌||◌, Option, Some, None, if◌then◌else◌}
 use Rattle.mini_model.specs.declared.shape.Shape.{Shape}
 use Rattle.mini_model.specs.declared.shape.Shape.TheVariants as shape
 use Rattle.mini_model.specs.Tree.{Tree, Trees, none, ◌▸◌, shape_of, children, count, absent, listed}
 use Rattle.mini_node.specs.Children.{part, is_bare, first_children, rest_children}
-use Rattle.mini_node.specs.Equal.{same_tree}
-use Rattle.mini_node.specs.Kinds.{number, unary_operator, is_absent_part, is_listed}
+use Rattle.mini_node.specs.Kinds.{is_absent_part, is_listed}
+use Rattle.mini_laws.specs.Value.{Value}
+use Rattle.mini_laws.specs.Operators.{strictly_equal}
 use Rattle.mini_rows.specs.Cases.{switch_case}
 use Rattle.mini_model.specs.Paths.{append}
 use Rattle.mini_node.specs.Kinds.{is_named_leaf}
-use Rattle.mini_rows.specs.DeadCases.{Choices, no_choices, choice, are_loose, are_plain_declarators, left_cases, cases_go, running, rest_goes}
+use Rattle.mini_rows.specs.DeadCases.{asked, tested, Choices, no_choices, choice, are_loose, are_plain_declarators, left_cases, cases_go, running, rest_goes}
 use Rattle.mini_rows.specs.Lists.{switch, is_var_shape, is_declarator_shape}
-use Rattle.mini_syntax.specs.Forms.{first_of, is_plain}
+use Rattle.mini_syntax.specs.Forms.{first_of}
 use Rattle.mini_switch.specs.MinimizeSwitchStatements as inlining
 use Rattle.mini_switch.specs.MinimizeSwitchStatements.{is_switch_shape, is_case}
-
--- ---- values that are written out
-
-abbrev pub is_digit : Option ℤ → Bool
-is_digit (Some (pos zero)) = true
-is_digit (Some (pos (suc zero))) = true
-is_digit _ = false
-
-abbrev pub is_not : Option UnaryOperator → Bool
-is_not (Some LogicalNot) = true
-is_not _ = false
-
--- `!0` and `!1`
-abbrev pub is_truth : Tree → Bool
-is_truth t = is_not (unary_operator t) && is_digit (number (part t 0))
-
-abbrev pub is_value_shape : Shape → Bool
-is_value_shape (shape.NumericLiteral n) = true
-is_value_shape (shape.StringLiteral s) = true
-is_value_shape shape.NullLiteral = true
-is_value_shape (shape.UnaryExpression o) = true
-is_value_shape _ = false
-
--- a number, a text, `null`, `void 0`, `!0` or `!1`
-abbrev pub is_known : Tree → Bool
-is_known t = is_value_shape (shape_of t) && (is_plain t || is_truth t)
 
 -- ---- cases
 
@@ -57,14 +30,25 @@ choices_of (c ▸ cs) = choice (part c 0) (children (part c 1)) (choices_of cs)
 
 -- ---- which case is taken, by how many cases stand from it on
 
--- a test that is `default`, or writes a value out
-abbrev pub is_settled : Tree → Bool
-is_settled t = is_absent_part t || is_known t
+-- whether the value of a test is this one, where it is known
+abbrev pub verdict_by : Value → Option Value → Option Bool
+verdict_by v (Some w) = Some (strictly_equal v w)
+verdict_by v None = None
+
+abbrev pub verdict : Value → Tree → Option Bool
+verdict v t = verdict_by v (tested t)
+
+-- from here on where it is, and from a later one on where it isn't, or this is `default`
+abbrev pub selected_by : Option Bool → Bool → ℕ → Option ℕ → Option ℕ
+selected_by (Some true) is_default here later = Some here
+selected_by (Some false) is_default here later = later
+selected_by None true here later = later
+selected_by None false here later = None
 
 -- the first whose test is the value; 0 where none is, and nothing where a test before isn't known
-abbrev pub selected : Tree → Trees → Option ℕ
-selected d none = Some 0
-selected d (c ▸ cs) = if same_tree d (part c 0) then Some (count (c ▸ cs)) else (if is_settled (part c 0) then selected d cs else None)
+abbrev pub selected : Value → Trees → Option ℕ
+selected v none = Some 0
+selected v (c ▸ cs) = selected_by (verdict v (part c 0)) (is_absent_part (part c 0)) (count (c ▸ cs)) (selected v cs)
 
 abbrev pub any_default : Trees → Bool
 any_default none = false
@@ -87,8 +71,8 @@ abbrev pub or_default : Trees → Option ℕ → Option ℕ
 or_default cs (Some zero) = only_default cs
 or_default cs o = o
 
-abbrev pub entry : Tree → Trees → Option ℕ
-entry d cs = or_default cs (selected d cs)
+abbrev pub entry : Value → Trees → Option ℕ
+entry v cs = or_default cs (selected v cs)
 
 -- ---- what goes
 
@@ -125,13 +109,18 @@ place_by cs None = None
 abbrev pub holds_cases : Tree → Bool
 holds_cases t = is_switch_shape (shape_of t) && (is_bare t 2 && is_listed (part t 1))
 
--- it is over a value, and of two cases or more, in which nothing is scoped
+-- it is of two cases or more, in which nothing is scoped
 abbrev pub is_read : Tree → Bool
-is_read t = holds_cases t && (is_known (part t 0) && (nat_lt 1 (count (children (part t 1))) && (are_cases (children (part t 1)) && are_loose (choices_of (children (part t 1))))))
+is_read t = holds_cases t && (nat_lt 1 (count (children (part t 1))) && (are_cases (children (part t 1)) && are_loose (choices_of (children (part t 1)))))
+
+-- over this value
+abbrev pub place_over : Trees → Option Value → Option ℕ
+place_over cs (Some v) = place_by cs (entry v cs)
+place_over cs None = None
 
 -- the place of the case that is left, or how many there are where none is taken
 abbrev pub place : Tree → Option ℕ
-place t = if is_read t then place_by (children (part t 1)) (entry (part t 0) (children (part t 1))) else None
+place t = if is_read t then place_over (children (part t 1)) (asked (part t 0)) else None
 
 -- ---- what is written
 

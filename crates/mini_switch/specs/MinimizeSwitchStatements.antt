@@ -1,5 +1,5 @@
--- 80, `minimize_switch_statement`: `switch (a) { case 1: b(); break; }` becomes `if (a === 1) { b(); }`, and
--- `switch (a) { default: b(); break; }` becomes `{ a; b(); }`.
+-- 80, `minimize_switch_statement`: `switch (a) { case 1: b(); break; }` becomes `if (a === 1) { b(); }`,
+-- `switch (a) { default: b(); break; }` becomes `{ a; b(); }`, and `switch (a) { default: let x = b(); c(x); }` `{ a; { let x = b(); c(x); } }`.
 use Rattle.std.specs.Prelude.{ℕ, ◌-◌, ◌<◌, Bool, true, false, not, ◌&&◌, ◌||◌, Option, Some, None, if◌then◌else◌}
 use Rattle.mini_model.specs.declared.operator.BinaryOperator.TheVariants.{StrictEquality}
 use Rattle.mini_model.specs.declared.place.Position.{Position}
@@ -64,13 +64,12 @@ is_case c = is_case_shape (shape_of c) && (is_bare c 2 && is_listed (part c 1))
 abbrev pub stay_inside : Trees → Bool
 stay_inside ts = not (some_breaks (before_break ts))
 
--- and nothing in them is scoped
-abbrev pub stay : Trees → Bool
-stay ts = are_unscoped ts && stay_inside ts
+-- a case whose test is absent, or writes a value out, and then nothing in the case is scoped
+abbrev pub may_be_tested : Tree → Trees → Bool
+may_be_tested x ss = is_absent_part x || (is_plain x && are_unscoped ss)
 
--- a case whose test is absent or writes a value out
 abbrev pub can_be_inlined : Tree → Bool
-can_be_inlined c = is_case c && ((is_absent_part (part c 0) || is_plain (part c 0)) && stay (children (part c 1)))
+can_be_inlined c = is_case c && (may_be_tested (part c 0) (children (part c 1)) && stay_inside (children (part c 1)))
 
 -- `switch (a) { one case }`
 abbrev pub holds_one_case : Tree → Bool
@@ -82,8 +81,12 @@ the_case t = part (part t 1) 0
 abbrev pub inlines : Tree → Bool
 inlines t = holds_one_case t && (declares_nothing (part t 0) && can_be_inlined (the_case t))
 
+-- statements in which nothing is scoped, or a block that has their names
+abbrev pub enclosed : Trees → Trees
+enclosed ss = if are_unscoped ss then ss else (block ss ▸ none)
+
 abbrev pub written_for : Tree → Tree → Trees → Tree
-written_for d x ss = if is_absent_part x then block (expression_statement d ▸ ss) else if_alone (binary StrictEquality d x) (block ss)
+written_for d x ss = if is_absent_part x then block (expression_statement d ▸ enclosed ss) else if_alone (binary StrictEquality d x) (block ss)
 
 abbrev pub inlined : Tree → Tree
 inlined t = written_for (part t 0) (part (the_case t) 0) (before_break (children (part (the_case t) 1)))

@@ -163,7 +163,7 @@ module _ (is_free : Bool) (f : Tree → Option Value) (h : (a : Tree) (u : Value
   chosen (of_template is e) = subst (λ x. Constant x v) (sym is) (record { constant = template_of f its_const (children (part t 0)) (children (part t 1)) v e; plain = refl })
   chosen (of_sequence free is e) = subst (λ x. Constant x v) (sym is) (record { constant = sequence_of f its_const (children (part t 0)) v e; plain = refl })
 
-free_is_constant : (t : Tree) (v : Value) → free_value t ≡ Some v → Constant t v
+pub free_is_constant : (t : Tree) (v : Value) → free_value t ≡ Some v → Constant t v
 free_is_constant t v e = within Constant true leaf_is (operated true) (chosen true) operand_depth t v e
 
 -- an effect-free operator whose value is calculated

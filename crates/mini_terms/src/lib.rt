@@ -25,7 +25,8 @@ pub use laws::{
     values_are_read, what_is_known_goes,
 };
 pub use literals::{
-    calculated_binary, copied, evaluate_value, is_true, operand_value, text_of_both, to_text,
+    calculated_binary, copied, evaluate_value, given_value, is_true, operand_value, strictly_equal,
+    text_of_both, to_text,
 };
 pub use numbers::{calculated_numbers, is_same};
 pub use parts::{is_item, is_plain_part, is_typed_by_value, leaves_nothing, stands, suits, weighs};

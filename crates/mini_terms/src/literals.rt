@@ -325,8 +325,8 @@ fn is_nullish(value: &ConstantValue) -> bool
     matches!(value, ConstantValue::Undefined | ConstantValue::Null)
 }
 
-// ECMA-262, "IsStrictlyEqual"
-fn strictly_equal(left: &ConstantValue, right: &ConstantValue) -> bool
+/// ECMA-262, "IsStrictlyEqual".
+pub fn strictly_equal(left: &ConstantValue, right: &ConstantValue) -> bool
     ensures { result ≡ operators.strictly_equal (value_of left.now) (value_of right.now) }
 {
     match (left, right) {
@@ -773,6 +773,15 @@ fn value_within(
         Some(value) => Ok(Some(value)),
         None => other_value(alloc, is_free, node, depth - 1),
     }
+}
+
+/// The value that an expression gives where it gives one, as far as it is calculated, whatever it does besides.
+///
+/// The only error is that memory runs out.
+pub fn given_value(alloc: Global, node: &Node) -> Result<Option<ConstantValue>, OutOfMemory>
+    ensures { IfOk result (λ v. value_in v ≡ term.free_value node.now) }
+{
+    value_within(alloc, true, node, OPERAND_DEPTH)
 }
 
 /// The value of an operand whose evaluation does nothing but give it, as far as it is calculated.

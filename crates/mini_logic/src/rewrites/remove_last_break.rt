@@ -3,66 +3,26 @@
 
 ghost use Rattle.std.specs.Prelude.{◌≡◌, ◌<◌, true, is_some, unwrap_or, IfOk, OnOk};
 ghost use Rattle.mini_model.specs.Tree.{children, count};
-ghost use Rattle.mini_node.specs.Children.{part};
-ghost use Rattle.mini_node.specs.Kinds.{number as number_in, string as string_in, unary_operator as operator_in};
 ghost use Rattle.mini_logic.specs.LastContinue.{last_of};
 ghost use Rattle.mini_logic.specs.LastBreak as row;
 ghost use Rattle.mini_logic.specs.LastBreak.{written};
 
 use crate::rewrites::remove_last_continue::drop_last;
-use mini_model::{OutOfMemory, Shape, UnaryOperator};
+use mini_model::{OutOfMemory, Shape};
 use mini_node::{
-    Node, Nodes, block, discard, empty_statement, is_absent_part, is_block, is_null, number, one,
-    string, taken, unary_operator,
+    Node, Nodes, block, discard, empty_statement, is_absent_part, is_block, one, taken,
 };
+use mini_terms::{is_true, operand_value};
 use std::alloc::Global;
 
-// `0`
-fn is_zero(node: &Node) -> bool
-    ensures { result ≡ row.is_zero (number_in node.now) }
+// Whether a test does nothing but give a value that is false.
+fn fails(alloc: Global, test: &Node) -> Result<bool, OutOfMemory>
+    ensures { IfOk result (λ b. b ≡ row.fails test.now) }
 {
-    match number(node) {
-        Some(value) => value == 0,
-        None => false,
+    match operand_value(alloc, test)? {
+        Some(value) => Ok(!is_true(&value)),
+        None => Ok(false),
     }
-}
-
-// `1`
-fn is_one(node: &Node) -> bool
-    ensures { result ≡ row.is_one (number_in node.now) }
-{
-    match number(node) {
-        Some(value) => value == 1,
-        None => false,
-    }
-}
-
-// `""`
-fn is_empty_text(node: &Node) -> bool
-    ensures { result ≡ row.is_empty_text (string_in node.now) }
-{
-    match string(node) {
-        Some(text) => text.is_empty(),
-        None => false,
-    }
-}
-
-// `void 0` and `!1`
-fn fails_under(node: &Node) -> bool
-    ensures { result ≡ row.fails_under (operator_in node.now) (number_in (part node.now 0)) }
-{
-    match unary_operator(node) {
-        Some(UnaryOperator::Void) => is_zero(node.child(0)),
-        Some(UnaryOperator::LogicalNot) => is_one(node.child(0)),
-        _ => false,
-    }
-}
-
-// A value that is written out and is false.
-fn fails(node: &Node) -> bool
-    ensures { result ≡ row.fails node.now }
-{
-    is_zero(node) || is_empty_text(node) || is_null(node) || fails_under(node)
 }
 
 // `break;`
@@ -120,12 +80,24 @@ fn is_do(node: &Node) -> bool
     matches!(node.shape(), Shape::DoWhileStatement) && node.is_bare(2)
 }
 
-// One that ends so, over a value that is false.
-fn is_read(node: &Node) -> bool
-    ensures kind { result ≡ row.is_read node.now }
+// One whose body ends so.
+fn is_broken(node: &Node) -> bool
+    ensures kind { result ≡ row.is_broken node.now }
     ensures parts { result ≡ true → count (children node.now) ≡ 2 }
 {
-    is_do(node) && is_broken_end(node.child(0)) && fails(node.child(1))
+    is_do(node) && is_broken_end(node.child(0))
+}
+
+// And whose test fails.
+fn is_read(alloc: Global, node: &Node) -> Result<bool, OutOfMemory>
+    ensures kind { IfOk result (λ b. b ≡ row.is_read node.now) }
+    ensures parts { IfOk result (λ b. b ≡ true → count (children node.now) ≡ 2) }
+{
+    if is_broken(node) {
+        fails(alloc, node.child(1))
+    } else {
+        Ok(false)
+    }
 }
 
 // With what is left of its body.
@@ -140,14 +112,14 @@ fn left_in(alloc: Global, mut node: Node) -> Result<Node, OutOfMemory>
     Ok(node.over(children))
 }
 
-/// The last `break;` of the body of a `do` goes, where its test is a value that is false, so that the loop ends behind its body
+/// The last `break;` of the body of a `do` goes, where its test does nothing but give a value that is false, so that the loop ends behind its body
 /// either way (ECMA-262, "Runtime Semantics: DoWhileLoopEvaluation"). The answer says whether it did; the only error is that
 /// memory runs out, and then the statement is fit only to be dropped.
 pub fn remove_last_break(alloc: Global, node: &mut Node) -> Result<bool, OutOfMemory>
     ensures tree { OnOk result (node.new ≡ unwrap_or (written node.old) node.old) }
     ensures said { IfOk result (λ changed. changed ≡ is_some (written node.old)) }
 {
-    if is_read(node) {
+    if is_read(alloc, node)? {
         *node = left_in(alloc, taken(alloc, node))?;
         return Ok(true);
     }

@@ -150,17 +150,46 @@ fn declares_first(node: &Node) -> bool
     is_declaration(node) && begins_with_one(node.child(0).children())
 }
 
-// What holds an expression that is evaluated first.
-fn holds(node: &Node) -> bool
-    ensures kind { result ≡ row.holds node.now }
+// A `for` whose head is a `var`.
+fn loops_first(node: &Node) -> bool
+    ensures kind { result ≡ row.loops_first node.now }
+    ensures parts { result ≡ true → 0 < count (children node.now) }
+    ensures head { result ≡ true → 0 < count (children (part node.now 0)) }
+    ensures list { result ≡ true → 0 < count (children (part (part node.now 0) 0)) }
+    ensures declarator { result ≡ true → count (children (part (part (part node.now 0) 0) 0)) ≡ 2 }
+{
+    is_for(node)
+        && declares(node.child(0), VariableDeclarationKind::Var)
+        && declares_first(node.child(0))
+}
+
+// What holds an expression that is evaluated first, other than that.
+fn holds_plainly(node: &Node) -> bool
+    ensures kind { result ≡ row.holds_plainly node.now }
     ensures parts { result ≡ true → 0 < count (children node.now) }
 {
     is_led(node) || goes_over(node) || declares_first(node)
 }
 
+fn holds(node: &Node) -> bool
+    ensures kind { result ≡ row.holds node.now }
+    ensures parts { result ≡ true → 0 < count (children node.now) }
+{
+    loops_first(node) || holds_plainly(node)
+}
+
 // That expression.
 fn held(node: &Node) -> &Node
     ensures { result.now ≡ row.held node.now }
+{
+    if loops_first(node) {
+        return node.child(0).child(0).child(0).child(1);
+    }
+    held_plainly(node)
+}
+
+fn held_plainly(node: &Node) -> &Node
+    ensures { result.now ≡ row.held_plainly node.now }
 {
     if is_led(node) {
         return node.child(0);
@@ -301,11 +330,39 @@ fn leave_first(alloc: Global, mut next: Node) -> Result<(Node, Node), OutOfMemor
     Ok((value, over_child(next, 0, others)))
 }
 
+// The same of the first initializer of a `var` in the head of a `for`.
+#[tactic(auto, using(crate::proofs::Parts::same_parts, crate::proofs::Parts::part_twice))]
+fn leave_looped(alloc: Global, mut next: Node) -> Result<(Node, Node), OutOfMemory>
+    requires some { 0 < count (children next) }
+    requires head { 0 < count (children (part next 0)) }
+    requires list { 0 < count (children (part (part next 0) 0)) }
+    requires declarator { 1 < count (children (part (part (part next 0) 0) 0)) }
+    requires parts { 1 < count (children (part (part (part (part (part next 0) 0) 0) 1) 0)) }
+    ensures value { IfOk result (λ made. made.0 ≡ part (part (part (part (part (part (part next 0) 0) 0) 1) 0) 0) 1) }
+    ensures left { IfOk result (λ made. made.1 ≡ with_part next 0 (row.with_first (part next 0) (row.other_parts (children (part (part (part (part (part next 0) 0) 0) 1) 0))))) }
+{
+    let head = take_child(&mut next, 0);
+    let (value, rest) = leave_first(alloc, head)?;
+    Ok((value, over_child(next, 0, rest)))
+}
+
 // The same of the sequence that a statement holds.
 fn leave_held(alloc: Global, next: Node) -> Result<(Node, Node), OutOfMemory>
     requires { row.holds_sequence next ≡ true }
     ensures value { IfOk result (λ made. made.0 ≡ part (part (part (row.held next) 0) 0) 1) }
     ensures left { IfOk result (λ made. made.1 ≡ row.with_held next (row.other_parts (children (part (row.held next) 0)))) }
+{
+    if loops_first(&next) {
+        return leave_looped(alloc, next);
+    }
+    leave_plainly(alloc, next)
+}
+
+fn leave_plainly(alloc: Global, next: Node) -> Result<(Node, Node), OutOfMemory>
+    requires whole { row.holds_sequence next ≡ true }
+    requires plain { row.loops_first next ≡ false }
+    ensures value { IfOk result (λ made. made.0 ≡ part (part (part (row.held_plainly next) 0) 0) 1) }
+    ensures left { IfOk result (λ made. made.1 ≡ row.with_plainly next (row.other_parts (children (part (row.held_plainly next) 0)))) }
 {
     if is_led(&next) {
         return leave_child(alloc, next, 0);

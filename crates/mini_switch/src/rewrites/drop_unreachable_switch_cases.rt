@@ -1,67 +1,58 @@
-//! Row 81: of a `switch` over a value that is written out one case is left. `switch (2) { case 1: a(); case 2: b(); case 3: c(); }`
+//! Row 81: of a `switch` over a value that is known one case is left. `switch (2) { case 1: a(); case 2: b(); case 3: c(); }`
 //! becomes `switch (2) { case 2: b(); c(); }`, which is lighter in every place.
 
 ghost use Rattle.std.specs.Prelude.{◌≡◌, ◌≤◌, ◌<◌, ◌&&◌, ◌||◌, true, false, not, is_some, unwrap_or, OnOk, IfOk, IfSome};
 ghost use Rattle.mini_model.specs.Tree.{children, count, shape_of, is_absent as is_it_absent, node_count};
 ghost use Rattle.mini_node.specs.Children.{part, trees_of, first_children, rest_children};
-ghost use Rattle.mini_node.specs.Kinds.{number as number_in};
 ghost use Rattle.mini_rows.specs.Cases as case;
 ghost use Rattle.mini_rows.specs.DeadCases as dead;
 ghost use Rattle.mini_rows.specs.Lists as list;
 ghost use Rattle.mini_rows.specs.Loops as looping;
+ghost use Rattle.mini_terms.specs.Values.{value as value_of, value_in};
 ghost use Rattle.mini_switch.specs.DropUnreachableSwitchCases as row;
 ghost use Rattle.mini_switch.specs.DropUnreachableSwitchCases.{written, choices_of};
 
 use crate::rewrites::minimize_switch_statements::is_case;
-use mini_model::{OutOfMemory, Shape, UnaryOperator, VariableDeclarationKind};
+use mini_model::{OutOfMemory, Shape, VariableDeclarationKind};
 use mini_node::{
-    Node, Nodes, discard, is_absent_part, is_listed, is_same_tree, listed, number, of_one, of_two,
-    taken, two, unary_operator,
+    Node, Nodes, discard, is_absent_part, is_listed, listed, of_one, of_two, taken, two,
 };
 use mini_stmt::{
     are_unscoped, declares_nothing, has_terminated, is_left_lighter, left_behind, takes_names_along,
 };
-use mini_syntax::is_plain;
+use mini_terms::{ConstantValue, given_value, has_no_effect, strictly_equal};
 use std::alloc::Global;
 
-// `0` or `1`.
-fn is_digit(node: &Node) -> bool
-    ensures { result ≡ row.is_digit (number_in node.now) }
+// What a discriminant gives where it gives a value, if that is known.
+fn asked_value(alloc: Global, discriminant: &Node) -> Result<Option<ConstantValue>, OutOfMemory>
+    ensures { IfOk result (λ v. value_in v ≡ dead.asked discriminant.now) }
 {
-    match number(node) {
-        Some(value) => value == 0 || value == 1,
-        None => false,
+    if declares_nothing(discriminant) {
+        given_value(alloc, discriminant)
+    } else {
+        Ok(None)
     }
 }
 
-// `!0` or `!1`.
-fn is_truth(node: &Node) -> bool
-    ensures { result ≡ row.is_truth node.now }
+// The value of a test without an effect, if that is known.
+fn tested_value(alloc: Global, test: &Node) -> Result<Option<ConstantValue>, OutOfMemory>
+    ensures { IfOk result (λ v. value_in v ≡ dead.tested test.now) }
 {
-    match unary_operator(node) {
-        Some(UnaryOperator::LogicalNot) => is_digit(node.child(0)),
-        _ => false,
+    if has_no_effect(test) {
+        asked_value(alloc, test)
+    } else {
+        Ok(None)
     }
 }
 
-// A number, a text, `null`, `void 0`, `!0` or `!1`.
-fn is_known(node: &Node) -> bool
-    ensures { result ≡ row.is_known node.now }
+// Whether the value of a test is this one, where it is known.
+fn verdict(alloc: Global, value: &ConstantValue, test: &Node) -> Result<Option<bool>, OutOfMemory>
+    ensures { IfOk result (λ b. b ≡ row.verdict (value_of value.now) test.now) }
 {
-    match node.shape() {
-        Shape::NumericLiteral(_)
-        | Shape::StringLiteral(_)
-        | Shape::NullLiteral
-        | Shape::UnaryExpression(_) => is_plain(node) || is_truth(node),
-        _ => false,
+    match tested_value(alloc, test)? {
+        Some(found) => Ok(Some(strictly_equal(value, &found))),
+        None => Ok(None),
     }
-}
-
-// A test that is `default`, or writes a value out.
-fn is_settled(test: &Node) -> bool
-    ensures { result ≡ row.is_settled test.now }
-{
-    is_absent_part(test) || is_known(test)
 }
 
 // Whether each of the nodes is a case.
@@ -88,19 +79,25 @@ fn are_loose(cases: &[Node]) -> bool
 
 // How many cases there are from the first on whose test is the value; 0 where none is, and None where a test before isn't known.
 #[tactic(auto, using(crate::proofs::DeadCases::two_parts, crate::proofs::DeadCases::rest_cases, crate::proofs::DeadCases::counted))]
-fn selected(value: &Node, cases: &[Node]) -> Option<usize>
+fn selected(
+    alloc: Global,
+    value: &ConstantValue,
+    cases: &[Node],
+) -> Result<Option<usize>, OutOfMemory>
     requires { row.are_cases (trees_of cases.now) ≡ true }
-    ensures kind { result ≡ row.selected value.now (trees_of cases.now) }
-    ensures within { IfSome result (λ k. k ≤ count (trees_of cases.now)) }
+    ensures kind { IfOk result (λ k. k ≡ row.selected (value_of value.now) (trees_of cases.now)) }
+    ensures within { IfOk result (λ k. IfSome k (λ n. n ≤ count (trees_of cases.now))) }
 {
     match cases {
-        [] => Some(0),
-        [first, rest @ ..] => if is_same_tree(value, first.child(0)) {
-            Some(cases.len())
-        } else if is_settled(first.child(0)) {
-            selected(value, rest)
-        } else {
-            None
+        [] => Ok(Some(0)),
+        [first, rest @ ..] => match verdict(alloc, value, first.child(0))? {
+            Some(true) => Ok(Some(cases.len())),
+            Some(false) => selected(alloc, value, rest),
+            None => if is_absent_part(first.child(0)) {
+                selected(alloc, value, rest)
+            } else {
+                Ok(None)
+            },
         },
     }
 }
@@ -164,14 +161,14 @@ fn only_default(cases: &[Node]) -> Option<usize>
 }
 
 // How many cases there are from the one on that is taken.
-fn entry(value: &Node, cases: &[Node]) -> Option<usize>
+fn entry(alloc: Global, value: &ConstantValue, cases: &[Node]) -> Result<Option<usize>, OutOfMemory>
     requires { row.are_cases (trees_of cases.now) ≡ true }
-    ensures kind { result ≡ row.entry value.now (trees_of cases.now) }
-    ensures within { IfSome result (λ k. k ≤ count (trees_of cases.now)) }
+    ensures kind { IfOk result (λ k. k ≡ row.entry (value_of value.now) (trees_of cases.now)) }
+    ensures within { IfOk result (λ k. IfSome k (λ n. n ≤ count (trees_of cases.now))) }
 {
-    match selected(value, cases) {
-        Some(0) => only_default(cases),
-        found => found,
+    match selected(alloc, value, cases)? {
+        Some(0) => Ok(only_default(cases)),
+        found => Ok(found),
     }
 }
 
@@ -373,12 +370,16 @@ fn others_go(alloc: Global, cases: &Nodes, at: usize) -> Result<bool, OutOfMemor
 }
 
 // The place of the case that is left of some cases.
-fn place_in(alloc: Global, value: &Node, cases: &Nodes) -> Result<Option<usize>, OutOfMemory>
+fn place_in(
+    alloc: Global,
+    value: &ConstantValue,
+    cases: &Nodes,
+) -> Result<Option<usize>, OutOfMemory>
     requires { row.are_cases cases.now ≡ true }
-    ensures kind { IfOk result (λ place. place ≡ row.place_by cases.now (row.entry value.now cases.now)) }
+    ensures kind { IfOk result (λ place. place ≡ row.place_by cases.now (row.entry (value_of value.now) cases.now)) }
     ensures within { IfOk result (λ place. IfSome place (λ at. at ≤ count cases.now)) }
 {
-    match entry(value, cases.as_slice()) {
+    match entry(alloc, value, cases.as_slice())? {
         Some(left) => {
             let at = cases.len() - left;
             let gone = others_go(alloc, cases, at)?;
@@ -399,14 +400,13 @@ fn holds_cases(node: &Node) -> bool
     }
 }
 
-// A `switch` over a value, of two cases or more, in which nothing is scoped.
+// A `switch` of two cases or more, in which nothing is scoped.
 fn is_read(node: &Node) -> bool
     ensures kind { result ≡ row.is_read node.now }
     ensures outer { result ≡ true → count (children node.now) ≡ 2 }
     ensures inner { result ≡ true → row.are_cases (children (part node.now 1)) ≡ true }
 {
     holds_cases(node)
-        && is_known(node.child(0))
         && node.child(1).children().len() > 1
         && are_cases(node.child(1).parts())
         && are_loose(node.child(1).parts())
@@ -420,7 +420,10 @@ fn place(alloc: Global, node: &Node) -> Result<Option<usize>, OutOfMemory>
     if !is_read(node) {
         return Ok(None);
     }
-    place_in(alloc, node.child(0), node.child(1).children())
+    match asked_value(alloc, node.child(0))? {
+        Some(value) => place_in(alloc, &value, node.child(1).children()),
+        None => Ok(None),
+    }
 }
 
 // `case test: statements`
@@ -536,7 +539,7 @@ fn dropped_at(alloc: Global, node: Node, at: usize) -> Result<Node, OutOfMemory>
     Ok(Node::new(Shape::SwitchStatement, parts))
 }
 
-/// Of a `switch` over a value that is written out one case is left, with the statements that run. The answer says whether others
+/// Of a `switch` over a value that is known one case is left, with the statements that run. The answer says whether others
 /// went; the only error is that memory runs out.
 pub fn drop_unreachable_switch_cases(alloc: Global, node: &mut Node) -> Result<bool, OutOfMemory>
     ensures tree { OnOk result (node.new ≡ unwrap_or (written node.old) node.old) }

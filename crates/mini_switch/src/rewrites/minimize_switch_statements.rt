@@ -1,5 +1,5 @@
-//! Row 80: `switch (a) { case 1: b(); break; }` becomes `if (a === 1) { b(); }`, and `switch (a) { default: b(); break; }` becomes
-//! `{ a; b(); }`, each of which is lighter in every place.
+//! Row 80: `switch (a) { case 1: b(); break; }` becomes `if (a === 1) { b(); }`, `switch (a) { default: b(); break; }` becomes
+//! `{ a; b(); }`, and `switch (a) { default: let x = b(); c(x); }` `{ a; { let x = b(); c(x); } }`, each of which is lighter in every place.
 
 ghost use Rattle.std.specs.Prelude.{◌≡◌, ◌≤◌, ◌<◌, ◌&&◌, true, not, is_some, unwrap_or, OnOk, IfOk};
 ghost use Rattle.mini_model.specs.declared.operator.BinaryOperator.TheVariants.{StrictEquality};
@@ -20,7 +20,7 @@ use crate::rewrites::drop_unreachable_switch_cases::drop_unreachable_switch_case
 use mini_model::{BinaryOperator, OutOfMemory, Position, Shape};
 use mini_node::{
     Node, Nodes, absent, binary, block, discard, expression_statement, if_statement,
-    is_absent_part, is_listed, one, taken, two,
+    is_absent_part, is_listed, of_one, one, taken, two,
 };
 use mini_stmt::{are_unscoped, declares_nothing};
 use mini_syntax::{is_list_of, is_plain};
@@ -145,13 +145,6 @@ pub fn stay_inside(nodes: &Nodes) -> bool
     !some_breaks(nodes, unbroken_count(nodes))
 }
 
-// Whether nothing in them is scoped besides.
-fn stay(nodes: &Nodes) -> bool
-    ensures { result ≡ row.stay nodes.now }
-{
-    are_unscoped(nodes) && stay_inside(nodes)
-}
-
 /// Whether the node is `case a: ..`, or `default: ..`.
 pub fn is_case(node: &Node) -> bool
     ensures kind { result ≡ row.is_case node.now }
@@ -163,14 +156,21 @@ pub fn is_case(node: &Node) -> bool
     }
 }
 
-/// Whether the statements of a case may stand in a branch: it has no test, or one that writes a value out, nothing in it is scoped,
-/// and none but a last `break;` leaves it by a `break` without a label (ECMA-262, "The switch Statement").
+// Whether there is no test, or one that writes a value out, and then nothing in the case is scoped.
+fn may_be_tested(test: &Node, statements: &Nodes) -> bool
+    ensures { result ≡ row.may_be_tested test.now statements.now }
+{
+    is_absent_part(test) || (is_plain(test) && are_unscoped(statements))
+}
+
+/// Whether the statements of a case may stand in a branch or a block: it has no test, or one that writes a value out, and then nothing in it is
+/// scoped; and none but a last `break;` leaves it by a `break` without a label (ECMA-262, "The switch Statement").
 pub fn can_switch_case_be_inlined(case: &Node) -> bool
     ensures { result ≡ row.can_be_inlined case.now }
 {
     is_case(case)
-        && (is_absent_part(case.child(0)) || is_plain(case.child(0)))
-        && stay(case.child(1).children())
+        && may_be_tested(case.child(0), case.child(1).children())
+        && stay_inside(case.child(1).children())
 }
 
 /// Whether the statement is `switch (a) { one case }`.
@@ -204,6 +204,17 @@ fn without_break(mut nodes: Nodes) -> Nodes
     let last = nodes.len() - 1;
     discard(nodes.remove(last));
     nodes
+}
+
+// The statements, or a block of those that declare names.
+fn enclosed(alloc: Global, statements: Nodes) -> Result<Nodes, OutOfMemory>
+    ensures { IfOk result (λ w. w ≡ row.enclosed statements) }
+{
+    if are_unscoped(&statements) {
+        return Ok(statements);
+    }
+    let inner = block(alloc, statements)?;
+    of_one(alloc, inner)
 }
 
 // `{ a; .. }`
@@ -244,7 +255,7 @@ fn written_for(
 {
     if is_absent_part(&test) {
         discard(test);
-        default_block(alloc, discriminant, statements)
+        default_block(alloc, discriminant, enclosed(alloc, statements)?)
     } else {
         case_branch(alloc, discriminant, test, statements)
     }
@@ -265,7 +276,7 @@ pub fn inlined(alloc: Global, node: Node) -> Result<Node, OutOfMemory>
     )
 }
 
-/// A `switch` of one case becomes an `if`, or of `default` alone a block. The answer says whether it did; the only error is that
+/// A `switch` of one case becomes an `if`, or of `default` alone a block, in which what declares names has a block of its own. The answer says whether it did; the only error is that
 /// memory runs out.
 pub fn minimize_switch_statement(alloc: Global, node: &mut Node) -> Result<bool, OutOfMemory>
     ensures tree { OnOk result (node.new ≡ unwrap_or (written node.old) node.old) }
