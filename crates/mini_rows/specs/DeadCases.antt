@@ -182,8 +182,8 @@ are_several before after = true
 -- `switch (2) { case 1: a(); case 2: b(); case 3: c(); break; case d: e(); }` becomes `switch (2) { case 2: b(); c(); break; }`, and
 -- `switch (2) { case 1: a(); default: b(); case 3: c(); }` becomes `switch (2) { default: b(); c(); }`. The names that a `var` declares in what
 -- goes are declared in the case that is left, before what runs or after it: `switch (2) { case 1: var x = a(); case 2: b(x); }` becomes
--- `switch (2) { case 2: var x; b(x); }`, and so of `for (var x of a) b();` and of `var { x } = a();`. `switch (a(), 1 << 30) { case 1 << 20: b(); case d: c(); }`
--- stays, since d may be the value
+-- `switch (2) { case 2: var x; b(x); }`, and so of `for (var x of a) b();` and of `var { x } = a();`. And
+-- `switch (a(), 2) { case 1 << 20: b(); case 2: c(); }` becomes `switch (a(), 2) { case 2: c(); }`
 pub record Row81 (n w : Tree) : Type 0 where
   pub discriminant : Tree
   pub value : Value

@@ -460,25 +460,25 @@ holder_loops (Declaring kind x ds) ts = refl
 holder_loops (Looping x ds u v w) ts = refl
 
 -- it holds the sequence
-record Holding (u e : Tree) : Type 0 where
+record FoundThere (u e : Tree) : Type 0 where
   there : holds u ≡ true
   same : held u ≡ e
 
-holder_holds : (h : Holder) (ts : Trees) → holds_well h ≡ true → Holding (holding h (sequence ts)) (sequence ts)
+holder_holds : (h : Holder) (ts : Trees) → holds_well h ≡ true → FoundThere (holding h (sequence ts)) (sequence ts)
 unfolding is_looping
 holder_holds h ts k = by (is_looping h) refl
   where
-    looped : (h : Holder) → is_looping h ≡ true → Holding (holding h (sequence ts)) (sequence ts)
+    looped : (h : Holder) → is_looping h ≡ true → FoundThere (holding h (sequence ts)) (sequence ts)
     looped (Looping x ds u v w) e = record { there = refl; same = refl }
     looped h e = absurd (true≢false (sym e))
 
-    by : (b : Bool) → is_looping h ≡ b → Holding (holding h (sequence ts)) (sequence ts)
+    by : (b : Bool) → is_looping h ≡ b → FoundThere (holding h (sequence ts)) (sequence ts)
     by true e = looped h e
     by false e =
         let u = holding h (sequence ts) in
-        let none = holder_loops h ts ∙ e in
-        let (there, same) = holder_plain h ts none k in
-        record { there = ap (λ b. b || holds_plainly u) none ∙ there; same = ap (λ c. if c then part (part (part (part u 0) 0) 0) 1 else held_plainly u) none ∙ same }
+        let plain = holder_loops h ts ∙ e in
+        let (there, same) = holder_plain h ts plain k in
+        record { there = ap (λ b. b || holds_plainly u) plain ∙ there; same = ap (λ c. if c then part (part (part (part u 0) 0) 0) 1 else held_plainly u) plain ∙ same }
 
 holds_tells : (h : Holder) (a q : Tree) (qs : Trees) → holds_well h ≡ true → are_parts q qs ≡ true → holds_sequence (holding h (sequence (a ▸ (q ▸ qs)))) ≡ true
 holds_tells h a q qs w k =

@@ -90,10 +90,11 @@ loops_first u = is_for u && (declares Var (part u 0) && declares_first (part u 0
 abbrev pub holds_plainly : Tree → Bool
 holds_plainly u = is_led u || (goes_over u || declares_first u)
 
+-- whichever holds one
 abbrev pub holds : Tree → Bool
 holds u = loops_first u || holds_plainly u
 
--- that expression
+-- that expression of each
 abbrev pub held_plainly : Tree → Tree
 held_plainly u =
     if is_led u then part u 0 else (

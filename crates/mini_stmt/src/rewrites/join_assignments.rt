@@ -171,6 +171,7 @@ fn holds_plainly(node: &Node) -> bool
     is_led(node) || goes_over(node) || declares_first(node)
 }
 
+// Whichever holds one.
 fn holds(node: &Node) -> bool
     ensures kind { result ≡ row.holds node.now }
     ensures parts { result ≡ true → 0 < count (children node.now) }
@@ -188,6 +189,7 @@ fn held(node: &Node) -> &Node
     held_plainly(node)
 }
 
+// That of any other.
 fn held_plainly(node: &Node) -> &Node
     ensures { result.now ≡ row.held_plainly node.now }
 {
@@ -358,6 +360,7 @@ fn leave_held(alloc: Global, next: Node) -> Result<(Node, Node), OutOfMemory>
     leave_plainly(alloc, next)
 }
 
+// And of any other.
 fn leave_plainly(alloc: Global, next: Node) -> Result<(Node, Node), OutOfMemory>
     requires whole { row.holds_sequence next ≡ true }
     requires plain { row.loops_first next ≡ false }
