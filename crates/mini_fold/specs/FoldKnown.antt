@@ -15,7 +15,7 @@ use Rattle.mini_node.specs.Equal.{same_tree}
 use Rattle.mini_node.specs.Kinds.{logical_operator, is_conditional, is_expression_statement}
 use Rattle.mini_terms.specs.Folds.{is_effect_free, goes_on, stops}
 use Rattle.mini_terms.specs.Parts.{suits, leaves_nothing, weighs}
-use Rattle.mini_rows.specs.Folding.{names_exports, FoldingRow, FoldingContracts}
+use Rattle.mini_rows.specs.Folding.{names_exports, may_go, FoldingRow, FoldingContracts}
 use Rattle.mini_fold.specs.FoldStaticMember as member
 use Rattle.mini_fold.specs.MinimizeBinary as equality
 use Rattle.mini_fold.specs.RemoveIdleHead as head
@@ -27,7 +27,7 @@ is_passed s o a b = goes_on o a && (is_effect_free a && (leaves_nothing a && (we
 
 -- the right side goes: it is never evaluated
 abbrev pub is_stopped : Seat → LogicalOperator → Tree → Tree → Bool
-is_stopped s o a b = stops o a && (not (names_exports o b) && (leaves_nothing b && (weighs b && suits s a)))
+is_stopped s o a b = stops o a && (not (names_exports o b) && (may_go b && (weighs b && suits s a)))
 
 abbrev pub side : Bool → Bool → Tree → Tree → Option Tree
 side passed stopped a b = if passed then Some b else (if stopped then Some a else None)

@@ -38,7 +38,7 @@ use Rattle.mini_rows.specs.Writes.{WriteContracts}
 use Rattle.mini_rows.specs.Lets.{LetContracts}
 use Rattle.mini_rows.specs.Redex.{Row, Contracts, Rewrites}
 use Rattle.mini_rows.proofs.SpellKeyLawful as keys
-use Rattle.mini_rows.proofs.FoldRows.{foldings_lawful}
+use Rattle.mini_rows.proofs.FoldRows.{foldings_lawful, foldings_loose}
 use Rattle.mini_rows.proofs.SpellLawful as spellings
 use Rattle.mini_rows.proofs.BranchLawful.{branches_lawful, branches_loose}
 use Rattle.mini_rows.proofs.ListLawful.{lists_lawful, lists_loose}
@@ -118,13 +118,28 @@ module _ (o : Switches) where
   abbrev pub Families : Position → Tree → Tree → Type 0
   Families p n w = first.Contracts p n w ⊎ Others p n w
 
-  latest_lawful : Lawful Latest
-  latest_lawful = lawful_join KeyContracts Final keys.lawful (lawful_join ChoiceContracts Known choices.lawful (lawful_join DeclarationContracts End declarations_lawful (lawful_join FoldingContracts Functions foldings_lawful (lawful_join TurnContracts Ends turns_lawful (lawful_join ArrowContracts Newest arrows_lawful (lawful_join ConstantContracts Truths constants_lawful (lawful_join HeldKeyContracts Voids held_keys_lawful (lawful_join BooleanContracts Orders booleans_lawful (lawful_join DeMorganContracts Parted de_morgan_lawful (lawful_join SequenceContracts Answers sequences_lawful (lawful_join OperandContracts Texts operands_lawful (lawful_join NegationContracts Pieces negations_lawful (lawful_join TemplateContracts (LoopGuardContracts o) templates_lawful (loop_guards_lawful o))))))))))))))
+  functions_lawful : Lawful Functions
+  functions_lawful =
+      lawful_join TurnContracts Ends turns_lawful
+      (lawful_join ArrowContracts Newest arrows_lawful
+      (lawful_join ConstantContracts Truths constants_lawful (lawful_join HeldKeyContracts Voids held_keys_lawful (lawful_join BooleanContracts Orders booleans_lawful (lawful_join DeMorganContracts Parted de_morgan_lawful (lawful_join SequenceContracts Answers sequences_lawful (lawful_join OperandContracts Texts operands_lawful (lawful_join NegationContracts Pieces negations_lawful (lawful_join TemplateContracts (LoopGuardContracts o) templates_lawful (loop_guards_lawful o))))))))))
 
   -- those that keep what a write of each variable does
 
+  abbrev FixedEnd : Position → Tree → Tree → Type 0
+  FixedEnd p n w = WhereFixed FoldingContracts p n w ⊎ Functions p n w
+
+  abbrev FixedKnown : Position → Tree → Tree → Type 0
+  FixedKnown p n w = DeclarationContracts p n w ⊎ FixedEnd p n w
+
+  abbrev FixedFinal : Position → Tree → Tree → Type 0
+  FixedFinal p n w = ChoiceContracts p n w ⊎ FixedKnown p n w
+
+  abbrev FixedLatest : Position → Tree → Tree → Type 0
+  FixedLatest p n w = KeyContracts p n w ⊎ FixedFinal p n w
+
   abbrev FixedLast : Position → Tree → Tree → Type 0
-  FixedLast p n w = WhereFixed (ListContracts o) p n w ⊎ Latest p n w
+  FixedLast p n w = WhereFixed (ListContracts o) p n w ⊎ FixedLatest p n w
 
   abbrev FixedLate : Position → Tree → Tree → Type 0
   FixedLate p n w = WhereFixed BranchContracts p n w ⊎ FixedLast p n w
@@ -135,24 +150,36 @@ module _ (o : Switches) where
   abbrev FixedFamilies : Position → Tree → Tree → Type 0
   FixedFamilies p n w = first.Contracts p n w ⊎ FixedOthers p n w
 
+  latest_lawful : Lawful FixedLatest
+  latest_lawful = lawful_join KeyContracts FixedFinal keys.lawful (lawful_join ChoiceContracts FixedKnown choices.lawful (lawful_join DeclarationContracts FixedEnd declarations_lawful (lawful_join (WhereFixed FoldingContracts) Functions foldings_lawful functions_lawful)))
+
   fixed_lawful : Lawful FixedFamilies
   fixed_lawful =
       lawful_join first.Contracts FixedOthers rows_are_lawful
-      (lawful_join SpellingContracts FixedLate spellings.lawful (lawful_join (WhereFixed BranchContracts) FixedLast branches_lawful (lawful_join (WhereFixed (ListContracts o)) Latest (lists_lawful o) latest_lawful)))
+      (lawful_join SpellingContracts FixedLate spellings.lawful (lawful_join (WhereFixed BranchContracts) FixedLast branches_lawful (lawful_join (WhereFixed (ListContracts o)) FixedLatest (lists_lawful o) latest_lawful)))
 
   where_fixed : (p : Position) (n w : Tree) → Families p n w → SameFixed p n w → FixedFamilies p n w
   where_fixed p n w (inl c) f = inl c
   where_fixed p n w (inr (inl c)) f = inr (inl c)
   where_fixed p n w (inr (inr (inl c))) f = inr (inr (inl (c, f)))
   where_fixed p n w (inr (inr (inr (inl c)))) f = inr (inr (inr (inl (c, f))))
-  where_fixed p n w (inr (inr (inr (inr c)))) f = inr (inr (inr (inr c)))
+  where_fixed p n w (inr (inr (inr (inr (inl c))))) f = inr (inr (inr (inr (inl c))))
+  where_fixed p n w (inr (inr (inr (inr (inr (inl c)))))) f = inr (inr (inr (inr (inr (inl c)))))
+  where_fixed p n w (inr (inr (inr (inr (inr (inr (inl c))))))) f = inr (inr (inr (inr (inr (inr (inl c))))))
+  where_fixed p n w (inr (inr (inr (inr (inr (inr (inr (inl c)))))))) f = inr (inr (inr (inr (inr (inr (inr (inl (c, f))))))))
+  where_fixed p n w (inr (inr (inr (inr (inr (inr (inr (inr c)))))))) f = inr (inr (inr (inr (inr (inr (inr (inr c)))))))
 
   -- all of them, loosely
   families_loose : (K : Shape → Bool) → LawfulLoosely K Families
   families_loose K =
       loose_join first.Contracts Others K nothing (lawful_is_loose first.Contracts K nothing rows_are_lawful)
       (loose_join SpellingContracts Late K nothing (lawful_is_loose SpellingContracts K nothing spellings.lawful)
-      (loose_join BranchContracts Last K nothing (branches_loose K) (loose_join (ListContracts o) Latest K nothing (lists_loose o K) (lawful_is_loose Latest K nothing latest_lawful))))
+      (loose_join BranchContracts Last K nothing (branches_loose K)
+      (loose_join (ListContracts o) Latest K nothing (lists_loose o K)
+      (loose_join KeyContracts Final K nothing (lawful_is_loose KeyContracts K nothing keys.lawful)
+      (loose_join ChoiceContracts Known K nothing (lawful_is_loose ChoiceContracts K nothing choices.lawful)
+      (loose_join DeclarationContracts End K nothing (lawful_is_loose DeclarationContracts K nothing declarations_lawful)
+      (loose_join FoldingContracts Functions K nothing (foldings_loose K) (lawful_is_loose Functions K nothing functions_lawful))))))))
 
   by_row : (p : Position) (n w : Tree) → Row o p n w → weight p w < weight p n → Families p n w
   by_row p n w (inl r) l = inl (record { row = r; lighter = l })

@@ -2,6 +2,7 @@
 use Rattle.std.specs.Prelude.{◌≡◌, refl, ◌&&◌, ◌||◌, Bool, true, false, [], None}
 use Rattle.std.proofs.Common.{ap, ◌∙◌, sym, subst, arith}
 use Rattle.std.proofs.lemmas.Bool.{and_parts}
+use Rattle.mini_model.specs.declared.place.Position.{Position}
 use Rattle.mini_model.specs.declared.place.Position.TheVariants.{Expr}
 use Rattle.mini_model.specs.declared.seat.Seat.{Seat}
 use Rattle.mini_model.specs.declared.shape.Shape.{Shape}
@@ -19,16 +20,18 @@ use Rattle.mini_kept.specs.AlikeBodies.{BodiesKept}
 use Rattle.mini_kept.specs.Frames.{is_declaration}
 use Rattle.mini_kept.specs.KeepsNames.{Keeps, Stands as StandsFor, is_read, unplaced}
 use Rattle.mini_kept.specs.Lifted.{is_piece}
+use Rattle.mini_kept.specs.Loosely.{FixedKept}
 use Rattle.mini_kept.specs.Standing.{is_method_slot}
 use Rattle.mini_kept.proofs.Bools.{left}
 use Rattle.mini_kept.proofs.Expressions.{refused_here}
 use Rattle.mini_kept.proofs.InOrder.{in_order}
 use Rattle.mini_kept.proofs.Quiet.{is_quiet, IsQuiet, no_names, no_body_names, no_body_declarations, no_loop, same_symbols as same_symbols_of}
 use Rattle.mini_rows.specs.Sketches.{still, rearranges_expression, Head, AList, Spread, Piece, Empty, OfExpression, Throw, Return, If, Block, shape_by, Sketch, part, under, list, Sketches, Parts, filled, all_filled, AsValue, parts_of, Free, is_rearranged, is_expression_head, is_piece_head, stands_well, is_expression}
-use Rattle.mini_rows.specs.Arranged.{KeptAt, AreFree, ExpressionsArranged}
+use Rattle.mini_rows.specs.Arranged.{KeptBy, SameFixed, KeptAt, KeptLoosely, AreFree, AreLoose, ExpressionsArranged, ExpressionsArrangedLoosely}
 use Rattle.mini_rows.proofs.Arranging.{Any, Each}
 use Rattle.mini_rows.proofs.ArrangedBodies.{quiet}
 use Rattle.mini_rows.proofs.ArrangedValues.{is_no_inner, is_value, suits_anywhere, Valued, head_valued}
+use Rattle.mini_rows.proofs.ArrangedMoves.{loosened}
 use Rattle.mini_rows.proofs.ArrangedTrees.{same_inner, same_fixed, same_declared, same_frames, same_bodies, same_once, same_targets, parts_valued, same_scoped, same_symbols, same_numbers}
 
 -- ---- tables
@@ -141,7 +144,7 @@ used : (v : Use) → is_read v ≡ true → v ≡ Read
 used Read k = refl
 used v k = absurd (cc k)
 
-module _ (f : Free) (ps : Parts) (u : AreFree ps f) (h : Head) (ss : Sketches) (r : Sketch) (e : is_expression_head h ≡ true) (x : is_expression r ≡ true) (sn : stands_well f AsValue (under h ss) ≡ true) (sr : stands_well f AsValue r ≡ true) (z : is_rearranged f (parts_of AsValue (under h ss)) (parts_of AsValue r) ≡ true) where
+module _ (f : Free) (ps : Parts) (u : AreLoose ps f) (h : Head) (ss : Sketches) (r : Sketch) (e : is_expression_head h ≡ true) (x : is_expression r ≡ true) (sn : stands_well f AsValue (under h ss) ≡ true) (sr : stands_well f AsValue r ≡ true) (z : is_rearranged f (parts_of AsValue (under h ss)) (parts_of AsValue r) ≡ true) where
   abbrev n : Tree
   n = filled ps (under h ss)
 
@@ -197,8 +200,8 @@ module _ (f : Free) (ps : Parts) (u : AreFree ps f) (h : Head) (ss : Sketches) (
   no_port : (strict : Bool) (d : Depth) → fits strict (one (a_statement d)) n ≡ true → ⊥
   no_port strict d k = refused_here strict (one (a_statement d)) (shape_by h) [] 0 (all_filled ps ss) (ap filling_by (no_statement strict d h e)) k
 
-  pub expression_kept : (q : Seat) → KeptAt (Expr q) n w
-  expression_kept q = record {
+  pub expression_kept : (F : Position → Tree → Tree → Type 0) (q : Seat) → F (Expr q) n w → KeptBy F (Expr q) n w
+  expression_kept F q fixed = record {
     keeps = λ strict s o k. in_order (Expr q) n w (expression_keeps q strict s k);
     piece = no_piece h (expression_no_piece h e);
     kind = λ strict s k. kind_of_value (shape_of n) n_value ∙ sym (kind_of_value (shape_of w) (w_value strict s k));
@@ -207,22 +210,48 @@ module _ (f : Free) (ps : Parts) (u : AreFree ps f) (h : Head) (ss : Sketches) (
     listed = λ l. absurd (cc l);
     exported = λ strict k. (undeclared (shape_of n) n_value, undeclared (shape_of w) (w_value strict (one a_default_export) k));
     frames = λ strict s o k. same_frames f ps u AsValue (under h ss) r sn sr z;
-    fixed = same_fixed f ps u AsValue (under h ss) r sn sr z;
+    fixed = fixed;
     declared = same_declared f ps u AsValue (under h ss) r sn sr z;
   }
+
+module _ (f : Free) (h : Head) (ss : Sketches) (r : Sketch) (e : rearranges_expression f (under h ss) r ≡ true) where
+  -- what the test tells
+  record Tested : Type 0 where
+    first : is_expression_head h ≡ true
+    second : is_expression r ≡ true
+    reads : stands_well f AsValue (under h ss) ≡ true
+    writes : stands_well f AsValue r ≡ true
+    parts : is_rearranged f (parts_of AsValue (under h ss)) (parts_of AsValue r) ≡ true
+
+  tested : Tested
+  tested =
+      let c = AsValue in
+      let rest = is_rearranged f (parts_of c (under h ss)) (parts_of c r) in
+      let (x, y) = and_parts (is_expression_head h) (is_expression r && (stands_well f c (under h ss) && (stands_well f c r && rest))) e in
+      let (k, y') = and_parts (is_expression r) (stands_well f c (under h ss) && (stands_well f c r && rest)) y in
+      let (sn, y'') = and_parts (stands_well f c (under h ss)) (stands_well f c r && rest) y' in
+      let (sr, z) = and_parts (stands_well f c r) rest y'' in
+      record { first = x; second = k; reads = sn; writes = sr; parts = z }
 
 -- where parts may be dropped
 pub expressions_arranged_freely : ExpressionsArranged
 expressions_arranged_freely f ps u (part i) r e q n w a b = absurd (cc e)
 expressions_arranged_freely f ps u (list is) r e q n w a b = absurd (cc e)
 expressions_arranged_freely f ps u (under h ss) r e q n w a b =
-    let c = AsValue in
-    let rest = is_rearranged f (parts_of c (under h ss)) (parts_of c r) in
-    let (x, y) = and_parts (is_expression_head h) (is_expression r && (stands_well f c (under h ss) && (stands_well f c r && rest))) e in
-    let (k, y') = and_parts (is_expression r) (stands_well f c (under h ss) && (stands_well f c r && rest)) y in
-    let (sn, y'') = and_parts (stands_well f c (under h ss)) (stands_well f c r && rest) y' in
-    let (sr, z) = and_parts (stands_well f c r) rest y'' in
-    subst (λ t. KeptAt (Expr q) t w) (sym a) (subst (KeptAt (Expr q) (filled ps (under h ss))) (sym b) (expression_kept f ps u h ss r x k sn sr z q))
+    let t = tested f h ss r e in
+    let o = loosened f ps u in
+    subst (λ t. KeptAt (Expr q) t w) (sym a)
+    (subst (KeptAt (Expr q) (filled ps (under h ss))) (sym b) (expression_kept f ps o h ss r t.first t.second t.reads t.writes t.parts SameFixed q (same_fixed f ps o AsValue (under h ss) r t.reads t.writes t.parts u.2)))
+
+-- also such as declare what can't be written
+pub expressions_arranged_loosely : ExpressionsArrangedLoosely
+expressions_arranged_loosely f ps u (part i) r e q n w a b g = absurd (cc e)
+expressions_arranged_loosely f ps u (list is) r e q n w a b g = absurd (cc e)
+expressions_arranged_loosely f ps u (under h ss) r e q n w a b g =
+    let t = tested f h ss r e in
+    subst (λ t. KeptLoosely (Expr q) t w) (sym a)
+    (subst (KeptLoosely (Expr q) (filled ps (under h ss))) (sym b)
+    (expression_kept f ps u h ss r t.first t.second t.reads t.writes t.parts FixedKept q (subst (λ t. FixedKept (Expr q) t (filled ps r)) a (subst (FixedKept (Expr q) n) b g))))
 
 -- where none is
 pub expressions_arranged : (ps : Parts) (s r : Sketch) → rearranges_expression still s r ≡ true → (q : Seat) (n w : Tree) → n ≡ filled ps s → w ≡ filled ps r → KeptAt (Expr q) n w

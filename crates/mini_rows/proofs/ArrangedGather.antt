@@ -10,7 +10,7 @@ use Rattle.mini_model.specs.Paths.{append}
 use Rattle.mini_kept.proofs.Bools.{left, right}
 use Rattle.mini_rows.specs.Lists.{is_unscoped, are_unscoped}
 use Rattle.mini_rows.specs.Sketches.{Head, AbsentPart, AList, Call, New, StaticMember, Property, Spread, Assignment, Empty, OfExpression, Throw, Return, If, Block, shape_by, Sketch, part, under, list, Sketches, end, ◌▹◌, Items, no_items, item, items, Parts, list_at, filled, all_filled, items_filled, Asked, AsWhole, AsWholeList, AsWholeItem, AsValue, AsValues, AsWord, AsHeld, AsTarget, AsUpdated, AsBranch, AsItems, AsItem, item_asked, target_asked, asked_below, Leap, leaps, Hole, Part, Stretch, Leaps, leap_holes, parts_of, parts_from, parts_in, is_same_hole, Free, is_among, settled_as, all_settled, is_operand_head, is_statement_head, is_absent_head, is_member_head, is_word_head, is_piece_head, stands_as, is_list_asked, stands_well, all_stand_well, items_stand_well, are_loose, is_declaring, is_declaring_hole, statements, are_same_holes, is_branch_hole, has_branch_twice}
-use Rattle.mini_rows.specs.Arranged.{AreFree}
+use Rattle.mini_rows.specs.Arranged.{AreLoose}
 use Rattle.mini_rows.proofs.Arranging.{Any, Below, Each, first_each, second_each, same_hole}
 use Rattle.mini_rows.proofs.ArrangedValues.{is_value, is_calm, Valued}
 use Rattle.mini_rows.proofs.ArrangedMoves.{unscoped_among, lists_unscoped_among}
@@ -279,7 +279,7 @@ module _ (A : Type 0) (L B H : Tree → List A) (k : Fold A L B H) where
   gives_both ps [] gs = refl
   gives_both ps (h ∷ hs) gs = ap (λ r. gives_hole ps h ++ r) (gives_both ps hs gs) ∙ sym (append_assoc (gives_hole ps h) (gives_each ps hs) (gives_each ps gs))
 
-  module _ (f : Free) (ps : Parts) (u : AreFree ps f) where
+  module _ (f : Free) (ps : Parts) (u : AreLoose ps f) where
     mutual
       pub gives_of : (c : Asked) (s : Sketch) → stands_well f c s ≡ true → Each Any Valued ps (parts_of c s) → Gives c (filled ps s) ≡ gives_each ps (parts_of c s)
       gives_of c (part i) e v = sym (append-nil (Gives c (child_or_absent ps.trees i)))

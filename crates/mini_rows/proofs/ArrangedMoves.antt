@@ -3,10 +3,11 @@ use Rattle.std.specs.Prelude.{ℕ, ◌+◌, ◌≤◌, ◌≡◌, refl, Bool, tr
 use Rattle.std.proofs.Common.{ap, ◌∙◌, sym, subst, arith}
 use Rattle.std.proofs.lemmas.Bool.{eqb-true}
 use Rattle.mini_model.specs.Tree.{Tree, Trees, none, ◌▸◌, child_or_absent}
+use Rattle.mini_laws.specs.DeclaredNames.{has_inner}
 use Rattle.mini_kept.proofs.Bools.{left, right}
 use Rattle.mini_rows.specs.Lists.{is_unscoped, are_unscoped}
 use Rattle.mini_rows.specs.Sketches.{Parts, list_at, Asked, AsWholeItem, AsBranch, AsItem, Leap, Hole, Part, Stretch, Leaps, has_as_often, has_each, Free, is_among, is_statement_asked, settled_as, all_settled, staying, is_rearranged}
-use Rattle.mini_rows.specs.Arranged.{Vanishes, AllUnscoped, ListsUnscoped, AllVanish, AreFree}
+use Rattle.mini_rows.specs.Arranged.{Vanishes, AllUnscoped, ListsUnscoped, AllVanish, AllInnerless, AreFree, AreLoose}
 use Rattle.mini_rows.proofs.Arranging.{All, Each, Any, some_each, often_each, sum_all, sum_each, sum_within}
 use Rattle.mini_rows.proofs.ArrangedValues.{Calm, Valued}
 
@@ -45,6 +46,14 @@ list_unscoped_at tss (j ∷ is) i u e = by (nat_eq j i) refl (list_unscoped_at t
     by true k f = subst (λ m. are_unscoped (list_at tss m) ≡ true) (eqb-true j i k) u.0
     by false k f = f (ap (λ b. b || is_among is i) (sym k) ∙ e)
 
+innerless_at : (ts : Trees) (is : List ℕ) (i : ℕ) → AllInnerless ts is → is_among is i ≡ true → has_inner (child_or_absent ts i) ≡ false
+innerless_at ts [] i u e = absurd (cc e)
+innerless_at ts (j ∷ is) i u e = by (nat_eq j i) refl (innerless_at ts is i u.1)
+  where
+    by : (b : Bool) → nat_eq j i ≡ b → (is_among is i ≡ true → has_inner (child_or_absent ts i) ≡ false) → has_inner (child_or_absent ts i) ≡ false
+    by true k f = subst (λ m. has_inner (child_or_absent ts m) ≡ false) (eqb-true j i k) u.0
+    by false k f = f (ap (λ b. b || is_among is i) (sym k) ∙ e)
+
 vanishes_at : (ts : Trees) (is : List ℕ) (i : ℕ) → AllVanish ts is → is_among is i ≡ true → Vanishes (child_or_absent ts i)
 vanishes_at ts [] i u e = absurd (cc e)
 vanishes_at ts (j ∷ is) i u e = by (nat_eq j i) refl (vanishes_at ts is i u.1)
@@ -53,11 +62,25 @@ vanishes_at ts (j ∷ is) i u e = by (nat_eq j i) refl (vanishes_at ts is i u.1)
     by true k f = subst (λ m. Vanishes (child_or_absent ts m)) (eqb-true j i k) u.0
     by false k f = f (ap (λ b. b || is_among is i) (sym k) ∙ e)
 
-pub unscoped_among : (f : Free) (ps : Parts) → AreFree ps f → (i : ℕ) → is_among f.moved i ≡ true → is_unscoped (child_or_absent ps.trees i) ≡ true
+pub unscoped_among : (f : Free) (ps : Parts) → AreLoose ps f → (i : ℕ) → is_among f.moved i ≡ true → is_unscoped (child_or_absent ps.trees i) ≡ true
 unscoped_among f ps u i e = unscoped_at ps.trees f.moved i u.0 e
 
-pub lists_unscoped_among : (f : Free) (ps : Parts) → AreFree ps f → (i : ℕ) → is_among f.lists_moved i ≡ true → are_unscoped (list_at ps.lists i) ≡ true
+pub lists_unscoped_among : (f : Free) (ps : Parts) → AreLoose ps f → (i : ℕ) → is_among f.lists_moved i ≡ true → are_unscoped (list_at ps.lists i) ≡ true
 lists_unscoped_among f ps u i e = list_unscoped_at ps.lists f.lists_moved i u.1 e
+
+-- what is dropped
+pub innerless_among : (f : Free) (ps : Parts) → AreLoose ps f → (i : ℕ) → is_among f.dropped i ≡ true → has_inner (child_or_absent ps.trees i) ≡ false
+innerless_among f ps u i e = innerless_at ps.trees f.dropped i u.2 e
+
+pub vanishes_among : (f : Free) (ps : Parts) → AllVanish ps.trees f.dropped → (i : ℕ) → is_among f.dropped i ≡ true → Vanishes (child_or_absent ps.trees i)
+vanishes_among f ps u i e = vanishes_at ps.trees f.dropped i u e
+
+all_innerless : (ts : Trees) (is : List ℕ) → AllVanish ts is → AllInnerless ts is
+all_innerless ts [] u = tt
+all_innerless ts (i ∷ is) u = (u.0.inner, all_innerless ts is u.1)
+
+pub loosened : (f : Free) (ps : Parts) → AreFree ps f → AreLoose ps f
+loosened f ps u = (u.0, u.1, all_innerless ps.trees f.dropped u.2)
 
 -- ---- one part
 
@@ -112,7 +135,7 @@ module _ (Q : Asked → Tree → Type 0) (m : Moves Q) where
 
 -- ---- all of them
 
-module _ (f : Free) (ps : Parts) (u : AreFree ps f) where
+module _ (f : Free) (ps : Parts) (u : AreLoose ps f) where
   each_valued_settled : (hs : List Hole) → Each Any Valued ps hs → Each Any Valued ps (all_settled f hs)
   each_valued_settled [] v = tt
   each_valued_settled (Part i c ∷ hs) v = (valued_settled (is_among f.moved i) c (child_or_absent ps.trees i) v.0, each_valued_settled hs v.1)
@@ -138,13 +161,13 @@ module _ (f : Free) (ps : Parts) (u : AreFree ps f) where
     each_back (Stretch i c ∷ hs) v a = (all_of_settled Q m (is_among f.lists_moved i) c (list_at ps.lists i) (lists_unscoped_among f ps u i) v.0 a.0, each_back hs v.1 a.1)
     each_back (Leaps l ∷ hs) v a = (a.0, each_back hs v.1 a.1)
 
-  -- what stays is there, and what is dropped holds nothing
-  each_staying : (Q : Asked → Tree → Type 0) → ((c : Asked) (t : Tree) → Vanishes t → Q c t) → (hs : List Hole) → Each Any Q ps (staying f hs) → Each Any Q ps hs
+  -- what stays is there, and so it is of what is dropped
+  each_staying : (Q : Asked → Tree → Type 0) → ((c : Asked) (i : ℕ) → is_among f.dropped i ≡ true → Q c (child_or_absent ps.trees i)) → (hs : List Hole) → Each Any Q ps (staying f hs) → Each Any Q ps hs
   each_staying Q k [] a = tt
   each_staying Q k (Part i c ∷ hs) a = by (is_among f.dropped i) refl a (each_staying Q k hs)
     where
       by : (b : Bool) → is_among f.dropped i ≡ b → Each Any Q ps (if not b then Part i c ∷ staying f hs else staying f hs) → (Each Any Q ps (staying f hs) → Each Any Q ps hs) → Q c (child_or_absent ps.trees i) × Each Any Q ps hs
-      by true e a g = (k c (child_or_absent ps.trees i) (vanishes_at ps.trees f.dropped i u.2 e), g a)
+      by true e a g = (k c i e, g a)
       by false e a g = (a.0, g a.1)
   each_staying Q k (Stretch i c ∷ hs) a = (a.0, each_staying Q k hs a.1)
   each_staying Q k (Leaps l ∷ hs) a = (tt, each_staying Q k hs a)
@@ -165,7 +188,7 @@ module _ (f : Free) (ps : Parts) (u : AreFree ps f) where
     pub forth : (J : Leap → Type 0) (Q : Asked → Tree → Type 0) → Moves Q → Each Any Valued ps hs → Each J Q ps hs → Each J Q ps gs
     forth J Q m v a = each_back J Q m gs (valued_there v) (some_each J Q ps (all_settled f hs) (all_settled f gs) each_there (each_settled J Q m hs v a))
 
-    pub back : (Q : Asked → Tree → Type 0) → Moves Q → ((c : Asked) (t : Tree) → Vanishes t → Q c t) → Each Any Valued ps hs → Each Any Q ps gs → Each Any Q ps hs
+    pub back : (Q : Asked → Tree → Type 0) → Moves Q → ((c : Asked) (i : ℕ) → is_among f.dropped i ≡ true → Q c (child_or_absent ps.trees i)) → Each Any Valued ps hs → Each Any Q ps gs → Each Any Q ps hs
     back Q m k v a = each_back Any Q m hs v (each_staying Q k (all_settled f hs) (some_each Any Q ps (all_settled f gs) (staying f (all_settled f hs)) each_stays (each_settled Any Q m gs (valued_there v) a)))
 
   -- ---- sums
@@ -215,8 +238,8 @@ module _ (P : Tree → Type 0) where
     anyhow_back (Stretch i c ∷ hs) a = (all_anyhow (settled_as (is_among f.lists_moved i) c) c (list_at ps.lists i) a.0, anyhow_back hs a.1)
     anyhow_back (Leaps l ∷ hs) a = (a.0, anyhow_back hs a.1)
 
-  pub anyhow_forth : (f : Free) (ps : Parts) → AreFree ps f → (hs gs : List Hole) → is_rearranged f hs gs ≡ true → (J : Leap → Type 0) → Each J Anyhow ps hs → Each J Anyhow ps gs
+  pub anyhow_forth : (f : Free) (ps : Parts) → AreLoose ps f → (hs gs : List Hole) → is_rearranged f hs gs ≡ true → (J : Leap → Type 0) → Each J Anyhow ps hs → Each J Anyhow ps gs
   anyhow_forth f ps u hs gs z J a = anyhow_back f ps J gs (some_each J Anyhow ps (all_settled f hs) (all_settled f gs) (each_there f ps u hs gs z) (anyhow_settled f ps J hs a))
 
-  pub anyhow_over : (f : Free) (ps : Parts) → AreFree ps f → (hs gs : List Hole) → is_rearranged f hs gs ≡ true → ((t : Tree) → Vanishes t → P t) → Each Any Anyhow ps gs → Each Any Anyhow ps hs
+  pub anyhow_over : (f : Free) (ps : Parts) → AreLoose ps f → (hs gs : List Hole) → is_rearranged f hs gs ≡ true → ((i : ℕ) → is_among f.dropped i ≡ true → P (child_or_absent ps.trees i)) → Each Any Anyhow ps gs → Each Any Anyhow ps hs
   anyhow_over f ps u hs gs z k a = anyhow_back f ps Any hs (each_staying f ps u Anyhow (λ c. k) (all_settled f hs) (some_each Any Anyhow ps (all_settled f gs) (staying f (all_settled f hs)) (each_stays f ps u hs gs z) (anyhow_settled f ps Any gs a)))

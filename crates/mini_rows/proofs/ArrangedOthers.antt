@@ -18,13 +18,15 @@ use Rattle.mini_kept.proofs.BodyLists.{kept_on}
 use Rattle.mini_kept.proofs.InOrder.{in_order}
 use Rattle.mini_kept.proofs.Quiet.{is_quiet, IsQuiet, no_names, no_body_names, no_body_declarations, no_loop, same_symbols as same_symbols_of}
 use Rattle.mini_rows.specs.Sketches.{Head, shape_by, Sketch, part, under, list, Sketches, Parts, filled, AsValue, parts_of, Free, is_rearranged, is_expression_head, is_expression, stands_well, rearranges_expression}
-use Rattle.mini_rows.specs.Arranged.{KeptAt, AreFree, Rewritten, AreExpressions}
+use Rattle.mini_rows.specs.Arranged.{SameFixed, KeptAt, AllVanish, AreFree, AreLoose, Rewritten, AreExpressions}
 use Rattle.mini_rows.proofs.ArrangedBodies.{quiet}
+use Rattle.mini_rows.proofs.ArrangedMoves.{loosened}
+use Rattle.mini_rows.proofs.ArrangedTrees.{same_fixed}
 use Rattle.mini_rows.proofs.ArrangedValues.{is_no_inner, is_value}
 use Rattle.mini_rows.proofs.ArrangedExpressions.{expression_is_value, rested, read_here, expression_keeps, expression_kept, method_slot}
 use Rattle.mini_rows.proofs.ArrangedRewritten.{new_inner, new_fixed, new_declared, new_once, new_targets, new_scoped, new_symbols, new_numbers, new_bodies, new_frames}
 
-module _ (f : Free) (ps qs : Parts) (u : AreFree ps f) (o : AreFree qs f) (h g : Head) (ss rs : Sketches) (e : is_expression_head h ≡ true) (x : is_expression_head g ≡ true) (sn : stands_well f AsValue (under h ss) ≡ true) (sr : stands_well f AsValue (under g rs) ≡ true) (y : is_rearranged f (parts_of AsValue (under h ss)) (parts_of AsValue (under g rs)) ≡ true) (z : Rewritten ps qs (parts_of AsValue (under g rs))) (q : Seat) (i : (strict : Bool) (s : Slot) → fits strict s (filled ps (under h ss)) ≡ true → AreExpressions strict ps (parts_of AsValue (under g rs))) where
+module _ (f : Free) (ps qs : Parts) (u : AreLoose ps f) (o : AreLoose qs f) (h g : Head) (ss rs : Sketches) (e : is_expression_head h ≡ true) (x : is_expression_head g ≡ true) (sn : stands_well f AsValue (under h ss) ≡ true) (sr : stands_well f AsValue (under g rs) ≡ true) (y : is_rearranged f (parts_of AsValue (under h ss)) (parts_of AsValue (under g rs)) ≡ true) (z : Rewritten ps qs (parts_of AsValue (under g rs))) (v : AllVanish ps.trees f.dropped) (q : Seat) (i : (strict : Bool) (s : Slot) → fits strict s (filled ps (under h ss)) ≡ true → AreExpressions strict ps (parts_of AsValue (under g rs))) where
   abbrev n : Tree
   n = filled ps (under h ss)
 
@@ -35,7 +37,7 @@ module _ (f : Free) (ps qs : Parts) (u : AreFree ps f) (o : AreFree qs f) (h g :
   w = filled qs (under g rs)
 
   base : KeptAt (Expr q) n m
-  base = expression_kept f ps u h ss (under g rs) e x sn sr y q
+  base = expression_kept f ps u h ss (under g rs) e x sn sr y SameFixed q (same_fixed f ps u AsValue (under h ss) (under g rs) sn sr y v)
 
   g_value : is_value (shape_by g) ≡ true
   g_value = expression_is_value g x
@@ -101,4 +103,4 @@ expressions_rewritten f ps qs u o (under h ss) g rs e z q n w a b x =
     let (sn, l'') = and_parts (stands_well f c (under h ss)) (stands_well f c r && rest) l' in
     let (sr, y) = and_parts (stands_well f c r) rest l'' in
     let x' = λ (strict : Bool) (s : Slot) (j : fits strict s (filled ps (under h ss)) ≡ true). x strict s (subst (λ t. fits strict s t ≡ true) (sym a) j) in
-    subst (λ t. KeptAt (Expr q) t w) (sym a) (subst (KeptAt (Expr q) (filled ps (under h ss))) (sym b) (others_kept f ps qs u o h g ss rs k k' sn sr y z q x'))
+    subst (λ t. KeptAt (Expr q) t w) (sym a) (subst (KeptAt (Expr q) (filled ps (under h ss))) (sym b) (others_kept f ps qs (loosened f ps u) (loosened f qs o) h g ss rs k k' sn sr y z u.2 q x'))

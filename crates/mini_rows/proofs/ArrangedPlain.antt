@@ -19,7 +19,7 @@ use Rattle.mini_kept.proofs.Bools.{left, right}
 use Rattle.mini_kept.proofs.Unplaced.{as_statement, as_body, all_as_body, body_is, free_same}
 use Rattle.mini_rows.specs.Lists.{is_unscoped_shape, is_unscoped, are_unscoped}
 use Rattle.mini_rows.specs.Sketches.{Head, Empty, OfExpression, Throw, Return, If, Block, shape_by, Sketch, part, under, list, Sketches, end, ◌▹◌, Items, no_items, item, items, Parts, list_at, filled, all_filled, items_filled, Asked, AsItem, AsItems, asked_below, item_asked, Free, is_among, is_statement_head, stands_as, is_list_asked, stands_well, all_stand_well, items_stand_well, are_loose}
-use Rattle.mini_rows.specs.Arranged.{AreFree}
+use Rattle.mini_rows.specs.Arranged.{AreLoose}
 use Rattle.mini_rows.proofs.Arranging.{Plain, IsPlain, ArePlain, ItemsPlain}
 use Rattle.mini_rows.proofs.ArrangedMoves.{unscoped_among, lists_unscoped_among}
 
@@ -111,7 +111,7 @@ unscoped_names (t ▸ ts) us e a = ap (λ r. r ++ all_names declared.Lexical (ap
 
 -- ---- blocks
 
-module _ (f : Free) (ps : Parts) (u : AreFree ps f) where
+module _ (f : Free) (ps : Parts) (u : AreLoose ps f) where
   item_unscoped : (s : Sketch) → stands_well f AsItem s ≡ true → is_unscoped (filled ps s) ≡ true
   item_unscoped (part i) e = unscoped_among f ps u i e
   item_unscoped (under h ss) e = head_unscoped h (left (is_statement_head h) (all_stand_well f (asked_below h AsItem) 0 ss) e)

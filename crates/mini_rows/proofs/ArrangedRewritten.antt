@@ -32,12 +32,13 @@ use Rattle.mini_kept.proofs.BodyLists.{kept_itself, kept_on}
 use Rattle.mini_kept.proofs.InOrder.{in_order}
 use Rattle.mini_kept.proofs.Unplaced.{as_body, body_same}
 use Rattle.mini_rows.specs.Sketches.{Head, Sketch, part, under, list, Sketches, Parts, filled, all_filled, Asked, use_by, AsWhole, AsValue, Leap, Hole, Part, Stretch, Leaps, parts_of, Free, is_statement_head, asked_below, stands_well, all_stand_well, keeps_statements}
-use Rattle.mini_rows.specs.Arranged.{KeptAt, AreFree, WrittenFor, Rewritten, AreExpressions, StatementsRewritten}
+use Rattle.mini_rows.specs.Arranged.{KeptAt, AllVanish, AreLoose, WrittenFor, Rewritten, AreExpressions, StatementsRewritten}
 use Rattle.mini_rows.proofs.Arranging.{All, Any, Each, Local, to_parts, of_parts, sum_all, sum_each, sum_of}
 use Rattle.mini_rows.proofs.ArrangedNames.{ScopedAs, scoped_local, symbol_times, symbols_summed, number_times, numbers_summed, inner_local, once_local, HasTarget, aimed_local}
 use Rattle.mini_rows.proofs.ArrangedBodies.{quiet, bodies_local, frames_local, declares_local, rank, by_rank, fixed_local}
 use Rattle.mini_rows.proofs.ArrangedValues.{Valued, value_fits, head_valued}
 use Rattle.mini_rows.proofs.ArrangedPlain.{is_plain}
+use Rattle.mini_rows.proofs.ArrangedMoves.{loosened}
 use Rattle.mini_rows.proofs.ArrangedTrees.{both_same, itself, parts_valued}
 use Rattle.mini_rows.proofs.ArrangedGather.{concat, Fold, Gives, gives_each, gives_of}
 use Rattle.mini_rows.proofs.ArrangedFolds.{bound_fold, lexical_fold, hoisted_fold, body_fold, hoists, declared_fold}
@@ -83,7 +84,7 @@ gives_new A L B H k ps qs (Leaps l ∷ hs) r = gives_new A L B H k ps qs hs r
 
 -- ---- trees, wherever they are asked
 
-module _ (f : Free) (ps qs : Parts) (u : AreFree ps f) (o : AreFree qs f) (c : Asked) (r : Sketch) (sr : stands_well f c r ≡ true) (z : Rewritten ps qs (parts_of c r)) where
+module _ (f : Free) (ps qs : Parts) (u : AreLoose ps f) (o : AreLoose qs f) (c : Asked) (r : Sketch) (sr : stands_well f c r ≡ true) (z : Rewritten ps qs (parts_of c r)) where
   abbrev m : Tree
   m = filled ps r
 
@@ -144,7 +145,7 @@ module _ (f : Free) (ps qs : Parts) (u : AreFree ps f) (o : AreFree qs f) (c : A
 
 -- ---- statements
 
-module _ (f : Free) (ps qs : Parts) (u : AreFree ps f) (o : AreFree qs f) (r : Sketch) (sr : stands_well f AsWhole r ≡ true) (z : Rewritten ps qs (parts_of AsWhole r)) (strict : Bool) (e : AreExpressions strict ps (parts_of AsWhole r)) (v : Each Any Valued ps (parts_of AsWhole r)) where
+module _ (f : Free) (ps qs : Parts) (u : AreLoose ps f) (o : AreLoose qs f) (r : Sketch) (sr : stands_well f AsWhole r ≡ true) (z : Rewritten ps qs (parts_of AsWhole r)) (strict : Bool) (e : AreExpressions strict ps (parts_of AsWhole r)) (v : Each Any Valued ps (parts_of AsWhole r)) where
   abbrev before : Tree
   before = filled ps r
 
@@ -180,9 +181,9 @@ module _ (f : Free) (ps qs : Parts) (u : AreFree ps f) (o : AreFree qs f) (r : S
 
 -- ---- the law
 
-module _ (f : Free) (ps qs : Parts) (u : AreFree ps f) (o : AreFree qs f) (h g : Head) (ss rs : Sketches) (sn : stands_well f AsWhole (under h ss) ≡ true) (sr : stands_well f AsWhole (under g rs) ≡ true) (y : keeps_statements f (parts_of AsWhole (under h ss)) (parts_of AsWhole (under g rs)) ≡ true) (z : Rewritten ps qs (parts_of AsWhole (under g rs))) (q : StmtSeat) (x : (strict : Bool) (s : Slot) → fits strict s (filled ps (under h ss)) ≡ true → AreExpressions strict ps (parts_of AsWhole (under g rs))) where
+module _ (f : Free) (ps qs : Parts) (u : AreLoose ps f) (o : AreLoose qs f) (h g : Head) (ss rs : Sketches) (sn : stands_well f AsWhole (under h ss) ≡ true) (sr : stands_well f AsWhole (under g rs) ≡ true) (y : keeps_statements f (parts_of AsWhole (under h ss)) (parts_of AsWhole (under g rs)) ≡ true) (z : Rewritten ps qs (parts_of AsWhole (under g rs))) (v : AllVanish ps.trees f.dropped) (q : StmtSeat) (x : (strict : Bool) (s : Slot) → fits strict s (filled ps (under h ss)) ≡ true → AreExpressions strict ps (parts_of AsWhole (under g rs))) where
   base : KeptAt (Stmt q) (filled ps (under h ss)) (filled ps (under g rs))
-  base = statement_kept f ps u h g ss rs sn sr y q
+  base = statement_kept f ps u h g ss rs sn sr y q v
 
   h_head : is_statement_head h ≡ true
   h_head = left (is_statement_head h) (all_stand_well f (asked_below h AsWhole) 0 ss) sn
@@ -222,7 +223,7 @@ statements_rewritten f ps qs u o (under h ss) (under g rs) e z q n w a b x =
     let (sn, y) = and_parts (stands_well f AsWhole (under h ss)) (stands_well f AsWhole (under g rs) && keeps_statements f (parts_of AsWhole (under h ss)) (parts_of AsWhole (under g rs))) e in
     let (sr, k) = and_parts (stands_well f AsWhole (under g rs)) (keeps_statements f (parts_of AsWhole (under h ss)) (parts_of AsWhole (under g rs))) y in
     let x' = λ (strict : Bool) (s : Slot) (i : fits strict s (filled ps (under h ss)) ≡ true). x strict s (subst (λ t. fits strict s t ≡ true) (sym a) i) in
-    subst (λ t. KeptAt (Stmt q) t w) (sym a) (subst (KeptAt (Stmt q) (filled ps (under h ss))) (sym b) (rewritten_kept f ps qs u o h g ss rs sn sr k z q x'))
+    subst (λ t. KeptAt (Stmt q) t w) (sym a) (subst (KeptAt (Stmt q) (filled ps (under h ss))) (sym b) (rewritten_kept f ps qs (loosened f ps u) (loosened f qs o) h g ss rs sn sr k z u.2 q x'))
 
 -- a part that stays
 pub unchanged : (t : Tree) → WrittenFor t t

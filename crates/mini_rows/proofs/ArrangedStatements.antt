@@ -32,10 +32,11 @@ use Rattle.mini_kept.proofs.InOrder.{in_order}
 use Rattle.mini_kept.proofs.Placed.{statements_slot}
 use Rattle.mini_kept.proofs.Unplaced.{as_body, body_same}
 use Rattle.mini_rows.specs.Sketches.{Head, AList, Spread, Piece, is_piece_head, shape_by, Sketch, part, under, list, Sketches, Items, no_items, item, items, Parts, list_at, filled, all_filled, items_filled, Asked, AsWhole, AsWholeList, AsWholeItem, use_by, parts_of, parts_in, Free, is_rearranged, all_settled, is_statement_head, asked_below, stands_well, all_stand_well, items_stand_well, are_loose, statements, are_same_holes, keeps_statements}
-use Rattle.mini_rows.specs.Arranged.{KeptAt, AreFree, StatementsArranged, ListsArranged}
+use Rattle.mini_rows.specs.Arranged.{KeptAt, AllVanish, AreLoose, StatementsArranged, ListsArranged}
 use Rattle.mini_rows.proofs.Arranging.{All, Any, Each, first_each, second_each}
 use Rattle.mini_rows.proofs.ArrangedBodies.{quiet}
 use Rattle.mini_rows.proofs.ArrangedValues.{Calm, Valued, suits_anywhere, head_valued, sketch_valued, suits}
+use Rattle.mini_rows.proofs.ArrangedMoves.{loosened}
 use Rattle.mini_rows.proofs.ArrangedTrees.{same_inner, same_fixed, same_declared, same_frames, same_bodies, same_once, same_targets, parts_valued, same_scoped, same_symbols, same_numbers}
 use Rattle.mini_rows.proofs.ArrangedGather.{filled_valued, Fold, Gives, gives_same}
 use Rattle.mini_rows.proofs.ArrangedFolds.{bound_fold, lexical_fold, hoisted_fold, body_fold, hoists, declared_fold, same_trees, port, ports_in, ports_fold}
@@ -63,7 +64,7 @@ whole_gives A B H k AsWhole p e t = refl
 whole_gives A B H k AsWholeList p e t = refl
 whole_gives A B H k c p e t = absurd (cc e)
 
-module _ (f : Free) (ps : Parts) (u : AreFree ps f) (c : Asked) (p : Position) (b : is_statement_place c p ≡ true) (s r : Sketch) (sn : stands_well f c s ≡ true) (sr : stands_well f c r ≡ true) (z : keeps_statements f (parts_of c s) (parts_of c r) ≡ true) where
+module _ (f : Free) (ps : Parts) (u : AreLoose ps f) (c : Asked) (p : Position) (b : is_statement_place c p ≡ true) (s r : Sketch) (sn : stands_well f c s ≡ true) (sr : stands_well f c r ≡ true) (z : keeps_statements f (parts_of c s) (parts_of c r) ≡ true) where
   abbrev n : Tree
   n = filled ps s
 
@@ -146,7 +147,7 @@ method_slot ps h ss strict (one a_method) k = absurd (refused_here strict (one a
 method_slot ps h ss strict (one c) k = refl
 method_slot ps h ss strict s k = refl
 
-module _ (f : Free) (ps : Parts) (u : AreFree ps f) (h g : Head) (ss rs : Sketches) (sn : stands_well f AsWhole (under h ss) ≡ true) (sr : stands_well f AsWhole (under g rs) ≡ true) (z : keeps_statements f (parts_of AsWhole (under h ss)) (parts_of AsWhole (under g rs)) ≡ true) (q : StmtSeat) where
+module _ (f : Free) (ps : Parts) (u : AreLoose ps f) (h g : Head) (ss rs : Sketches) (sn : stands_well f AsWhole (under h ss) ≡ true) (sr : stands_well f AsWhole (under g rs) ≡ true) (z : keeps_statements f (parts_of AsWhole (under h ss)) (parts_of AsWhole (under g rs)) ≡ true) (q : StmtSeat) where
   n_head : is_statement_head h ≡ true
   n_head = left (is_statement_head h) (all_stand_well f (asked_below h AsWhole) 0 ss) sn
 
@@ -161,8 +162,8 @@ module _ (f : Free) (ps : Parts) (u : AreFree ps f) (h g : Head) (ss rs : Sketch
   pub statement_keeps : (strict : Bool) (s : Slot) → fits strict s (filled ps (under h ss)) ≡ true → Keeps (Stmt q) (filled ps (under h ss)) (filled ps (under g rs))
   statement_keeps strict s k = names_kept f ps u AsWhole (Stmt q) refl (under h ss) (under g rs) sn sr z (head_valued ps strict AsWhole s h ss (not_list h n_head) k) (no_loop g (all_filled ps rs) w_head ∙ sym (no_loop h (all_filled ps ss) n_head))
 
-  pub statement_kept : KeptAt (Stmt q) (filled ps (under h ss)) (filled ps (under g rs))
-  statement_kept =
+  pub statement_kept : AllVanish ps.trees f.dropped → KeptAt (Stmt q) (filled ps (under h ss)) (filled ps (under g rs))
+  statement_kept v =
       let y = parts_kept f ps u AsWhole (Stmt q) refl (under h ss) (under g rs) sn sr z in
       record {
         keeps = λ strict s o k. in_order (Stmt q) (filled ps (under h ss)) (filled ps (under g rs)) (statement_keeps strict s k);
@@ -173,7 +174,7 @@ module _ (f : Free) (ps : Parts) (u : AreFree ps f) (h g : Head) (ss rs : Sketch
         listed = λ l. absurd (cc l);
         exported = λ strict k. (undeclared h, undeclared g);
         frames = λ strict s o k. same_frames f ps u AsWhole (under h ss) (under g rs) sn sr y;
-        fixed = same_fixed f ps u AsWhole (under h ss) (under g rs) sn sr y;
+        fixed = same_fixed f ps u AsWhole (under h ss) (under g rs) sn sr y v;
         declared = same_declared f ps u AsWhole (under h ss) (under g rs) sn sr y;
       }
 
@@ -185,7 +186,7 @@ statements_arranged f ps u (under h ss) (list is) e q n w a b = absurd (cc e)
 statements_arranged f ps u (under h ss) (under g rs) e q n w a b =
     let (sn, y) = and_parts (stands_well f AsWhole (under h ss)) (stands_well f AsWhole (under g rs) && keeps_statements f (parts_of AsWhole (under h ss)) (parts_of AsWhole (under g rs))) e in
     let (sr, z) = and_parts (stands_well f AsWhole (under g rs)) (keeps_statements f (parts_of AsWhole (under h ss)) (parts_of AsWhole (under g rs))) y in
-    subst (λ t. KeptAt (Stmt q) t w) (sym a) (subst (KeptAt (Stmt q) (filled ps (under h ss))) (sym b) (statement_kept f ps u h g ss rs sn sr z q))
+    subst (λ t. KeptAt (Stmt q) t w) (sym a) (subst (KeptAt (Stmt q) (filled ps (under h ss))) (sym b) (statement_kept f ps (loosened f ps u) h g ss rs sn sr z q u.2))
 
 -- ---- a list of statements
 
@@ -217,7 +218,7 @@ list_slot strict s ts o k =
     (subst (λ x. suits AsWholeList x ≡ true) (sym e) refl, subst (λ x. is_method_slot x ≡ false) (sym e) refl)
 
 -- what else is kept, however the parts are ordered that declare names
-module _ (f : Free) (ps : Parts) (u : AreFree ps f) (is js : Items) (sn : items_stand_well f AsWholeItem is ≡ true) (sr : items_stand_well f AsWholeItem js ≡ true) (y : is_rearranged f (parts_in AsWholeItem is) (parts_in AsWholeItem js) ≡ true) where
+module _ (f : Free) (ps : Parts) (u : AreLoose ps f) (is js : Items) (sn : items_stand_well f AsWholeItem is ≡ true) (sr : items_stand_well f AsWholeItem js ≡ true) (y : is_rearranged f (parts_in AsWholeItem is) (parts_in AsWholeItem js) ≡ true) where
   pub list_parts : (strict : Bool) (s : Slot) → fits_place StatementList s ≡ true → fits strict s (listed (items_filled ps is)) ≡ true → Each Any Valued ps (parts_in AsWholeItem is)
   list_parts strict s o k = sketch_valued ps strict AsWholeList s (list is) (list_slot strict s (items_filled ps is) o k).0 k
 
@@ -232,9 +233,9 @@ module _ (f : Free) (ps : Parts) (u : AreFree ps f) (is js : Items) (sn : items_
       subst (BodiesKept (bodies a (listed (items_filled ps is)))) (sym (list_quiet a js sr (list_valued v)))
       (subst (λ bs. BodiesKept bs (bodies (quiet a) (listed (items_filled ps js)))) (sym (list_quiet a is sn v)) (same_bodies f ps u AsWholeList (list is) (list js) sn sr y a))
 
-  pub list_kept_by : (Each Any Valued ps (parts_in AsWholeItem is) → KeepsLoosely StatementList (listed (items_filled ps is)) (listed (items_filled ps js))) → ((m : Bool) → Each Any Valued ps (parts_in AsWholeItem is) → ports_of m (items_filled ps is) ≡ ports_of m (items_filled ps js))
+  pub list_kept_by : AllVanish ps.trees f.dropped → (Each Any Valued ps (parts_in AsWholeItem is) → KeepsLoosely StatementList (listed (items_filled ps is)) (listed (items_filled ps js))) → ((m : Bool) → Each Any Valued ps (parts_in AsWholeItem is) → ports_of m (items_filled ps is) ≡ ports_of m (items_filled ps js))
       → KeptAt StatementList (listed (items_filled ps is)) (listed (items_filled ps js))
-  list_kept_by keeps ports = record {
+  list_kept_by v keeps ports = record {
     keeps = λ strict s o k. keeps (list_parts strict s o k);
     piece = refl;
     kind = λ strict s k. refl;
@@ -243,7 +244,7 @@ module _ (f : Free) (ps : Parts) (u : AreFree ps f) (is js : Items) (sn : items_
     listed = λ l strict d k m. ports m (list_parts strict (many (a_statement d)) refl k);
     exported = λ strict k. (refl, refl);
     frames = λ strict s o k. same_frames f ps u AsWholeList (list is) (list js) sn sr y;
-    fixed = same_fixed f ps u AsWholeList (list is) (list js) sn sr y;
+    fixed = same_fixed f ps u AsWholeList (list is) (list js) sn sr y v;
     declared = same_declared f ps u AsWholeList (list is) (list js) sn sr y;
   }
 
@@ -251,7 +252,7 @@ pub same_loop : (ts us : Trees) → is_loop (listed us) ≡ is_loop (listed ts)
 unfolding is_loop
 same_loop ts us = refl
 
-module _ (f : Free) (ps : Parts) (u : AreFree ps f) (is js : Items) (sn : items_stand_well f AsWholeItem is ≡ true) (sr : items_stand_well f AsWholeItem js ≡ true) (z : keeps_statements f (parts_in AsWholeItem is) (parts_in AsWholeItem js) ≡ true) where
+module _ (f : Free) (ps : Parts) (u : AreLoose ps f) (is js : Items) (sn : items_stand_well f AsWholeItem is ≡ true) (sr : items_stand_well f AsWholeItem js ≡ true) (z : keeps_statements f (parts_in AsWholeItem is) (parts_in AsWholeItem js) ≡ true) where
   rearranged : is_rearranged f (parts_in AsWholeItem is) (parts_in AsWholeItem js) ≡ true
   rearranged = parts_kept f ps u AsWholeList StatementList refl (list is) (list js) sn sr z
 
@@ -259,9 +260,9 @@ module _ (f : Free) (ps : Parts) (u : AreFree ps f) (is js : Items) (sn : items_
   same_ports m v =
       sym (same_trees (ports_of m (items_filled ps js)) (ports_of m (items_filled ps is)) (gives_same Tree (ports_in m) (port m) (λ t. []) (ports_fold m) f ps u AsWholeList (list is) (list js) sn sr (same_order f ps u AsWholeList StatementList refl (list is) (list js) sn sr z) v (list_valued f ps u is js sn sr rearranged v)))
 
-  pub list_kept : KeptAt StatementList (listed (items_filled ps is)) (listed (items_filled ps js))
-  list_kept =
-      list_kept_by f ps u is js sn sr rearranged
+  pub list_kept : AllVanish ps.trees f.dropped → KeptAt StatementList (listed (items_filled ps is)) (listed (items_filled ps js))
+  list_kept g =
+      list_kept_by f ps u is js sn sr rearranged g
       (λ v. in_order StatementList (listed (items_filled ps is)) (listed (items_filled ps js)) (names_kept f ps u AsWholeList StatementList refl (list is) (list js) sn sr z v (same_loop (items_filled ps is) (items_filled ps js))))
       same_ports
 
@@ -269,4 +270,4 @@ pub lists_arranged : ListsArranged
 lists_arranged f ps u is js e n w a b =
     let (sn, y) = and_parts (items_stand_well f AsWholeItem is) (items_stand_well f AsWholeItem js && keeps_statements f (parts_in AsWholeItem is) (parts_in AsWholeItem js)) e in
     let (sr, z) = and_parts (items_stand_well f AsWholeItem js) (keeps_statements f (parts_in AsWholeItem is) (parts_in AsWholeItem js)) y in
-    subst (λ t. KeptAt StatementList t w) (sym a) (subst (KeptAt StatementList (listed (items_filled ps is))) (sym b) (list_kept f ps u is js sn sr z))
+    subst (λ t. KeptAt StatementList t w) (sym a) (subst (KeptAt StatementList (listed (items_filled ps is))) (sym b) (list_kept f ps (loosened f ps u) is js sn sr z u.2))

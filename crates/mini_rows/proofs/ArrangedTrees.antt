@@ -3,7 +3,7 @@ use Rattle.std.specs.Prelude.{ℕ, ◌≤◌, ◌≡◌, refl, ◌||◌, Bool, t
 use Rattle.std.proofs.Common.{ap, arith}
 use Rattle.mini_model.specs.declared.name.Name.{Name}
 use Rattle.mini_model.specs.declared.name.SymbolId.{SymbolId}
-use Rattle.mini_model.specs.Tree.{Tree}
+use Rattle.mini_model.specs.Tree.{Tree, child_or_absent}
 use Rattle.mini_laws.specs.declared.names.Use.{Use}
 use Rattle.mini_laws.specs.declared.names.Targets.{Targets}
 use Rattle.mini_laws.specs.DeclaredNames.{has_inner}
@@ -21,13 +21,13 @@ use Rattle.mini_kept.specs.Frames.{frames, FramesKept}
 use Rattle.mini_kept.specs.KeepsNames.{count_of}
 use Rattle.mini_kept.proofs.Anywhere.{once_anywhere, targets_anywhere}
 use Rattle.mini_kept.proofs.BodyLists.{kept_itself}
-use Rattle.mini_rows.specs.Sketches.{Sketch, Parts, filled, Asked, use_by, Leap, parts_of, Free, is_rearranged, stands_well}
-use Rattle.mini_rows.specs.Arranged.{Vanishes, AreFree}
+use Rattle.mini_rows.specs.Sketches.{Sketch, Parts, filled, Asked, use_by, Leap, is_among, parts_of, Free, is_rearranged, stands_well}
+use Rattle.mini_rows.specs.Arranged.{AllVanish, AreLoose}
 use Rattle.mini_rows.proofs.Arranging.{Any, Each, Local, to_parts, of_parts, sum_of}
 use Rattle.mini_rows.proofs.ArrangedNames.{ScopedAs, scoped_local, symbol_times, symbols_summed, number_times, numbers_summed, inner_local, once_local, HasTarget, aimed_local}
 use Rattle.mini_rows.proofs.ArrangedBodies.{quiet, bodies_local, frames_local, declares_local, rank, by_rank, fixed_local}
 use Rattle.mini_rows.proofs.ArrangedValues.{Valued}
-use Rattle.mini_rows.proofs.ArrangedMoves.{forth, sum_forth, valued_there, anyhow_forth, anyhow_over}
+use Rattle.mini_rows.proofs.ArrangedMoves.{innerless_among, vanishes_among, forth, sum_forth, valued_there, anyhow_forth, anyhow_over}
 use Rattle.mini_rows.proofs.ArrangedPlain.{is_plain}
 use Rattle.mini_rows.proofs.ArrangedUses.{scoped_moves, symbols_moves}
 
@@ -41,7 +41,7 @@ pub itself : (b : Bool) → (b || b) ≡ b
 itself true = refl
 itself false = refl
 
-module _ (f : Free) (ps : Parts) (u : AreFree ps f) (c : Asked) (s r : Sketch) (sn : stands_well f c s ≡ true) (sr : stands_well f c r ≡ true) (z : is_rearranged f (parts_of c s) (parts_of c r) ≡ true) where
+module _ (f : Free) (ps : Parts) (u : AreLoose ps f) (c : Asked) (s r : Sketch) (sn : stands_well f c s ≡ true) (sr : stands_well f c r ≡ true) (z : is_rearranged f (parts_of c s) (parts_of c r) ≡ true) where
   abbrev n : Tree
   n = filled ps s
 
@@ -51,21 +51,22 @@ module _ (f : Free) (ps : Parts) (u : AreFree ps f) (c : Asked) (s r : Sketch) (
   across : (J : Leap → Type 0) (P : Tree → Type 0) → Local J (λ d t. P t) → P n → P w
   across J P l a = of_parts J (λ d t. P t) l ps c r (is_plain f ps u c r sr) (anyhow_forth P f ps u (parts_of c s) (parts_of c r) z J (to_parts J (λ d t. P t) l ps c s (is_plain f ps u c s sn) a))
 
-  over : (P : Tree → Type 0) → Local Any (λ d t. P t) → ((t : Tree) → Vanishes t → P t) → P w → P n
+  over : (P : Tree → Type 0) → Local Any (λ d t. P t) → ((i : ℕ) → is_among f.dropped i ≡ true → P (child_or_absent ps.trees i)) → P w → P n
   over P l k a = of_parts Any (λ d t. P t) l ps c s (is_plain f ps u c s sn) (anyhow_over P f ps u (parts_of c s) (parts_of c r) z k (to_parts Any (λ d t. P t) l ps c r (is_plain f ps u c r sr) a))
 
   pub same_inner : has_inner w ≡ has_inner n
   same_inner =
       both_same (has_inner n) (has_inner w) (across Any (λ t. (has_inner t || has_inner n) ≡ has_inner n) (inner_local (has_inner n)) (itself (has_inner n)))
-      (over (λ t. (has_inner t || has_inner w) ≡ has_inner w) (inner_local (has_inner w)) (λ t k. ap (λ b. b || has_inner w) k.inner) (itself (has_inner w)))
+      (over (λ t. (has_inner t || has_inner w) ≡ has_inner w) (inner_local (has_inner w)) (λ i e. ap (λ b. b || has_inner w) (innerless_among f ps u i e)) (itself (has_inner w)))
 
-  pub same_fixed : (y : Variable) → fixed_by n y ≡ fixed_by w y
-  same_fixed y =
-      by_rank (fixed_by n y) (fixed_by w y) (over (λ t. rank (fixed_by t y) ≤ rank (fixed_by w y)) (fixed_local y (rank (fixed_by w y))) (λ t k. vanished t k) (omega arith))
+  -- where what is dropped declares nothing that can't be written
+  pub same_fixed : AllVanish ps.trees f.dropped → (y : Variable) → fixed_by n y ≡ fixed_by w y
+  same_fixed g y =
+      by_rank (fixed_by n y) (fixed_by w y) (over (λ t. rank (fixed_by t y) ≤ rank (fixed_by w y)) (fixed_local y (rank (fixed_by w y))) vanished (omega arith))
       (across Any (λ t. rank (fixed_by t y) ≤ rank (fixed_by n y)) (fixed_local y (rank (fixed_by n y))) (omega arith))
     where
-      vanished : (t : Tree) → Vanishes t → rank (fixed_by t y) ≤ rank (fixed_by w y)
-      vanished t k = let e : rank (fixed_by t y) ≡ 0 = ap rank (k.fixed y) in omega (arith, e)
+      vanished : (i : ℕ) → is_among f.dropped i ≡ true → rank (fixed_by (child_or_absent ps.trees i) y) ≤ rank (fixed_by w y)
+      vanished i e = let z : rank (fixed_by (child_or_absent ps.trees i) y) ≡ 0 = ap rank ((vanishes_among f ps g i e).fixed y) in omega (arith, z)
 
   pub same_declared : (x : Name) → Contains (declared w) x → Contains (declared n) x
   same_declared = across Any (λ t. (x : Name) → Contains (declared t) x → Contains (declared n) x) (declares_local (declared n)) (λ x k. k)

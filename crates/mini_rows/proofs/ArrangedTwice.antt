@@ -21,9 +21,10 @@ use Rattle.mini_kept.proofs.Statements.{among_both}
 use Rattle.mini_kept.proofs.Unplaced.{as_body, body_is}
 use Rattle.mini_kept.specs.Frames.{ports as ports_of}
 use Rattle.mini_rows.specs.Sketches.{list, Items, Parts, items_filled, AsWholeList, AsWholeItem, parts_in, Free, is_rearranged, all_settled, items_stand_well, statements, has_branch_twice}
-use Rattle.mini_rows.specs.Arranged.{KeptAt, AreFree, ListsArrangedOnce}
+use Rattle.mini_rows.specs.Arranged.{KeptAt, AllVanish, AreLoose, ListsArrangedOnce}
 use Rattle.mini_rows.proofs.Arranging.{Any, Each}
 use Rattle.mini_rows.proofs.ArrangedValues.{Valued}
+use Rattle.mini_rows.proofs.ArrangedMoves.{loosened}
 use Rattle.mini_rows.proofs.ArrangedTrees.{same_inner, same_once, same_targets, same_scoped, same_symbols, same_numbers}
 use Rattle.mini_rows.proofs.ArrangedGather.{Fold, Twice, branch_twice, gives_each, gives_once, gives_twice}
 use Rattle.mini_rows.proofs.ArrangedFolds.{bound_fold, lexical_fold, hoisted_fold, body_fold, hoists, declared_fold, same_trees, port, ports_in, ports_fold}
@@ -83,7 +84,7 @@ no_more_placed ds es ds' es' e f k =
 
 -- ---- the list
 
-module _ (f : Free) (ps : Parts) (u : AreFree ps f) (is js : Items) (sn : items_stand_well f AsWholeItem is ≡ true) (sr : items_stand_well f AsWholeItem js ≡ true) (y : is_rearranged f (parts_in AsWholeItem is) (parts_in AsWholeItem js) ≡ true) (t : Twice (statements (all_settled f (parts_in AsWholeItem js))) (statements (all_settled f (parts_in AsWholeItem is)))) where
+module _ (f : Free) (ps : Parts) (u : AreLoose ps f) (is js : Items) (sn : items_stand_well f AsWholeItem is ≡ true) (sr : items_stand_well f AsWholeItem js ≡ true) (y : is_rearranged f (parts_in AsWholeItem is) (parts_in AsWholeItem js) ≡ true) (t : Twice (statements (all_settled f (parts_in AsWholeItem js))) (statements (all_settled f (parts_in AsWholeItem is)))) where
   abbrev n : Tree
   n = listed (items_filled ps is)
 
@@ -143,8 +144,8 @@ module _ (f : Free) (ps : Parts) (u : AreFree ps f) (is js : Items) (sn : items_
     same_ports : (m : Bool) → ports_of m (items_filled ps is) ≡ ports_of m (items_filled ps js)
     same_ports m = sym (same_trees (ports_of m (items_filled ps js)) (ports_of m (items_filled ps is)) (direct Tree (ports_in m) (port m) (ports_fold m)))
 
-  pub list_kept_once : KeptAt StatementList n w
-  list_kept_once = list_kept_by f ps u is js sn sr y keeps (λ m v. same_ports v m)
+  pub list_kept_once : AllVanish ps.trees f.dropped → KeptAt StatementList n w
+  list_kept_once g = list_kept_by f ps u is js sn sr y g keeps (λ m v. same_ports v m)
 
 pub lists_arranged_once : ListsArrangedOnce
 lists_arranged_once f ps u is js e n w a b =
@@ -153,4 +154,4 @@ lists_arranged_once f ps u is js e n w a b =
     let (sn, x) = and_parts (items_stand_well f AsWholeItem is) (items_stand_well f AsWholeItem js && (is_rearranged f hs gs && has_branch_twice (statements (all_settled f gs)) (statements (all_settled f hs)))) e in
     let (sr, z) = and_parts (items_stand_well f AsWholeItem js) (is_rearranged f hs gs && has_branch_twice (statements (all_settled f gs)) (statements (all_settled f hs))) x in
     let (y, t) = and_parts (is_rearranged f hs gs) (has_branch_twice (statements (all_settled f gs)) (statements (all_settled f hs))) z in
-    subst (λ r. KeptAt StatementList r w) (sym a) (subst (KeptAt StatementList (listed (items_filled ps is))) (sym b) (list_kept_once f ps u is js sn sr y (branch_twice (statements (all_settled f gs)) (statements (all_settled f hs)) t)))
+    subst (λ r. KeptAt StatementList r w) (sym a) (subst (KeptAt StatementList (listed (items_filled ps is))) (sym b) (list_kept_once f ps (loosened f ps u) is js sn sr y (branch_twice (statements (all_settled f gs)) (statements (all_settled f hs)) t) u.2))

@@ -5,15 +5,14 @@ use Rattle.mini_model.specs.declared.place.Position.TheVariants.{Expr, Stmt}
 use Rattle.mini_model.specs.Tree.{Tree, shape_of, logical, conditional, expression_statement}
 use Rattle.mini_accept.specs.WellShaped.{Slot, fits}
 use Rattle.mini_kept.specs.KeepsNames.{is_rewritten_place}
-use Rattle.mini_kept.specs.KeepsShapes.{AskedAlike}
+use Rattle.mini_kept.specs.KeepsShapes.{AskedAlike, KeepsShapes}
 use Rattle.mini_kept.specs.KeepsFrames.{is_body_slot}
-use Rattle.mini_kept.specs.Lawful.{Lawful}
 use Rattle.mini_kept.specs.Placed.{fits_place}
 use Rattle.mini_kept.proofs.Expressions.{of_conditional, expression_taken}
-use Rattle.mini_rows.specs.Arranged.{KeptAt}
+use Rattle.mini_rows.specs.Arranged.{KeptLoosely}
 use Rattle.mini_rows.specs.ForParts.{ForPartRow}
-use Rattle.mini_rows.specs.Folding.{FoldingRow, FoldingContracts}
-use Rattle.mini_rows.proofs.ArrangedLawful.{kept_is_lawful}
+use Rattle.mini_rows.specs.Folding.{FoldingRow, FoldingContracts, FoldingsLawful, FoldingsLoose}
+use Rattle.mini_rows.proofs.ArrangedLawful.{kept_loosely, fixed_is_lawful, kept_is_loose}
 use Rattle.mini_rows.proofs.BranchAround.{is_plain}
 use Rattle.mini_rows.proofs.BranchLawful.{is_read, taken, fits_there, body_slot, plain_asked}
 use Rattle.mini_rows.proofs.FoldLawful.{passed_kept, stopped_kept, loosened_kept, branch_kept, statement_kept, operands, statement_taken, empty_taken, loosened_fits, loosened_formed, expression_slot, statement_slot, logical_asked, conditional_asked, statement_asked}
@@ -24,14 +23,14 @@ use Rattle.mini_rows.proofs.TextLength.{length_kept, length_taken, length_fits, 
 
 -- ---- the same parts
 
-kept : (p : Position) (n w : Tree) → FoldingRow p n w → KeptAt p n w
-kept (Expr q) n w (inl r) = passed_kept q n w r
+kept : (p : Position) (n w : Tree) → FoldingRow p n w → KeptLoosely p n w
+kept (Expr q) n w (inl r) = kept_loosely (Expr q) n w (passed_kept q n w r)
 kept (Expr q) n w (inr (inl r)) = stopped_kept q n w r
-kept (Expr q) n w (inr (inr (inl r))) = loosened_kept q n w r
-kept (Expr q) n w (inr (inr (inr (inl r)))) = branch_kept q n w r
-kept (Expr q) n w (inr (inr (inr (inr r)))) = length_kept q n w r
-kept (Stmt q) n w (inl r) = statement_kept q n w r
-kept (Stmt q) n w (inr r) = parts_kept q n w r
+kept (Expr q) n w (inr (inr (inl r))) = kept_loosely (Expr q) n w (loosened_kept q n w r)
+kept (Expr q) n w (inr (inr (inr (inl r)))) = kept_loosely (Expr q) n w (branch_kept q n w r)
+kept (Expr q) n w (inr (inr (inr (inr r)))) = kept_loosely (Expr q) n w (length_kept q n w r)
+kept (Stmt q) n w (inl r) = kept_loosely (Stmt q) n w (statement_kept q n w r)
+kept (Stmt q) n w (inr r) = kept_loosely (Stmt q) n w (parts_kept q n w r)
 kept p n w r = absurd r
 
 places : (p : Position) (n w : Tree) → FoldingRow p n w → is_rewritten_place p ≡ true
@@ -84,10 +83,11 @@ row_asked (Stmt q) n w (inr r) = plain_asked (Stmt q) n w (part_plain n w r).0 (
 row_asked (Stmt q) n w (inl r) = subst (λ t. AskedAlike (Stmt q) t w) (sym r.shape) (subst (AskedAlike (Stmt q) (expression_statement r.expression)) (sym r.written) (statement_asked q r.expression))
 row_asked p n w r = absurd r
 
-pub foldings_lawful : Lawful FoldingContracts
-foldings_lawful =
-    kept_is_lawful FoldingContracts foldings_same
-    (record { fitting = λ p n w c strict s k e. row_fits p n w c.row strict s k e; asked = λ p n w c. row_asked p n w c.row })
-    (λ p n w c. places p n w c.row)
-    (λ p n w c strict s k e. row_slot p n w c.row strict s k e)
-    (λ p n w c. kept p n w c.row)
+shapes : KeepsShapes FoldingContracts
+shapes = record { fitting = λ p n w c strict s k e. row_fits p n w c.row strict s k e; asked = λ p n w c. row_asked p n w c.row }
+
+pub foldings_lawful : FoldingsLawful
+foldings_lawful = fixed_is_lawful FoldingContracts foldings_same shapes (λ p n w c. places p n w c.row) (λ p n w c strict s k e. row_slot p n w c.row strict s k e) (λ p n w c. kept p n w c.row)
+
+pub foldings_loose : FoldingsLoose
+foldings_loose K = kept_is_loose FoldingContracts foldings_same shapes (λ p n w c. places p n w c.row) (λ p n w c strict s k e. row_slot p n w c.row strict s k e) (λ p n w c. kept p n w c.row) K

@@ -146,6 +146,7 @@ mod FoldBranches
 pub mod FoldMeaning
 pub mod FoldWeights
 pub mod FoldLawful
+mod SideGone
 mod FoldRows
 pub mod BooleanRuns
 mod ConversionRuns

@@ -18,12 +18,13 @@ use Rattle.mini_kept.specs.Declaring.{declared as declared_names}
 use Rattle.mini_kept.proofs.Bools.{left, right}
 use Rattle.mini_kept.proofs.Fixed.{of_children}
 use Rattle.mini_rows.specs.Switches.{Switches}
-use Rattle.mini_rows.specs.Arranged.{AreFree}
+use Rattle.mini_rows.specs.Arranged.{AllVanish, AreFree, AreLoose}
 use Rattle.mini_rows.specs.Lists.{block, are_unscoped, alternate_of}
 use Rattle.mini_rows.specs.Branches.{Surrounding, Consequent, Alternate, WhileBody, DoBody, ForBody, InBody, OfBody, around, is_loop, bare_continue}
 use Rattle.mini_rows.specs.LoopGuards.{TurnsGuard, LoopGuardRow, LoopGuardContracts}
 use Rattle.mini_rows.specs.Sketches.{Unary, AbsentPart, Empty, If, Block, Free, Parts, Items, part, under, list, end, ◌▹◌, no_items, item, items, items_filled, AsWholeList, AsWholeItem, items_stand_well, parts_in, is_rearranged, keeps_statements, rearranges_list}
 use Rattle.mini_rows.proofs.ArrangedStatements.{parts_kept, names_kept, list_parts, same_loop}
+use Rattle.mini_rows.proofs.ArrangedMoves.{loosened}
 use Rattle.mini_rows.proofs.ArrangedTrees.{same_fixed, same_declared, same_frames, same_bodies}
 use Rattle.mini_rows.proofs.ArrangedBetween.{append_none}
 use Rattle.mini_rows.proofs.BodyEnds.{continue_idle, emptied, shortened}
@@ -37,7 +38,7 @@ use Rattle.mini_rows.proofs.LoopGuards.{guard_unscoped, made_unscoped, loop_guar
 
 -- ---- a block whose list is built anew
 
-module _ (f : Free) (ps : Parts) (u : AreFree ps f) (is js : Items) (e : rearranges_list f is js ≡ true) where
+module _ (f : Free) (ps : Parts) (u : AreLoose ps f) (g : AllVanish ps.trees f.dropped) (is js : Items) (e : rearranges_list f is js ≡ true) where
   abbrev old : Trees
   old = items_filled ps is
 
@@ -54,7 +55,7 @@ module _ (f : Free) (ps : Parts) (u : AreFree ps f) (is js : Items) (e : rearran
 
   list_said : Said (listed old) (listed new)
   list_said = record {
-    fixed = same_fixed f ps u AsWholeList (list is) (list js) stand.0 stand.1.0 rearranged;
+    fixed = same_fixed f ps u AsWholeList (list is) (list js) stand.0 stand.1.0 rearranged g;
     declared = same_declared f ps u AsWholeList (list is) (list js) stand.0 stand.1.0 rearranged;
   }
 
@@ -64,7 +65,7 @@ module _ (f : Free) (ps : Parts) (u : AreFree ps f) (is js : Items) (e : rearran
       let keeps = names_kept f ps u AsWholeList StatementList refl (list is) (list js) stand.0 stand.1.0 stand.1.1 v (same_loop old new) in
       record {
         kept = keeps.kept;
-        scoped = λ env g. keeps.scoped Read env refl g;
+        scoped = λ env x. keeps.scoped Read env refl x;
         numbers = keeps.numbers;
         declared_as_body = keeps.declared_as_body false;
         once = keeps.once;
@@ -92,7 +93,7 @@ turned_along : (n n' w w' : Tree) → n ≡ n' → w ≡ w' → Turned n' w' →
 turned_along n n' w w' e f t = subst (λ x. Turned x w) (sym e) (subst (λ y. Turned n' y) (sym f) t)
 
 rebuilt : (f : Free) (ps : Parts) → AreFree ps f → (is js : Items) → rearranges_list f is js ≡ true → (n w : Tree) → n ≡ block (items_filled ps is) → w ≡ block (items_filled ps js) → Turned n w
-rebuilt f ps u is js e n w a b = turned_along n _ w _ a b (record { inside = λ strict k. block_inside f ps u is js e strict k; said = block_said f ps u is js e })
+rebuilt f ps u is js e n w a b = turned_along n _ w _ a b (record { inside = λ strict k. block_inside f ps (loosened f ps u) u.2 is js e strict k; said = block_said f ps (loosened f ps u) u.2 is js e })
 
 said_of : (n w : Tree) → Inside n w → Said n w
 said_of n w i = record { fixed = i.fixed; declared = i.declared }

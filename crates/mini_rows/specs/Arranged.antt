@@ -85,12 +85,25 @@ AllVanish ts (i ∷ is) = Vanishes (child_or_absent ts i) × AllVanish ts is
 abbrev pub AreFree : Parts → Free → Type 0
 AreFree ps f = AllUnscoped ps.trees f.moved × ListsUnscoped ps.lists f.lists_moved × AllVanish ps.trees f.dropped
 
+-- what is dropped may declare what can't be written
+abbrev pub AllInnerless : Trees → List ℕ → Type 0
+AllInnerless ts [] = Unit {0}
+AllInnerless ts (i ∷ is) = (has_inner (child_or_absent ts i) ≡ false) × AllInnerless ts is
+
+abbrev pub AreLoose : Parts → Free → Type 0
+AreLoose ps f = AllUnscoped ps.trees f.moved × ListsUnscoped ps.lists f.lists_moved × AllInnerless ps.trees f.dropped
+
 -- ---- the laws
 
 -- an expression that is built anew of the parts of another is kept
 abbrev pub ExpressionsArranged : Type 0
 ExpressionsArranged =
     (f : Free) (ps : Parts) → AreFree ps f → (s r : Sketch) → rearranges_expression f s r ≡ true → (q : Seat) (n w : Tree) → n ≡ filled ps s → w ≡ filled ps r → KeptAt (Expr q) n w
+
+-- so is one of which parts are dropped that declare what can't be written, but for what a write of each variable does
+abbrev pub ExpressionsArrangedLoosely : Type 0
+ExpressionsArrangedLoosely =
+    (f : Free) (ps : Parts) → AreLoose ps f → (s r : Sketch) → rearranges_expression f s r ≡ true → (q : Seat) (n w : Tree) → n ≡ filled ps s → w ≡ filled ps r → FixedKept (Expr q) n w → KeptLoosely (Expr q) n w
 
 -- a statement that is built anew of the parts of another, which keep their order where they declare names
 abbrev pub StatementsArranged : Type 0

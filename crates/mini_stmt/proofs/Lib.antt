@@ -2,7 +2,6 @@ pub mod Parts
 pub mod Follows
 pub mod Quiet
 pub mod Stepping
-pub mod Enclosing
 pub mod Unreached
 pub mod Guards
 pub mod Assignments

@@ -1,14 +1,12 @@
 //! Rewrites of lists of statements: each with its test and what it writes, and the list as a whole.
 #![tactic(auto)]
 
-mod held_names;
 mod lead;
 mod rewrites;
 mod statements;
 mod terminated;
 mod terms;
 
-pub use held_names::takes_names_along;
 pub use lead::{Lead, lead_of};
 pub use rewrites::drop_unreached::{is_left_lighter, left_behind};
 pub use rewrites::join_lets::{JoinLets, join_lets};

@@ -8,9 +8,9 @@ ghost use Rattle.mini_rows.specs.Lists as list;
 ghost use Rattle.mini_stmt.specs.DropUnreached as row;
 ghost use Rattle.mini_stmt.specs.DropUnreached.{Dropped, EndsAt, Left, PutLeft};
 
-use crate::held_names::takes_names_along;
 use crate::statements::put_reversed;
 use crate::terms::{is_terminated, statement_cares_about_scope};
+use mini_held::takes_names_along;
 use mini_laws::Declared;
 use mini_model::{Name, OutOfMemory, Position, Shape, StmtSeat, VariableDeclarationKind};
 use mini_node::{Node, Nodes, absent, discard, listed, of_one, of_two, one};

@@ -13,13 +13,12 @@ ghost use Rattle.mini_switch.specs.DropUnreachableSwitchCases as row;
 ghost use Rattle.mini_switch.specs.DropUnreachableSwitchCases.{written, choices_of};
 
 use crate::rewrites::minimize_switch_statements::is_case;
+use mini_held::takes_names_along;
 use mini_model::{OutOfMemory, Shape, VariableDeclarationKind};
 use mini_node::{
     Node, Nodes, discard, is_absent_part, is_listed, listed, of_one, of_two, taken, two,
 };
-use mini_stmt::{
-    are_unscoped, declares_nothing, has_terminated, is_left_lighter, left_behind, takes_names_along,
-};
+use mini_stmt::{are_unscoped, declares_nothing, has_terminated, is_left_lighter, left_behind};
 use mini_terms::{ConstantValue, given_value, has_no_effect, strictly_equal};
 use std::alloc::Global;
 

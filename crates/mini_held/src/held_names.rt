@@ -1,11 +1,13 @@
-//! Names that can't be written, in a statement that goes: each is declared by a scope in it, and goes with that.
+//! Names that can't be written, in a statement or an expression that goes: each is declared by a scope in it, and goes with that.
 
 ghost use Rattle.std.specs.Prelude.{◌≡◌, ◌<◌, ◌&&◌, nat_eq, true, false};
 ghost use Rattle.mini_model.specs.Tree.{children, child_or_absent, count, shape_of};
+ghost use Rattle.mini_rows.specs.Folding as folding;
 ghost use Rattle.mini_rows.specs.Lists as list;
 
 use mini_model::{Shape, UnaryOperator, VariableDeclarationKind};
 use mini_node::{Node, Nodes};
+use mini_scope::has_inner;
 
 // Whether the node is a name that is declared, or absent.
 fn is_name(node: &Node) -> bool
@@ -38,7 +40,7 @@ fn first_binds(nodes: &Nodes) -> bool
 
 // Whether a part of a declaration gives the names that it binds, and no statement or declaration stands there.
 #[cycle(binding)]
-#[tactic(auto, using(crate::proofs::Enclosing::binding_is, crate::proofs::Parts::below))]
+#[tactic(auto, using(crate::proofs::Enclosing::binding_is, crate::proofs::Enclosing::below))]
 fn binds(node: &Node) -> bool
     ensures { result ≡ list.binds node.now }
 {
@@ -167,7 +169,7 @@ fn all_enclose(held: bool, shape: &Shape, nodes: &Nodes) -> bool
 }
 
 #[cycle(enclosing)]
-#[tactic(auto, using(crate::proofs::Enclosing::enclosing_is, crate::proofs::Parts::below))]
+#[tactic(auto, using(crate::proofs::Enclosing::enclosing_is, crate::proofs::Enclosing::below))]
 fn encloses(held: bool, node: &Node) -> bool
     ensures { result ≡ list.encloses held node.now }
 {
@@ -179,4 +181,12 @@ pub fn takes_names_along(node: &Node) -> bool
     ensures { result ≡ list.encloses false node.now }
 {
     encloses(false, node)
+}
+
+/// Whether an expression that goes does so, and no inner expression stands in it, which as a part of a parameter would decide whether the
+/// body's `var`s are the parameters (ECMA-262, "FunctionDeclarationInstantiation").
+pub fn may_go(node: &Node) -> bool
+    ensures { result ≡ folding.may_go node.now }
+{
+    takes_names_along(node) && !has_inner(node)
 }

@@ -2,7 +2,7 @@
 use Rattle.std.proofs.Common.{◌≡◌, ℕ, suc, ◌+◌, ◌<◌, ◌≤◌, Bool, true, false, refl, sym, ap, ◌∙◌, arith}
 use Rattle.std.specs.Prelude.{◌&&◌}
 use Rattle.mini_model.specs.declared.shape.Shape.{Shape}
-use Rattle.mini_model.specs.Tree.{Tree, Trees, node, none, ◌▸◌, count, shape_of, child_or_absent, children}
+use Rattle.mini_model.specs.Tree.{Tree, Trees, node, none, ◌▸◌, count, shape_of, child_or_absent, children, node_count, node_counts}
 use Rattle.mini_node.specs.Children.{rest_children}
 use Rattle.mini_node.specs.Walks.{next_child, no_rest}
 use Rattle.mini_rows.specs.Lists.{binding_of, binds_by, binds, all_bind, first_binds, encloses_by, holds, encloses, all_enclose}
@@ -33,6 +33,10 @@ binding_ends ts i h inv = sym (ap all_bind (no_rest ts i h)) ∙ inv
 
 pub enclosing_is : (held : Bool) (t : Tree) → encloses held t ≡ encloses_by held (shape_of t) (children t) && all_enclose held (shape_of t) 0 (children t)
 enclosing_is held (node h xs n ts) = refl
+
+-- a node has more nodes than its children
+pub below : (t : Tree) → node_counts (children t) + 1 ≡ node_count t
+below (node h xs n ts) = omega arith
 
 -- ---- of children from an index on
 

@@ -2,7 +2,7 @@ use Rattle.std.proofs.Common.{◌≡◌, ◌+◌, ◌*◌}
 use Rattle.mini_model.specs.Tree.{node_count, node_counts}
 use Rattle.mini_node.specs.Children.{rest_children}
 use Rattle.mini_rows.specs.Lists.{all_bind}
-use Rattle.mini_stmt.proofs.held_names.+binding.Given as goal
+use Rattle.mini_held.proofs.held_names.+binding.Given as goal
 
 abbrev pub decreases-binds : goal.decreases-binds
 decreases-binds l = 2 * node_count l.node.now

@@ -1,8 +1,8 @@
 use Rattle.std.proofs.Common.{◌∙◌, ap, sym, arith}
 use Rattle.mini_node.specs.Walks.{from_first}
 use Rattle.mini_rows.specs.Lists.{binds, all_bind}
-use Rattle.mini_stmt.proofs.Enclosing.{binding_stops, binding_goes_on, binding_ends}
-use Rattle.mini_stmt.proofs.held_names.+binding.Goals as goal
+use Rattle.mini_held.proofs.Enclosing.{binding_stops, binding_goes_on, binding_ends}
+use Rattle.mini_held.proofs.held_names.+binding.Goals as goal
 
 pub all_bind-loop-at-init : goal.all_bind-loop-at-init
 all_bind-loop-at-init t c = ap all_bind (from_first c.args.nodes.now)

@@ -2,7 +2,7 @@ use Rattle.std.proofs.Common.{◌≡◌, ◌+◌, ◌*◌}
 use Rattle.mini_model.specs.Tree.{node_count, node_counts}
 use Rattle.mini_node.specs.Children.{rest_children}
 use Rattle.mini_rows.specs.Lists.{all_enclose}
-use Rattle.mini_stmt.proofs.held_names.+enclosing.Given as goal
+use Rattle.mini_held.proofs.held_names.+enclosing.Given as goal
 
 abbrev pub decreases-encloses : goal.decreases-encloses
 decreases-encloses l = 2 * node_count l.node.now

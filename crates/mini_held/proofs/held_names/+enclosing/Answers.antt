@@ -2,8 +2,8 @@ use Rattle.std.proofs.Common.{◌∙◌, ap, sym, arith}
 use Rattle.mini_model.specs.Tree.{shape_of}
 use Rattle.mini_node.specs.Walks.{from_first}
 use Rattle.mini_rows.specs.Lists.{holds, encloses, all_enclose}
-use Rattle.mini_stmt.proofs.Enclosing.{stops, goes_on, ends}
-use Rattle.mini_stmt.proofs.held_names.+enclosing.Goals as goal
+use Rattle.mini_held.proofs.Enclosing.{stops, goes_on, ends}
+use Rattle.mini_held.proofs.held_names.+enclosing.Goals as goal
 
 pub all_enclose-loop-at-init : goal.all_enclose-loop-at-init
 all_enclose-loop-at-init t c = ap (all_enclose c.args.held c.args.shape.now 0) (from_first c.args.nodes.now)
