@@ -1,29 +1,32 @@
--- What is done in the statements of a function or of an arrow function is done in it.
+-- What is done in the statements of a function, of an arrow function, of a module or of a static block is done in it.
 use Rattle.std.proofs.Common.{◌≡◌, ℕ, suc, Bool, true, false, List, [], ◌∷◌, refl, sym, ap, ◌∙◌, subst, inl, inr, true≢false}
 use Rattle.std.specs.Prelude.{not, ◌⊎◌, ◌&&◌, ◌||◌, None}
 use Rattle.mini_model.specs.declared.name.Name.{Name}
 use Rattle.mini_model.specs.declared.shape.Shape.TheVariants as shape
-use Rattle.mini_model.specs.Tree.{Tree, Trees, node, none, ◌▸◌, absent, listed, children, child_or_absent}
+use Rattle.mini_model.specs.Tree.{Tree, Trees, node, none, ◌▸◌, absent, listed, program, children, child_or_absent}
 use Rattle.mini_kept.specs.Without.{Assured, BodySets}
 use Rattle.mini_laws.specs.ScopeList.{has_eval, any_has_eval}
 use Rattle.mini_laws.specs.Value.{VariableSet}
 use Rattle.mini_node.specs.Children.{names_of, number_of, part, with_part}
+use Rattle.mini_node.specs.Kinds.{is_listed}
 use Rattle.mini_rows.specs.Lists.{block}
-use Rattle.mini_rows.specs.Past.{held, PastRow, PastFunctionRow}
+use Rattle.mini_rows.specs.Past.{PastRow, PastFunctionRow}
 use Rattle.mini_rows.specs.PastArrows.{PastArrowRow}
-use Rattle.mini_rows.specs.Unused.{names, any_names, arrow_with, function_with}
+use Rattle.mini_rows.specs.PastModules.{PastModuleRow}
+use Rattle.mini_rows.specs.PastStatics.{PastStaticRow}
+use Rattle.mini_rows.specs.Unused.{names, any_names, arrow_with, function_with, static_block}
 use Rattle.mini_unused.specs.Chains.{Several}
-use Rattle.mini_unused.specs.RemoveUnusedDeclaration.{declares_list, has_statements, is_free_at, is_function, list_at}
+use Rattle.mini_unused.specs.RemoveUnusedDeclaration.{declares_list, has_statements, is_free_at, is_function, is_module, is_static_block, list_at}
 use Rattle.mini_unused.specs.SubstituteNext.{is_declarator, is_mentioned_beside, is_mentioned_elsewhere}
 use Rattle.mini_unused.specs.SubstituteSingleUse.{last_place, is_declared_over, is_mentioned_around}
 use Rattle.mini_unused.proofs.Chains.{several_over}
-use Rattle.mini_unused.proofs.Holders.{or_none, arrow_is, function_is}
+use Rattle.mini_unused.proofs.Holders.{or_none, arrow_is, function_is, module_is, static_is}
 pub use Rattle.mini_unused.proofs.Holders.{put_back}
 pub use Rattle.mini_unused.proofs.Swept.{in_arrow, in_function}
 pub use Rattle.mini_unused.proofs.Unused.{same_parts, part_twice}
 use Rattle.mini_past.proofs.NextRows.{next_row, none_next}
 use Rattle.mini_past.proofs.PastRows.{row_there, none_past}
-use Rattle.mini_past.specs.SubstitutePast.{may_pass_by, reads_past, reads_past_in, is_read_past, is_read_past_then, is_past, is_past_next, PastAt, PastNextAt, ReadPast, NextPast, PastGone, PastRemoved, AppliedPast, AppliedPastArrow}
+use Rattle.mini_past.specs.SubstitutePast.{held_at, may_pass_by, reads_past, reads_past_in, is_read_past, is_read_past_then, is_past, is_past_next, PastAt, PastNextAt, ReadPast, NextPast, PastGone, PastRemoved, AppliedPast, AppliedPastArrow, AppliedPastModule, AppliedPastStatic}
 
 -- ---- the rows of a list, with what is outside of it
 
@@ -59,7 +62,7 @@ left_listed V W o ts m r = by r.name
 module _ (V : Assured) (W : VariableSet) (o q : Tree) (mentions : (x : Name) → names x o ≡ names x q) (evals : has_eval o ≡ has_eval q) (ts : Trees) where
   read_alike : (xs : List Name) (init : Tree) (ds : Trees) (j i : ℕ) → is_read_past V xs o init ds j ts i ≡ is_read_past V xs q init ds j ts i
   read_alike [] init ds j i = refl
-  read_alike (x ∷ xs) init ds j i = ap (λ b. not b && (reads_past (held V ts) x init (child_or_absent ts (suc i)) && (not (is_declared_over x init ds j) && not (is_mentioned_around x ts i)))) (mentions x)
+  read_alike (x ∷ xs) init ds j i = ap (λ b. not b && (reads_past (held_at V ts i ds j) x init (child_or_absent ts (suc i)) && (not (is_declared_over x init ds j) && not (is_mentioned_around x ts i)))) (mentions x)
 
   past_alike : (i : ℕ) → is_past V W o ts i ≡ is_past V W q ts i
   past_alike i =
@@ -69,7 +72,7 @@ module _ (V : Assured) (W : VariableSet) (o q : Tree) (mentions : (x : Name) →
 
   then_alike : (xs : List Name) (d e : Tree) (ds : Trees) (j i : ℕ) → is_read_past_then V xs d e o ds j ts i ≡ is_read_past_then V xs d e q ds j ts i
   then_alike [] d e ds j i = refl
-  then_alike (x ∷ xs) d e ds j i = ap (λ b. reads_past_in (held V ts) x (part d 1) (part e 1) && (not (is_mentioned_beside x d e ds j) && (not b && not (is_mentioned_elsewhere x ts i)))) (mentions x)
+  then_alike (x ∷ xs) d e ds j i = ap (λ b. reads_past_in (held_at V ts i ds j) x (part d 1) (part e 1) && (not (is_mentioned_beside x d e ds j) && (not b && not (is_mentioned_elsewhere x ts i)))) (mentions x)
 
   next_alike : (i j : ℕ) → is_past_next V W o ts i j ≡ is_past_next V W q ts i j
   next_alike i j =
@@ -197,3 +200,82 @@ of_arrow S W t m c h r u f =
 
 pub no_arrow : (S : BodySets) (W : VariableSet) (t : Tree) → has_statements t ≡ false → AppliedPastArrow S W t t false
 no_arrow S W t e = (refl, λ w r. true≢false (sym (ap has_statements r.shape) ∙ e))
+
+-- ---- a module
+
+abbrev UnreadModule : BodySets → VariableSet → Tree → Type 0
+UnreadModule S W t = (us : Trees) → PastRow (S 0) W (listed none) (children (part t 0)) us → ⊥
+
+pub in_module : (t : Tree) → is_module t ≡ true → is_listed (part t 0) ≡ true
+in_module t e = let (directives, is) = module_is t e in ap (λ v. is_listed (part v 0)) is
+
+module _ (S : BodySets) (W : VariableSet) (directives : List (List ℕ)) where
+  abbrev emptied_module : Tree
+  emptied_module = node (shape.Program true directives) [] 0 (absent ▸ none)
+
+  module_mentions : (x : Name) → names x emptied_module ≡ names x (listed none)
+  module_mentions x = refl
+
+  module_evals : has_eval emptied_module ≡ has_eval (listed none)
+  unfolding has_eval
+  module_evals = refl
+
+  abbrev module_over : Tree → Tree
+  module_over m = node (shape.Program true directives) [] 0 (m ▸ none)
+
+  module_row : (ts us : Trees) → PastRow (S 0) W (listed none) ts us → PastModuleRow S W (module_over (listed ts)) (module_over (listed us))
+  module_row ts us r = record { directives = directives; before = ts; after = us; row = r; shape = refl; written = refl }
+
+  module_applied : (ts : Trees) (m : Tree) (c : Bool) → PastRemoved (S 0) W emptied_module (listed ts) m c → AppliedPastModule S W (program true directives ts) (module_over m) c
+  module_applied ts m true r = several_held (S 0) W emptied_module (listed none) module_mentions module_evals (PastModuleRow S W) module_over module_row ts m r
+  module_applied ts m false r = (ap module_over r.0, λ w row. subst (UnreadModule S W) row.shape (λ us. none_held (S 0) W emptied_module (listed none) module_mentions module_evals (PastModuleRow S W) module_over module_row ts us m r) row.after row.row)
+
+pub of_module : (S : BodySets) (W : VariableSet) (t m : Tree) (c : Bool) → is_module t ≡ true → PastRemoved (S 0) W (with_part t 0 absent) (part t 0) m c → (u : Tree) → u ≡ with_part t 0 m → AppliedPastModule S W t u c
+of_module S W t m c h r u f =
+    let (directives, is) = module_is t h in
+    let ts = children (part t 0) in
+    let there = subst (λ v. PastRemoved (S 0) W (with_part v 0 absent) (part v 0) m c) is r in
+    subst (λ v. AppliedPastModule S W v u c) (sym is) (subst (λ v. AppliedPastModule S W (program true directives ts) v c) (sym (f ∙ ap (λ v. with_part v 0 m) is)) (module_applied S W directives ts m c there))
+
+pub no_module : (S : BodySets) (W : VariableSet) (t : Tree) → is_module t ≡ false → AppliedPastModule S W t t false
+no_module S W t e = (refl, λ w r. true≢false (sym (ap is_module r.shape) ∙ e))
+
+-- ---- a static block
+
+abbrev UnreadStatic : BodySets → VariableSet → Tree → Type 0
+UnreadStatic S W t = (us : Trees) → PastRow (S (number_of t)) W (listed none) (children (part t 0)) us → ⊥
+
+pub in_static : (t : Tree) → is_static_block t ≡ true → is_listed (part t 0) ≡ true
+in_static t e = ap (λ v. is_listed (part v 0)) (static_is t e)
+
+module _ (S : BodySets) (W : VariableSet) (number : ℕ) where
+  abbrev emptied_static : Tree
+  emptied_static = node shape.StaticBlock [] number (absent ▸ none)
+
+  static_mentions : (x : Name) → names x emptied_static ≡ names x (listed none)
+  static_mentions x = refl
+
+  static_evals : has_eval emptied_static ≡ has_eval (listed none)
+  unfolding has_eval
+  static_evals = refl
+
+  abbrev static_over : Tree → Tree
+  static_over m = node shape.StaticBlock [] number (m ▸ none)
+
+  static_row : (ts us : Trees) → PastRow (S number) W (listed none) ts us → PastStaticRow S W (static_over (listed ts)) (static_over (listed us))
+  static_row ts us r = record { number = number; before = ts; after = us; row = r; shape = refl; written = refl }
+
+  static_applied : (ts : Trees) (m : Tree) (c : Bool) → PastRemoved (S number) W emptied_static (listed ts) m c → AppliedPastStatic S W (static_block number ts) (static_over m) c
+  static_applied ts m true r = several_held (S number) W emptied_static (listed none) static_mentions static_evals (PastStaticRow S W) static_over static_row ts m r
+  static_applied ts m false r = (ap static_over r.0, λ w row. subst (UnreadStatic S W) row.shape (λ us. none_held (S number) W emptied_static (listed none) static_mentions static_evals (PastStaticRow S W) static_over static_row ts us m r) row.after row.row)
+
+pub of_static : (S : BodySets) (W : VariableSet) (t m : Tree) (c : Bool) → is_static_block t ≡ true → PastRemoved (S (number_of t)) W (with_part t 0 absent) (part t 0) m c → (u : Tree) → u ≡ with_part t 0 m → AppliedPastStatic S W t u c
+of_static S W t m c h r u f =
+    let is = static_is t h in
+    let n = number_of t in
+    let ts = children (part t 0) in
+    let there = subst (λ v. PastRemoved (S n) W (with_part v 0 absent) (part v 0) m c) is r in
+    subst (λ v. AppliedPastStatic S W v u c) (sym is) (subst (λ v. AppliedPastStatic S W (static_block n ts) v c) (sym (f ∙ ap (λ v. with_part v 0 m) is)) (static_applied S W n ts m c there))
+
+pub no_static : (S : BodySets) (W : VariableSet) (t : Tree) → is_static_block t ≡ false → AppliedPastStatic S W t t false
+no_static S W t e = (refl, λ w r. true≢false (sym (ap is_static_block r.shape) ∙ e))

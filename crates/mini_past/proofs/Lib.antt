@@ -1,4 +1,5 @@
 pub mod PassedParts
+pub mod Firsts
 pub mod Places
 pub mod NextPlaces
 pub mod PastRows

@@ -22,13 +22,13 @@ use Rattle.mini_unused.proofs.NextUses.{next_left}
 use Rattle.mini_unused.proofs.SingleUses.{neither, next_there as child_there, rest_there, within_there}
 use Rattle.mini_unused.proofs.Unused.{parts_of, with_parts, there_child, there_first, there_rest, there_within, and_both, not_true, Declares, declares, declarator_is, a_declaration}
 use Rattle.mini_past.proofs.NextPlaces.{Found, found}
-use Rattle.mini_past.specs.SubstitutePast.{may_pass, reads_past_in, is_read_past_then, is_past_by, is_past_by_next, is_past_next, PastNextAt}
+use Rattle.mini_past.specs.SubstitutePast.{held_at, may_pass, reads_past_in, is_read_past_then, is_past_by, is_past_by_next, is_past_next, PastNextAt}
 
 -- ---- what is written
 
 record Once (V : Assured) (x : Name) (d e o : Tree) (ds : Trees) (j : ℕ) (ts : Trees) (i : ℕ) : Type 0 where
   once : is_first x false (part e 1) ≡ true
-  passed : are_past (held V ts) x (part d 1) (part e 1) ≡ true
+  passed : are_past (held_at V ts i ds j) x (part d 1) (part e 1) ≡ true
   initial : names x (part d 1) ≡ false
   other : names x (part e 0) ≡ false
   outer : names x o ≡ false
@@ -39,7 +39,7 @@ record Once (V : Assured) (x : Name) (d e o : Tree) (ds : Trees) (j : ℕ) (ts :
 
 read_once : (V : Assured) (x : Name) (d e o : Tree) (ds : Trees) (j : ℕ) (ts : Trees) (i : ℕ) → is_read_past_then V (x ∷ []) d e o ds j ts i ≡ true → Once V x d e o ds j ts i
 read_once V x d e o ds j ts i h =
-    let H = held V ts in
+    let H = held_at V ts i ds j in
     let (u, q) = and_parts (reads_past_in H x (part d 1) (part e 1)) (not (is_mentioned_beside x d e ds j) && (not (names x o) && not (is_mentioned_elsewhere x ts i))) h in
     let (r, s) = and_parts (not (is_mentioned_beside x d e ds j)) (not (names x o) && not (is_mentioned_elsewhere x ts i)) q in
     let (w, t) = and_parts (not (names x o)) (not (is_mentioned_elsewhere x ts i)) s in
@@ -127,6 +127,10 @@ module _ (V : Assured) (W : VariableSet) (o : Tree) (ts : Trees) (i j : ℕ) (h 
   written_is : children (list_next (listed ts) i j) ≡ append before (declaration kind (append first (declarator (part n 0) (put_first x init value) ▸ last)) ▸ after)
   written_is = with_parts ts i statement_left h ∙ ap (λ c. append before (c ▸ after)) statement_left_is
 
+  -- what is held there is what the row says
+  passed_there : are_past (held V ts before (is_lexical kind) first) x init value ≡ true
+  passed_there = sym (ap (λ c. are_past (held V ts before (is_lexical_shape (shape_of c)) first) x init value) let_there) ∙ reading.passed
+
   pub next_row : Row71PastNext V W o ts (children (list_next (listed ts) i j))
   next_row = record {
     before = before;
@@ -143,7 +147,7 @@ module _ (V : Assured) (W : VariableSet) (o : Tree) (ts : Trees) (i j : ℕ) (h 
     moves = tests.moves;
     varies = tests.varies;
     once = reading.once;
-    passed = reading.passed;
+    passed = passed_there;
     other = reading.other;
     outer = reading.outer;
     earlier = reading.earlier;
@@ -181,8 +185,12 @@ module _ (V : Assured) (W : VariableSet) (o : Tree) (ts us : Trees) (r : Row71Pa
   then_is =
       let y = named in
       let all = λ (a b c d f n p q : Bool). a && (not (b || (c || (d || f))) && (not n && not (p || q))) in
-      let passed = sym (ap (λ ts. are_past (held V ts) y r.init r.value) r.shape) ∙ r.passed in
-      let read = and_both (is_first y false r.value) (are_past (held V statements) y r.init r.value) r.once passed in
+      let H = held_at V statements (count r.before) declarators (count r.first) in
+      let there = λ (ts before : Trees) (l : Bool) (first : Trees). are_past (held V ts before l first) y r.init r.value in
+      let lexical_there = ap (λ c. is_lexical_shape (shape_of c)) (there_child r.before stated r.after) in
+      let passed : are_past H y r.init r.value ≡ true =
+      (λ k. there statements (there_first r.before stated r.after k) (lexical_there k) (there_first r.first declared (following ▸ r.last) k)) ∙ sym (ap (λ ts. there ts r.before (is_lexical r.kind) r.first) r.shape) ∙ r.passed in
+      let read = and_both (is_first y false r.value) (are_past H y r.init r.value) r.once passed in
       let first_ds = ap (any_names y) (there_first r.first declared (following ▸ r.last)) ∙ r.declared_earlier in
       let rest_ds = ap (any_names y) (rest_there r.first declared following r.last) ∙ r.declared_later in
       let first_ts = ap (any_names y) (there_first r.before stated r.after) ∙ r.earlier in

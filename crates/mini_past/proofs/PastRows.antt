@@ -15,21 +15,21 @@ use Rattle.mini_node.specs.Walks.{next_child}
 use Rattle.mini_rows.specs.Lists.{block, declaration}
 use Rattle.mini_rows.specs.Declarations.{binding, declarator}
 use Rattle.mini_rows.specs.Past.{held, are_past, Row71Past}
-use Rattle.mini_rows.specs.Unused.{resolved, declared_among, declared_left, names, any_names, is_constant, reads_first, put_first, may_move, lets_go}
+use Rattle.mini_rows.specs.Unused.{resolved, declared_among, declared_left, names, any_names, is_constant, reads_head, evaluated, put_first, may_move, lets_go}
 use Rattle.mini_unused.specs.RemoveUnusedDeclaration.{declares_name, declares_list, is_free_at, is_lexical_shape, list_at, may_lose}
 use Rattle.mini_unused.specs.SubstituteNext.{put_named}
 use Rattle.mini_unused.specs.SubstituteSingleUse.{last_place, is_declared_over, is_mentioned_around, declaration_left, list_single}
 use Rattle.mini_unused.proofs.SingleUses.{last_is, last_rest, last_there, neither, next_there, none_after, rest_there, with_two, within_there}
 use Rattle.mini_unused.proofs.Unused.{parts_of, there_child, there_first, and_both, not_true, Declares, declares, a_declaration, left_is}
 use Rattle.mini_past.proofs.NextPlaces.{passing}
-use Rattle.mini_past.specs.SubstitutePast.{reads_past, is_read_past, may_pass, may_pass_by, is_past_declarator, is_past}
+use Rattle.mini_past.specs.SubstitutePast.{held_at, reads_past, is_read_past, may_pass, may_pass_by, is_past_declarator, is_past}
 
 -- ---- what is written
 
 record Once (V : Assured) (x : Name) (o init : Tree) (ds : Trees) (j : ℕ) (ts : Trees) (i : ℕ) : Type 0 where
   outer : names x o ≡ false
-  once : reads_first x (child_or_absent ts (suc i)) ≡ true
-  passed : are_past (held V ts) x init (child_or_absent ts (suc i)) ≡ true
+  once : reads_head x (child_or_absent ts (suc i)) ≡ true
+  passed : are_past (held_at V ts i ds j) x init (evaluated (child_or_absent ts (suc i))) ≡ true
   initial : names x init ≡ false
   declared_earlier : any_names x (first_children j ds) ≡ false
   earlier : any_names x (first_children i ts) ≡ false
@@ -37,13 +37,13 @@ record Once (V : Assured) (x : Name) (o init : Tree) (ds : Trees) (j : ℕ) (ts 
 
 read_once : (V : Assured) (x : Name) (o init : Tree) (ds : Trees) (j : ℕ) (ts : Trees) (i : ℕ) → is_read_past V (x ∷ []) o init ds j ts i ≡ true → Once V x o init ds j ts i
 read_once V x o init ds j ts i e =
-    let a = reads_past (held V ts) x init (child_or_absent ts (suc i)) in
+    let a = reads_past (held_at V ts i ds j) x init (child_or_absent ts (suc i)) in
     let (n, e) = and_parts (not (names x o)) (a && (not (is_declared_over x init ds j) && not (is_mentioned_around x ts i))) e in
     let (p, q) = and_parts a (not (is_declared_over x init ds j) && not (is_mentioned_around x ts i)) e in
     let (r, s) = and_parts (not (is_declared_over x init ds j)) (not (is_mentioned_around x ts i)) q in
     let (t, u) = neither (names x init) (any_names x (first_children j ds)) r in
     let (w, v) = neither (any_names x (rest_children (suc (suc i)) ts)) (any_names x (first_children i ts)) s in
-    let (f, g) = and_parts (reads_first x (child_or_absent ts (suc i))) (are_past (held V ts) x init (child_or_absent ts (suc i))) p in
+    let (f, g) = and_parts (reads_head x (child_or_absent ts (suc i))) (are_past (held_at V ts i ds j) x init (evaluated (child_or_absent ts (suc i)))) p in
     record { outer = not_true (names x o) n; once = f; passed = g; initial = t; declared_earlier = u; earlier = v; later = w }
 
 module _ (V : Assured) (W : VariableSet) (o : Tree) (ts : Trees) (i : ℕ) (next : suc i < count ts) (some : 0 < count (children (list_at ts i))) (past : is_past V W o ts i ≡ true) (unseen : has_eval (block (o ▸ ts)) ≡ false) where
@@ -121,6 +121,10 @@ module _ (V : Assured) (W : VariableSet) (o : Tree) (ts : Trees) (i : ℕ) (next
   written_is : children (list_single (listed ts) i j) ≡ append before (declared_left kind first ▸ (put_first x init head ▸ after))
   written_is = with_two ts i (declaration_left statement j) (put_named (names_of (part d 0)) init head) next ∙ (λ k. append before (left_there k ▸ (named_there k ▸ after)))
 
+  -- what is held there is what the row says
+  passed_there : are_past (held V ts before (is_lexical kind) first) x init (evaluated head) ≡ true
+  passed_there = sym (ap (λ c. are_past (held V ts before (is_lexical_shape (shape_of c)) first) x init (evaluated head)) let_there) ∙ reading.passed
+
   pub row_there : Row71Past V W o ts (children (list_single (listed ts) i j))
   row_there = record {
     before = before;
@@ -135,7 +139,7 @@ module _ (V : Assured) (W : VariableSet) (o : Tree) (ts : Trees) (i : ℕ) (next
     moves = tests.3;
     varies = tests.4;
     once = reading.once;
-    passed = reading.passed;
+    passed = passed_there;
     outer = reading.outer;
     earlier = reading.earlier;
     declared_earlier = reading.declared_earlier;
@@ -168,8 +172,12 @@ module _ (V : Assured) (W : VariableSet) (o : Tree) (ts us : Trees) (r : Row71Pa
   once_is =
       let y = named in
       let all = λ (n a b c d f : Bool). not n && (a && (not (b || c) && not (d || f))) in
-      let passed = sym (ap (λ ts. are_past (held V ts) y r.init r.head) r.shape) ∙ r.passed in
-      let head_there = ap (reads_past (held V statements) y r.init) (next_there r.before stated r.head r.after) ∙ and_both (reads_first y r.head) (are_past (held V statements) y r.init r.head) r.once passed in
+      let H = held_at V statements (count r.before) declarators (count r.first) in
+      let there = λ (ts before : Trees) (l : Bool) (first : Trees). are_past (held V ts before l first) y r.init (evaluated r.head) in
+      let lexical_there = ap (λ c. is_lexical_shape (shape_of c)) (there_child r.before stated (r.head ▸ r.after)) in
+      let passed : are_past H y r.init (evaluated r.head) ≡ true =
+      (λ k. there statements (there_first r.before stated (r.head ▸ r.after) k) (lexical_there k) (there_first r.first declared none k)) ∙ sym (ap (λ ts. there ts r.before (is_lexical r.kind) r.first) r.shape) ∙ r.passed in
+      let head_there = ap (reads_past H y r.init) (next_there r.before stated r.head r.after) ∙ and_both (reads_head y r.head) (are_past H y r.init (evaluated r.head)) r.once passed in
       let first_ds = ap (any_names y) (there_first r.first declared none) ∙ r.declared_earlier in
       let first_ts = ap (any_names y) (there_first r.before stated (r.head ▸ r.after)) ∙ r.earlier in
       let rest_ts = ap (any_names y) (rest_there r.before stated r.head r.after) ∙ r.later in

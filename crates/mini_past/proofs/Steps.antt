@@ -1,4 +1,4 @@
--- What is made of a function or of an arrow function, as steps of the rules.
+-- What is made of a function, of an arrow function, of a module or of a static block, as steps of the rules.
 use Rattle.std.proofs.Common.{◌≡◌, Bool, true, false, sym, true≢false}
 use Rattle.mini_model.specs.declared.place.Position.{Position}
 use Rattle.mini_model.specs.declared.place.Position.TheVariants.{Expr, Stmt, Method, Elsewhere}
@@ -8,12 +8,15 @@ use Rattle.mini_kept.specs.Without.{BodySets}
 use Rattle.mini_laws.specs.Value.{VariableSet}
 use Rattle.mini_rows.specs.Past.{PastFunctionRow, PastFunction}
 use Rattle.mini_rows.specs.PastArrows.{PastArrowRow, PastArrow}
+use Rattle.mini_rows.specs.PastModules.{PastModuleRow, PastModule}
+use Rattle.mini_rows.specs.PastStatics.{PastStaticRow, PastStatic}
 use Rattle.mini_steady.specs.Arrows.{holds_arrow}
 use Rattle.mini_steady.specs.Functions.{holds_function}
+use Rattle.mini_steady.specs.Programs.{holds_program}
 use Rattle.mini_tree.specs.Rule.{Applied, Moves}
 use Rattle.mini_tree.proofs.Reaching.{reaches_trans}
 use Rattle.mini_unused.specs.Chains.{Chain, still, further, Several}
-use Rattle.mini_past.specs.SubstitutePast.{AppliedPast, RestsPast, AppliedPastArrow, RestsPastArrow}
+use Rattle.mini_past.specs.SubstitutePast.{AppliedPast, RestsPast, AppliedPastArrow, RestsPastArrow, AppliedPastModule, RestsPastModule, AppliedPastStatic, RestsPastStatic}
 
 module _ (R : Position → Tree → Tree → Type 0) (p : Position) (Q : Tree → Tree → Type 0) (read : (t u : Tree) → Q t u → R p t u) where
   reached : (t u : Tree) → Chain Q t u → Reaches R p t u
@@ -43,3 +46,17 @@ pub arrow_applied : (S : BodySets) (W : VariableSet) (p : Position) (t u : Tree)
 arrow_applied S W (Expr s) t u true e a = several_moves (PastArrow S W) (Expr s) (PastArrowRow S W) (λ t u r. r) t u a
 arrow_applied S W (Expr s) t u false e a = a
 arrow_applied S W p t u b e a = absurd (true≢false (sym e))
+
+-- ---- a module
+
+pub module_applied : (S : BodySets) (W : VariableSet) (p : Position) (t u : Tree) (b : Bool) → holds_program p ≡ true → AppliedPastModule S W t u b → Applied (PastModule S W) (RestsPastModule S W) p t u b
+module_applied S W Elsewhere t u true e a = several_moves (PastModule S W) Elsewhere (PastModuleRow S W) (λ t u r. r) t u a
+module_applied S W Elsewhere t u false e a = a
+module_applied S W p t u b e a = absurd (true≢false (sym e))
+
+-- ---- a static block
+
+pub static_applied : (S : BodySets) (W : VariableSet) (p : Position) (t u : Tree) (b : Bool) → holds_program p ≡ true → AppliedPastStatic S W t u b → Applied (PastStatic S W) (RestsPastStatic S W) p t u b
+static_applied S W Elsewhere t u true e a = several_moves (PastStatic S W) Elsewhere (PastStaticRow S W) (λ t u r. r) t u a
+static_applied S W Elsewhere t u false e a = a
+static_applied S W p t u b e a = absurd (true≢false (sym e))

@@ -8,16 +8,16 @@ use Rattle.mini_kept.specs.Without.{Assured}
 use Rattle.mini_laws.specs.ScopeList.{has_eval}
 use Rattle.mini_laws.specs.Value.{VariableSet}
 use Rattle.mini_node.specs.Children.{names_of, part, with_part}
-use Rattle.mini_rows.specs.Past.{held, passes_any, is_certain, are_past, all_past}
-use Rattle.mini_rows.specs.Unused.{names, may_go_on, begins_with, suits, is_placed, is_first, reads_first}
+use Rattle.mini_rows.specs.Past.{passes_any, is_certain, are_past, all_past}
+use Rattle.mini_rows.specs.Unused.{names, may_go_on, begins_with, suits, is_placed, is_first, reads_head, evaluated}
 use Rattle.mini_unused.specs.Chains.{Chain, still, Several}
 use Rattle.mini_unused.specs.RemoveUnusedDeclaration.{declares_list, is_free_at, list_at}
 use Rattle.mini_unused.specs.SubstituteNext.{put_named, is_mentioned_beside, is_mentioned_elsewhere, declarators_next, list_next}
 use Rattle.mini_unused.specs.SubstituteSingleUse.{declaration_left, last_place, is_declared_over, is_mentioned_around, list_single}
 use Rattle.mini_unused.proofs.Chains.{chain_joined, chain_once}
-use Rattle.mini_unused.proofs.Uneval.{Unseen, part_of, declaration_without, suits_along, suits_among, put_there, put_in_head, next_without, unseen_with, in_list}
+use Rattle.mini_unused.proofs.Uneval.{Unseen, part_of, declaration_without, suits_along, suits_among, put_there, put_along_head, next_without, unseen_with, in_list}
 use Rattle.mini_past.proofs.NextPlaces.{found}
-use Rattle.mini_past.specs.SubstitutePast.{may_pass_by, reads_past, reads_past_in, is_read_past, is_read_past_then, PastAt, PastNextAt, ReadPast, NextPast, PastGone, Calm, Swept}
+use Rattle.mini_past.specs.SubstitutePast.{held_at, may_pass_by, reads_past, reads_past_in, is_read_past, is_read_past_then, PastAt, PastNextAt, ReadPast, NextPast, PastGone, Calm, Swept}
 
 -- ---- no direct eval comes about
 
@@ -39,19 +39,19 @@ once_put : (V : Assured) (xs : List Name) (o init : Tree) (ds : Trees) (j : ℕ)
 once_put V [] o init ds j ts i e f g = absurd (true≢false (sym e))
 once_put V (x ∷ xs) o init ds j ts i e f g =
     let head = child_or_absent ts (suc i) in
-    let reads = reads_past (held V ts) x init head in
+    let reads = reads_past (held_at V ts i ds j) x init head in
     let (a, p) = and_parts (not (names x o)) (reads && (not (is_declared_over x init ds j) && not (is_mentioned_around x ts i))) e in
     let (read, q) = and_parts reads (not (is_declared_over x init ds j) && not (is_mentioned_around x ts i)) p in
-    let (first, past) = and_parts (reads_first x head) (are_past (held V ts) x init head) read in
-    put_in_head x init head first (past_along (held V ts) x init head past) f g
+    let (first, past) = and_parts (reads_head x head) (are_past (held_at V ts i ds j) x init (evaluated head)) read in
+    put_along_head x init head first (past_along (held_at V ts i ds j) x init (evaluated head) past) f g
 
 then_put : (V : Assured) (xs : List Name) (d e o : Tree) (ds : Trees) (j : ℕ) (ts : Trees) (i : ℕ) → is_read_past_then V xs d e o ds j ts i ≡ true → has_eval (part d 1) ≡ false → has_eval (part e 1) ≡ false → has_eval (put_named xs (part d 1) (part e 1)) ≡ false
 then_put V [] d e o ds j ts i h f g = absurd (true≢false (sym h))
 then_put V (x ∷ xs) d e o ds j ts i h f g =
-    let reads = reads_past_in (held V ts) x (part d 1) (part e 1) in
+    let reads = reads_past_in (held_at V ts i ds j) x (part d 1) (part e 1) in
     let (read, q) = and_parts reads (not (is_mentioned_beside x d e ds j) && (not (names x o) && not (is_mentioned_elsewhere x ts i))) h in
-    let (first, past) = and_parts (is_first x false (part e 1)) (are_past (held V ts) x (part d 1) (part e 1)) read in
-    put_there x false (part d 1) (part e 1) first (past_along (held V ts) x (part d 1) (part e 1) past) f g
+    let (first, past) = and_parts (is_first x false (part e 1)) (are_past (held_at V ts i ds j) x (part d 1) (part e 1)) read in
+    put_there x false (part d 1) (part e 1) first (past_along (held_at V ts i ds j) x (part d 1) (part e 1) past) f g
 
 module _ (V : Assured) (W : VariableSet) (o l m : Tree) (c : Unseen o l) where
   read_gone : ReadPast V W o l m → Unseen o m

@@ -1,6 +1,6 @@
 -- 71 past steady names, `substitute_past`: `function f(g) { let x = a(); return g(x); }` becomes `function f(g) { ; return g(a()); }`, and
 -- `function f(g) { let x = a(), y = g(x); return y; }` becomes `function f(g) { let y = g(a()); return y; }`; so do each `var` whose name can be
--- written, and the statements of an arrow function.
+-- written, and the statements of an arrow function and of a module.
 use Rattle.std.specs.Prelude.{◌≡◌, ◌<◌, ◌^◌, ◌⊎◌, ℕ, suc, Bool, true, false, not, ◌&&◌, ◌||◌, List, [], ◌∷◌, Option, Some, None}
 use Rattle.mini_model.specs.declared.name.Name.{Name}
 use Rattle.mini_model.specs.declared.place.Position.{Position}
@@ -8,15 +8,21 @@ use Rattle.mini_model.specs.Tree.{Tree, Trees, count, child_or_absent, children,
 use Rattle.mini_kept.specs.Without.{Assured, BodySets}
 use Rattle.mini_laws.specs.ScopeList.{has_eval}
 use Rattle.mini_laws.specs.Value.{VariableSet}
-use Rattle.mini_node.specs.Children.{names_of, part}
+use Rattle.mini_node.specs.Children.{names_of, part, first_children}
 use Rattle.mini_node.specs.Kinds.{is_listed}
 use Rattle.mini_rows.specs.Past.{held, are_past, PastFunctionRow, PastFunction}
 use Rattle.mini_rows.specs.PastArrows.{PastArrowRow, PastArrow}
-use Rattle.mini_rows.specs.Unused.{names, is_constant, is_first, may_move, reads_first}
+use Rattle.mini_rows.specs.PastModules.{PastModuleRow, PastModule}
+use Rattle.mini_rows.specs.PastStatics.{PastStaticRow, PastStatic}
+use Rattle.mini_rows.specs.Unused.{names, is_constant, is_first, may_move, reads_head, evaluated}
 use Rattle.mini_unused.specs.Chains.{Chain, Several}
 use Rattle.mini_unused.specs.RemoveUnusedDeclaration.{declares_name, declares_list, is_free_at, list_at, may_lose}
 use Rattle.mini_unused.specs.SubstituteNext.{is_declarator, is_mentioned_beside, is_mentioned_elsewhere, list_next}
 use Rattle.mini_unused.specs.SubstituteSingleUse.{last_place, is_declared_over, is_mentioned_around, list_single}
+
+-- what is held where a declarator stands, behind those before it in its list and the statements before theirs
+abbrev pub held_at : Assured → Trees → ℕ → Trees → ℕ → VariableSet
+held_at V ts i ds j = held V ts (first_children i ts) (is_free_at ts i) (first_children j ds)
 
 -- of a declarator the initializer may move, and is no constant, and the name is free to go, or one of these variables
 abbrev pub may_pass : Tree → Bool
@@ -27,14 +33,14 @@ may_pass_by free W d = declares_name d && (may_lose free W (names_of (part d 0))
 
 -- ---- the next statement reads the name
 
--- first, after parts that pass the initializer r
+-- before all else, or after parts that pass the initializer r
 abbrev pub reads_past : VariableSet → Name → Tree → Tree → Bool
-reads_past H x r t = reads_first x t && are_past H x r t
+reads_past H x r t = reads_head x t && are_past H x r (evaluated t)
 
 -- and no name like it stands elsewhere, nor in what is outside of the statements
 abbrev pub is_read_past : Assured → List Name → Tree → Tree → Trees → ℕ → Trees → ℕ → Bool
 is_read_past V [] o init ds j ts i = false
-is_read_past V (x ∷ xs) o init ds j ts i = not (names x o) && (reads_past (held V ts) x init (child_or_absent ts (suc i)) && (not (is_declared_over x init ds j) && not (is_mentioned_around x ts i)))
+is_read_past V (x ∷ xs) o init ds j ts i = not (names x o) && (reads_past (held_at V ts i ds j) x init (child_or_absent ts (suc i)) && (not (is_declared_over x init ds j) && not (is_mentioned_around x ts i)))
 
 -- so is the name of the declarator at the place
 abbrev pub is_past_declarator : Assured → Bool → VariableSet → Tree → ℕ → Tree → Trees → ℕ → Bool
@@ -57,7 +63,7 @@ reads_past_in H x r v = is_first x false v && are_past H x r v
 
 abbrev pub is_read_past_then : Assured → List Name → Tree → Tree → Tree → Trees → ℕ → Trees → ℕ → Bool
 is_read_past_then V [] d e o ds j ts i = false
-is_read_past_then V (x ∷ xs) d e o ds j ts i = reads_past_in (held V ts) x (part d 1) (part e 1) && (not (is_mentioned_beside x d e ds j) && (not (names x o) && not (is_mentioned_elsewhere x ts i)))
+is_read_past_then V (x ∷ xs) d e o ds j ts i = reads_past_in (held_at V ts i ds j) x (part d 1) (part e 1) && (not (is_mentioned_beside x d e ds j) && (not (names x o) && not (is_mentioned_elsewhere x ts i)))
 
 abbrev pub is_past_by : Assured → Bool → VariableSet → Tree → Tree → Tree → Trees → ℕ → Trees → ℕ → Bool
 is_past_by V free W d e o ds j ts i = is_declarator e && (may_pass_by free W d && is_read_past_then V (names_of (part d 0)) d e o ds j ts i)
@@ -140,3 +146,21 @@ AppliedPastArrow S W t u false = (u ≡ t) × ((w : Tree) → PastArrowRow S W t
 
 abbrev pub RestsPastArrow : BodySets → VariableSet → Position → Tree → Type 0
 RestsPastArrow S W p t = (w : Tree) → PastArrow S W p t w → ⊥
+
+-- ---- of a module
+
+abbrev pub AppliedPastModule : BodySets → VariableSet → Tree → Tree → Bool → Type 0
+AppliedPastModule S W t u true = Several (PastModuleRow S W) t u
+AppliedPastModule S W t u false = (u ≡ t) × ((w : Tree) → PastModuleRow S W t w → ⊥)
+
+abbrev pub RestsPastModule : BodySets → VariableSet → Position → Tree → Type 0
+RestsPastModule S W p t = (w : Tree) → PastModule S W p t w → ⊥
+
+-- ---- of a static block
+
+abbrev pub AppliedPastStatic : BodySets → VariableSet → Tree → Tree → Bool → Type 0
+AppliedPastStatic S W t u true = Several (PastStaticRow S W) t u
+AppliedPastStatic S W t u false = (u ≡ t) × ((w : Tree) → PastStaticRow S W t w → ⊥)
+
+abbrev pub RestsPastStatic : BodySets → VariableSet → Position → Tree → Type 0
+RestsPastStatic S W p t = (w : Tree) → PastStatic S W p t w → ⊥

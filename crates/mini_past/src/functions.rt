@@ -1,12 +1,12 @@
-//! Of a function and of an arrow function.
+//! Of a function, of an arrow function, of a module and of a static block.
 
 ghost use Rattle.std.specs.Prelude.{◌≡◌};
-ghost use Rattle.mini_past.specs.SubstitutePast.{AppliedPast, AppliedPastArrow};
+ghost use Rattle.mini_past.specs.SubstitutePast.{AppliedPast, AppliedPastArrow, AppliedPastModule, AppliedPastStatic};
 
 use crate::names::PastNames;
 use crate::searching::substitute_past;
 use mini_node::Node;
-use mini_unused::{has_statements, is_function, put_child, take_child};
+use mini_unused::{has_statements, is_function, is_module, is_static_block, put_child, take_child};
 use std::alloc::Global;
 
 /// Of a function with statements that is no arrow function, as `function f(g) { let x = a(); return g(x); }`, which becomes
@@ -42,5 +42,36 @@ pub fn substitute_past_in_arrow<S: PastNames>(alloc: Global, node: &mut Node, st
     let changed = substitute_past(alloc, node, &mut list, number, steady);
     put_child(&mut body, 0, list);
     put_child(node, 1, body);
+    changed
+}
+
+/// Of a module, as `import g from "g"; const y = a(); const x = b(); c(y, x);`, which becomes `import g from "g"; const y = a(); ; c(y, b());`. The answer
+/// says whether a name went.
+#[tactic(auto, using(crate::proofs::Holders::same_parts, crate::proofs::Holders::part_twice))]
+pub fn substitute_past_in_module<S: PastNames>(alloc: Global, node: &mut Node, steady: &S) -> bool
+    ensures { AppliedPastModule (S.sets steady.now) (S.writable steady.now) node.old node.new result }
+{
+    if !is_module(node) {
+        return false;
+    }
+    let mut list = take_child(node, 0);
+    let changed = substitute_past(alloc, node, &mut list, 0, steady);
+    put_child(node, 0, list);
+    changed
+}
+
+/// Of a static block, as `class A { static { const y = a(), x = b(); c(y, x); } }`, which becomes
+/// `class A { static { const y = a(); c(y, b()); } }`. The answer says whether a name went.
+#[tactic(auto, using(crate::proofs::Holders::same_parts, crate::proofs::Holders::part_twice))]
+pub fn substitute_past_in_static<S: PastNames>(alloc: Global, node: &mut Node, steady: &S) -> bool
+    ensures { AppliedPastStatic (S.sets steady.now) (S.writable steady.now) node.old node.new result }
+{
+    if !is_static_block(node) {
+        return false;
+    }
+    let number = node.number();
+    let mut list = take_child(node, 0);
+    let changed = substitute_past(alloc, node, &mut list, number, steady);
+    put_child(node, 0, list);
     changed
 }

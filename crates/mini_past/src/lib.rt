@@ -3,6 +3,7 @@
 
 mod declared;
 mod functions;
+mod lets;
 mod names;
 mod next_declarators;
 mod passing;
@@ -10,7 +11,12 @@ mod rule;
 mod searching;
 mod sweeping;
 
-pub use functions::{substitute_past_in_arrow, substitute_past_in_function};
+pub use functions::{
+    substitute_past_in_arrow, substitute_past_in_function, substitute_past_in_module,
+    substitute_past_in_static,
+};
 pub use names::{PastContext, PastNames};
 pub use passing::are_past;
-pub use rule::{SubstitutePast, SubstitutePastArrows};
+pub use rule::{
+    SubstitutePast, SubstitutePastArrows, SubstitutePastModules, SubstitutePastStatics,
+};

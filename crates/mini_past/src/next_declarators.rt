@@ -4,9 +4,8 @@ ghost use Rattle.std.specs.Prelude.{◌≡◌, ◌+◌, ◌<◌, ◌^◌, true, 
 ghost use Rattle.mini_model.specs.Tree.{children, count};
 ghost use Rattle.mini_node.specs.Children.{names};
 ghost use Rattle.mini_node.specs.Kinds.{is_listed as is_it_listed};
-ghost use Rattle.mini_rows.specs.Past.{held};
 ghost use Rattle.mini_past.specs.SubstitutePast as row;
-ghost use Rattle.mini_past.specs.SubstitutePast.{PastAt, PastNextAt, PastNextIn, PastNextOf, PastRemoved};
+ghost use Rattle.mini_past.specs.SubstitutePast.{held_at, PastAt, PastNextAt, PastNextIn, PastNextOf, PastRemoved};
 
 use crate::declared::may_pass_by;
 use crate::names::PastNames;
@@ -27,12 +26,28 @@ fn reads_past_in<S: SteadyNames>(
     init: &Node,
     value: &Node,
     statements: &Nodes,
+    at: usize,
+    declarators: &Nodes,
+    which: usize,
     body: u32,
     steady: &S,
 ) -> bool
-    ensures { result ≡ row.reads_past_in (held (S.sets steady.now body) statements.now) name.now init.now value.now }
+    requires statement { at < count statements.now }
+    requires declarator { which < count declarators.now }
+    ensures { result ≡ row.reads_past_in (held_at (S.sets steady.now body) statements.now at declarators.now which) name.now init.now value.now }
 {
-    is_first(name, false, value) && are_past(name, init, value, statements, body, steady)
+    is_first(name, false, value)
+        && are_past(
+            name,
+            init,
+            value,
+            statements,
+            at,
+            declarators,
+            which,
+            body,
+            steady,
+        )
 }
 
 // The next declarator does, and nothing else mentions it.
@@ -63,6 +78,9 @@ fn is_read_past_then<S: SteadyNames>(
                 declarator.child(1),
                 next.child(1),
                 statements,
+                at,
+                declarators,
+                which,
                 body,
                 steady,
             ) && !is_mentioned_beside(name, declarator, next, declarators, which)

@@ -1,13 +1,14 @@
 //! What may be evaluated before an initializer, whatever that does: constants, and names that are steady and initialised.
 
-ghost use Rattle.std.specs.Prelude.{◌≡◌, false};
-ghost use Rattle.mini_model.specs.Tree.{children, shape_of};
+ghost use Rattle.std.specs.Prelude.{◌≡◌, ◌<◌, false};
+ghost use Rattle.mini_model.specs.Tree.{children, count, shape_of};
 ghost use Rattle.mini_laws.specs.Value.{Declared};
 ghost use Rattle.mini_node.specs.Children.{names as names_in};
 ghost use Rattle.mini_rows.specs.Past as reading;
-ghost use Rattle.mini_rows.specs.Past.{held};
 ghost use Rattle.mini_rows.specs.Unused.{begins_with as it_begins_with, is_placed as is_it_placed};
+ghost use Rattle.mini_past.specs.SubstitutePast.{held_at};
 
+use crate::lets::is_let;
 use mini_model::{Name, Shape, SymbolId};
 use mini_node::{Node, Nodes, is_identifier};
 use mini_steady::{SteadyNames, any_bind, binds, writes};
@@ -20,17 +21,23 @@ fn leaves(init: &Node, name: &Name, symbol: SymbolId) -> bool
     !binds(symbol, init) && !writes(name, init)
 }
 
-// It keeps the value with which the body starts.
+// It keeps the value that it has where the declarator stands.
 fn is_held_variable<S: SteadyNames>(
     symbol: SymbolId,
     statements: &Nodes,
+    at: usize,
+    declarators: &Nodes,
+    which: usize,
     body: u32,
     steady: &S,
 ) -> bool
-    ensures { result ≡ held (S.sets steady.now body) statements.now (Declared symbol.0) }
+    requires statement { at < count statements.now }
+    requires declarator { which < count declarators.now }
+    ensures { result ≡ held_at (S.sets steady.now body) statements.now at declarators.now which (Declared symbol.0) }
 {
     steady.is_steady(symbol, body)
-        && (steady.is_initial(symbol, body) && !any_bind(symbol, statements))
+        && ((steady.is_initial(symbol, body) && !any_bind(symbol, statements))
+            || is_let(symbol, statements, at, declarators, which))
 }
 
 // So does the variable of the name, which the initializer leaves as it is.
@@ -38,14 +45,20 @@ fn is_held_symbol<S: SteadyNames>(
     name: &Name,
     init: &Node,
     statements: &Nodes,
+    at: usize,
+    declarators: &Nodes,
+    which: usize,
     body: u32,
     steady: &S,
 ) -> bool
-    ensures { result ≡ reading.is_held_symbol (held (S.sets steady.now body) statements.now) init.now name.now name.now.symbol }
+    requires statement { at < count statements.now }
+    requires declarator { which < count declarators.now }
+    ensures { result ≡ reading.is_held_symbol (held_at (S.sets steady.now body) statements.now at declarators.now which) init.now name.now name.now.symbol }
 {
     match name.symbol {
         Some(symbol) => {
-            is_held_variable(symbol, statements, body, steady) && leaves(init, name, symbol)
+            is_held_variable(symbol, statements, at, declarators, which, body, steady)
+                && leaves(init, name, symbol)
         }
         None => false,
     }
@@ -55,13 +68,18 @@ fn is_held_name<S: SteadyNames>(
     name: &Option<Name>,
     init: &Node,
     statements: &Nodes,
+    at: usize,
+    declarators: &Nodes,
+    which: usize,
     body: u32,
     steady: &S,
 ) -> bool
-    ensures { result ≡ reading.is_held_name (held (S.sets steady.now body) statements.now) init.now (names_in name.now) }
+    requires statement { at < count statements.now }
+    requires declarator { which < count declarators.now }
+    ensures { result ≡ reading.is_held_name (held_at (S.sets steady.now body) statements.now at declarators.now which) init.now (names_in name.now) }
 {
     match name {
-        Some(name) => is_held_symbol(name, init, statements, body, steady),
+        Some(name) => is_held_symbol(name, init, statements, at, declarators, which, body, steady),
         None => false,
     }
 }
@@ -71,13 +89,28 @@ fn passes_any<S: SteadyNames>(
     init: &Node,
     node: &Node,
     statements: &Nodes,
+    at: usize,
+    declarators: &Nodes,
+    which: usize,
     body: u32,
     steady: &S,
 ) -> bool
-    ensures { result ≡ reading.passes_any (held (S.sets steady.now body) statements.now) init.now node.now }
+    requires statement { at < count statements.now }
+    requires declarator { which < count declarators.now }
+    ensures { result ≡ reading.passes_any (held_at (S.sets steady.now body) statements.now at declarators.now which) init.now node.now }
 {
     is_constant(node)
-        || (is_identifier(node) && is_held_name(node.name(), init, statements, body, steady))
+        || (is_identifier(node)
+            && is_held_name(
+                node.name(),
+                init,
+                statements,
+                at,
+                declarators,
+                which,
+                body,
+                steady,
+            ))
 }
 
 // The first of some parts mentions the name, or there is none.
@@ -118,12 +151,28 @@ pub fn are_past<S: SteadyNames>(
     init: &Node,
     node: &Node,
     statements: &Nodes,
+    at: usize,
+    declarators: &Nodes,
+    which: usize,
     body: u32,
     steady: &S,
 ) -> bool
-    ensures { result ≡ reading.are_past (held (S.sets steady.now body) statements.now) name.now init.now node.now }
+    requires statement { at < count statements.now }
+    requires declarator { which < count declarators.now }
+    ensures { result ≡ reading.are_past (held_at (S.sets steady.now body) statements.now at declarators.now which) name.now init.now node.now }
 {
-    is_certain(name, init, node) && all_past(name, init, node.children(), statements, body, steady)
+    is_certain(name, init, node)
+        && all_past(
+            name,
+            init,
+            node.children(),
+            statements,
+            at,
+            declarators,
+            which,
+            body,
+            steady,
+        )
 }
 
 // So may each of some parts up to the one that mentions it.
@@ -133,17 +182,32 @@ fn all_past<S: SteadyNames>(
     init: &Node,
     nodes: &Nodes,
     statements: &Nodes,
+    at: usize,
+    declarators: &Nodes,
+    which: usize,
     body: u32,
     steady: &S,
 ) -> bool
-    ensures { result ≡ reading.all_past (held (S.sets steady.now body) statements.now) name.now init.now nodes.now }
+    requires statement { at < count statements.now }
+    requires declarator { which < count declarators.now }
+    ensures { result ≡ reading.all_past (held_at (S.sets steady.now body) statements.now at declarators.now which) name.now init.now nodes.now }
 {
-    for at in 0..nodes.len() {
-        let part = nodes.child(at);
+    for place in 0..nodes.len() {
+        let part = nodes.child(place);
         if is_mentioned(name, part) {
-            return are_past(name, init, part, statements, body, steady);
+            return are_past(
+                name,
+                init,
+                part,
+                statements,
+                at,
+                declarators,
+                which,
+                body,
+                steady,
+            );
         }
-        if !passes_any(init, part, statements, body, steady) {
+        if !passes_any(init, part, statements, at, declarators, which, body, steady) {
             return false;
         }
     }

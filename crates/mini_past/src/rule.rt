@@ -3,12 +3,18 @@
 ghost use Rattle.std.specs.Prelude.{◌≡◌};
 ghost use Rattle.mini_rows.specs.Past.{PastFunction};
 ghost use Rattle.mini_rows.specs.PastArrows.{PastArrow};
+ghost use Rattle.mini_rows.specs.PastModules.{PastModule};
+ghost use Rattle.mini_rows.specs.PastStatics.{PastStatic};
 ghost use Rattle.mini_steady.specs.Arrows.{holds_arrow as may_hold_arrow};
 ghost use Rattle.mini_steady.specs.Functions.{holds_function as may_hold_function};
-ghost use Rattle.mini_past.specs.Lighter.{past_arrow_lighter, past_lighter};
-ghost use Rattle.mini_past.specs.SubstitutePast.{RestsPast, RestsPastArrow};
+ghost use Rattle.mini_steady.specs.Programs.{holds_program as may_hold_program};
+ghost use Rattle.mini_past.specs.Lighter.{past_arrow_lighter, past_lighter, past_module_lighter, past_static_lighter};
+ghost use Rattle.mini_past.specs.SubstitutePast.{RestsPast, RestsPastArrow, RestsPastModule, RestsPastStatic};
 
-use crate::functions::{substitute_past_in_arrow, substitute_past_in_function};
+use crate::functions::{
+    substitute_past_in_arrow, substitute_past_in_function, substitute_past_in_module,
+    substitute_past_in_static,
+};
 use crate::names::PastContext;
 use mini_model::{OutOfMemory, Position};
 use mini_node::Node;
@@ -78,5 +84,60 @@ impl<C: PastContext> Rule<C> for SubstitutePastArrows {
             return Ok(false);
         }
         Ok(substitute_past_in_arrow(alloc, node, &*context))
+    }
+}
+
+// Whether a root or a member of a class may stand there.
+fn holds_program(place: Position) -> bool
+    ensures { result ≡ may_hold_program place }
+{
+    matches!(place, Position::Elsewhere)
+}
+
+/// The same of a module.
+pub struct SubstitutePastModules;
+
+impl<C: PastContext> Rule<C> for SubstitutePastModules {
+    ghost gives = { λ o q. PastModule (C.steady q) (C.writes q) };
+
+    ghost rests = { λ o q. RestsPastModule (C.steady q) (C.writes q) };
+
+    ghost lighter = { λ o q. past_module_lighter (C.steady q) (C.writes q) };
+
+    fn apply(
+        &self,
+        alloc: Global,
+        node: &mut Node,
+        place: Position,
+        context: &mut C,
+    ) -> Result<bool, OutOfMemory> {
+        if !holds_program(place) {
+            return Ok(false);
+        }
+        Ok(substitute_past_in_module(alloc, node, &*context))
+    }
+}
+
+/// The same of a static block.
+pub struct SubstitutePastStatics;
+
+impl<C: PastContext> Rule<C> for SubstitutePastStatics {
+    ghost gives = { λ o q. PastStatic (C.steady q) (C.writes q) };
+
+    ghost rests = { λ o q. RestsPastStatic (C.steady q) (C.writes q) };
+
+    ghost lighter = { λ o q. past_static_lighter (C.steady q) (C.writes q) };
+
+    fn apply(
+        &self,
+        alloc: Global,
+        node: &mut Node,
+        place: Position,
+        context: &mut C,
+    ) -> Result<bool, OutOfMemory> {
+        if !holds_program(place) {
+            return Ok(false);
+        }
+        Ok(substitute_past_in_static(alloc, node, &*context))
     }
 }

@@ -4,10 +4,9 @@ ghost use Rattle.std.specs.Prelude.{◌≡◌, ◌+◌, ◌<◌, ◌^◌, true, 
 ghost use Rattle.mini_model.specs.Tree.{child_or_absent, children, count};
 ghost use Rattle.mini_node.specs.Children.{names};
 ghost use Rattle.mini_node.specs.Kinds.{is_listed as is_it_listed};
-ghost use Rattle.mini_rows.specs.Past.{held};
 ghost use Rattle.mini_unused.specs.RemoveUnusedDeclaration.{list_at};
 ghost use Rattle.mini_past.specs.SubstitutePast as row;
-ghost use Rattle.mini_past.specs.SubstitutePast.{PastAt, PastRemoved};
+ghost use Rattle.mini_past.specs.SubstitutePast.{PastAt, PastRemoved, held_at};
 
 use crate::declared::may_pass_by;
 use crate::names::PastNames;
@@ -18,23 +17,39 @@ use mini_model::Name;
 use mini_node::{Node, Nodes};
 use mini_steady::SteadyNames;
 use mini_unused::{
-    declares_list, either_has_eval, is_declared_over, is_lexical, is_mentioned,
-    is_mentioned_around, last_declarator, reads_first, substitute_in_list,
+    declares_list, either_has_eval, evaluated, is_declared_over, is_lexical, is_mentioned,
+    is_mentioned_around, last_declarator, reads_head, substitute_in_list,
 };
 use std::alloc::Global;
 
-// A statement reads the name first, after parts that pass the initializer.
+// A head reads the name, after parts that pass the initializer.
 fn reads_past<S: SteadyNames>(
     name: &Name,
     init: &Node,
     node: &Node,
     statements: &Nodes,
+    at: usize,
+    declarators: &Nodes,
+    which: usize,
     body: u32,
     steady: &S,
 ) -> bool
-    ensures { result ≡ row.reads_past (held (S.sets steady.now body) statements.now) name.now init.now node.now }
+    requires statement { at < count statements.now }
+    requires declarator { which < count declarators.now }
+    ensures { result ≡ row.reads_past (held_at (S.sets steady.now body) statements.now at declarators.now which) name.now init.now node.now }
 {
-    reads_first(name, node) && are_past(name, init, node, statements, body, steady)
+    reads_head(name, node)
+        && are_past(
+            name,
+            init,
+            evaluated(node),
+            statements,
+            at,
+            declarators,
+            which,
+            body,
+            steady,
+        )
 }
 
 // The next statement does, and nothing else mentions it.
@@ -63,6 +78,9 @@ fn is_read_past<S: SteadyNames>(
                     init,
                     statements.child(at + 1),
                     statements,
+                    at,
+                    declarators,
+                    which,
                     body,
                     steady,
                 )

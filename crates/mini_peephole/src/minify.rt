@@ -25,7 +25,9 @@ use mini_logic::{
     MinimizeUnary, MinimizeVoid,
 };
 use mini_passes::{SteadyPasses, run_steady_passes};
-use mini_past::{SubstitutePast, SubstitutePastArrows};
+use mini_past::{
+    SubstitutePast, SubstitutePastArrows, SubstitutePastModules, SubstitutePastStatics,
+};
 use mini_steady::{InArrows, InFunctions, InPrograms, SteadyMembers};
 use mini_stmt::{JoinLets, MinimizeStatements, TurnLoopGuards};
 use mini_switch::MinimizeSwitches;
@@ -247,7 +249,12 @@ const LEXICAL: AnyCode<LexicalNames> = Then {
 type OwnRules = Then<AnyCode<SteadyMembers>, AnyCode<LexicalNames>>;
 
 // Rules of names that are read once or not at all.
-type Once = Then<Then<SubstitutePast, SubstitutePastArrows>, RemoveInside>;
+type Past = Then<
+    Then<SubstitutePast, SubstitutePastArrows>,
+    Then<SubstitutePastModules, SubstitutePastStatics>,
+>;
+
+type Once = Then<Past, RemoveInside>;
 
 const STEADY_RULES: Then<OwnRules, Once> = Then {
     first: Then {
@@ -256,8 +263,14 @@ const STEADY_RULES: Then<OwnRules, Once> = Then {
     },
     second: Then {
         first: Then {
-            first: SubstitutePast,
-            second: SubstitutePastArrows,
+            first: Then {
+                first: SubstitutePast,
+                second: SubstitutePastArrows,
+            },
+            second: Then {
+                first: SubstitutePastModules,
+                second: SubstitutePastStatics,
+            },
         },
         second: RemoveInside,
     },

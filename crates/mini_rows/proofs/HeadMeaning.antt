@@ -5,7 +5,7 @@ use Rattle.mini_model.specs.declared.name.Name.{Name}
 use Rattle.mini_model.specs.Tree.{Tree, Trees, node, none, ◌▸◌, identifier, empty_statement}
 use Rattle.mini_laws.specs.Value.{Declared, nothing}
 use Rattle.mini_laws.specs.State.{State, Environment}
-use Rattle.mini_laws.specs.Demand.{Tail, Stat}
+use Rattle.mini_laws.specs.Demand.{Tail, Val, As, Stat}
 use Rattle.mini_laws.specs.Naming.{summary}
 use Rattle.mini_laws.specs.Same.{Same}
 use Rattle.mini_laws.specs.Substitution.{alone}
@@ -13,7 +13,7 @@ use Rattle.mini_kept.specs.Without.{Unseen}
 use Rattle.mini_terms.specs.Folds.{is_effect_free}
 use Rattle.mini_rows.specs.Lists.{declaration, Each, EachIn, EachOf, each_loop}
 use Rattle.mini_rows.specs.Declarations.{declarator}
-use Rattle.mini_rows.specs.Sketches.{shape_by, AsWholeItem}
+use Rattle.mini_rows.specs.Sketches.{shape_by, AsValue, AsWholeItem}
 use Rattle.mini_rows.specs.Unused.{is_constant, resolved, names, any_names, declared_among, declared_left, may_move, put_first, entries_below, are_passed, reads_first, reads_head, evaluated, Row71}
 use Rattle.mini_rows.proofs.FoldMeaning.{plain_read}
 use Rattle.mini_rows.proofs.NextKept.{next_unnamed}
@@ -87,7 +87,8 @@ module _ (e : Environment) (spelling : List ℕ) (k : ℕ) (z : Unseen (alone (D
       let p = path x false t.value t.once in
       let read_as : identifier p.read ≡ identifier (resolved p.read.spelling k) = ap (λ y. identifier (record { spelling = p.read.spelling; symbol = y })) (same_symbol k p.read.symbol p.same) in
       subst₂ (λ h w. GoesWith e k init h w s) (sym (t.is ∙ ap (seated t.seat) (p.is ∙ ap (led p.steps) read_as))) (sym (t.puts init ∙ ap (seated t.seat) (p.puts init)))
-      (outside_goes e k z x refl p.read.spelling init (sym (plain_read init (movable init moves))) (plain_item init (movable init moves)) p.steps p.well p.spared (p.passed_in false init (t.passed init passed)) t.seat t.beside s)
+      (outside_goes e k z x refl p.read.spelling init (sym (plain_read init (movable init moves))) p.steps p.well (λ y. Unit {0})
+      (λ v r y u. moves_there e k z x refl p.read.spelling init (sym (plain_read init (movable init moves))) (plain_item init (movable init moves)) AsValue p.steps p.well p.spared (p.passed_in false init (t.passed init passed)) (As v) tt r y) t.seat t.beside s tt)
 
   loop_goes : (t : Over x head) → are_passed x init t.value ≡ true → (s : State) → GoesWith e k init head (put_first x init head) s
   loop_goes t passed s =
@@ -95,7 +96,8 @@ module _ (e : Environment) (spelling : List ℕ) (k : ℕ) (z : Unseen (alone (D
       let read_as : identifier p.read ≡ identifier (resolved p.read.spelling k) = ap (λ y. identifier (record { spelling = p.read.spelling; symbol = y })) (same_symbol k p.read.symbol p.same) in
       let loops = λ (u : Tree). each_loop t.kind t.left u t.body in
       subst₂ (λ h w. GoesWith e k init h w s) (sym (t.is ∙ ap loops (p.is ∙ ap (led p.steps) read_as))) (sym (t.puts init ∙ ap loops (p.puts init)))
-      (each_goes e k z x refl p.read.spelling init (sym (plain_read init (movable init moves))) (plain_item init (movable init moves)) p.steps p.well p.spared (p.passed_in false init passed) t.kind t.left t.body t.plain t.other t.later s)
+      (each_goes e k z x refl p.read.spelling init p.steps (λ y. Unit {0})
+      (λ y u. moves_there e k z x refl p.read.spelling init (sym (plain_read init (movable init moves))) (plain_item init (movable init moves)) AsValue p.steps p.well p.spared (p.passed_in false init passed) (As Val) tt tt y) t.kind t.left t.body t.plain t.other t.later s tt)
 
   pub head_goes : reads_head x head ≡ true → are_passed x init (evaluated head) ≡ true → (s : State) → GoesWith e k init head (put_first x init head) s
   head_goes once passed s = by (heads x head once)

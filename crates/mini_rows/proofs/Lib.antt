@@ -138,9 +138,13 @@ pub mod PastRuns
 pub mod PastParts
 pub mod PastMeaning
 pub mod PastNext
+pub mod PastHeads
+pub mod PastLets
 pub mod PastStretches
 pub mod PastLawful
 pub mod PastArrowLawful
+pub mod PastModuleLawful
+pub mod PastStaticLawful
 pub mod FoldEqualities
 mod FoldBranches
 pub mod FoldMeaning

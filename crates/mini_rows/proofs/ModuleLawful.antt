@@ -67,7 +67,7 @@ module _ (ds : List (List ℕ)) (a b : Trees) (h : (strict : Bool) → fill stri
   list_there : fill true (these (many (a_statement in_module) ∷ [])) (over a) ≡ true → fill true (these (many (a_statement in_module) ∷ [])) (over b) ≡ true
   list_there e = both (fill true (each (item_in in_module)) b) true (h true (left (fill true (each (item_in in_module)) a) true e)) refl
 
-  module_fits : (strict : Bool) (s : Slot) → fits strict s (program true ds a) ≡ true → fits strict s (program true ds b) ≡ true
+  pub module_fits : (strict : Bool) (s : Slot) → fits strict s (program true ds a) ≡ true → fits strict s (program true ds b) ≡ true
   module_fits strict s e = by (program_filling strict s true ds)
     where
       by : AProgram strict s true ds → fits strict s (program true ds b) ≡ true
@@ -79,7 +79,7 @@ module _ (ds : List (List ℕ)) (a b : Trees) (h : (strict : Bool) → fill stri
 
 -- ---- its imports and exports
 
-ports_behind : (before d w : Trees) → ports true d ≡ ports true w → ports true (append before d) ≡ ports true (append before w)
+pub ports_behind : (before d w : Trees) → ports true d ≡ ports true w → ports true (append before d) ≡ ports true (append before w)
 ports_behind none d w e = e
 ports_behind (t ▸ before) d w e = ap (λ ps. if is_port true (shape_of t) then own t ▸ ps else ps) (ports_behind before d w e)
 

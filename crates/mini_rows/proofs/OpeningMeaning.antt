@@ -1,12 +1,12 @@
 -- What a `switch` or a `for` reads before all else may be put there: it is outside of the scope that the statement opens.
-use Rattle.std.proofs.Common.{◌≡◌, ℕ, zero, suc, Bool, true, false, List, [], ◌∷◌, None, Some, refl, sym, ap, ◌∙◌, subst, subst₂}
+use Rattle.std.proofs.Common.{◌≡◌, ℕ, zero, suc, true, false, List, [], ◌∷◌, None, Some, refl, sym, ap, ◌∙◌, subst, subst₂}
 use Rattle.mini_model.specs.declared.name.Name.{Name}
 use Rattle.mini_model.specs.declared.shape.Shape.TheVariants as shape
 use Rattle.mini_model.specs.Tree.{Tree, Trees, node, none, ◌▸◌, absent, identifier}
 use Rattle.mini_model.specs.Paths.{append}
 use Rattle.mini_laws.specs.Value.{Value, Declared, VariableSet, Holds}
 use Rattle.mini_laws.specs.State.{Stop, Broken, State, Completion, ended, Environment, with_vars}
-use Rattle.mini_laws.specs.Demand.{Val, Unused, As, Cases, Stat}
+use Rattle.mini_laws.specs.Demand.{Want, Val, Unused, As, Cases, Stat, Request}
 use Rattle.mini_laws.specs.Command.{set_var, kid, bind}
 use Rattle.mini_laws.specs.Naming.{Facts, FunctionFact, Named, NamedDefault, BareDefault, function_facts, summary, summaries, facts_all}
 use Rattle.mini_laws.specs.Asking.{demand, first_demand}
@@ -18,16 +18,15 @@ use Rattle.mini_laws.proofs.Congruent.{insensitive}
 use Rattle.mini_laws.proofs.Runs.{either_cong, either_assoc, either_stop}
 use Rattle.mini_laws.proofs.Simulation.{goes_either}
 use Rattle.mini_kept.specs.Without.{Unseen}
-use Rattle.mini_terms.specs.Folds.{is_effect_free}
-use Rattle.mini_terms.specs.Reading.{is_item}
 use Rattle.mini_rows.specs.Lists.{switch, for_loop}
+use Rattle.mini_rows.specs.Chains.{is_calm}
 use Rattle.mini_rows.specs.Sketches.{shape_by, AsValue, asked_below}
 use Rattle.mini_rows.specs.Unused.{any_names, resolved}
 use Rattle.mini_rows.proofs.ListHeads.{Nothing, for_rest, for_is, for_absent_is}
 use Rattle.mini_rows.proofs.ListKeptHeads.{Seat, Loop, Choice, seated, rest}
-use Rattle.mini_rows.proofs.SingleUse.{Lead, Not, Plus, Minus, Tilde, Typing, Emptying, Beside, Deciding, Choosing, Passing, Called, Making, Waiting, Member, Keyed, Linking, Holding, Against, Given, Filling, Keying, Following, Branching, Failing, Storing, Gathering, Fielding, Spreading, Bracketing, head_of, before, place, Step, led, is_end, Stands, Well, Spared, Passed, summary_led}
-use Rattle.mini_rows.proofs.ConstantUse.{moves_there}
-use Rattle.mini_rows.proofs.SingleMeaning.{Before, Later, later_bind, later_attempt, Reaches, reach_statement, one, next, by_summaries, node_is, stopped, any_end, reach_goes}
+use Rattle.mini_rows.proofs.SingleUse.{Lead, Not, Plus, Minus, Tilde, Typing, Emptying, Beside, Deciding, Choosing, Passing, Called, Making, Waiting, Member, Keyed, Linking, Holding, Against, Given, Filling, Keying, Following, Branching, Failing, Storing, Gathering, Fielding, Spreading, Bracketing, head_of, before, place, Step, led, is_end, Stands, Well, summary_led}
+use Rattle.mini_rows.proofs.PastRuns.{reach_goes}
+use Rattle.mini_rows.proofs.SingleMeaning.{Before, Later, later_bind, later_attempt, Reaches, reach_statement, one, next, by_summaries, node_is, stopped}
 use Rattle.mini_rows.proofs.UnusedNames.{all_avoided}
 
 -- ---- behind what it asks a `switch` asks nothing of that any more
@@ -51,9 +50,9 @@ switch_later fs v = (
   λ y. tt,
 )
 
-switch_reaches : (f d : Bool) (fs : List Facts) → Reaches f d 0 0 (step shape.SwitchStatement [] fs (Stat None) [])
+switch_reaches : (d : Bool) (fs : List Facts) → Reaches false d 0 0 (step shape.SwitchStatement [] fs (Stat None) [])
 unfolding step
-switch_reaches f d fs = reach_statement f d 0 0 (switch_step fs) (one f d 0 0 (first_demand (As Val) Cases) (Unit {0}) tt _ (λ v. switch_later (function_facts fs) v))
+switch_reaches d fs = reach_statement false d 0 0 (switch_step fs) (one false d 0 0 (first_demand (As Val) Cases) (Unit {0}) tt _ (λ v. switch_later (function_facts fs) v))
 
 -- nothing stands before
 none_before : (j : ℕ) → Before j 0 → ⊥
@@ -100,7 +99,7 @@ nothing_led (s ∷ ss) w t n = by s.lead w.0 (λ q. nothing_led ss (subst (λ c.
 
 -- ---- the statements
 
-module _ (e : Environment) (k : ℕ) (z : Unseen (alone (Declared k)) e) (x : Name) (named : x.symbol ≡ Some (record { 0 = k })) (spelling : List ℕ) (init : Tree) (plain : summary (identifier (resolved spelling k)) ≡ summary init) (item : is_item init ≡ true) (ss : List Step) (w : Well AsValue ss) (f : Spared x ss) (p : Passed init spelling ss) where
+module _ (e : Environment) (k : ℕ) (z : Unseen (alone (Declared k)) e) (x : Name) (named : x.symbol ≡ Some (record { 0 = k })) (spelling : List ℕ) (init : Tree) (plain : summary (identifier (resolved spelling k)) ≡ summary init) (ss : List Step) (w : Well AsValue ss) where
   abbrev D : VariableSet
   D = alone (Declared k)
 
@@ -116,22 +115,9 @@ module _ (e : Environment) (k : ℕ) (z : Unseen (alone (Declared k)) e) (x : Na
   abbrev put : Tree
   put = led ss init
 
-  -- what follows, where the statement is run
-  abbrev Moves : Tree → Tree → Type 0
-  Moves head there = (s : State) → Go (next (means e init (As Val) tt s) (λ v t. means e head (Stat None) [] (after v t))) (means e there (Stat None) [] s)
-
-  switch_goes : (cases : Tree) → any_names x (cases ▸ none) ≡ false → Moves (switch value cases) (switch put cases)
-  switch_goes cases g t =
-      let h = shape.SwitchStatement in
-      let ts : Trees = cases ▸ none in
-      let is = summaries (value ▸ ts) in
-      let σ = demand h (facts_all is) (Stat None) in
-      let there = λ (y : State). node_is e k z h (Stat None) [] (value ▸ ts) y in
-      let put_is : means e (switch put cases) (Stat None) [] t ≡ by_summaries e k z h (Stat None) [] is (put ▸ ts) t =
-      node_is e k z h (Stat None) [] (put ▸ ts) t ∙ ap (λ i. by_summaries e k z h (Stat None) [] (i ∷ summaries ts) (put ▸ ts) t) (sym (summary_led ss (identifier (resolved spelling k)) init plain)) in
-      subst₂ Go (sym (either_cong (means e init (As Val) tt t) _ _ _ _ (λ v y. there (after v y)) (λ y p. refl))) (sym put_is)
-      (reach_goes e k z h (Stat None) is σ none value put ts init tt (all_avoided x k named ts g) 0 (λ j b. b) (λ j b. absurd (none_before j b)) false (λ s'. any_end (means e init (As Val) tt s'))
-      (λ r' s'. moves_there e k z x named spelling init plain item AsValue ss w f p (As Val) tt r' s') (step h [] (facts_all is) (Stat None) []) (switch_reaches (is_effect_free init) false (facts_all is)) t)
+  -- what is read may be put there from some states, whatever is asked for
+  abbrev pub ValueMoves : (State → Type 0) → Type 0
+  ValueMoves R = (v : Want) (r : Request (As v)) (s : State) → R s → Go (next (means e init (As Val) tt s) (λ p t. means e value (As v) r (after p t))) (means e put (As v) r s)
 
   nothing_value : Nothing value
   nothing_value = nothing_led ss w (identifier (resolved spelling k)) (record { lets = refl; functions = refl; facts = refl; declared = refl })
@@ -139,26 +125,43 @@ module _ (e : Environment) (k : ℕ) (z : Unseen (alone (Declared k)) e) (x : Na
   nothing_put : Nothing put
   nothing_put = nothing_led ss w init (record { lets = sym (ap (λ i. i.lets) plain); functions = sym (ap (λ i. i.functions) plain); facts = sym (ap (λ i. i.facts.functions) plain); declared = sym (ap (λ i. i.facts.declared) plain) })
 
-  module _ (test update body : Tree) (g : any_names x (test ▸ (update ▸ (body ▸ none))) ≡ false) where
-    abbrev turns : State → Completion (Unit {0})
-    turns y = for_rest e test update body [] y
+  module _ (R : State → Type 0) (moves : ValueMoves R) where
+    -- what follows, where the statement is run
+    abbrev Moves : Tree → Tree → Type 0
+    Moves head there = (s : State) → R s → Go (next (means e init (As Val) tt s) (λ v t. means e head (Stat None) [] (after v t))) (means e there (Stat None) [] s)
 
-    turns_go : (y y' : State) → Agree D y y' → Go (turns y) (turns y')
-    turns_go y y' a =
-        subst₂ Go (for_absent_is e test update body [] y) (for_absent_is e test update body [] y')
-        (insensitive e D z.shared (for_loop absent test update body) (tt, ((tt, tt), all_avoided x k named (test ▸ (update ▸ (body ▸ none))) g)) (Stat None) [] y y' a)
+    switch_goes : (cases : Tree) → any_names x (cases ▸ none) ≡ false → Moves (switch value cases) (switch put cases)
+    switch_goes cases g t ready =
+        let h = shape.SwitchStatement in
+        let ts : Trees = cases ▸ none in
+        let is = summaries (value ▸ ts) in
+        let σ = demand h (facts_all is) (Stat None) in
+        let there = λ (y : State). node_is e k z h (Stat None) [] (value ▸ ts) y in
+        let put_is : means e (switch put cases) (Stat None) [] t ≡ by_summaries e k z h (Stat None) [] is (put ▸ ts) t =
+        node_is e k z h (Stat None) [] (put ▸ ts) t ∙ ap (λ i. by_summaries e k z h (Stat None) [] (i ∷ summaries ts) (put ▸ ts) t) (sym (summary_led ss (identifier (resolved spelling k)) init plain)) in
+        subst₂ Go (sym (either_cong (means e init (As Val) tt t) _ _ _ _ (λ v y. there (after v y)) (λ y p. refl))) (sym put_is)
+        (reach_goes e k z init t h (Stat None) is σ none value put ts tt (all_avoided x k named ts g) (λ j b. absurd (none_before j b)) (λ r. moves Val r t ready) (step h [] (facts_all is) (Stat None) []) (switch_reaches (is_calm init) (facts_all is)))
 
-    for_goes : Moves (for_loop value test update body) (for_loop put test update body)
-    for_goes t =
-        let v = means e init (As Val) tt t in
-        let begun = next v (λ p y. means e value (As Unused) tt (after p y)) in
-        subst₂ Go
-        (sym (either_cong v _ _ _ _ (λ p y. for_is e test update body value nothing_value [] (after p y)) (λ y p. refl) ∙ sym (either_assoc v _ _ _ _ ∙ either_cong v _ _ _ _ (λ p y. refl) (λ y p. either_stop y p _ _))))
-        (sym (for_is e test update body put nothing_put [] t))
-        (goes_either true (λ p. Agree D) (Agree D) (Agree D) (λ p. Agree D) (Agree D) begun (means e put (As Unused) tt t) _ _ _ _
-        (moves_there e k z x named spelling init plain item AsValue ss w f p (As Unused) tt tt t)
-        (λ u y y' a. turns_go y y' a) (λ c y y' a. stopped e k z (Unit {0}) c y y' a))
+    module _ (test update body : Tree) (g : any_names x (test ▸ (update ▸ (body ▸ none))) ≡ false) where
+      abbrev turns : State → Completion (Unit {0})
+      turns y = for_rest e test update body [] y
 
-  pub outside_goes : (c : Seat) → any_names x (rest c) ≡ false → Moves (seated c value) (seated c put)
-  outside_goes (Choice cases) g = switch_goes cases g
-  outside_goes (Loop test update body) g = for_goes test update body g
+      turns_go : (y y' : State) → Agree D y y' → Go (turns y) (turns y')
+      turns_go y y' a =
+          subst₂ Go (for_absent_is e test update body [] y) (for_absent_is e test update body [] y')
+          (insensitive e D z.shared (for_loop absent test update body) (tt, ((tt, tt), all_avoided x k named (test ▸ (update ▸ (body ▸ none))) g)) (Stat None) [] y y' a)
+
+      for_goes : Moves (for_loop value test update body) (for_loop put test update body)
+      for_goes t ready =
+          let v = means e init (As Val) tt t in
+          let begun = next v (λ p y. means e value (As Unused) tt (after p y)) in
+          subst₂ Go
+          (sym (either_cong v _ _ _ _ (λ p y. for_is e test update body value nothing_value [] (after p y)) (λ y p. refl) ∙ sym (either_assoc v _ _ _ _ ∙ either_cong v _ _ _ _ (λ p y. refl) (λ y p. either_stop y p _ _))))
+          (sym (for_is e test update body put nothing_put [] t))
+          (goes_either true (λ p. Agree D) (Agree D) (Agree D) (λ p. Agree D) (Agree D) begun (means e put (As Unused) tt t) _ _ _ _
+          (moves Unused tt t ready)
+          (λ u y y' a. turns_go y y' a) (λ c y y' a. stopped e k z (Unit {0}) c y y' a))
+
+    pub outside_goes : (c : Seat) → any_names x (rest c) ≡ false → Moves (seated c value) (seated c put)
+    outside_goes (Choice cases) g = switch_goes cases g
+    outside_goes (Loop test update body) g = for_goes test update body g

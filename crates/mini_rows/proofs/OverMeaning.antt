@@ -19,13 +19,10 @@ use Rattle.mini_laws.specs.Substitution.{alone}
 use Rattle.mini_laws.proofs.Runs.{either_cong, either_assoc, either_stop}
 use Rattle.mini_laws.proofs.Simulation.{goes_either}
 use Rattle.mini_kept.specs.Without.{Unseen}
-use Rattle.mini_terms.specs.Reading.{is_item}
 use Rattle.mini_rows.specs.Lists.{Each, EachIn, EachOf, each_loop, for_in, is_var_shape, is_bare_var}
-use Rattle.mini_rows.specs.Sketches.{AsValue}
 use Rattle.mini_rows.specs.Unused.{names, any_names, resolved, is_target_shape, is_open_left}
 use Rattle.mini_rows.proofs.ListLoops.{in_rest, in_is, of_rest, of_is, var_lets}
-use Rattle.mini_rows.proofs.SingleUse.{Step, led, Well, Spared, Passed}
-use Rattle.mini_rows.proofs.ConstantUse.{moves_there}
+use Rattle.mini_rows.proofs.SingleUse.{Step, led}
 use Rattle.mini_rows.proofs.SingleMeaning.{Later, later_bind, later_attempt, later_choose, next, stopped, later_goes}
 use Rattle.mini_rows.proofs.UnusedNames.{avoided, all_avoided}
 
@@ -108,7 +105,7 @@ open_lets t e = by (is_target_shape (shape_of t)) refl e
 
 -- ---- the loops
 
-module _ (e : Environment) (k : ℕ) (z : Unseen (alone (Declared k)) e) (x : Name) (named : x.symbol ≡ Some (record { 0 = k })) (spelling : List ℕ) (init : Tree) (plain : summary (identifier (resolved spelling k)) ≡ summary init) (item : is_item init ≡ true) (ss : List Step) (well : Well AsValue ss) (f : Spared x ss) (p : Passed init spelling ss) where
+module _ (e : Environment) (k : ℕ) (z : Unseen (alone (Declared k)) e) (x : Name) (named : x.symbol ≡ Some (record { 0 = k })) (spelling : List ℕ) (init : Tree) (ss : List Step) where
   abbrev D : VariableSet
   D = alone (Declared k)
 
@@ -124,38 +121,40 @@ module _ (e : Environment) (k : ℕ) (z : Unseen (alone (Declared k)) e) (x : Na
   abbrev put : Tree
   put = led ss init
 
-  -- what follows, where the statement is run
-  abbrev Moves : Tree → Tree → Type 0
-  Moves head there = (s : State) → Go (next (means e init (As Val) tt s) (λ v t. means e head (Stat None) [] (after v t))) (means e there (Stat None) [] s)
+  -- what is read may be put there from some states
+  module _ (R : State → Type 0) (moves : (s : State) → R s → Go (next (means e init (As Val) tt s) (λ p t. means e value (As Val) tt (after p t))) (means e put (As Val) tt s)) where
+    -- what follows, where the statement is run
+    abbrev Moves : Tree → Tree → Type 0
+    Moves head there = (s : State) → R s → Go (next (means e init (As Val) tt s) (λ v t. means e head (Stat None) [] (after v t))) (means e there (Stat None) [] s)
 
-  module _ (left body : Tree) (other : names x left ≡ false) (later : any_names x (body ▸ none) ≡ false) where
-    keys_go : (v : Value) (y y' : State) → Agree D y y' → Go (in_rest e left body [] v y) (in_rest e left body [] v y')
-    unfolding in_rest
-    keys_go v y y' a =
-        let d = (summary left).facts.declared in
-        later_goes e k z {σ = each_demand d} shape.ForInStatement (Stat None) [] (left ▸ none) absent absent (body ▸ none) (avoided x k named left other, tt) (all_avoided x k named (body ▸ none) later) (keys_in d [] v) (keys_later d [] v) y y' a
+    module _ (left body : Tree) (other : names x left ≡ false) (later : any_names x (body ▸ none) ≡ false) where
+      keys_go : (v : Value) (y y' : State) → Agree D y y' → Go (in_rest e left body [] v y) (in_rest e left body [] v y')
+      unfolding in_rest
+      keys_go v y y' a =
+          let d = (summary left).facts.declared in
+          later_goes e k z {σ = each_demand d} shape.ForInStatement (Stat None) [] (left ▸ none) absent absent (body ▸ none) (avoided x k named left other, tt) (all_avoided x k named (body ▸ none) later) (keys_in d [] v) (keys_later d [] v) y y' a
 
-    values_go : (v : Value) (y y' : State) → Agree D y y' → Go (of_rest e left body [] v y) (of_rest e left body [] v y')
-    unfolding of_rest
-    values_go v y y' a =
-        let d = (summary left).facts.declared in
-        later_goes e k z {σ = each_demand d} shape.ForOfStatement (Stat None) [] (left ▸ none) absent absent (body ▸ none) (avoided x k named left other, tt) (all_avoided x k named (body ▸ none) later) (values_of d [] v) (values_later d [] v) y y' a
+      values_go : (v : Value) (y y' : State) → Agree D y y' → Go (of_rest e left body [] v y) (of_rest e left body [] v y')
+      unfolding of_rest
+      values_go v y y' a =
+          let d = (summary left).facts.declared in
+          later_goes e k z {σ = each_demand d} shape.ForOfStatement (Stat None) [] (left ▸ none) absent absent (body ▸ none) (avoided x k named left other, tt) (all_avoided x k named (body ▸ none) later) (values_of d [] v) (values_later d [] v) y y' a
 
-    -- a statement that asks for the value, and does the rest with it
-    begun_goes : (head there : Tree) (rest : Value → State → Completion (Unit {0})) → ((y : State) → means e head (Stat None) [] y ≡ next (means e value (As Val) tt y) rest) → ((y : State) → means e there (Stat None) [] y ≡ next (means e put (As Val) tt y) rest) → ((v : Value) (y y' : State) → Agree D y y' → Go (rest v y) (rest v y')) → Moves head there
-    begun_goes head there rest g h go t =
-        let v = means e init (As Val) tt t in
-        let begun = next v (λ p y. means e value (As Val) tt (after p y)) in
-        subst₂ Go
-        (sym (either_cong v _ _ _ _ (λ p y. g (after p y)) (λ y p. refl) ∙ sym (either_assoc v _ _ _ _ ∙ either_cong v _ _ _ _ (λ p y. refl) (λ y p. either_stop y p _ _))))
-        (sym (h t))
-        (goes_either true (λ p. Agree D) (Agree D) (Agree D) (λ p. Agree D) (Agree D) begun (means e put (As Val) tt t) _ _ _ _
-        (moves_there e k z x named spelling init plain item AsValue ss well f p (As Val) tt tt t)
-        (λ u y y' a. go u y y' a) (λ c y y' a. stopped e k z (Unit {0}) c y y' a))
+      -- a statement that asks for the value, and does the rest with it
+      begun_goes : (head there : Tree) (rest : Value → State → Completion (Unit {0})) → ((y : State) → means e head (Stat None) [] y ≡ next (means e value (As Val) tt y) rest) → ((y : State) → means e there (Stat None) [] y ≡ next (means e put (As Val) tt y) rest) → ((v : Value) (y y' : State) → Agree D y y' → Go (rest v y) (rest v y')) → Moves head there
+      begun_goes head there rest g h go t ready =
+          let v = means e init (As Val) tt t in
+          let begun = next v (λ p y. means e value (As Val) tt (after p y)) in
+          subst₂ Go
+          (sym (either_cong v _ _ _ _ (λ p y. g (after p y)) (λ y p. refl) ∙ sym (either_assoc v _ _ _ _ ∙ either_cong v _ _ _ _ (λ p y. refl) (λ y p. either_stop y p _ _))))
+          (sym (h t))
+          (goes_either true (λ p. Agree D) (Agree D) (Agree D) (λ p. Agree D) (Agree D) begun (means e put (As Val) tt t) _ _ _ _
+          (moves t ready)
+          (λ u y y' a. go u y y' a) (λ c y y' a. stopped e k z (Unit {0}) c y y' a))
 
-    pub each_goes_by : (c : Each) → is_open_left left ≡ true → Moves (each_loop c left value body) (each_loop c left put body)
-    each_goes_by EachIn o = let lets = open_lets left o in begun_goes (for_in left value body) (for_in left put body) (in_rest e left body []) (λ y. in_is e left body [] lets value y) (λ y. in_is e left body [] lets put y) keys_go
-    each_goes_by EachOf o = let lets = open_lets left o in begun_goes (each_loop EachOf left value body) (each_loop EachOf left put body) (of_rest e left body []) (λ y. of_is e left body [] lets value y) (λ y. of_is e left body [] lets put y) values_go
+      pub each_goes_by : (c : Each) → is_open_left left ≡ true → Moves (each_loop c left value body) (each_loop c left put body)
+      each_goes_by EachIn o = let lets = open_lets left o in begun_goes (for_in left value body) (for_in left put body) (in_rest e left body []) (λ y. in_is e left body [] lets value y) (λ y. in_is e left body [] lets put y) keys_go
+      each_goes_by EachOf o = let lets = open_lets left o in begun_goes (each_loop EachOf left value body) (each_loop EachOf left put body) (of_rest e left body []) (λ y. of_is e left body [] lets value y) (λ y. of_is e left body [] lets put y) values_go
 
-  pub each_goes : (c : Each) (left body : Tree) → is_open_left left ≡ true → names x left ≡ false → any_names x (body ▸ none) ≡ false → Moves (each_loop c left value body) (each_loop c left put body)
-  each_goes c left body o g h = each_goes_by left body g h c o
+    pub each_goes : (c : Each) (left body : Tree) → is_open_left left ≡ true → names x left ≡ false → any_names x (body ▸ none) ≡ false → Moves (each_loop c left value body) (each_loop c left put body)
+    each_goes c left body o g h = each_goes_by left body g h c o

@@ -71,7 +71,7 @@ numbered : (F : OwnRows) (S : BodySets) (p : Position) (n w : Tree) → OwnPart 
 numbered F S = by_row F S (Numbered F S) (λ p k t u s. (k, a_block p t u s)) (λ p k t u s. (k, an_inner p t u s))
 
 -- what has no body
-bodiless : (a : Around) (h : Shape) (n : ℕ) (t : Tree) (ts : Trees) → has_body h ≡ false → body_of a h n t ts ≡ []
+pub bodiless : (a : Around) (h : Shape) (n : ℕ) (t : Tree) (ts : Trees) → has_body h ≡ false → body_of a h n t ts ≡ []
 bodiless a (shape.Program m ds) n t ts e = absurd (true≢false e)
 bodiless a (shape.Function d g ds) n t ts e = absurd (true≢false e)
 bodiless a (shape.ArrowFunctionExpression ds) n t ts e = absurd (true≢false e)
@@ -79,7 +79,7 @@ bodiless a shape.StaticBlock n t ts e = absurd (true≢false e)
 bodiless a shape.InnerExpression n t ts e = absurd (true≢false e)
 bodiless a h n t ts e = refl
 
-inert_bodiless : (h : Shape) → is_inert h ≡ true → has_body h ≡ false
+pub inert_bodiless : (h : Shape) → is_inert h ≡ true → has_body h ≡ false
 inert_bodiless (shape.Program m ds) e = absurd (true≢false (sym e))
 inert_bodiless (shape.Function d g ds) e = absurd (true≢false (sym e))
 inert_bodiless (shape.ArrowFunctionExpression ds) e = absurd (true≢false (sym e))
@@ -87,7 +87,7 @@ inert_bodiless shape.StaticBlock e = absurd (true≢false (sym e))
 inert_bodiless shape.InnerExpression e = absurd (true≢false (sym e))
 inert_bodiless h e = refl
 
-inert_piece : (h : Shape) → is_inert h ≡ true → is_piece h ≡ false
+pub inert_piece : (h : Shape) → is_inert h ≡ true → is_piece h ≡ false
 inert_piece (shape.TemplateElement tail raw c) e = absurd (true≢false (sym e))
 inert_piece h e = refl
 

@@ -10,7 +10,7 @@ use Rattle.mini_model.specs.declared.shape.Shape.TheVariants as shape
 use Rattle.mini_model.specs.Tree.{Tree, Trees, none, ◌▸◌, listed, shape_of}
 use Rattle.mini_model.specs.Paths.{append}
 use Rattle.mini_model.specs.Weight.{outline as weight_outline, weight}
-use Rattle.mini_accept.specs.WellShaped.{Depth, a_statement, a_default_export, Slot, one, fits}
+use Rattle.mini_accept.specs.WellShaped.{in_body, Depth, a_statement, a_default_export, Slot, one, fits}
 use Rattle.mini_laws.specs.Value.{Declared, VariableSet, nothing}
 use Rattle.mini_laws.specs.Naming.{summary}
 use Rattle.mini_laws.specs.Substitution.{alone}
@@ -134,7 +134,7 @@ module _ (S : BodySets) (W : VariableSet) where
   stands : (n w : Tree) → PastArrowRow S W n w → (strict : Bool) (s : Slot) → fits strict s n ≡ true → TakesExpression s × (fits strict s w ≡ true)
   stands n w r strict s e =
       let t = behind (S r.number) W (listed r.parameters) r.before r.after r.row in
-      let (takes, f) = in_slot r.directives r.number r.parameters r.before r.after (list_fits (S r.number) W (listed r.parameters) r.before r.after t) strict s (sym (ap (fits strict s) r.shape) ∙ e) in
+      let (takes, f) = in_slot r.directives r.number r.parameters r.before r.after (list_fits (S r.number) W (listed r.parameters) r.before r.after t in_body) strict s (sym (ap (fits strict s) r.shape) ∙ e) in
       (takes, ap (fits strict s) r.written ∙ f)
 
   -- whichever place it is

@@ -10,7 +10,7 @@ use Rattle.mini_model.specs.declared.shape.Shape.TheVariants as shape
 use Rattle.mini_model.specs.Tree.{Tree, Trees, none, ◌▸◌, listed, shape_of}
 use Rattle.mini_model.specs.Paths.{append}
 use Rattle.mini_model.specs.Weight.{outline as weight_outline, weight}
-use Rattle.mini_accept.specs.WellShaped.{a_statement, a_default_export, Slot, one, each, fits, fill}
+use Rattle.mini_accept.specs.WellShaped.{Depth, in_body, a_statement, a_default_export, Slot, one, each, fits, fill}
 use Rattle.mini_laws.specs.Value.{Declared, VariableSet, nothing}
 use Rattle.mini_laws.specs.Naming.{summary}
 use Rattle.mini_laws.specs.Scoped.{AllUnmentioned}
@@ -34,28 +34,29 @@ use Rattle.mini_kept.proofs.WithoutLists as without
 use Rattle.mini_rows.specs.Lists.{block, declaration}
 use Rattle.mini_rows.specs.Declarations.{declarator}
 use Rattle.mini_rows.specs.Past.{PastRow, PastFunctionRow, PastFunction, PastIsLawful, PastLightens}
-use Rattle.mini_rows.specs.Unused.{resolved, names, any_names, declared_among, put_first, reads_first, statements, function_with}
+use Rattle.mini_rows.specs.Unused.{resolved, names, any_names, declared_among, put_first, statements, function_with}
 use Rattle.mini_rows.proofs.ArrangedBodies.{quiet}
 use Rattle.mini_rows.proofs.FunctionBodyKept.{function_less, function_keeps, function_fixed, statements_frames, function_frames, function_bodies, function_declares}
 use Rattle.mini_rows.proofs.FunctionBodyLawful.{same_at, function_fits, numbered, is_function_place, rooted, no_list}
 use Rattle.mini_rows.proofs.ListShapes.{append_fits, both_fit}
 use Rattle.mini_rows.proofs.ListWeights.{list_is, body_is}
-use Rattle.mini_rows.proofs.PastStretches.{Behind, behind, first_true, statements_run}
+use Rattle.mini_rows.proofs.PastStretches.{Behind, behind, statements_run}
 use Rattle.mini_rows.proofs.SingleWeights.{single_falls, next_falls}
 use Rattle.mini_rows.proofs.UnusedKept.{all_append}
 use Rattle.mini_rows.proofs.UnusedMeaning.{movable}
 use Rattle.mini_rows.proofs.UnusedNames.{or_parts, all_unmentioned}
-use Rattle.mini_rows.proofs.UnusedStretches.{body_item}
+use Rattle.mini_rows.proofs.UnusedStretches.{item_in}
 use Rattle.mini_rows.proofs.UnusedWeights.{block_falls}
 
 -- ---- statements
 
 module _ (V : Assured) (W : VariableSet) (outside : Tree) (a b : Trees) (t : Behind V W outside a b) where
-  pub list_fits : (strict : Bool) → fill strict (each body_item) a ≡ true → fill strict (each body_item) b ≡ true
-  list_fits strict e =
-      let (x, y) = both_fit strict body_item t.before (append t.d t.after) (sym (ap (fill strict (each body_item)) t.read_is) ∙ e) in
-      let (z, v) = both_fit strict body_item t.d t.after y in
-      ap (fill strict (each body_item)) t.written_is ∙ append_fits strict body_item t.before (append t.w t.after) x (append_fits strict body_item t.w t.after (t.fits strict z) v)
+  pub list_fits : (o : Depth) (strict : Bool) → fill strict (each (item_in o)) a ≡ true → fill strict (each (item_in o)) b ≡ true
+  list_fits o strict e =
+      let item = item_in o in
+      let (x, y) = both_fit strict item t.before (append t.d t.after) (sym (ap (fill strict (each item)) t.read_is) ∙ e) in
+      let (z, v) = both_fit strict item t.d t.after y in
+      ap (fill strict (each item)) t.written_is ∙ append_fits strict item t.before (append t.w t.after) x (append_fits strict item t.w t.after (t.fits o strict z) v)
 
   pub none_mention : AllUnmentioned (record { name = resolved t.spelling t.symbol; hoists = false }) (append t.before (append t.w t.after))
   none_mention =
@@ -165,7 +166,7 @@ module _ (S : BodySets) (W : VariableSet) (n w : Tree) (r : PastFunctionRow S W 
   row_fits : (strict : Bool) (s : Slot) → fits strict s n ≡ true → fits strict s w ≡ true
   row_fits strict s e =
       ap (fits strict s) r.written
-      ∙ function_fits r.is_declared r.is_generator r.directives r.number r.name r.parameters r.before r.after (list_fits (S r.number) W (listed (r.name ▸ r.parameters)) r.before r.after there) strict s (sym (ap (fits strict s) r.shape) ∙ e)
+      ∙ function_fits r.is_declared r.is_generator r.directives r.number r.name r.parameters r.before r.after (list_fits (S r.number) W (listed (r.name ▸ r.parameters)) r.before r.after there in_body) strict s (sym (ap (fits strict s) r.shape) ∙ e)
 
   keeps_function : (strict : Bool) (s : Slot) → fits strict s n ≡ true → KeepsFunction n w
   keeps_function strict s e =
@@ -229,7 +230,7 @@ module _ (S : BodySets) (W : VariableSet) where
 
   pub list_lighter : (V : Assured) (outside : Tree) (ts us : Trees) → PastRow V W outside ts us → weight (Stmt stmt_seat.List) (block us) + 1 ≤ weight (Stmt stmt_seat.List) (block ts)
   list_lighter V outside ts us (inl r) =
-      let falls = single_falls stmt_seat.List r.before r.kind r.first r.spelling r.symbol r.init r.head r.after (movable r.init r.moves) (first_true (reads_first (resolved r.spelling r.symbol) r.head) _ r.once) in
+      let falls = single_falls stmt_seat.List r.before r.kind r.first r.spelling r.symbol r.init r.head r.after (movable r.init r.moves) r.once in
       omega (arith, falls, ap (λ l. weight (Stmt stmt_seat.List) (block l)) r.shape, ap (λ l. weight (Stmt stmt_seat.List) (block l)) r.written)
   list_lighter V outside ts us (inr r) =
       let x = resolved r.spelling r.symbol in

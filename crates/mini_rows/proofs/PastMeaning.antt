@@ -1,14 +1,14 @@
 -- A name that is read once behind names that are held: its initializer may stand there, in the statements of a body.
-use Rattle.std.specs.Prelude.{◌&&◌, ◌||◌, not, nat_eq, Bool}
+use Rattle.std.specs.Prelude.{◌||◌, not, nat_eq, Bool}
 use Rattle.std.proofs.lemmas.Bool.{and_parts, eq-eqb}
 use Rattle.std.proofs.Common.{◌≡◌, ℕ, true, false, List, [], ◌∷◌, None, Some, refl, sym, ap, ◌∙◌, subst, subst₂, true≢false}
 use Rattle.mini_model.specs.declared.kind.VariableDeclarationKind.{VariableDeclarationKind}
 use Rattle.mini_model.specs.declared.name.Name.{Name}
 use Rattle.mini_model.specs.declared.shape.Shape.TheVariants as shape
-use Rattle.mini_model.specs.Tree.{Tree, Trees, none, ◌▸◌, listed, identifier}
+use Rattle.mini_model.specs.Tree.{Tree, Trees, none, ◌▸◌, listed, identifier, program}
 use Rattle.mini_model.specs.Paths.{append}
 use Rattle.mini_model.specs.Weight.{same_text}
-use Rattle.mini_laws.specs.Value.{Variable, Declared, Global, VariableSet, choose, is_in}
+use Rattle.mini_laws.specs.Value.{Variable, Declared, Global, VariableSet, is_in}
 use Rattle.mini_laws.specs.State.{State, stop, either, Writable, Environment}
 use Rattle.mini_laws.specs.Demand.{FunctionTail, Stat}
 use Rattle.mini_laws.specs.Naming.{summary, summaries, lets_all, is_lexical}
@@ -19,7 +19,7 @@ use Rattle.mini_laws.specs.Step.{means}
 use Rattle.mini_laws.specs.Stretches as first
 use Rattle.mini_laws.specs.Substitution.{alone}
 use Rattle.mini_laws.specs.Congruence.{AllAvoid, Apart}
-use Rattle.mini_laws.specs.Body.{FunctionStatements}
+use Rattle.mini_laws.specs.Body.{FunctionStatements, Program}
 use Rattle.mini_laws.proofs.Anywhere.{in_each_tail, stretch_anywhere}
 use Rattle.mini_laws.proofs.Congruent.{body_same, congruent_same, reflexive, weaker}
 use Rattle.mini_laws.proofs.Runs.{either_cong, either_assoc, either_stop}
@@ -28,9 +28,9 @@ use Rattle.mini_laws.proofs.Simulation.{within_refl}
 use Rattle.mini_kept.specs.AlikeBodies.{RunsAs}
 use Rattle.mini_kept.specs.Without.{Assured, Steadies, Begins, Unseen}
 use Rattle.mini_rows.specs.Lists.{declaration}
-use Rattle.mini_rows.specs.Past.{any_bind, held, are_past}
+use Rattle.mini_rows.specs.Past.{any_bind, is_let, begun, held, are_past}
 use Rattle.mini_rows.specs.Sketches.{AsWholeItem}
-use Rattle.mini_rows.specs.Unused.{resolved, names, any_names, declared_one, declared_left, may_move, statements, put_first, reads_first}
+use Rattle.mini_rows.specs.Unused.{resolved, names, any_names, declared_one, declared_left, may_move, statements, static_block, put_first, reads_first}
 use Rattle.mini_rows.proofs.FoldMeaning.{plain_read}
 use Rattle.mini_rows.proofs.ItemReads.{plain_item}
 use Rattle.mini_rows.proofs.ListStretches.{exec_one, exec_two, exec_more, exec_append, listed_is}
@@ -45,15 +45,13 @@ use Rattle.mini_rows.proofs.UnusedMeaning.{GoesWith, ReadThere, declared_then, l
 
 -- of some statements, and of what is known
 module _ (V : Assured) (ts : Trees) where
-  abbrev H : VariableSet
-  H = held V ts
+  -- no answer changes what is held behind some of them
+  pub held_still : (before : Trees) (is_lexical : Bool) (first : Trees) (e : Environment) → Steadies V e → Still (held V ts before is_lexical first) e
+  held_still before is_lexical first e s = record { by = λ j h. s.steady (Declared j) (and_parts (V.steady (Declared j)) (begun V ts (Declared j) || is_let j before is_lexical first) h).0 }
 
-  pub held_still : (e : Environment) → Steadies V e → Still H e
-  held_still e s = record { by = λ j h. s.steady (Declared j) (and_parts (V.steady (Declared j)) (V.initial (Declared j) && not (any_bind j ts)) h).0 }
-
-  pub held_begins : (X : VariableSet) → Begins V X → Within H X
+  pub held_begins : (X : VariableSet) → Begins V X → Within (begun V ts) X
   unfolding Within
-  held_begins X b (Declared j) h = b (Declared j) (and_parts (V.initial (Declared j)) (not (any_bind j ts)) (and_parts (V.steady (Declared j)) (V.initial (Declared j) && not (any_bind j ts)) h).1).0
+  held_begins X b (Declared j) h = b (Declared j) (and_parts (V.initial (Declared j)) (not (any_bind j ts)) h).0
   held_begins X b (Global s) h = absurd (true≢false (sym h))
 
   not_true : (b : Bool) → not b ≡ true → b ≡ false
@@ -61,18 +59,10 @@ module _ (V : Assured) (ts : Trees) where
   not_true false e = refl
 
   -- those that other trees hide less
-  pub held_off : (xs : List Variable) → ((j : ℕ) → any_bind j ts ≡ false → is_in (Declared j) xs ≡ false) → Off xs H
+  pub held_off : (xs : List Variable) → ((j : ℕ) → any_bind j ts ≡ false → is_in (Declared j) xs ≡ false) → Off xs (begun V ts)
   unfolding Off
-  held_off xs f (Declared j) h = f j (not_true (any_bind j ts) (and_parts (V.initial (Declared j)) (not (any_bind j ts)) (and_parts (V.steady (Declared j)) (V.initial (Declared j) && not (any_bind j ts)) h).1).1)
+  held_off xs f (Declared j) h = f j (not_true (any_bind j ts) (and_parts (V.initial (Declared j)) (not (any_bind j ts)) h).1)
   held_off xs f (Global s) h = absurd (true≢false (sym h))
-
-pub still_there : (H : VariableSet) (lets hides : List Variable) → Off hides H → Within H (minus (plus H lets) hides)
-unfolding Off Within
-still_there H lets hides off x h = ap (λ b. choose b false (choose (is_in x lets) true (H x))) (off x h) ∙ by (is_in x lets)
-  where
-    by : (b : Bool) → choose b true (H x) ≡ true
-    by true = refl
-    by false = h
 
 -- ---- the statements
 
@@ -101,7 +91,7 @@ module _ (e : Environment) (spelling : List ℕ) (k : ℕ) (z : Unseen (alone (D
 
 -- ---- a declaration in two
 
-append_twice : (a b c : Trees) → append (append a b) c ≡ append a (append b c)
+pub append_twice : (a b c : Trees) → append (append a b) c ≡ append a (append b c)
 append_twice none b c = refl
 append_twice (t ▸ a) b c = ap (λ ts. t ▸ ts) (append_twice a b c)
 
@@ -143,13 +133,13 @@ module _ (e : Environment) (K : VariableDeclarationKind) (first rest : Trees) wh
 
 -- ---- behind statements that hide none of them
 
-module _ (e : Environment) (D : VariableSet) (apart : Apart e D) (H : VariableSet) where
+module _ (e : Environment) (D : VariableSet) (apart : Apart e D) (X Y : VariableSet) where
   joined : (pre ts after : Trees) → first.append pre (first.append ts after) ≡ append pre (append ts after)
   joined pre ts after = same_append pre (first.append ts after) ∙ ap (append pre) (same_append ts after)
 
-  pub behind_same : (pre a b after : Trees) → AllAvoid D after → Off (hidden_all pre) H → Same e D H (Stat None) (listed a) (listed b) → Same e D H (Stat None) (listed (append pre (append a after))) (listed (append pre (append b after)))
-  behind_same pre a b after avoids off same =
-      subst₂ (λ n w. Same e D H (Stat None) (listed n) (listed w)) (joined pre a after) (joined pre b after) (stretch_anywhere e D apart pre a b after None H H avoids off (still_there H (lets_all (summaries pre)) (hidden_all pre) off) same)
+  pub behind_same : (pre a b after : Trees) → AllAvoid D after → Off (hidden_all pre) X → Within Y (minus (plus X (lets_all (summaries pre))) (hidden_all pre)) → Same e D Y (Stat None) (listed a) (listed b) → Same e D X (Stat None) (listed (append pre (append a after))) (listed (append pre (append b after)))
+  behind_same pre a b after avoids off within same =
+      subst₂ (λ n w. Same e D X (Stat None) (listed n) (listed w)) (joined pre a after) (joined pre b after) (stretch_anywhere e D apart pre a b after None X Y avoids off within same)
 
 -- ---- the statement behind the declaration
 
@@ -179,9 +169,29 @@ module _ (e : Environment) (spelling : List ℕ) (k : ℕ) (z : Unseen (alone (D
   unhidden_body : (j : ℕ) → any_bind j ts ≡ false → is_in (Declared j) (hidden (statements ts)) ≡ false
   unhidden_body j f = unhidden j (statements ts) (ap (λ b. b || false) f)
 
-  pub body_runs : Same e D (held V ts) (Stat None) (listed ts) (listed us) → (X : VariableSet) → Begins V X → RunsAs e FunctionStatements FunctionStatements X (statements ts) (statements us)
+  pub body_runs : Same e D (begun V ts) (Stat None) (listed ts) (listed us) → (X : VariableSet) → Begins V X → RunsAs e FunctionStatements FunctionStatements X (statements ts) (statements us)
   body_runs same X begins =
-      let H = held V ts in
+      let H = begun V ts in
       let tail = in_each_tail e D H (listed ts) (listed us) same (Some FunctionTail) in
       let whole = congruent_same e D z.shared (inside shape.FunctionBody [] 0 none here none) (listed ts) (listed us) (tt, tt, tt, tt) (tt, all_join D before (append w after) avoids_before (all_join D w after avoids_w avoids_after)) (list_read e spelling k z before after d w r) H (Stat None) (held_off V ts (hidden (statements ts)) unhidden_body) tail in
       record { by = (body_same e D X z.shared FunctionStatements (statements ts) (statements us) (weaker e D D H X (within_refl D) (held_begins V ts X begins) (Stat None) (statements ts) (statements us) whole)).by }
+
+  -- so does a module
+  unhidden_module : (ds : List (List ℕ)) (j : ℕ) → any_bind j ts ≡ false → is_in (Declared j) (hidden (program true ds ts)) ≡ false
+  unhidden_module ds j f = unhidden j (program true ds ts) (ap (λ b. b || false) f)
+
+  pub program_runs : (ds : List (List ℕ)) → Same e D (begun V ts) (Stat None) (listed ts) (listed us) → (X : VariableSet) → Begins V X → RunsAs e Program Program X (program true ds ts) (program true ds us)
+  program_runs ds same X begins =
+      let H = begun V ts in
+      let whole = congruent_same e D z.shared (inside (shape.Program true ds) [] 0 none here none) (listed ts) (listed us) (tt, tt, tt, tt) (tt, all_join D before (append w after) avoids_before (all_join D w after avoids_w avoids_after)) (list_read e spelling k z before after d w r) H (Stat None) (held_off V ts (hidden (program true ds ts)) (unhidden_module ds)) same in
+      record { by = (body_same e D X z.shared Program (program true ds ts) (program true ds us) (weaker e D D H X (within_refl D) (held_begins V ts X begins) (Stat None) (program true ds ts) (program true ds us) whole)).by }
+
+  -- and a static block
+  unhidden_block : (n : ℕ) (j : ℕ) → any_bind j ts ≡ false → is_in (Declared j) (hidden (static_block n ts)) ≡ false
+  unhidden_block n j f = unhidden j (static_block n ts) (ap (λ b. b || false) f)
+
+  pub block_runs : (n : ℕ) → Same e D (begun V ts) (Stat None) (listed ts) (listed us) → (X : VariableSet) → Begins V X → RunsAs e FunctionStatements FunctionStatements X (static_block n ts) (static_block n us)
+  block_runs n same X begins =
+      let H = begun V ts in
+      let whole = congruent_same e D z.shared (inside shape.StaticBlock [] n none here none) (listed ts) (listed us) (tt, tt, tt, tt) (tt, all_join D before (append w after) avoids_before (all_join D w after avoids_w avoids_after)) (list_read e spelling k z before after d w r) H (Stat None) (held_off V ts (hidden (static_block n ts)) (unhidden_block n)) same in
+      record { by = (body_same e D X z.shared FunctionStatements (static_block n ts) (static_block n us) (weaker e D D H X (within_refl D) (held_begins V ts X begins) (Stat None) (static_block n ts) (static_block n us) whole)).by }

@@ -69,7 +69,7 @@ module _ (e : Environment) (spelling : List ℕ) (k : ℕ) (z : Unseen (alone (D
   put_there : (summary (put_first x init value)).facts.absent ≡ false
   put_there = ap (λ t. (summary t).facts.absent) (reading.puts init) ∙ led_there reading.steps init (sym (ap (λ i. i.facts.absent) plain))
 
-  module _ (avoids_id : Avoids D id) (avoids_last : AllAvoid D last) (permit : is_lexical K ≡ false → e.fixed (Declared k) ≡ Writable) where
+  module _ (avoids_id : Avoids D id) (avoids_last : AllAvoid D last) where
     abbrev run_of : Trees → State → Completion (Unit {0})
     run_of ds s = means e (declaration K ds) (Stat None) [] s
 
@@ -87,21 +87,24 @@ module _ (e : Environment) (spelling : List ℕ) (k : ℕ) (z : Unseen (alone (D
     earlier : (s : State) → either (means e init (As Val) tt s) (λ v t. run_of (declarator id value ▸ last) (after v t)) (λ y t. stop y t) ≡ either (valued s) goes_on (λ y t. stop y t)
     earlier s = either_cong (means e init (As Val) tt s) _ _ _ _ (λ v t. with_others e id value value_there K last (after v t)) (λ y t. refl) ∙ sym (either_assoc (means e init (As Val) tt s) _ _ _ _ ∙ either_cong (means e init (As Val) tt s) _ _ _ _ (λ v t. refl) (λ y t. either_stop y t _ _))
 
-    initial_goes : (s : State) → Initialised H s → Go (either (means e init (As Val) tt s) (λ v t. run_of (declarator id value ▸ last) (after v t)) (λ y t. stop y t)) (run_of (declarator id (put_first x init value) ▸ last) s)
+    -- x holds the value where the next is run, or the next is run with the initializer in it
+    pub initial_goes : (s : State) → Initialised H s → Go (either (means e init (As Val) tt s) (λ v t. run_of (declarator id value ▸ last) (after v t)) (λ y t. stop y t)) (run_of (declarator id (put_first x init value) ▸ last) s)
     initial_goes s ready =
         subst₂ Go (sym (earlier s)) (sym (with_others e id (put_first x init value) put_there K last s))
         (goes_either true (λ v. Agree D) (Agree D) (Agree D) (λ u. Agree D) (Agree D) (valued s) (means e (put_first x init value) (As Val) tt s) _ _ _ _ (value_goes s ready) on_goes (λ y s t g. stopped (Unit {0}) D y s t g))
 
-    abbrev these : Trees
-    these = declarator (binding x) init ▸ (declarator id value ▸ last)
+    -- in one declaration
+    module _ (permit : is_lexical K ≡ false → e.fixed (Declared k) ≡ Writable) where
+      abbrev these : Trees
+      these = declarator (binding x) init ▸ (declarator id value ▸ last)
 
-    abbrev those : Trees
-    those = declarator id (put_first x init value) ▸ last
+      abbrev those : Trees
+      those = declarator id (put_first x init value) ▸ last
 
-    next_goes : (s : State) → Initialised H s → Go (run_of these s) (run_of those s)
-    next_goes s ready =
-        subst (λ c. Go c (run_of those s)) (sym (declarations_join e K (declarator (binding x) init ▸ none) (declarator id value ▸ last) s))
-        (declared_then e spelling k z K permit init (ap (λ i. i.facts.absent) (sym plain)) (run_of (declarator id value ▸ last)) s (run_of those s) (initial_goes s ready))
+      next_goes : (s : State) → Initialised H s → Go (run_of these s) (run_of those s)
+      next_goes s ready =
+          subst (λ c. Go c (run_of those s)) (sym (declarations_join e K (declarator (binding x) init ▸ none) (declarator id value ▸ last) s))
+          (declared_then e spelling k z K permit init (ap (λ i. i.facts.absent) (sym plain)) (run_of (declarator id value ▸ last)) s (run_of those s) (initial_goes s ready))
 
-    pub next_past : Same e D H (Stat None) (listed (declaration K these ▸ none)) (listed (declaration K those ▸ none))
-    next_past = record { by = λ r s i. subst₂ Go (sym (listed_is e (declaration K these ▸ none) r s ∙ exec_one e (declaration K these) s)) (sym (listed_is e (declaration K those ▸ none) r s ∙ exec_one e (declaration K those) s)) (next_goes s i) }
+      pub next_past : Same e D H (Stat None) (listed (declaration K these ▸ none)) (listed (declaration K those ▸ none))
+      next_past = record { by = λ r s i. subst₂ Go (sym (listed_is e (declaration K these ▸ none) r s ∙ exec_one e (declaration K these) s)) (sym (listed_is e (declaration K those ▸ none) r s ∙ exec_one e (declaration K those) s)) (next_goes s i) }

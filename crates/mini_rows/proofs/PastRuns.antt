@@ -111,7 +111,7 @@ module _ (e : Environment) (k : ℕ) (z : Unseen (alone (Declared k)) e) (init :
     hit_there : {A : Type 0} (j : ℕ) → j ≡ count ps → (r : Request (σ j)) (c : Ends (Reply (σ j) r) → Command σ A) → Ends_with j r c → Reached (kid j r c)
     hit_there {A} j p = subst (λ j. (r : Request (σ j)) (c : Ends (Reply (σ j) r) → Command σ A) → Ends_with j r c → Reached (kid j r c)) (sym p) (λ r c known. hit_here r c known)
 
-    reach_goes : {A : Type 0} (c : Command σ A) → Reaches false (is_calm init) (count ps) (count ps) c → Reached c
+    pub reach_goes : {A : Type 0} (c : Command σ A) → Reaches false (is_calm init) (count ps) (count ps) c → Reached c
     reach_goes {A} (kid j r c) (inl l) =
         let F = λ (a : Reply (σ j) r) (y : State). runs t (c (done a)) y in
         let G = λ (a : Reply (σ j) r) (y : State). runs u (c (done a)) y in

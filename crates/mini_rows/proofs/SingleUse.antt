@@ -645,11 +645,11 @@ no_first : (ts : Trees) → rest_children 0 ts ≡ ts
 no_first none = refl
 no_first (t ▸ ts) = refl
 
-declarator_is : (d : Tree) → is_declarator d ≡ true → d ≡ declarator (part d 0) (part d 1)
+pub declarator_is : (d : Tree) → is_declarator d ≡ true → d ≡ declarator (part d 0) (part d 1)
 declarator_is (node shape.VariableDeclarator [] zero (a ▸ (b ▸ none))) e = refl
 declarator_is d e = absurd (true≢false (sym e))
 
-a_declaration : (t : Tree) → declares_list t ≡ true → (k : VariableDeclarationKind) × (t ≡ declaration k (children (part t 0)))
+pub a_declaration : (t : Tree) → declares_list t ≡ true → (k : VariableDeclarationKind) × (t ≡ declaration k (children (part t 0)))
 a_declaration (node (shape.VariableDeclaration k) [] zero (node shape.Listed [] zero ds ▸ none)) e = (k, refl)
 a_declaration (node (shape.VariableDeclaration k) [] zero (u ▸ none)) e = absurd (true≢false (sym e))
 a_declaration t e = absurd (true≢false (sym e))

@@ -84,13 +84,13 @@ module _ (k : ℕ) (a b : Trees) (h : (strict : Bool) → fill strict (each body
   in_class strict (an_inner_key false) e = refused strict (one (an_inner_key false)) refl e
   in_class strict c e = refused strict (one c) refl e
 
-  member_fits : (strict : Bool) (s : Slot) → fits strict s (static_block k a) ≡ true → Member strict s
+  pub member_fits : (strict : Bool) (s : Slot) → fits strict s (static_block k a) ≡ true → Member strict s
   member_fits strict (one c) e = in_class strict c e
   member_fits strict (one_or_absent c) e = let (f, g) = in_class strict c e in (f, g)
   member_fits strict s e = refused strict s refl e
 
 -- the frame around it shows its number alone
-numbered : (k : ℕ) (a b : Trees) (strict : Bool) (s : Slot) → fits strict s (static_block k a) ≡ true → part (static_block k a) ≡ part (static_block k b)
+pub numbered : (k : ℕ) (a b : Trees) (strict : Bool) (s : Slot) → fits strict s (static_block k a) ≡ true → part (static_block k a) ≡ part (static_block k b)
 numbered zero a b strict s e = absurd (true≢false (sym (its_number (class_of s) shape.StaticBlock [] 0 (listed a ▸ none) (fill strict (filling strict s shape.StaticBlock) (listed a ▸ none)) e)))
 numbered (suc n) a b strict s e = refl
 

@@ -131,7 +131,7 @@ one_fits o strict d w f a b h = let (one_there, rest) = first_fits strict (item_
 
 -- and is no import and no export
 
-left_ported : (k : VariableDeclarationKind) (ds rest : Trees) → ports true rest ≡ ports true (declared_left k ds ▸ rest)
+pub left_ported : (k : VariableDeclarationKind) (ds rest : Trees) → ports true rest ≡ ports true (declared_left k ds ▸ rest)
 left_ported k none rest = refl
 left_ported k (t ▸ ds) rest = refl
 
@@ -170,7 +170,7 @@ over_there : (c : Each) (l w a b : Tree) → StandsThere (each_loop c l a w) (ea
 over_there EachIn l w a b = record { head_in = λ o strict. refl; put_in = λ o strict. refl; head_ported = λ rest. refl; put_ported = λ rest. refl }
 over_there EachOf l w a b = record { head_in = λ o strict. refl; put_in = λ o strict. refl; head_ported = λ rest. refl; put_ported = λ rest. refl }
 
-stands_there : (x : Name) (head : Tree) → reads_head x head ≡ true → (init : Tree) → StandsThere head (put_first x init head)
+pub stands_there : (x : Name) (head : Tree) → reads_head x head ≡ true → (init : Tree) → StandsThere head (put_first x init head)
 stands_there x head once init = by (heads x head once)
   where
     by : Heads x head → StandsThere head (put_first x init head)

@@ -39,6 +39,8 @@ pub mod OwnPrograms
 pub mod OwnParts
 pub mod Past
 pub mod PastArrows
+pub mod PastModules
+pub mod PastStatics
 pub mod Cases
 pub mod LoopGuards
 pub mod DeadCases

@@ -8,9 +8,10 @@ use Rattle.mini_model.specs.declared.place.Position.{Position}
 use Rattle.mini_model.specs.declared.place.Position.TheVariants.{Expr, Stmt, Method, Elsewhere}
 use Rattle.mini_model.specs.declared.shape.Shape.{Shape}
 use Rattle.mini_model.specs.declared.shape.Shape.TheVariants as shape
-use Rattle.mini_model.specs.Tree.{Tree, Trees, node, none, ◌▸◌, listed}
+use Rattle.mini_model.specs.Tree.{Tree, Trees, node, none, ◌▸◌, listed, shape_of, children}
 use Rattle.mini_model.specs.Paths.{append}
 use Rattle.mini_laws.specs.Body.{FunctionStatements}
+use Rattle.mini_laws.specs.Naming.{is_lexical}
 use Rattle.mini_laws.specs.ScopeList.{has_eval}
 use Rattle.mini_laws.specs.State.{Environment}
 use Rattle.mini_laws.specs.Substitution.{alone}
@@ -19,11 +20,12 @@ use Rattle.mini_laws.specs.Weights.{Lightens}
 use Rattle.mini_kept.specs.AlikeBodies.{RunsAs}
 use Rattle.mini_kept.specs.Loosely.{LawfulUnder}
 use Rattle.mini_kept.specs.Without.{Assured, BodySets, Steadies, Begins, Permits}
-use Rattle.mini_node.specs.Children.{names_of}
+use Rattle.mini_node.specs.Children.{names_of, part}
 use Rattle.mini_node.specs.Kinds.{is_identifier}
 use Rattle.mini_rows.specs.Lists.{block, declaration}
 use Rattle.mini_rows.specs.Declarations.{declarator}
-use Rattle.mini_rows.specs.Unused.{resolved, names, any_names, declared_among, declared_left, lets_go, may_go_on, begins_with, suits, is_placed, is_first, put_first, is_constant, reads_first, may_move, statements, function_with}
+use Rattle.mini_rows.specs.Inside.{is_lexical_shape}
+use Rattle.mini_rows.specs.Unused.{resolved, names, any_names, declared_among, declared_left, lets_go, may_go_on, begins_with, suits, is_placed, is_first, put_first, is_constant, reads_head, evaluated, is_declarator, declares_list, is_childless, may_move, statements, function_with}
 
 -- ---- what may be evaluated before the initializer
 
@@ -49,11 +51,48 @@ abbrev mutual
   any_bind k none = false
   any_bind k (t ▸ ts) = binds k t || any_bind k ts
 
--- of a body of which this is known, with these statements, the variables that keep the value with which it starts, where nothing in it writes
--- them: no answer changes them, they are initialised as it starts, and no scope in it declares them
-abbrev pub held : Assured → Trees → VariableSet
-held V ts (Declared k) = V.steady (Declared k) && (V.initial (Declared k) && not (any_bind k ts))
-held V ts (Global s) = false
+abbrev pub is_only_symbol : ℕ → List Name → Bool
+is_only_symbol k (x ∷ []) = is_symbol k x.symbol
+is_only_symbol k xs = false
+
+-- `y = v`, where v doesn't declare the name
+abbrev pub is_name : ℕ → Tree → Bool
+is_name k t = is_binding (shape_of t) && (is_only_symbol k (names_of t) && is_childless t)
+
+abbrev pub is_let_name : ℕ → Tree → Bool
+is_let_name k d = is_declarator d && (is_name k (part d 0) && not (binds k (part d 1)))
+
+-- a declarator is such a one, of a `let` or a `const`, or doesn't declare the name
+abbrev pub lets_at_most : Bool → ℕ → Tree → Bool
+lets_at_most is_lexical k d = not (binds k d) || (is_lexical && is_let_name k d)
+
+abbrev pub all_of : (Tree → Bool) → Trees → Bool
+all_of p none = true
+all_of p (t ▸ ts) = p t && all_of p ts
+
+-- so does a statement: `const a, y = v;`
+abbrev pub lets_here : ℕ → Tree → Bool
+lets_here k t = not (binds k t) || (declares_list t && all_of (lets_at_most (is_lexical_shape (shape_of t)) k) (children (part t 0)))
+
+-- it declares none
+abbrev pub spares : ℕ → Tree → Bool
+spares k t = not (binds k t)
+
+-- one of these statements, or of these declarators behind them, of a `let` or a `const` or not, has initialised the name, and no scope in them
+-- hides it
+abbrev pub is_let : ℕ → Trees → Bool → Trees → Bool
+is_let k before is_lexical first = not (all_of (spares k) before && all_of (spares k) first) && (all_of (lets_here k) before && all_of (lets_at_most is_lexical k) first)
+
+-- of a body of which this is known, with these statements, the variables that are initialised as it starts, where no scope in it declares them
+abbrev pub begun : Assured → Trees → VariableSet
+begun V ts (Declared k) = V.initial (Declared k) && not (any_bind k ts)
+begun V ts (Global s) = false
+
+-- those that keep the value that they have behind some of the statements and declarators, where nothing writes them: no answer changes them, and they
+-- are such, or a `let` or a `const` has initialised them before: `const y = a(); let x = b(); return [y, x];`
+abbrev pub held : Assured → Trees → Trees → Bool → Trees → VariableSet
+held V ts before is_lexical first (Declared k) = V.steady (Declared k) && (begun V ts (Declared k) || is_let k before is_lexical first)
+held V ts before is_lexical first (Global s) = false
 
 -- what writes a part of it
 abbrev pub is_writer : Shape → Bool
@@ -108,7 +147,8 @@ abbrev mutual
 
 -- ---- in the statements of a body
 
--- 71: `function f(g) { let x = a(); return g(x); }` becomes `function f(g) { ; return g(a()); }`, and so of `[g, x]` and `g + x`
+-- 71: `function f(g) { let x = a(); return g(x); }` becomes `function f(g) { ; return g(a()); }`, and so of `[g, x]` and `g + x`, of
+-- `const y = g(x);`, `switch (g(x)) { }` and `for (c of g(x)) d();`, and of each other head
 pub record Row71Past (V : Assured) (W : VariableSet) (outside : Tree) (ts us : Trees) : Type 0 where
   pub before : Trees
   pub kind : VariableDeclarationKind
@@ -121,8 +161,8 @@ pub record Row71Past (V : Assured) (W : VariableSet) (outside : Tree) (ts us : T
   pub goes : lets_go W kind symbol ≡ true
   pub moves : may_move init ≡ true
   pub varies : is_constant init ≡ false
-  pub once : reads_first (resolved spelling symbol) head ≡ true
-  pub passed : are_past (held V ts) (resolved spelling symbol) init head ≡ true
+  pub once : reads_head (resolved spelling symbol) head ≡ true
+  pub passed : are_past (held V ts before (is_lexical kind) first) (resolved spelling symbol) init (evaluated head) ≡ true
   pub outer : names (resolved spelling symbol) outside ≡ false
   pub earlier : any_names (resolved spelling symbol) before ≡ false
   pub declared_earlier : any_names (resolved spelling symbol) first ≡ false
@@ -148,7 +188,7 @@ pub record Row71PastNext (V : Assured) (W : VariableSet) (outside : Tree) (ts us
   pub moves : may_move init ≡ true
   pub varies : is_constant init ≡ false
   pub once : is_first (resolved spelling symbol) false value ≡ true
-  pub passed : are_past (held V ts) (resolved spelling symbol) init value ≡ true
+  pub passed : are_past (held V ts before (is_lexical kind) first) (resolved spelling symbol) init value ≡ true
   pub other : names (resolved spelling symbol) binds ≡ false
   pub outer : names (resolved spelling symbol) outside ≡ false
   pub earlier : any_names (resolved spelling symbol) before ≡ false

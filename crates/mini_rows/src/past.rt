@@ -2,6 +2,8 @@
 
 ghost use Rattle.mini_rows.specs.Past.{PastIsLawful, PastLightens, PastRunsAlike};
 ghost use Rattle.mini_rows.specs.PastArrows.{PastArrowIsLawful, PastArrowLightens};
+ghost use Rattle.mini_rows.specs.PastModules.{PastModuleIsLawful, PastModuleLightens};
+ghost use Rattle.mini_rows.specs.PastStatics.{PastStaticIsLawful, PastStaticLightens};
 
 /// A body runs as before where the initializer goes past names that are held, from each start that initialises what is known to be
 /// initialised, in any environment in which that is so which is known, where nobody else sees the name that goes.
@@ -28,4 +30,24 @@ pub fn past_steady_names_lighten_arrows()
 /// And it keeps all that, where that is so which is known of the arrow function's body.
 pub fn past_steady_names_are_lawful_in_arrows()
     ensures { PastArrowIsLawful }
+{}
+
+/// So is what is written of a module.
+pub fn past_steady_names_lighten_modules()
+    ensures { PastModuleLightens }
+{}
+
+/// And the program is kept, where that is so which is known of its body.
+pub fn past_steady_names_are_lawful_in_modules()
+    ensures { PastModuleIsLawful }
+{}
+
+/// So is what is written of a static block.
+pub fn past_steady_names_lighten_static_blocks()
+    ensures { PastStaticLightens }
+{}
+
+/// And the program is kept, where that is so which is known of its body.
+pub fn past_steady_names_are_lawful_in_static_blocks()
+    ensures { PastStaticIsLawful }
 {}

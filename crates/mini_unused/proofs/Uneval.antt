@@ -237,6 +237,9 @@ no_call : (h : Shape) → is_head_shape h ≡ true → (ts : Trees) → is_eval_
 no_call (shape.CallExpression false) e ts = absurd (true≢false (sym e))
 no_call h e ts = refl
 
+first_along : (x : Name) (r t : Tree) (ts : Trees) → names x t ≡ true → suits_among x r (t ▸ ts) ≡ true → suits_along x r t ≡ true
+first_along x r t ts n e = sym (ap (λ c. if c then suits_along x r t else suits_among x r ts) n) ∙ e
+
 pub put_in_head : (x : Name) (r t : Tree) → reads_first x t ≡ true → suits_along x r t ≡ true → has_eval r ≡ false → has_eval t ≡ false → has_eval (put_first x r t) ≡ false
 put_in_head x r (node h ys n none) f i e g = e
 put_in_head x r (node h ys n (t ▸ ts)) f i e g =
@@ -244,10 +247,7 @@ put_in_head x r (node h ys n (t ▸ ts)) f i e g =
     let (m, q) = and_parts (is_nameless (node h ys n (t ▸ ts))) (is_first x false t && not (any_names x ts)) p in
     let (s, u) = and_parts (is_first x false t) (not (any_names x ts)) q in
     let (a, c) = first_and_others t ts (below (node h ys n (t ▸ ts)) g) in
-    ap (λ d. has_eval (node h ys n (if d then put_first x r t ▸ ts else t ▸ put_among x r ts))) (mentioned x false t s) ∙ over (node h ys n (put_first x r t ▸ ts)) (no_call h l (put_first x r t ▸ ts)) (all_of (put_first x r t) ts (put_there x false r t s (first_along t ts (mentioned x false t s) (and_parts (suits x r h (t ▸ ts)) (suits_among x r (t ▸ ts)) i).1) e a) c)
-  where
-    first_along : (t : Tree) (ts : Trees) → names x t ≡ true → suits_among x r (t ▸ ts) ≡ true → suits_along x r t ≡ true
-    first_along t ts n e = sym (ap (λ c. if c then suits_along x r t else suits_among x r ts) n) ∙ e
+    ap (λ d. has_eval (node h ys n (if d then put_first x r t ▸ ts else t ▸ put_among x r ts))) (mentioned x false t s) ∙ over (node h ys n (put_first x r t ▸ ts)) (no_call h l (put_first x r t ▸ ts)) (all_of (put_first x r t) ts (put_there x false r t s (first_along x r t ts (mentioned x false t s) (and_parts (suits x r h (t ▸ ts)) (suits_among x r (t ▸ ts)) i).1) e a) c)
 
 -- in the first initializer of a declaration
 put_in_initial : (x : Name) (r t : Tree) (i : Initial x t) → suits_along x r i.value ≡ true → has_eval r ≡ false → has_eval t ≡ false → has_eval (put_first x r t) ≡ false
@@ -275,14 +275,22 @@ put_over : (c : Each) (l w a b : Tree) → (has_eval a ≡ false → has_eval b 
 put_over EachIn l w a b h g = over (each_loop EachIn l b w) refl (over_others l a b (w ▸ none) h (below (each_loop EachIn l a w) g))
 put_over EachOf l w a b h g = over (each_loop EachOf l b w) refl (over_others l a b (w ▸ none) h (below (each_loop EachOf l a w) g))
 
-put_there_head : (x : Name) (r t : Tree) → reads_head x t ≡ true → are_passed x r (evaluated t) ≡ true → has_eval r ≡ false → has_eval t ≡ false → has_eval (put_first x r t) ≡ false
-put_there_head x r t f p e g = by (heads x t f)
+seated_along : (x : Name) (r : Tree) (c : Seat) (t : Tree) → names x t ≡ true → suits_along x r (seated c t) ≡ true → suits_along x r t ≡ true
+seated_along x r (Choice cases) t n e = first_along x r t (cases ▸ none) n (and_parts (suits x r shape.SwitchStatement (t ▸ (cases ▸ none))) (suits_among x r (t ▸ (cases ▸ none))) e).1
+seated_along x r (Loop u v w) t n e = first_along x r t (u ▸ (v ▸ (w ▸ none))) n (and_parts (suits x r shape.ForStatement (t ▸ (u ▸ (v ▸ (w ▸ none))))) (suits_among x r (t ▸ (u ▸ (v ▸ (w ▸ none))))) e).1
+
+-- in a head in which it may stand
+pub put_along_head : (x : Name) (r t : Tree) → reads_head x t ≡ true → suits_along x r (evaluated t) ≡ true → has_eval r ≡ false → has_eval t ≡ false → has_eval (put_first x r t) ≡ false
+put_along_head x r t f p e g = by (heads x t f)
   where
     by : Heads x t → has_eval (put_first x r t) ≡ false
-    by (inl (o, q)) = put_in_head x r t o (passed_along x false r t (sym (ap (are_passed x r) q) ∙ p)) e g
-    by (inr (inl i)) = put_in_initial x r t i (passed_along x false r i.value (sym (ap (are_passed x r) i.evaluates) ∙ p)) e g
-    by (inr (inr (inr i))) = ap has_eval (i.puts r) ∙ put_over i.kind i.left i.body i.value (put_first x r i.value) (put_there x false r i.value i.once (passed_along x false r i.value (sym (ap (are_passed x r) i.evaluates) ∙ p)) e) (sym (ap has_eval i.is) ∙ g)
-    by (inr (inr (inl i))) = ap has_eval (i.puts r) ∙ put_outside i.seat i.value (put_first x r i.value) (put_there x false r i.value i.once (passed_along x false r i.value (i.passed r (sym (ap (are_passed x r) i.evaluates) ∙ p))) e) (sym (ap has_eval i.is) ∙ g)
+    by (inl (o, q)) = put_in_head x r t o (sym (ap (suits_along x r) q) ∙ p) e g
+    by (inr (inl i)) = put_in_initial x r t i (sym (ap (suits_along x r) i.evaluates) ∙ p) e g
+    by (inr (inr (inr i))) = ap has_eval (i.puts r) ∙ put_over i.kind i.left i.body i.value (put_first x r i.value) (put_there x false r i.value i.once (sym (ap (suits_along x r) i.evaluates) ∙ p) e) (sym (ap has_eval i.is) ∙ g)
+    by (inr (inr (inl i))) = ap has_eval (i.puts r) ∙ put_outside i.seat i.value (put_first x r i.value) (put_there x false r i.value i.once (seated_along x r i.seat i.value (mentioned x false i.value i.once) (sym (ap (suits_along x r) (i.evaluates ∙ i.is)) ∙ p)) e) (sym (ap has_eval i.is) ∙ g)
+
+put_there_head : (x : Name) (r t : Tree) → reads_head x t ≡ true → are_passed x r (evaluated t) ≡ true → has_eval r ≡ false → has_eval t ≡ false → has_eval (put_first x r t) ≡ false
+put_there_head x r t f p e g = put_along_head x r t f (passed_along x false r (evaluated t) p) e g
 
 -- ---- a declaration whose declarator has another tree in what it reads first
 

@@ -664,16 +664,16 @@ pub fn remove_unused_in_function(
     changed
 }
 
-// A module with its statements.
-fn is_module(node: &Node) -> bool
+/// A module with its statements.
+pub fn is_module(node: &Node) -> bool
     ensures kind { result ≡ row.is_module node.now }
     ensures parts { result ≡ true → count (children node.now) ≡ 1 }
 {
     matches!(node.shape(), Shape::Program(true, _)) && node.is_bare(1) && is_listed(node.child(0))
 }
 
-// A static block with its statements.
-fn is_static_block(node: &Node) -> bool
+/// A static block with its statements.
+pub fn is_static_block(node: &Node) -> bool
     ensures kind { result ≡ row.is_static_block node.now }
     ensures parts { result ≡ true → count (children node.now) ≡ 1 }
 {

@@ -22,8 +22,8 @@ pub use bodies::{remove_inside_arrow, remove_inside_function, remove_inside_modu
 pub use catches::{SubstituteCatches, substitute_catch_clause};
 pub use declarations::{
     RemoveUnusedDeclarations, declares_list, declares_name, has_statements, is_function,
-    is_lexical, put_child, remove_unused_declaration, remove_unused_in_arrow,
-    remove_unused_in_function, remove_unused_in_module, take_child,
+    is_lexical, is_module, is_static_block, put_child, remove_unused_declaration,
+    remove_unused_in_arrow, remove_unused_in_function, remove_unused_in_module, take_child,
 };
 pub use evals::{either_has_eval, has_eval};
 pub use inside::RemoveInside;
@@ -31,7 +31,8 @@ pub use mentions::{is_mentioned, is_mentioned_before, is_mentioned_from};
 pub use names::{RemoveUnusedNames, remove_unused_name};
 pub use next_uses::{is_declarator, is_mentioned_beside, is_mentioned_elsewhere, substitute_next};
 pub use single_uses::{
-    is_constant, is_declared_over, is_first, is_mentioned_around, last_declarator, may_go_on,
-    may_move, reads_first, substitute_in_list, substitute_single_uses, suits,
+    evaluated, is_childless, is_constant, is_declared_over, is_first, is_mentioned_around,
+    last_declarator, may_go_on, may_move, reads_head, substitute_in_list, substitute_single_uses,
+    suits,
 };
 pub use sweeping::{declarators_at, has_next};

@@ -166,7 +166,8 @@ fn reads(name: &Name, node: &Node) -> bool
     is_identifier(node) && has_symbol_of(name, node.name())
 }
 
-fn is_childless(node: &Node) -> bool
+/// Nothing stands in it.
+pub fn is_childless(node: &Node) -> bool
     ensures value { result ≡ reading.is_childless node.now }
     ensures some { result ≡ false → 0 < count (children node.now) }
 {
@@ -635,8 +636,8 @@ fn reads_over(name: &Name, node: &Node) -> bool
         && !is_mentioned_from(name, node.children(), 2)
 }
 
-// What may stand right after the declaration.
-fn reads_head(name: &Name, node: &Node) -> bool
+/// What may stand right after the declaration.
+pub fn reads_head(name: &Name, node: &Node) -> bool
     ensures { result ≡ reading.reads_head name.now node.now }
 {
     reads_first(name, node)
