@@ -248,12 +248,13 @@ const LEXICAL: AnyCode<LexicalNames> = Then {
 
 type OwnRules = Then<AnyCode<SteadyMembers>, AnyCode<LexicalNames>>;
 
-// Rules of names that are read once or not at all.
+// Rules of names that are read once past others.
 type Past = Then<
     Then<SubstitutePast, SubstitutePastArrows>,
     Then<SubstitutePastModules, SubstitutePastStatics>,
 >;
 
+// Of names that are read once or not at all.
 type Once = Then<Past, RemoveInside>;
 
 const STEADY_RULES: Then<OwnRules, Once> = Then {
