@@ -31,10 +31,12 @@ use Rattle.mini_logic.proofs.Joined as logic
 use Rattle.mini_syntax.specs.SubstituteReturnStatement as returns
 use Rattle.mini_switch.specs.MinimizeSwitchStatements as switch
 use Rattle.mini_rows.proofs.OwnArrowLawful.{steady_code_lawful, lexical_code_lawful}
+use Rattle.mini_rows.proofs.OwnPartLawful.{steady_parts_lawful, lexical_parts_lawful}
 use Rattle.mini_rows.proofs.OwnProgramLawful.{steady_programs_lawful, lexical_programs_lawful}
 use Rattle.mini_rows.proofs.InsideLawful.{inside_loose}
 use Rattle.mini_rows.specs.Inside.{InsideContracts}
 use Rattle.mini_rows.specs.OwnArrows.{SteadyCode, LexicalCode}
+use Rattle.mini_rows.specs.OwnParts.{SteadyPart, LexicalPart}
 use Rattle.mini_rows.specs.OwnPrograms.{SteadyProgram, LexicalProgram}
 use Rattle.mini_rows.specs.Past.{PastFunction}
 use Rattle.mini_rows.specs.PastArrows.{PastArrow}
@@ -214,8 +216,12 @@ module _ (o : CompressOptions) (v : Tree) where
       rooted_wider (SteadyGives o q) K W W T (steady_in v) (λ x h. h) (λ b. within_through (told_in q b) (told_in v b) (steady_in v b) (k b) (told_within v b))
       (rooted_join (Either (AnyCode SteadyRow T) (AnyCode LexicalRows T)) (Either (Either Past Others) (InsideContracts W)) K W T
       (rooted_join (AnyCode SteadyRow T) (AnyCode LexicalRows T) K W T
+      (rooted_join (Either (SteadyCode T) (SteadyProgram T)) (SteadyPart T) K W T
       (rooted_join (SteadyCode T) (SteadyProgram T) K W T (steady_is_rooted (SteadyCode T) K W T (steady_code_lawful K W T)) (steady_programs_lawful K W T))
-      (rooted_join (LexicalCode T) (LexicalProgram T) K W T (steady_is_rooted (LexicalCode T) K W T (lexical_code_lawful K W T)) (lexical_programs_lawful K W T)))
+      (steady_parts_lawful K W T))
+      (rooted_join (Either (LexicalCode T) (LexicalProgram T)) (LexicalPart T) K W T
+      (rooted_join (LexicalCode T) (LexicalProgram T) K W T (steady_is_rooted (LexicalCode T) K W T (lexical_code_lawful K W T)) (lexical_programs_lawful K W T))
+      (lexical_parts_lawful K W T)))
       (rooted_join (Either Past Others) (InsideContracts W) K W T
       (rooted_join Past Others K W T (steady_is_rooted Past K W T (past_code_lawful K W T)) (rooted_join (PastModule T W) (PastStatic T W) K W T (past_modules_are_lawful K W T) (past_statics_are_lawful K W T)))
       (steady_is_rooted (InsideContracts W) K W T (loose_is_steady (InsideContracts W) K W T (inside_loose K W)))))

@@ -1,5 +1,5 @@
 -- Which rows rest on what is known of the bodies of a program, S, where the variables W can be written: those of the own code of functions, of
--- arrow functions and of the program itself, over what keeps its value and over lexical names that no event shows, those of a name of a
+-- arrow functions, of the program itself, of static blocks and of inner expressions, over what keeps its value and over lexical names that no event shows, those of a name of a
 -- function, an arrow function, a module or a static block that is read once, and those of a `var` further inside its body, where the variables W can be written.
 use Rattle.mini_model.specs.declared.place.Position.{Position}
 use Rattle.mini_model.specs.declared.place.Position.TheVariants.{Elsewhere}
@@ -10,6 +10,7 @@ use Rattle.mini_laws.specs.Value.{VariableSet}
 use Rattle.mini_laws.specs.Writable.{writable_in}
 use Rattle.mini_rows.specs.Inside.{InsideContracts}
 use Rattle.mini_rows.specs.OwnArrows.{OwnCode}
+use Rattle.mini_rows.specs.OwnParts.{OwnPart}
 use Rattle.mini_rows.specs.OwnPrograms.{OwnProgram}
 use Rattle.mini_rows.specs.Past.{PastFunction}
 use Rattle.mini_rows.specs.PastArrows.{PastArrow}
@@ -19,6 +20,7 @@ use Rattle.mini_rows.specs.Steady.{OwnRows, SteadyRow, LexicalRows}
 use Rattle.mini_tree.specs.Rule.{Either, Both}
 use Rattle.mini_steady.specs.Arrows.{ArrowRests}
 use Rattle.mini_steady.specs.Functions.{Rests}
+use Rattle.mini_steady.specs.Parts.{PartRests}
 use Rattle.mini_steady.specs.Programs.{ProgramRests}
 use Rattle.mini_steady.specs.Told.{told_in}
 use Rattle.mini_past.specs.SubstitutePast.{RestsPast, RestsPastArrow, RestsPastModule, RestsPastStatic}
@@ -26,7 +28,7 @@ use Rattle.mini_unused.specs.Further.{RestsInside}
 
 -- rows of a family in the own code of whatever has a body
 abbrev pub AnyCode : OwnRows → BodySets → Position → Tree → Tree → Type 0
-AnyCode F S = Either (OwnCode F S) (OwnProgram F S)
+AnyCode F S = Either (Either (OwnCode F S) (OwnProgram F S)) (OwnPart F S)
 
 -- 71 past names that keep their value, of whatever has a body
 abbrev pub PastCode : BodySets → VariableSet → Position → Tree → Tree → Type 0
@@ -37,7 +39,7 @@ SteadyRewrites S W = Either (Either (AnyCode SteadyRow S) (AnyCode LexicalRows S
 
 -- none of a family reads the own code of it
 abbrev pub CodeRests : OwnRows → BodySets → Position → Tree → Type 0
-CodeRests F S = Both (Both (Rests F S) (ArrowRests F S)) (ProgramRests F S)
+CodeRests F S = Both (Both (Both (Rests F S) (ArrowRests F S)) (ProgramRests F S)) (PartRests F S)
 
 -- none reads a node in its place
 abbrev pub IsSteadilySettled : BodySets → VariableSet → Position → Tree → Type 0

@@ -28,7 +28,7 @@ use mini_passes::{SteadyPasses, run_steady_passes};
 use mini_past::{
     SubstitutePast, SubstitutePastArrows, SubstitutePastModules, SubstitutePastStatics,
 };
-use mini_steady::{InArrows, InFunctions, InPrograms, SteadyMembers};
+use mini_steady::{InArrows, InFunctions, InParts, InPrograms, SteadyMembers};
 use mini_stmt::{JoinLets, MinimizeStatements, TurnLoopGuards};
 use mini_switch::MinimizeSwitches;
 use mini_syntax::{
@@ -216,32 +216,42 @@ const RULES: Then<Keeping, Naming> = Then {
 };
 
 // And those that rest on what is known of bodies, which act where no other does.
-type AnyCode<W> = Then<Then<InFunctions<W>, InArrows<W>>, InPrograms<W>>;
+type AnyCode<W> = Then<Then<Then<InFunctions<W>, InArrows<W>>, InPrograms<W>>, InParts<W>>;
 
 const MEMBERS: AnyCode<SteadyMembers> = Then {
     first: Then {
-        first: InFunctions {
-            rewrites: SteadyMembers,
+        first: Then {
+            first: InFunctions {
+                rewrites: SteadyMembers,
+            },
+            second: InArrows {
+                rewrites: SteadyMembers,
+            },
         },
-        second: InArrows {
+        second: InPrograms {
             rewrites: SteadyMembers,
         },
     },
-    second: InPrograms {
+    second: InParts {
         rewrites: SteadyMembers,
     },
 };
 
 const LEXICAL: AnyCode<LexicalNames> = Then {
     first: Then {
-        first: InFunctions {
-            rewrites: LexicalNames,
+        first: Then {
+            first: InFunctions {
+                rewrites: LexicalNames,
+            },
+            second: InArrows {
+                rewrites: LexicalNames,
+            },
         },
-        second: InArrows {
+        second: InPrograms {
             rewrites: LexicalNames,
         },
     },
-    second: InPrograms {
+    second: InParts {
         rewrites: LexicalNames,
     },
 };

@@ -6,3 +6,4 @@ pub mod Owning
 pub mod FunctionSteps
 pub mod ArrowSteps
 pub mod ProgramSteps
+pub mod PartSteps

@@ -5,6 +5,7 @@ pub mod Members
 pub mod Functions
 pub mod Arrows
 pub mod Programs
+pub mod Parts
 pub mod Lighter
 pub mod Told
 pub mod Telling

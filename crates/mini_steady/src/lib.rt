@@ -1,5 +1,5 @@
-//! Rewrites that rest on what is known of a body, as that names are steady: in the own code of each function and of the program, over what tells
-//! that, by rows of any family.
+//! Rewrites that rest on what is known of a body, as that names are steady: in the own code of each function, of the program, of static blocks and
+//! of inner expressions, over what tells that, by rows of any family.
 #![tactic(auto)]
 
 mod arrows;
@@ -9,6 +9,7 @@ mod laws;
 mod leaving;
 mod members;
 mod own;
+mod parts;
 mod programs;
 mod rule;
 mod steady;
@@ -20,7 +21,8 @@ pub use functions::minimize_in_function;
 pub use laws::{members_are_rows, told_stays};
 pub use members::{SteadyMembers, minimize_members};
 pub use own::{OwnRewrites, minimize_own_code};
+pub use parts::minimize_in_part;
 pub use programs::minimize_in_program;
-pub use rule::{InArrows, InFunctions, InPrograms, SteadyContext};
+pub use rule::{InArrows, InFunctions, InParts, InPrograms, SteadyContext};
 pub use steady::SteadyNames;
 pub use writing::writes;

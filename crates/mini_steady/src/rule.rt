@@ -10,11 +10,14 @@ ghost use Rattle.mini_steady.specs.Functions.{Rests, holds_function as may_hold_
 ghost use Rattle.mini_steady.specs.Arrows.{holds_arrow as may_hold_arrow, ArrowRests};
 ghost use Rattle.mini_rows.specs.OwnPrograms.{OwnProgram};
 ghost use Rattle.mini_steady.specs.Programs.{holds_program as may_hold_program, ProgramRests};
-ghost use Rattle.mini_steady.specs.Lighter.{arrow_lighter, function_lighter, program_lighter};
+ghost use Rattle.mini_rows.specs.OwnParts.{OwnPart};
+ghost use Rattle.mini_steady.specs.Parts.{PartRests};
+ghost use Rattle.mini_steady.specs.Lighter.{arrow_lighter, function_lighter, part_lighter, program_lighter};
 
 use crate::arrows::minimize_in_arrow;
 use crate::functions::minimize_in_function;
 use crate::own::OwnRewrites;
+use crate::parts::minimize_in_part;
 use crate::programs::minimize_in_program;
 use crate::steady::SteadyNames;
 use mini_context::TraverseCtx;
@@ -143,5 +146,29 @@ impl<C: SteadyContext, W: OwnRewrites<C>> Rule<C> for InPrograms<W> {
             return Ok(false);
         }
         Ok(minimize_in_program(alloc, node, &*context, &self.rewrites)?)
+    }
+}
+
+/// The same of static blocks and of inner expressions, as the values of fields, wherever they stand.
+pub struct InParts<W> {
+    /// Whose rows they are.
+    pub rewrites: W,
+}
+
+impl<C: SteadyContext, W: OwnRewrites<C>> Rule<C> for InParts<W> {
+    ghost gives = { λ o q. OwnPart W.rows (C.steady q) };
+
+    ghost rests = { λ o q. PartRests W.rows (C.steady q) };
+
+    ghost lighter = { λ o q. part_lighter W.rows W.keeps (C.steady q) };
+
+    fn apply(
+        &self,
+        alloc: Global,
+        node: &mut Node,
+        place: Position,
+        context: &mut C,
+    ) -> Result<bool, OutOfMemory> {
+        Ok(minimize_in_part(alloc, node, place, &*context, &self.rewrites)?)
     }
 }

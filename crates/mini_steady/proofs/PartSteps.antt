@@ -1,0 +1,84 @@
+-- What is done in what a static block or an inner expression holds is done in it.
+use Rattle.std.proofs.Common.{◌≡◌, ℕ, Bool, true, false, [], refl, sym, ap, ◌∙◌, subst, inl, inr, arith}
+use Rattle.std.proofs.lemmas.Bool.{eqb-true, false≢true}
+use Rattle.std.specs.Prelude.{◌⊎◌}
+use Rattle.mini_kept.specs.Without.{BodySets}
+use Rattle.mini_model.specs.declared.place.Position.{Position}
+use Rattle.mini_model.specs.declared.place.Position.TheVariants.{StatementList}
+use Rattle.mini_model.specs.declared.shape.Shape.TheVariants as shape
+use Rattle.mini_model.specs.Tree.{Tree, Trees, node, none, ◌▸◌, count, children, child_or_absent, shape_of}
+use Rattle.mini_model.specs.Position.{child_position}
+use Rattle.mini_node.specs.Children.{part, number_of, with_child}
+use Rattle.mini_node.specs.Lends.{with_children}
+use Rattle.mini_rows.specs.OwnParts.{block_over, inner_over, OwnPart}
+use Rattle.mini_rows.specs.Steady.{OwnRows, OwnStep}
+use Rattle.mini_tree.specs.Rule.{Moves, Applied}
+use Rattle.mini_tree.proofs.Reaching.{moves_once, moves_trans}
+use Rattle.mini_steady.specs.Chains.{Several, once, again}
+use Rattle.mini_steady.specs.Own.{OwnWalked, OwnRests}
+use Rattle.mini_steady.specs.Parts.{is_part, AppliedInPart, PartRests}
+use Rattle.mini_steady.proofs.Owning.{several_over}
+
+-- where what it holds stands
+abbrev within : Position → Tree → Position
+within p t = child_position (shape_of t) p 1 0
+
+module _ (F : OwnRows) (S : BodySets) (p : Position) (k : ℕ) where
+  block_step : (t u : Tree) → OwnStep (F (S k)) StatementList t u → OwnPart F S p (block_over k t) (block_over k u)
+  block_step t u s = inl (record { number = k; before = t; after = u; step = s; shape = refl; written = refl })
+
+  inner_step : (t u : Tree) → OwnStep (F (S k)) p t u → OwnPart F S p (inner_over k t) (inner_over k u)
+  inner_step t u s = inr (record { number = k; before = t; after = u; step = s; shape = refl; written = refl })
+
+  block_rests : (t : Tree) → OwnRests (F (S k)) StatementList t → PartRests F S p (block_over k t)
+  block_rests t rests w (inl r) = rests r.after (subst (λ z. OwnStep (F (S k)) StatementList z r.after) (sym (ap (λ z. part z 0) r.shape)) (subst (λ n. OwnStep (F (S n)) StatementList r.before r.after) (sym (ap number_of r.shape)) r.step))
+  block_rests t rests w (inr r) = cc (ap shape_of r.shape)
+
+  inner_rests : (t : Tree) → OwnRests (F (S k)) p t → PartRests F S p (inner_over k t)
+  inner_rests t rests w (inl r) = cc (ap shape_of r.shape)
+  inner_rests t rests w (inr r) = rests r.after (subst (λ z. OwnStep (F (S k)) p z r.after) (sym (ap (λ z. part z 0) r.shape)) (subst (λ n. OwnStep (F (S n)) p r.before r.after) (sym (ap number_of r.shape)) r.step))
+
+  block_walked : (t u : Tree) (b : Bool) → OwnWalked (F (S k)) StatementList t u b → AppliedInPart F S p (block_over k t) (block_over k u) b
+  block_walked t u true s = several_over (OwnStep (F (S k)) StatementList) (OwnPart F S p) (block_over k) block_step t u s
+  block_walked t u false (e, rests) = (ap (block_over k) e, block_rests t rests)
+
+  inner_walked : (t u : Tree) (b : Bool) → OwnWalked (F (S k)) p t u b → AppliedInPart F S p (inner_over k t) (inner_over k u) b
+  inner_walked t u true s = several_over (OwnStep (F (S k)) p) (OwnPart F S p) (inner_over k) inner_step t u s
+  inner_walked t u false (e, rests) = (ap (inner_over k) e, inner_rests t rests)
+
+-- it has one part
+
+one : (ts : Trees) → count ts ≡ 1 → ts ≡ child_or_absent ts 0 ▸ none
+one none e = absurd (omega (arith, e))
+one (a ▸ none) e = refl
+one (a ▸ (b ▸ ts)) e = absurd (omega (arith, e))
+
+part_is : (t : Tree) → is_part t ≡ true → (t ≡ block_over (number_of t) (part t 0)) ⊎ (t ≡ inner_over (number_of t) (part t 0))
+part_is (node shape.StaticBlock [] n ts) e = inl (ap (node shape.StaticBlock [] n) (one ts (eqb-true (count ts) 1 e)))
+part_is (node shape.InnerExpression [] n ts) e = inr (ap (node shape.InnerExpression [] n) (one ts (eqb-true (count ts) 1 e)))
+part_is t e = absurd (false≢true e)
+
+walked_over : (F : OwnRows) (S : BodySets) (p : Position) (t u : Tree) (b : Bool) → (t ≡ block_over (number_of t) (part t 0)) ⊎ (t ≡ inner_over (number_of t) (part t 0)) → OwnWalked (F (S (number_of t))) (within p t) (part t 0) u b → AppliedInPart F S p t (with_children t (with_child (children t) 0 u)) b
+walked_over F S p t u b (inl e) s =
+    subst (λ z. AppliedInPart F S p z (with_children z (with_child (children z) 0 u)) b) (sym e)
+    (block_walked F S p (number_of t) (part t 0) u b (subst (λ z. OwnWalked (F (S (number_of t))) (within p z) (part t 0) u b) e s))
+walked_over F S p t u b (inr e) s =
+    subst (λ z. AppliedInPart F S p z (with_children z (with_child (children z) 0 u)) b) (sym e)
+    (inner_walked F S p (number_of t) (part t 0) u b (subst (λ z. OwnWalked (F (S (number_of t))) (within p z) (part t 0) u b) e s))
+
+pub walked_part : (F : OwnRows) (S : BodySets) (p : Position) (t u x : Tree) (q : Position) (k : ℕ) (ts : Trees) (b : Bool) → is_part t ≡ true → q ≡ child_position (shape_of t) p 1 0 → k ≡ number_of t → ts ≡ children t → x ≡ child_or_absent ts 0 → OwnWalked (F (S k)) q x u b → AppliedInPart F S p t (with_children t (with_child ts 0 u)) b
+walked_part F S p t u x q k ts b f stands e these child s =
+    let placed = subst (λ q. OwnWalked (F (S k)) q x u b) stands s in
+    let numbered = subst (λ i. OwnWalked (F (S i)) (within p t) x u b) e placed in
+    let inside = subst (λ z. OwnWalked (F (S (number_of t))) (within p t) z u b) (child ∙ ap (λ vs. child_or_absent vs 0) these) numbered in
+    subst (λ vs. AppliedInPart F S p t (with_children t (with_child vs 0 u)) b) (sym these) (walked_over F S p t u b (part_is t f) inside)
+
+-- ---- as steps of the rule
+
+moves : (F : OwnRows) (S : BodySets) (p : Position) (t u : Tree) → Several (OwnPart F S p) t u → Moves (OwnPart F S) p t u
+moves F S p _ _ (once t u r) = moves_once (OwnPart F S) p t u r
+moves F S p _ _ (again t u v s r) = moves_trans (OwnPart F S) (moves F S p t u s) (moves_once (OwnPart F S) p u v r)
+
+pub part_applied : (F : OwnRows) (S : BodySets) (p : Position) (t u : Tree) (b : Bool) → AppliedInPart F S p t u b → Applied (OwnPart F S) (PartRests F S) p t u b
+part_applied F S p t u true s = moves F S p t u s
+part_applied F S p t u false (same, f) = (same, f)

@@ -1,0 +1,13 @@
+use Rattle.std.proofs.Common.{subst}
+use Rattle.mini_rows.specs.OwnParts.{OwnPart}
+use Rattle.mini_tree.specs.Rule.{Applied}
+use Rattle.mini_steady.specs.Parts.{PartRests}
+use Rattle.mini_steady.proofs.PartSteps.{part_applied}
+use Rattle.mini_steady.proofs.rule.InPartsRule.apply.Goals as goal
+
+pub returns-clause-applied : goal.returns-clause-applied
+returns-clause-applied g c = λ o q k.
+    let made = c.in_ok-minimize_in_part in
+    let F = g.W.OwnRewrites.rows in
+    subst (λ S. Applied (OwnPart F S) (PartRests F S) c.args.place c.args.node.now c.minimize_in_part.new.node made.field-0) (g.met.C.SteadyContext.told c.args.context.now o q k)
+    (part_applied F (g.C.SteadyNames.sets c.args.context.now) c.args.place c.args.node.now c.minimize_in_part.new.node made.field-0 made.ensures)
