@@ -37,7 +37,7 @@ use Rattle.mini_rows.proofs.SpellWeights.{falls_by}
 -- ---- what is assigned to
 
 -- it is known, with nothing done besides
-abbrev target : Environment → Tree → State → Completion Reference
+abbrev pub target : Environment → Tree → State → Completion Reference
 target e t s = means e t Target Prepare s
 
 told_next : {A B : Type 0} (y : Completion A) (s : State) → Told y s → (f : A → State → Completion B) → ((a : A) → Told (f a s) s) → Told (next y f) s
@@ -49,7 +49,7 @@ told_next y s (inr (a, k)) f g = by (g a)
     by (inl o) = inl (ap (λ x. next x f) k ∙ o)
     by (inr (b, m)) = inr (b, ap (λ x. next x f) k ∙ m)
 
-member_target : (f k : Tree) (e : Environment) (s : State) → target e (computed_member f k) s ≡ next (value e f s) (λ v z. next (value e k z) (λ u y. ok (AMember v (key_value u)) y))
+pub member_target : (f k : Tree) (e : Environment) (s : State) → target e (computed_member f k) s ≡ next (value e f s) (λ v z. next (value e k z) (λ u y. ok (AMember v (key_value u)) y))
 unfolding means meaning step
 member_target f k e s = either_cong (value e f s) _ _ _ _ (λ v z. either_cong (value e k z) _ _ _ _ (λ u y. refl) (λ x y. refl)) (λ x z. refl)
 
@@ -60,10 +60,10 @@ target_told x k h e s =
 
 -- ---- the assignment
 
-abbrev puts_to : Environment → Tree → Reference → Completion Value → Completion Value
+abbrev pub puts_to : Environment → Tree → Reference → Completion Value → Completion Value
 puts_to e t r y = next y (λ v z. next (means e t Target (Put r v) z) (λ u k. ok v k))
 
-assigned_value : (e : Environment) (t b : Tree) (s : State) → value e (assignment Assign t b) s ≡ next (target e t s) (λ r z. puts_to e t r (value e b z))
+pub assigned_value : (e : Environment) (t b : Tree) (s : State) → value e (assignment Assign t b) s ≡ next (target e t s) (λ r z. puts_to e t r (value e b z))
 unfolding means meaning step
 assigned_value e t b s = either_cong (target e t s) _ _ _ _ (λ r z. either_cong (value e b z) _ _ _ _ (λ v y. either_cong (means e t Target (Put r v) y) _ _ _ _ (λ u k. refl) (λ x k. refl)) (λ x y. refl)) (λ x z. refl)
 
@@ -117,7 +117,7 @@ indexed_kept q n w r =
 
 -- ---- lighter: a member and its `=` go
 
-indexed_falls : (s : Seat) → nat_eq s.level conditional_level ≡ false → (t a b c : Tree) → weight (Expr s) (assignment Assign t (conditional a b c)) < weight (Expr s) (conditional a (assignment Assign t b) (assignment Assign t c))
+pub indexed_falls : (s : Seat) → nat_eq s.level conditional_level ≡ false → (t a b c : Tree) → weight (Expr s) (assignment Assign t (conditional a b c)) < weight (Expr s) (conditional a (assignment Assign t b) (assignment Assign t c))
 indexed_falls s e t a b c =
     let marks = loose_marks s Assign (outlines (t ▸ conditional a b c ▸ none)) (outlines (a ▸ assignment Assign t b ▸ assignment Assign t c ▸ none)) e in
     let first = placed 0 (branch_seat argument_seat) argument_seat refl (λ h os. omega arith) b in

@@ -24,7 +24,7 @@ use Rattle.mini_kept.specs.AlikeBodies.{BodiesKept}
 use Rattle.mini_kept.specs.Frames.{frames, FramesKept}
 use Rattle.mini_kept.proofs.BodyLists.{kept_itself}
 use Rattle.mini_kept.proofs.FrameLists.{same_frames}
-use Rattle.mini_rows.specs.Steady.{LexicalKeepsOwn}
+use Rattle.mini_rows.specs.Steady.{LexicalRows, LexicalKeepsOwn, ReadsMore}
 use Rattle.mini_rows.specs.Lexical.{is_of, is_of_by, is_of_outside, all_pass, are_held, LexicalStatement, LexicalRow, LexicalLightens}
 use Rattle.mini_rows.specs.Loops.{before}
 use Rattle.mini_rows.specs.Unused.{names}
@@ -132,7 +132,7 @@ arrow_kinds V n w (inr r) = ap (λ t. arrow_kind (shape_of t)) r.shape ∙ sym (
 
 pub lexical_own : LexicalKeepsOwn
 lexical_own V = record {
-  means = λ e z p n w r q f. lexical_same V.unshared p n w r e z.unshared q f;
+  means = λ e z p n w r q f y s t g i. lexical_same V.unshared p n w r e z.unshared q f y s t g;
   reads = at_place V.unshared (λ p n w. summary n ≡ summary w) (λ q. statement_reads V.unshared);
   kind = at_place V.unshared (λ p n w. arrow_kind (shape_of n) ≡ arrow_kind (shape_of w)) (λ q. arrow_kinds V.unshared);
   shapes = kinds_shapes (LexicalRow V.unshared) (lexical_kind V.unshared);
@@ -147,3 +147,7 @@ lexical_own V = record {
   frames = at_place V.unshared (λ p n w. (k : Option PropertyKind) → FramesKept (frames k n) (frames k w)) (λ q. statement_frames V.unshared);
   lightens = lexical_lightens V.unshared;
 }
+
+-- they ask of no variable that it has a value
+pub lexical_more : ReadsMore LexicalRows
+lexical_more V X holds p n w r = r

@@ -25,29 +25,32 @@ use Rattle.mini_laws.specs.State.{Environment}
 use Rattle.mini_laws.specs.Value.{nothing}
 use Rattle.mini_kept.specs.Frames.{frames, frames_from, property_below}
 use Rattle.mini_kept.specs.Without.{Assured, Steadies}
+use Rattle.mini_laws.proofs.Congruent.{weaker, no_within}
+use Rattle.mini_laws.proofs.Simulation.{within_refl}
 use Rattle.mini_kept.proofs.Expressions.{expression, of_conditional, expression_taken, three_fit}
 use Rattle.mini_rows.specs.Arranged.{KeptAt, Vanishes}
 use Rattle.mini_rows.specs.Choices.{Key, Named, Spelled, Numbered, member_on, computing, deciding, keeps_parentheses}
 use Rattle.mini_rows.specs.Lists.{sequence}
-use Rattle.mini_rows.specs.Members.{this, Object, OfThis, OfName, object, is_kept, are_left, is_ready, MemberRow}
+use Rattle.mini_rows.specs.Members.{this, Object, OfThis, OfName, object, is_kept, are_left, is_ready, Index, Written, Held, member_at, is_kept_index, is_ready_index, MemberRow}
 use Rattle.mini_rows.specs.Sketches.{Logical, Binary, Conditional, Sequence, Sketch, part, under, end, ◌▹◌, list, no_items, item, items}
 use Rattle.mini_rows.specs.Spellings.{binary, assignment}
 use Rattle.mini_rows.specs.Unused.{resolved}
 use Rattle.mini_rows.proofs.ArrangedExpressions.{expressions_arranged_freely}
 use Rattle.mini_rows.proofs.ChoiceLawful.{member_reads, member_vanishes, retargeted_tree, first_dropped, assigns_first}
+use Rattle.mini_rows.proofs.ChoiceIndexed.{indexed_fit, indexed_falls}
 use Rattle.mini_rows.proofs.ChoiceMembers.{member_value_same}
 use Rattle.mini_rows.proofs.ChoiceRuns.{conditional_tells, logical_tells, assignment_tells}
 use Rattle.mini_rows.proofs.ChoiceShapes.{choice_taken, of_two, of_member_assignment, member_assignment_fits}
-use Rattle.mini_rows.proofs.ChoiceWeights.{assignment_marks, member_heavy, computing_member_falls, chosen_member_falls, last_falls}
-use Rattle.mini_rows.proofs.MemberRuns.{LeftBy, remains, left_member, left_parts, left_test, test_gone, this_value, member_decides, last_decides, chosen_told}
+use Rattle.mini_rows.proofs.ChoiceWeights.{assignment_marks, member_heavy, computing_member_falls, last_falls}
+use Rattle.mini_rows.proofs.MemberRuns.{LeftBy, remains, left_member, left_parts, this_value, member_decides, last_decides, chosen, settled}
 use Rattle.mini_rows.proofs.SequenceEnds.{last_fits}
 use Rattle.mini_rows.proofs.SpellShapes.{a_logical, a_conditional, an_assignment, Formed}
-use Rattle.mini_rows.proofs.WriteMeaning.{same_there}
+use Rattle.mini_rows.proofs.WriteMeaning.{same_there, same_where}
 
 -- ---- what each row keeps
 
 pub record Keeps (V : Assured) (s : Seat) (n w : Tree) : Type 0 where
-  pub same : (e : Environment) → Steadies V e → (q : Demand) → Same e nothing nothing q n w
+  pub same : (e : Environment) → Steadies V e → (q : Demand) → Same e nothing V.initial q n w
   pub kept : KeptAt (Expr s) n w
   pub formed : Formed n w
   pub fit : (strict : Bool) (c : Slot) → fits strict c n ≡ true → fits strict c w ≡ true
@@ -57,6 +60,10 @@ pub record Keeps (V : Assured) (s : Seat) (n w : Tree) : Type 0 where
   pub read : summary n ≡ summary w
   pub kind : arrow_kind (shape_of n) ≡ arrow_kind (shape_of w)
   pub outlined : outline n ≡ outline w
+
+-- what means the same from any state does from these
+from_any : (V : Assured) (e : Environment) (q : Demand) (n w : Tree) → Same e nothing nothing q n w → Same e nothing V.initial q n w
+from_any V e q n w same = weaker e nothing nothing nothing V.initial (within_refl nothing) (no_within V.initial) q n w same
 
 -- ---- a member of such an object leaves nothing behind
 
@@ -82,6 +89,29 @@ no_frames OfThis (Numbered n) q = refl
 no_frames (OfName spelling k) (Named s) q = refl
 no_frames (OfName spelling k) (Spelled s) q = refl
 no_frames (OfName spelling k) (Numbered n) q = refl
+
+-- and so where its key stands in brackets
+index_vanishes : (of : Object) (j : Index) → Vanishes (member_at (object of) j)
+unfolding has_inner
+index_vanishes of (Written j) = vanishes of j
+index_vanishes OfThis (Held OfThis) = record { inner = refl; fixed = λ y. refl }
+index_vanishes OfThis (Held (OfName s i)) = record { inner = refl; fixed = λ y. refl }
+index_vanishes (OfName spelling k) (Held OfThis) = record { inner = refl; fixed = λ y. refl }
+index_vanishes (OfName spelling k) (Held (OfName s i)) = record { inner = refl; fixed = λ y. refl }
+
+index_bodies : (of : Object) (j : Index) (a : Around) → bodies a (member_at (object of) j) ≡ []
+index_bodies of (Written j) a = no_bodies of j a
+index_bodies OfThis (Held OfThis) a = refl
+index_bodies OfThis (Held (OfName s i)) a = refl
+index_bodies (OfName spelling k) (Held OfThis) a = refl
+index_bodies (OfName spelling k) (Held (OfName s i)) a = refl
+
+index_frames : (of : Object) (j : Index) (q : Option PropertyKind) → frames q (member_at (object of) j) ≡ []
+index_frames of (Written j) q = no_frames of j q
+index_frames OfThis (Held OfThis) q = refl
+index_frames OfThis (Held (OfName s i)) q = refl
+index_frames (OfName spelling k) (Held OfThis) q = refl
+index_frames (OfName spelling k) (Held (OfName s i)) q = refl
 
 -- ---- lists with nothing in some places
 
@@ -141,7 +171,7 @@ module _ (V : Assured) (s : Seat) (of : Object) (j : Key) (o : LogicalOperator) 
 
   deciding_keeps : (b : Tree) → Keeps V s (logical o m (assignment Assign m b)) (assignment (deciding o) m b)
   deciding_keeps b = record {
-    same = λ e z q. same_there e (logical o m (assignment Assign m b)) (assignment (deciding o) m b) (logical_tells o m (assignment Assign m b)) (assignment_tells (deciding o) m b) (member_decides e (object of) (LeftBy of) (remains V e z of known) j (left_member of j) o b) q;
+    same = λ e z q. from_any V e q _ _ (same_there e (logical o m (assignment Assign m b)) (assignment (deciding o) m b) (logical_tells o m (assignment Assign m b)) (assignment_tells (deciding o) m b) (member_decides e (object of) (LeftBy of) (remains V e z of known) j (left_member of j) o b) q);
     kept =
         retargeted_tree (deciding o) m b (member_reads (object of) j) s (logical o m (assignment Assign m b)) (expressions_arranged_freely first_dropped (record { trees = m ▸ b ▸ none; lists = [] }) (tt, tt, (vanishes of j, tt)) (under (Logical o) (part 0 ▹ assigns_first (part 1) ▹ end)) (assigns_first (part 1)) refl s (logical o m (assignment Assign m b)) (assignment Assign m b) refl refl);
     formed = decided_formed (assignment Assign m b) b;
@@ -172,7 +202,7 @@ module _ (V : Assured) (s : Seat) (of : Object) (j : Key) (o : LogicalOperator) 
   last_keeps p ps b left seated =
       let w = sequence (p ▸ append ps (assignment Assign m b ▸ none)) in
       let v = sequence (p ▸ append ps (b ▸ none)) in record {
-        same = λ e z q. same_there e (logical o m w) (assignment (deciding o) m v) (logical_tells o m w) (assignment_tells (deciding o) m v) (last_decides e (object of) (LeftBy of) (remains V e z of known) j (left_member of j) o p ps (left_parts of p ps left) b) q;
+        same = λ e z q. from_any V e q _ _ (same_there e (logical o m w) (assignment (deciding o) m v) (logical_tells o m w) (assignment_tells (deciding o) m v) (last_decides e (object of) (LeftBy of) (remains V e z of known) j (left_member of j) o p ps (left_parts of p ps left) b) q);
         kept = retargeted_tree (deciding o) m v (member_reads (object of) j) s (logical o m w) (expressions_arranged_freely first_dropped (record { trees = m ▸ p ▸ b ▸ none; lists = ps ∷ [] }) (tt, tt, (vanishes of j, tt)) (under (Logical o) (part 0 ▹ in_order (assigns_first (part 2)) ▹ end)) (assigns_first (in_order (part 2))) refl s (logical o m w) (assignment Assign m v) refl refl);
         formed = decided_formed w v;
         fit = decided_fits w v (λ strict e. last_fits strict p ps (assignment Assign m b) e b (λ f. (of_member_assignment strict (object of) j b f).1));
@@ -193,7 +223,7 @@ module _ (V : Assured) (s : Seat) (j : Key) (known : V.has_this ≡ true) where
   computing_keeps : (o : BinaryOperator) (c : AssignmentOperator) (b : Tree) → computing o ≡ Some c → Keeps V s (assignment Assign this_member (binary o this_member b)) (assignment c this_member b)
   computing_keeps o c b computes =
       let n = assignment Assign this_member (binary o this_member b) in record {
-        same = λ e z q. same_there e n (assignment c this_member b) (assignment_tells Assign this_member (binary o this_member b)) (assignment_tells c this_member b) (member_value_same e this (λ y. inr (y.self, this_value e (z.has_this known) y)) o c computes j b) q;
+        same = λ e z q. from_any V e q _ _ (same_there e n (assignment c this_member b) (assignment_tells Assign this_member (binary o this_member b)) (assignment_tells c this_member b) (member_value_same e this (λ y. inr (y.self, this_value e (z.has_this known) y)) o c computes j b) q);
         kept = retargeted_tree c this_member b (member_reads this j) s n (expressions_arranged_freely first_dropped (record { trees = this_member ▸ b ▸ none; lists = [] }) (tt, tt, (vanishes OfThis j, tt)) (assigns_first (under (Binary o) (part 0 ▹ part 1 ▹ end))) (assigns_first (part 1)) refl s n (assignment Assign this_member b) refl refl);
         formed = record { first = an_assignment Assign; second = an_assignment c; parts = this_member ▸ binary o this_member b ▸ none; others = this_member ▸ b ▸ none; read = refl; made = refl; optional = λ x. absurd (cc x) };
         fit = λ strict d e.
@@ -210,26 +240,25 @@ module _ (V : Assured) (s : Seat) (j : Key) (known : V.has_this ≡ true) where
 
 -- ---- 45
 
-module _ (V : Assured) (s : Seat) (of : Object) (j : Key) (known : is_kept V of ≡ true) where
+module _ (V : Assured) (s : Seat) (of : Object) (j : Index) (known : is_kept V of ≡ true) (held : is_kept_index V j ≡ true) where
   abbrev target : Tree
-  target = member_on (object of) j
+  target = member_at (object of) j
 
-  choosing_keeps : (a b c : Tree) → is_ready of a ≡ true → nat_eq s.level conditional_level ≡ false → Keeps V s (conditional a (assignment Assign target b) (assignment Assign target c)) (assignment Assign target (conditional a b c))
-  choosing_keeps a b c ready seated =
+  choosing_keeps : (a b c : Tree) → is_ready V of a ≡ true → is_ready_index V j a ≡ true → nat_eq s.level conditional_level ≡ false → Keeps V s (conditional a (assignment Assign target b) (assignment Assign target c)) (assignment Assign target (conditional a b c))
+  choosing_keeps a b c ready soon seated =
       let yes = assignment Assign target b in
       let no = assignment Assign target c in
       let n = conditional a yes no in
       let w = assignment Assign target (conditional a b c) in record {
-        same = λ e z q. same_there e n w (conditional_tells a yes no) (assignment_tells Assign target (conditional a b c)) (λ y. chosen_told e (object of) (LeftBy of) (remains V e z of known) j a b c (left_test of a ready) y (test_gone V e z of known a ready y)) q;
-        kept = expressions_arranged_freely first_dropped (record { trees = target ▸ a ▸ b ▸ c ▸ none; lists = [] }) (tt, tt, (vanishes of j, tt)) (under Conditional (part 1 ▹ assigns_first (part 2) ▹ assigns_first (part 3) ▹ end)) (assigns_first (under Conditional (part 1 ▹ part 2 ▹ part 3 ▹ end))) refl s n w refl refl;
+        same = λ e z q. same_where e V.initial n w (conditional_tells a yes no) (assignment_tells Assign target (conditional a b c)) (λ y i. chosen e target a b c y (settled V e z a y i of j known held ready soon)) q;
+        kept = expressions_arranged_freely first_dropped (record { trees = target ▸ a ▸ b ▸ c ▸ none; lists = [] }) (tt, tt, (index_vanishes of j, tt)) (under Conditional (part 1 ▹ assigns_first (part 2) ▹ assigns_first (part 3) ▹ end)) (assigns_first (under Conditional (part 1 ▹ part 2 ▹ part 3 ▹ end))) refl s n w refl refl;
         formed = record { first = a_conditional; second = an_assignment Assign; parts = a ▸ yes ▸ no ▸ none; others = target ▸ conditional a b c ▸ none; read = refl; made = refl; optional = λ x. absurd (cc x) };
         fit = λ strict d e.
             let (here, (test, first, second)) = of_conditional strict d a yes no e in
-            let (target, b') = of_member_assignment strict (object of) j b first in
-            expression_taken strict d w here (member_assignment_fits strict Assign (object of) j (conditional a b c) target (three_fit strict a b c test b' (of_member_assignment strict (object of) j c second).1));
-        bodies = λ x. two_go _ _ _ (no_bodies of j _) (no_bodies of j _) (no_bodies of j _) (bodies _ a) (bodies _ b) (bodies _ c);
-        frames = λ k. two_go _ _ _ (no_frames of j _) (no_frames of j _) (no_frames of j _) (frames _ a) (frames _ b) (frames _ c);
-        lighter = chosen_member_falls s seated a (object of) j b c;
+            expression_taken strict d w here (indexed_fit strict target a b c test first second);
+        bodies = λ x. two_go _ _ _ (index_bodies of j _) (index_bodies of j _) (index_bodies of j _) (bodies _ a) (bodies _ b) (bodies _ c);
+        frames = λ k. two_go _ _ _ (index_frames of j _) (index_frames of j _) (index_frames of j _) (frames _ a) (frames _ b) (frames _ c);
+        lighter = indexed_falls s seated target a b c;
         read = refl;
         kind = refl;
         outlined = refl;
@@ -241,4 +270,4 @@ pub keeps : (V : Assured) (s : Seat) (n w : Tree) → MemberRow V s n w → Keep
 keeps V s n w (inl r) = subst₂ (Keeps V s) (sym r.shape) (sym r.written) (deciding_keeps V s r.of r.key r.operator r.kept r.b)
 keeps V s n w (inr (inl r)) = subst₂ (Keeps V s) (sym r.shape) (sym r.written) (last_keeps V s r.of r.key r.operator r.kept r.first r.others r.b r.left r.seated)
 keeps V s n w (inr (inr (inl r))) = subst₂ (Keeps V s) (sym r.shape) (sym r.written) (computing_keeps V s r.key r.kept r.operator r.combined r.b r.computes)
-keeps V s n w (inr (inr (inr r))) = subst₂ (Keeps V s) (sym r.shape) (sym r.written) (choosing_keeps V s r.of r.key r.kept r.a r.b r.c r.ready r.seated)
+keeps V s n w (inr (inr (inr r))) = subst₂ (Keeps V s) (sym r.shape) (sym r.written) (choosing_keeps V s r.of r.index r.kept r.held r.a r.b r.c r.ready r.soon r.seated)

@@ -35,7 +35,7 @@ use Rattle.mini_kept.specs.KeepsShapes.{AskedAlike}
 use Rattle.mini_kept.specs.Lifted.{is_piece, KeepsRoot}
 use Rattle.mini_kept.specs.Loosely.{SteadiesWith, LawfulUnder}
 use Rattle.mini_kept.specs.Placed.{is_statement_list, fits_place}
-use Rattle.mini_kept.specs.Without.{Assured, BodySets, Steadies, BodiesUnder}
+use Rattle.mini_kept.specs.Without.{Assured, BodySets, Steadies, Begins, BodiesUnder}
 use Rattle.mini_kept.proofs.FixedSteps.{fixed_anyway}
 use Rattle.mini_kept.proofs.Declared.{reaches_declared}
 use Rattle.mini_kept.proofs.Expressions.{TakesExpressionIn, TakesExpression, refused_here}
@@ -47,11 +47,11 @@ use Rattle.mini_kept.proofs.Stepping.{step_keeps}
 use Rattle.mini_kept.proofs.Steps.{any_step_fits}
 use Rattle.mini_kept.proofs.WithoutLists.{each_under, itself_under}
 use Rattle.mini_kept.proofs.FrameLists.{each_of as each_frame}
-use Rattle.mini_rows.specs.Steady.{KeepsOwn, OwnRows, OwnStep, own_here, own_inside, OwnFunction, SteadyRow, LexicalRows}
+use Rattle.mini_rows.specs.Steady.{known_in, KeepsOwn, OwnRows, OwnStep, own_here, own_inside, OwnFunction, SteadyRow, LexicalRows}
 use Rattle.mini_rows.specs.OwnArrows.{arrow_over, OwnArrow, OwnCodeIsLawful, OwnCodeLightens, SteadyCodeIsLawful, SteadyCodeLightens, LexicalCodeIsLawful, LexicalCodeLightens}
 use Rattle.mini_rows.proofs.LexicalKept.{lexical_own}
 use Rattle.mini_rows.proofs.SteadyKept.{steady_own}
-use Rattle.mini_rows.proofs.SteadyLawful.{forget, own_read, own_bodies, own_frames, own_runs, kept_under, functions_lawful, functions_lighten}
+use Rattle.mini_rows.proofs.SteadyLawful.{known_off, known_begins, known_steady, forget, own_read, own_bodies, own_frames, own_runs, kept_under, functions_lawful, functions_lighten}
 
 -- ---- an arrow function is made alike, whatever its body is
 
@@ -109,7 +109,7 @@ own_kind V R k (own_inside p h xs ts us b s) = refl
 
 -- ---- an instance
 
-module _ (F : OwnRows) (keeps : (V : Assured) → KeepsOwn V (F V)) (S : BodySets) (W : VariableSet) (q : Seat) (ds : List (List ℕ)) (k : ℕ) (ps t u : Tree) (s : OwnStep (F (S k)) (Expr argument_seat) t u) where
+module _ (F : OwnRows) (keeps : (V : Assured) → KeepsOwn V (F V)) (S : BodySets) (W : VariableSet) (q : Seat) (ds : List (List ℕ)) (k : ℕ) (ps t u : Tree) (s : OwnStep (F (known_in t (S k))) (Expr argument_seat) t u) where
   abbrev p : Position
   p = Expr q
 
@@ -120,7 +120,7 @@ module _ (F : OwnRows) (keeps : (V : Assured) → KeepsOwn V (F V)) (S : BodySet
   f' = arrow_over ds k ps u
 
   abbrev V : Assured
-  V = S k
+  V = known_in t (S k)
 
   own : KeepsOwn V (F V)
   own = keeps V
@@ -158,13 +158,13 @@ module _ (F : OwnRows) (keeps : (V : Assured) → KeepsOwn V (F V)) (S : BodySet
   abbrev kind_of : Tree → BodyKind
   kind_of v = arrow_kind (shape_of v)
 
-  runs : (e : Environment) → Steadies V e → (X : VariableSet) → RunsAs e (kind_of t) (kind_of u) X t u
-  runs e z X = subst (λ l. RunsAs e (kind_of t) l X t u) (own_kind V (F V) own s) (own_runs V (F V) own e z s (kind_of t) (body_fits (shape_of t)) X)
+  runs : (e : Environment) → Steadies (S k) e → (X : VariableSet) → Begins (S k) X → RunsAs e (kind_of t) (kind_of u) X t u
+  runs e z X b = subst (λ l. RunsAs e (kind_of t) l X t u) (own_kind V (F V) own s) (own_runs V (F V) own e (known_steady t (S k) e z) s (known_off t (S k)) (kind_of t) (body_fits (shape_of t)) X (known_begins t (S k) X b))
 
   whole_bodies : (a : Around) → BodiesUnder W S nothing (bodies a f) (bodies a f')
   whole_bodies a =
       each_under W S nothing (own_body a t) (bodies (below_it a 0) ps ++ (bodies (below_it a 1) t ++ [])) (own_body a u) (bodies (below_it a 0) ps ++ (bodies (below_it a 1) u ++ []))
-      (inl (record { number = refl; kind = inl (own_kind V (F V) own s); strict = refl; asks_this = refl; same = λ e z y X g. runs e y X }), tt)
+      (inl (record { number = refl; kind = inl (own_kind V (F V) own s); strict = refl; asks_this = refl; same = λ e z y X g. runs e y X g }), tt)
       (each_under W S nothing (bodies (below_it a 0) ps) _ (bodies (below_it a 0) ps) _ (itself_under W S nothing (bodies (below_it a 0) ps))
       (each_under W S nothing (bodies (below_it a 1) t) [] (bodies (below_it a 1) u) [] (kept_under S W (bodies (below_it a 1) t) (bodies (below_it a 1) u) (own_bodies V (F V) own s (below_it a 1))) tt))
 
@@ -180,7 +180,7 @@ module _ (F : OwnRows) (keeps : (V : Assured) → KeepsOwn V (F V)) (S : BodySet
 
 module _ (F : OwnRows) (keeps : (V : Assured) → KeepsOwn V (F V)) (S : BodySets) where
   -- what holds of each such arrow function holds of what a row reads and writes
-  by_row : (P : Position → Tree → Tree → Type 0) → ((q : Seat) (ds : List (List ℕ)) (k : ℕ) (ps t u : Tree) → OwnStep (F (S k)) (Expr argument_seat) t u → P (Expr q) (arrow_over ds k ps t) (arrow_over ds k ps u)) → (p : Position) (n w : Tree) → OwnArrow F S p n w → P p n w
+  by_row : (P : Position → Tree → Tree → Type 0) → ((q : Seat) (ds : List (List ℕ)) (k : ℕ) (ps t u : Tree) → OwnStep (F (known_in t (S k))) (Expr argument_seat) t u → P (Expr q) (arrow_over ds k ps t) (arrow_over ds k ps u)) → (p : Position) (n w : Tree) → OwnArrow F S p n w → P p n w
   by_row P h (Expr q) n w r = subst (λ v. P (Expr q) v w) (sym r.shape) (subst (P (Expr q) (arrow_over r.directives r.number r.parameters r.before)) (sym r.written) (h q r.directives r.number r.parameters r.before r.after r.step))
   by_row P h p n w r = absurd r
 
@@ -201,7 +201,7 @@ module _ (F : OwnRows) (keeps : (V : Assured) → KeepsOwn V (F V)) (S : BodySet
       listed = λ p n w e c. absurd (by_row (λ p n w. is_statement_list p ≡ true → ⊥) (λ q ds k ps t u s e. cc e) p n w c e);
       exported = by_row (λ p n w. (strict : Bool) → fits strict (one a_default_export) n ≡ true → NoDeclaration n w ⊎ KeepsFunction n w) (λ q ds k ps t u s strict e. inl (refl, refl));
     };
-    reads = by_row (λ p n w. summary n ≡ summary w) (λ q ds k ps t u s. ap (λ i. summary_of (shape.ArrowFunctionExpression ds) [] k (summary ps ∷ (i ∷ []))) (own_read (S k) (F (S k)) (keeps (S k)) s));
+    reads = by_row (λ p n w. summary n ≡ summary w) (λ q ds k ps t u s. ap (λ i. summary_of (shape.ArrowFunctionExpression ds) [] k (summary ps ∷ (i ∷ []))) (own_read (known_in t (S k)) (F (known_in t (S k))) (keeps (known_in t (S k))) s));
     kind = by_row (λ p n w. (strict : Bool) (c : Slot) → fits strict c n ≡ true → arrow_kind (shape_of n) ≡ arrow_kind (shape_of w)) (λ q ds k ps t u s strict c e. refl);
     declared = by_row (λ p n w. (x : Name) → Contains (declared w) x → Contains (declared n) x) (λ q ds k ps t u s. whole_declares F keeps S W q ds k ps t u s);
     instances = λ p n w c. inl (by_row (SteadiesWith W S) (λ q ds k ps t u s. whole_steadies F keeps S W q ds k ps t u s) p n w c);
@@ -210,7 +210,7 @@ module _ (F : OwnRows) (keeps : (V : Assured) → KeepsOwn V (F V)) (S : BodySet
   -- ---- lighter
 
   arrow_lighter : (p : Position) (n w : Tree) → OwnArrow F S p n w → weight p w < weight p n
-  arrow_lighter = by_row (λ p n w. weight p w < weight p n) (λ q ds k ps t u s. any_step_lighter (F (S k)) (keeps (S k)).lightens (Expr q) _ _ (whole F keeps S nothing q ds k ps t u s))
+  arrow_lighter = by_row (λ p n w. weight p w < weight p n) (λ q ds k ps t u s. any_step_lighter (F (known_in t (S k))) (keeps (known_in t (S k))).lightens (Expr q) _ _ (whole F keeps S nothing q ds k ps t u s))
 
   arrow_outline : (p : Position) (n w : Tree) → OwnArrow F S p n w → outline n ≡ outline w
   arrow_outline = by_row (λ p n w. outline n ≡ outline w) (λ q ds k ps t u s. refl)

@@ -1,5 +1,5 @@
 -- What a row writes in the own code of a program keeps it, where that is so which is known of its body.
-use Rattle.std.specs.Prelude.{ℕ, ◌≡◌, ◌<◌, refl, Bool, true, List, [], ◌++◌, None}
+use Rattle.std.specs.Prelude.{ℕ, ◌≡◌, ◌<◌, ◌||◌, refl, Bool, true, false, List, [], ◌++◌, None}
 use Rattle.std.proofs.Common.{ap, ◌∙◌, sym, subst, inl}
 use Rattle.mini_model.specs.declared.place.Position.{Position}
 use Rattle.mini_model.specs.declared.place.Position.TheVariants.{Expr, Stmt, StatementList, Elsewhere}
@@ -9,6 +9,7 @@ use Rattle.mini_model.specs.Tree.{Tree, none, ◌▸◌, shape_of}
 use Rattle.mini_model.specs.Rewriting.{Step, inside, first, Reaches, done, more}
 use Rattle.mini_model.specs.Weight.{outline, weight}
 use Rattle.mini_accept.specs.WellShaped.{Slot, fits, IsWellShaped}
+use Rattle.mini_laws.specs.Skeleton.{Off, hidden}
 use Rattle.mini_laws.specs.Value.{VariableSet, nothing}
 use Rattle.mini_laws.specs.Fixity.{written_in}
 use Rattle.mini_laws.specs.Body.{Program}
@@ -31,17 +32,17 @@ use Rattle.mini_kept.proofs.Whole.{any_reaches_keep}
 use Rattle.mini_kept.proofs.WithoutLists.{nothing_part, part_itself, each_itself, more_under, each_under}
 use Rattle.mini_rows.specs.Arranged.{KeptAt}
 use Rattle.mini_rows.specs.OwnPrograms.{program_over, OwnProgram, OwnProgramsAreLawful, OwnProgramsLighten, SteadyProgramsAreLawful, SteadyProgramsLighten, LexicalProgramsAreLawful, LexicalProgramsLighten}
-use Rattle.mini_rows.specs.Steady.{KeepsOwn, OwnRows, OwnStep, own_first, SteadyRow, LexicalRows}
+use Rattle.mini_rows.specs.Steady.{known_in, KeepsOwn, OwnRows, OwnStep, own_first, SteadyRow, LexicalRows}
 use Rattle.mini_rows.proofs.BranchLawful.{IsKind, taken, body_slot, kept_at}
 use Rattle.mini_rows.proofs.LexicalKept.{lexical_kind, lexical_own}
 use Rattle.mini_rows.proofs.SpellShapes.{formed_slot}
 use Rattle.mini_rows.proofs.MemberKept.{keeps}
 use Rattle.mini_rows.proofs.SteadyKept.{steady_own}
-use Rattle.mini_rows.proofs.SteadyLawful.{forget, own_bodies, own_runs_over, kept_under}
+use Rattle.mini_rows.proofs.SteadyLawful.{over_off, known_begins, known_steady, forget, own_bodies, own_runs_over, kept_under}
 
 -- ---- one program
 
-module _ (F : OwnRows) (keeps : (V : Assured) → KeepsOwn V (F V)) (places : (V : Assured) → KeepsPlaces (F V)) (K : Shape → Bool) (W : VariableSet) (S : BodySets) (m : Bool) (ds : List (List ℕ)) (k : ℕ) (t u : Tree) (s : OwnStep (F (S k)) StatementList t u) where
+module _ (F : OwnRows) (keeps : (V : Assured) → KeepsOwn V (F V)) (places : (V : Assured) → KeepsPlaces (F V)) (K : Shape → Bool) (W : VariableSet) (S : BodySets) (m : Bool) (ds : List (List ℕ)) (k : ℕ) (t u : Tree) (s : OwnStep (F (known_in t (S k))) StatementList t u) where
   abbrev f : Tree
   f = program_over m ds k t
 
@@ -49,7 +50,7 @@ module _ (F : OwnRows) (keeps : (V : Assured) → KeepsOwn V (F V)) (places : (V
   f' = program_over m ds k u
 
   abbrev V : Assured
-  V = S k
+  V = known_in t (S k)
 
   own : KeepsOwn V (F V)
   own = keeps V
@@ -66,10 +67,13 @@ module _ (F : OwnRows) (keeps : (V : Assured) → KeepsOwn V (F V)) (places : (V
   abbrev inner : Around
   inner = below outermost (shape.Program m ds) (t ▸ none) 0
 
+  program_off : Off (hidden f) V.initial
+  program_off = over_off f t (S k) (λ i h. ap (λ b. b || false) h)
+
   whole_bodies : BodiesUnder W S nothing (bodies_in f) (bodies_in f')
   whole_bodies =
       each_under W S nothing (own_body t) (bodies inner t ++ []) (own_body u) (bodies inner u ++ [])
-      (inl (record { number = refl; kind = inl refl; strict = refl; asks_this = refl; same = λ e z y X g. own_runs_over V (F V) own e y (shape.Program m ds) k Elsewhere (own_first _ t u none s) Program tt X }), tt)
+      (inl (record { number = refl; kind = inl refl; strict = refl; asks_this = refl; same = λ e z y X g. own_runs_over V (F V) own e (known_steady t (S k) e y) (shape.Program m ds) k Elsewhere (own_first _ t u none s) program_off Program tt X (known_begins t (S k) X g) }), tt)
       (each_under W S nothing (bodies inner t) [] (bodies inner u) [] (kept_under S W (bodies inner t) (bodies inner u) (own_bodies V (F V) own s inner)) tt)
 
   keeps_frames : KeepsFramesBut none_gone (F V)
@@ -94,7 +98,7 @@ module _ (F : OwnRows) (keeps : (V : Assured) → KeepsOwn V (F V)) (places : (V
 
 module _ (F : OwnRows) (keeps : (V : Assured) → KeepsOwn V (F V)) (S : BodySets) where
   -- what holds of each such program holds of what a row reads and writes
-  by_row : (P : Position → Tree → Tree → Type 0) → ((m : Bool) (ds : List (List ℕ)) (k : ℕ) (t u : Tree) → OwnStep (F (S k)) StatementList t u → P Elsewhere (program_over m ds k t) (program_over m ds k u)) → (p : Position) (n w : Tree) → OwnProgram F S p n w → P p n w
+  by_row : (P : Position → Tree → Tree → Type 0) → ((m : Bool) (ds : List (List ℕ)) (k : ℕ) (t u : Tree) → OwnStep (F (known_in t (S k))) StatementList t u → P Elsewhere (program_over m ds k t) (program_over m ds k u)) → (p : Position) (n w : Tree) → OwnProgram F S p n w → P p n w
   by_row P h Elsewhere n w r = subst (λ v. P Elsewhere v w) (sym r.shape) (subst (P Elsewhere (program_over r.is_module r.directives r.number r.before)) (sym r.written) (h r.is_module r.directives r.number r.before r.after r.step))
   by_row P h p n w r = absurd r
 
@@ -104,7 +108,7 @@ module _ (F : OwnRows) (keeps : (V : Assured) → KeepsOwn V (F V)) (S : BodySet
       (λ n w r. by_row (λ p n w. IsWellShaped n → ProgramIsKeptUnder K W S n w) (λ m ds k t u s. program_kept F keeps places K W S m ds k t u s) Elsewhere n w r)
 
   program_lighter : (p : Position) (n w : Tree) → OwnProgram F S p n w → weight p w < weight p n
-  program_lighter = by_row (λ p n w. weight p w < weight p n) (λ m ds k t u s. any_step_lighter (F (S k)) (keeps (S k)).lightens Elsewhere (program_over m ds k t) (program_over m ds k u) (inside Elsewhere (shape.Program m ds) [] k (t ▸ none) (u ▸ none) (first _ t u none (forget (S k) (F (S k)) (keeps (S k)) s))))
+  program_lighter = by_row (λ p n w. weight p w < weight p n) (λ m ds k t u s. any_step_lighter (F (known_in t (S k))) (keeps (known_in t (S k))).lightens Elsewhere (program_over m ds k t) (program_over m ds k u) (inside Elsewhere (shape.Program m ds) [] k (t ▸ none) (u ▸ none) (first _ t u none (forget (known_in t (S k)) (F (known_in t (S k))) (keeps (known_in t (S k))) s))))
 
   program_outline : (p : Position) (n w : Tree) → OwnProgram F S p n w → outline n ≡ outline w
   program_outline = by_row (λ p n w. outline n ≡ outline w) (λ m ds k t u s. refl)

@@ -1,6 +1,7 @@
 -- What a row of steady names writes in the body of a function is lawful where those names are steady in that body.
-use Rattle.std.specs.Prelude.{ℕ, zero, suc, ◌≡◌, ◌<◌, ◌⊎◌, refl, Bool, true, false, List, [], ◌∷◌, ◌++◌, Option, None, not, Contains}
+use Rattle.std.specs.Prelude.{ℕ, zero, suc, ◌≡◌, ◌<◌, ◌⊎◌, ◌&&◌, refl, Bool, true, false, List, [], ◌∷◌, ◌++◌, Option, None, not, Contains}
 use Rattle.std.proofs.Common.{ap, ◌∙◌, sym, subst, subst₂, length, inl, inr, true≢false}
+use Rattle.std.proofs.lemmas.Bool.{and_parts}
 use Rattle.mini_model.specs.declared.kind.PropertyKind.{PropertyKind}
 use Rattle.mini_model.specs.declared.name.Name.{Name}
 use Rattle.mini_model.specs.declared.place.Position.{Position}
@@ -12,24 +13,24 @@ use Rattle.mini_model.specs.Position.{child_position}
 use Rattle.mini_model.specs.Rewriting.{Step, here, inside, StepIn, first, later, done, more}
 use Rattle.mini_model.specs.Weight.{outline, weight}
 use Rattle.mini_accept.specs.WellShaped.{a_statement, a_default_export, Slot, one, class_of, filling, is_strict_in, fits, fill}
-use Rattle.mini_laws.specs.Value.{Variable, VariableSet, nothing, variables}
+use Rattle.mini_laws.specs.Value.{Variable, Declared, Global, VariableSet, nothing, variables}
 use Rattle.mini_laws.specs.State.{State, Environment}
-use Rattle.mini_laws.specs.Demand.{Demand, As, Callee, OfType, Deleted, AnEntry, Stat, Request}
-use Rattle.mini_laws.specs.Naming.{summary, summary_of, summaries, facts, facts_all, naming, nth_absent}
+use Rattle.mini_laws.specs.Demand.{Demand, As, Callee, OfType, Deleted, AnEntry, Stat, Declares, Binds, Request}
+use Rattle.mini_laws.specs.Naming.{summary, summary_of, summaries, facts, facts_all, naming, nth_absent, scope_of}
 use Rattle.mini_laws.specs.Step.{step, means}
 use Rattle.mini_laws.specs.Rows.{SameAt}
 use Rattle.mini_laws.specs.Fixity.{fixed_by}
 use Rattle.mini_laws.specs.Body.{BodyKind, FunctionStatements, body_demand}
 use Rattle.mini_laws.specs.Bodies.{Around, below, Body, bodies, bodies_from, body_of, arrow_kind}
-use Rattle.mini_laws.specs.Skeleton.{hidden_all, needs, Rules, Sound, TreesGo}
+use Rattle.mini_laws.specs.Skeleton.{plus, minus, Within, Off, hidden, hidden_all, kept, lets_at, along, list_needs, after_first, after_left, needs, Rules, Sound, TreesGo}
 use Rattle.mini_laws.specs.Fits.{Fits}
 use Rattle.mini_laws.specs.Asking.{demand}
 use Rattle.mini_laws.specs.Weights.{Lightens}
-use Rattle.mini_laws.proofs.Congruent.{plain_goes}
 use Rattle.mini_laws.proofs.Fitting.{fits_children}
 use Rattle.mini_laws.proofs.Fundamental.{PlaceGo, one_node, place_none, place_cons}
 use Rattle.mini_laws.proofs.Lighter.{any_step_lighter}
 use Rattle.mini_laws.proofs.Rows.{equal_same}
+use Rattle.mini_laws.proofs.Simulation.{goes_map, init_less, off_front, off_back, within_refl, within_trans, within_plus, within_minus}
 use Rattle.mini_kept.specs.AlikeBodies.{RunsAs, BodiesKept}
 use Rattle.mini_kept.specs.Declaring.{declared}
 use Rattle.mini_kept.specs.Frames.{Frame, FramesKept, frame_of, frames, frames_from, property_below, outline as frame_outline, globals}
@@ -40,7 +41,7 @@ use Rattle.mini_kept.specs.KeepsShapes.{AskedAlike}
 use Rattle.mini_kept.specs.Lifted.{is_piece, is_rooted_place, KeepsRoot}
 use Rattle.mini_kept.specs.Loosely.{SteadiesWith, LawfulUnder}
 use Rattle.mini_kept.specs.Placed.{is_statement_list, fits_place}
-use Rattle.mini_kept.specs.Without.{none_steady, Assured, BodySets, Steadies, BodiesUnder}
+use Rattle.mini_kept.specs.Without.{none_steady, Assured, BodySets, Steadies, Begins, BodiesUnder}
 use Rattle.mini_kept.proofs.FixedSteps.{fixed_anyway}
 use Rattle.mini_kept.proofs.Declared.{reaches_declared}
 use Rattle.mini_kept.proofs.Fixed.{step_fixed}
@@ -50,11 +51,14 @@ use Rattle.mini_kept.proofs.Steps.{any_step_fits}
 use Rattle.mini_kept.proofs.BodyLists.{kept_itself, each_of as each_body}
 use Rattle.mini_kept.proofs.FrameLists.{each_of as each_frame}
 use Rattle.mini_kept.proofs.WithoutLists.{from_kept, more_under, nothing_within, each_under, itself_under}
-use Rattle.mini_rows.specs.Steady.{SteadyRow, KeepsOwn, has_body, OwnStep, own_here, own_inside, OwnStepIn, own_first, own_later, OwnRows, LexicalRows, OwnFunctionRow, OwnFunction, SteadyFunctionsAreLawful, SteadyFunctionsLighten, LexicalFunctionsAreLawful, LexicalFunctionsLighten}
+use Rattle.mini_rows.specs.Fading.{Fades, FadingFrom}
+use Rattle.mini_rows.specs.Past.{binds}
+use Rattle.mini_rows.specs.Steady.{SteadyRow, throughout, known_in, KeepsOwn, has_body, OwnStep, own_here, own_inside, OwnStepIn, own_first, own_later, OwnRows, LexicalRows, OwnFunctionRow, OwnFunction, SteadyFunctionsAreLawful, SteadyFunctionsLighten, LexicalFunctionsAreLawful, LexicalFunctionsLighten}
 use Rattle.mini_rows.proofs.Fading.{fading_rules, fading_sound}
-use Rattle.mini_rows.proofs.FadingSteps.{trees_fade, tree_itself, runs_alike}
+use Rattle.mini_rows.proofs.FadingSteps.{trees_fade_from, tree_itself, runs_alike}
 use Rattle.mini_rows.proofs.LexicalKept.{lexical_own}
 use Rattle.mini_rows.proofs.SteadyKept.{steady_own}
+use Rattle.mini_rows.proofs.Unbound.{unhidden}
 
 -- ---- a function is made alike, whatever its body is
 
@@ -83,6 +87,62 @@ module _ (d g : Bool) (ds : List (List ℕ)) (k : ℕ) (name ps t u : Tree) wher
 numbered : (d g : Bool) (ds : List (List ℕ)) (k : ℕ) (name ps t : Tree) (strict : Bool) (s : Slot) → fits strict s (function_over d g ds k name ps t) ≡ true → (n : ℕ) × (k ≡ suc n)
 numbered d g ds zero name ps t strict s e = absurd (true≢false (sym (its_number (class_of s) (shape.Function d g ds) [] 0 (name ▸ (ps ▸ (t ▸ none))) (fill (is_strict_in strict (shape.Function d g ds)) (filling strict s (shape.Function d g ds)) (name ▸ (ps ▸ (t ▸ none)))) e)))
 numbered d g ds (suc n) name ps t strict s e = (n, refl)
+
+-- ---- what has its value throughout
+
+pub not_true : (b : Bool) → not b ≡ true → b ≡ false
+not_true true e = absurd (true≢false (sym e))
+not_true false e = refl
+
+-- no scope in the code hides it
+pub known_off : (t : Tree) (V : Assured) → Off (hidden t) (known_in t V).initial
+unfolding Off
+known_off t V (Declared k) h = unhidden k t (not_true (binds k t) (and_parts (V.initial (Declared k)) (not (binds k t)) h).1)
+known_off t V (Global s) h = absurd (true≢false (sym h))
+
+-- nor does one in a node over it
+pub over_off : (f t : Tree) (V : Assured) → ((k : ℕ) → binds k t ≡ false → binds k f ≡ false) → Off (hidden f) (known_in t V).initial
+unfolding Off
+over_off f t V h (Declared k) e = unhidden k f (h k (not_true (binds k t) (and_parts (V.initial (Declared k)) (not (binds k t)) e).1))
+over_off f t V h (Global s) e = absurd (true≢false (sym e))
+
+-- it has its value as the body starts
+pub known_begins : (t : Tree) (V : Assured) (X : VariableSet) → Begins V X → Within (known_in t V).initial X
+unfolding Within
+known_begins t V X b (Declared k) h = b (Declared k) (and_parts (V.initial (Declared k)) (not (binds k t)) h).0
+known_begins t V X b (Global s) h = absurd (true≢false (sym h))
+
+pub known_steady : (t : Tree) (V : Assured) (e : Environment) → Steadies V e → Steadies (known_in t V) e
+known_steady t V e z = record { steady = z.steady; unshared = z.unshared; has_this = z.has_this }
+
+-- and wherever a child is evaluated
+along_still : (I S : VariableSet) (H : List Variable) (ts : Trees) → Within I S → Off H I → (i : ℕ) → Within I (along H S ts i)
+along_still I S H none w o i = w
+along_still I S H (t ▸ ts) w o zero = w
+along_still I S H (t ▸ ts) w o (suc i) = along_still I (minus (plus S (summary t).lets) H) H ts (within_minus I _ H o (within_trans I S _ w (within_plus S (summary t).lets))) o i
+
+list_still : (q : Demand) (I X : VariableSet) (ts : Trees) → Within I X → Off (hidden_all ts) I → (i : ℕ) → Within I (list_needs q X ts i)
+list_still (Stat t) I X ts w o i = along_still I X (hidden_all ts) ts w o i
+list_still (Declares true) I X ts w o i = along_still I X (hidden_all ts) ts w o i
+list_still (Declares false) I X ts w o i = w
+list_still q I X ts w o i = w
+
+first_still : (q : Demand) (I X : VariableSet) (ts : Trees) → Within I X → Off (hidden_all ts) I → (i : ℕ) → Within I (after_first q X ts i)
+first_still q I X ts w o zero = w
+first_still q I X ts w o (suc i) = within_minus I _ (hidden_all ts) o (within_trans I X _ w (within_plus X (kept q (lets_at ts 0))))
+
+left_still : (q : Demand) (I X : VariableSet) (ts : Trees) → Within I X → Off (hidden_all ts) I → (i : ℕ) → Within I (after_left q X ts i)
+left_still q I X ts w o zero = w
+left_still q I X ts w o (suc zero) = w
+left_still q I X ts w o (suc (suc i)) = within_minus I _ (hidden_all ts) o (within_trans I X _ w (within_plus X (kept q (lets_at ts 0))))
+
+needs_still : (h : Shape) (q : Demand) (I X : VariableSet) (ts : Trees) → Within I X → Off (hidden_all ts) I → (i : ℕ) → Within I (needs h q X ts i)
+needs_still shape.Listed q I X ts w o i = list_still q I X ts w o i
+needs_still shape.CatchClause q I X ts w o i = first_still (Binds true) I X ts w o i
+needs_still shape.ForStatement q I X ts w o i = first_still (demand shape.ForStatement (facts ts) q 0) I X ts w o i
+needs_still shape.ForInStatement q I X ts w o i = left_still (demand shape.ForInStatement (facts ts) q 0) I X ts w o i
+needs_still shape.ForOfStatement q I X ts w o i = left_still (demand shape.ForOfStatement (facts ts) q 0) I X ts w o i
+needs_still h q I X ts w o i = w
 
 -- ---- a step in the code of a body itself
 
@@ -160,28 +220,41 @@ module _ (V : Assured) (R : Position → Tree → Tree → Type 0) (k : KeepsOwn
     facts_count none = refl
     facts_count (t ▸ ts) = ap suc (facts_count ts)
 
+    -- the variables that have values wherever it is evaluated
+    abbrev I : VariableSet
+    I = V.initial
+
     mutual
-      own_goes : {p : Position} {t u : Tree} → OwnStep R p t u → (X : VariableSet) (q : Demand) → Fits p q → TreesGo U X q t u
-      own_goes (own_here p n w r) X q f = trees_fade V.unshared e z.unshared X q n w (k.means e z p n w r q f)
-      own_goes (own_inside p h xs ts us b s) X q f =
+      own_goes : {p : Position} {t u : Tree} → OwnStep R p t u → (X : VariableSet) → Within I X → Off (hidden t) I → (q : Demand) → Fits p q → TreesGo U X q t u
+      own_goes (own_here p n w r) X wide o q f = trees_fade_from V.unshared e z.unshared I X wide q n w (k.means e z p n w r q f)
+      own_goes (own_inside p h xs ts us b s) X wide o q f =
+          let inner = off_back (scope_of h (summaries ts)) (hidden_all ts) I o in
           one_node U sound h xs xs 0 0 ts us X q (ap (naming h q (variables xs) 0) (own_reads s)) refl (ap facts_all (own_reads s))
-          (own_goes_in s (needs h q X ts) (demand h (facts ts) q) (λ i. subst (λ m. Fits (child_position h p m i) (demand h (facts ts) q i)) (facts_count ts) (fits_children h (facts ts) p q f i)))
+          (own_goes_in s (needs h q X ts) (needs_still h q I X ts wide inner) inner (demand h (facts ts) q) (λ i. subst (λ m. Fits (child_position h p m i) (demand h (facts ts) q i)) (facts_count ts) (fits_children h (facts ts) p q f i)))
 
-      own_goes_in : {π : ℕ → Position} {ts us : Trees} → OwnStepIn R π ts us → (X : ℕ → VariableSet) (σ : ℕ → Demand) → ((i : ℕ) → Fits (π i) (σ i)) → PlaceGo U sound X σ (hidden_all ts) ts us
-      own_goes_in (own_first π t u ts s) X σ f = place_cons U sound t u ts ts X σ (own_goes s (X 0) (σ 0) (f 0)) (kids_itself ts (λ i. X (suc i)) (λ i. σ (suc i)))
-      own_goes_in (own_later π t ts us s) X σ f = place_cons U sound t t ts us X σ (tree_itself V.unshared e z.unshared (X 0) (σ 0) t) (own_goes_in s (λ i. X (suc i)) (λ i. σ (suc i)) (λ i. f (suc i)))
+      own_goes_in : {π : ℕ → Position} {ts us : Trees} → OwnStepIn R π ts us → (X : ℕ → VariableSet) → ((i : ℕ) → Within I (X i)) → Off (hidden_all ts) I → (σ : ℕ → Demand) → ((i : ℕ) → Fits (π i) (σ i)) → PlaceGo U sound X σ (hidden_all ts) ts us
+      own_goes_in (own_first π t u ts s) X wide o σ f = place_cons U sound t u ts ts X σ (own_goes s (X 0) (wide 0) (off_front (hidden t) (hidden_all ts) I o) (σ 0) (f 0)) (kids_itself ts (λ i. X (suc i)) (λ i. σ (suc i)))
+      own_goes_in (own_later π t ts us s) X wide o σ f = place_cons U sound t t ts us X σ (tree_itself V.unshared e z.unshared (X 0) (σ 0) t) (own_goes_in s (λ i. X (suc i)) (λ i. wide (suc i)) (off_back (hidden t) (hidden_all ts) I o) (λ i. σ (suc i)) (λ i. f (suc i)))
 
-    pub own_runs : {p : Position} {t u : Tree} → OwnStep R p t u → (b : BodyKind) → Fits p (body_demand b) → (X : VariableSet) → RunsAs e b b X t u
-    own_runs {t = t} {u = u} s b fit X = runs_alike V.unshared e z.unshared b t u (λ r x y f. plain_goes U (body_demand b) t u (own_goes s nothing (body_demand b) fit) r x y f) X
+    -- from a start that initialises them
+    from_start : (q : Demand) (n w : Tree) → Off (hidden n) I → TreesGo U I q n w → (X : VariableSet) → Within I X → FadingFrom V.unshared X e q n w
+    unfolding TreesGo
+    from_start q n w o g X wide r x y f i = goes_map true _ (λ a. Fades V.unshared) _ (Fades V.unshared) (Fades V.unshared) _ _ (λ a s t b. b.0) (λ s t b. b.0) (g r I (within_refl I) o x y (f, init_less I X x wide i))
+
+    pub own_runs : {p : Position} {t u : Tree} → OwnStep R p t u → Off (hidden t) I → (b : BodyKind) → Fits p (body_demand b) → (X : VariableSet) → Within I X → RunsAs e b b X t u
+    own_runs {t = t} {u = u} s o b fit X wide = runs_alike V.unshared e z.unshared b t u X (from_start (body_demand b) t u o (own_goes s I (within_refl I) o (body_demand b) fit) X wide)
 
     -- and so does a node over it that is its own body
-    pub own_runs_over : (h : Shape) (n : ℕ) (p : Position) {ts us : Trees} → OwnStepIn R (child_position h p (count ts)) ts us → (b : BodyKind) → Fits p (body_demand b) → (X : VariableSet) → RunsAs e b b X (node h [] n ts) (node h [] n us)
-    own_runs_over h n p {ts = ts} {us = us} s b fit X = runs_alike V.unshared e z.unshared b (node h [] n ts) (node h [] n us) (λ r x y f. plain_goes U (body_demand b) (node h [] n ts) (node h [] n us) (goes (body_demand b) fit) r x y f) X
+    pub own_runs_over : (h : Shape) (n : ℕ) (p : Position) {ts us : Trees} → OwnStepIn R (child_position h p (count ts)) ts us → Off (hidden (node h [] n ts)) I → (b : BodyKind) → Fits p (body_demand b) → (X : VariableSet) → Within I X → RunsAs e b b X (node h [] n ts) (node h [] n us)
+    own_runs_over h n p {ts = ts} {us = us} s o b fit X wide = runs_alike V.unshared e z.unshared b (node h [] n ts) (node h [] n us) X (from_start (body_demand b) (node h [] n ts) (node h [] n us) o (goes (body_demand b) fit) X wide)
       where
-        goes : (q : Demand) → Fits p q → TreesGo U nothing q (node h [] n ts) (node h [] n us)
+        inner : Off (hidden_all ts) I
+        inner = off_back (scope_of h (summaries ts)) (hidden_all ts) I o
+
+        goes : (q : Demand) → Fits p q → TreesGo U I q (node h [] n ts) (node h [] n us)
         goes q f =
-            one_node U sound h [] [] n n ts us nothing q (ap (naming h q [] n) (own_reads s)) refl (ap facts_all (own_reads s))
-            (own_goes_in s (needs h q nothing ts) (demand h (facts ts) q) (λ i. subst (λ m. Fits (child_position h p m i) (demand h (facts ts) q i)) (facts_count ts) (fits_children h (facts ts) p q f i)))
+            one_node U sound h [] [] n n ts us I q (ap (naming h q [] n) (own_reads s)) refl (ap facts_all (own_reads s))
+            (own_goes_in s (needs h q I ts) (needs_still h q I I ts (within_refl I) inner) inner (demand h (facts ts) q) (λ i. subst (λ m. Fits (child_position h p m i) (demand h (facts ts) q i)) (facts_count ts) (fits_children h (facts ts) p q f i)))
 
 -- bodies that are there stand for themselves
 pub kept_under : (S : BodySets) (W : VariableSet) (bs cs : List Body) → BodiesKept bs cs → BodiesUnder W S nothing bs cs
@@ -189,7 +262,7 @@ kept_under S W bs cs h = more_under nothing W none_steady S nothing nothing (λ 
 
 -- ---- an instance
 
-module _ (F : OwnRows) (keeps : (V : Assured) → KeepsOwn V (F V)) (S : BodySets) (W : VariableSet) (d g : Bool) (ds : List (List ℕ)) (k : ℕ) (name ps t u : Tree) (s : OwnStep (F (S k)) Elsewhere t u) (p : Position) where
+module _ (F : OwnRows) (keeps : (V : Assured) → KeepsOwn V (F V)) (S : BodySets) (W : VariableSet) (d g : Bool) (ds : List (List ℕ)) (k : ℕ) (name ps t u : Tree) (s : OwnStep (F (known_in t (S k))) Elsewhere t u) (p : Position) where
   abbrev f : Tree
   f = function_over d g ds k name ps t
 
@@ -197,7 +270,7 @@ module _ (F : OwnRows) (keeps : (V : Assured) → KeepsOwn V (F V)) (S : BodySet
   f' = function_over d g ds k name ps u
 
   abbrev V : Assured
-  V = S k
+  V = known_in t (S k)
 
   own : KeepsOwn V (F V)
   own = keeps V
@@ -247,7 +320,7 @@ module _ (F : OwnRows) (keeps : (V : Assured) → KeepsOwn V (F V)) (S : BodySet
   whole_bodies : (a : Around) → BodiesUnder W S nothing (bodies a f) (bodies a f')
   whole_bodies a =
       each_under W S nothing (own_body a t) (others a (bodies (below_it a 2) t)) (own_body a u) (others a (bodies (below_it a 2) u))
-      (inl (record { number = refl; kind = inl refl; strict = refl; asks_this = refl; same = λ e z y X g. own_runs V (F V) own e y s FunctionStatements tt X }), tt)
+      (inl (record { number = refl; kind = inl refl; strict = refl; asks_this = refl; same = λ e z y X g. own_runs V (F V) own e (known_steady t (S k) e y) s (known_off t (S k)) FunctionStatements tt X (known_begins t (S k) X g) }), tt)
       (others_kept a)
 
   whole_steadies : SteadiesWith W S p f f'
@@ -306,7 +379,7 @@ no_list p z e = cc e
 
 module _ (F : OwnRows) (keeps : (V : Assured) → KeepsOwn V (F V)) (S : BodySets) where
   -- what holds of each such function holds of what a row reads and writes
-  by_row : (P : Position → Tree → Tree → Type 0) → ((p : Position) (d g : Bool) (ds : List (List ℕ)) (k : ℕ) (name ps t u : Tree) → is_function_place p ≡ true → OwnStep (F (S k)) Elsewhere t u → P p (function_over d g ds k name ps t) (function_over d g ds k name ps u)) → (p : Position) (n w : Tree) → OwnFunction F S p n w → P p n w
+  by_row : (P : Position → Tree → Tree → Type 0) → ((p : Position) (d g : Bool) (ds : List (List ℕ)) (k : ℕ) (name ps t u : Tree) → is_function_place p ≡ true → OwnStep (F (known_in t (S k))) Elsewhere t u → P p (function_over d g ds k name ps t) (function_over d g ds k name ps u)) → (p : Position) (n w : Tree) → OwnFunction F S p n w → P p n w
   by_row P h p n w c =
       let (z, r) = placed_row F S p n w c in
       subst (λ v. P p v w) (sym r.shape) (subst (P p (function_over r.is_declaration r.is_generator r.directives r.number r.name r.parameters r.before)) (sym r.written) (h p r.is_declaration r.is_generator r.directives r.number r.name r.parameters r.before r.after z r.step))
@@ -332,7 +405,7 @@ module _ (F : OwnRows) (keeps : (V : Assured) → KeepsOwn V (F V)) (S : BodySet
       listed = λ p n w e c. absurd (no_list p (placed_row F S p n w c).0 e);
       exported = λ p n w c strict e. inr (function_kept p n w c strict (one a_default_export) e);
     };
-    reads = by_row (λ p n w. summary n ≡ summary w) (λ p d g ds k name ps t u z s. ap (λ i. summary_of (shape.Function d g ds) [] k (summary name ∷ (summary ps ∷ (i ∷ [])))) (own_read (S k) (F (S k)) (keeps (S k)) s));
+    reads = by_row (λ p n w. summary n ≡ summary w) (λ p d g ds k name ps t u z s. ap (λ i. summary_of (shape.Function d g ds) [] k (summary name ∷ (summary ps ∷ (i ∷ [])))) (own_read (known_in t (S k)) (F (known_in t (S k))) (keeps (known_in t (S k))) s));
     kind = by_row (λ p n w. (strict : Bool) (c : Slot) → fits strict c n ≡ true → arrow_kind (shape_of n) ≡ arrow_kind (shape_of w)) (λ p d g ds k name ps t u z s strict c e. refl);
     declared = by_row (λ p n w. (x : Name) → Contains (declared w) x → Contains (declared n) x) (λ p d g ds k name ps t u z s. whole_declares F keeps S W d g ds k name ps t u s p);
     instances = λ p n w c. inl (by_row (SteadiesWith W S) (λ p d g ds k name ps t u z s. whole_steadies F keeps S W d g ds k name ps t u s p) p n w c);
@@ -344,7 +417,7 @@ module _ (F : OwnRows) (keeps : (V : Assured) → KeepsOwn V (F V)) (S : BodySet
   -- ---- lighter
 
   function_lighter : (p : Position) (n w : Tree) → OwnFunction F S p n w → weight p w < weight p n
-  function_lighter = by_row (λ p n w. weight p w < weight p n) (λ p d g ds k name ps t u z s. any_step_lighter (F (S k)) (keeps (S k)).lightens p _ _ (whole F keeps S nothing d g ds k name ps t u s p))
+  function_lighter = by_row (λ p n w. weight p w < weight p n) (λ p d g ds k name ps t u z s. any_step_lighter (F (known_in t (S k))) (keeps (known_in t (S k))).lightens p _ _ (whole F keeps S nothing d g ds k name ps t u s p))
 
   function_outline : (p : Position) (n w : Tree) → OwnFunction F S p n w → outline n ≡ outline w
   function_outline = by_row (λ p n w. outline n ≡ outline w) (λ p d g ds k name ps t u z s. refl)

@@ -18,9 +18,10 @@ use Rattle.mini_laws.specs.Command.{Naming, Kids, ret, bind, set_var, read_slot,
 use Rattle.mini_laws.specs.Naming.{NameKind, PlainName, EvalName, UndefinedName, NumberName, kind_declared, kind_of, naming, summary}
 use Rattle.mini_laws.specs.Expressions.{get_identifier, operate_by}
 use Rattle.mini_laws.specs.Replies.{by_fixity}
-use Rattle.mini_laws.specs.Same.{Same}
+use Rattle.mini_laws.specs.Same.{Goes, Agree, Same, Initialised}
 use Rattle.mini_laws.specs.Targets.{assigns, put_identifier}
 use Rattle.mini_laws.specs.Step.{step, means, meaning}
+use Rattle.mini_laws.proofs.Congruent.{reflexive}
 use Rattle.mini_laws.proofs.Rows.{by_equality}
 use Rattle.mini_laws.proofs.Runs.{either_assoc, either_cong, either_eta, either_ok, either_stop, runs}
 use Rattle.mini_rows.specs.Choices.{assign, deciding}
@@ -195,6 +196,11 @@ if_null_tells false t b y = conditional_tells (binary Inequality t null_literal)
 -- what has the same value there is the same
 pub same_there : (e : Environment) (n w : Tree) → Tells n → Tells w → ((s : State) → value e n s ≡ value e w s) → (q : Demand) → Same e nothing nothing q n w
 same_there e n w t u h q = by_equality e nothing nothing q n w (λ r s. t.by e q r s ∙ ap (asked q r) (h s) ∙ sym (u.by e q r s))
+
+-- and so from where some variables have values
+pub same_where : (e : Environment) (X : VariableSet) (n w : Tree) → Tells n → Tells w → ((s : State) → Initialised X s → value e n s ≡ value e w s) → (q : Demand) → Same e nothing X q n w
+same_where e X n w t u h q =
+    record { by = λ r s i. subst (Goes true (λ a. Agree nothing) (Agree nothing) (Agree nothing) (means e n q r s)) (t.by e q r s ∙ ap (asked q r) (h s i) ∙ sym (u.by e q r s)) ((reflexive e nothing X q n).by r s i) }
 
 pub combined_same : (W : VariableSet) (n w : Tree) (r : Row34 W n w) (e : Environment) → ((y : Variable) → W y ≡ true → e.fixed y ≡ Writable) → (q : Demand) → Same e nothing nothing q n w
 combined_same W n w r e z q =

@@ -1,6 +1,6 @@
 -- Rows of members of what keeps its value while a body runs, `this` or a name that is steady, as equations: each is a shape and what is
 -- written in its place, with the JavaScript before and after. V says what is known of the body in which the expression stands.
-use Rattle.std.specs.Prelude.{◌≡◌, ◌⊎◌, ◌&&◌, not, ℕ, List, Bool, true, false, nat_eq, Some}
+use Rattle.std.specs.Prelude.{◌≡◌, ◌⊎◌, ◌&&◌, ◌||◌, not, ℕ, List, Bool, true, false, nat_eq, Some}
 use Rattle.mini_model.specs.declared.operator.AssignmentOperator.{AssignmentOperator}
 use Rattle.mini_model.specs.declared.operator.AssignmentOperator.TheVariants.{Assign}
 use Rattle.mini_model.specs.declared.operator.BinaryOperator.{BinaryOperator}
@@ -15,6 +15,7 @@ use Rattle.mini_model.specs.Position.{conditional_level}
 use Rattle.mini_laws.specs.Value.{Declared}
 use Rattle.mini_kept.specs.Without.{Assured}
 use Rattle.mini_node.specs.Equal.{same_tree}
+use Rattle.mini_node.specs.Kinds.{computed_member}
 use Rattle.mini_rows.specs.Choices.{Key, member_on, computing, deciding, keeps_parentheses}
 use Rattle.mini_rows.specs.Lists.{sequence}
 use Rattle.mini_rows.specs.Past.{leaves}
@@ -112,25 +113,47 @@ abbrev mutual
   begins_in o h none = false
   begins_in o h (t ▸ ts) = opens h (is_childless t) && begins_at o t
 
--- the object may be evaluated before this, whatever it does: it is `this`, or a name that is left, and that is read first in it, so that it is
--- initialised if anything is done
-abbrev pub is_ready : Object → Tree → Bool
-is_ready OfThis t = true
-is_ready (OfName spelling symbol) t = begins_at (identifier (resolved spelling symbol)) t && leaves t (resolved spelling symbol) symbol
+-- the object may be evaluated before this, whatever it does: it is `this`, or a name that is left, and that has a value there, or is read first in
+-- it, so that it has one if anything is done
+abbrev pub is_ready : Assured → Object → Tree → Bool
+is_ready V OfThis t = true
+is_ready V (OfName spelling symbol) t = (V.initial (Declared symbol) || begins_at (identifier (resolved spelling symbol)) t) && leaves t (resolved spelling symbol) symbol
 
--- 45: `a ? this.k = b : this.k = c` becomes `this.k = a ? b : c`, whatever a does; and so of x.k, where a reads x first: `x.a ? x.k = b : x.k = c`
--- becomes `x.k = x.a ? b : c`
+-- a key that is written out, or in brackets what keeps its value, too
+pub data Index : Type 0 where
+  Written : Key → Index
+  Held : Object → Index
+
+-- `t.k`, or `t[i]`
+abbrev pub member_at : Tree → Index → Tree
+member_at t (Written key) = member_on t key
+member_at t (Held of) = computed_member t (object of)
+
+abbrev pub is_kept_index : Assured → Index → Bool
+is_kept_index V (Written key) = true
+is_kept_index V (Held of) = is_kept V of
+
+-- it is evaluated right after the object, and is made a property key where the member is written (ECMA-262, "PutValue")
+abbrev pub is_ready_index : Assured → Index → Tree → Bool
+is_ready_index V (Written key) t = true
+is_ready_index V (Held of) t = is_ready V of t
+
+-- 45: `a ? this.k = b : this.k = c` becomes `this.k = a ? b : c`, whatever a does; and so of x.k, where x has a value: in a function with the parameter
+-- x `a() ? x.k = b : x.k = c` becomes `x.k = a() ? b : c`; or where a reads x first: `x.a ? x.k = b : x.k = c` becomes `x.k = x.a ? b : c`. And so of x[i]
+-- and this[i]
 pub record Row45Kept (V : Assured) (s : Seat) (n w : Tree) : Type 0 where
   pub a : Tree
   pub of : Object
-  pub key : Key
+  pub index : Index
   pub b : Tree
   pub c : Tree
   pub kept : is_kept V of ≡ true
-  pub ready : is_ready of a ≡ true
+  pub held : is_kept_index V index ≡ true
+  pub ready : is_ready V of a ≡ true
+  pub soon : is_ready_index V index a ≡ true
   pub seated : nat_eq s.level conditional_level ≡ false
-  pub shape : n ≡ conditional a (assignment Assign (member_on (object of) key) b) (assignment Assign (member_on (object of) key) c)
-  pub written : w ≡ assignment Assign (member_on (object of) key) (conditional a b c)
+  pub shape : n ≡ conditional a (assignment Assign (member_at (object of) index) b) (assignment Assign (member_at (object of) index) c)
+  pub written : w ≡ assignment Assign (member_at (object of) index) (conditional a b c)
 
 -- a row reads n as w in this seat
 abbrev pub MemberRow : Assured → Seat → Tree → Tree → Type 0

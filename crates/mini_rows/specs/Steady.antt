@@ -1,5 +1,5 @@
 -- Rows that rest on what is known of the body in which they stand, and the node that has the body.
-use Rattle.std.specs.Prelude.{◌≡◌, ℕ, zero, suc, Bool, true, false, List, Option, Contains}
+use Rattle.std.specs.Prelude.{◌≡◌, ◌&&◌, not, ℕ, zero, suc, Bool, true, false, List, Option, Contains}
 use Rattle.mini_model.specs.declared.kind.PropertyKind.{PropertyKind}
 use Rattle.mini_model.specs.declared.name.Name.{Name}
 use Rattle.mini_model.specs.declared.place.Position.{Position}
@@ -12,7 +12,7 @@ use Rattle.mini_laws.specs.Demand.{Demand}
 use Rattle.mini_laws.specs.Fits.{Fits}
 use Rattle.mini_laws.specs.Same.{Same}
 use Rattle.mini_laws.specs.State.{Environment}
-use Rattle.mini_laws.specs.Value.{Variable, VariableSet, nothing}
+use Rattle.mini_laws.specs.Value.{Variable, Declared, Global, VariableSet, nothing}
 use Rattle.mini_laws.specs.Naming.{summary}
 use Rattle.mini_laws.specs.Fixity.{fixed_by}
 use Rattle.mini_laws.specs.Bodies.{Around, bodies, arrow_kind}
@@ -25,9 +25,10 @@ use Rattle.mini_kept.specs.KeepsShapes.{KeepsShapes}
 use Rattle.mini_kept.specs.Lifted.{KeepsNames}
 use Rattle.mini_kept.specs.Loosely.{LawfulUnder}
 use Rattle.mini_kept.specs.Without.{Assured, BodySets, Steadies}
-use Rattle.mini_rows.specs.Fading.{Fading}
+use Rattle.mini_rows.specs.Fading.{FadingFrom}
 use Rattle.mini_rows.specs.Lexical.{LexicalRow}
 use Rattle.mini_rows.specs.Members.{MemberRow}
+use Rattle.mini_rows.specs.Past.{binds}
 
 -- a row reads n as w at this place, in a body of which this is known
 abbrev pub SteadyRow : Assured → Position → Tree → Tree → Type 0
@@ -44,10 +45,20 @@ OwnRows = Assured → Position → Tree → Tree → Type 0
 abbrev pub LexicalRows : OwnRows
 LexicalRows V = LexicalRow V.unshared
 
--- What a relation has to keep of a node in the code of a body of which this is known: it means the same but for variables that no event shows
--- and that may have no value where the node stood, a parent reads both alike, and it keeps shapes, names, bodies and frames
+-- the variables of X that have their values throughout this code of a body, if they have them as it starts: no scope in it declares them
+abbrev pub throughout : Tree → VariableSet → VariableSet
+throughout t X (Declared k) = X (Declared k) && not (binds k t)
+throughout t X (Global s) = false
+
+-- what is known wherever a node stands in the code of a body of which this is known
+abbrev pub known_in : Tree → Assured → Assured
+known_in t V = record V { initial = throughout t V.initial }
+
+-- What a relation has to keep of a node in the code of a body of which this is known, there where the node stands: it means the same but for
+-- variables that no event shows and that may have no value where the node stood, a parent reads both alike, and it keeps shapes, names, bodies
+-- and frames
 pub record KeepsOwn (V : Assured) (R : Position → Tree → Tree → Type 0) : Type 0 where
-  pub means : (e : Environment) → Steadies V e → (p : Position) (n w : Tree) → R p n w → (q : Demand) → Fits p q → Fading V.unshared e q n w
+  pub means : (e : Environment) → Steadies V e → (p : Position) (n w : Tree) → R p n w → (q : Demand) → Fits p q → FadingFrom V.unshared V.initial e q n w
   pub reads : (p : Position) (n w : Tree) → R p n w → summary n ≡ summary w
   -- as an arrow's body it is of the same kind
   pub kind : (p : Position) (n w : Tree) → R p n w → arrow_kind (shape_of n) ≡ arrow_kind (shape_of w)
@@ -81,7 +92,7 @@ mutual
     own_first : (π : ℕ → Position) (t u : Tree) (ts : Trees) → OwnStep R (π zero) t u → OwnStepIn R π (t ▸ ts) (u ▸ ts)
     own_later : (π : ℕ → Position) (t : Tree) (ts us : Trees) → OwnStepIn R (λ i. π (suc i)) ts us → OwnStepIn R π (t ▸ ts) (t ▸ us)
 
--- a function whose body takes such a step by a row of F, over what S says of the body with its number
+-- a function whose body takes such a step by a row of F, over what S says of the body with its number and what so is known in it
 pub record OwnFunctionRow (F : OwnRows) (S : BodySets) (n w : Tree) : Type 0 where
   pub is_declaration : Bool
   pub is_generator : Bool
@@ -91,7 +102,7 @@ pub record OwnFunctionRow (F : OwnRows) (S : BodySets) (n w : Tree) : Type 0 whe
   pub parameters : Tree
   pub before : Tree
   pub after : Tree
-  pub step : OwnStep (F (S number)) Elsewhere before after
+  pub step : OwnStep (F (known_in before (S number))) Elsewhere before after
   pub shape : n ≡ function_over is_declaration is_generator directives number name parameters before
   pub written : w ≡ function_over is_declaration is_generator directives number name parameters after
 
@@ -116,9 +127,13 @@ LexicalFunction = OwnFunction LexicalRows
 
 -- ---- the laws
 
--- what a row writes means the same in any environment in which that is so
+-- what a row writes means the same in any environment in which that is so, from each state in which those variables have values
 abbrev pub SteadyMeansSame : Type 0
-SteadyMeansSame = (V : Assured) (p : Position) (n w : Tree) → SteadyRow V p n w → (e : Environment) → Steadies V e → (q : Demand) → Fits p q → Same e nothing nothing q n w
+SteadyMeansSame = (V : Assured) (p : Position) (n w : Tree) → SteadyRow V p n w → (e : Environment) → Steadies V e → (q : Demand) → Fits p q → Same e nothing V.initial q n w
+
+-- where more variables have values, a family reads what it read
+abbrev pub ReadsMore : OwnRows → Type 0
+ReadsMore F = (V : Assured) (X : VariableSet) → ((x : Variable) → V.initial x ≡ true → X x ≡ true) → (p : Position) (n w : Tree) → F V p n w → F (record V { initial = X }) p n w
 
 -- it makes the whole lighter, wherever it stands, and so does what is written in the body of a function
 abbrev pub SteadyLightens : Type 0

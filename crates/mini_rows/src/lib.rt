@@ -61,8 +61,8 @@ pub use programs::{own_programs_are_lawful, own_programs_lighten};
 pub use redexes::rows_are_lawful;
 pub use sequences::{sequences_are_lawful, sequences_are_lighter, sequences_mean_the_same};
 pub use steady::{
-    own_code_is_lawful, own_code_lightens, steady_functions_are_lawful, steady_names_lighten,
-    steady_names_mean_the_same,
+    own_code_is_lawful, own_code_lightens, rows_read_more, steady_functions_are_lawful,
+    steady_names_lighten, steady_names_mean_the_same,
 };
 pub use templates::{templates_are_lawful, templates_lighten, templates_mean_the_same};
 pub use unused::{unused_are_lawful, unused_lighten};

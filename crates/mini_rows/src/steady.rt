@@ -1,10 +1,10 @@
 //! The rows that rest on it that names are steady.
 
 ghost use Rattle.mini_rows.specs.OwnArrows.{LexicalCodeIsLawful, LexicalCodeLightens, SteadyCodeIsLawful, SteadyCodeLightens};
-ghost use Rattle.mini_rows.specs.Steady.{SteadyFunctionsAreLawful, SteadyFunctionsLighten, SteadyLightens, SteadyMeansSame};
+ghost use Rattle.mini_rows.specs.Steady.{LexicalRows, ReadsMore, SteadyFunctionsAreLawful, SteadyFunctionsLighten, SteadyLightens, SteadyMeansSame, SteadyRow};
 
 /// What each row writes means the same wherever the expression stands, in any environment in which no answer changes the variables that
-/// are steady.
+/// are steady, from each state in which those have values that are known to.
 pub fn steady_names_mean_the_same()
     ensures { SteadyMeansSame }
 {}
@@ -13,6 +13,12 @@ pub fn steady_names_mean_the_same()
 pub fn steady_names_lighten()
     ensures row { SteadyLightens }
     ensures functions { SteadyFunctionsLighten }
+{}
+
+/// What these rows, and those of lexical names, read they read where more variables are known to have values.
+pub fn rows_read_more()
+    ensures members { ReadsMore SteadyRow }
+    ensures lexical { ReadsMore LexicalRows }
 {}
 
 /// What a row writes in the body of a function keeps all that a program has to keep, where the variables are steady in that body: it runs

@@ -1,4 +1,5 @@
 pub mod Chains
+pub mod Declarations
 pub mod Leaving
 pub mod Own
 pub mod Members

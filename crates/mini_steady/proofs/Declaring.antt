@@ -1,0 +1,214 @@
+-- The symbols that a tree declares, part by part; and that steps in a body declare no more.
+use Rattle.std.proofs.Common.{◌≡◌, ℕ, Bool, true, false, List, [], ◌∷◌, Option, Some, None, refl, sym, ap, ◌∙◌, inl, inr, arith, true≢false}
+use Rattle.std.specs.Prelude.{◌⊎◌, ◌<◌, ◌&&◌, ◌||◌, not, nat_eq, ◌++◌, Contains}
+use Rattle.std.proofs.Math.Path.{fun_ext}
+use Rattle.std.proofs.lemmas.Bool.{and_parts}
+use Rattle.std.proofs.lemmas.List.{append_assoc, append-nil}
+use Rattle.std.proofs.lemmas.List.Elements.{Contains-append_left, Contains-append_right, Contains-append_cases}
+use Rattle.mini_model.specs.declared.name.Name.{Name}
+use Rattle.mini_model.specs.declared.name.SymbolId.{SymbolId}
+use Rattle.mini_model.specs.declared.place.Position.{Position}
+use Rattle.mini_model.specs.declared.shape.Shape.{Shape}
+use Rattle.mini_model.specs.declared.shape.Shape.TheVariants as shape
+use Rattle.mini_model.specs.Tree.{Tree, Trees, node, none, ◌▸◌, children, shape_of}
+use Rattle.mini_model.specs.Rewriting.{done, more}
+use Rattle.mini_laws.specs.Value.{Variable, Declared, Global, VariableSet}
+use Rattle.mini_kept.specs.Declaring.{declared_by, declared, declared_all}
+use Rattle.mini_kept.specs.Without.{Assured, BodySets}
+use Rattle.mini_kept.proofs.Counts.{first_or_other, at_first, at_other}
+use Rattle.mini_kept.proofs.Declared.{reaches_declared}
+use Rattle.mini_node.specs.Children.{names_of}
+use Rattle.mini_rows.specs.Past.{is_binding, is_symbol, has_symbol, binds, any_bind}
+use Rattle.mini_rows.specs.Steady.{throughout, known_in, KeepsOwn, OwnStep}
+use Rattle.mini_rows.proofs.SteadyLawful.{forget}
+use Rattle.mini_steady.specs.Declarations.{symbol_of, symbols_of, own_symbols, declared_in, declared_among, is_listed, unlisted, known_of}
+use Rattle.mini_steady.specs.declared.code.BodyCode.{BodyCode}
+
+-- ---- the list, part by part
+
+pub one_symbol : (ss us : List SymbolId) (x : Name) (s : SymbolId) → x.symbol ≡ Some s → us ≡ ss ++ s ∷ [] → us ≡ ss ++ symbols_of (x ∷ [])
+one_symbol ss us x s e f = f ∙ sym (ap (λ o. ss ++ (symbol_of o ++ [])) e)
+
+pub no_symbol : (ss us : List SymbolId) (x : Name) → x.symbol ≡ None → us ≡ ss → us ≡ ss ++ symbols_of (x ∷ [])
+no_symbol ss us x e f = f ∙ sym (append-nil ss) ∙ sym (ap (λ o. ss ++ (symbol_of o ++ [])) e)
+
+pub no_name : (ss us : List SymbolId) → us ≡ ss → us ≡ ss ++ symbols_of []
+no_name ss us f = f ∙ sym (append-nil ss)
+
+pub own_there : (ss us : List SymbolId) (t : Tree) (b : Bool) (xs : List Name) → b ≡ true → us ≡ ss ++ symbols_of xs → us ≡ ss ++ own_symbols b xs
+own_there ss us t b xs e f = f ∙ sym (ap (λ c. ss ++ own_symbols c xs) e)
+
+pub own_none : (ss us : List SymbolId) (b : Bool) (xs : List Name) → b ≡ false → us ≡ ss → us ≡ ss ++ own_symbols b xs
+own_none ss us b xs e f = f ∙ sym (append-nil ss) ∙ sym (ap (λ c. ss ++ own_symbols c xs) e)
+
+pub node_there : (ss us vs : List SymbolId) (t : Tree) → us ≡ ss ++ own_symbols (is_binding (shape_of t)) (names_of t) → vs ≡ us ++ declared_among (children t) → vs ≡ ss ++ declared_in t
+node_there ss us vs (node h xs n ts) e f = f ∙ ap (λ ws. ws ++ declared_among ts) e ∙ append_assoc ss (own_symbols (is_binding h) xs) (declared_among ts)
+
+pub all_there : (ss us vs : List SymbolId) (t : Tree) (ts : Trees) → us ≡ ss ++ declared_in t → vs ≡ us ++ declared_among ts → vs ≡ ss ++ declared_among (t ▸ ts)
+all_there ss us vs t ts e f = f ∙ ap (λ ws. ws ++ declared_among ts) e ∙ append_assoc ss (declared_in t) (declared_among ts)
+
+pub none_there : (ss us : List SymbolId) → us ≡ ss → us ≡ ss ++ declared_among none
+none_there ss us f = f ∙ sym (append-nil ss)
+
+-- ---- a symbol is in it exactly where the tree declares it
+
+either_listed : (k : ℕ) (ss us : List SymbolId) → is_listed k (ss ++ us) ≡ (is_listed k ss || is_listed k us)
+either_listed k [] us = refl
+either_listed k (s ∷ ss) us = ap (λ b. nat_eq s.0 k || b) (either_listed k ss us) ∙ grouped (nat_eq s.0 k) (is_listed k ss) (is_listed k us)
+  where
+    grouped : (a b c : Bool) → (a || (b || c)) ≡ ((a || b) || c)
+    grouped true b c = refl
+    grouped false b c = refl
+
+named : (k : ℕ) (o : Option SymbolId) → is_listed k (symbol_of o) ≡ is_symbol k o
+named k (Some s) = by (nat_eq s.0 k)
+  where
+    by : (b : Bool) → (b || false) ≡ b
+    by true = refl
+    by false = refl
+named k None = refl
+
+all_named : (k : ℕ) (xs : List Name) → is_listed k (symbols_of xs) ≡ has_symbol k xs
+all_named k [] = refl
+all_named k (x ∷ xs) = either_listed k (symbol_of x.symbol) (symbols_of xs) ∙ (λ i. named k x.symbol i || all_named k xs i)
+
+own_listed : (k : ℕ) (b : Bool) (xs : List Name) → is_listed k (own_symbols b xs) ≡ (b && has_symbol k xs)
+own_listed k true xs = all_named k xs
+own_listed k false xs = refl
+
+mutual
+  listed_there : (k : ℕ) (t : Tree) → is_listed k (declared_in t) ≡ binds k t
+  listed_there k (node h xs n ts) = either_listed k (own_symbols (is_binding h) xs) (declared_among ts) ∙ (λ i. own_listed k (is_binding h) xs i || all_listed k ts i)
+
+  all_listed : (k : ℕ) (ts : Trees) → is_listed k (declared_among ts) ≡ any_bind k ts
+  all_listed k none = refl
+  all_listed k (t ▸ ts) = either_listed k (declared_in t) (declared_among ts) ∙ (λ i. listed_there k t i || all_listed k ts i)
+
+same_set : (t : Tree) (X : VariableSet) (x : Variable) → unlisted (declared_in t) X x ≡ throughout t X x
+same_set t X (Declared k) = ap (λ b. X (Declared k) && not b) (listed_there k t)
+same_set t X (Global s) = refl
+
+-- so what is known in the code of a body is what is known in it
+pub known_is : (S : BodySets) (c : BodyCode) (k : ℕ) (t : Tree) → c.number ≡ k → c.declared.items ≡ declared_in t → known_of S c ≡ known_in t (S k)
+known_is S c k t e f = (λ i. record (S (e i)) { initial = unlisted (f i) (S (e i)).initial }) ∙ ap (λ X. record (S k) { initial = X }) (fun_ext (same_set t (S k).initial))
+
+-- ---- what a tree declares
+
+record Declares (k : ℕ) (xs : List Name) : Type 0 where
+  name : Name
+  there : Contains xs name
+  is : is_symbol k name.symbol ≡ true
+
+or_split : (a b : Bool) → (a || b) ≡ true → (a ≡ true) ⊎ (b ≡ true)
+or_split true b e = inl refl
+or_split false b e = inr e
+
+on_left : (k : ℕ) (xs ys : List Name) → Declares k xs → Declares k (xs ++ ys)
+on_left k xs ys d = record { name = d.name; there = Contains-append_left xs ys d.name d.there; is = d.is }
+
+on_right : (k : ℕ) (xs ys : List Name) → Declares k ys → Declares k (xs ++ ys)
+on_right k xs ys d = record { name = d.name; there = Contains-append_right xs ys d.name d.there; is = d.is }
+
+among : (k : ℕ) (xs : List Name) → has_symbol k xs ≡ true → Declares k xs
+among k [] e = absurd (true≢false (sym e))
+among k (x ∷ xs) e = by (or_split (is_symbol k x.symbol) (has_symbol k xs) e)
+  where
+    by : (is_symbol k x.symbol ≡ true) ⊎ (has_symbol k xs ≡ true) → Declares k (x ∷ xs)
+    by (inl h) = record { name = x; there = at_first x x xs refl; is = h }
+    by (inr h) = let d = among k xs h in record { name = d.name; there = at_other d.name x xs d.there; is = d.is }
+
+of_among : (k : ℕ) (xs : List Name) → Declares k xs → has_symbol k xs ≡ true
+of_among k [] d = let none : d.there.0 < 0 = d.there.1 in absurd (omega (arith, none))
+of_among k (x ∷ xs) d = by (first_or_other d.name x xs d.there)
+  where
+    by : (x ≡ d.name) ⊎ Contains xs d.name → has_symbol k (x ∷ xs) ≡ true
+    by (inl e) = ap (λ y. is_symbol k y.symbol || has_symbol k xs) e ∙ ap (λ b. b || has_symbol k xs) d.is
+    by (inr c) = ap (λ b. is_symbol k x.symbol || b) (of_among k xs (record { name = d.name; there = c; is = d.is })) ∙ or_true (is_symbol k x.symbol)
+      where
+        or_true : (b : Bool) → (b || true) ≡ true
+        or_true true = refl
+        or_true false = refl
+
+own_declares : (k : ℕ) (h : Shape) (xs : List Name) → (is_binding h && has_symbol k xs) ≡ true → Declares k (declared_by h xs)
+own_declares k shape.BindingIdentifier xs e = among k xs e
+own_declares k h xs e = absurd (true≢false (sym e))
+
+of_own : (k : ℕ) (h : Shape) (xs : List Name) → Declares k (declared_by h xs) → (is_binding h && has_symbol k xs) ≡ true
+of_own k shape.BindingIdentifier xs d = of_among k xs d
+of_own k h xs d = let none : d.there.0 < 0 = d.there.1 in absurd (omega (arith, none))
+
+or_left : (a b : Bool) → a ≡ true → (a || b) ≡ true
+or_left true b e = refl
+or_left false b e = absurd (true≢false (sym e))
+
+or_right : (a b : Bool) → b ≡ true → (a || b) ≡ true
+or_right true b e = refl
+or_right false b e = e
+
+of_either : (k : ℕ) (xs ys : List Name) (a b : Bool) → (Declares k xs → a ≡ true) → (Declares k ys → b ≡ true) → Declares k (xs ++ ys) → (a || b) ≡ true
+of_either k xs ys a b f g d = by (Contains-append_cases xs ys d.name d.there)
+  where
+    by : Contains xs d.name ⊎ Contains ys d.name → (a || b) ≡ true
+    by (inl c) = or_left a b (f (record { name = d.name; there = c; is = d.is }))
+    by (inr c) = or_right a b (g (record { name = d.name; there = c; is = d.is }))
+
+mutual
+  declares : (k : ℕ) (t : Tree) → binds k t ≡ true → Declares k (declared t)
+  declares k (node h xs n ts) e = by (or_split (is_binding h && has_symbol k xs) (any_bind k ts) e)
+    where
+      by : ((is_binding h && has_symbol k xs) ≡ true) ⊎ (any_bind k ts ≡ true) → Declares k (declared (node h xs n ts))
+      by (inl a) = on_left k (declared_by h xs) (declared_all ts) (own_declares k h xs a)
+      by (inr a) = on_right k (declared_by h xs) (declared_all ts) (all_declare k ts a)
+
+  all_declare : (k : ℕ) (ts : Trees) → any_bind k ts ≡ true → Declares k (declared_all ts)
+  all_declare k none e = absurd (true≢false (sym e))
+  all_declare k (t ▸ ts) e = by (or_split (binds k t) (any_bind k ts) e)
+    where
+      by : (binds k t ≡ true) ⊎ (any_bind k ts ≡ true) → Declares k (declared_all (t ▸ ts))
+      by (inl a) = on_left k (declared t) (declared_all ts) (declares k t a)
+      by (inr a) = on_right k (declared t) (declared_all ts) (all_declare k ts a)
+
+mutual
+  of_declares : (k : ℕ) (t : Tree) → Declares k (declared t) → binds k t ≡ true
+  of_declares k (node h xs n ts) d = of_either k (declared_by h xs) (declared_all ts) (is_binding h && has_symbol k xs) (any_bind k ts) (of_own k h xs) (of_all k ts) d
+
+  of_all : (k : ℕ) (ts : Trees) → Declares k (declared_all ts) → any_bind k ts ≡ true
+  of_all k none d = let none' : d.there.0 < 0 = d.there.1 in absurd (omega (arith, none'))
+  of_all k (t ▸ ts) d = of_either k (declared t) (declared_all ts) (binds k t) (any_bind k ts) (of_declares k t) (of_all k ts) d
+
+-- ---- a step in the code of a body declares no more
+
+-- what the first doesn't declare the second doesn't
+pub Fewer : Tree → Tree → Type 0
+Fewer t u = (k : ℕ) → binds k t ≡ false → binds k u ≡ false
+
+pub fewer_itself : (t : Tree) → Fewer t t
+unfolding Fewer
+fewer_itself t k e = e
+
+pub fewer_then : (t u v : Tree) → Fewer t u → Fewer u v → Fewer t v
+unfolding Fewer
+fewer_then t u v f g k e = g k (f k e)
+
+pub step_fewer : (V : Assured) (R : Position → Tree → Tree → Type 0) → KeepsOwn V R → (p : Position) (t u : Tree) → OwnStep R p t u → Fewer t u
+unfolding Fewer
+step_fewer V R keeps p t u s k e = by (binds k u) refl
+  where
+    by : (b : Bool) → binds k u ≡ b → b ≡ false
+    by false h = refl
+    by true h =
+        let d = declares k u h in
+        let there = reaches_declared R keeps.declared (more p t u u (forget V R keeps s) (done p u)) d.name d.there in
+        absurd (true≢false (sym (of_declares k t (record { name = d.name; there = there; is = d.is })) ∙ e))
+
+-- so all that was known in it is known after the step
+pub known_more : (V : Assured) (t u : Tree) → Fewer t u → (x : Variable) → (known_in t V).initial x ≡ true → throughout u V.initial x ≡ true
+unfolding Fewer
+known_more V t u f (Declared k) h =
+    let (there, free) = and_parts (V.initial (Declared k)) (not (binds k t)) h in
+    (λ i. there i && not (f k (not_so (binds k t) free) i))
+  where
+    not_so : (b : Bool) → not b ≡ true → b ≡ false
+    not_so true e = absurd (true≢false (sym e))
+    not_so false e = refl
+known_more V t u f (Global s) h = h
