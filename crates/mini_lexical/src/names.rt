@@ -3,7 +3,7 @@
 ghost use Rattle.std.specs.Prelude.{◌≡◌, IfOk};
 ghost use Rattle.mini_rows.specs.Lexical.{LexicalStatement};
 ghost use Rattle.mini_rows.specs.Steady.{LexicalRows};
-ghost use Rattle.mini_rows.proofs.LexicalKept.{lexical_own};
+ghost use Rattle.mini_rows.proofs.LexicalKept.{lexical_more, lexical_own};
 ghost use Rattle.mini_lexical.specs.MinimizeLexicalStatement.{AppliedBy};
 ghost use Rattle.mini_lexical.specs.Open.{lexical_open};
 
@@ -11,7 +11,7 @@ use crate::loops::minimize_lexical_for_statement;
 use crate::switches::minimize_lexical_switch_statement;
 use mini_model::{OutOfMemory, Position};
 use mini_node::Node;
-use mini_steady::{OwnRewrites, SteadyNames};
+use mini_steady::{BodyCode, OwnRewrites, SteadyNames};
 use std::alloc::Global;
 
 // Either of a statement.
@@ -41,16 +41,23 @@ impl<S: SteadyNames> OwnRewrites<S> for LexicalNames {
         alloc: Global,
         node: &mut Node,
         place: Position,
-        body: u32,
+        body: &BodyCode,
         steady: &S,
     ) -> Result<bool, OutOfMemory> {
         match place {
-            Position::Stmt(_) => Ok(minimize_lexical_statement(alloc, node, body, steady)?),
+            Position::Stmt(_) => Ok(minimize_lexical_statement(
+                alloc,
+                node,
+                body.number,
+                steady,
+            )?),
             _ => Ok(false),
         }
     }
 
     ghost opens = { lexical_open };
+
+    ghost more = { lexical_more };
 
     ghost keeps = { lexical_own };
 }

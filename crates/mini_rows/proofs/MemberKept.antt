@@ -27,7 +27,7 @@ use Rattle.mini_kept.specs.Frames.{frames, frames_from, property_below}
 use Rattle.mini_kept.specs.Without.{Assured, Steadies}
 use Rattle.mini_laws.proofs.Congruent.{weaker, no_within}
 use Rattle.mini_laws.proofs.Simulation.{within_refl}
-use Rattle.mini_kept.proofs.Expressions.{expression, of_conditional, expression_taken, three_fit}
+use Rattle.mini_kept.proofs.Expressions.{expression, of_conditional, expression_taken}
 use Rattle.mini_rows.specs.Arranged.{KeptAt, Vanishes}
 use Rattle.mini_rows.specs.Choices.{Key, Named, Spelled, Numbered, member_on, computing, deciding, keeps_parentheses}
 use Rattle.mini_rows.specs.Lists.{sequence}

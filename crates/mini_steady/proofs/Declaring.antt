@@ -19,7 +19,9 @@ use Rattle.mini_kept.proofs.Counts.{first_or_other, at_first, at_other}
 use Rattle.mini_kept.proofs.Declared.{reaches_declared}
 use Rattle.mini_node.specs.Children.{names_of}
 use Rattle.mini_rows.specs.Past.{is_binding, is_symbol, has_symbol, binds, any_bind}
-use Rattle.mini_rows.specs.Steady.{throughout, known_in, KeepsOwn, OwnStep}
+use Rattle.mini_rows.specs.Steady.{throughout, known_in, KeepsOwn, OwnRows, ReadsMore, OwnStep, own_here, own_inside, OwnStepIn, own_first, own_later}
+use Rattle.mini_steady.specs.Chains.{Several, once, again}
+use Rattle.mini_steady.specs.Own.{KeepsEach}
 use Rattle.mini_rows.proofs.SteadyLawful.{forget}
 use Rattle.mini_steady.specs.Declarations.{symbol_of, symbols_of, own_symbols, declared_in, declared_among, is_listed, unlisted, known_of}
 use Rattle.mini_steady.specs.declared.code.BodyCode.{BodyCode}
@@ -212,3 +214,33 @@ known_more V t u f (Declared k) h =
     not_so true e = absurd (true≢false (sym e))
     not_so false e = refl
 known_more V t u f (Global s) h = h
+
+-- ---- steps in a body, one after another
+
+module _ (R Q : Position → Tree → Tree → Type 0) (same : (p : Position) (n w : Tree) → R p n w → Q p n w) where
+  mutual
+    step_by : {p : Position} {t u : Tree} → OwnStep R p t u → OwnStep Q p t u
+    step_by (own_here p n w r) = own_here p n w (same p n w r)
+    step_by (own_inside p h xs ts us b s) = own_inside p h xs ts us b (steps_by s)
+
+    steps_by : {π : ℕ → Position} {ts us : Trees} → OwnStepIn R π ts us → OwnStepIn Q π ts us
+    steps_by (own_first π t u ts s) = own_first π t u ts (step_by s)
+    steps_by (own_later π t ts us s) = own_later π t ts us (steps_by s)
+
+-- what is known as the first begins is known at each, so that each is a step over its own code
+module _ (F : OwnRows) (keeps : KeepsEach F) (wide : ReadsMore F) (V : Assured) (p : Position) (Q : Tree → Tree → Type 0) (over : Tree → Tree) (step_in : (t u : Tree) → OwnStep (F (known_in t V)) p t u → Q (over t) (over u)) where
+  one_in : (s t u : Tree) → Fewer s t → OwnStep (F (known_in s V)) p t u → Q (over t) (over u) × Fewer s u
+  one_in s t u f r = (
+    step_in t u (step_by (F (known_in s V)) (F (known_in t V)) (wide (known_in s V) (throughout t V.initial) (known_more V s t f)) r),
+    fewer_then s t u f (step_fewer (known_in s V) (F (known_in s V)) (keeps (known_in s V)) p t u r),
+  )
+
+  several_in : (s t u : Tree) → Fewer s t → Several (OwnStep (F (known_in s V)) p) t u → Several Q (over t) (over u) × Fewer s u
+  several_in s _ _ f (once t u r) = let (q, g) = one_in s t u f r in (once (over t) (over u) q, g)
+  several_in s _ _ f (again t u v a r) =
+      let (qs, g) = several_in s t u f a in
+      let (q, h) = one_in s u v g r in
+      (again (over t) (over u) (over v) qs q, h)
+
+  pub several_known : (t u : Tree) → Several (OwnStep (F (known_in t V)) p) t u → Several Q (over t) (over u)
+  several_known t u m = (several_in t t u (fewer_itself t) m).0

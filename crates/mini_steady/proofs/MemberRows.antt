@@ -19,11 +19,11 @@ use Rattle.mini_laws.specs.Value.{Declared, VariableSet}
 use Rattle.mini_kept.specs.Without.{Assured}
 use Rattle.mini_node.specs.Children.{part, names_of, first_children}
 use Rattle.mini_node.specs.Equal.{same_tree}
-use Rattle.mini_node.specs.Kinds.{assignment, assignment_operator, binary, binary_operator, is_conditional, is_identifier, is_sequence, logical_operator, sequence}
-use Rattle.mini_node.specs.Made.{binary_is, conditional_is, identifier_is, logical_is, sequence_is}
+use Rattle.mini_node.specs.Kinds.{assignment, assignment_operator, binary, binary_operator, computed_member, is_computed_member, is_conditional, is_identifier, is_sequence, logical_operator, sequence}
+use Rattle.mini_node.specs.Made.{binary_is, computed_member_is, conditional_is, identifier_is, logical_is, sequence_is}
 use Rattle.mini_node.proofs.Equality.{tree_same, tree_itself}
 use Rattle.mini_rows.specs.Choices.{Key, Named, Spelled, Numbered, member_on, computing, deciding, keeps_parentheses}
-use Rattle.mini_rows.specs.Members.{this, Object, OfThis, OfName, object, is_kept, are_left, is_ready, Row38Member, Row38MemberLast, Row35This, Row45Kept, MemberRow}
+use Rattle.mini_rows.specs.Members.{this, Object, OfThis, OfName, object, is_kept, are_left, is_ready, Index, Written, Held, member_at, is_kept_index, is_ready_index, Row38Member, Row38MemberLast, Row35This, Row45Kept, MemberRow}
 use Rattle.mini_rows.specs.Past.{leaves}
 use Rattle.mini_rows.specs.Steady.{SteadyRow}
 use Rattle.mini_rows.specs.Unused.{resolved}
@@ -34,7 +34,7 @@ use Rattle.mini_choices.specs.MinimizeNormalAssignmentToCombinedAssignment.{comp
 use Rattle.mini_choices.proofs.CombinedAssignment.{plainly_is, written_key, key_there}
 use Rattle.mini_choices.proofs.LogicalSequence.{but_last, ends, ends_with, last_there, several_there}
 use Rattle.mini_choices.proofs.Trials.{some_is, not_true, both_true, first_true, later_true}
-use Rattle.mini_steady.specs.Leaving.{all_leave, is_ready_before, is_this}
+use Rattle.mini_steady.specs.Leaving.{all_leave, is_this}
 use Rattle.mini_steady.specs.Members as row
 use Rattle.mini_steady.specs.Members.{MembersAreRows, UnwrittenMembersRest}
 use Rattle.mini_steady.specs.Own.{AppliedHere}
@@ -160,9 +160,60 @@ alike of none = refl
 alike OfThis (t ▸ ts) = alike OfThis ts
 alike (OfName spelling symbol) (t ▸ ts) = ap (λ b. leaves t (resolved spelling symbol) symbol && b) (alike (OfName spelling symbol) ts)
 
-ready_alike : (of : Object) (t : Tree) → is_ready_before (object of) t ≡ is_ready of t
-ready_alike OfThis t = refl
-ready_alike (OfName spelling symbol) t = refl
+ready_alike : (V : Assured) (of : Object) (t : Tree) → row.is_ready_before V (object of) t ≡ is_ready V of t
+ready_alike V OfThis t = refl
+ready_alike V (OfName spelling symbol) t = refl
+
+-- a member whose parts may be evaluated before a test
+record ReadyMember (V : Assured) (a t : Tree) : Type 0 where
+  of : Object
+  index : Index
+  kept : is_kept V of ≡ true
+  held : is_kept_index V index ≡ true
+  ready : is_ready V of a ≡ true
+  soon : is_ready_index V index a ≡ true
+  is : t ≡ member_at (object of) index
+
+of_ready : (V : Assured) (a t : Tree) (of : Object) → t ≡ object of → row.is_ready_before V t a ≡ true → is_ready V of a ≡ true
+of_ready V a t of e h = sym (ready_alike V of a) ∙ sym (ap (λ o. row.is_ready_before V o a) e) ∙ h
+
+ready_member : (V : Assured) (a t : Tree) → row.is_ready_member V a t ≡ true → ReadyMember V a t
+ready_member V a t e = by (row.is_kept_member V t && row.is_ready_before V (part t 0) a) refl e
+  where
+    by : (b : Bool) → row.is_kept_member V t && row.is_ready_before V (part t 0) a ≡ b → (b || (row.is_held_member V t && (row.is_ready_before V (part t 0) a && row.is_ready_before V (part t 1) a))) ≡ true → ReadyMember V a t
+    by true h e =
+        let (member, ready) = and_parts (row.is_kept_member V t) (row.is_ready_before V (part t 0) a) h in
+        let m = kept_member V t member in
+        record { of = m.of; index = Written m.key; kept = m.kept; held = refl; ready = of_ready V a (part t 0) m.of m.object_is ready; soon = refl; is = m.is }
+    by false h e =
+        let (member, ready) = and_parts (row.is_held_member V t) (row.is_ready_before V (part t 0) a && row.is_ready_before V (part t 1) a) e in
+        let (there, kept) = and_parts (is_computed_member t) (row.is_kept_object V (part t 0) && row.is_kept_object V (part t 1)) member in
+        let (first, second) = and_parts (row.is_kept_object V (part t 0)) (row.is_kept_object V (part t 1)) kept in
+        let (before, soon) = and_parts (row.is_ready_before V (part t 0) a) (row.is_ready_before V (part t 1) a) ready in
+        let o = kept_object V (part t 0) first in
+        let i = kept_object V (part t 1) second in
+        record { of = o.of; index = Held i.of; kept = o.kept; held = i.kept; ready = of_ready V a (part t 0) o.of o.is before; soon = of_ready V a (part t 1) i.of i.is soon; is = computed_member_is t there ∙ (λ j. computed_member (o.is j) (i.is j)) }
+
+ready_passes : (V : Assured) (a : Tree) (of : Object) (index : Index) → is_kept V of ≡ true → is_kept_index V index ≡ true → is_ready V of a ≡ true → is_ready_index V index a ≡ true → row.is_ready_member V a (member_at (object of) index) ≡ true
+ready_passes V a of (Written k) kept held ready soon =
+    let m = member_on (object of) k in
+    or_left (row.is_kept_member V m && row.is_ready_before V (part m 0) a) _
+    (both_true (row.is_kept_member V m) (row.is_ready_before V (part m 0) a) (member_passes V of k kept)
+    (ap (λ o. row.is_ready_before V o a) (owner (object of) k) ∙ ready_alike V of a ∙ ready))
+ready_passes V a of (Held i) kept held ready soon =
+    let m = computed_member (object of) (object i) in
+    or_right (row.is_kept_member V m && row.is_ready_before V (object of) a) _
+    (both_true (row.is_kept_object V (object of) && row.is_kept_object V (object i)) (row.is_ready_before V (object of) a && row.is_ready_before V (object i) a)
+    (both_true (row.is_kept_object V (object of)) (row.is_kept_object V (object i)) (object_passes V of kept) (object_passes V i held))
+    (both_true (row.is_ready_before V (object of) a) (row.is_ready_before V (object i) a) (ready_alike V of a ∙ ready) (ready_alike V i a ∙ soon)))
+
+or_left : (a b : Bool) → a ≡ true → (a || b) ≡ true
+or_left true b e = refl
+or_left false b e = absurd (false≢true e)
+
+or_right : (a b : Bool) → b ≡ true → (a || b) ≡ true
+or_right true b e = refl
+or_right false b e = e
 
 some_of : {A : Type 0} (x : Option A) (d : A) → is_some x ≡ true → x ≡ Some (unwrap_or x d)
 some_of (Some a) d e = refl
@@ -265,21 +316,22 @@ module _ (V : Assured) (n : Tree) where
       let t : Tree = part yes 0 in
       let (seated, r1) = and_parts (is_seated s) (is_conditional n && row.assigns_either V test yes no) e in
       let (choice, r2) = and_parts (is_conditional n) (row.assigns_either V test yes no) r1 in
-      let (first, r3) = and_parts (is_plain (assignment_operator yes)) (is_plain (assignment_operator no) && (same_tree t (part no 0) && (row.is_kept_member V t && is_ready_before (part t 0) test))) r2 in
-      let (second, r4) = and_parts (is_plain (assignment_operator no)) (same_tree t (part no 0) && (row.is_kept_member V t && is_ready_before (part t 0) test)) r3 in
-      let (same, r5) = and_parts (same_tree t (part no 0)) (row.is_kept_member V t && is_ready_before (part t 0) test) r4 in
-      let (member, ready) = and_parts (row.is_kept_member V t) (is_ready_before (part t 0) test) r5 in
-      let m = kept_member V t member in
+      let (first, r3) = and_parts (is_plain (assignment_operator yes)) (is_plain (assignment_operator no) && (same_tree t (part no 0) && row.is_ready_member V test t)) r2 in
+      let (second, r4) = and_parts (is_plain (assignment_operator no)) (same_tree t (part no 0) && row.is_ready_member V test t) r3 in
+      let (same, member) = and_parts (same_tree t (part no 0)) (row.is_ready_member V test t) r4 in
+      let m = ready_member V test t member in
       let one = plainly_is yes first ∙ ap (λ u. assignment Assign u (part yes 1)) m.is in
       let other = plainly_is no second ∙ ap (λ u. assignment Assign u (part no 1)) (sym (tree_same t (part no 0) same) ∙ m.is) in
       record {
         a = test;
         of = m.of;
-        key = m.key;
+        index = m.index;
         b = part yes 1;
         c = part no 1;
         kept = m.kept;
-        ready = sym (ready_alike m.of test) ∙ sym (ap (λ o. is_ready_before o test) m.object_is) ∙ ready;
+        held = m.held;
+        ready = m.ready;
+        soon = m.soon;
         seated = not_true (nat_eq s.level conditional_level) seated;
         shape = conditional_is n choice ∙ (λ j. conditional test (one j) (other j));
         written = ap (λ p. assignment (unwrap_or p Assign) t (conditional test (part yes 1) (part no 1))) (plain_operator yes first) ∙ ap (λ u. assignment Assign u (conditional test (part yes 1) (part no 1))) m.is;
@@ -343,14 +395,12 @@ module _ (V : Assured) (s : Seat) (n w : Tree) where
 
   by_chosen : Row45Kept V s n w → is_some (row.written V s n) ≡ true
   by_chosen r =
-      let m : Tree = member_on (object r.of) r.key in
+      let m : Tree = member_at (object r.of) r.index in
       after_last (later_true (row.computes_this V n) (row.member_combined n) (row.chosen_written V s n)
       (first_true (row.chooses_member V s n) (assigned n) None
       (ap (row.chooses_member V s) r.shape
-      ∙ both_true (is_seated s) (same_tree m m && (row.is_kept_member V m && is_ready_before (part m 0) r.a)) (ap not r.seated)
-      (both_true (same_tree m m) (row.is_kept_member V m && is_ready_before (part m 0) r.a) (tree_itself m)
-      (both_true (row.is_kept_member V m) (is_ready_before (part m 0) r.a) (member_passes V r.of r.key r.kept)
-      (ap (λ o. is_ready_before o r.a) (owner (object r.of) r.key) ∙ ready_alike r.of r.a ∙ r.ready))))))
+      ∙ both_true (is_seated s) (same_tree m m && row.is_ready_member V r.a m) (ap not r.seated)
+      (both_true (same_tree m m) (row.is_ready_member V r.a m) (tree_itself m) (ready_passes V r.a r.of r.index r.kept r.held r.ready r.soon)))))
 
   passes : MemberRow V s n w → is_some (row.written V s n) ≡ true
   passes (inl r) = by_member r

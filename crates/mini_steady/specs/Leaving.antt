@@ -1,12 +1,11 @@
 -- What leaves the object of a member as it is.
-use Rattle.std.specs.Prelude.{ℕ, Bool, true, false, ◌&&◌, ◌||◌, List, [], ◌∷◌, Option, Some, None}
+use Rattle.std.specs.Prelude.{ℕ, Bool, true, false, ◌&&◌, List, [], ◌∷◌, Option, Some, None}
 use Rattle.mini_model.specs.declared.name.Name.{Name}
 use Rattle.mini_model.specs.declared.name.SymbolId.{SymbolId}
 use Rattle.mini_model.specs.declared.shape.Shape.{Shape}
 use Rattle.mini_model.specs.declared.shape.Shape.TheVariants as shape
 use Rattle.mini_model.specs.Tree.{Tree, Trees, none, ◌▸◌, shape_of}
 use Rattle.mini_node.specs.Children.{names_of, is_bare}
-use Rattle.mini_rows.specs.Members.{begins_at}
 use Rattle.mini_rows.specs.Past.{is_binding, has_symbol, leaves}
 
 -- a node declares a name with the symbol
@@ -37,7 +36,3 @@ is_this_shape h = false
 -- `this`
 abbrev pub is_this : Tree → Bool
 is_this t = is_this_shape (shape_of t) && is_bare t 0
-
--- the object may be evaluated before this: it is `this`, or a name that is read first, and left
-abbrev pub is_ready_before : Tree → Tree → Bool
-is_ready_before o t = is_this o || (begins_at o t && leaves_object o t)

@@ -14,16 +14,16 @@ use Rattle.mini_laws.specs.Value.{Declared, VariableSet}
 use Rattle.mini_kept.specs.Without.{Assured}
 use Rattle.mini_node.specs.Children.{part, names_of, first_children}
 use Rattle.mini_node.specs.Equal.{same_tree}
-use Rattle.mini_node.specs.Kinds.{assignment_operator, binary_operator, is_conditional, is_identifier, is_sequence, logical_operator}
+use Rattle.mini_node.specs.Kinds.{assignment_operator, binary_operator, is_computed_member, is_conditional, is_identifier, is_sequence, logical_operator}
 use Rattle.mini_rows.specs.Choices.{keeps_parentheses}
-use Rattle.mini_rows.specs.Members.{MemberRow}
+use Rattle.mini_rows.specs.Members.{begins_at, MemberRow}
 use Rattle.mini_rows.specs.Steady.{SteadyRow}
 use Rattle.mini_choices.specs.Assigning.{is_plain, has_written_key}
 use Rattle.mini_choices.specs.MinimizeConditionalBranches.{is_seated, assigned}
 use Rattle.mini_choices.specs.MinimizeLogicalExpression as decide
 use Rattle.mini_choices.specs.MinimizeLogicalSequence as decide_last
 use Rattle.mini_choices.specs.MinimizeNormalAssignmentToCombinedAssignment.{computing_in, combined}
-use Rattle.mini_steady.specs.Leaving.{all_leave, is_ready_before, is_this}
+use Rattle.mini_steady.specs.Leaving.{all_leave, is_this, leaves_object}
 use Rattle.mini_steady.specs.Own.{is_open, ReadsOpen}
 
 -- ---- members of what keeps its value
@@ -94,11 +94,23 @@ member_combined t = combined (unwrap_or (computing_operator (part t 1)) Assign) 
 
 -- ---- 45
 
--- both are assignments to one member, whose object may be evaluated before the test
-abbrev pub assigns_either : Assured → Tree → Tree → Tree → Bool
-assigns_either V a t u = is_plain (assignment_operator t) && (is_plain (assignment_operator u) && (same_tree (part t 0) (part u 0) && (is_kept_member V (part t 0) && is_ready_before (part (part t 0) 0) a)))
+-- it may be evaluated before this: it is `this`, or a name that is left, and that has a value there or is read first
+abbrev pub is_ready_before : Assured → Tree → Tree → Bool
+is_ready_before V o t = is_this o || ((is_steady_in V.initial (names_of o) || begins_at o t) && leaves_object o t)
 
--- `a ? this.k = b : this.k = c`, or `x.a ? x.k = b : x.k = c`, where an assignment stands as a conditional does
+-- `x[i]`, where both keep their values
+abbrev pub is_held_member : Assured → Tree → Bool
+is_held_member V t = is_computed_member t && (is_kept_object V (part t 0) && is_kept_object V (part t 1))
+
+-- a member whose parts may be evaluated before this
+abbrev pub is_ready_member : Assured → Tree → Tree → Bool
+is_ready_member V a t = (is_kept_member V t && is_ready_before V (part t 0) a) || (is_held_member V t && (is_ready_before V (part t 0) a && is_ready_before V (part t 1) a))
+
+-- both are assignments to one member, whose parts may be evaluated before the test
+abbrev pub assigns_either : Assured → Tree → Tree → Tree → Bool
+assigns_either V a t u = is_plain (assignment_operator t) && (is_plain (assignment_operator u) && (same_tree (part t 0) (part u 0) && is_ready_member V a (part t 0)))
+
+-- `a ? this.k = b : this.k = c`, or `a ? x.k = b : x.k = c`, where an assignment stands as a conditional does
 abbrev pub chooses_member : Assured → Seat → Tree → Bool
 chooses_member V s t = is_seated s && (is_conditional t && assigns_either V (part t 0) (part t 1) (part t 2))
 

@@ -5,6 +5,7 @@ ghost use Rattle.mini_model.specs.Tree.{children, count};
 ghost use Rattle.mini_steady.specs.Arrows as row;
 ghost use Rattle.mini_steady.specs.Arrows.{AppliedInArrow};
 
+use crate::code::code_of;
 use crate::functions::has_no_name;
 use crate::own::{OwnRewrites, minimize_own_code};
 use crate::steady::SteadyNames;
@@ -38,6 +39,7 @@ pub fn minimize_in_arrow<S: SteadyNames, W: OwnRewrites<S>>(
     }
     let number = node.number();
     let place = child_place(node.shape(), Position::Elsewhere, 2, 1);
+    let code = code_of(alloc, number, node.child(1))?;
     let body = node.children_mut().child_mut(1);
-    Ok(minimize_own_code(alloc, body, place, number, steady, rewrites)?)
+    Ok(minimize_own_code(alloc, body, place, &code, steady, rewrites)?)
 }

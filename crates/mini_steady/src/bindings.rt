@@ -27,7 +27,8 @@ fn has_symbol(symbol: SymbolId, name: &Option<Name>) -> bool
     }
 }
 
-fn is_binding(shape: &Shape) -> bool
+/// Whether a node of this shape declares a name.
+pub fn is_binding(shape: &Shape) -> bool
     ensures { result ≡ reading.is_binding shape.now }
 {
     matches!(shape, Shape::BindingIdentifier)

@@ -15,6 +15,7 @@ use mini_node::Node;
 use std::alloc::Global;
 
 /// What rows in a body ask: of which body, and which symbols are declared in its code.
+#[derive(Drop)]
 pub struct BodyCode {
     /// The number of the body.
     pub number: u32,

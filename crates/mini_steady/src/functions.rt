@@ -6,6 +6,7 @@ ghost use Rattle.mini_node.specs.Children.{names};
 ghost use Rattle.mini_steady.specs.Functions as row;
 ghost use Rattle.mini_steady.specs.Functions.{AppliedInFunction};
 
+use crate::code::code_of;
 use crate::own::{OwnRewrites, minimize_own_code};
 use crate::steady::SteadyNames;
 use mini_model::{Name, OutOfMemory, Position, Shape};
@@ -47,6 +48,7 @@ pub fn minimize_in_function<S: SteadyNames, W: OwnRewrites<S>>(
         return Ok(false);
     }
     let number = node.number();
+    let code = code_of(alloc, number, node.child(2))?;
     let body = node.children_mut().child_mut(2);
-    Ok(minimize_own_code(alloc, body, Position::Elsewhere, number, steady, rewrites)?)
+    Ok(minimize_own_code(alloc, body, Position::Elsewhere, &code, steady, rewrites)?)
 }

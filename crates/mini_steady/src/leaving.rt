@@ -1,5 +1,4 @@
-//! What leaves the object of a member as it is, and where it may be evaluated before: `this` is left by all, and a name by what neither declares nor
-//! writes it.
+//! What leaves the object of a member as it is, and what is evaluated first: `this` is left by all, and a name by what neither declares nor writes it.
 
 ghost use Rattle.std.specs.Prelude.{◌≡◌, ◌<◌, ◌≤◌, false};
 ghost use Rattle.mini_model.specs.Tree.{children, count};
@@ -50,9 +49,9 @@ fn opens(shape: &Shape, is_leaf: bool) -> bool
     }
 }
 
-// Whether what is evaluated before all else in a tree is this leaf.
+/// Whether what is evaluated before all else in a tree is this leaf.
 #[tactic(auto, using(crate::proofs::LeftParts::begins_leaf, crate::proofs::LeftParts::begins_below, crate::proofs::LeftParts::first_smaller))]
-fn begins_at(leaf: &Node, node: &Node) -> bool
+pub fn begins_at(leaf: &Node, node: &Node) -> bool
     ensures { result ≡ begins_at_it leaf.now node.now }
 {
     if is_childless(node) {
@@ -60,13 +59,6 @@ fn begins_at(leaf: &Node, node: &Node) -> bool
     }
     let first = node.child(0);
     opens(node.shape(), is_childless(first)) && begins_at(leaf, first)
-}
-
-/// Whether the object may be evaluated before this.
-pub fn is_ready_before(object: &Node, node: &Node) -> bool
-    ensures { result ≡ row.is_ready_before object.now node.now }
-{
-    is_this(object) || begins_at(object, node) && leaves_object(object, node)
 }
 
 // Whether a node neither declares nor writes the name, if there is one.
@@ -82,8 +74,8 @@ fn leaves_name(name: &Option<Name>, node: &Node) -> bool
     }
 }
 
-// The same of the object, if it is one.
-fn leaves_object(object: &Node, node: &Node) -> bool
+/// The same of the object, if it is one.
+pub fn leaves_object(object: &Node, node: &Node) -> bool
     ensures { result ≡ row.leaves_object object.now node.now }
 {
     leaves_name(object.name(), node)

@@ -4,6 +4,7 @@
 
 mod arrows;
 mod bindings;
+mod code;
 mod functions;
 mod laws;
 mod leaving;
@@ -17,6 +18,7 @@ mod writing;
 
 pub use arrows::minimize_in_arrow;
 pub use bindings::{any_bind, binds};
+pub use code::{BodyCode, code_of, is_initialised};
 pub use functions::minimize_in_function;
 pub use laws::{members_are_rows, told_stays};
 pub use members::{SteadyMembers, minimize_members};

@@ -1,17 +1,19 @@
 //! Rows 35, 38 and 45 of members of what keeps its value while a body runs, `this` or a name that is steady: `x.k || (x.k = b)` becomes
 //! `x.k ||= b`, `x.k || (a, x.k = b)` `x.k ||= (a, b)`, `this.k = this.k + b` `this.k += b`, and `a ? this.k = b : this.k = c`
-//! `this.k = a ? b : c`, and so of x.k, where a reads x first. Each is lighter in every seat.
+//! `this.k = a ? b : c`, and so of x.k and x[i], where x and i have values throughout the body, or a reads them first. Each is lighter in every seat.
 
 ghost use Rattle.std.specs.Prelude.{◌≡◌, ◌<◌, true, is_some, unwrap_or, OnOk, IfOk};
 ghost use Rattle.mini_model.specs.Tree.{children, count};
 ghost use Rattle.mini_node.specs.Children.{names};
 ghost use Rattle.mini_choices.specs.MinimizeLogicalSequence.{parts_of};
+ghost use Rattle.mini_steady.specs.Declarations.{known_of};
 ghost use Rattle.mini_steady.specs.Members as row;
-ghost use Rattle.mini_rows.proofs.SteadyKept.{steady_own};
+ghost use Rattle.mini_rows.proofs.SteadyKept.{steady_more, steady_own};
 ghost use Rattle.mini_rows.specs.Steady.{SteadyRow};
 ghost use Rattle.mini_steady.specs.Members.{members_open, written};
 
-use crate::leaving::{is_ready_before, is_this, leave_before};
+use crate::code::{BodyCode, is_initialised};
+use crate::leaving::{begins_at, is_this, leave_before, leaves_object};
 use crate::own::OwnRewrites;
 use crate::steady::SteadyNames;
 use mini_choices::{
@@ -20,18 +22,18 @@ use mini_choices::{
 };
 use mini_model::{AssignmentOperator, LogicalOperator, Name, OutOfMemory, Position, Seat};
 use mini_node::{
-    Node, Nodes, binary_operator, is_conditional, is_identifier, is_same_tree, is_sequence,
-    logical_operator, taken,
+    Node, Nodes, binary_operator, is_computed_member, is_conditional, is_identifier, is_same_tree,
+    is_sequence, logical_operator, taken,
 };
 use std::alloc::Global;
 
-// Whether a scope declares the name, and it is steady in the body with this number.
-fn is_steady<S: SteadyNames>(name: &Option<Name>, body: u32, steady: &S) -> bool
-    ensures { result ≡ row.is_steady_in (S.sets steady.now body).steady (names name.now) }
+// Whether a scope declares the name, and it is steady in the body.
+fn is_steady<S: SteadyNames>(name: &Option<Name>, body: &BodyCode, steady: &S) -> bool
+    ensures { result ≡ row.is_steady_in (known_of (S.sets steady.now) body.now).steady (names name.now) }
 {
     match name {
         Some(name) => match name.symbol {
-            Some(symbol) => steady.is_steady(symbol, body),
+            Some(symbol) => steady.is_steady(symbol, body.number),
             None => false,
         },
         None => false,
@@ -39,31 +41,31 @@ fn is_steady<S: SteadyNames>(name: &Option<Name>, body: u32, steady: &S) -> bool
 }
 
 // `this` for which the world isn't asked, or a name that is steady.
-fn is_kept_object<S: SteadyNames>(node: &Node, body: u32, steady: &S) -> bool
-    ensures { result ≡ row.is_kept_object (S.sets steady.now body) node.now }
+fn is_kept_object<S: SteadyNames>(node: &Node, body: &BodyCode, steady: &S) -> bool
+    ensures { result ≡ row.is_kept_object (known_of (S.sets steady.now) body.now) node.now }
 {
-    is_this(node) && steady.has_this(body)
+    is_this(node) && steady.has_this(body.number)
         || is_identifier(node) && is_steady(node.name(), body, steady)
 }
 
 // A member of one, with a key that is written out.
-fn is_kept_member<S: SteadyNames>(node: &Node, body: u32, steady: &S) -> bool
-    ensures kind { result ≡ row.is_kept_member (S.sets steady.now body) node.now }
+fn is_kept_member<S: SteadyNames>(node: &Node, body: &BodyCode, steady: &S) -> bool
+    ensures kind { result ≡ row.is_kept_member (known_of (S.sets steady.now) body.now) node.now }
     ensures parts { result ≡ true → count (children node.now) ≡ 2 }
 {
     has_written_key(node) && is_kept_object(node.child(0), body, steady)
 }
 
 // A member of `this` with such a key.
-fn is_this_member<S: SteadyNames>(node: &Node, body: u32, steady: &S) -> bool
-    ensures { result ≡ row.is_this_member (S.sets steady.now body) node.now }
+fn is_this_member<S: SteadyNames>(node: &Node, body: &BodyCode, steady: &S) -> bool
+    ensures { result ≡ row.is_this_member (known_of (S.sets steady.now) body.now) node.now }
 {
-    has_written_key(node) && is_this(node.child(0)) && steady.has_this(body)
+    has_written_key(node) && is_this(node.child(0)) && steady.has_this(body.number)
 }
 
 // `x.k = b`, where the member is this one.
-fn assigns_kept<S: SteadyNames>(member: &Node, node: &Node, body: u32, steady: &S) -> bool
-    ensures kind { result ≡ row.assigns_kept (S.sets steady.now body) member.now node.now }
+fn assigns_kept<S: SteadyNames>(member: &Node, node: &Node, body: &BodyCode, steady: &S) -> bool
+    ensures kind { result ≡ row.assigns_kept (known_of (S.sets steady.now) body.now) member.now node.now }
     ensures parts { result ≡ true → count (children member.now) ≡ 2 }
 {
     assigns_plainly(node)
@@ -72,8 +74,8 @@ fn assigns_kept<S: SteadyNames>(member: &Node, node: &Node, body: u32, steady: &
 }
 
 // `x.k || (x.k = b)`
-fn decides_member<S: SteadyNames>(node: &Node, body: u32, steady: &S) -> bool
-    ensures { result ≡ row.decides_member (S.sets steady.now body) node.now }
+fn decides_member<S: SteadyNames>(node: &Node, body: &BodyCode, steady: &S) -> bool
+    ensures { result ≡ row.decides_member (known_of (S.sets steady.now) body.now) node.now }
 {
     match logical_operator(node) {
         Some(_) => assigns_kept(node.child(0), node.child(1), body, steady),
@@ -89,8 +91,8 @@ fn operator_of(node: &Node) -> LogicalOperator
 }
 
 // Whether the last of the parts assigns to this member, and those before it leave its object.
-fn assigns_last<S: SteadyNames>(member: &Node, parts: &Nodes, body: u32, steady: &S) -> bool
-    ensures kind { result ≡ row.assigns_last (S.sets steady.now body) member.now parts.now }
+fn assigns_last<S: SteadyNames>(member: &Node, parts: &Nodes, body: &BodyCode, steady: &S) -> bool
+    ensures kind { result ≡ row.assigns_last (known_of (S.sets steady.now) body.now) member.now parts.now }
     ensures parts { result ≡ true → 0 < count parts.now }
 {
     if !are_several(parts) {
@@ -102,8 +104,8 @@ fn assigns_last<S: SteadyNames>(member: &Node, parts: &Nodes, body: u32, steady:
 }
 
 // `x.k || (a, x.k = b)`
-fn decides_last<S: SteadyNames>(node: &Node, seat: Seat, body: u32, steady: &S) -> bool
-    ensures kind { result ≡ row.decides_last (S.sets steady.now body) seat node.now }
+fn decides_last<S: SteadyNames>(node: &Node, seat: Seat, body: &BodyCode, steady: &S) -> bool
+    ensures kind { result ≡ row.decides_last (known_of (S.sets steady.now) body.now) seat node.now }
     ensures parts { result ≡ true → 0 < count (parts_of node.now) }
 {
     match logical_operator(node) {
@@ -132,8 +134,8 @@ fn computing_operator(node: &Node) -> Option<AssignmentOperator>
 }
 
 // `this.k = this.k + b`
-fn computes_this<S: SteadyNames>(node: &Node, body: u32, steady: &S) -> bool
-    ensures kind { result ≡ row.computes_this (S.sets steady.now body) node.now }
+fn computes_this<S: SteadyNames>(node: &Node, body: &BodyCode, steady: &S) -> bool
+    ensures kind { result ≡ row.computes_this (known_of (S.sets steady.now) body.now) node.now }
     ensures parts { result ≡ true → count (children node.now) ≡ 2 }
 {
     if !assigns_plainly(node) {
@@ -149,26 +151,67 @@ fn computes_this<S: SteadyNames>(node: &Node, body: u32, steady: &S) -> bool
     }
 }
 
-// Whether both are assignments to one member, whose object may be evaluated before the test.
+// Whether a scope declares the name, and it has its value throughout the body.
+fn is_valued<S: SteadyNames>(name: &Option<Name>, body: &BodyCode, steady: &S) -> bool
+    ensures { result ≡ row.is_steady_in (known_of (S.sets steady.now) body.now).initial (names name.now) }
+{
+    match name {
+        Some(name) => match name.symbol {
+            Some(symbol) => is_initialised(symbol, body, steady),
+            None => false,
+        },
+        None => false,
+    }
+}
+
+// Whether it may be evaluated before a node.
+fn is_ready_before<S: SteadyNames>(object: &Node, node: &Node, body: &BodyCode, steady: &S) -> bool
+    ensures { result ≡ row.is_ready_before (known_of (S.sets steady.now) body.now) object.now node.now }
+{
+    is_this(object)
+        || (is_valued(object.name(), body, steady) || begins_at(object, node))
+            && leaves_object(object, node)
+}
+
+// `x[i]`, where both keep their values.
+fn is_held_member<S: SteadyNames>(node: &Node, body: &BodyCode, steady: &S) -> bool
+    ensures kind { result ≡ row.is_held_member (known_of (S.sets steady.now) body.now) node.now }
+    ensures parts { result ≡ true → count (children node.now) ≡ 2 }
+{
+    is_computed_member(node)
+        && is_kept_object(node.child(0), body, steady)
+        && is_kept_object(node.child(1), body, steady)
+}
+
+// A member with a key that is written out, or such a one, whose parts may be evaluated before the test.
+fn is_ready_member<S: SteadyNames>(member: &Node, test: &Node, body: &BodyCode, steady: &S) -> bool
+    ensures { result ≡ row.is_ready_member (known_of (S.sets steady.now) body.now) test.now member.now }
+{
+    is_kept_member(member, body, steady) && is_ready_before(member.child(0), test, body, steady)
+        || is_held_member(member, body, steady)
+            && is_ready_before(member.child(0), test, body, steady)
+            && is_ready_before(member.child(1), test, body, steady)
+}
+
+// Whether both are assignments to one member, whose parts may be evaluated before the test.
 fn assigns_either<S: SteadyNames>(
     test: &Node,
     first: &Node,
     second: &Node,
-    body: u32,
+    body: &BodyCode,
     steady: &S,
 ) -> bool
-    ensures { result ≡ row.assigns_either (S.sets steady.now body) test.now first.now second.now }
+    ensures { result ≡ row.assigns_either (known_of (S.sets steady.now) body.now) test.now first.now second.now }
 {
     assigns_plainly(first)
         && assigns_plainly(second)
         && is_same_tree(first.child(0), second.child(0))
-        && is_kept_member(first.child(0), body, steady)
-        && is_ready_before(first.child(0).child(0), test)
+        && is_ready_member(first.child(0), test, body, steady)
 }
 
-// `a ? this.k = b : this.k = c`, or `x.a ? x.k = b : x.k = c`
-fn chooses_member<S: SteadyNames>(node: &Node, seat: Seat, body: u32, steady: &S) -> bool
-    ensures { result ≡ row.chooses_member (S.sets steady.now body) seat node.now }
+// `a ? this.k = b : this.k = c`, or `a ? x.k = b : x.k = c`
+fn chooses_member<S: SteadyNames>(node: &Node, seat: Seat, body: &BodyCode, steady: &S) -> bool
+    ensures { result ≡ row.chooses_member (known_of (S.sets steady.now) body.now) seat node.now }
 {
     is_seated(seat)
         && is_conditional(node)
@@ -207,11 +250,11 @@ pub fn minimize_members<S: SteadyNames>(
     alloc: Global,
     node: &mut Node,
     seat: Seat,
-    body: u32,
+    body: &BodyCode,
     steady: &S,
 ) -> Result<bool, OutOfMemory>
-    ensures tree { OnOk result (node.new ≡ unwrap_or (written (S.sets steady.now body) seat node.old) node.old) }
-    ensures said { IfOk result (λ changed. changed ≡ is_some (written (S.sets steady.now body) seat node.old)) }
+    ensures tree { OnOk result (node.new ≡ unwrap_or (written (known_of (S.sets steady.now) body.now) seat node.old) node.old) }
+    ensures said { IfOk result (λ changed. changed ≡ is_some (written (known_of (S.sets steady.now) body.now) seat node.old)) }
 {
     let made = if decides_member(node, body, steady) {
         decided_member(alloc, taken(alloc, node))?
@@ -239,7 +282,7 @@ impl<S: SteadyNames> OwnRewrites<S> for SteadyMembers {
         alloc: Global,
         node: &mut Node,
         place: Position,
-        body: u32,
+        body: &BodyCode,
         steady: &S,
     ) -> Result<bool, OutOfMemory> {
         match place {
@@ -249,6 +292,8 @@ impl<S: SteadyNames> OwnRewrites<S> for SteadyMembers {
     }
 
     ghost opens = { members_open };
+
+    ghost more = { steady_more };
 
     ghost keeps = { steady_own };
 }

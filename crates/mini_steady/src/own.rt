@@ -1,9 +1,11 @@
 //! Rows of the own code of a body, and a walk over that, children first, past no other body and no node with a number.
 
 ghost use Rattle.std.specs.Prelude.{◌≡◌, true, IfOk};
-ghost use Rattle.mini_rows.specs.Steady.{OwnRows, has_body as has_it_body};
+ghost use Rattle.mini_rows.specs.Steady.{OwnRows, ReadsMore, has_body as has_it_body};
+ghost use Rattle.mini_steady.specs.Declarations.{known_of};
 ghost use Rattle.mini_steady.specs.Own.{AppliedHere, KeepsEach, OwnWalked, OwnWalkedBelow, ReadsOpen, is_open as is_it_open};
 
+use crate::code::BodyCode;
 use crate::steady::SteadyNames;
 use mini_model::{OutOfMemory, Position, Shape};
 use mini_node::Node;
@@ -15,20 +17,23 @@ pub trait OwnRewrites<S: SteadyNames> {
     /// By what is known of the body, which nodes are read as which.
     ghost rows: { OwnRows };
 
-    /// Writes what a row says that reads the node at its place, in the body with this number, and answers true; or leaves it, if none does, and
+    /// Writes what a row says that reads the node at its place, in this body, and answers true; or leaves it, if none does, and
     /// answers false. The only error is that memory runs out, and then the node is fit only to be dropped.
     fn rewrite(
         &self,
         alloc: Global,
         node: &mut Node,
         place: Position,
-        body: u32,
+        body: &BodyCode,
         steady: &S,
     ) -> Result<bool, OutOfMemory>
-        ensures { IfOk result (λ changed. AppliedHere (rows (S.sets steady.now body)) place node.old node.new changed) };
+        ensures { IfOk result (λ changed. AppliedHere (rows (known_of (S.sets steady.now) body.now)) place node.old node.new changed) };
 
     /// What has a body or a number no row reads.
     ghost opens: { ReadsOpen rows };
+
+    /// What they read they read where more variables are known to have values.
+    ghost more: { ReadsMore rows };
 
     /// What a row writes keeps what the code of a body has to keep.
     ghost keeps: { KeepsEach rows };
@@ -55,7 +60,7 @@ fn is_open(node: &Node) -> bool
     node.number() == 0 && !has_body(node.shape())
 }
 
-/// Walks over the own code of the body with this number, from a node in it, and writes there what these rows say. The answer says whether
+/// Walks over the own code of this body, from a node in it, and writes there what these rows say. The answer says whether
 /// anything changed, and where nothing did no row reads anything in it; the only error is that memory runs out, and then the node is fit only
 /// to be dropped.
 #[cycle(own)]
@@ -63,11 +68,11 @@ pub fn minimize_own_code<S: SteadyNames, W: OwnRewrites<S>>(
     alloc: Global,
     node: &mut Node,
     place: Position,
-    body: u32,
+    body: &BodyCode,
     steady: &S,
     rewrites: &W,
 ) -> Result<bool, OutOfMemory>
-    ensures { IfOk result (λ changed. OwnWalked (W.rows (S.sets steady.now body)) place node.old node.new changed) }
+    ensures { IfOk result (λ changed. OwnWalked (W.rows (known_of (S.sets steady.now) body.now)) place node.old node.new changed) }
 {
     if !is_open(node) {
         return Ok(false);
@@ -83,12 +88,12 @@ fn minimize_parts<S: SteadyNames, W: OwnRewrites<S>>(
     alloc: Global,
     node: &mut Node,
     place: Position,
-    body: u32,
+    body: &BodyCode,
     steady: &S,
     rewrites: &W,
 ) -> Result<bool, OutOfMemory>
     requires { is_it_open node.old ≡ true }
-    ensures { IfOk result (λ changed. OwnWalkedBelow (W.rows (S.sets steady.now body)) place node.old node.new changed) }
+    ensures { IfOk result (λ changed. OwnWalkedBelow (W.rows (known_of (S.sets steady.now) body.now)) place node.old node.new changed) }
 {
     let count = node.children().len();
     let mut changed = false;

@@ -5,6 +5,7 @@ ghost use Rattle.mini_model.specs.Tree.{children, count};
 ghost use Rattle.mini_steady.specs.Programs as row;
 ghost use Rattle.mini_steady.specs.Programs.{AppliedInProgram};
 
+use crate::code::code_of;
 use crate::functions::has_no_name;
 use crate::own::{OwnRewrites, minimize_own_code};
 use crate::steady::SteadyNames;
@@ -37,12 +38,13 @@ pub fn minimize_in_program<S: SteadyNames, W: OwnRewrites<S>>(
         return Ok(false);
     }
     let number = node.number();
+    let code = code_of(alloc, number, node.child(0))?;
     let list = node.children_mut().child_mut(0);
     Ok(minimize_own_code(
         alloc,
         list,
         Position::StatementList,
-        number,
+        &code,
         steady,
         rewrites,
     )?)
