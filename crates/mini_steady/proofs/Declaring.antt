@@ -3,7 +3,7 @@ use Rattle.std.proofs.Common.{◌≡◌, ℕ, Bool, true, false, List, [], ◌�
 use Rattle.std.specs.Prelude.{◌⊎◌, ◌<◌, ◌&&◌, ◌||◌, not, nat_eq, ◌++◌, Contains}
 use Rattle.std.proofs.Math.Path.{fun_ext}
 use Rattle.std.proofs.lemmas.Bool.{and_parts}
-use Rattle.std.proofs.lemmas.List.{append_assoc, append-nil}
+use Rattle.std.proofs.lemmas.List.{append_assoc}
 use Rattle.std.proofs.lemmas.List.Elements.{Contains-append_left, Contains-append_right, Contains-append_cases}
 use Rattle.mini_model.specs.declared.name.Name.{Name}
 use Rattle.mini_model.specs.declared.name.SymbolId.{SymbolId}
@@ -25,32 +25,15 @@ use Rattle.mini_steady.specs.Own.{KeepsEach}
 use Rattle.mini_rows.proofs.SteadyLawful.{forget}
 use Rattle.mini_steady.specs.Declarations.{symbol_of, symbols_of, own_symbols, declared_in, declared_among, is_listed, unlisted, known_of}
 use Rattle.mini_steady.specs.declared.code.BodyCode.{BodyCode}
+use Rattle.mini_steady.proofs.Gathering.{Gathers}
 
 -- ---- the list, part by part
 
-pub one_symbol : (ss us : List SymbolId) (x : Name) (s : SymbolId) → x.symbol ≡ Some s → us ≡ ss ++ s ∷ [] → us ≡ ss ++ symbols_of (x ∷ [])
-one_symbol ss us x s e f = f ∙ sym (ap (λ o. ss ++ (symbol_of o ++ [])) e)
+pub gathers : Gathers declared_in declared_among
+gathers = record { at_none = refl; at_more = λ t ts. refl }
 
-pub no_symbol : (ss us : List SymbolId) (x : Name) → x.symbol ≡ None → us ≡ ss → us ≡ ss ++ symbols_of (x ∷ [])
-no_symbol ss us x e f = f ∙ sym (append-nil ss) ∙ sym (ap (λ o. ss ++ (symbol_of o ++ [])) e)
-
-pub no_name : (ss us : List SymbolId) → us ≡ ss → us ≡ ss ++ symbols_of []
-no_name ss us f = f ∙ sym (append-nil ss)
-
-pub own_there : (ss us : List SymbolId) (t : Tree) (b : Bool) (xs : List Name) → b ≡ true → us ≡ ss ++ symbols_of xs → us ≡ ss ++ own_symbols b xs
-own_there ss us t b xs e f = f ∙ sym (ap (λ c. ss ++ own_symbols c xs) e)
-
-pub own_none : (ss us : List SymbolId) (b : Bool) (xs : List Name) → b ≡ false → us ≡ ss → us ≡ ss ++ own_symbols b xs
-own_none ss us b xs e f = f ∙ sym (append-nil ss) ∙ sym (ap (λ c. ss ++ own_symbols c xs) e)
-
-pub node_there : (ss us vs : List SymbolId) (t : Tree) → us ≡ ss ++ own_symbols (is_binding (shape_of t)) (names_of t) → vs ≡ us ++ declared_among (children t) → vs ≡ ss ++ declared_in t
-node_there ss us vs (node h xs n ts) e f = f ∙ ap (λ ws. ws ++ declared_among ts) e ∙ append_assoc ss (own_symbols (is_binding h) xs) (declared_among ts)
-
-pub all_there : (ss us vs : List SymbolId) (t : Tree) (ts : Trees) → us ≡ ss ++ declared_in t → vs ≡ us ++ declared_among ts → vs ≡ ss ++ declared_among (t ▸ ts)
-all_there ss us vs t ts e f = f ∙ ap (λ ws. ws ++ declared_among ts) e ∙ append_assoc ss (declared_in t) (declared_among ts)
-
-pub none_there : (ss us : List SymbolId) → us ≡ ss → us ≡ ss ++ declared_among none
-none_there ss us f = f ∙ sym (append-nil ss)
+pub node_there : (ss us : List SymbolId) (t : Tree) (ts : Trees) → us ≡ ss ++ own_symbols (is_binding (shape_of t)) (names_of t) → ts ≡ children t → ss ++ declared_in t ≡ us ++ declared_among ts
+node_there ss us (node h xs n ws) ts e f = sym (append_assoc ss (own_symbols (is_binding h) xs) (declared_among ws)) ∙ (λ i. sym e i ++ declared_among (sym f i))
 
 -- ---- a symbol is in it exactly where the tree declares it
 

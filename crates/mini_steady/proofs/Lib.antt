@@ -1,4 +1,5 @@
 pub mod BoundNames
+pub mod Gathering
 pub mod Declaring
 pub mod Written
 pub mod LeftParts

@@ -1,17 +1,16 @@
 //! The code of a body: its number, and what is declared in it.
 
-ghost use Rattle.std.specs.Prelude.{◌≡◌, ◌++◌, OnOk, IfOk};
-ghost use Rattle.mini_node.specs.Children.{names, trees_of};
+ghost use Rattle.std.specs.Prelude.{◌≡◌, ◌∷◌, [], ◌++◌, OnOk, IfOk};
+ghost use Rattle.mini_node.specs.Children.{names, names_of};
 ghost use Rattle.mini_steady.specs.Declarations.{declared_among, declared_in, is_listed as is_listed_in, known_of, own_symbols, symbols_of};
 ghost use Rattle.mini_rows.specs.Past as reading;
-ghost use Rattle.mini_node.specs.Children.{names_of};
 ghost use Rattle.mini_model.specs.Tree.{shape_of};
 ghost use Rattle.mini_laws.specs.Value.{Declared};
 
 use crate::bindings::is_binding;
 use crate::steady::SteadyNames;
 use mini_model::{Name, OutOfMemory, SymbolId};
-use mini_node::Node;
+use mini_node::{Node, Nodes};
 use std::alloc::Global;
 
 /// What rows in a body ask: of which body, and which symbols are declared in its code.
@@ -34,7 +33,6 @@ fn push_symbol(symbols: &mut Vec<SymbolId>, symbol: SymbolId) -> Result<(), OutO
 }
 
 // Adds the symbol of a name, if it has one.
-#[tactic(auto, using(crate::proofs::Declaring::one_symbol, crate::proofs::Declaring::no_symbol, crate::proofs::Declaring::no_name))]
 fn push_name(symbols: &mut Vec<SymbolId>, name: &Option<Name>) -> Result<(), OutOfMemory>
     ensures { OnOk result (symbols.new.items ≡ symbols.old.items ++ symbols_of (names name.now)) }
 {
@@ -48,7 +46,6 @@ fn push_name(symbols: &mut Vec<SymbolId>, name: &Option<Name>) -> Result<(), Out
 }
 
 // Adds the symbol that a node declares itself.
-#[tactic(auto, using(crate::proofs::Declaring::own_there, crate::proofs::Declaring::own_none))]
 fn push_own(symbols: &mut Vec<SymbolId>, node: &Node) -> Result<(), OutOfMemory>
     ensures { OnOk result (symbols.new.items ≡ symbols.old.items ++ own_symbols (reading.is_binding (shape_of node.now)) (names_of node.now)) }
 {
@@ -61,27 +58,22 @@ fn push_own(symbols: &mut Vec<SymbolId>, node: &Node) -> Result<(), OutOfMemory>
 
 // Adds the symbols that are declared in a tree.
 #[cycle(declarations)]
-#[tactic(auto, using(crate::proofs::Declaring::node_there))]
 fn push_declared(symbols: &mut Vec<SymbolId>, node: &Node) -> Result<(), OutOfMemory>
     ensures { OnOk result (symbols.new.items ≡ symbols.old.items ++ declared_in node.now) }
 {
     push_own(symbols, node)?;
-    push_all(symbols, node.parts())
+    push_all(symbols, node.children())
 }
 
 // Adds those that are declared in these trees.
 #[cycle(declarations)]
-#[tactic(auto, using(crate::proofs::Declaring::all_there, crate::proofs::Declaring::none_there))]
-fn push_all(symbols: &mut Vec<SymbolId>, nodes: &[Node]) -> Result<(), OutOfMemory>
-    ensures { OnOk result (symbols.new.items ≡ symbols.old.items ++ declared_among (trees_of nodes.now)) }
+fn push_all(symbols: &mut Vec<SymbolId>, nodes: &Nodes) -> Result<(), OutOfMemory>
+    ensures { OnOk result (symbols.new.items ≡ symbols.old.items ++ declared_among nodes.now) }
 {
-    match nodes {
-        [first, rest @ ..] => {
-            push_declared(symbols, first)?;
-            push_all(symbols, rest)
-        }
-        [] => Ok(()),
+    for node in nodes.as_slice() {
+        push_declared(symbols, node)?;
     }
+    Ok(())
 }
 
 /// The code of the body with this number. The only error is that memory runs out.
