@@ -11,4 +11,4 @@ pub returns-then-not-is_var : goal.returns-then-not-is_var
 returns-then-not-is_var c = no_held_here (marked c.args.scopes.now) (children c.args.above.now) c.args.node.now (sym c.if-not-is_var.ensures.kind)
 
 pub returns : goal.returns
-returns c = ?
+returns c = held_by (marked c.args.scopes.now) c.args.above.now c.args.node.now c.in_ok-list.list c.remove_in_list.new.list c.in_ok-changed.changed c.requires (sym c.if-not-is_var.ensures.kind) c.in_ok-list.ensures c.in_ok-changed.ensures c.put_first.new.node c.put_first.ensures
