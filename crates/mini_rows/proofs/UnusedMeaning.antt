@@ -37,6 +37,7 @@ use Rattle.mini_laws.proofs.Truth.{coherent}
 use Rattle.mini_kept.specs.Without.{Unseen, Permits}
 use Rattle.mini_node.specs.Kinds.{is_absent_part}
 use Rattle.mini_node.specs.Made.{absent_is}
+use Rattle.mini_node.specs.Children.{part}
 use Rattle.mini_terms.specs.Folds.{is_effect_free}
 use Rattle.mini_terms.specs.Parts.{leaves_nothing}
 use Rattle.mini_terms.specs.Reading.{is_plain_part}
@@ -44,7 +45,7 @@ use Rattle.mini_terms.proofs.Dropping.{does_nothing, weak}
 use Rattle.mini_rows.specs.Cases.{switch_case}
 use Rattle.mini_rows.specs.Lists.{block, switch, declaration, declares_nothing}
 use Rattle.mini_rows.specs.Declarations.{binding, declarator}
-use Rattle.mini_rows.specs.Unused.{resolved, declared_among, declared_one, is_idle, declared_left, is_definition, may_move, statements, static_block, lets_go, Row72, Row72Idle}
+use Rattle.mini_rows.specs.Unused.{resolved, declared_among, declared_one, is_idle, declared_left, takes_name, may_move, statements, static_block, lets_go, Row72, Row72Idle}
 use Rattle.mini_rows.proofs.UnusedNames.{avoided, all_avoided}
 use Rattle.mini_rows.proofs.ListStretches.{lets_append, functions_append, facts_append, texts_append, exec_one, exec_two, listed_is}
 use Rattle.mini_rows.proofs.ListStatements.{declaration_is, declare_more, declare_none, expression_is, empty_is, declarations_join}
@@ -546,7 +547,7 @@ row_72_idle e k z n w r h t =
 
 -- an initializer that may move, and what is read of it
 pub movable : (init : Tree) → may_move init ≡ true → is_plain_part init ≡ true
-movable init h = (and_parts (is_plain_part init) (not (is_definition (shape_of init))) h).0
+movable init h = (and_parts (is_plain_part init) (not (takes_name (shape_of init) (part init 0))) h).0
 
 left_read : (K : VariableDeclarationKind) (first : Trees) → (summary (declared_left K first)).lets ≡ choose (is_lexical K) (lets_all (summaries first)) []
 left_read K none = no_lets (is_lexical K)

@@ -17,10 +17,11 @@ use Rattle.mini_model.specs.Position.{argument_seat, statement_expression_seat, 
 use Rattle.mini_model.specs.Weight.{Outline, own_weight, commas_weight, outline, outlines, one_chooses, braces_weight, weight, weights}
 use Rattle.mini_laws.specs.Value.{VariableSet}
 use Rattle.mini_laws.proofs.Seats.{moved}
+use Rattle.mini_node.specs.Children.{part}
 use Rattle.mini_rows.specs.Declarations.{binding, declarator}
 use Rattle.mini_rows.specs.Cases.{switch_case}
 use Rattle.mini_rows.specs.Lists.{block, switch, declaration}
-use Rattle.mini_rows.specs.Unused.{resolved, declared_among, declared_one, declared_left, head_left, put_first, is_definition, BlockRow, ArrowBodyRow, FunctionBodyRow, ModuleRow, StaticBlockRow, switch_around, SwitchRow, ForRow, UnusedRow, UnusedLighten, UnusedLighter}
+use Rattle.mini_rows.specs.Unused.{resolved, declared_among, declared_one, declared_left, head_left, put_first, takes_name, BlockRow, ArrowBodyRow, FunctionBodyRow, ModuleRow, StaticBlockRow, switch_around, SwitchRow, ForRow, UnusedRow, UnusedLighten, UnusedLighter}
 use Rattle.mini_terms.specs.Reading.{is_plain_part}
 use Rattle.mini_rows.proofs.SingleWeights.{single_falls, next_falls}
 use Rattle.mini_rows.proofs.ListWeights.{total, list_is, body_is, in_list, comma_list, declarators_append}
@@ -79,12 +80,12 @@ block_lighter q n w (inr (inl r)) =
     let falls = block_falls q r.before r.after (declared_among r.kind (resolved r.spelling r.symbol) r.first r.init r.last) (declared_left r.kind (append r.first r.last)) (same_chooses r.kind (resolved r.spelling r.symbol) r.first r.last r.init) (idle_falls r.kind (resolved r.spelling r.symbol) r.first r.last r.init) in
     omega (arith, falls, ap (weight (Stmt q)) r.shape, ap (weight (Stmt q)) r.written)
 block_lighter q n w (inr (inr (inl r))) =
-    let plain = (and_parts (is_plain_part r.init) (not (is_definition (shape_of r.init))) r.moves).0 in
+    let plain = (and_parts (is_plain_part r.init) (not (takes_name (shape_of r.init) (part r.init 0))) r.moves).0 in
     let falls = single_falls q r.before r.kind r.first r.spelling r.symbol r.init r.head r.after plain r.once in
     omega (arith, falls, ap (weight (Stmt q)) r.shape, ap (weight (Stmt q)) r.written)
 block_lighter q n w (inr (inr (inr r))) =
     let x = resolved r.spelling r.symbol in
-    let plain = (and_parts (is_plain_part r.init) (not (is_definition (shape_of r.init))) r.moves).0 in
+    let plain = (and_parts (is_plain_part r.init) (not (takes_name (shape_of r.init) (part r.init 0))) r.moves).0 in
     let falls = block_falls q r.before r.after (declared_among r.kind x r.first r.init (declarator r.binds r.value ▸ r.last)) (declaration r.kind (append r.first (declarator r.binds (put_first x r.init r.value) ▸ r.last))) refl (next_falls r.kind r.spelling r.symbol r.first r.init r.binds r.value r.last plain r.once) in
     omega (arith, falls, ap (weight (Stmt q)) r.shape, ap (weight (Stmt q)) r.written)
 

@@ -476,15 +476,16 @@ has_declarator t = declares_list t && (not (is_childless (part t 0)) && is_decla
 abbrev pub evaluated : Tree → Tree
 evaluated t = if has_declarator t then part (part (part t 0) 0) 1 else (if goes_over t then part t 1 else t)
 
--- a function or a class without a name of its own gets the variable's (ECMA-262, "NamedEvaluation"): none of them moves
-abbrev pub is_definition : Shape → Bool
-is_definition (shape.Function is_declaration is_generator directives) = true
-is_definition (shape.ArrowFunctionExpression directives) = true
-is_definition (shape.Class is_declaration) = true
-is_definition h = false
+-- an arrow function, and a function or a class without a name of its own, gets the variable's name (ECMA-262, "NamedEvaluation"): none
+-- of them moves
+abbrev pub takes_name : Shape → Tree → Bool
+takes_name (shape.Function is_declaration is_generator directives) own = is_absent_part own
+takes_name (shape.ArrowFunctionExpression directives) own = true
+takes_name (shape.Class is_declaration) own = is_absent_part own
+takes_name h own = false
 
 abbrev pub may_move : Tree → Bool
-may_move t = is_plain_part t && not (is_definition (shape_of t))
+may_move t = is_plain_part t && not (takes_name (shape_of t) (part t 0))
 
 -- 71: `{ let a, x = b(); return x + c; }` becomes `{ let a; return b() + c; }`, `{ const x = b(); return x; }` `{ ; return b(); }`,
 -- `{ let x = a(); const y = x.b; c(y); }` `{ ; const y = a().b; c(y); }`, `{ let x = a(); switch (x.b) { } }` `{ ; switch (a().b) { } }`, and

@@ -13,7 +13,7 @@ use Rattle.mini_laws.specs.Naming as kinds
 use Rattle.mini_laws.specs.ScopeList.{has_eval}
 use Rattle.mini_laws.specs.Value.{VariableSet}
 use Rattle.mini_node.specs.Children.{names_of, part, with_child, with_part, is_nameless, first_children, rest_children}
-use Rattle.mini_node.specs.Kinds.{is_block}
+use Rattle.mini_node.specs.Kinds.{is_absent_part, is_block}
 use Rattle.mini_node.specs.Made.{block_is}
 use Rattle.mini_node.specs.Walks.{next_child}
 use Rattle.mini_terms.specs.Folds.{is_effect_free}
@@ -69,6 +69,10 @@ entries_further shape.ObjectExpression (suc i) f = refl
 entries_further (shape.CallExpression o) (suc i) f = refl
 entries_further shape.NewExpression (suc i) f = refl
 entries_further h (suc i) f = refl
+
+pub no_name : (t : Tree) → count (children t) ≡ 0 → is_absent_part (part t 0) ≡ true
+no_name (node h ys n none) e = refl
+no_name (node h ys n (t ▸ ts)) e = absurd (omega (arith, e))
 
 pub reached_further : (m : Bool) (r : Tree) (h : Shape) (i : ℕ) → (i ≡ 0 → ⊥) → is_reached_at m r h i ≡ (is_constant r || (is_placed m (is_effect_free r) h && is_sure (is_effect_free r) h))
 reached_further m r h zero f = absurd (f refl)

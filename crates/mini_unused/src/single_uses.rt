@@ -6,7 +6,7 @@
 ghost use Rattle.std.specs.Prelude.{◌≡◌, ◌+◌, ◌<◌, ◌≤◌, ◌^◌, true, false, None, IfOk, if◌then◌else◌};
 ghost use Rattle.mini_model.specs.Tree.{child_or_absent, children, count, empty_statement, shape_of};
 ghost use Rattle.mini_node.specs.Children.{first_children, names, part, with_part};
-ghost use Rattle.mini_node.specs.Kinds.{is_listed as is_it_listed, is_listed_shape as is_it_listed_shape};
+ghost use Rattle.mini_node.specs.Kinds.{is_absent_part as is_it_absent, is_listed as is_it_listed, is_listed_shape as is_it_listed_shape};
 ghost use Rattle.mini_terms.specs.Folds.{is_effect_free as is_it_effect_free};
 ghost use Rattle.mini_rows.specs.Unused as reading;
 ghost use Rattle.mini_unused.specs.RemoveUnusedDeclaration.{list_at, marked, open_in, UnusedAt};
@@ -25,7 +25,7 @@ use crate::next_uses::{is_declarator, substitute_next_uses};
 use crate::sweeping::sweep;
 use mini_context::Scopes;
 use mini_model::{AssignmentOperator, Name, OutOfMemory, PropertyKind, Shape, UnaryOperator};
-use mini_node::{Node, Nodes, discard, empty_statement, is_identifier, two};
+use mini_node::{Node, Nodes, discard, empty_statement, is_absent_part, is_identifier, two};
 use mini_terms::{is_effect_free, is_item, is_plain_part, is_typed_by_value, stands};
 use std::alloc::Global;
 
@@ -646,21 +646,33 @@ pub fn reads_head(name: &Name, node: &Node) -> bool
         || reads_over(name, node)
 }
 
-// A function or a class, which may get the variable's name.
-fn is_definition(shape: &Shape) -> bool
-    ensures { result ≡ reading.is_definition shape.now }
+// It is absent, or there is none.
+#[tactic(auto, using(crate::proofs::SingleUses::no_name))]
+fn has_no_name(node: &Node) -> bool
+    ensures { result ≡ is_it_absent (part node.now 0) }
 {
-    matches!(
-        shape,
-        Shape::Function(_, _, _) | Shape::ArrowFunctionExpression(_) | Shape::Class(_)
-    )
+    if node.children().len() == 0 {
+        return true;
+    }
+    is_absent_part(node.child(0))
 }
 
-/// What may move: no function and no class, which may get the variable's name.
+// A function or a class without a name of its own gets the variable's.
+fn takes_name(node: &Node) -> bool
+    ensures { result ≡ reading.takes_name (shape_of node.now) (part node.now 0) }
+{
+    match node.shape() {
+        Shape::Function(_, _, _) | Shape::Class(_) => has_no_name(node),
+        Shape::ArrowFunctionExpression(_) => true,
+        _ => false,
+    }
+}
+
+/// What may move: no function and no class that would get the variable's name.
 pub fn may_move(node: &Node) -> bool
     ensures { result ≡ reading.may_move node.now }
 {
-    is_plain_part(node) && !is_definition(node.shape())
+    is_plain_part(node) && !takes_name(node)
 }
 
 /// Whether the name stands in the initializer, or in a declarator before it.
