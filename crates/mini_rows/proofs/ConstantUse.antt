@@ -38,7 +38,7 @@ use Rattle.mini_rows.proofs.ItemReads.{item_read}
 use Rattle.mini_rows.proofs.Passing.{value_there}
 use Rattle.mini_rows.proofs.Avoiding.{Without, AllWithout, without, all_without, node_without, spared_by, spares}
 use Rattle.mini_rows.proofs.SingleUse.{head_of, before, place, Step, led, is_end, end_of, Well, Spared, PassedIn, Passed, summaries_led}
-use Rattle.mini_rows.proofs.SingleMeaning.{Before, Suits, suits_below, first_goes}
+use Rattle.mini_rows.proofs.SingleMeaning.{Before, Opens, Suits, suits_below, first_goes}
 use Rattle.mini_rows.proofs.UnusedNames.{all_avoided}
 
 there_before : (ps : Trees) (t : Tree) (ts : Trees) → Before (count ps) (length (facts_all (summaries (append ps (t ▸ ts)))))
@@ -206,11 +206,11 @@ module _ (e : Environment) (k : ℕ) (z : Unseen (alone (Declared k)) e) (x : Na
   agrees v s = record { vars = λ y d. ap (λ c. choose c (Holds v) (s.vars y)) d; self = refl; answers = refl; turns = refl; events = refl }
 
   -- what a tree reads may be put there
-  pub moves_there : (c : Asked) (ss : List Step) → Well c ss → Spared x ss → Passed init spelling ss → (q : Demand) → Suits c q (end_of spelling init ss) → (r : Request q) (s : State) → Goes true (λ a. Agree (alone (Declared k))) (Agree (alone (Declared k))) (Agree (alone (Declared k))) (either (means e init (As Val) tt s) (λ v t. means e (led ss (identifier (resolved spelling k))) q r (after v t)) (λ y t. stop y t)) (means e (led ss init) q r s)
-  moves_there c ss w f p q u r s = by (is_constant init) refl
+  pub moves_there : (c : Asked) (ss : List Step) → Well c ss → Spared x ss → Passed init spelling ss → (q : Demand) → Suits c q (end_of spelling init ss) → (r : Request q) → Opens q r → (s : State) → Goes true (λ a. Agree (alone (Declared k))) (Agree (alone (Declared k))) (Agree (alone (Declared k))) (either (means e init (As Val) tt s) (λ v t. means e (led ss (identifier (resolved spelling k))) q r (after v t)) (λ y t. stop y t)) (means e (led ss init) q r s)
+  moves_there c ss w f p q u r i s = by (is_constant init) refl
     where
       by : (b : Bool) → is_constant init ≡ b → Goes true (λ a. Agree (alone (Declared k))) (Agree (alone (Declared k))) (Agree (alone (Declared k))) (either (means e init (As Val) tt s) (λ v t. means e (led ss (identifier (resolved spelling k))) q r (after v t)) (λ y t. stop y t)) (means e (led ss init) q r s)
-      by false o = first_goes e k z x named spelling init plain item o false c ss w f p q u tt r s
+      by false o = first_goes e k z x named spelling init plain item o false c ss w f p q u tt r i s
       by true o =
           let (there, known) = value_there e init o in
           let (v, is) = known in

@@ -49,7 +49,7 @@ use Rattle.mini_rows.proofs.ArrangedNames.{ScopedAs, scoped_local, symbol_times,
 use Rattle.mini_rows.proofs.ArrangedBodies.{quiet, HasBodies, bodies_local, HasFrames, frames_local, Among, Declares, declares_local, FixedBy, fixed_local, rank}
 use Rattle.mini_rows.proofs.ListKeptDeclarations.{all_both, over, is_var, body_are, names_if, declares_as, lets, scope_if, read_opens, own_fixed, own_both_fixed, fixed_down, fixed_up, either_up, either_down, names_are, declarations_are, used, scoped_down, scoped_up, symbols_are, inner_is, numbers_are, declared_are, frames_are, bodies_are, once_is, jumps_are}
 use Rattle.mini_rows.proofs.ListKeptStretch.{joined, parted, stretched, sum_joined, sum_stretched}
-use Rattle.mini_rows.proofs.SingleUse.{Lead, Not, Plus, Minus, Tilde, Typing, Emptying, Beside, Deciding, Choosing, Passing, Called, Making, Waiting, Member, Keyed, Linking, Holding, Against, Given, Filling, Keying, Following, Branching, Failing, Storing, Gathering, Fielding, Spreading, Bracketing, Doing, Giving, Raising, Testing, head_of, before, Step, led, is_end, Stands, Well, statement, swapped, taken, swapped_sum, unnamed}
+use Rattle.mini_rows.proofs.SingleUse.{Lead, Not, Plus, Minus, Tilde, Typing, Emptying, Beside, Deciding, Choosing, Passing, Called, Making, Waiting, Member, Keyed, Linking, Holding, Against, Given, Filling, Keying, Following, Branching, Failing, Storing, Targeted, Changing, Gathering, Fielding, Spreading, Bracketing, Doing, Giving, Raising, Testing, head_of, before, Step, led, is_end, Stands, Well, statement, swapped, taken, swapped_sum, unnamed}
 use Rattle.mini_rows.proofs.UnusedKept.{LeavesThere, NamesThere, DeclaresThere, alone_stricter}
 use Rattle.mini_rows.proofs.UnusedNames.{Other, or_parts, all_unmentioned, declared_other, all_other, unmentioned}
 
@@ -511,6 +511,8 @@ led_hoists AsValue (s ∷ ss) w q t e = by s.lead (is_end ss) w.0
     by (Branching a) b w = refl
     by (Failing a d) b w = refl
     by (Storing o a) b w = refl
+    by (Targeted o) b w = refl
+    by (Changing o p) b w = refl
     by (Fielding g a) b w = refl
     by l b w = absurd w
 led_hoists c (s ∷ ss) w q t e = absurd (cc q)

@@ -80,7 +80,7 @@ module _ (e : Environment) (spelling : List ℕ) (k : ℕ) (z : Unseen (alone (D
       let put : put_first x init head ≡ led steps init = t.puts init ∙ t.along (put_first x init t.inner) ∙ ap one (t.path.puts init) in
       let beside = subst (AllPass false init (shape_by (head_of t.lead)) 0) (sym t.front) tt in
       subst₂ (λ h w. GoesWith e k init h w s) (sym there) (sym put)
-      (moves_there e k z x refl reading.spelling init (sym (plain_read init (movable init moves))) (plain_item init (movable init moves)) AsWholeItem steps (t.stands (is_end t.path.steps), subst (λ c. Well c t.path.steps) (sym (t.below AsWholeItem)) t.path.well) ((ap (any_names x) t.front, t.free), t.path.spared) ((beside, or_true (is_constant init) (surely false (is_effect_free init) t.lead) (t.steady (is_effect_free init)), t.allows_any (end_of reading.spelling init t.path.steps), t.whole_any init), subst (λ m. PassedIn m init reading.spelling t.path.steps) (sym (ap (λ us. entries_below false (shape_by (head_of t.lead)) (place 0 us)) t.front ∙ t.low)) (t.path.passed_in false init (t.passed init passed))) (Stat None) tt [] s)
+      (moves_there e k z x refl reading.spelling init (sym (plain_read init (movable init moves))) (plain_item init (movable init moves)) AsWholeItem steps (t.stands (is_end t.path.steps), subst (λ c. Well c t.path.steps) (sym (t.below AsWholeItem)) t.path.well) ((ap (any_names x) t.front, t.free), t.path.spared) ((beside, or_true (is_constant init) (surely false (is_effect_free init) t.lead) (t.steady (is_effect_free init)), t.allows_any (end_of reading.spelling init t.path.steps), t.whole_any init), subst (λ m. PassedIn m init reading.spelling t.path.steps) (sym (ap (λ us. entries_below false (shape_by (head_of t.lead)) (place 0 us)) t.front ∙ t.low)) (t.path.passed_in false init (t.passed init passed))) (Stat None) tt [] tt s)
 
   scope_goes : (t : Outside x head) → are_passed x init head ≡ true → (s : State) → GoesWith e k init head (put_first x init head) s
   scope_goes t passed s =
@@ -88,7 +88,7 @@ module _ (e : Environment) (spelling : List ℕ) (k : ℕ) (z : Unseen (alone (D
       let read_as : identifier p.read ≡ identifier (resolved p.read.spelling k) = ap (λ y. identifier (record { spelling = p.read.spelling; symbol = y })) (same_symbol k p.read.symbol p.same) in
       subst₂ (λ h w. GoesWith e k init h w s) (sym (t.is ∙ ap (seated t.seat) (p.is ∙ ap (led p.steps) read_as))) (sym (t.puts init ∙ ap (seated t.seat) (p.puts init)))
       (outside_goes e k z x refl p.read.spelling init (sym (plain_read init (movable init moves))) p.steps p.well (λ y. Unit {0})
-      (λ v r y u. moves_there e k z x refl p.read.spelling init (sym (plain_read init (movable init moves))) (plain_item init (movable init moves)) AsValue p.steps p.well p.spared (p.passed_in false init (t.passed init passed)) (As v) tt r y) t.seat t.beside s tt)
+      (λ v r y u. moves_there e k z x refl p.read.spelling init (sym (plain_read init (movable init moves))) (plain_item init (movable init moves)) AsValue p.steps p.well p.spared (p.passed_in false init (t.passed init passed)) (As v) tt r tt y) t.seat t.beside s tt)
 
   loop_goes : (t : Over x head) → are_passed x init t.value ≡ true → (s : State) → GoesWith e k init head (put_first x init head) s
   loop_goes t passed s =
@@ -97,7 +97,7 @@ module _ (e : Environment) (spelling : List ℕ) (k : ℕ) (z : Unseen (alone (D
       let loops = λ (u : Tree). each_loop t.kind t.left u t.body in
       subst₂ (λ h w. GoesWith e k init h w s) (sym (t.is ∙ ap loops (p.is ∙ ap (led p.steps) read_as))) (sym (t.puts init ∙ ap loops (p.puts init)))
       (each_goes e k z x refl p.read.spelling init p.steps (λ y. Unit {0})
-      (λ y u. moves_there e k z x refl p.read.spelling init (sym (plain_read init (movable init moves))) (plain_item init (movable init moves)) AsValue p.steps p.well p.spared (p.passed_in false init passed) (As Val) tt tt y) t.kind t.left t.body t.plain t.other t.later s tt)
+      (λ y u. moves_there e k z x refl p.read.spelling init (sym (plain_read init (movable init moves))) (plain_item init (movable init moves)) AsValue p.steps p.well p.spared (p.passed_in false init passed) (As Val) tt tt tt y) t.kind t.left t.body t.plain t.other t.later s tt)
 
   pub head_goes : reads_head x head ≡ true → are_passed x init (evaluated head) ≡ true → (s : State) → GoesWith e k init head (put_first x init head) s
   head_goes once passed s = by (heads x head once)

@@ -109,7 +109,7 @@ module _ (e : Environment) (spelling : List ℕ) (k : ℕ) (z : Unseen (alone (D
   value_goes : (s : State) → Go (either (means e init (As Val) tt s) (λ v t. means e value (As Val) tt (after v t)) (λ y t. stop y t)) (means e (put_first x init value) (As Val) tt s)
   value_goes s =
       subst₂ (λ h w. Go (either (means e init (As Val) tt s) (λ v t. means e h (As Val) tt (after v t)) (λ y t. stop y t)) (means e w (As Val) tt s)) (sym read_is) (sym put_is)
-      (moves_there e k z x refl reading.read.spelling init plain (plain_item init (movable init moves)) AsValue reading.steps reading.well reading.spared (reading.passed_in false init passed) (As Val) tt tt s)
+      (moves_there e k z x refl reading.read.spelling init plain (plain_item init (movable init moves)) AsValue reading.steps reading.well reading.spared (reading.passed_in false init passed) (As Val) tt tt tt s)
 
   value_there : (summary value).facts.absent ≡ false
   value_there = ap (λ t. (summary t).facts.absent) read_is ∙ led_there reading.steps (identifier (resolved reading.read.spelling k)) refl

@@ -132,13 +132,13 @@ module _ (e : Environment) (k : ℕ) (z : Unseen (alone (Declared k)) e) (x : Na
       unfolding in_rest
       keys_go v y y' a =
           let d = (summary left).facts.declared in
-          later_goes e k z {σ = each_demand d} shape.ForInStatement (Stat None) [] (left ▸ none) absent absent (body ▸ none) (avoided x k named left other, tt) (all_avoided x k named (body ▸ none) later) (keys_in d [] v) (keys_later d [] v) y y' a
+          later_goes e k z {σ = each_demand d} shape.ForInStatement (Stat None) [] (left ▸ none) absent absent (body ▸ none) (avoided x k named left other, tt) (all_avoided x k named (body ▸ none) later) (λ r h. absurd h) (keys_in d [] v) (keys_later d [] v) y y' a
 
       values_go : (v : Value) (y y' : State) → Agree D y y' → Go (of_rest e left body [] v y) (of_rest e left body [] v y')
       unfolding of_rest
       values_go v y y' a =
           let d = (summary left).facts.declared in
-          later_goes e k z {σ = each_demand d} shape.ForOfStatement (Stat None) [] (left ▸ none) absent absent (body ▸ none) (avoided x k named left other, tt) (all_avoided x k named (body ▸ none) later) (values_of d [] v) (values_later d [] v) y y' a
+          later_goes e k z {σ = each_demand d} shape.ForOfStatement (Stat None) [] (left ▸ none) absent absent (body ▸ none) (avoided x k named left other, tt) (all_avoided x k named (body ▸ none) later) (λ r h. absurd h) (values_of d [] v) (values_later d [] v) y y' a
 
       -- a statement that asks for the value, and does the rest with it
       begun_goes : (head there : Tree) (rest : Value → State → Completion (Unit {0})) → ((y : State) → means e head (Stat None) [] y ≡ next (means e value (As Val) tt y) rest) → ((y : State) → means e there (Stat None) [] y ≡ next (means e put (As Val) tt y) rest) → ((v : Value) (y y' : State) → Agree D y y' → Go (rest v y) (rest v y')) → Moves head there

@@ -11,7 +11,7 @@ use Rattle.mini_model.specs.declared.shape.Shape.TheVariants as shape
 use Rattle.mini_model.specs.Tree.{Tree, Trees, node, none, ◌▸◌, shape_of}
 use Rattle.mini_laws.specs.Value.{Value, Undefined, Null, Boolean, Number, String, Variable, VariableSet, truth, variables}
 use Rattle.mini_laws.specs.State.{Entry, Item, State, Completion, ok, stop, halt, out, either, Environment}
-use Rattle.mini_laws.specs.Demand.{Val, Demand, As, Callee, Target, AnEntry, Stat, Called, Reference, AName, Prepare, Fetch, Request, Reply, plain_call, says}
+use Rattle.mini_laws.specs.Demand.{Val, Demand, As, Callee, Target, AnEntry, Stat, Called, Reference, AName, AMember, Prepare, Fetch, Request, Reply, plain_call, says}
 use Rattle.mini_laws.specs.Command.{ret, act, Kids, run}
 use Rattle.mini_laws.specs.Naming.{NameKind, PlainName, EvalName, UndefinedName, NumberName, Summary, kinds, summaries, naming}
 use Rattle.mini_laws.specs.Conversion.{key_value}
@@ -29,7 +29,7 @@ use Rattle.mini_terms.specs.Reading.{stands, is_item, by_value}
 use Rattle.mini_terms.specs.Sound.{Quiet}
 use Rattle.mini_terms.proofs.EffectsTable.{effect_free_sound}
 use Rattle.mini_terms.proofs.Reading.{read_by_value}
-use Rattle.mini_rows.specs.Unused.{is_written_value, is_value_operator, is_constant, is_word, is_field, passes}
+use Rattle.mini_rows.specs.Unused.{is_written_value, is_value_operator, is_constant, is_word, is_member, is_field, passes}
 use Rattle.mini_rows.proofs.ItemReads.{item_read}
 
 -- an expression is asked for its value, as a callee, or as an item of a list
@@ -122,7 +122,7 @@ module _ (e : Environment) where
           let (o, v) = and_parts (is_value_operator h) (is_written_value (shape_of t)) c in
           (operator_stands h xs n (t ▸ none) o, operator_there h xs n t o v)
 
-  replied : (q : Demand) → Replies q → (v : Value) (r : Request q) → (a : Reply q r) × ((s : State) → by_value q r (ok v s) ≡ ok a s)
+  pub replied : (q : Demand) → Replies q → (v : Value) (r : Request q) → (a : Reply q r) × ((s : State) → by_value q r (ok v s) ≡ ok a s)
   unfolding by_value told either
   replied (As w) u v r = (says w v, λ s. refl)
   replied Callee u v r = (plain_call v, λ s. refl)
@@ -155,7 +155,7 @@ module _ (e : Environment) where
   abbrev pub Mapped : Tree → Type 0
   Mapped t = (g : Value → Entry) × ((s : State) → means e t AnEntry tt s ≡ either (means e (part t 1) (As Val) tt s) (λ w z. ok (g w) z) (λ y z. stop y z))
 
-  field_is : (t : Tree) → is_field t ≡ true → Mapped t
+  pub field_is : (t : Tree) → is_field t ≡ true → Mapped t
   field_is (node (shape.ObjectProperty Init false b false) [] zero (key ▸ (v ▸ none))) c = field_mapped b [] 0 key v c
   field_is t c = absurd (true≢false (sym c))
 
@@ -164,6 +164,22 @@ module _ (e : Environment) where
       let (g, is) = field_is t c in
       let (v, known) = r in
       (g v, λ s. is s ∙ ap (λ x. either x (λ w z. ok (g w) z) (λ y z. stop y z)) (known s) ∙ either_ok v s (λ w z. ok (g w) z) (λ y z. stop y z))
+
+  -- a member that is assigned to, before it is: its object, its key, and no more
+  abbrev Prepared : Tree → Tree → State → Completion Reference
+  Prepared object key s = either (means e object (As Val) tt s) (λ v z. either (means e key (As Val) tt z) (λ u y. ok (AMember v (key_value u)) y) (λ y z. stop y z)) (λ y z. stop y z)
+
+  member_prepares : (t : Tree) → is_member t ≡ true → (s : State) → means e t Target Prepare s ≡ Prepared (part t 0) (part t 1) s
+  unfolding means meaning step either
+  member_prepares (node (shape.StaticMemberExpression false) [] zero (object ▸ (key ▸ none))) c s = refl
+  member_prepares (node (shape.ComputedMemberExpression false) [] zero (object ▸ (key ▸ none))) c s = refl
+  member_prepares t c s = absurd (true≢false (sym c))
+
+  pub member_replies : (t : Tree) → is_member t ≡ true → (v u : Value) (s : State) → means e (part t 0) (As Val) tt s ≡ ok v s → means e (part t 1) (As Val) tt s ≡ ok u s → means e t Target Prepare s ≡ ok (AMember v (key_value u)) s
+  unfolding either
+  member_replies t c v u s f g =
+      member_prepares t c s ∙ ap (λ x. either x (λ v z. either (means e (part t 1) (As Val) tt z) (λ u y. ok (AMember v (key_value u)) y) (λ y z. stop y z)) (λ y z. stop y z)) f
+      ∙ ap (λ x. either x (λ u y. ok (AMember v (key_value u)) y) (λ y z. stop y z)) g
 
   -- a name that is assigned to, before it is
   pub target_replies : (t : Tree) → is_identifier t ≡ true → Replying Target (means e t Target) Prepare
@@ -179,6 +195,17 @@ quiet_mapped f s (ok v t) h = h
 quiet_mapped f s out h = tt
 quiet_mapped f s (stop y t) h = absurd h
 quiet_mapped f s (halt y t) h = absurd h
+
+quiet_then : {A B : Type 0} (s : State) (x : Completion A) (f : A → State → Completion B) → Quiet s x → ((v : A) → Quiet s (f v s)) → Quiet s (either x f (λ y z. stop y z))
+unfolding Quiet either
+quiet_then s (ok v t) f h g = subst (λ z. Quiet s (f v z)) (sym h) (g v)
+quiet_then s out f h g = tt
+quiet_then s (stop y t) f h g = absurd h
+quiet_then s (halt y t) f h g = absurd h
+
+pub quiet_replying : (q : Demand) (m : Does q) (r : Request q) → Replying q m r → (s : State) → Quiet s (m r s)
+unfolding Quiet
+quiet_replying q m r a s = subst (Quiet s) (sym (a.1 s)) refl
 
 quiet_called : (s : State) (x : Completion Value) → Quiet s x → Quiet s (by_value Callee tt x)
 unfolding by_value
@@ -252,6 +279,15 @@ module _ (e : Environment) where
   field_quietly D apart t a c q =
       let (g, is) = field_is e t c in
       record { quiet = λ s. subst (Quiet s) (sym (is s)) (quiet_mapped g s (means e (part t 1) (As Val) tt s) (q s)); same = λ s z k. insensitive e D apart t a AnEntry tt s z k }
+
+  quiet_member : (t : Tree) → is_member t ≡ true → ((s : State) → Quiet s (means e (part t 0) (As Val) tt s)) → ((s : State) → Quiet s (means e (part t 1) (As Val) tt s)) → (s : State) → Quiet s (means e t Target Prepare s)
+  unfolding Quiet
+  quiet_member t c f g s =
+      subst (Quiet s) (sym (member_prepares e t c s))
+      (quiet_then s (means e (part t 0) (As Val) tt s) _ (f s) (λ v. quiet_then s (means e (part t 1) (As Val) tt s) _ (g s) (λ u. refl)))
+
+  pub member_quietly : (D : VariableSet) → Apart e D → (t : Tree) → Avoids D t → is_member t ≡ true → ((s : State) → Quiet s (means e (part t 0) (As Val) tt s)) → ((s : State) → Quiet s (means e (part t 1) (As Val) tt s)) → Quietly D Target (means e t Target) Prepare
+  member_quietly D apart t a c f g = record { quiet = λ s. quiet_member t c f g s; same = λ s z k. insensitive e D apart t a Target Prepare s z k }
 
   pub fetched_quietly : (D : VariableSet) → Apart e D → (t : Tree) → Avoids D t → is_identifier t ≡ true → is_effect_free t ≡ true → (reference : Reference) → Quietly D Target (means e t Target) (Fetch reference)
   fetched_quietly D apart t a i f reference = record { quiet = λ s. fetched_quiet t i f reference s; same = λ s z g. insensitive e D apart t a Target (Fetch reference) s z g }

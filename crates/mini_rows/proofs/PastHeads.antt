@@ -53,7 +53,7 @@ module _ (e : Environment) (spelling : List ℕ) (k : ℕ) (z : Unseen (alone (D
     value_goes : (v : Want) (r : Request (As v)) (s : State) → Initialised H s → Go (either (means e init (As Val) tt s) (λ p t. means e (led reading.steps (identifier (resolved reading.read.spelling k))) (As v) r (after p t)) (λ y t. stop y t)) (means e (led reading.steps init) (As v) r s)
     value_goes v r s ready =
         past_goes e k z init s x refl reading.read.spelling (sym (plain_read init (movable init moves))) (plain_item init (movable init moves)) AsValue reading.steps reading.well reading.spared
-        (path_held e k z init s H still ready x refl reading.steps (resolved reading.read.spelling k) (read_named spelling k reading.read.spelling) (subst (λ y. Indirect (identifier (record { spelling = reading.read.spelling; symbol = y })) reading.steps) (same_symbol k reading.read.symbol reading.same) reading.direct) reading.spared (sym (ap (are_past H x init) read_is) ∙ passed)) (As v) tt r
+        (path_held e k z init s H still ready x refl reading.steps (resolved reading.read.spelling k) (read_named spelling k reading.read.spelling) (subst (λ y. Indirect (identifier (record { spelling = reading.read.spelling; symbol = y })) reading.steps) (same_symbol k reading.read.symbol reading.same) reading.direct) reading.spared (sym (ap (are_past H x init) read_is) ∙ passed)) (As v) tt r tt
 
     scope_goes : (c : Seat) → any_names x (rest c) ≡ false → (s : State) → Initialised H s → GoesWith e k init (seated c value) (seated c (put_first x init value)) s
     scope_goes c beside s ready =

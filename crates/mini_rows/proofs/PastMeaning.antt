@@ -87,7 +87,7 @@ module _ (e : Environment) (spelling : List ℕ) (k : ℕ) (z : Unseen (alone (D
       let spared : Spared x steps = ((ap (any_names x) t.front, t.free), t.path.spared) in
       let past = path_held e k z init s H still ready x refl steps (resolved reading.spelling k) (read_named spelling k reading.spelling) (t.direct (led t.path.steps (identifier (resolved reading.spelling k))), subst (λ u. Indirect u t.path.steps) read_as t.path.direct) spared (sym (ap (are_past H x init) there) ∙ passed) in
       subst₂ (λ h w. GoesWith e k init h w s) (sym there) (sym put)
-      (past_goes e k z init s x refl reading.spelling (sym (plain_read init (movable init moves))) (plain_item init (movable init moves)) AsWholeItem steps (t.stands (is_end t.path.steps), subst (λ c. Well c t.path.steps) (sym (t.below AsWholeItem)) t.path.well) spared past (Stat None) tt [])
+      (past_goes e k z init s x refl reading.spelling (sym (plain_read init (movable init moves))) (plain_item init (movable init moves)) AsWholeItem steps (t.stands (is_end t.path.steps), subst (λ c. Well c t.path.steps) (sym (t.below AsWholeItem)) t.path.well) spared past (Stat None) tt [] tt)
 
 -- ---- a declaration in two
 

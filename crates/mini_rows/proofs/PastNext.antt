@@ -61,7 +61,7 @@ module _ (e : Environment) (spelling : List ℕ) (k : ℕ) (z : Unseen (alone (D
   value_goes s ready =
       subst₂ (λ h w. Go (either (means e init (As Val) tt s) (λ v t. means e h (As Val) tt (after v t)) (λ y t. stop y t)) (means e w (As Val) tt s)) (sym read_is) (sym (reading.puts init))
       (past_goes e k z init s x refl reading.read.spelling plain (plain_item init (movable init moves)) AsValue reading.steps reading.well reading.spared
-      (path_held e k z init s H still ready x refl reading.steps (resolved reading.read.spelling k) (read_named spelling k reading.read.spelling) (subst (λ y. Indirect (identifier (record { spelling = reading.read.spelling; symbol = y })) reading.steps) (same_symbol k reading.read.symbol reading.same) reading.direct) reading.spared (sym (ap (are_past H x init) read_is) ∙ passed)) (As Val) tt tt)
+      (path_held e k z init s H still ready x refl reading.steps (resolved reading.read.spelling k) (read_named spelling k reading.read.spelling) (subst (λ y. Indirect (identifier (record { spelling = reading.read.spelling; symbol = y })) reading.steps) (same_symbol k reading.read.symbol reading.same) reading.direct) reading.spared (sym (ap (are_past H x init) read_is) ∙ passed)) (As Val) tt tt tt)
 
   value_there : (summary value).facts.absent ≡ false
   value_there = ap (λ t. (summary t).facts.absent) read_is ∙ led_there reading.steps (identifier (resolved reading.read.spelling k)) refl

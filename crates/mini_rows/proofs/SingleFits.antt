@@ -11,9 +11,9 @@ use Rattle.mini_model.specs.Paths.{append}
 use Rattle.mini_accept.specs.WellShaped.{nested, a_statement, an_init, an_expression, a_link, a_chain, has_optional, an_argument, an_object_property, a_key, a_target, a_simple_target, Slot, one, one_or_absent, many, many_or_holes, these, each, fits, fill, is_not_positive_number}
 use Rattle.mini_kept.proofs.Bools.{both}
 use Rattle.mini_kept.proofs.Expressions.{refused_here, expression_taken}
-use Rattle.mini_rows.specs.Sketches.{shape_by, Asked, AsWholeItem, AsValue, AsValues, asked_below}
+use Rattle.mini_rows.specs.Sketches.{shape_by, Asked, AsWholeItem, AsValue, AsValues, AsTarget, AsUpdated, asked_below}
 use Rattle.mini_rows.specs.Unused.{is_number_shape, is_constant, is_first, put_first, are_passed, reads_first}
-use Rattle.mini_rows.proofs.SingleUse.{Lead, Not, Plus, Minus, Tilde, Typing, Emptying, Beside, Deciding, Choosing, Passing, Called, Making, Waiting, Member, Keyed, Linking, Holding, Against, Given, Filling, Keying, Following, Branching, Failing, Storing, Gathering, Fielding, Spreading, Bracketing, Listing, Doing, Giving, Raising, Testing, head_of, before, place, Step, led, is_end, Stands, Well, suited, Suited, Path, path, statement}
+use Rattle.mini_rows.proofs.SingleUse.{Lead, Not, Plus, Minus, Tilde, Typing, Emptying, Beside, Deciding, Choosing, Passing, Called, Making, Waiting, Member, Keyed, Linking, Holding, Against, Given, Filling, Keying, Following, Branching, Failing, Storing, Gathering, Fielding, Spreading, Bracketing, Targeted, Changing, Listing, Doing, Giving, Raising, Testing, target_stands, head_of, before, place, Step, led, is_end, Stands, Well, suited, Suited, Path, path, statement}
 
 -- r is no number that stands right under a minus
 abbrev unsigned : Tree → Lead → Bool → Bool
@@ -52,6 +52,8 @@ Takes AsValue (one an_object_property) = Unit {0}
 Takes AsValue (one (a_key true)) = Unit {0}
 Takes AsValue (one a_link) = Unit {0}
 Takes AsValue (one a_chain) = Unit {0}
+Takes AsTarget (one a_target) = Unit {0}
+Takes AsUpdated (one a_simple_target) = Unit {0}
 Takes AsValues (many an_expression) = Unit {0}
 Takes AsValues (many an_argument) = Unit {0}
 Takes AsValues (many an_object_property) = Unit {0}
@@ -278,6 +280,9 @@ module _ (strict : Bool) where
   value_step (Storing o a) b s t u ts c n p f e = second_of (fits strict (one a_simple_target) a) (fits strict (one an_expression) t) (fits strict (one an_expression) u) _ (f (one an_expression) tt) e
   value_step Gathering b s t u ts c n p f e = first_of (fits strict (many an_object_property) t) (fits strict (many an_object_property) u) _ (f (many an_object_property) tt) e
   value_step Bracketing b s t u ts c n p f e = absurd (refused_here strict (one an_expression) (shape.ObjectProperty Init false false true) [] 0 (t ▸ ts) refl e)
+  value_step (Targeted Assign) b s t u ts c n p f e = first_of (fits strict (one a_target) t) (fits strict (one a_target) u) _ (f (one a_target) tt) e
+  value_step (Targeted o) b s t u ts c n p f e = first_of (fits strict (one a_simple_target) t) (fits strict (one a_simple_target) u) _ (f (one a_simple_target) tt) e
+  value_step (Changing o i) b s t u ts c n p f e = first_of (fits strict (one a_simple_target) t) (fits strict (one a_simple_target) u) _ (f (one a_simple_target) tt) e
   value_step Spreading b s t u ts c n p f e = absurd (refused_here strict (one an_expression) shape.SpreadElement [] 0 (t ▸ ts) refl e)
   value_step (Fielding g a) b s t u ts c n p f e = absurd (refused_here strict (one an_expression) (shape.ObjectProperty Init false false g) [] 0 (a ▸ (t ▸ ts)) refl e)
   value_step l b s t u ts c n p f e = absurd s
@@ -331,7 +336,25 @@ module _ (strict : Bool) where
   below_value (Failing a d) b s e = cc e
   below_value (Storing o a) b s e = cc e
   below_value (Fielding g a) b s e = cc e
+  below_value (Targeted Assign) b s e = cc e
+  below_value (Targeted o) b s e = cc e
+  below_value (Changing o p) b s e = cc e
   below_value l b s e = absurd s
+
+  -- a member that is assigned to
+  below_target : (l : Lead) (b : Bool) → Stands AsTarget l b → (c : Asked) → asked_below (head_of l) c (place 0 (before l)) ≡ AsWholeItem → ⊥
+  below_target (Member false) b s c e = cc e
+  below_target (Keyed false) b s c e = cc e
+  below_target (Keying false a) b s c e = cc e
+  below_target l b s c e = absurd s
+
+  target_step : (l : Lead) (b : Bool) → Stands AsTarget l b → (c : Asked) (t u : Tree) (ts : Trees) → FitsAs (asked_below (head_of l) c (place 0 (before l))) t u → (fits strict (one a_target) (node (shape_by (head_of l)) [] 0 (append (before l) (t ▸ ts))) ≡ true → fits strict (one a_target) (node (shape_by (head_of l)) [] 0 (append (before l) (u ▸ ts))) ≡ true)
+      × (fits strict (one a_simple_target) (node (shape_by (head_of l)) [] 0 (append (before l) (t ▸ ts))) ≡ true → fits strict (one a_simple_target) (node (shape_by (head_of l)) [] 0 (append (before l) (u ▸ ts))) ≡ true)
+  target_step (Member false) b s c t u ts f =
+      (first_of (fits strict (one an_expression) t) (fits strict (one an_expression) u) _ (f (one an_expression) tt), first_of (fits strict (one an_expression) t) (fits strict (one an_expression) u) _ (f (one an_expression) tt))
+  target_step (Keyed false) b s c t u ts f = (first_of (fits strict (one an_expression) t) (fits strict (one an_expression) u) _ (f (one an_expression) tt), first_of (fits strict (one an_expression) t) (fits strict (one an_expression) u) _ (f (one an_expression) tt))
+  target_step (Keying false a) b s c t u ts f = (second_of (fits strict (one an_expression) a) (fits strict (one an_expression) t) (fits strict (one an_expression) u) _ (f (one an_expression) tt), second_of (fits strict (one an_expression) a) (fits strict (one an_expression) t) (fits strict (one an_expression) u) _ (f (one an_expression) tt))
+  target_step l b s c t u ts f = absurd s
 
   below_list : (l : Lead) (b : Bool) → Stands AsValues l b → asked_below (head_of l) AsValues (place 0 (before l)) ≡ AsWholeItem → ⊥
   below_list (Listing ts) b s e = cc e
@@ -373,6 +396,13 @@ module _ (strict : Bool) where
       let inner = put_value (asked_below (head_of q.lead) AsValue (place 0 (before q.lead))) ss w.1 (below_value q.lead (is_end ss) w.0) y r g.1 f in
       room q.lead (is_end ss) w.0 s k (led ss (identifier y)) (led ss r) q.rest inner (value_step q.lead (is_end ss) w.0 (led ss (identifier y)) (led ss r) q.rest (same_count (asked_below (head_of q.lead) AsValue (place 0 (before q.lead))) ss w.1 (identifier y) r) (no_number q.lead ss r g.0) (still_optional ss y r) inner) e
   put_value AsValues (q ∷ ss) w n y r g f s k e = list_step q.lead (is_end ss) w.0 (led ss (identifier y)) (led ss r) q.rest (put_value (asked_below (head_of q.lead) AsValues (place 0 (before q.lead))) ss w.1 (below_list q.lead (is_end ss) w.0) y r g.1 f) s k e
+  put_value AsTarget (q ∷ ss) w n y r g f (one a_target) k e =
+      (target_step q.lead (is_end ss) w.0 AsTarget (led ss (identifier y)) (led ss r) q.rest (put_value (asked_below (head_of q.lead) AsTarget (place 0 (before q.lead))) ss w.1 (below_target q.lead (is_end ss) w.0 AsTarget) y r g.1 f)).0 e
+  put_value AsTarget (q ∷ ss) w n y r g f s k e = absurd k
+  put_value AsUpdated (q ∷ ss) w n y r g f (one a_simple_target) k e =
+      let there = target_stands q.lead (is_end ss) w.0 in
+      (target_step q.lead (is_end ss) there AsUpdated (led ss (identifier y)) (led ss r) q.rest (put_value (asked_below (head_of q.lead) AsUpdated (place 0 (before q.lead))) ss w.1 (below_target q.lead (is_end ss) there AsUpdated) y r g.1 f)).1 e
+  put_value AsUpdated (q ∷ ss) w n y r g f s k e = absurd k
   put_value AsWholeItem ss w n y r g f s k e = absurd (n refl)
   put_value c [] w n y r g f s k e = absurd w
   put_value c (q ∷ ss) w n y r g f s k e = absurd w.0
@@ -495,6 +525,8 @@ begun_there strict (s ∷ ss) w y e = by s.lead w.0 (append (before s.lead) (led
     by (Branching a) s ts e = e
     by (Failing a d) s ts e = e
     by (Storing o a) s ts e = e
+    by (Targeted o) s ts e = e
+    by (Changing o p) s ts e = e
     by (Fielding g a) s ts e = e
     by l s ts e = absurd s
 

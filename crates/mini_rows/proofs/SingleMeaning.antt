@@ -12,6 +12,7 @@ use Rattle.mini_model.specs.declared.operator.BinaryOperator.TheVariants as bina
 use Rattle.mini_model.specs.declared.operator.LogicalOperator.{LogicalOperator}
 use Rattle.mini_model.specs.declared.operator.LogicalOperator.TheVariants.{Or, And, Coalesce}
 use Rattle.mini_model.specs.declared.operator.UnaryOperator.{UnaryOperator}
+use Rattle.mini_model.specs.declared.operator.UpdateOperator.{UpdateOperator}
 use Rattle.mini_model.specs.declared.operator.UnaryOperator.TheVariants.{UnaryPlus, UnaryNegation, BitwiseNot, Typeof}
 use Rattle.mini_model.specs.declared.shape.Shape.{Shape}
 use Rattle.mini_model.specs.declared.shape.Shape.TheVariants as shape
@@ -19,17 +20,17 @@ use Rattle.mini_model.specs.Tree.{Tree, Trees, node, none, ◌▸◌, count, ide
 use Rattle.mini_model.specs.Paths.{append}
 use Rattle.mini_model.specs.Weight.{same_text}
 use Rattle.mini_laws.specs.Value.{Value, Boolean, Declared, VariableSet, Slot, Holds, choose, truth, is_nullish, variable_eq}
-use Rattle.mini_laws.specs.Conversion.{key_value, Made, makes, raises, outside, to_number, known_member}
-use Rattle.mini_laws.specs.Operators.{of_number, strictly_equal, loosely_equal, of_numbers, of_primitives}
-use Rattle.mini_laws.specs.State.{Hint, ForDefault, ForNumber, ForString, GetOf, CallOf, DirectEval, Coerce, Entry, Item, Stop, Short, State, Completion, ok, stop, halt, out, Ends, done, ended, either, Environment, with_vars}
-use Rattle.mini_laws.specs.Demand.{Want, Val, Test, Unused, Demand, As, Callee, OfType, Target, AnEntry, Parts, Items, Stat, Reference, AMember, TargetRequest, Prepare, Fetch, Put, Called, Request, Reply, Says, says}
+use Rattle.mini_laws.specs.Conversion.{Made, makes, raises, outside, to_number, key_value, known_member}
+use Rattle.mini_laws.specs.Operators.{safe_number, of_number, strictly_equal, loosely_equal, of_numbers, of_primitives}
+use Rattle.mini_laws.specs.State.{Hint, ForDefault, ForNumber, ForString, GetOf, CallOf, DirectEval, Coerce, Entry, Item, Converted, Stop, Short, State, Completion, ok, stop, halt, out, Ends, done, ended, either, Environment, with_vars}
+use Rattle.mini_laws.specs.Demand.{Want, Val, Test, Unused, Demand, As, Callee, OfType, Target, AnEntry, Parts, Items, Stat, Reference, AMember, AFetched, TargetRequest, Prepare, Fetch, Put, Called, Request, Reply, Says, says}
 use Rattle.mini_laws.specs.Command.{set_var, Command, ret, fails, stuck, op, kid, then, attempt, bind, shift, emit, act, Gets, run, read_slot, at_variable, is_object}
 use Rattle.mini_laws.specs.Naming.{EvalName, PlainName, Facts, Summary, summary, summaries, facts_all, naming}
 use Rattle.mini_laws.specs.Asking.{pass, demand, first_demand, parts_demand, logical_demand, chained}
-use Rattle.mini_laws.specs.Replies.{reply, valued, passed, passing, merged, raise, of_made, of_option, primitive, hint_of, numeric, is_of_primitives, operate, loosely, or_event, get_member}
+use Rattle.mini_laws.specs.Replies.{reply, valued, passed, passing, merged, raise, of_made, of_option, primitive, hint_of, numeric, is_of_primitives, operate, loosely, or_event, get_member, put_member}
 use Rattle.mini_laws.specs.Expressions.{get_identifier, operate_by, binary_step, and_step, or_step, logical_step, conditional_step, sequence_step, not_step, typeof_step, property_key, property_step, number_step, void_step, call_event, call_step, new_step, array_step, object_step, yield_step, chain_end, chain_value, chain_step, member_step, got, called_member}
 use Rattle.mini_laws.specs.Lists.{entries, parts, spread_step}
-use Rattle.mini_laws.specs.Targets.{as_member, AssignmentKind, Plainly, Computing, Deciding as DecidingKind, assignment_kind, assigns, AssignDemand, put_target, after_read, assign_by, assignment_step}
+use Rattle.mini_laws.specs.Targets.{fetched, stored, changed, update_step, as_member, AssignmentKind, Plainly, Computing, Deciding as DecidingKind, assignment_kind, assigns, AssignDemand, put_target, after_read, assign_by, assignment_step}
 use Rattle.mini_laws.specs.Statements.{if_step, return_step, throw_step}
 use Rattle.mini_laws.specs.Step.{entry, step, means, meaning}
 use Rattle.mini_laws.specs.Same.{Goes, Agree}
@@ -49,29 +50,42 @@ use Rattle.mini_terms.specs.Reading.{is_item, by_value, is_typed_by_value}
 use Rattle.mini_terms.specs.Sound.{Quiet}
 use Rattle.mini_terms.proofs.Dropping.{weak}
 use Rattle.mini_terms.proofs.Reading.{typed_by_value}
-use Rattle.mini_rows.specs.Sketches.{shape_by, Asked, AsWholeItem, AsValue, AsValues, asked_below}
-use Rattle.mini_rows.specs.Unused.{any_names, resolved, is_constant, is_plain_assignment, is_word, is_field, passes, passes_target, passes_item, entries_below, is_called_by_value}
+use Rattle.mini_rows.specs.Sketches.{shape_by, Asked, AsWholeItem, AsValue, AsValues, AsTarget, AsUpdated, target_asked, asked_below}
+use Rattle.mini_rows.specs.Unused.{any_names, resolved, is_constant, is_plain_assignment, is_word, is_member, is_field, passes, passes_word, passes_member, passes_target, passes_item, entries_below, is_called_by_value}
 use Rattle.mini_rows.specs.Chains.{is_calm}
 use Rattle.mini_rows.proofs.CalledReads.{called_read, name_called_read}
 use Rattle.mini_rows.proofs.ChainCalm.{Calm as Calmly, tree_calm}
 use Rattle.mini_rows.proofs.ItemReads.{item_read}
-use Rattle.mini_rows.proofs.Passing.{Replies, Does, Mild, Replying, Quietly, constant_replies, word_replies, target_replies, field_replies, field_quietly, quiet_there, quietly, fetched_quietly, passes_by}
-use Rattle.mini_rows.proofs.SingleUse.{Lead, Not, Plus, Minus, Tilde, Typing, Emptying, Beside, Deciding, Choosing, Passing, Called as CalledLead, Making, Waiting, Member, Keyed, Linking, Holding, Against, Given as GivenLead, Filling, Keying, Following, Branching, Failing, Storing, Gathering, Fielding, Spreading, Bracketing, Listing, Doing, Giving, Raising, Testing, head_of, before, place, Step, led, is_end, is_steady, surely, Stands, Well, Spared, AllPass, whole, End, free, end_of, Allows, PassedIn, summaries_led}
+use Rattle.mini_rows.proofs.Passing.{Replies, Does, Mild, Replying, Quietly, constant_replies, word_replies, target_replies, member_replies, quiet_replying, member_quietly, field_replies, field_quietly, quiet_there, quietly, fetched_quietly, passes_by}
+use Rattle.mini_rows.proofs.SingleUse.{target_stands, Lead, Not, Plus, Minus, Tilde, Typing, Emptying, Beside, Deciding, Choosing, Passing, Called as CalledLead, Making, Waiting, Member, Keyed, Linking, Holding, Against, Given as GivenLead, Filling, Keying, Following, Branching, Failing, Storing, Gathering, Fielding, Spreading, Bracketing, Targeted, Changing, Listing, Doing, Giving, Raising, Testing, head_of, before, place, Step, led, is_end, is_steady, surely, Stands, Well, Spared, AllPass, whole, End, free, end_of, Allows, PassedIn, summaries_led}
 use Rattle.mini_rows.proofs.UnusedNames.{all_avoided}
 
 -- ---- a command that doesn't ask a child any more
 
-abbrev Apart : ℕ → ℕ → Type 0
-Apart zero zero = ⊥
-Apart (suc i) (suc j) = Apart i j
-Apart i j = Unit {0}
+-- what is assigned to is read and written without its parts
+abbrev pub Settled : (q : Demand) → Request q → Type 0
+Settled Target (Fetch reference) = Unit {0}
+Settled Target (Put reference v) = Unit {0}
+Settled q r = ⊥
+
+-- and before that its parts are evaluated, as those of what is asked for anything else
+abbrev pub Opens : (q : Demand) → Request q → Type 0
+Opens Target Prepare = Unit {0}
+Opens Target (Fetch reference) = ⊥
+Opens Target (Put reference v) = ⊥
+Opens q r = Unit {0}
+
+abbrev Away : ℕ → ℕ → (q : Demand) → Request q → Type 0
+Away zero zero q r = Settled q r
+Away (suc i) (suc j) q r = Away i j q r
+Away i j q r = Unit {0}
 
 abbrev pub Later : ℕ → {σ : ℕ → Demand} {A : Type 0} → Command σ A → Type 0
 Later i {σ} (ret a) = Unit {0}
 Later i {σ} (fails y) = Unit {0}
 Later i {σ} stuck = Unit {0}
 Later i {σ} (op o k) = ((a : Gets o) → Later i (k (done a))) × ((y : Stop) → Later i (k (ended y)))
-Later i {σ} (kid j r k) = Apart j i × (((a : Reply (σ j) r) → Later i (k (done a))) × ((y : Stop) → Later i (k (ended y))))
+Later i {σ} (kid j r k) = Away j i (σ j) r × (((a : Reply (σ j) r) → Later i (k (done a))) × ((y : Stop) → Later i (k (ended y))))
 
 pub later_bind : (i : ℕ) {σ : ℕ → Demand} {A B : Type 0} (c : Command σ A) (f : A → Command σ B) → Later i c → ((a : A) → Later i (f a)) → Later i (bind c f)
 later_bind i (ret a) f t g = g a
@@ -161,6 +175,18 @@ module _ (i : ℕ) (σ : ℕ → Demand) where
   got_later (AMember object key) = get_later object key
   got_later reference = tt
 
+  fetched_later : (reference : Reference) → Rest (fetched reference)
+  fetched_later (AMember object key) = get_later object key
+  fetched_later reference = tt
+
+  put_later_on : (object : Value) (key : Entry) (v : Value) → Rest (put_member object key v)
+  put_later_on object key v = later_choose i (is_nullish object) raise _ (raise_later (Unit {0})) (λ a. tt, λ y. tt)
+
+  stored_later : (reference : Reference) (v : Value) → Rest (stored reference v)
+  stored_later (AMember object key) v = put_later_on object (Item key) v
+  stored_later (AFetched object key) v = put_later_on object (choose (is_object key) (Converted key) (Item key)) v
+  stored_later reference v = tt
+
   called_later : (reference : Reference) → Rest (called_member reference)
   called_later (AMember object key) = later_bind i (get_member object key) (λ v. ret (record { value = v; this_value = object; direct = false })) (get_later object key) (λ v. tt)
   called_later reference = tt
@@ -182,6 +208,7 @@ May d y = Unit {0}
 
 pub record Hits (d : Bool) (i : ℕ) (σ : ℕ → Demand) (A : Type 0) (j : ℕ) (r : Request (σ j)) (k : Ends (Reply (σ j) r) → Command σ A) : Type 0 where
   pub here : j ≡ i
+  pub opens : Opens (σ j) r
   pub stops : (y : Stop) → May d y → k (ended y) ≡ fails y
   pub stopped_later : (y : Stop) → Later i (k (ended y))
   pub later : (a : Reply (σ j) r) → Later i (k (done a))
@@ -204,7 +231,7 @@ reach_choose f d m i false x y t u = u
 
 reach_bind : (f d : Bool) (m i : ℕ) {σ : ℕ → Demand} {A B : Type 0} (c : Command σ A) (g : A → Command σ B) → Reaches f d m i c → ((a : A) → Later i (g a)) → Reaches f d m i (bind c g)
 reach_bind f d m i (kid j r k) g (inl t) h = inl (t.0, λ a. reach_bind f d m i (k (done a)) g (t.1 a) h)
-reach_bind f d m i (kid j r k) g (inr (inl t)) h = inr (inl (record { here = t.here; stops = λ y n. ap (λ d. bind d g) (t.stops y n); stopped_later = λ y. later_bind i (k (ended y)) g (t.stopped_later y) h; later = λ a. later_bind i (k (done a)) g (t.later a) h }))
+reach_bind f d m i (kid j r k) g (inr (inl t)) h = inr (inl (record { here = t.here; opens = t.opens; stops = λ y n. ap (λ d. bind d g) (t.stops y n); stopped_later = λ y. later_bind i (k (ended y)) g (t.stopped_later y) h; later = λ a. later_bind i (k (done a)) g (t.later a) h }))
 reach_bind f d m i (kid j r k) g (inr (inr t)) h = inr (inr (t.0, later_bind i (kid j r k) g t.1 h))
 reach_bind f d m i (ret a) g t h = missed f d m i (g a) t.0 (h a)
 reach_bind f d m i (fails y) g t h = (t.0, tt)
@@ -213,7 +240,7 @@ reach_bind f d m i (op o k) g t h = (t.0, later_bind i (op o k) g t.1 h)
 
 pub reach_statement : (f d : Bool) (m i : ℕ) {σ : ℕ → Demand} (c : Command σ (Unit {0})) → Reaches f d m i c → Reaches f d m i (attempt c (merged None))
 reach_statement f d m i (kid j r k) (inl t) = inl (t.0, λ a. reach_statement f d m i (k (done a)) (t.1 a))
-reach_statement f d m i (kid j r k) (inr (inl t)) = inr (inl (record { here = t.here; stops = λ y n. ap (λ d. attempt d (merged None)) (t.stops y n); stopped_later = λ y. later_attempt i (k (ended y)) (merged None) (t.stopped_later y) (λ u. tt) (λ y. tt); later = λ a. later_attempt i (k (done a)) (merged None) (t.later a) (λ u. tt) (λ y. tt) }))
+reach_statement f d m i (kid j r k) (inr (inl t)) = inr (inl (record { here = t.here; opens = t.opens; stops = λ y n. ap (λ d. attempt d (merged None)) (t.stops y n); stopped_later = λ y. later_attempt i (k (ended y)) (merged None) (t.stopped_later y) (λ u. tt) (λ y. tt); later = λ a. later_attempt i (k (done a)) (merged None) (t.later a) (λ u. tt) (λ y. tt) }))
 reach_statement f d m i (kid j r k) (inr (inr t)) = inr (inr (t.0, later_attempt i (kid j r k) (merged None) t.1 (λ u. tt) (λ y. tt)))
 reach_statement f d m i (ret a) t = (t.0, tt)
 reach_statement f d m i (fails y) t = (t.0, tt)
@@ -222,7 +249,7 @@ reach_statement f d m i (op o k) t = (t.0, later_attempt i (op o k) (merged None
 
 reach_shift : (f d : Bool) (m i : ℕ) (q : ℕ → Demand) {A : Type 0} (c : Command (λ i. q (suc i)) A) → Reaches f d m i c → Reaches f d (suc m) (suc i) (shift {q = q} c)
 reach_shift f d m i q (kid j r k) (inl t) = inl (t.0, λ a. reach_shift f d m i q (k (done a)) (t.1 a))
-reach_shift f d m i q (kid j r k) (inr (inl t)) = inr (inl (record { here = ap suc t.here; stops = λ y n. ap (shift {q = q}) (t.stops y n); stopped_later = λ y. later_shifted i q (k (ended y)) (t.stopped_later y); later = λ a. later_shifted i q (k (done a)) (t.later a) }))
+reach_shift f d m i q (kid j r k) (inr (inl t)) = inr (inl (record { here = ap suc t.here; opens = t.opens; stops = λ y n. ap (shift {q = q}) (t.stops y n); stopped_later = λ y. later_shifted i q (k (ended y)) (t.stopped_later y); later = λ a. later_shifted i q (k (done a)) (t.later a) }))
 reach_shift f d m i q (kid j r k) (inr (inr t)) = inr (inr (t.0, later_shifted i q (kid j r k) t.1))
 reach_shift f d m i q (ret a) t = (t.0, tt)
 reach_shift f d m i q (fails y) t = (t.0, tt)
@@ -254,8 +281,8 @@ reach_passing f d m i σ q u r c b = absurd u
 -- ---- each shape
 
 -- a command that goes on with nothing else of a child
-pub one : (f d : Bool) (m i : ℕ) (σ : ℕ → Demand) (A : Type 0) (r : Request (σ i)) (g : Reply (σ i) r → Command σ A) → ((a : Reply (σ i) r) → Later i (g a)) → Reaches f d m i {σ = σ} (kid i r ((then) g))
-one f d m i σ A r g h = inr (inl (record { here = refl; stops = λ y n. refl; stopped_later = λ y. tt; later = h }))
+pub one : (f d : Bool) (m i : ℕ) (σ : ℕ → Demand) (A : Type 0) (r : Request (σ i)) → Opens (σ i) r → (g : Reply (σ i) r → Command σ A) → ((a : Reply (σ i) r) → Later i (g a)) → Reaches f d m i {σ = σ} (kid i r ((then) g))
+one f d m i σ A r o g h = inr (inl (record { here = refl; opens = o; stops = λ y n. refl; stopped_later = λ y. tt; later = h }))
 
 -- an entry, or a list of entries
 abbrev pub Entries : Bool → Demand → Type 0
@@ -266,33 +293,33 @@ Entries true q = ⊥
 
 module _ (f d : Bool) where
   number_begins : (o : UnaryOperator) → Reaches f d 0 0 (number_step o)
-  number_begins o = one f d 0 0 (λ i. As Val) Value tt _ (λ v. later_bind 0 (numeric v) (λ n. of_made (of_number o n)) (numeric_later 0 (λ i. As Val) v) (λ n. made_later 0 (λ i. As Val) (of_number o n)))
+  number_begins o = one f d 0 0 (λ i. As Val) Value tt tt _ (λ v. later_bind 0 (numeric v) (λ n. of_made (of_number o n)) (numeric_later 0 (λ i. As Val) v) (λ n. made_later 0 (λ i. As Val) (of_number o n)))
 
   binary_begins : (o : BinaryOperator) → Reaches f d 0 0 (binary_step o)
-  binary_begins o = one f d 0 0 (λ i. As Val) Value tt _ (λ v. (tt, (λ w. by_later 0 (λ i. As Val) o v w, λ y. tt)))
+  binary_begins o = one f d 0 0 (λ i. As Val) Value tt tt _ (λ v. (tt, (λ w. by_later 0 (λ i. As Val) o v w, λ y. tt)))
 
   binary_goes_on : (o : BinaryOperator) → Reaches f d 1 1 (binary_step o)
-  binary_goes_on o = inl ((tt, tt), λ v. one f d 1 1 (λ i. As Val) Value tt _ (λ w. by_later 1 (λ i. As Val) o v w))
+  binary_goes_on o = inl ((tt, tt), λ v. one f d 1 1 (λ i. As Val) Value tt tt _ (λ w. by_later 1 (λ i. As Val) o v w))
 
   logical_begins : (o : LogicalOperator) (w : Want) → Reaches f d 0 0 (logical_step o w)
-  logical_begins And Val = one f d 0 0 (λ i. As Val) Value tt _ (λ v. later_choose 0 (truth v) (kid 1 tt ((then) ret)) (ret v) (tt, (λ v. tt, λ y. tt)) tt)
-  logical_begins And Test = one f d 0 0 (λ i. As Test) Bool tt _ (λ c. later_choose 0 c (kid 1 tt ((then) ret)) (ret false) (tt, (λ v. tt, λ y. tt)) tt)
-  logical_begins And Unused = one f d 0 0 (logical_demand And Unused) (Unit {0}) tt _ (λ c. later_choose 0 {σ = logical_demand And Unused} c (kid 1 tt ((then) ret)) (ret tt) (tt, (λ v. tt, λ y. tt)) tt)
-  logical_begins Or Val = one f d 0 0 (λ i. As Val) Value tt _ (λ v. later_choose 0 (truth v) (ret v) (kid 1 tt ((then) ret)) tt (tt, (λ v. tt, λ y. tt)))
-  logical_begins Or Test = one f d 0 0 (λ i. As Test) Bool tt _ (λ c. later_choose 0 c (ret true) (kid 1 tt ((then) ret)) tt (tt, (λ v. tt, λ y. tt)))
-  logical_begins Or Unused = one f d 0 0 (logical_demand Or Unused) (Unit {0}) tt _ (λ c. later_choose 0 {σ = logical_demand Or Unused} c (ret tt) (kid 1 tt ((then) ret)) tt (tt, (λ v. tt, λ y. tt)))
-  logical_begins Coalesce w = one f d 0 0 (λ i. As Val) (Says w) tt _ (λ v. later_choose 0 (is_nullish v) _ _ (tt, (λ v. tt, λ y. tt)) tt)
+  logical_begins And Val = one f d 0 0 (λ i. As Val) Value tt tt _ (λ v. later_choose 0 (truth v) (kid 1 tt ((then) ret)) (ret v) (tt, (λ v. tt, λ y. tt)) tt)
+  logical_begins And Test = one f d 0 0 (λ i. As Test) Bool tt tt _ (λ c. later_choose 0 c (kid 1 tt ((then) ret)) (ret false) (tt, (λ v. tt, λ y. tt)) tt)
+  logical_begins And Unused = one f d 0 0 (logical_demand And Unused) (Unit {0}) tt tt _ (λ c. later_choose 0 {σ = logical_demand And Unused} c (kid 1 tt ((then) ret)) (ret tt) (tt, (λ v. tt, λ y. tt)) tt)
+  logical_begins Or Val = one f d 0 0 (λ i. As Val) Value tt tt _ (λ v. later_choose 0 (truth v) (ret v) (kid 1 tt ((then) ret)) tt (tt, (λ v. tt, λ y. tt)))
+  logical_begins Or Test = one f d 0 0 (λ i. As Test) Bool tt tt _ (λ c. later_choose 0 c (ret true) (kid 1 tt ((then) ret)) tt (tt, (λ v. tt, λ y. tt)))
+  logical_begins Or Unused = one f d 0 0 (logical_demand Or Unused) (Unit {0}) tt tt _ (λ c. later_choose 0 {σ = logical_demand Or Unused} c (ret tt) (kid 1 tt ((then) ret)) tt (tt, (λ v. tt, λ y. tt)))
+  logical_begins Coalesce w = one f d 0 0 (λ i. As Val) (Says w) tt tt _ (λ v. later_choose 0 (is_nullish v) _ _ (tt, (λ v. tt, λ y. tt)) tt)
 
   conditional_begins : (w : Want) → Reaches f d 0 0 (conditional_step w)
-  conditional_begins w = one f d 0 0 (first_demand (As Test) (As w)) (Says w) tt _ (λ c. later_choose 0 {σ = first_demand (As Test) (As w)} c (kid 1 tt ((then) ret)) (kid 2 tt ((then) ret)) (tt, (λ v. tt, λ y. tt)) (tt, (λ v. tt, λ y. tt)))
+  conditional_begins w = one f d 0 0 (first_demand (As Test) (As w)) (Says w) tt tt _ (λ c. later_choose 0 {σ = first_demand (As Test) (As w)} c (kid 1 tt ((then) ret)) (kid 2 tt ((then) ret)) (tt, (λ v. tt, λ y. tt)) (tt, (λ v. tt, λ y. tt)))
 
   member_begins : (o : Bool) → Reaches f d 0 0 (member_step o)
-  member_begins o = one f d 0 0 (λ i. As Val) Reference tt _ (λ v. later_choose 0 (o && is_nullish v) (fails Short) _ tt (tt, (λ u. tt, λ y. tt)))
+  member_begins o = one f d 0 0 (λ i. As Val) Reference tt tt _ (λ v. later_choose 0 (o && is_nullish v) (fails Short) _ tt (tt, (λ u. tt, λ y. tt)))
 
   -- behind `?.` it may be left out
   member_goes_on : (o : Bool) → (not o || f) ≡ true → Reaches f d 1 1 (member_step o)
-  member_goes_on false e = inl ((tt, tt), λ v. one f d 1 1 (λ i. As Val) Reference tt _ (λ u. tt))
-  member_goes_on true e = inl ((tt, tt), λ v. reach_choose f d 1 1 (is_nullish v) (fails Short) _ (e, tt) (one f d 1 1 (λ i. As Val) Reference tt _ (λ u. tt)))
+  member_goes_on false e = inl ((tt, tt), λ v. one f d 1 1 (λ i. As Val) Reference tt tt _ (λ u. tt))
+  member_goes_on true e = inl ((tt, tt), λ v. reach_choose f d 1 1 (is_nullish v) (fails Short) _ (e, tt) (one f d 1 1 (λ i. As Val) Reference tt tt _ (λ u. tt)))
 
   as_member_reaches : (o : Bool) (i : ℕ) → Reaches f d i i (member_step o) → (q : Demand) → Valued q → (r : Request q) → Reaches f d i i (as_member (member_step o) q r)
   as_member_reaches o i m (As w) u r = reach_valued f d i i (λ i. As Val) (As w) tt r (bind (member_step o) got) (reach_bind f d i i (member_step o) got m (got_later i (λ i. As Val)))
@@ -302,18 +329,18 @@ module _ (f d : Bool) where
   as_member_reaches o i m q u r = absurd u
 
   call_begins : (o : Bool) → Reaches f d 0 0 (call_step o)
-  call_begins o = one f d 0 0 (first_demand Callee Items) Value tt _ (λ g. later_choose 0 {σ = first_demand Callee Items} (o && is_nullish g.value) (fails Short) _ tt (tt, (λ vs. call_later 0 (first_demand Callee Items) o g vs, λ y. tt)))
+  call_begins o = one f d 0 0 (first_demand Callee Items) Value tt tt _ (λ g. later_choose 0 {σ = first_demand Callee Items} (o && is_nullish g.value) (fails Short) _ tt (tt, (λ vs. call_later 0 (first_demand Callee Items) o g vs, λ y. tt)))
 
   call_goes_on : (o : Bool) → (not o || f) ≡ true → Reaches f d 1 1 (call_step o)
-  call_goes_on false e = inl ((tt, tt), λ g. one f d 1 1 (first_demand Callee Items) Value tt _ (λ vs. call_later 1 (first_demand Callee Items) false g vs))
-  call_goes_on true e = inl ((tt, tt), λ g. reach_choose f d 1 1 {σ = first_demand Callee Items} (is_nullish g.value) (fails Short) _ (e, tt) (one f d 1 1 (first_demand Callee Items) Value tt _ (λ vs. call_later 1 (first_demand Callee Items) true g vs)))
+  call_goes_on false e = inl ((tt, tt), λ g. one f d 1 1 (first_demand Callee Items) Value tt tt _ (λ vs. call_later 1 (first_demand Callee Items) false g vs))
+  call_goes_on true e = inl ((tt, tt), λ g. reach_choose f d 1 1 {σ = first_demand Callee Items} (is_nullish g.value) (fails Short) _ (e, tt) (one f d 1 1 (first_demand Callee Items) Value tt tt _ (λ vs. call_later 1 (first_demand Callee Items) true g vs)))
 
   new_goes_on : Reaches f d 1 1 new_step
-  new_goes_on = inl ((tt, tt), λ g. one f d 1 1 (first_demand (As Val) Items) Value tt _ (λ vs. (λ v. tt, λ y. tt)))
+  new_goes_on = inl ((tt, tt), λ g. one f d 1 1 (first_demand (As Val) Items) Value tt tt _ (λ vs. (λ v. tt, λ y. tt)))
 
   parts_reach : (i n : ℕ) (w : Want) → Before i (suc n) → Reaches f d i i (parts n w)
-  parts_reach zero zero w h = one f d 0 0 (parts_demand zero w) (Says w) tt _ (λ a. tt)
-  parts_reach zero (suc n) w h = one f d 0 0 (parts_demand (suc n) w) (Says w) tt _ (λ a. later_shift (parts_demand (suc n) w) (parts n w))
+  parts_reach zero zero w h = one f d 0 0 (parts_demand zero w) (Says w) tt tt _ (λ a. tt)
+  parts_reach zero (suc n) w h = one f d 0 0 (parts_demand (suc n) w) (Says w) tt tt _ (λ a. later_shift (parts_demand (suc n) w) (parts n w))
   parts_reach (suc i) zero w h = absurd (no_less i h)
     where
       no_less : (i : ℕ) → Before i 0 → ⊥
@@ -324,50 +351,64 @@ module _ (f d : Bool) where
   entries_reach : (i n : ℕ) → Before i n → Reaches f d i i (entries n)
   entries_reach zero zero h = absurd h
   entries_reach (suc i) zero h = absurd h
-  entries_reach zero (suc n) h = one f d 0 0 (λ i. AnEntry) (List Entry) tt _ (λ e. later_bind 0 (shift {q = λ i. AnEntry} (entries n)) (λ es. ret (e ∷ es)) (later_shift (λ i. AnEntry) (entries n)) (λ es. tt))
+  entries_reach zero (suc n) h = one f d 0 0 (λ i. AnEntry) (List Entry) tt tt _ (λ e. later_bind 0 (shift {q = λ i. AnEntry} (entries n)) (λ es. ret (e ∷ es)) (later_shift (λ i. AnEntry) (entries n)) (λ es. tt))
   entries_reach (suc i) (suc n) h = inl ((tt, tt), λ e. reach_bind f d (suc i) (suc i) (shift {q = λ i. AnEntry} (entries n)) (λ es. ret (e ∷ es)) (reach_shift f d i i (λ i. AnEntry) (entries n) (entries_reach i n h)) (λ es. tt))
 
   -- one that may be left out
   and_follows : (w : Want) → f ≡ true → Reaches f d 1 1 (and_step w)
-  and_follows Val e = inl ((tt, tt), λ v. reach_choose f d 1 1 (truth v) (kid 1 tt ((then) ret)) (ret v) (one f d 1 1 (λ i. As Val) Value tt ret (λ v. tt)) (e, tt))
-  and_follows Test e = inl ((tt, tt), λ c. reach_choose f d 1 1 c (kid 1 tt ((then) ret)) (ret false) (one f d 1 1 (λ i. As Test) Bool tt ret (λ v. tt)) (e, tt))
-  and_follows Unused e = inl ((tt, tt), λ c. reach_choose f d 1 1 {σ = logical_demand And Unused} c (kid 1 tt ((then) ret)) (ret tt) (one f d 1 1 (logical_demand And Unused) (Unit {0}) tt ret (λ v. tt)) (e, tt))
+  and_follows Val e = inl ((tt, tt), λ v. reach_choose f d 1 1 (truth v) (kid 1 tt ((then) ret)) (ret v) (one f d 1 1 (λ i. As Val) Value tt tt ret (λ v. tt)) (e, tt))
+  and_follows Test e = inl ((tt, tt), λ c. reach_choose f d 1 1 c (kid 1 tt ((then) ret)) (ret false) (one f d 1 1 (λ i. As Test) Bool tt tt ret (λ v. tt)) (e, tt))
+  and_follows Unused e = inl ((tt, tt), λ c. reach_choose f d 1 1 {σ = logical_demand And Unused} c (kid 1 tt ((then) ret)) (ret tt) (one f d 1 1 (logical_demand And Unused) (Unit {0}) tt tt ret (λ v. tt)) (e, tt))
 
   or_follows : (w : Want) → f ≡ true → Reaches f d 1 1 (or_step w)
-  or_follows Val e = inl ((tt, tt), λ v. reach_choose f d 1 1 (truth v) (ret v) (kid 1 tt ((then) ret)) (e, tt) (one f d 1 1 (λ i. As Val) Value tt ret (λ v. tt)))
-  or_follows Test e = inl ((tt, tt), λ c. reach_choose f d 1 1 c (ret true) (kid 1 tt ((then) ret)) (e, tt) (one f d 1 1 (λ i. As Test) Bool tt ret (λ v. tt)))
-  or_follows Unused e = inl ((tt, tt), λ c. reach_choose f d 1 1 {σ = logical_demand Or Unused} c (ret tt) (kid 1 tt ((then) ret)) (e, tt) (one f d 1 1 (logical_demand Or Unused) (Unit {0}) tt ret (λ v. tt)))
+  or_follows Val e = inl ((tt, tt), λ v. reach_choose f d 1 1 (truth v) (ret v) (kid 1 tt ((then) ret)) (e, tt) (one f d 1 1 (λ i. As Val) Value tt tt ret (λ v. tt)))
+  or_follows Test e = inl ((tt, tt), λ c. reach_choose f d 1 1 c (ret true) (kid 1 tt ((then) ret)) (e, tt) (one f d 1 1 (λ i. As Test) Bool tt tt ret (λ v. tt)))
+  or_follows Unused e = inl ((tt, tt), λ c. reach_choose f d 1 1 {σ = logical_demand Or Unused} c (ret tt) (kid 1 tt ((then) ret)) (e, tt) (one f d 1 1 (logical_demand Or Unused) (Unit {0}) tt tt ret (λ v. tt)))
 
   logical_follows : (o : LogicalOperator) (w : Want) → f ≡ true → Reaches f d 1 1 (logical_step o w)
   logical_follows And w e = and_follows w e
   logical_follows Or w e = or_follows w e
-  logical_follows Coalesce w e = inl ((tt, tt), λ v. reach_choose f d 1 1 (is_nullish v) _ (ret (says w v)) (one f d 1 1 (λ i. As Val) (Says w) tt _ (λ u. tt)) (e, tt))
+  logical_follows Coalesce w e = inl ((tt, tt), λ v. reach_choose f d 1 1 (is_nullish v) _ (ret (says w v)) (one f d 1 1 (λ i. As Val) (Says w) tt tt _ (λ u. tt)) (e, tt))
 
   branch_follows : (w : Want) → f ≡ true → Reaches f d 1 1 (conditional_step w)
-  branch_follows w e = inl ((tt, tt), λ c. reach_choose f d 1 1 {σ = first_demand (As Test) (As w)} c (kid 1 tt ((then) ret)) (kid 2 tt ((then) ret)) (one f d 1 1 (first_demand (As Test) (As w)) (Says w) tt ret (λ v. tt)) (inr (inr (e, (tt, (λ v. tt, λ y. tt))))))
+  branch_follows w e = inl ((tt, tt), λ c. reach_choose f d 1 1 {σ = first_demand (As Test) (As w)} c (kid 1 tt ((then) ret)) (kid 2 tt ((then) ret)) (one f d 1 1 (first_demand (As Test) (As w)) (Says w) tt tt ret (λ v. tt)) (inr (inr (e, (tt, (λ v. tt, λ y. tt))))))
 
   other_follows : (w : Want) → f ≡ true → Reaches f d 1 2 (conditional_step w)
-  other_follows w e = inl ((tt, tt), λ c. reach_choose f d 1 2 {σ = first_demand (As Test) (As w)} c (kid 1 tt ((then) ret)) (kid 2 tt ((then) ret)) (inr (inr (e, (tt, (λ v. tt, λ y. tt))))) (one f d 1 2 (first_demand (As Test) (As w)) (Says w) tt ret (λ v. tt)))
+  other_follows w e = inl ((tt, tt), λ c. reach_choose f d 1 2 {σ = first_demand (As Test) (As w)} c (kid 1 tt ((then) ret)) (kid 2 tt ((then) ret)) (inr (inr (e, (tt, (λ v. tt, λ y. tt))))) (one f d 1 2 (first_demand (As Test) (As w)) (Says w) tt tt ret (λ v. tt)))
 
   -- the right side of an assignment, behind what is assigned to
   put_later : (reference : Reference) (v : Value) → Later 1 (put_target reference v)
   put_later reference v = (tt, (λ u. tt, λ y. tt))
 
   stored_plainly : (reference : Reference) → Reaches f d 1 1 (assign_by Plainly reference)
-  stored_plainly reference = one f d 1 1 AssignDemand Value tt (put_target reference) (put_later reference)
+  stored_plainly reference = one f d 1 1 AssignDemand Value tt tt (put_target reference) (put_later reference)
 
   stored_by : (k : AssignmentKind) → f ≡ true → (reference : Reference) → Reaches f d 1 1 (assign_by k reference)
   stored_by Plainly e reference = stored_plainly reference
-  stored_by (Computing o) e reference = inl ((tt, e), λ a. one f d 1 1 AssignDemand Value tt _ (λ b. later_bind 1 {σ = AssignDemand} (operate o a b) (put_target (after_read reference)) (operate_later 1 AssignDemand o a b) (put_later (after_read reference))))
-  stored_by (DecidingKind o) e reference = inl ((tt, e), λ a. reach_choose f d 1 1 {σ = AssignDemand} (assigns o a) (kid 1 tt ((then) (put_target (after_read reference)))) (ret a) (one f d 1 1 AssignDemand Value tt (put_target (after_read reference)) (put_later (after_read reference))) (e, tt))
+  stored_by (Computing o) e reference = inl ((tt, e), λ a. one f d 1 1 AssignDemand Value tt tt _ (λ b. later_bind 1 {σ = AssignDemand} (operate o a b) (put_target (after_read reference)) (operate_later 1 AssignDemand o a b) (put_later (after_read reference))))
+  stored_by (DecidingKind o) e reference = inl ((tt, e), λ a. reach_choose f d 1 1 {σ = AssignDemand} (assigns o a) (kid 1 tt ((then) (put_target (after_read reference)))) (ret a) (one f d 1 1 AssignDemand Value tt tt (put_target (after_read reference)) (put_later (after_read reference))) (e, tt))
 
   stores : (o : AssignmentOperator) → (is_plain_assignment o || f) ≡ true → Reaches f d 1 1 (assignment_step o)
   stores Assign e = inl ((tt, tt), stored_plainly)
   stores o e = inl ((tt, tt), stored_by (assignment_kind o) e)
 
+  -- what is assigned to, which is read and written besides
+  assigned_later : (k : AssignmentKind) (reference : Reference) → Later 0 (assign_by k reference)
+  assigned_later Plainly reference = (tt, (λ v. (tt, (λ u. tt, λ y. tt)), λ y. tt))
+  assigned_later (Computing o) reference = (tt, (λ a. (tt, (λ b. later_bind 0 {σ = AssignDemand} (operate o a b) (put_target (after_read reference)) (operate_later 0 AssignDemand o a b) (λ v. (tt, (λ u. tt, λ y. tt))), λ y. tt)), λ y. tt))
+  assigned_later (DecidingKind o) reference = (tt, (λ a. later_choose 0 {σ = AssignDemand} (assigns o a) (kid 1 tt ((then) (put_target (after_read reference)))) (ret a) (tt, (λ v. (tt, (λ u. tt, λ y. tt)), λ y. tt)) tt, λ y. tt))
+
+  assigning_begins : (o : AssignmentOperator) → Reaches f d 0 0 (assignment_step o)
+  assigning_begins o = one f d 0 0 AssignDemand Value Prepare tt (assign_by (assignment_kind o)) (assigned_later (assignment_kind o))
+
+  updating_begins : (o : UpdateOperator) (p : Bool) → Reaches f d 0 0 (update_step o p)
+  updating_begins o p =
+      one f d 0 0 (λ i. Target) Value Prepare tt _
+      (λ reference. (tt, (λ a. later_bind 0 {σ = λ i. Target} (numeric a) _ (numeric_later 0 (λ i. Target) a) (λ n. later_bind 0 {σ = λ i. Target} (of_made (safe_number (changed o n))) _ (made_later 0 (λ i. Target) (safe_number (changed o n))) (λ v. (tt, (λ u. tt, λ y. tt)))), λ y. tt)))
+
   -- the value of a property, behind a key that is written out
   fields : (m : Bool) (q : Demand) → Valued q → Entries m q → (r : Request q) → (m || f) ≡ true → Reaches f d 1 1 (entry q r (property_step Init false false false))
-  fields m AnEntry u n r e = reach_bind f d 1 1 {σ = λ i. As Val} (property_step Init false false false) ret (inl ((tt, tt), λ key. one f d 1 1 (λ i. As Val) Entry tt _ (λ v. tt))) (λ v. tt)
+  fields m AnEntry u n r e = reach_bind f d 1 1 {σ = λ i. As Val} (property_step Init false false false) ret (inl ((tt, tt), λ key. one f d 1 1 (λ i. As Val) Entry tt tt _ (λ v. tt))) (λ v. tt)
   fields false (As w) u n r e = (e, tt)
   fields false Callee u n r e = (e, tt)
   fields false OfType u n r e = (e, tt)
@@ -400,11 +441,11 @@ module _ (f d : Bool) where
   whole_value σ y n = refl
 
   chain_read : d ≡ true → Reaches f d 0 0 {σ = λ i. As Val} (kid 0 tt chain_value)
-  chain_read e = inr (inl (record { here = refl; stops = λ y n. whole_value (λ i. As Val) y (subst (λ d. May d y) e n); stopped_later = value_later (λ i. As Val); later = λ a. tt }))
+  chain_read e = inr (inl (record { here = refl; opens = tt; stops = λ y n. whole_value (λ i. As Val) y (subst (λ d. May d y) e n); stopped_later = value_later (λ i. As Val); later = λ a. tt }))
 
   chains : d ≡ true → (q : Demand) → Valued q → (r : Request q) → Reaches f d 0 0 (chain_step q r)
-  chains e (As w) u r = inr (inl (record { here = refl; stops = λ y n. whole_end (λ i. As w) (As w) r y (subst (λ d. May d y) e n); stopped_later = end_later (λ i. As w) (As w) tt r; later = λ a. tt }))
-  chains e Callee u r = inr (inl (record { here = refl; stops = λ y n. whole_end (λ i. Callee) Callee r y (subst (λ d. May d y) e n); stopped_later = end_later (λ i. Callee) Callee tt r; later = λ a. tt }))
+  chains e (As w) u r = inr (inl (record { here = refl; opens = tt; stops = λ y n. whole_end (λ i. As w) (As w) r y (subst (λ d. May d y) e n); stopped_later = end_later (λ i. As w) (As w) tt r; later = λ a. tt }))
+  chains e Callee u r = inr (inl (record { here = refl; opens = tt; stops = λ y n. whole_end (λ i. Callee) Callee r y (subst (λ d. May d y) e n); stopped_later = end_later (λ i. Callee) Callee tt r; later = λ a. tt }))
   chains e OfType u r = reach_bind f d 0 0 {σ = λ i. As Val} (kid 0 tt chain_value) (reply OfType r) (chain_read e) (λ v. tt)
   chains e AnEntry u r = reach_bind f d 0 0 {σ = λ i. As Val} (kid 0 tt chain_value) (reply AnEntry r) (chain_read e) (λ v. tt)
   chains e q u r = absurd u
@@ -414,7 +455,7 @@ module _ (f d : Bool) where
   key_later v = later_bind 0 (primitive ForString v) (λ key. ret (key_value key)) (primitive_later 0 (λ i. As Val) ForString v) (λ x. tt)
 
   brackets : (m : Bool) (q : Demand) → Valued q → Entries m q → (r : Request q) → (m || f) ≡ true → Reaches f d 0 0 (entry q r (property_step Init false false true))
-  brackets m AnEntry u n r e = reach_bind f d 0 0 {σ = λ i. As Val} (property_step Init false false true) ret (one f d 0 0 (λ i. As Val) Entry tt _ (λ v. later_bind 0 (property_key true v) _ (key_later v) (λ key. (tt, (λ w. tt, λ y. tt))))) (λ v. tt)
+  brackets m AnEntry u n r e = reach_bind f d 0 0 {σ = λ i. As Val} (property_step Init false false true) ret (one f d 0 0 (λ i. As Val) Entry tt tt _ (λ v. later_bind 0 (property_key true v) _ (key_later v) (λ key. (tt, (λ w. tt, λ y. tt))))) (λ v. tt)
   brackets false (As w) u n r e = (e, tt)
   brackets false Callee u n r e = (e, tt)
   brackets false OfType u n r e = (e, tt)
@@ -424,7 +465,7 @@ module _ (f d : Bool) where
 
   -- what is spread
   spreads : (m : Bool) (q : Demand) → Valued q → Entries m q → (r : Request q) → (m || f) ≡ true → Reaches f d 0 0 (entry q r spread_step)
-  spreads m AnEntry u n r e = reach_bind f d 0 0 {σ = λ i. As Val} spread_step ret (one f d 0 0 (λ i. As Val) Entry tt _ (λ v. (λ w. tt, λ y. tt))) (λ v. tt)
+  spreads m AnEntry u n r e = reach_bind f d 0 0 {σ = λ i. As Val} spread_step ret (one f d 0 0 (λ i. As Val) Entry tt tt _ (λ v. (λ w. tt, λ y. tt))) (λ v. tt)
   spreads false (As w) u n r e = (e, tt)
   spreads false Callee u n r e = (e, tt)
   spreads false OfType u n r e = (e, tt)
@@ -439,6 +480,8 @@ Suits AsValue (As w) b = Unit {0}
 Suits AsValue AnEntry b = Unit {0}
 Suits AsValue Callee b = b.called ≡ true
 Suits AsValue OfType b = b.typed ≡ true
+Suits AsTarget Target b = Unit {0}
+Suits AsUpdated Target b = Unit {0}
 Suits AsValues (Parts w) b = Unit {0}
 Suits AsValues Items b = Unit {0}
 Suits c q b = ⊥
@@ -482,14 +525,18 @@ pub record Asks (f d m : Bool) (c : Asked) (l : Lead) (fs : List Facts) (q : Dem
   pub below : Suits (asked_below (head_of l) c (place 0 (before l))) (demand (shape_by (head_of l)) fs q (count (before l))) b
   pub first : AllReply (demand (shape_by (head_of l)) fs q) (valued_before l)
 
+target_suits : (o : AssignmentOperator) (b : End) → Suits (target_asked o) Target b
+target_suits Assign b = tt
+target_suits o b = tt
+
 value_asks : (f d m : Bool) (l : Lead) (o : Bool) → Stands AsValue l o → (b : End) → Allows l b → Chains d l → (fs : List Facts) (q : Demand) → Valued q → Entries m q → (r : Request q) → Asks f d m AsValue l fs q r b
 unfolding step
-value_asks f d m Not v s b g w fs q u n r = record { reaches = λ y. reach_valued f d 0 0 (λ i. As Test) q u r not_step (one f d 0 0 (λ i. As Test) Value tt _ (λ v. tt)); below = tt; first = tt }
+value_asks f d m Not v s b g w fs q u n r = record { reaches = λ y. reach_valued f d 0 0 (λ i. As Test) q u r not_step (one f d 0 0 (λ i. As Test) Value tt tt _ (λ v. tt)); below = tt; first = tt }
 value_asks f d m Plus v s b g w fs q u n r = record { reaches = λ y. reach_valued f d 0 0 (λ i. As Val) q u r (number_step UnaryPlus) (number_begins f d UnaryPlus); below = tt; first = tt }
 value_asks f d m Minus v s b g w fs q u n r = record { reaches = λ y. reach_valued f d 0 0 (λ i. As Val) q u r (number_step UnaryNegation) (number_begins f d UnaryNegation); below = tt; first = tt }
 value_asks f d m Tilde v s b g w fs q u n r = record { reaches = λ y. reach_valued f d 0 0 (λ i. As Val) q u r (number_step BitwiseNot) (number_begins f d BitwiseNot); below = tt; first = tt }
-value_asks f d m Typing v s b g w fs q u n r = record { reaches = λ y. reach_valued f d 0 0 (λ i. OfType) q u r typeof_step (one f d 0 0 (λ i. OfType) Value tt _ (λ v. tt)); below = g; first = tt }
-value_asks f d m Emptying v s b g w fs q u n r = record { reaches = λ y. reach_valued f d 0 0 (λ i. As Val) q u r void_step (one f d 0 0 (λ i. As Val) Value tt _ (λ v. tt)); below = tt; first = tt }
+value_asks f d m Typing v s b g w fs q u n r = record { reaches = λ y. reach_valued f d 0 0 (λ i. OfType) q u r typeof_step (one f d 0 0 (λ i. OfType) Value tt tt _ (λ v. tt)); below = g; first = tt }
+value_asks f d m Emptying v s b g w fs q u n r = record { reaches = λ y. reach_valued f d 0 0 (λ i. As Val) q u r void_step (one f d 0 0 (λ i. As Val) Value tt tt _ (λ v. tt)); below = tt; first = tt }
 value_asks f d m (Beside o) v s b g w fs q u n r = record { reaches = λ y. reach_valued f d 0 0 (λ i. As Val) q u r (binary_step o) (binary_begins f d o); below = tt; first = tt }
 value_asks f d m (Deciding o) v s b g w fs q u n r = record { reaches = λ y. reach_passing f d 0 0 (logical_demand o (pass q)) q u r (logical_step o (pass q)) (logical_begins f d o (pass q)); below = left o (pass q); first = tt }
   where
@@ -502,14 +549,14 @@ value_asks f d m (Deciding o) v s b g w fs q u n r = record { reaches = λ y. re
     left Or Unused = tt
     left Coalesce w = tt
 value_asks f d m Choosing v s b g w fs q u n r = record { reaches = λ y. reach_passing f d 0 0 (first_demand (As Test) (As (pass q))) q u r (conditional_step (pass q)) (conditional_begins f d (pass q)); below = tt; first = tt }
-value_asks f d m Passing v s b g w fs q u n r = record { reaches = λ y. reach_passing f d 0 0 (λ i. Parts (pass q)) q u r (sequence_step (pass q)) (one f d 0 0 (λ i. Parts (pass q)) (Says (pass q)) tt _ (λ v. tt)); below = tt; first = tt }
+value_asks f d m Passing v s b g w fs q u n r = record { reaches = λ y. reach_passing f d 0 0 (λ i. Parts (pass q)) q u r (sequence_step (pass q)) (one f d 0 0 (λ i. Parts (pass q)) (Says (pass q)) tt tt _ (λ v. tt)); below = tt; first = tt }
 value_asks f d m (CalledLead o) v s b g w fs q u n r = record { reaches = λ y. reach_valued f d 0 0 (first_demand Callee Items) q u r (call_step o) (call_begins f d o); below = g; first = tt }
-value_asks f d m Making v s b g w fs q u n r = record { reaches = λ y. reach_valued f d 0 0 (first_demand (As Val) Items) q u r new_step (one f d 0 0 (first_demand (As Val) Items) Value tt _ (λ f. (tt, (λ vs. (λ v. tt, λ y. tt), λ y. tt)))); below = tt; first = tt }
-value_asks f d m (Waiting i) v s b g w fs q u n r = record { reaches = λ y. reach_valued f d 0 0 (λ i. As Val) q u r (yield_step i) (one f d 0 0 (λ i. As Val) Value tt _ (λ v. (λ a. tt, λ y. tt))); below = tt; first = tt }
+value_asks f d m Making v s b g w fs q u n r = record { reaches = λ y. reach_valued f d 0 0 (first_demand (As Val) Items) q u r new_step (one f d 0 0 (first_demand (As Val) Items) Value tt tt _ (λ f. (tt, (λ vs. (λ v. tt, λ y. tt), λ y. tt)))); below = tt; first = tt }
+value_asks f d m (Waiting i) v s b g w fs q u n r = record { reaches = λ y. reach_valued f d 0 0 (λ i. As Val) q u r (yield_step i) (one f d 0 0 (λ i. As Val) Value tt tt _ (λ v. (λ a. tt, λ y. tt))); below = tt; first = tt }
 value_asks f d m (Member o) v s b g w fs q u n r = record { reaches = λ y. as_member_reaches f d o 0 (member_begins f d o) q u r; below = tt; first = tt }
 value_asks f d m (Keyed o) v s b g w fs q u n r = record { reaches = λ y. as_member_reaches f d o 0 (member_begins f d o) q u r; below = tt; first = tt }
-value_asks f d m Holding v s b g w fs q u n r = record { reaches = λ y. reach_valued f d 0 0 (λ i. Items) q u r array_step (one f d 0 0 (λ i. Items) Value tt _ (λ vs. (λ v. tt, λ y. tt))); below = tt; first = tt }
-value_asks f d m Gathering v s b g w fs q u n r = record { reaches = λ y. reach_valued f d 0 0 (λ i. Items) q u r object_step (one f d 0 0 (λ i. Items) Value tt _ (λ vs. (λ v. tt, λ y. tt))); below = tt; first = tt }
+value_asks f d m Holding v s b g w fs q u n r = record { reaches = λ y. reach_valued f d 0 0 (λ i. Items) q u r array_step (one f d 0 0 (λ i. Items) Value tt tt _ (λ vs. (λ v. tt, λ y. tt))); below = tt; first = tt }
+value_asks f d m Gathering v s b g w fs q u n r = record { reaches = λ y. reach_valued f d 0 0 (λ i. Items) q u r object_step (one f d 0 0 (λ i. Items) Value tt tt _ (λ vs. (λ v. tt, λ y. tt))); below = tt; first = tt }
 value_asks f d m (Against o a) v s b g w fs q u n r = record { reaches = λ y. reach_valued f d 1 1 (λ i. As Val) q u r (binary_step o) (binary_goes_on f d o); below = tt; first = (tt, tt) }
 value_asks f d m (GivenLead o a) v s b g w fs q u n r = record { reaches = λ y. reach_valued f d 1 1 (first_demand Callee Items) q u r (call_step o) (call_goes_on f d o y); below = tt; first = (tt, tt) }
 value_asks f d m (Filling a) v s b g w fs q u n r = record { reaches = λ y. reach_valued f d 1 1 (first_demand (As Val) Items) q u r new_step (new_goes_on f d); below = tt; first = (tt, tt) }
@@ -539,6 +586,8 @@ value_asks f d m (Storing o a) v s b g w fs q u n r = record { reaches = λ y. r
 value_asks f d m (Fielding false a) v s b g w fs q u n r = record { reaches = λ y. fields f d m q u n r y; below = tt; first = (tt, tt) }
 value_asks f d m (Fielding true a) v s b g w fs q u n r = record { reaches = λ y. absurd (true≢false (sym y)); below = tt; first = (tt, tt) }
 value_asks f d m Bracketing v s b g w fs q u n r = record { reaches = λ y. brackets f d m q u n r y; below = tt; first = tt }
+value_asks f d m (Targeted o) v s b g w fs q u n r = record { reaches = λ y. reach_valued f d 0 0 AssignDemand q u r (assignment_step o) (assigning_begins f d o); below = target_suits o b; first = tt }
+value_asks f d m (Changing o p) v s b g w fs q u n r = record { reaches = λ y. reach_valued f d 0 0 (λ i. Target) q u r (update_step o p) (updating_begins f d o p); below = tt; first = tt }
 value_asks f d m Spreading v s b g w fs q u n r = record { reaches = λ y. spreads f d m q u n r y; below = tt; first = tt }
 value_asks f d m Linking v s b g w fs q u n r = record { reaches = λ y. chains f d w q u r; below = held q u g; first = tt }
   where
@@ -550,12 +599,20 @@ value_asks f d m Linking v s b g w fs q u n r = record { reaches = λ y. chains 
     held q u g = absurd u
 value_asks f d m l v s b g w fs q u n r = absurd s
 
+-- a member that is assigned to
+target_asks : (f d m : Bool) (l : Lead) (o : Bool) → Stands AsTarget l o → (b : End) → (fs : List Facts) → Asks f d m AsTarget l fs Target Prepare b × Asks f d m AsUpdated l fs Target Prepare b
+unfolding step
+target_asks f d m (Member false) v s b fs = (record { reaches = λ y. member_begins f d false; below = tt; first = tt }, record { reaches = λ y. member_begins f d false; below = tt; first = tt })
+target_asks f d m (Keyed false) v s b fs = (record { reaches = λ y. member_begins f d false; below = tt; first = tt }, record { reaches = λ y. member_begins f d false; below = tt; first = tt })
+target_asks f d m (Keying false a) v s b fs = (record { reaches = λ y. member_goes_on f d false refl; below = tt; first = (tt, tt) }, record { reaches = λ y. member_goes_on f d false refl; below = tt; first = (tt, tt) })
+target_asks f d m l v s b fs = absurd s
+
 statement_asks : (f d m : Bool) (l : Lead) (o : Bool) → Stands AsWholeItem l o → (b : End) → (fs : List Facts) (r : Request (Stat None)) → Asks f d m AsWholeItem l fs (Stat None) r b
 unfolding step
-statement_asks f d m Doing v s b fs r = record { reaches = λ y. reach_statement f d 0 0 {σ = λ i. As Unused} (kid 0 tt ((then) ret)) (one f d 0 0 (λ i. As Unused) (Unit {0}) tt ret (λ v. tt)); below = tt; first = tt }
-statement_asks f d m Giving v s b fs r = record { reaches = λ y. reach_statement f d 0 0 return_step (one f d 0 0 (λ i. As Val) (Unit {0}) tt _ (λ v. tt)); below = tt; first = tt }
-statement_asks f d m Raising v s b fs r = record { reaches = λ y. reach_statement f d 0 0 throw_step (one f d 0 0 (λ i. As Val) (Unit {0}) tt _ (λ v. tt)); below = tt; first = tt }
-statement_asks f d m Testing v s b fs r = record { reaches = λ y. reach_statement f d 0 0 (if_step None) (one f d 0 0 (first_demand (As Test) (Stat None)) (Unit {0}) tt _ (λ c. later_choose 0 {σ = first_demand (As Test) (Stat None)} c (kid 1 [] ((then) ret)) (kid 2 [] ((then) ret)) (tt, (λ u. tt, λ y. tt)) (tt, (λ u. tt, λ y. tt)))); below = tt; first = tt }
+statement_asks f d m Doing v s b fs r = record { reaches = λ y. reach_statement f d 0 0 {σ = λ i. As Unused} (kid 0 tt ((then) ret)) (one f d 0 0 (λ i. As Unused) (Unit {0}) tt tt ret (λ v. tt)); below = tt; first = tt }
+statement_asks f d m Giving v s b fs r = record { reaches = λ y. reach_statement f d 0 0 return_step (one f d 0 0 (λ i. As Val) (Unit {0}) tt tt _ (λ v. tt)); below = tt; first = tt }
+statement_asks f d m Raising v s b fs r = record { reaches = λ y. reach_statement f d 0 0 throw_step (one f d 0 0 (λ i. As Val) (Unit {0}) tt tt _ (λ v. tt)); below = tt; first = tt }
+statement_asks f d m Testing v s b fs r = record { reaches = λ y. reach_statement f d 0 0 (if_step None) (one f d 0 0 (first_demand (As Test) (Stat None)) (Unit {0}) tt tt _ (λ c. later_choose 0 {σ = first_demand (As Test) (Stat None)} c (kid 1 [] ((then) ret)) (kid 2 [] ((then) ret)) (tt, (λ u. tt, λ y. tt)) (tt, (λ u. tt, λ y. tt)))); below = tt; first = tt }
 statement_asks f d m l v s b fs r = absurd s
 
 -- the parts of a sequence are asked nothing but the last, and items each for the item
@@ -590,15 +647,30 @@ list_asks f d m (Listing ts) v s b (g ∷ fs) h Items u r = record { reaches = �
 list_asks f d m (Listing ts) v s b (g ∷ fs) h q u r = absurd u
 list_asks f d m l v s b fs h q u r = absurd s
 
-pub asks : (f d m : Bool) (c : Asked) (l : Lead) (o : Bool) → Stands c l o → (b : End) → Allows l b → Chains d l → (fs : List Facts) → Before (count (before l)) (length fs) → (q : Demand) → Suits c q free → Entries m q → (r : Request q) → Asks f d m c l fs q r b
-asks f d m AsWholeItem l v s b g w fs h (Stat None) u n r = statement_asks f d m l v s b fs r
-asks f d m AsValue l v s b g w fs h q u n r = value_asks f d m l v s b g w fs q (values q free u) n r
-asks f d m AsValues l v s b g w fs h q u n r = list_asks f d m l v s b fs h q u r
-asks f d m c l v s b g w fs h q u n r = absurd u
+pub asks : (f d m : Bool) (c : Asked) (l : Lead) (o : Bool) → Stands c l o → (b : End) → Allows l b → Chains d l → (fs : List Facts) → Before (count (before l)) (length fs) → (q : Demand) → Suits c q free → Entries m q → (r : Request q) → Opens q r → Asks f d m c l fs q r b
+asks f d m AsWholeItem l v s b g w fs h (Stat None) u n r o = statement_asks f d m l v s b fs r
+asks f d m AsValue l v s b g w fs h q u n r o = value_asks f d m l v s b g w fs q (values q free u) n r
+asks f d m AsValues l v s b g w fs h q u n r o = list_asks f d m l v s b fs h q u r
+asks f d m AsTarget l v s b g w fs h Target u n Prepare o = (target_asks f d m l v s b fs).0
+asks f d m AsTarget l v s b g w fs h Target u n (Fetch reference) o = absurd o
+asks f d m AsTarget l v s b g w fs h Target u n (Put reference a) o = absurd o
+asks f d m AsUpdated l v s b g w fs h Target u n Prepare o = (target_asks f d m l v (target_stands l v s) b fs).1
+asks f d m AsUpdated l v s b g w fs h Target u n (Fetch reference) o = absurd o
+asks f d m AsUpdated l v s b g w fs h Target u n (Put reference a) o = absurd o
+asks f d m c l v s b g w fs h q u n r o = absurd u
 
 -- what is asked of the part there
 pub suits_below : (c : Asked) (l : Lead) (o : Bool) → Stands c l o → (b : End) → Allows l b → (fs : List Facts) → Before (count (before l)) (length fs) → (q : Demand) → Suits c q free → (r : Request q) → Suits (asked_below (head_of l) c (place 0 (before l))) (demand (shape_by (head_of l)) fs q (count (before l))) b
-suits_below c l v s b g fs h q u r = (asks true true false c l v s b g (always_chains l) fs h q u tt r).below
+suits_below AsTarget l v s b g fs h Target u r = (asks true true false AsTarget l v s b g (always_chains l) fs h Target u tt Prepare tt).below
+suits_below AsUpdated l v s b g fs h Target u r = (asks true true false AsUpdated l v s b g (always_chains l) fs h Target u tt Prepare tt).below
+suits_below AsWholeItem l v s b g fs h (Stat None) u r = (asks true true false AsWholeItem l v s b g (always_chains l) fs h (Stat None) u tt r tt).below
+suits_below AsValue l v s b g fs h (As w) u r = (asks true true false AsValue l v s b g (always_chains l) fs h (As w) u tt r tt).below
+suits_below AsValue l v s b g fs h AnEntry u r = (asks true true false AsValue l v s b g (always_chains l) fs h AnEntry u tt r tt).below
+suits_below AsValue l v s b g fs h Callee u r = (asks true true false AsValue l v s b g (always_chains l) fs h Callee u tt r tt).below
+suits_below AsValue l v s b g fs h OfType u r = (asks true true false AsValue l v s b g (always_chains l) fs h OfType u tt r tt).below
+suits_below AsValues l v s b g fs h (Parts w) u r = (asks true true false AsValues l v s b g (always_chains l) fs h (Parts w) u tt r tt).below
+suits_below AsValues l v s b g fs h Items u r = (asks true true false AsValues l v s b g (always_chains l) fs h Items u tt r tt).below
+suits_below c l v s b g fs h q u r = absurd u
 
 -- one that is evaluated whatever is before it, which is asked for values
 pub steady_sure : (m f : Bool) (l : Lead) → is_steady l ≡ true → surely m f l ≡ true
@@ -623,14 +695,14 @@ steady_valued (Storing o a) e = absurd (true≢false (sym e))
 steady_valued l e = refl
 
 -- what is evaluated before stands before
-earlier_within : (l : Lead) (j : ℕ) → Before j (count (earlier l)) → Before j (count (before l))
+pub earlier_within : (l : Lead) (j : ℕ) → Before j (count (earlier l)) → Before j (count (before l))
 earlier_within (Failing t d) zero b = tt
 earlier_within (Failing t d) (suc zero) b = absurd b
 earlier_within (Failing t d) (suc (suc j)) b = absurd b
 earlier_within l j b = b
 
 -- what is asked below for entries
-entries_there : (m : Bool) (c : Asked) (l : Lead) (o : Bool) → Stands c l o → (fs : List Facts) (q : Demand) → Suits c q free → Entries m q → Entries (entries_below m (shape_by (head_of l)) (place 0 (before l))) (demand (shape_by (head_of l)) fs q (count (before l)))
+pub entries_there : (m : Bool) (c : Asked) (l : Lead) (o : Bool) → Stands c l o → (fs : List Facts) (q : Demand) → Suits c q free → Entries m q → Entries (entries_below m (shape_by (head_of l)) (place 0 (before l))) (demand (shape_by (head_of l)) fs q (count (before l)))
 entries_there m c Holding v s fs q u n = tt
 entries_there m c Gathering v s fs q u n = tt
 entries_there m c (GivenLead o a) v s fs q u n = tt
@@ -641,6 +713,23 @@ entries_there true AsValues (Listing ts) v s fs q u n = absurd n
 entries_there true c (Listing ts) v s fs q u n = absurd s
 entries_there true c l v s fs q u n = tt
 entries_there false c l v s fs q u n = tt
+
+-- what `=` assigns to is never read
+abbrev pub fetching : Lead → Bool → Bool
+fetching (Storing o a) f = not (is_plain_assignment o) && f
+fetching l f = f
+
+fetching_sure : (m f : Bool) (l : Lead) → surely m f l ≡ true → surely m (fetching l f) l ≡ true
+fetching_sure m f (Storing o a) e = by (is_plain_assignment o) e
+  where
+    by : (b : Bool) → (b || f) ≡ true → (b || (not b && f)) ≡ true
+    by true e = refl
+    by false e = e
+fetching_sure m f l e = e
+
+fetching_free : (f : Bool) (l : Lead) → fetching l f ≡ true → f ≡ true
+fetching_free f (Storing o a) e = (and_parts (not (is_plain_assignment o)) f e).1
+fetching_free f l e = e
 
 -- ---- runs
 
@@ -696,23 +785,27 @@ module _ (e : Environment) (k : ℕ) (z : Unseen (alone (Declared k)) e) where
   rest_goes (u ▸ ts) a (suc i) q r s t g = rest_goes ts a.1 i q r s t g
 
   -- the children but one do the same
-  others_go : (ps : Trees) (t u : Tree) (ts : Trees) → AllAvoid D ps → AllAvoid D ts → (j : ℕ) → Apart j (count ps) → (q : Demand) (r : Request q) (s y : State) → Agree D s y → Go (meaning e (append ps (t ▸ ts)) j q r s) (meaning e (append ps (u ▸ ts)) j q r y)
-  unfolding meaning
-  others_go none t u ts a b zero p q r s y g = absurd p
-  others_go none t u ts a b (suc j) p q r s y g = rest_goes ts b j q r s y g
-  others_go (v ▸ ps) t u ts a b zero p q r s y g = insensitive e D z.shared v a.0 q r s y g
-  others_go (v ▸ ps) t u ts a b (suc j) p q r s y g = others_go ps t u ts a.1 b j p q r s y g
+  -- where a part is read or written without its parts, two do the same
+  abbrev pub Alike : (q : Demand) → Tree → Tree → Type 0
+  Alike q t u = (r : Request q) → Settled q r → (s y : State) → Agree D s y → Go (means e t q r s) (means e u q r y)
 
-  pub later_goes : {σ : ℕ → Demand} {A : Type 0} (h : Shape) (q : Demand) (is : List Summary) (ps : Trees) (t u : Tree) (ts : Trees) → AllAvoid D ps → AllAvoid D ts → (c : Command σ A) → Later (count ps) c → (x y : State) → Agree D x y → Go (run e (naming h q [] 0 is) (λ i r w. meaning e (append ps (t ▸ ts)) i (σ i) r w) c x) (run e (naming h q [] 0 is) (λ i r w. meaning e (append ps (u ▸ ts)) i (σ i) r w) c y)
+  others_go : (σ : ℕ → Demand) (ps : Trees) (t u : Tree) (ts : Trees) → AllAvoid D ps → AllAvoid D ts → Alike (σ (count ps)) t u → (j : ℕ) (r : Request (σ j)) → Away j (count ps) (σ j) r → (s y : State) → Agree D s y → Go (meaning e (append ps (t ▸ ts)) j (σ j) r s) (meaning e (append ps (u ▸ ts)) j (σ j) r y)
+  unfolding meaning
+  others_go σ none t u ts a b h zero r p s y g = h r p s y g
+  others_go σ none t u ts a b h (suc j) r p s y g = rest_goes ts b j (σ (suc j)) r s y g
+  others_go σ (v ▸ ps) t u ts a b h zero r p s y g = insensitive e D z.shared v a.0 (σ 0) r s y g
+  others_go σ (v ▸ ps) t u ts a b h (suc j) r p s y g = others_go (λ i. σ (suc i)) ps t u ts a.1 b h j r p s y g
+
+  pub later_goes : {σ : ℕ → Demand} {A : Type 0} (h : Shape) (q : Demand) (is : List Summary) (ps : Trees) (t u : Tree) (ts : Trees) → AllAvoid D ps → AllAvoid D ts → Alike (σ (count ps)) t u → (c : Command σ A) → Later (count ps) c → (x y : State) → Agree D x y → Go (run e (naming h q [] 0 is) (λ i r w. meaning e (append ps (t ▸ ts)) i (σ i) r w) c x) (run e (naming h q [] 0 is) (λ i r w. meaning e (append ps (u ▸ ts)) i (σ i) r w) c y)
   unfolding Goes
-  later_goes h q is ps t u ts a b (ret v) l x y g = (refl, g)
-  later_goes h q is ps t u ts a b (fails v) l x y g = (refl, g)
-  later_goes h q is ps t u ts a b stuck l x y g = tt
-  later_goes h q is ps t u ts a b (op o c) l x y g =
+  later_goes h q is ps t u ts a b d (ret v) l x y g = (refl, g)
+  later_goes h q is ps t u ts a b d (fails v) l x y g = (refl, g)
+  later_goes h q is ps t u ts a b d stuck l x y g = tt
+  later_goes h q is ps t u ts a b d (op o c) l x y g =
       goes_either true (λ v. Agree D) (Agree D) (Agree D) (λ v. Agree D) (Agree D) (act e (naming h q [] 0 is) o x) (act e (naming h q [] 0 is) o y) _ _ _ _
-      ((dead_sound D e z.shared).acts (naming h q [] 0 is) (naming h q [] 0 is) (alive_self D e h q [] 0 is tt) o x y g) (λ v x y g. later_goes h q is ps t u ts a b (c (done v)) (l.0 v) x y g) (λ v x y g. later_goes h q is ps t u ts a b (c (ended v)) (l.1 v) x y g)
-  later_goes {σ} h q is ps t u ts a b (kid j r c) l x y g =
-      goes_either true (λ v. Agree D) (Agree D) (Agree D) (λ v. Agree D) (Agree D) (meaning e (append ps (t ▸ ts)) j (σ j) r x) (meaning e (append ps (u ▸ ts)) j (σ j) r y) _ _ _ _ (others_go ps t u ts a b j l.0 (σ j) r x y g) (λ v x y g. later_goes h q is ps t u ts a b (c (done v)) (l.1.0 v) x y g) (λ v x y g. later_goes h q is ps t u ts a b (c (ended v)) (l.1.1 v) x y g)
+      ((dead_sound D e z.shared).acts (naming h q [] 0 is) (naming h q [] 0 is) (alive_self D e h q [] 0 is tt) o x y g) (λ v x y g. later_goes h q is ps t u ts a b d (c (done v)) (l.0 v) x y g) (λ v x y g. later_goes h q is ps t u ts a b d (c (ended v)) (l.1 v) x y g)
+  later_goes {σ} h q is ps t u ts a b d (kid j r c) l x y g =
+      goes_either true (λ v. Agree D) (Agree D) (Agree D) (λ v. Agree D) (Agree D) (meaning e (append ps (t ▸ ts)) j (σ j) r x) (meaning e (append ps (u ▸ ts)) j (σ j) r y) _ _ _ _ (others_go σ ps t u ts a b d j r l.0 x y g) (λ v x y g. later_goes h q is ps t u ts a b d (c (done v)) (l.1.0 v) x y g) (λ v x y g. later_goes h q is ps t u ts a b d (c (ended v)) (l.1.1 v) x y g)
 
   -- a node, by what it reads of its children
   abbrev pub by_summaries : Shape → (q : Demand) (r : Request q) → List Summary → Trees → State → Completion (Reply q r)
@@ -826,10 +919,10 @@ module _ (e : Environment) (k : ℕ) (z : Unseen (alone (Declared k)) e) where
   Calm init q m r = Replying q m r ⊎ ((is_effect_free init ≡ true) × Quietly D q m r)
 
   -- where it is asked no more than the way to the read asks
-  abbrev AllCalm : Tree → ℕ → Trees → (ℕ → Demand) → Type 0
-  AllCalm init m ps σ = (j : ℕ) → Before j m → (r : Request (σ j)) → Mild (is_effect_free init) (σ j) r → Calm init (σ j) (front ps σ j) r
+  abbrev AllCalm : Bool → Tree → ℕ → Trees → (ℕ → Demand) → Type 0
+  AllCalm f init m ps σ = (j : ℕ) → Before j m → (r : Request (σ j)) → Mild f (σ j) r → Calm init (σ j) (front ps σ j) r
 
-  module _ (init : Tree) (varies : is_constant init ≡ false) where
+  module _ (f : Bool) (init : Tree) (varies : is_constant init ≡ false) where
     calm_part : (t : Tree) → passes init t ≡ true → Avoids D t → (q : Demand) → Replies q → (r : Request q) → Calm init q (means e t q) r
     calm_part t p a q u r = by (passes_by init t varies p)
       where
@@ -841,7 +934,7 @@ module _ (e : Environment) (k : ℕ) (z : Unseen (alone (Declared k)) e) where
     first_or true e = refl
     first_or false e = e
 
-    calm_list : (i : ℕ) (ps : Trees) → AllPass false init shape.Listed i ps → AllAvoid D ps → (σ : ℕ → Demand) → AllReply σ ps → AllCalm init (count ps) ps σ
+    calm_list : (i : ℕ) (ps : Trees) → AllPass false init shape.Listed i ps → AllAvoid D ps → (σ : ℕ → Demand) → AllReply σ ps → AllCalm f init (count ps) ps σ
     unfolding meaning
     calm_list i none p a σ u zero b r m = absurd b
     calm_list i none p a σ u (suc j) b r m = absurd b
@@ -863,7 +956,7 @@ module _ (e : Environment) (k : ℕ) (z : Unseen (alone (Declared k)) e) where
         by true c p = calm_part t c a AnEntry tt tt
         by false c p = let (f, g) = and_parts (is_field t) (passes init (part t 1)) p in calm_field t f g a
 
-    calm_items : (i : ℕ) (ps : Trees) → AllPass true init shape.Listed i ps → AllAvoid D ps → AllCalm init (count ps) ps (λ i. AnEntry)
+    calm_items : (i : ℕ) (ps : Trees) → AllPass true init shape.Listed i ps → AllAvoid D ps → AllCalm f init (count ps) ps (λ i. AnEntry)
     unfolding meaning
     calm_items i none p a zero b r m = absurd b
     calm_items i none p a (suc j) b r m = absurd b
@@ -871,12 +964,12 @@ module _ (e : Environment) (k : ℕ) (z : Unseen (alone (Declared k)) e) where
     calm_items i (t ▸ ps) p a zero b r m = calm_item t p.0 a.0
 
     -- what is asked for nothing
-    calm_unasked : (ps : Trees) (σ : ℕ → Demand) → (Replies (σ 0) → ⊥) → AllReply σ ps → AllCalm init (count ps) ps σ
+    calm_unasked : (ps : Trees) (σ : ℕ → Demand) → (Replies (σ 0) → ⊥) → AllReply σ ps → AllCalm f init (count ps) ps σ
     calm_unasked none σ n u zero b r m = absurd b
     calm_unasked none σ n u (suc j) b r m = absurd b
     calm_unasked (t ▸ ps) σ n u j b r m = absurd (n u.0)
 
-    calm_one : (t : Tree) (ps : Trees) → passes init t ≡ true → Avoids D t → (σ : ℕ → Demand) → Replies (σ 0) → AllCalm init 1 (t ▸ ps) σ
+    calm_one : (t : Tree) (ps : Trees) → passes init t ≡ true → Avoids D t → (σ : ℕ → Demand) → Replies (σ 0) → AllCalm f init 1 (t ▸ ps) σ
     unfolding meaning
     calm_one t ps p a σ u zero b r m = calm_part t p a (σ 0) u r
     calm_one t ps p a σ u (suc zero) b r m = absurd b
@@ -885,45 +978,102 @@ module _ (e : Environment) (k : ℕ) (z : Unseen (alone (Declared k)) e) where
     varied : (b : Bool) → (is_constant init || b) ≡ true → b ≡ true
     varied b p = sym (ap (λ c. c || b) varies) ∙ p
 
-    calm_target : (o : AssignmentOperator) (t : Tree) → passes_target init o t ≡ true → Avoids D t → (r : TargetRequest) → Mild (is_effect_free init) Target r → Calm init Target (means e t Target) r
-    calm_target o t p a Prepare m = inl (target_replies e t (and_parts (is_identifier t) (is_effect_free t) (and_parts (is_identifier t && is_effect_free t) (is_plain_assignment o || is_effect_free init) (varied _ p)).0).0)
-    calm_target o t p a (Fetch reference) m =
-        let (i, f) = and_parts (is_identifier t) (is_effect_free t) (and_parts (is_identifier t && is_effect_free t) (is_plain_assignment o || is_effect_free init) (varied _ p)).0 in
-        inr (m, fetched_quietly e D z.shared t a i f reference)
-    calm_target o t p a (Put reference v) m = absurd m
+    -- a part of a member
+    abbrev Steady : Tree → Type 0
+    Steady t = Replying (As Val) (means e t (As Val)) tt ⊎ ((is_effect_free init ≡ true) × ((s : State) → Quiet s (means e t (As Val) tt s)))
 
-    calm_assigned : (o : AssignmentOperator) (t : Tree) → passes_target init o t ≡ true → Avoids D t → AllCalm init 1 (t ▸ none) AssignDemand
+    steady_value : (t : Tree) → passes init t ≡ true → Steady t
+    steady_value t p = by (passes_by init t varies p)
+      where
+        by : (is_constant t ≡ true) ⊎ ((is_effect_free init ≡ true) × (is_effect_free t ≡ true) × (is_item t ≡ true)) → Steady t
+        by (inl c) = inl (constant_replies e t c (As Val) tt tt)
+        by (inr (g, h, i)) = inr (g, λ s. quiet_there e t h s)
+
+    steady_word : (t : Tree) → passes_word init t ≡ true → Steady t
+    steady_word t p = by (is_word (shape_of t)) refl p
+      where
+        by : (b : Bool) → is_word (shape_of t) ≡ b → (b || passes init t) ≡ true → Steady t
+        by true w p = inl (word_replies e t w)
+        by false w p = steady_value t p
+
+    steady_quiet : (t : Tree) → Steady t → (s : State) → Quiet s (means e t (As Val) tt s)
+    steady_quiet t (inl a) s = quiet_replying (As Val) (means e t (As Val)) tt a s
+    steady_quiet t (inr q) s = q.1 s
+
+    steady_member : (t : Tree) → is_member t ≡ true → Avoids D t → Steady (part t 0) → Steady (part t 1) → Calm init Target (means e t Target) Prepare
+    steady_member t m a (inl v) (inl u) = inl (AMember v.0 (key_value u.0), λ s. member_replies e t m v.0 u.0 s (v.1 s) (u.1 s))
+    steady_member t m a (inl v) (inr u) = inr (u.0, member_quietly e D z.shared t a m (steady_quiet (part t 0) (inl v)) u.1)
+    steady_member t m a (inr v) u = inr (v.0, member_quietly e D z.shared t a m v.1 (steady_quiet (part t 1) u))
+
+    calm_member : (o : AssignmentOperator) (t : Tree) → passes_member init o t ≡ true → Avoids D t → Calm init Target (means e t Target) Prepare
+    calm_member o t p a =
+        let (m, n) = and_parts (is_member t) (is_plain_assignment o && (passes init (part t 0) && passes_word init (part t 1))) p in
+        let (b, c) = and_parts (passes init (part t 0)) (passes_word init (part t 1)) (and_parts (is_plain_assignment o) (passes init (part t 0) && passes_word init (part t 1)) n).1 in
+        steady_member t m a (steady_value (part t 0) b) (steady_word (part t 1) c)
+
+    -- a name
+    named_target : (o : AssignmentOperator) (t : Tree) → (is_identifier t && is_effect_free t) && (is_plain_assignment o || is_effect_free init) ≡ true → (is_identifier t ≡ true) × (is_effect_free t ≡ true)
+    named_target o t p = and_parts (is_identifier t) (is_effect_free t) (and_parts (is_identifier t && is_effect_free t) (is_plain_assignment o || is_effect_free init) p).0
+
+    prepared : (o : AssignmentOperator) (t : Tree) → passes_target init o t ≡ true → Avoids D t → Calm init Target (means e t Target) Prepare
+    prepared o t p a = by (passes_member init o t) refl (varied _ p)
+      where
+        by : (b : Bool) → passes_member init o t ≡ b → (b || ((is_identifier t && is_effect_free t) && (is_plain_assignment o || is_effect_free init))) ≡ true → Calm init Target (means e t Target) Prepare
+        by true m p = calm_member o t m a
+        by false m p = inl (target_replies e t (named_target o t p).0)
+
+    -- its value is read by another operator than `=` alone
+    no_member : (o : AssignmentOperator) (t : Tree) → is_plain_assignment o ≡ false → passes_member init o t ≡ false
+    no_member o t p = ap (λ b. is_member t && (b && (passes init (part t 0) && passes_word init (part t 1)))) p ∙ none_of (is_member t)
+      where
+        none_of : (b : Bool) → b && false ≡ false
+        none_of true = refl
+        none_of false = refl
+
+    fetched_name : (o : AssignmentOperator) (t : Tree) → is_plain_assignment o ≡ false → is_effect_free init ≡ true → passes_target init o t ≡ true → Avoids D t → (reference : Reference) → Calm init Target (means e t Target) (Fetch reference)
+    fetched_name o t n g p a reference =
+        let (i, h) = named_target o t (sym (ap (λ b. b || ((is_identifier t && is_effect_free t) && (is_plain_assignment o || is_effect_free init))) (no_member o t n)) ∙ varied _ p) in
+        inr (g, fetched_quietly e D z.shared t a i h reference)
+
+    calm_assigned : (o : AssignmentOperator) (t : Tree) → (f ≡ true → (is_plain_assignment o ≡ false) × (is_effect_free init ≡ true)) → passes_target init o t ≡ true → Avoids D t → AllCalm f init 1 (t ▸ none) AssignDemand
     unfolding meaning
-    calm_assigned o t p a zero b r m = calm_target o t p a r m
-    calm_assigned o t p a (suc zero) b r m = absurd b
-    calm_assigned o t p a (suc (suc j)) b r m = absurd b
+    calm_assigned o t h p a zero b Prepare m = prepared o t p a
+    calm_assigned o t h p a zero b (Fetch reference) m = fetched_name o t (h m).0 (h m).1 p a reference
+    calm_assigned o t h p a zero b (Put reference v) m = absurd m
+    calm_assigned o t h p a (suc zero) b r m = absurd b
+    calm_assigned o t h p a (suc (suc j)) b r m = absurd b
 
-    calm_key : (t : Tree) → is_word (shape_of t) ≡ true → AllCalm init 1 (t ▸ none) (λ i. As Val)
+    calm_key : (t : Tree) → is_word (shape_of t) ≡ true → AllCalm f init 1 (t ▸ none) (λ i. As Val)
     unfolding meaning
     calm_key t p zero b r m = inl (word_replies e t p)
     calm_key t p (suc zero) b r m = absurd b
     calm_key t p (suc (suc j)) b r m = absurd b
 
-    none_calm : (σ : ℕ → Demand) → AllCalm init 0 none σ
+    none_calm : (σ : ℕ → Demand) → AllCalm f init 0 none σ
     none_calm σ zero b r m = absurd b
     none_calm σ (suc j) b r m = absurd b
 
-    calm_before : (m : Bool) (l : Lead) → AllPass m init (shape_by (head_of l)) 0 (before l) → AllAvoid D (before l) → (fs : List Facts) (q : Demand) → Entries m q → AllReply (demand (shape_by (head_of l)) fs q) (valued_before l) → AllCalm init (count (earlier l)) (before l) (demand (shape_by (head_of l)) fs q)
-    calm_before m (Against o t) p a fs q n u = calm_one t none p.0 a.0 (λ i. As Val) u.0
-    calm_before m (GivenLead o t) p a fs q n u = calm_one t none p.0 a.0 (first_demand Callee Items) u.0
-    calm_before m (Filling t) p a fs q n u = calm_one t none p.0 a.0 (first_demand (As Val) Items) u.0
-    calm_before m (Keying o t) p a fs q n u = calm_one t none p.0 a.0 (λ i. As Val) u.0
-    calm_before m (Following o t) p a fs q n u = calm_one t none p.0 a.0 (logical_demand o (pass q)) u.0
-    calm_before m (Branching t) p a fs q n u = calm_one t none p.0 a.0 (first_demand (As Test) (As (pass q))) u.0
-    calm_before m (Failing t d) p a fs q n u = calm_one t (d ▸ none) p.0 a.0 (first_demand (As Test) (As (pass q))) u.0
-    calm_before m (Storing o t) p a fs q n u = calm_assigned o t p.0 a.0
-    calm_before m (Fielding false t) p a fs q n u = calm_key t (varied (is_word (shape_of t)) p.0)
-    calm_before m (Fielding true t) p a fs q n u = absurd (true≢false (sym (varied false p.0)))
-    calm_before false (Listing ts) p a fs q n u = calm_list 0 ts p a (demand shape.Listed fs q) u
-    calm_before true (Listing ts) p a fs Items n u = calm_items 0 ts p a
-    calm_before true (Listing ts) p a fs AnEntry n u = calm_unasked ts (demand shape.Listed fs AnEntry) (λ r. r) u
-    calm_before true (Listing ts) p a fs q n u = absurd n
-    calm_before m l p a fs q n u = none_calm (demand (shape_by (head_of l)) fs q)
+    -- what is assigned to is asked for its value by another operator than `=` alone
+    abbrev Fetches : Lead → Type 0
+    Fetches (Storing o a) = f ≡ true → (is_plain_assignment o ≡ false) × (is_effect_free init ≡ true)
+    Fetches l = Unit {0}
+
+    calm_before : (m : Bool) (l : Lead) → Fetches l → AllPass m init (shape_by (head_of l)) 0 (before l) → AllAvoid D (before l) → (fs : List Facts) (q : Demand) → Entries m q → AllReply (demand (shape_by (head_of l)) fs q) (valued_before l) → AllCalm f init (count (earlier l)) (before l) (demand (shape_by (head_of l)) fs q)
+    calm_before m (Against o t) w p a fs q n u = calm_one t none p.0 a.0 (λ i. As Val) u.0
+    calm_before m (GivenLead o t) w p a fs q n u = calm_one t none p.0 a.0 (first_demand Callee Items) u.0
+    calm_before m (Filling t) w p a fs q n u = calm_one t none p.0 a.0 (first_demand (As Val) Items) u.0
+    calm_before m (Keying o t) w p a fs q n u = calm_one t none p.0 a.0 (λ i. As Val) u.0
+    calm_before m (Following o t) w p a fs q n u = calm_one t none p.0 a.0 (logical_demand o (pass q)) u.0
+    calm_before m (Branching t) w p a fs q n u = calm_one t none p.0 a.0 (first_demand (As Test) (As (pass q))) u.0
+    calm_before m (Failing t d) w p a fs q n u = calm_one t (d ▸ none) p.0 a.0 (first_demand (As Test) (As (pass q))) u.0
+    calm_before m (Storing o t) w p a fs q n u = calm_assigned o t w p.0 a.0
+    calm_before m (Fielding false t) w p a fs q n u = calm_key t (varied (is_word (shape_of t)) p.0)
+    calm_before m (Fielding true t) w p a fs q n u = absurd (true≢false (sym (varied false p.0)))
+    calm_before false (Listing ts) w p a fs q n u = calm_list 0 ts p a (demand shape.Listed fs q) u
+    calm_before true (Listing ts) w p a fs Items n u = calm_items 0 ts p a
+    calm_before true (Listing ts) w p a fs AnEntry n u = calm_unasked ts (demand shape.Listed fs AnEntry) (λ r. r) u
+    calm_before true (Listing ts) w p a fs q n u = absurd n
+    calm_before m l w p a fs q n u = none_calm (demand (shape_by (head_of l)) fs q)
 
   module _ {A : Type 0} (init : Tree) (s : State) where
     abbrev Started : (Value → State → Completion A) → Completion A
@@ -959,15 +1109,15 @@ module _ (e : Environment) (k : ℕ) (z : Unseen (alone (Declared k)) e) where
 
   -- ---- a node, with the expression in the place of the read
 
-  module _ (h : Shape) (q : Demand) (is : List Summary) (σ : ℕ → Demand) (ps : Trees) (t u : Tree) (ts : Trees) (init : Tree) (first : AllAvoid D ps) (last : AllAvoid D ts) (m : ℕ) (within : (j : ℕ) → Before j m → Before j (count ps)) (calm : AllCalm init m ps σ)
-      (d : Bool) (ends : (s : State) → Ending d (means e init (As Val) tt s)) (inner : (r : Request (σ (count ps))) (s : State) → Go (next (means e init (As Val) tt s) (λ v z. means e t (σ (count ps)) r (after v z))) (means e u (σ (count ps)) r s)) where
+  module _ (h : Shape) (q : Demand) (is : List Summary) (σ : ℕ → Demand) (ps : Trees) (t u : Tree) (ts : Trees) (init : Tree) (first : AllAvoid D ps) (last : AllAvoid D ts) (f : Bool) (idle : f ≡ true → is_effect_free init ≡ true) (m : ℕ) (within : (j : ℕ) → Before j m → Before j (count ps)) (calm : AllCalm f init m ps σ)
+      (d : Bool) (ends : (s : State) → Ending d (means e init (As Val) tt s)) (alike : Alike (σ (count ps)) t u) (inner : (r : Request (σ (count ps))) → Opens (σ (count ps)) r → (s : State) → Go (next (means e init (As Val) tt s) (λ v z. means e t (σ (count ps)) r (after v z))) (means e u (σ (count ps)) r s)) where
     abbrev runs : {A : Type 0} → Tree → Command σ A → State → Completion A
     runs w c y = run e (naming h q [] 0 is) (λ i r z. meaning e (append ps (w ▸ ts)) i (σ i) r z) c y
 
     abbrev Reached : {A : Type 0} → Command σ A → Type 0
     Reached c = (s : State) → Go (next (means e init (As Val) tt s) (λ v y. runs t c (after v y))) (runs u c s)
 
-    module _ {A : Type 0} (r : Request (σ (count ps))) (c : Ends (Reply (σ (count ps)) r) → Command σ A) (stops : (y : Stop) → May d y → c (ended y) ≡ fails y) (stopped_later : (y : Stop) → Later (count ps) (c (ended y))) (later : (a : Reply (σ (count ps)) r) → Later (count ps) (c (done a))) where
+    module _ {A : Type 0} (r : Request (σ (count ps))) (opens : Opens (σ (count ps)) r) (c : Ends (Reply (σ (count ps)) r) → Command σ A) (stops : (y : Stop) → May d y → c (ended y) ≡ fails y) (stopped_later : (y : Stop) → Later (count ps) (c (ended y))) (later : (a : Reply (σ (count ps)) r) → Later (count ps) (c (done a))) where
       abbrev goes_on_with : Tree → Reply (σ (count ps)) r → State → Completion A
       goes_on_with w a y = runs w (c (done a)) y
 
@@ -984,33 +1134,33 @@ module _ (e : Environment) (k : ℕ) (z : Unseen (alone (Declared k)) e) where
           (sym (either_cong v _ _ _ _ (λ p y. asked_there t (after p y)) (λ y p. refl) ∙ joined d v (ends s) (λ p y. means e t (σ (count ps)) r (after p y)) (goes_on_with t) (ends_with t) (λ y n p. ap (λ d. runs t d p) (stops y n))))
           (sym (asked_there u s))
           (goes_either true (λ p. Agree D) (Agree D) (Agree D) (λ p. Agree D) (Agree D) (next v (λ p y. means e t (σ (count ps)) r (after p y))) (means e u (σ (count ps)) r s) _ _ _ _
-          (inner r s)
-          (λ p x y g. later_goes h q is ps t u ts first last (c (done p)) (later p) x y g) (λ p x y g. later_goes h q is ps t u ts first last (c (ended p)) (stopped_later p) x y g))
+          (inner r opens s)
+          (λ p x y g. later_goes h q is ps t u ts first last alike (c (done p)) (later p) x y g) (λ p x y g. later_goes h q is ps t u ts first last alike (c (ended p)) (stopped_later p) x y g))
 
-    hit_there : {A : Type 0} (j : ℕ) → j ≡ count ps → (r : Request (σ j)) (c : Ends (Reply (σ j) r) → Command σ A) → ((y : Stop) → May d y → c (ended y) ≡ fails y) → ((y : Stop) → Later (count ps) (c (ended y))) → ((a : Reply (σ j) r) → Later (count ps) (c (done a))) → Reached (kid j r c)
+    hit_there : {A : Type 0} (j : ℕ) → j ≡ count ps → (r : Request (σ j)) → Opens (σ j) r → (c : Ends (Reply (σ j) r) → Command σ A) → ((y : Stop) → May d y → c (ended y) ≡ fails y) → ((y : Stop) → Later (count ps) (c (ended y))) → ((a : Reply (σ j) r) → Later (count ps) (c (done a))) → Reached (kid j r c)
     hit_there {A} j p =
-        subst (λ j. (r : Request (σ j)) (c : Ends (Reply (σ j) r) → Command σ A) → ((y : Stop) → May d y → c (ended y) ≡ fails y) → ((y : Stop) → Later (count ps) (c (ended y))) → ((a : Reply (σ j) r) → Later (count ps) (c (done a))) → Reached (kid j r c)) (sym p)
-        (λ r c stops stopped_later later. hit_here r c stops stopped_later later)
+        subst (λ j. (r : Request (σ j)) → Opens (σ j) r → (c : Ends (Reply (σ j) r) → Command σ A) → ((y : Stop) → May d y → c (ended y) ≡ fails y) → ((y : Stop) → Later (count ps) (c (ended y))) → ((a : Reply (σ j) r) → Later (count ps) (c (done a))) → Reached (kid j r c)) (sym p)
+        (λ r o c stops stopped_later later. hit_here r o c stops stopped_later later)
 
     -- where it isn't asked: the initializer does nothing but give a value, which nothing reads
     gone : {A : Type 0} (c : Command σ A) → is_effect_free init ≡ true → Later (count ps) c → Reached c
-    gone c free l s = with_value init s (means e init (As Val) tt s) (quiet_there e init free s) (λ v y. runs t c y) (runs u c s) (λ v known. later_goes h q is ps t u ts first last c l (after v s) s (agrees v s))
+    gone c free l s = with_value init s (means e init (As Val) tt s) (quiet_there e init free s) (λ v y. runs t c y) (runs u c s) (λ v known. later_goes h q is ps t u ts first last alike c l (after v s) s (agrees v s))
 
-    pub reach_goes : {A : Type 0} (c : Command σ A) → Reaches (is_effect_free init) d m (count ps) c → Reached c
+    pub reach_goes : {A : Type 0} (c : Command σ A) → Reaches f d m (count ps) c → Reached c
     reach_goes {A} (kid j r c) (inl l) s =
         let F = λ (a : Reply (σ j) r) (y : State). runs t (c (done a)) y in
         let G = λ (a : Reply (σ j) r) (y : State). runs u (c (done a)) y in
-        let f = λ (x : Stop) (y : State). runs t (c (ended x)) y in
-        let g = λ (x : Stop) (y : State). runs u (c (ended x)) y in
+        let stopped = λ (x : Stop) (y : State). runs t (c (ended x)) y in
+        let others_stopped = λ (x : Stop) (y : State). runs u (c (ended x)) y in
         let b = within j l.0.0 in
-        subst₂ Go (either_cong (means e init (As Val) tt s) _ _ _ _ (λ v y. ap (λ x. either x F f) (sym (front_is ps t ts j b (σ j) r (after v y)))) (λ x y. refl)) (ap (λ x. either x G g) (sym (front_is ps u ts j b (σ j) r s)))
-        (passed_goes init s (σ j) (front ps σ j) r (calm j l.0.0 r l.0.1) F G f g (λ a. reach_goes (c (done a)) (l.1 a) s))
-    reach_goes (kid j r c) (inr (inl l)) s = hit_there j l.here r c l.stops l.stopped_later l.later s
-    reach_goes (kid j r c) (inr (inr l)) s = gone (kid j r c) l.0 l.1 s
-    reach_goes (ret a) l s = gone (ret a) l.0 l.1 s
-    reach_goes (fails y) l s = gone (fails y) l.0 l.1 s
-    reach_goes stuck l s = gone stuck l.0 l.1 s
-    reach_goes (op o c) l s = gone (op o c) l.0 l.1 s
+        subst₂ Go (either_cong (means e init (As Val) tt s) _ _ _ _ (λ v y. ap (λ x. either x F stopped) (sym (front_is ps t ts j b (σ j) r (after v y)))) (λ x y. refl)) (ap (λ x. either x G others_stopped) (sym (front_is ps u ts j b (σ j) r s)))
+        (passed_goes init s (σ j) (front ps σ j) r (calm j l.0.0 r l.0.1) F G stopped others_stopped (λ a. reach_goes (c (done a)) (l.1 a) s))
+    reach_goes (kid j r c) (inr (inl l)) s = hit_there j l.here r l.opens c l.stops l.stopped_later l.later s
+    reach_goes (kid j r c) (inr (inr l)) s = gone (kid j r c) (idle l.0) l.1 s
+    reach_goes (ret a) l s = gone (ret a) (idle l.0) l.1 s
+    reach_goes (fails y) l s = gone (fails y) (idle l.0) l.1 s
+    reach_goes stuck l s = gone stuck (idle l.0) l.1 s
+    reach_goes (op o c) l s = gone (op o c) (idle l.0) l.1 s
 
   -- ---- the path
 
@@ -1021,29 +1171,84 @@ module _ (e : Environment) (k : ℕ) (z : Unseen (alone (Declared k)) e) where
   there_before none t ts = tt
   there_before (p ▸ ps) t ts = there_before ps t ts
 
+  module _ (x : Name) (named : x.symbol ≡ Some (record { 0 = k })) (spelling : List ℕ) (init : Tree) (plain : summary (identifier (resolved spelling k)) ≡ summary init) where
+    abbrev spot : Tree
+    spot = identifier (resolved spelling k)
+
+    -- a member that is read or written without its parts
+    settled_later : (i : ℕ) (l : Lead) (v : Bool) → Stands AsTarget l v → (fs : List Facts) (r : TargetRequest) → Settled Target r → Later i {σ = demand (shape_by (head_of l)) fs Target} (step (shape_by (head_of l)) [] fs Target r)
+    unfolding step
+    settled_later i (Member false) v w fs (Fetch reference) h = fetched_later i (λ i. As Val) reference
+    settled_later i (Member false) v w fs (Put reference a) h = stored_later i (λ i. As Val) reference a
+    settled_later i (Keyed false) v w fs (Fetch reference) h = fetched_later i (λ i. As Val) reference
+    settled_later i (Keyed false) v w fs (Put reference a) h = stored_later i (λ i. As Val) reference a
+    settled_later i (Keying false t) v w fs (Fetch reference) h = fetched_later i (λ i. As Val) reference
+    settled_later i (Keying false t) v w fs (Put reference a) h = stored_later i (λ i. As Val) reference a
+    settled_later i l v w fs Prepare h = absurd h
+    settled_later i l v w fs r h = absurd w
+
+    -- whose parts are asked for values
+    parts_alike : (l : Lead) (v : Bool) → Stands AsTarget l v → (fs : List Facts) (t u : Tree) → Alike (demand (shape_by (head_of l)) fs Target (count (before l))) t u
+    parts_alike (Member false) v w fs t u r h s y g = absurd h
+    parts_alike (Keyed false) v w fs t u r h s y g = absurd h
+    parts_alike (Keying false a) v w fs t u r h s y g = absurd h
+    parts_alike l v w fs t u r h s y g = absurd w
+
+    member_alike : (l : Lead) (ss : List Step) (ts : Trees) → Stands AsTarget l (is_end ss) → AllAvoid D (before l) → AllAvoid D ts → Alike Target (node (shape_by (head_of l)) [] 0 (append (before l) (led ss spot ▸ ts))) (node (shape_by (head_of l)) [] 0 (append (before l) (led ss init ▸ ts)))
+    member_alike l ss ts w a b r h s y g =
+        let shape = shape_by (head_of l) in
+        let kids = λ (t : Tree). append (before l) (led ss t ▸ ts) in
+        let is = summaries (kids spot) in
+        let put : means e (node shape [] 0 (kids init)) Target r y ≡ by_summaries shape Target r is (kids init) y = node_is shape Target r (kids init) y ∙ ap (λ i. by_summaries shape Target r i (kids init) y) (sym (summaries_led (record { lead = l; rest = ts }) ss spot init plain)) in
+        subst₂ Go (sym (node_is shape Target r (kids spot) s)) (sym put)
+        (later_goes shape Target is (before l) (led ss spot) (led ss init) ts a b (parts_alike l (is_end ss) w (facts_all is) (led ss spot) (led ss init)) (step shape [] (facts_all is) Target r) (settled_later (count (before l)) l (is_end ss) w (facts_all is) r h) s y g)
+
+    pub settled_goes : (c : Asked) (ss : List Step) → Well c ss → Spared x ss → (q : Demand) (b : End) → Suits c q b → Alike q (led ss spot) (led ss init)
+    settled_goes AsTarget (l ∷ ss) w f Target b u = member_alike l.lead ss l.rest w.0 (all_spared x named (before l.lead) f.0.0) (all_spared x named l.rest f.0.1)
+    settled_goes AsUpdated (l ∷ ss) w f Target b u = member_alike l.lead ss l.rest (target_stands l.lead (is_end ss) w.0) (all_spared x named (before l.lead) f.0.0) (all_spared x named l.rest f.0.1)
+    settled_goes AsTarget [] w f q b u = absurd w
+    settled_goes AsUpdated [] w f q b u = absurd w
+    settled_goes AsValue ss w f (As v) b u = λ r h s y g. absurd h
+    settled_goes AsValue ss w f AnEntry b u = λ r h s y g. absurd h
+    settled_goes AsValue ss w f Callee b u = λ r h s y g. absurd h
+    settled_goes AsValue ss w f OfType b u = λ r h s y g. absurd h
+    settled_goes AsValues ss w f (Parts v) b u = λ r h s y g. absurd h
+    settled_goes AsValues ss w f Items b u = λ r h s y g. absurd h
+    settled_goes AsWholeItem ss w f (Stat None) b u = λ r h s y g. absurd h
+    settled_goes c ss w f q b u = absurd u
+
   module _ (x : Name) (named : x.symbol ≡ Some (record { 0 = k })) (spelling : List ℕ) (init : Tree) (plain : summary (identifier (resolved spelling k)) ≡ summary init) (item : is_item init ≡ true) (varies : is_constant init ≡ false) where
     abbrev read : Tree
     read = identifier (resolved spelling k)
 
-    pub first_goes : (m : Bool) (c : Asked) (ss : List Step) → Well c ss → Spared x ss → PassedIn m init spelling ss → (q : Demand) → Suits c q (end_of spelling init ss) → Entries m q → (r : Request q) (s : State) → Go (next (means e init (As Val) tt s) (λ v t. means e (led ss read) q r (after v t))) (means e (led ss init) q r s)
-    first_goes m AsValue [] w f p (As v) u n r s = read_goes spelling init v s
-    first_goes m AsValue [] w f p AnEntry u n r s = entry_goes spelling init item s
-    first_goes m AsValue [] w f p Callee u n r s = callee_goes spelling init u s
-    first_goes m AsValue [] w f p OfType u n r s = type_goes spelling init u s
-    first_goes m AsValue [] w f p q u n r s = absurd u
-    first_goes m c [] w f p q u n r s = absurd w
-    first_goes m c (s ∷ ss) w f p q u n r z =
+    fetches_by : (b c : Bool) → (not b && c) ≡ true → (b ≡ false) × (c ≡ true)
+    fetches_by true c e = absurd (true≢false (sym e))
+    fetches_by false c e = (refl, e)
+
+    fetches : (l : Lead) → Fetches (fetching l (is_effect_free init)) init varies l
+    fetches (Storing o a) = λ m. fetches_by (is_plain_assignment o) (is_effect_free init) m
+    fetches l = tt
+
+    pub first_goes : (m : Bool) (c : Asked) (ss : List Step) → Well c ss → Spared x ss → PassedIn m init spelling ss → (q : Demand) → Suits c q (end_of spelling init ss) → Entries m q → (r : Request q) → Opens q r → (s : State) → Go (next (means e init (As Val) tt s) (λ v t. means e (led ss read) q r (after v t))) (means e (led ss init) q r s)
+    first_goes m AsValue [] w f p (As v) u n r o s = read_goes spelling init v s
+    first_goes m AsValue [] w f p AnEntry u n r o s = entry_goes spelling init item s
+    first_goes m AsValue [] w f p Callee u n r o s = callee_goes spelling init u s
+    first_goes m AsValue [] w f p OfType u n r o s = type_goes spelling init u s
+    first_goes m AsValue [] w f p q u n r o s = absurd u
+    first_goes m c [] w f p q u n r o s = absurd w
+    first_goes m c (s ∷ ss) w f p q u n r o z =
         let h = shape_by (head_of s.lead) in
         let ps = before s.lead in
         let kids = λ (t : Tree). append ps (led ss t ▸ s.rest) in
         let is = summaries (kids read) in
         let σ = demand h (facts_all is) q in
-        let a = asks (is_effect_free init) (is_calm init) m c s.lead (is_end ss) w.0 (end_of spelling init ss) p.0.2 (whole_chains init s.lead p.0.3) (facts_all is) (there_before ps (led ss read) s.rest) q u n r in
-        let sure = varied init varies (surely m (is_effect_free init) s.lead) p.0.1 in
+        let g = fetching s.lead (is_effect_free init) in
+        let a = asks g (is_calm init) m c s.lead (is_end ss) w.0 (end_of spelling init ss) p.0.2 (whole_chains init s.lead p.0.3) (facts_all is) (there_before ps (led ss read) s.rest) q u n r o in
+        let sure = varied g init varies (surely m (is_effect_free init) s.lead) p.0.1 in
         let first = all_spared x named ps f.0.0 in
         let last = all_spared x named s.rest f.0.1 in
         let there = λ (y : State). node_is h q r (kids read) y in
         let put : means e (led (s ∷ ss) init) q r z ≡ by_summaries h q r is (kids init) z = node_is h q r (kids init) z ∙ ap (λ i. by_summaries h q r i (kids init) z) (sym (summaries_led s ss read init plain)) in
         subst₂ Go (sym (either_cong (means e init (As Val) tt z) _ _ _ _ (λ v y. there (after v y)) (λ y p. refl))) (sym put)
-        (reach_goes h q is σ ps (led ss read) (led ss init) s.rest init first last (count (earlier s.lead)) (earlier_within s.lead) (calm_before init varies m s.lead p.0.0 first (facts_all is) q n a.first) (is_calm init) (λ s'. init_ends e init s')
-        (λ r' s'. first_goes (entries_below m h (place 0 ps)) (asked_below (head_of s.lead) c (place 0 ps)) ss w.1 f.1 p.1 (σ (count ps)) a.below (entries_there m c s.lead (is_end ss) w.0 (facts_all is) q u n) r' s') (step h [] (facts_all is) q r) (a.reaches sure) z)
+        (reach_goes h q is σ ps (led ss read) (led ss init) s.rest init first last g (fetching_free (is_effect_free init) s.lead) (count (earlier s.lead)) (earlier_within s.lead) (calm_before g init varies m s.lead (fetches s.lead) p.0.0 first (facts_all is) q n a.first) (is_calm init) (λ s'. init_ends e init s') (settled_goes x named spelling init plain (asked_below (head_of s.lead) c (place 0 ps)) ss w.1 f.1 (σ (count ps)) (end_of spelling init ss) a.below)
+        (λ r' o' s'. first_goes (entries_below m h (place 0 ps)) (asked_below (head_of s.lead) c (place 0 ps)) ss w.1 f.1 p.1 (σ (count ps)) a.below (entries_there m c s.lead (is_end ss) w.0 (facts_all is) q u n) r' o' s') (step h [] (facts_all is) q r) (a.reaches (fetching_sure m (is_effect_free init) s.lead sure)) z)

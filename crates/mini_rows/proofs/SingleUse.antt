@@ -6,9 +6,11 @@ use Rattle.mini_model.specs.declared.kind.PropertyKind.TheVariants.{Init}
 use Rattle.mini_model.specs.declared.kind.VariableDeclarationKind.{VariableDeclarationKind}
 use Rattle.mini_model.specs.declared.name.Name.{Name}
 use Rattle.mini_model.specs.declared.operator.AssignmentOperator.{AssignmentOperator}
+use Rattle.mini_model.specs.declared.operator.AssignmentOperator.TheVariants.{Assign}
 use Rattle.mini_model.specs.declared.operator.BinaryOperator.{BinaryOperator}
 use Rattle.mini_model.specs.declared.operator.LogicalOperator.{LogicalOperator}
 use Rattle.mini_model.specs.declared.operator.UnaryOperator.TheVariants.{LogicalNot, UnaryPlus, UnaryNegation, BitwiseNot, Typeof, Void}
+use Rattle.mini_model.specs.declared.operator.UpdateOperator.{UpdateOperator}
 use Rattle.mini_model.specs.declared.shape.Shape.{Shape}
 use Rattle.mini_model.specs.declared.shape.Shape.TheVariants as shape
 use Rattle.mini_model.specs.Tree.{Tree, Trees, node, none, ◌▸◌, listed, children, identifier, shape_of}
@@ -17,15 +19,15 @@ use Rattle.mini_model.specs.Weight.{same_text}
 use Rattle.mini_laws.specs.Naming.{summary, summaries, summary_of}
 use Rattle.mini_laws.specs.ScopeList.{is_eval_callee}
 use Rattle.mini_laws.specs.Symbols.{is_same}
-use Rattle.mini_node.specs.Children.{part, is_nameless, rest_children}
+use Rattle.mini_node.specs.Children.{part, is_bare, is_nameless, rest_children}
 use Rattle.mini_node.specs.Kinds.{is_identifier}
 use Rattle.mini_terms.specs.Folds.{is_effect_free}
 use Rattle.mini_terms.specs.Reading.{is_typed_by_value}
-use Rattle.mini_rows.specs.Sketches.{Head, AList, Array, Unary, Binary, Logical, Conditional, Sequence, Call, New, StaticMember, ComputedMember, Chain, Yield, Object, Property, Spread, Assignment, OfExpression, Throw, Return, If, shape_by, Asked, AsWholeItem, AsValue, AsValues, asked_below, Leap}
+use Rattle.mini_rows.specs.Sketches.{Head, AList, Update, target_asked, AsTarget, AsUpdated, Array, Unary, Binary, Logical, Conditional, Sequence, Call, New, StaticMember, ComputedMember, Chain, Yield, Object, Property, Spread, Assignment, OfExpression, Throw, Return, If, shape_by, Asked, AsWholeItem, AsValue, AsValues, asked_below, Leap}
 use Rattle.mini_rows.specs.Lists.{declaration, Each, EachIn, EachOf, each_loop}
 use Rattle.mini_rows.specs.Declarations.{declarator}
 use Rattle.mini_rows.specs.Chains.{is_calm}
-use Rattle.mini_rows.specs.Unused.{is_like_one, names, any_names, begins, goes_on, may_go_on, has_branches, leads, holds_list, is_childless, reads, is_first, leads_to, put_first, put_among, is_constant, passes_at, is_plain_assignment, is_sure, is_placed, entries_below, begins_with, is_reached, is_number_shape, is_called_by_value, suits, are_passed_in, are_passed, all_passed, reads_first, is_declarator, declares_list, reads_declarator, reads_declarators, reads_initially, reads_outside, is_open_left, reads_over, reads_head, evaluated}
+use Rattle.mini_rows.specs.Unused.{is_like_one, is_member_shape, is_member, names, any_names, begins, goes_on, may_go_on, has_branches, leads, holds_list, is_childless, reads, is_first, leads_to, put_first, put_among, is_constant, passes_at, is_plain_assignment, is_sure, is_placed, entries_below, begins_with, is_reached, is_number_shape, is_called_by_value, suits, are_passed_in, are_passed, all_passed, reads_first, is_declarator, declares_list, reads_declarator, reads_declarators, reads_initially, reads_outside, is_open_left, reads_over, reads_head, evaluated}
 use Rattle.mini_rows.proofs.Arranging.{Plain, Below, sum_below, Local, Summed}
 use Rattle.mini_rows.proofs.ListKeptHeads.{Seat, Loop, Choice, seated, rest}
 
@@ -51,6 +53,9 @@ pub data Lead : Type 0 where
   Holding : Lead
   Gathering : Lead
   Spreading : Lead
+  -- what is assigned to, or updated
+  Targeted : AssignmentOperator → Lead
+  Changing : UpdateOperator → Bool → Lead
   Bracketing : Lead
   -- after the first part
   Against : BinaryOperator → Tree → Lead
@@ -93,6 +98,8 @@ head_of Linking = Chain
 head_of Holding = Array
 head_of Gathering = Object
 head_of Spreading = Spread
+head_of (Targeted o) = Assignment o
+head_of (Changing o p) = Update o p
 head_of Bracketing = Property false true
 head_of (Against o a) = Binary o
 head_of (Given o a) = Call o
@@ -192,6 +199,14 @@ Stands AsValue Linking at_end = at_end ≡ false
 Stands AsValue Holding at_end = Unit {0}
 Stands AsValue Gathering at_end = Unit {0}
 Stands AsValue Spreading at_end = Unit {0}
+Stands AsValue (Targeted o) at_end = at_end ≡ false
+Stands AsValue (Changing o p) at_end = at_end ≡ false
+Stands AsTarget (Member false) at_end = Unit {0}
+Stands AsTarget (Keyed false) at_end = Unit {0}
+Stands AsTarget (Keying false a) at_end = Unit {0}
+Stands AsUpdated (Member false) at_end = Unit {0}
+Stands AsUpdated (Keyed false) at_end = Unit {0}
+Stands AsUpdated (Keying false a) at_end = Unit {0}
 Stands AsValue Bracketing at_end = Unit {0}
 Stands AsValue (Against o a) at_end = Unit {0}
 Stands AsValue (Given o a) at_end = Unit {0}
@@ -203,6 +218,13 @@ Stands AsValue (Failing a b) at_end = Unit {0}
 Stands AsValue (Storing o a) at_end = Unit {0}
 Stands AsValue (Fielding c a) at_end = Unit {0}
 Stands c l at_end = ⊥
+
+-- what may be updated may be assigned to
+pub target_stands : (l : Lead) (o : Bool) → Stands AsUpdated l o → Stands AsTarget l o
+target_stands (Member false) o s = tt
+target_stands (Keyed false) o s = tt
+target_stands (Keying false a) o s = tt
+target_stands l o s = absurd s
 
 abbrev pub Well : Asked → List Step → Type 0
 Well AsValue [] = Unit {0}
@@ -323,12 +345,33 @@ abbrev is_empty : Trees → Bool
 is_empty none = true
 is_empty (t ▸ ts) = false
 
+-- what is assigned to
+abbrev IsTarget : Asked → Type 0
+IsTarget c = (c ≡ AsTarget) ⊎ (c ≡ AsUpdated)
+
+-- the part is read as an expression or a list of them, or is a member that is assigned to
+abbrev Reads : Tree → Asked → Bool → Type 0
+Reads t c b = (c ≡ asked b) ⊎ ((is_member t ≡ true) × (b ≡ false) × IsTarget c)
+
+target_of : (o : AssignmentOperator) → IsTarget (target_asked o)
+target_of Assign = inl refl
+target_of o = inr refl
+
+bare_leaf : (h : Shape) (ys : List Name) (n : ℕ) → is_bare (node h ys n none) 2 ≡ true → ⊥
+bare_leaf h [] zero e = true≢false (sym e)
+bare_leaf h [] (suc n) e = true≢false (sym e)
+bare_leaf h (y ∷ ys) n e = true≢false (sym e)
+
+no_leaf : (t : Tree) → is_member t ≡ true → is_childless t ≡ false
+no_leaf (node h ys n (a ▸ ts)) e = refl
+no_leaf (node h ys n none) e = absurd (bare_leaf h ys n (and_parts (is_member_shape h) (is_bare (node h ys n none) 2) e).1)
+
 record Leads (b : Bool) (t : Tree) (h : Shape) (ts : Trees) : Type 0 where
   lead : Lead
   is : shape_by (head_of lead) ≡ h
   front : before lead ≡ ts
   stands : Stands (asked b) lead (is_childless t)
-  below : asked_below (head_of lead) (asked b) (place 0 (before lead)) ≡ asked (holds_list h (place 0 ts))
+  below : Reads t (asked_below (head_of lead) (asked b) (place 0 (before lead))) (holds_list h (place 0 ts))
   direct : indirect lead t ≡ true
   sure : (m f : Bool) → (is_placed m f h && (is_sure f h || is_empty ts)) ≡ true → surely m f lead ≡ true
   suit : (x : Name) (r : Tree) (us : Trees) → names x t ≡ true → suits x r h (append ts (t ▸ us)) ≡ true → suited r lead (is_childless t) ≡ true
@@ -361,41 +404,43 @@ optional_there : (o f : Bool) → ((not o || f) || false) ≡ true → (not o ||
 optional_there o f e = sure_there (not o || f) e
 
 begun_by : (t : Tree) (h : Shape) → begins h t ≡ true → Leads false t h none
-begun_by t (shape.UnaryExpression LogicalNot) e = record { lead = Not; is = refl; front = refl; stands = tt; below = refl; direct = refl; sure = λ m f q. refl; suit = λ x r us n e. refl }
-begun_by t (shape.UnaryExpression UnaryPlus) e = record { lead = Plus; is = refl; front = refl; stands = tt; below = refl; direct = refl; sure = λ m f q. refl; suit = λ x r us n e. refl }
-begun_by t (shape.UnaryExpression UnaryNegation) e = record { lead = Minus; is = refl; front = refl; stands = tt; below = refl; direct = refl; sure = λ m f q. refl; suit = λ x r us n e. suit_there (is_childless t) (names x t) (not (is_number_shape (shape_of r))) n e }
-begun_by t (shape.UnaryExpression BitwiseNot) e = record { lead = Tilde; is = refl; front = refl; stands = tt; below = refl; direct = refl; sure = λ m f q. refl; suit = λ x r us n e. refl }
-begun_by t (shape.UnaryExpression Typeof) e = record { lead = Typing; is = refl; front = refl; stands = tt; below = refl; direct = refl; sure = λ m f q. refl; suit = λ x r us n e. suit_there (is_childless t) (names x t) (is_typed_by_value r) n e }
-begun_by t (shape.UnaryExpression Void) e = record { lead = Emptying; is = refl; front = refl; stands = tt; below = refl; direct = refl; sure = λ m f q. refl; suit = λ x r us n e. refl }
-begun_by t (shape.BinaryExpression o) e = record { lead = Beside o; is = refl; front = refl; stands = tt; below = refl; direct = refl; sure = λ m f q. refl; suit = λ x r us n e. refl }
-begun_by t (shape.LogicalExpression o) e = record { lead = Deciding o; is = refl; front = refl; stands = tt; below = refl; direct = refl; sure = λ m f q. refl; suit = λ x r us n e. refl }
-begun_by t shape.ConditionalExpression e = record { lead = Choosing; is = refl; front = refl; stands = tt; below = refl; direct = refl; sure = λ m f q. refl; suit = λ x r us n e. refl }
-begun_by t shape.SequenceExpression e = record { lead = Passing; is = refl; front = refl; stands = tt; below = refl; direct = refl; sure = λ m f q. refl; suit = λ x r us n e. refl }
-begun_by t (shape.CallExpression o) e = record { lead = Called o; is = refl; front = refl; stands = tt; below = refl; direct = e; sure = λ m f q. refl; suit = λ x r us n e. suit_there (is_childless t) (names x t) (is_called_by_value r) n e }
-begun_by t shape.NewExpression e = record { lead = Making; is = refl; front = refl; stands = tt; below = refl; direct = refl; sure = λ m f q. refl; suit = λ x r us n e. refl }
-begun_by t shape.ArrayExpression e = record { lead = Holding; is = refl; front = refl; stands = tt; below = refl; direct = refl; sure = λ m f q. refl; suit = λ x r us n e. refl }
-begun_by t shape.ObjectExpression e = record { lead = Gathering; is = refl; front = refl; stands = tt; below = refl; direct = refl; sure = λ m f q. refl; suit = λ x r us n e. refl }
-begun_by t shape.SpreadElement e = record { lead = Spreading; is = refl; front = refl; stands = tt; below = refl; direct = refl; sure = λ m f q. placed_there (m || f) true q; suit = λ x r us n e. refl }
-begun_by t (shape.ObjectProperty Init false false true) e = record { lead = Bracketing; is = refl; front = refl; stands = tt; below = refl; direct = refl; sure = λ m f q. placed_there (m || f) true q; suit = λ x r us n e. refl }
-begun_by t (shape.YieldExpression d) e = record { lead = Waiting d; is = refl; front = refl; stands = tt; below = refl; direct = refl; sure = λ m f q. refl; suit = λ x r us n e. refl }
-begun_by t (shape.StaticMemberExpression o) e = record { lead = Member o; is = refl; front = refl; stands = tt; below = refl; direct = refl; sure = λ m f q. refl; suit = λ x r us n e. refl }
-begun_by t shape.ChainExpression e = record { lead = Linking; is = refl; front = refl; stands = not_leaf (is_childless t) e; below = refl; direct = e; sure = λ m f q. refl; suit = λ x r us n e. (and_parts (not (is_childless t && names x t) || true) (is_calm r) e).1 }
-begun_by t (shape.ComputedMemberExpression o) e = record { lead = Keyed o; is = refl; front = refl; stands = tt; below = refl; direct = refl; sure = λ m f q. refl; suit = λ x r us n e. refl }
+begun_by t (shape.UnaryExpression LogicalNot) e = record { lead = Not; is = refl; front = refl; stands = tt; below = inl refl; direct = refl; sure = λ m f q. refl; suit = λ x r us n e. refl }
+begun_by t (shape.UnaryExpression UnaryPlus) e = record { lead = Plus; is = refl; front = refl; stands = tt; below = inl refl; direct = refl; sure = λ m f q. refl; suit = λ x r us n e. refl }
+begun_by t (shape.UnaryExpression UnaryNegation) e = record { lead = Minus; is = refl; front = refl; stands = tt; below = inl refl; direct = refl; sure = λ m f q. refl; suit = λ x r us n e. suit_there (is_childless t) (names x t) (not (is_number_shape (shape_of r))) n e }
+begun_by t (shape.UnaryExpression BitwiseNot) e = record { lead = Tilde; is = refl; front = refl; stands = tt; below = inl refl; direct = refl; sure = λ m f q. refl; suit = λ x r us n e. refl }
+begun_by t (shape.UnaryExpression Typeof) e = record { lead = Typing; is = refl; front = refl; stands = tt; below = inl refl; direct = refl; sure = λ m f q. refl; suit = λ x r us n e. suit_there (is_childless t) (names x t) (is_typed_by_value r) n e }
+begun_by t (shape.UnaryExpression Void) e = record { lead = Emptying; is = refl; front = refl; stands = tt; below = inl refl; direct = refl; sure = λ m f q. refl; suit = λ x r us n e. refl }
+begun_by t (shape.BinaryExpression o) e = record { lead = Beside o; is = refl; front = refl; stands = tt; below = inl refl; direct = refl; sure = λ m f q. refl; suit = λ x r us n e. refl }
+begun_by t (shape.LogicalExpression o) e = record { lead = Deciding o; is = refl; front = refl; stands = tt; below = inl refl; direct = refl; sure = λ m f q. refl; suit = λ x r us n e. refl }
+begun_by t shape.ConditionalExpression e = record { lead = Choosing; is = refl; front = refl; stands = tt; below = inl refl; direct = refl; sure = λ m f q. refl; suit = λ x r us n e. refl }
+begun_by t shape.SequenceExpression e = record { lead = Passing; is = refl; front = refl; stands = tt; below = inl refl; direct = refl; sure = λ m f q. refl; suit = λ x r us n e. refl }
+begun_by t (shape.CallExpression o) e = record { lead = Called o; is = refl; front = refl; stands = tt; below = inl refl; direct = e; sure = λ m f q. refl; suit = λ x r us n e. suit_there (is_childless t) (names x t) (is_called_by_value r) n e }
+begun_by t shape.NewExpression e = record { lead = Making; is = refl; front = refl; stands = tt; below = inl refl; direct = refl; sure = λ m f q. refl; suit = λ x r us n e. refl }
+begun_by t shape.ArrayExpression e = record { lead = Holding; is = refl; front = refl; stands = tt; below = inl refl; direct = refl; sure = λ m f q. refl; suit = λ x r us n e. refl }
+begun_by t shape.ObjectExpression e = record { lead = Gathering; is = refl; front = refl; stands = tt; below = inl refl; direct = refl; sure = λ m f q. refl; suit = λ x r us n e. refl }
+begun_by t shape.SpreadElement e = record { lead = Spreading; is = refl; front = refl; stands = tt; below = inl refl; direct = refl; sure = λ m f q. placed_there (m || f) true q; suit = λ x r us n e. refl }
+begun_by t (shape.ObjectProperty Init false false true) e = record { lead = Bracketing; is = refl; front = refl; stands = tt; below = inl refl; direct = refl; sure = λ m f q. placed_there (m || f) true q; suit = λ x r us n e. refl }
+begun_by t (shape.YieldExpression d) e = record { lead = Waiting d; is = refl; front = refl; stands = tt; below = inl refl; direct = refl; sure = λ m f q. refl; suit = λ x r us n e. refl }
+begun_by t (shape.StaticMemberExpression o) e = record { lead = Member o; is = refl; front = refl; stands = tt; below = inl refl; direct = refl; sure = λ m f q. refl; suit = λ x r us n e. refl }
+begun_by t shape.ChainExpression e = record { lead = Linking; is = refl; front = refl; stands = not_leaf (is_childless t) e; below = inl refl; direct = e; sure = λ m f q. refl; suit = λ x r us n e. (and_parts (not (is_childless t && names x t) || true) (is_calm r) e).1 }
+begun_by t (shape.ComputedMemberExpression o) e = record { lead = Keyed o; is = refl; front = refl; stands = tt; below = inl refl; direct = refl; sure = λ m f q. refl; suit = λ x r us n e. refl }
+begun_by t (shape.AssignmentExpression o) e = record { lead = Targeted o; is = refl; front = refl; stands = no_leaf t e; below = inr (e, refl, target_of o); direct = refl; sure = λ m f q. refl; suit = λ x r us n e. refl }
+begun_by t (shape.UpdateExpression o p) e = record { lead = Changing o p; is = refl; front = refl; stands = no_leaf t e; below = inr (e, refl, inr refl); direct = refl; sure = λ m f q. refl; suit = λ x r us n e. refl }
 begun_by t h e = absurd (true≢false (sym e))
 
 gone_on_by : (t : Tree) (h : Shape) (a : Tree) → (goes_on h || may_go_on h) ≡ true → Leads false t h (a ▸ none)
-gone_on_by t (shape.BinaryExpression o) a e = record { lead = Against o a; is = refl; front = refl; stands = tt; below = refl; direct = refl; sure = λ m f q. refl; suit = λ x r us n e. refl }
-gone_on_by t (shape.CallExpression o) a e = record { lead = Given o a; is = refl; front = refl; stands = tt; below = refl; direct = refl; sure = λ m f q. optional_there o f q; suit = λ x r us n e. refl }
-gone_on_by t shape.NewExpression a e = record { lead = Filling a; is = refl; front = refl; stands = tt; below = refl; direct = refl; sure = λ m f q. refl; suit = λ x r us n e. refl }
-gone_on_by t (shape.ComputedMemberExpression o) a e = record { lead = Keying o a; is = refl; front = refl; stands = tt; below = refl; direct = refl; sure = λ m f q. optional_there o f q; suit = λ x r us n e. refl }
-gone_on_by t (shape.LogicalExpression o) a e = record { lead = Following o a; is = refl; front = refl; stands = tt; below = refl; direct = refl; sure = λ m f q. sure_there f q; suit = λ x r us n e. refl }
-gone_on_by t shape.ConditionalExpression a e = record { lead = Branching a; is = refl; front = refl; stands = tt; below = refl; direct = refl; sure = λ m f q. sure_there f q; suit = λ x r us n e. refl }
-gone_on_by t (shape.AssignmentExpression o) a e = record { lead = Storing o a; is = refl; front = refl; stands = tt; below = refl; direct = refl; sure = λ m f q. sure_there (is_plain_assignment o || f) q; suit = λ x r us n e. refl }
-gone_on_by t (shape.ObjectProperty Init false false d) a e = record { lead = Fielding d a; is = refl; front = refl; stands = tt; below = refl; direct = refl; sure = λ m f q. placed_further (m || f) (not d) q; suit = λ x r us n e. refl }
+gone_on_by t (shape.BinaryExpression o) a e = record { lead = Against o a; is = refl; front = refl; stands = tt; below = inl refl; direct = refl; sure = λ m f q. refl; suit = λ x r us n e. refl }
+gone_on_by t (shape.CallExpression o) a e = record { lead = Given o a; is = refl; front = refl; stands = tt; below = inl refl; direct = refl; sure = λ m f q. optional_there o f q; suit = λ x r us n e. refl }
+gone_on_by t shape.NewExpression a e = record { lead = Filling a; is = refl; front = refl; stands = tt; below = inl refl; direct = refl; sure = λ m f q. refl; suit = λ x r us n e. refl }
+gone_on_by t (shape.ComputedMemberExpression o) a e = record { lead = Keying o a; is = refl; front = refl; stands = tt; below = inl refl; direct = refl; sure = λ m f q. optional_there o f q; suit = λ x r us n e. refl }
+gone_on_by t (shape.LogicalExpression o) a e = record { lead = Following o a; is = refl; front = refl; stands = tt; below = inl refl; direct = refl; sure = λ m f q. sure_there f q; suit = λ x r us n e. refl }
+gone_on_by t shape.ConditionalExpression a e = record { lead = Branching a; is = refl; front = refl; stands = tt; below = inl refl; direct = refl; sure = λ m f q. sure_there f q; suit = λ x r us n e. refl }
+gone_on_by t (shape.AssignmentExpression o) a e = record { lead = Storing o a; is = refl; front = refl; stands = tt; below = inl refl; direct = refl; sure = λ m f q. sure_there (is_plain_assignment o || f) q; suit = λ x r us n e. refl }
+gone_on_by t (shape.ObjectProperty Init false false d) a e = record { lead = Fielding d a; is = refl; front = refl; stands = tt; below = inl refl; direct = refl; sure = λ m f q. placed_further (m || f) (not d) q; suit = λ x r us n e. refl }
 gone_on_by t h a e = absurd (true≢false (sym e))
 
 branched_by : (t : Tree) (h : Shape) (a b : Tree) → has_branches h ≡ true → Leads false t h (a ▸ (b ▸ none))
-branched_by t shape.ConditionalExpression a b e = record { lead = Failing a b; is = refl; front = refl; stands = tt; below = refl; direct = refl; sure = λ m f q. sure_there f q; suit = λ x r us n e. refl }
+branched_by t shape.ConditionalExpression a b e = record { lead = Failing a b; is = refl; front = refl; stands = tt; below = inl refl; direct = refl; sure = λ m f q. sure_there f q; suit = λ x r us n e. refl }
 branched_by t h a b e = absurd (true≢false (sym e))
 
 place_next : (i : ℕ) (ts : Trees) → place (suc i) ts ≡ suc (place i ts)
@@ -410,7 +455,7 @@ no_list_of zero = refl
 no_list_of (suc i) = refl
 
 lead_by : (b : Bool) (t : Tree) (h : Shape) (ts : Trees) → leads b h (place 0 ts) t ≡ true → Leads b t h ts
-lead_by true t shape.Listed ts e = record { lead = Listing ts; is = refl; front = refl; stands = tt; below = ap asked (sym (no_list_of (place 0 ts))); direct = refl; sure = λ m f q. refl; suit = λ x r us n e. refl }
+lead_by true t shape.Listed ts e = record { lead = Listing ts; is = refl; front = refl; stands = tt; below = inl (ap asked (sym (no_list_of (place 0 ts)))); direct = refl; sure = λ m f q. refl; suit = λ x r us n e. refl }
 lead_by true t h ts e = absurd (true≢false (sym e))
 lead_by false t h none e = begun_by t h e
 lead_by false t h (a ▸ none) e = gone_on_by t h a e
@@ -507,6 +552,27 @@ parted x m r h ts e =
     let (a, b) = and_parts (is_reached x m r h ts) (all_passed x m r h 0 ts) q in
     record { suit = p; reached = a; all = b }
 
+-- a member that is read as an expression may be what is assigned to
+member_leads : (l : Lead) (ss : List Step) (b : Bool) → is_member_shape (shape_by (head_of l)) ≡ true → Stands AsValue l b × Well (asked_below (head_of l) AsValue (place 0 (before l))) ss → (Stands AsTarget l b × Well (asked_below (head_of l) AsTarget (place 0 (before l))) ss) × (Stands AsUpdated l b × Well (asked_below (head_of l) AsUpdated (place 0 (before l))) ss)
+member_leads (Member false) ss b m w = (w, w)
+member_leads (Keyed false) ss b m w = (w, w)
+member_leads (Keying false a) ss b m w = (w, w)
+member_leads l ss b m w = absurd (true≢false (sym m))
+
+member_well : (ss : List Step) (y : Name) (c : Asked) → IsTarget c → is_member (led ss (identifier y)) ≡ true → Well AsValue ss → Well c ss
+member_well [] y c h e w = absurd (true≢false (sym e))
+member_well (s ∷ ss) y c h e w =
+    let (target, updated) = member_leads s.lead ss (is_end ss) (and_parts (is_member_shape (shape_by (head_of s.lead))) (is_bare (node (shape_by (head_of s.lead)) [] 0 (append (before s.lead) (led ss (identifier y) ▸ s.rest))) 2) e).0 w in
+    by h target updated
+  where
+    by : IsTarget c → Well AsTarget (s ∷ ss) → Well AsUpdated (s ∷ ss) → Well c (s ∷ ss)
+    by (inl e) target updated = subst (λ d. Well d (s ∷ ss)) (sym e) target
+    by (inr e) target updated = subst (λ d. Well d (s ∷ ss)) (sym e) updated
+
+well_below : (x : Name) (b : Bool) (t : Tree) (c : Asked) (p : Path x (asked b) t) → Reads t c b → Well c p.steps
+well_below x b t c p (inl e) = subst (λ d. Well d p.steps) (sym e) p.well
+well_below x b t c p (inr r) = member_well p.steps p.read c r.2 (ap is_member (sym p.is) ∙ r.0) (subst (λ d. Well (asked d) p.steps) r.1 p.well)
+
 one_step : (x : Name) (b : Bool) (h : Shape) (t : Tree) (ts : Trees) → Among x b h 0 (t ▸ ts) → Path x (asked b) (node h [] 0 (t ▸ ts))
 one_step x b h t ts a =
     let l = lead_by b a.one h a.first a.leads in
@@ -518,7 +584,7 @@ one_step x b h t ts a =
     record {
       steps = step ∷ p.steps;
       read = p.read;
-      well = (subst (Stands (asked b) l.lead) (sym p.ends) l.stands, subst (λ c. Well c p.steps) (sym l.below) p.well);
+      well = (subst (Stands (asked b) l.lead) (sym p.ends) l.stands, well_below x (holds_list h (place 0 a.first)) a.one (asked_below (head_of l.lead) (asked b) (place 0 (before l.lead))) p l.below);
       spared = ((ap (any_names x) l.front ∙ a.earlier, a.later), p.spared);
       same = p.same;
       direct = (direct, p.direct);

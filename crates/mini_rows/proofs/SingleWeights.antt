@@ -5,9 +5,10 @@ use Rattle.mini_model.specs.declared.kind.VariableDeclarationKind.{VariableDecla
 use Rattle.mini_model.specs.declared.kind.VariableDeclarationKind.TheVariants.{Var, Let, Const}
 use Rattle.mini_model.specs.declared.name.Name.{Name}
 use Rattle.mini_model.specs.declared.name.SymbolId.{SymbolId}
+use Rattle.mini_model.specs.declared.operator.AssignmentOperator.TheVariants.{Assign}
 use Rattle.mini_model.specs.declared.operator.UnaryOperator.TheVariants.{Void}
 use Rattle.mini_model.specs.declared.place.Position.{Position}
-use Rattle.mini_model.specs.declared.place.Position.TheVariants.{Expr, Stmt, ArgumentList, SequenceList, CommaList, Elsewhere}
+use Rattle.mini_model.specs.declared.place.Position.TheVariants.{Expr, Stmt, Target, ArgumentList, SequenceList, CommaList, Elsewhere}
 use Rattle.mini_model.specs.declared.seat.Seat.{Seat}
 use Rattle.mini_model.specs.declared.seat.StmtSeat.{StmtSeat}
 use Rattle.mini_model.specs.declared.seat.StmtSeat.TheVariants as stmt_seat
@@ -20,13 +21,13 @@ use Rattle.mini_laws.specs.Symbols.{is_same}
 use Rattle.mini_terms.specs.Reading.{is_plain_part}
 use Rattle.mini_rows.specs.Declarations.{binding, declarator}
 use Rattle.mini_rows.specs.Lists.{block, declaration, Each, EachIn, EachOf, each_loop}
-use Rattle.mini_rows.specs.Sketches.{shape_by, Asked, AsWholeItem, AsValue, AsValues, asked_below}
+use Rattle.mini_rows.specs.Sketches.{shape_by, Asked, AsWholeItem, AsValue, AsValues, AsTarget, AsUpdated, asked_below}
 use Rattle.mini_rows.specs.Unused.{resolved, declared_among, declared_left, is_first, put_first, reads_first, reads_head}
 use Rattle.mini_rows.proofs.BooleanWeights.{moved}
 use Rattle.mini_rows.proofs.ListWeights.{total, in_list, comma_list, declarators_append}
 use Rattle.mini_rows.proofs.ListKeptHeads as opening
 use Rattle.mini_rows.proofs.ListKeptHeads.{Loop, Choice, seated}
-use Rattle.mini_rows.proofs.SingleUse.{Lead, Not, Plus, Minus, Tilde, Typing, Emptying, Beside, Deciding, Choosing, Passing, Called, Making, Waiting, Member, Keyed, Linking, Holding, Against, Given, Filling, Keying, Following, Branching, Failing, Storing, Gathering, Fielding, Spreading, Bracketing, Listing, Doing, Giving, Raising, Testing, head_of, before, place, Step, led, is_end, Stands, Well, Initial, heads, path, statement, Outside, Over, Heads, Path}
+use Rattle.mini_rows.proofs.SingleUse.{Lead, Not, Plus, Minus, Tilde, Typing, Emptying, Beside, Deciding, Choosing, Passing, Called, Making, Waiting, Member, Keyed, Linking, Holding, Against, Given, Filling, Keying, Following, Branching, Failing, Storing, Gathering, Fielding, Spreading, Bracketing, Targeted, Changing, Listing, Doing, Giving, Raising, Testing, target_stands, head_of, before, place, Step, led, is_end, Stands, Well, Initial, heads, path, statement, Outside, Over, Heads, Path}
 
 -- ---- where the steps stand
 
@@ -34,6 +35,8 @@ abbrev Placed : Asked → Position → Type 0
 Placed AsWholeItem (Stmt q) = Unit {0}
 Placed AsValue (Expr s) = Unit {0}
 Placed AsValue Elsewhere = Unit {0}
+Placed AsTarget Target = Unit {0}
+Placed AsUpdated Target = Unit {0}
 Placed AsValues (SequenceList s) = Unit {0}
 Placed AsValues ArgumentList = Unit {0}
 Placed AsValues CommaList = Unit {0}
@@ -80,7 +83,16 @@ placed_value (Branching a) b s p n = tt
 placed_value (Failing a d) b s p n = tt
 placed_value (Storing o a) b s p n = tt
 placed_value (Fielding g a) b s p n = tt
+placed_value (Targeted Assign) b s p n = tt
+placed_value (Targeted o) b s p n = tt
+placed_value (Changing o u) b s p n = tt
 placed_value l b s p n = absurd s
+
+placed_target : (l : Lead) (b : Bool) → Stands AsTarget l b → (c : Asked) (p : Position) (n : ℕ) → PlacedBelow c l p n
+placed_target (Member false) b s c p n = tt
+placed_target (Keyed false) b s c p n = tt
+placed_target (Keying false a) b s c p n = tt
+placed_target l b s c p n = absurd s
 
 placed_part : (l : Lead) (b : Bool) → Stands AsValues l b → (p : Position) → Placed AsValues p → (n : ℕ) → PlacedBelow AsValues l p n
 placed_part (Listing ts) b s (SequenceList t) q n = tt
@@ -93,6 +105,8 @@ placed_below : (c : Asked) (l : Lead) (b : Bool) → Stands c l b → (p : Posit
 placed_below AsWholeItem l b s p q n = placed_statement l b s p n
 placed_below AsValue l b s p q n = placed_value l b s p n
 placed_below AsValues l b s p q n = placed_part l b s p q n
+placed_below AsTarget l b s p q n = placed_target l b s AsTarget p n
+placed_below AsUpdated l b s p q n = placed_target l b (target_stands l b s) AsUpdated p n
 placed_below c l b s p q n = absurd s
 
 -- ---- a step weighs the same
@@ -147,6 +161,8 @@ same_value (Branching a) b s q t u ts z = refl
 same_value (Failing a d) b s q t u ts z = refl
 same_value (Storing o a) b s q t u ts z = refl
 same_value (Fielding g a) b s q t u ts z = refl
+same_value (Targeted o) b s q t u ts z = refl
+same_value (Changing o p) b s q t u ts z = refl
 same_value l b s q t u ts z = absurd s
 
 same_there : (l : Lead) (b : Bool) → Stands AsValue l b → (t u : Tree) (ts : Trees) → SameZero l t u → SameOwn Elsewhere l t u ts
@@ -179,7 +195,15 @@ same_there (Branching a) b s t u ts z = refl
 same_there (Failing a d) b s t u ts z = refl
 same_there (Storing o a) b s t u ts z = refl
 same_there (Fielding g a) b s t u ts z = refl
+same_there (Targeted o) b s t u ts z = refl
+same_there (Changing o p) b s t u ts z = refl
 same_there l b s t u ts z = absurd s
+
+same_target : (l : Lead) (b : Bool) → Stands AsTarget l b → (t u : Tree) (ts : Trees) → SameOwn Target l t u ts
+same_target (Member false) b s t u ts = refl
+same_target (Keyed false) b s t u ts = refl
+same_target (Keying false a) b s t u ts = refl
+same_target l b s t u ts = absurd s
 
 commas_put : (ps : Trees) (t u : Tree) (ts : Trees) → commas_weight (outlines (append ps (t ▸ ts))) ≡ commas_weight (outlines (append ps (u ▸ ts)))
 commas_put none t u none = refl
@@ -203,6 +227,8 @@ same_own : (c : Asked) (l : Lead) (b : Bool) → Stands c l b → (p : Position)
 same_own AsWholeItem l b s (Stmt q) a t u ts z = same_statement l b s q t u ts
 same_own AsValue l b s (Expr q) a t u ts z = same_value l b s q t u ts z
 same_own AsValue l b s Elsewhere a t u ts z = same_there l b s t u ts z
+same_own AsTarget l b s Target a t u ts z = same_target l b s t u ts
+same_own AsUpdated l b s Target a t u ts z = same_target l b (target_stands l b s) t u ts
 same_own AsValues l b s (SequenceList q) a t u ts z = same_parts l b s q t u ts
 same_own AsValues l b s ArgumentList a t u ts z = same_items l b s t u ts
 same_own AsValues l b s CommaList a t u ts z = same_fields l b s t u ts

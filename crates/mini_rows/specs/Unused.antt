@@ -115,8 +115,18 @@ abbrev pub is_childless : Tree → Bool
 is_childless (node h ys n none) = true
 is_childless t = false
 
--- what evaluates this part, its first one, before all else, and asks for its value, for what is called, or for what `typeof` reads. The name
--- of a direct eval isn't such a part, and what a chain holds is a link. Of a property it is a key in brackets
+-- `y.b` and `y[b]`
+abbrev pub is_member_shape : Shape → Bool
+is_member_shape (shape.StaticMemberExpression false) = true
+is_member_shape (shape.ComputedMemberExpression false) = true
+is_member_shape h = false
+
+abbrev pub is_member : Tree → Bool
+is_member t = is_member_shape (shape_of t) && is_bare t 2
+
+-- what evaluates this part, its first one, before all else, and asks for its value, for what is called, or for what `typeof` reads, or assigns to
+-- it: a member, whose object and key are evaluated before all else. The name of a direct eval isn't such a part, and what a chain holds is a
+-- link. Of a property it is a key in brackets
 abbrev pub begins : Shape → Tree → Bool
 begins (shape.UnaryExpression LogicalNot) t = true
 begins (shape.UnaryExpression UnaryPlus) t = true
@@ -137,6 +147,8 @@ begins (shape.ObjectProperty Init false false true) t = true
 begins (shape.YieldExpression is_delegate) t = true
 begins (shape.StaticMemberExpression is_optional) t = true
 begins (shape.ComputedMemberExpression is_optional) t = true
+begins (shape.AssignmentExpression o) t = is_member t
+begins (shape.UpdateExpression o is_prefix) t = is_member t
 begins shape.ChainExpression t = not (is_childless t)
 begins h t = false
 
@@ -252,17 +264,25 @@ abbrev pub is_plain_assignment : AssignmentOperator → Bool
 is_plain_assignment Assign = true
 is_plain_assignment o = false
 
--- so may what is assigned to: a name, of which `=` reads nothing before the right side, and any other operator the value
--- (ECMA-262, "Assignment Operators")
-abbrev pub passes_target : Tree → AssignmentOperator → Tree → Bool
-passes_target r o t = is_constant r || ((is_identifier t && is_effect_free t) && (is_plain_assignment o || is_effect_free r))
-
 -- a key that is written out
 abbrev pub is_word : Shape → Bool
 is_word (shape.IdentifierName s) = true
 is_word (shape.StringLiteral s) = true
 is_word (shape.NumericLiteral n) = true
 is_word h = false
+
+-- so may the key of a member
+abbrev pub passes_word : Tree → Tree → Bool
+passes_word r t = is_word (shape_of t) || passes r t
+
+-- so may a member that `=` assigns to: before the right side its object and its key are evaluated, and no more, whatever the object is
+-- (ECMA-262, "Assignment Operators")
+abbrev pub passes_member : Tree → AssignmentOperator → Tree → Bool
+passes_member r o t = is_member t && (is_plain_assignment o && (passes r (part t 0) && passes_word r (part t 1)))
+
+-- and what else is assigned to: a name, of which `=` reads nothing before the right side, and any other operator the value
+abbrev pub passes_target : Tree → AssignmentOperator → Tree → Bool
+passes_target r o t = is_constant r || (passes_member r o t || ((is_identifier t && is_effect_free t) && (is_plain_assignment o || is_effect_free r)))
 
 -- so may the key of a property
 abbrev pub passes_key : Tree → Bool → Tree → Bool

@@ -56,6 +56,7 @@ fn begins(shape: &Shape, node: &Node) -> bool
         | Shape::ComputedMemberExpression(_) => true,
         Shape::CallExpression(_) => !is_eval_callee(node),
         Shape::ChainExpression => !is_childless(node),
+        Shape::AssignmentExpression(_) | Shape::UpdateExpression(_, _) => is_member(node),
         _ => false,
     }
 }
@@ -272,15 +273,6 @@ fn is_plain_assignment(operator: &AssignmentOperator) -> bool
     matches!(operator, AssignmentOperator::Assign)
 }
 
-// So may what is assigned to: a name, of which `=` reads nothing before the right side.
-fn passes_target(init: &Node, operator: &AssignmentOperator, node: &Node) -> bool
-    ensures { result ≡ reading.passes_target init.now operator.now node.now }
-{
-    is_constant(init)
-        || ((is_identifier(node) && is_effect_free(node, true))
-            && (is_plain_assignment(operator) || is_effect_free(init, true)))
-}
-
 // A key that is written out.
 fn is_word(shape: &Shape) -> bool
     ensures { result ≡ reading.is_word shape.now }
@@ -289,6 +281,43 @@ fn is_word(shape: &Shape) -> bool
         shape,
         Shape::IdentifierName(_) | Shape::StringLiteral(_) | Shape::NumericLiteral(_)
     )
+}
+
+// `y.b` and `y[b]`.
+fn is_member(node: &Node) -> bool
+    ensures member { result ≡ reading.is_member node.now }
+    ensures parts { result ≡ true → count (children node.now) ≡ 2 }
+{
+    matches!(
+        node.shape(),
+        Shape::StaticMemberExpression(false) | Shape::ComputedMemberExpression(false)
+    ) && node.is_bare(2)
+}
+
+// So may the key of a member.
+fn passes_word(init: &Node, node: &Node) -> bool
+    ensures { result ≡ reading.passes_word init.now node.now }
+{
+    is_word(node.shape()) || passes(init, node)
+}
+
+// So may a member that `=` assigns to.
+fn passes_member(init: &Node, operator: &AssignmentOperator, node: &Node) -> bool
+    ensures { result ≡ reading.passes_member init.now operator.now node.now }
+{
+    is_member(node)
+        && (is_plain_assignment(operator)
+            && (passes(init, node.child(0)) && passes_word(init, node.child(1))))
+}
+
+// And what else is assigned to: a name, of which `=` reads nothing before the right side.
+fn passes_target(init: &Node, operator: &AssignmentOperator, node: &Node) -> bool
+    ensures { result ≡ reading.passes_target init.now operator.now node.now }
+{
+    is_constant(init)
+        || (passes_member(init, operator, node)
+            || ((is_identifier(node) && is_effect_free(node, true))
+                && (is_plain_assignment(operator) || is_effect_free(init, true))))
 }
 
 // So may the key of a property.
