@@ -84,9 +84,17 @@ record Declares (k : ℕ) (xs : List Name) : Type 0 where
   there : Contains xs name
   is : is_symbol k name.symbol ≡ true
 
-or_split : (a b : Bool) → (a || b) ≡ true → (a ≡ true) ⊎ (b ≡ true)
-or_split true b e = inl refl
-or_split false b e = inr e
+either_way : {P : Type 0} (a b : Bool) → (a || b) ≡ true → (a ≡ true → P) → (b ≡ true → P) → P
+either_way true b e f g = f refl
+either_way false b e f g = g e
+
+or_left : (a b : Bool) → a ≡ true → (a || b) ≡ true
+or_left true b e = refl
+or_left false b e = absurd (true≢false (sym e))
+
+or_right : (a b : Bool) → b ≡ true → (a || b) ≡ true
+or_right true b e = refl
+or_right false b e = e
 
 on_left : (k : ℕ) (xs ys : List Name) → Declares k xs → Declares k (xs ++ ys)
 on_left k xs ys d = record { name = d.name; there = Contains-append_left xs ys d.name d.there; is = d.is }
@@ -96,23 +104,16 @@ on_right k xs ys d = record { name = d.name; there = Contains-append_right xs ys
 
 among : (k : ℕ) (xs : List Name) → has_symbol k xs ≡ true → Declares k xs
 among k [] e = absurd (true≢false (sym e))
-among k (x ∷ xs) e = by (or_split (is_symbol k x.symbol) (has_symbol k xs) e)
-  where
-    by : (is_symbol k x.symbol ≡ true) ⊎ (has_symbol k xs ≡ true) → Declares k (x ∷ xs)
-    by (inl h) = record { name = x; there = at_first x x xs refl; is = h }
-    by (inr h) = let d = among k xs h in record { name = d.name; there = at_other d.name x xs d.there; is = d.is }
+among k (x ∷ xs) e =
+    either_way (is_symbol k x.symbol) (has_symbol k xs) e (λ h. record { name = x; there = at_first x x xs refl; is = h })
+    (λ h. let d = among k xs h in record { name = d.name; there = at_other d.name x xs d.there; is = d.is })
 
 of_among : (k : ℕ) (xs : List Name) → Declares k xs → has_symbol k xs ≡ true
 of_among k [] d = let none : d.there.0 < 0 = d.there.1 in absurd (omega (arith, none))
-of_among k (x ∷ xs) d = by (first_or_other d.name x xs d.there)
-  where
-    by : (x ≡ d.name) ⊎ Contains xs d.name → has_symbol k (x ∷ xs) ≡ true
-    by (inl e) = ap (λ y. is_symbol k y.symbol || has_symbol k xs) e ∙ ap (λ b. b || has_symbol k xs) d.is
-    by (inr c) = ap (λ b. is_symbol k x.symbol || b) (of_among k xs (record { name = d.name; there = c; is = d.is })) ∙ or_true (is_symbol k x.symbol)
-      where
-        or_true : (b : Bool) → (b || true) ≡ true
-        or_true true = refl
-        or_true false = refl
+of_among k (x ∷ xs) d = elim (first_or_other d.name x xs d.there) [
+  | inl e ↦ or_left (is_symbol k x.symbol) (has_symbol k xs) (ap (λ y. is_symbol k y.symbol) e ∙ d.is)
+  | inr c ↦ or_right (is_symbol k x.symbol) (has_symbol k xs) (of_among k xs (record { name = d.name; there = c; is = d.is }))
+]
 
 own_declares : (k : ℕ) (h : Shape) (xs : List Name) → (is_binding h && has_symbol k xs) ≡ true → Declares k (declared_by h xs)
 own_declares k shape.BindingIdentifier xs e = among k xs e
@@ -121,14 +122,6 @@ own_declares k h xs e = absurd (true≢false (sym e))
 of_own : (k : ℕ) (h : Shape) (xs : List Name) → Declares k (declared_by h xs) → (is_binding h && has_symbol k xs) ≡ true
 of_own k shape.BindingIdentifier xs d = of_among k xs d
 of_own k h xs d = let none : d.there.0 < 0 = d.there.1 in absurd (omega (arith, none))
-
-or_left : (a b : Bool) → a ≡ true → (a || b) ≡ true
-or_left true b e = refl
-or_left false b e = absurd (true≢false (sym e))
-
-or_right : (a b : Bool) → b ≡ true → (a || b) ≡ true
-or_right true b e = refl
-or_right false b e = e
 
 of_either : (k : ℕ) (xs ys : List Name) (a b : Bool) → (Declares k xs → a ≡ true) → (Declares k ys → b ≡ true) → Declares k (xs ++ ys) → (a || b) ≡ true
 of_either k xs ys a b f g d = by (Contains-append_cases xs ys d.name d.there)
@@ -139,19 +132,12 @@ of_either k xs ys a b f g d = by (Contains-append_cases xs ys d.name d.there)
 
 mutual
   declares : (k : ℕ) (t : Tree) → binds k t ≡ true → Declares k (declared t)
-  declares k (node h xs n ts) e = by (or_split (is_binding h && has_symbol k xs) (any_bind k ts) e)
-    where
-      by : ((is_binding h && has_symbol k xs) ≡ true) ⊎ (any_bind k ts ≡ true) → Declares k (declared (node h xs n ts))
-      by (inl a) = on_left k (declared_by h xs) (declared_all ts) (own_declares k h xs a)
-      by (inr a) = on_right k (declared_by h xs) (declared_all ts) (all_declare k ts a)
+  declares k (node h xs n ts) e =
+      either_way (is_binding h && has_symbol k xs) (any_bind k ts) e (λ a. on_left k (declared_by h xs) (declared_all ts) (own_declares k h xs a)) (λ a. on_right k (declared_by h xs) (declared_all ts) (all_declare k ts a))
 
   all_declare : (k : ℕ) (ts : Trees) → any_bind k ts ≡ true → Declares k (declared_all ts)
   all_declare k none e = absurd (true≢false (sym e))
-  all_declare k (t ▸ ts) e = by (or_split (binds k t) (any_bind k ts) e)
-    where
-      by : (binds k t ≡ true) ⊎ (any_bind k ts ≡ true) → Declares k (declared_all (t ▸ ts))
-      by (inl a) = on_left k (declared t) (declared_all ts) (declares k t a)
-      by (inr a) = on_right k (declared t) (declared_all ts) (all_declare k ts a)
+  all_declare k (t ▸ ts) e = either_way (binds k t) (any_bind k ts) e (λ a. on_left k (declared t) (declared_all ts) (declares k t a)) (λ a. on_right k (declared t) (declared_all ts) (all_declare k ts a))
 
 mutual
   of_declares : (k : ℕ) (t : Tree) → Declares k (declared t) → binds k t ≡ true

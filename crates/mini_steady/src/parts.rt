@@ -5,6 +5,7 @@ ghost use Rattle.mini_model.specs.Tree.{children, count};
 ghost use Rattle.mini_steady.specs.Parts as row;
 ghost use Rattle.mini_steady.specs.Parts.{AppliedInPart};
 
+use crate::code::code_of;
 use crate::functions::has_no_name;
 use crate::own::{OwnRewrites, minimize_own_code};
 use crate::steady::SteadyNames;
@@ -39,6 +40,7 @@ pub fn minimize_in_part<S: SteadyNames, W: OwnRewrites<S>>(
     }
     let number = node.number();
     let inside = child_place(node.shape(), place, 1, 0);
+    let code = code_of(alloc, number, node.child(0))?;
     let held = node.children_mut().child_mut(0);
-    Ok(minimize_own_code(alloc, held, inside, number, steady, rewrites)?)
+    Ok(minimize_own_code(alloc, held, inside, &code, steady, rewrites)?)
 }
