@@ -1,5 +1,4 @@
 use Rattle.std.proofs.Common.{◌∙◌, sym, ap, subst}
-use Rattle.mini_model.specs.declared.place.Position.TheVariants.{Stmt}
 use Rattle.mini_tree.specs.Rule.{Applied}
 use Rattle.mini_stmt.specs.MinimizeStatements.{switches_of}
 use Rattle.mini_stmt.specs.TurnLoopGuards.{GivesLoops, LoopsRest}
