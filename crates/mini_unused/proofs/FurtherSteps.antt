@@ -1,6 +1,6 @@
 -- A list that loses a name, in what holds it: a step of a child is one of the node.
 use Rattle.std.specs.Prelude.{ℕ, zero, suc, ◌≡◌, ◌<◌, ◌||◌, ◌&&◌, not, refl, Bool, true, false, List, [], ◌∷◌, Some, None}
-use Rattle.std.proofs.Common.{ap, ◌∙◌, sym, subst, subst₂, true≢false, arith}
+use Rattle.std.proofs.Common.{ap, ◌∙◌, sym, subst, subst₂, inl, inr, true≢false, arith}
 use Rattle.std.proofs.lemmas.Bool.{and_parts}
 use Rattle.mini_model.specs.declared.kind.VariableDeclarationKind.{VariableDeclarationKind}
 use Rattle.mini_model.specs.declared.kind.VariableDeclarationKind.TheVariants.{Var, Let, Const}
