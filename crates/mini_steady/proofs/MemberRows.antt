@@ -194,6 +194,14 @@ ready_member V a t e = by (row.is_kept_member V t && row.is_ready_before V (part
         let i = kept_object V (part t 1) second in
         record { of = o.of; index = Held i.of; kept = o.kept; held = i.kept; ready = of_ready V a (part t 0) o.of o.is before; soon = of_ready V a (part t 1) i.of i.is soon; is = computed_member_is t there ∙ (λ j. computed_member (o.is j) (i.is j)) }
 
+or_left : (a b : Bool) → a ≡ true → (a || b) ≡ true
+or_left true b e = refl
+or_left false b e = absurd (false≢true e)
+
+or_right : (a b : Bool) → b ≡ true → (a || b) ≡ true
+or_right true b e = refl
+or_right false b e = e
+
 ready_passes : (V : Assured) (a : Tree) (of : Object) (index : Index) → is_kept V of ≡ true → is_kept_index V index ≡ true → is_ready V of a ≡ true → is_ready_index V index a ≡ true → row.is_ready_member V a (member_at (object of) index) ≡ true
 ready_passes V a of (Written k) kept held ready soon =
     let m = member_on (object of) k in
@@ -206,14 +214,6 @@ ready_passes V a of (Held i) kept held ready soon =
     (both_true (row.is_kept_object V (object of) && row.is_kept_object V (object i)) (row.is_ready_before V (object of) a && row.is_ready_before V (object i) a)
     (both_true (row.is_kept_object V (object of)) (row.is_kept_object V (object i)) (object_passes V of kept) (object_passes V i held))
     (both_true (row.is_ready_before V (object of) a) (row.is_ready_before V (object i) a) (ready_alike V of a ∙ ready) (ready_alike V i a ∙ soon)))
-
-or_left : (a b : Bool) → a ≡ true → (a || b) ≡ true
-or_left true b e = refl
-or_left false b e = absurd (false≢true e)
-
-or_right : (a b : Bool) → b ≡ true → (a || b) ≡ true
-or_right true b e = refl
-or_right false b e = e
 
 some_of : {A : Type 0} (x : Option A) (d : A) → is_some x ≡ true → x ≡ Some (unwrap_or x d)
 some_of (Some a) d e = refl
