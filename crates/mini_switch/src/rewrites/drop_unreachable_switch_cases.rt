@@ -77,7 +77,7 @@ fn are_loose(cases: &[Node]) -> bool
 }
 
 // How many cases there are from the first on whose test is the value; 0 where none is, and None where a test before isn't known.
-#[tactic(auto, using(crate::proofs::DeadCases::two_parts, crate::proofs::DeadCases::rest_cases, crate::proofs::DeadCases::counted))]
+#[tactic(auto, using(crate::proofs::DeadCases::two_parts, crate::proofs::DeadCases::rest_cases, crate::proofs::DeadCases::counted, crate::proofs::DeadCases::chosen_here))]
 fn selected(
     alloc: Global,
     value: &ConstantValue,
