@@ -45,12 +45,7 @@ impl<S: SteadyNames> OwnRewrites<S> for LexicalNames {
         steady: &S,
     ) -> Result<bool, OutOfMemory> {
         match place {
-            Position::Stmt(_) => Ok(minimize_lexical_statement(
-                alloc,
-                node,
-                body.number,
-                steady,
-            )?),
+            Position::Stmt(_) => Ok(minimize_lexical_statement(alloc, node, body.number, steady)?),
             _ => Ok(false),
         }
     }
