@@ -4,9 +4,8 @@ use Rattle.std.specs.Prelude.{◌&&◌, ◌||◌, not, is_some, unwrap_or, List,
 use Rattle.std.proofs.lemmas.Bool.{and_parts, false≢true}
 use Rattle.mini_model.specs.Paths.{append}
 use Rattle.mini_model.specs.Tree.{Tree, Trees, node, none, ◌▸◌, shape_of, children, child_or_absent, count, node_count}
-use Rattle.mini_laws.specs.Value.{Value}
 use Rattle.mini_node.specs.Children.{part, trees_of, first_children, rest_children, without}
-use Rattle.mini_node.specs.Kinds.{is_absent_part, is_listed, is_named_leaf}
+use Rattle.mini_node.specs.Kinds.{is_listed, is_named_leaf}
 use Rattle.mini_node.specs.Walks.{from_first, all_first, next_child, no_rest}
 use Rattle.mini_rows.specs.Cases.{switch_case}
 use Rattle.mini_model.specs.declared.kind.VariableDeclarationKind.TheVariants.{Var}
@@ -17,7 +16,7 @@ use Rattle.mini_rows.specs.Loops.{is_body_shape}
 use Rattle.mini_switch.specs.MinimizeSwitchStatements.{is_case}
 use Rattle.mini_switch.specs.MinimizeSwitchStatements as inlining
 use Rattle.mini_syntax.specs.Forms.{first_of}
-use Rattle.mini_switch.specs.DropUnreachableSwitchCases.{verdict, selected_by, selected, are_cases, choices_of, is_binding_shape, binds_name, some_plain, declares_names, left_by, left_at, written, either_written}
+use Rattle.mini_switch.specs.DropUnreachableSwitchCases.{are_cases, choices_of, is_binding_shape, binds_name, some_plain, declares_names, left_by, left_at, written, either_written}
 use Rattle.mini_switch.proofs.Switches.{case_is}
 
 pub two_parts : (c : Tree) (cs : Trees) → are_cases (c ▸ cs) ≡ true → count (children c) ≡ 2
@@ -29,12 +28,6 @@ rest_cases c cs e = (and_parts (is_case c) (are_cases cs) e).1
 pub counted : (xs : List Tree) → count (trees_of xs) ≡ length xs
 counted [] = refl
 counted (x ∷ xs) = ap suc (counted xs)
-
--- the first case has the value
-pub chosen_here : (v : Value) (x : Tree) (xs : List Tree) → verdict v (part x 0) ≡ Some true → Some (length (x ∷ xs)) ≡ selected v (trees_of (x ∷ xs))
-chosen_here v x xs e =
-    ap (λ n. Some n) (sym (counted (x ∷ xs)))
-    ∙ sym (ap (λ o. selected_by o (is_absent_part (part x 0)) (count (trees_of (x ∷ xs))) (selected v (trees_of xs))) e)
 
 pub some_node : (t : Tree) → 0 < node_count t
 some_node (node h xs n ts) = omega arith

@@ -76,8 +76,16 @@ fn are_loose(cases: &[Node]) -> bool
     }
 }
 
+// How many cases there are.
+#[tactic(auto, using(crate::proofs::DeadCases::counted))]
+fn count_of(cases: &[Node]) -> usize
+    ensures { result ≡ count (trees_of cases.now) }
+{
+    cases.len()
+}
+
 // How many cases there are from the first on whose test is the value; 0 where none is, and None where a test before isn't known.
-#[tactic(auto, using(crate::proofs::DeadCases::two_parts, crate::proofs::DeadCases::rest_cases, crate::proofs::DeadCases::counted, crate::proofs::DeadCases::chosen_here))]
+#[tactic(auto, using(crate::proofs::DeadCases::two_parts, crate::proofs::DeadCases::rest_cases, crate::proofs::DeadCases::counted))]
 fn selected(
     alloc: Global,
     value: &ConstantValue,
@@ -90,7 +98,7 @@ fn selected(
     match cases {
         [] => Ok(Some(0)),
         [first, rest @ ..] => match verdict(alloc, value, first.child(0))? {
-            Some(true) => Ok(Some(cases.len())),
+            Some(true) => Ok(Some(count_of(cases))),
             Some(false) => selected(alloc, value, rest),
             None => if is_absent_part(first.child(0)) {
                 selected(alloc, value, rest)
