@@ -65,14 +65,18 @@ module _ (R : Position → Tree → Tree → Type 0) where
 
 -- a node on which the rows rest that rest on what is known of bodies is read by none of them
 read_by_none : (S : BodySets) (W : VariableSet) (p : Position) (n : Tree) → IsSteadilySettled S W p n → IsSteadilySettled S W p n → ReadsNothing (SteadyRewrites S W) p n
-read_by_none S W p n x y w (inl (inl (inl (inl c)))) = x.0.0.0.0 w c
+read_by_none S W p n x y w (inl (inl (inl (inl (inl c))))) = x.0.0.0.0.0 w c
+read_by_none S W p n x y w (inl (inl (inl (inl (inr c))))) = x.0.0.0.0.1 w c
 read_by_none S W p n x y w (inl (inl (inl (inr c)))) = x.0.0.0.1 w c
 read_by_none S W p n x y w (inl (inl (inr c))) = x.0.0.1 w c
-read_by_none S W p n x y w (inl (inr (inl (inl c)))) = x.0.1.0.0 w c
+read_by_none S W p n x y w (inl (inr (inl (inl (inl c))))) = x.0.1.0.0.0 w c
+read_by_none S W p n x y w (inl (inr (inl (inl (inr c))))) = x.0.1.0.0.1 w c
 read_by_none S W p n x y w (inl (inr (inl (inr c)))) = x.0.1.0.1 w c
 read_by_none S W p n x y w (inl (inr (inr c))) = x.0.1.1 w c
-read_by_none S W p n x y w (inr (inl (inl c))) = x.1.0.0 w c
-read_by_none S W p n x y w (inr (inl (inr c))) = x.1.0.1 w c
+read_by_none S W p n x y w (inr (inl (inl (inl c)))) = x.1.0.0.0 w c
+read_by_none S W p n x y w (inr (inl (inl (inr c)))) = x.1.0.0.1 w c
+read_by_none S W p n x y w (inr (inl (inr (inl c)))) = x.1.0.1.0 w c
+read_by_none S W p n x y w (inr (inl (inr (inr c)))) = x.1.0.1.1 w c
 read_by_none S W p n x y w (inr (inr c)) = x.1.1 w c.row c.stands
 
 nowhere_read : (u : Tree) → IsSteadilyRewritten u → Everywhere (ReadsNothing (SteadyRewrites (told_in u) (writable_in u))) Elsewhere u
