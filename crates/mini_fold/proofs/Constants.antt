@@ -1,40 +1,23 @@
 -- What is calculated makes what its rows say, and rests where no row makes the expression lighter.
-use Rattle.std.proofs.Common.{◌≡◌, zero, ◌+◌, ◌<◌, ◌≤◌, ◌-◌, ◌^◌, Bool, true, false, refl, sym, ap, subst, ◌∙◌, true≢false, inl, inr, arith}
-use Rattle.std.specs.Prelude.{◌&&◌, pos, Option, Some, None, is_some, unwrap_or, if◌then◌else◌}
-use Rattle.std.proofs.lemmas.Bool.{and_parts, leb-true, le-leb}
-use Rattle.mini_model.specs.declared.place.Position.{Position}
+use Rattle.std.proofs.Common.{◌≡◌, ◌<◌, ◌^◌, Bool, true, false, refl, sym, ap, subst, ◌∙◌, true≢false, inl, inr}
+use Rattle.std.specs.Prelude.{◌&&◌, Option, Some, None, is_some, unwrap_or, if◌then◌else◌}
+use Rattle.std.proofs.lemmas.Bool.{and_parts}
 use Rattle.mini_model.specs.declared.place.Position.TheVariants.{Expr}
 use Rattle.mini_model.specs.declared.seat.Seat.{Seat}
-use Rattle.mini_model.specs.declared.shape.Shape.{Shape}
-use Rattle.mini_model.specs.declared.shape.Shape.TheVariants as shape
-use Rattle.mini_model.specs.Tree.{Tree, shape_of}
-use Rattle.mini_model.specs.Weight.{weight, capped}
+use Rattle.mini_model.specs.Tree.{Tree}
+use Rattle.mini_model.specs.Weight.{weight}
 use Rattle.mini_laws.specs.Value.{Value}
 use Rattle.mini_terms.specs.Calculated.{calculated}
 use Rattle.mini_terms.specs.Parts.{suits, leaves_nothing}
 use Rattle.mini_terms.specs.Plain.{lit}
-use Rattle.mini_rows.specs.Constants.{gain_by, least_gain, RowConstant, ConstantRow, ConstantContracts}
+use Rattle.mini_rows.specs.Constants.{RowConstant, ConstantRow, ConstantContracts}
 use Rattle.mini_tree.specs.Rule.{Applied}
 use Rattle.mini_tree.proofs.Reaching.{moves_once}
-use Rattle.mini_fold.specs.FoldConstants.{is_lighter, replaces, written_by, literal_written, first_written, written, Gives, Rests, WrittenIsRow, UnwrittenRests}
+use Rattle.mini_fold.specs.FoldConstants.{is_lighter, replaces, written_by, literal_written, first_written, length_written, other_written, written, Gives, Rests, WrittenIsRow, UnwrittenRests}
 use Rattle.mini_fold.specs.JoinConstants.{literal_of, joined_written}
+use Rattle.mini_fold.proofs.Gains.{nothing, lighter_is, falls, lighter_test}
 use Rattle.mini_fold.proofs.Joins.{joined_is_row, joined_rests}
-
-nothing : {A : Type 0} {a : A} {B : Type 0} → None ≡ Some a → B
-nothing e = cc e
-
-gains : (h : Shape) → 1 ≤ gain_by h
-gains (shape.NumericLiteral (pos zero)) = omega arith
-gains h = omega arith
-
-lighter_is : (s : Seat) (w t : Tree) → is_lighter s w t ≡ true → weight (Expr s) w + least_gain w ≤ weight (Expr s) t
-lighter_is s w t e = omega (arith, leb-true (least_gain w) (capped (weight (Expr s) t) - capped (weight (Expr s) w)) e, gains (shape_of w))
-
-falls : (p : Position) (n w : Tree) → weight p w + least_gain w ≤ weight p n → weight p w < weight p n
-falls p n w e = omega (arith, e, gains (shape_of w))
-
-lighter_test : (s : Seat) (w t : Tree) → weight (Expr s) t < 2 ^ 64 → weight (Expr s) w + least_gain w ≤ weight (Expr s) t → is_lighter s w t ≡ true
-lighter_test s w t small less = le-leb (least_gain w) (capped (weight (Expr s) t) - capped (weight (Expr s) w)) (omega (arith, small, less))
+use Rattle.mini_fold.proofs.KnownLengths.{length_is_row, length_rests}
 
 both_true : (b c : Bool) → b ≡ true → c ≡ true → b && c ≡ true
 both_true true c e f = f
@@ -61,14 +44,19 @@ module _ (s : Seat) (n w : Tree) where
 
 contracts_of : (s : Seat) (n w : Tree) → ConstantRow (Expr s) n w → ConstantContracts (Expr s) n w
 contracts_of s n w (inl r) = record { row = inl r; lighter = falls (Expr s) n w r.gains }
-contracts_of s n w (inr r) = record { row = inr r; lighter = r.gains }
+contracts_of s n w (inr (inl r)) = record { row = inr (inl r); lighter = r.gains }
+contracts_of s n w (inr (inr r)) = record { row = inr (inr r); lighter = falls (Expr s) n w r.gains }
 
 pub written_is_row : WrittenIsRow
 written_is_row s n w e = contracts_of s n w (go (literal_written s n) refl e)
   where
-    go : (o : Option Tree) → literal_written s n ≡ o → first_written o (joined_written n) ≡ Some w → ConstantRow (Expr s) n w
+    other : (o : Option Tree) → length_written s n ≡ o → first_written o (joined_written n) ≡ Some w → ConstantRow (Expr s) n w
+    other (Some u) h e = inr (inr (length_is_row s n w (h ∙ e)))
+    other None h e = inr (inl (joined_is_row s n w e))
+
+    go : (o : Option Tree) → literal_written s n ≡ o → first_written o (other_written s n) ≡ Some w → ConstantRow (Expr s) n w
     go (Some u) h e = inl (by_value s n w (calculated n) refl (h ∙ e))
-    go None h e = inr (joined_is_row s n w e)
+    go None h e = other (length_written s n) refl e
 
 -- where a row makes it lighter, something is written
 passed : (b : Bool) (w : Tree) → b ≡ true → (if b then Some w else None) ≡ None → ⊥
@@ -96,9 +84,13 @@ none_second (Some w) p e = nothing (sym e)
 pub unwritten_rests : UnwrittenRests
 unwritten_rests s n e small w c = go c.row
   where
+    others : other_written s n ≡ None
+    others = none_second (literal_written s n) (other_written s n) e
+
     go : ConstantRow (Expr s) n w → ⊥
-    go (inl r) = literal_rests s n w (none_first (literal_written s n) (joined_written n) e) small r
-    go (inr r) = joined_rests s n w r small (none_second (literal_written s n) (joined_written n) e)
+    go (inl r) = literal_rests s n w (none_first (literal_written s n) (other_written s n) e) small r
+    go (inr (inl r)) = joined_rests s n w r small (none_second (length_written s n) (joined_written n) others)
+    go (inr (inr r)) = length_rests s n w r small (none_first (length_written s n) (joined_written n) others)
 
 -- the one after the other
 
@@ -110,13 +102,26 @@ pub first_said : (o p : Option Tree) → true ≡ is_some o → true ≡ is_some
 first_said (Some w) p f = refl
 first_said None p f = absurd (true≢false f)
 
+module _ (f : Tree → Option Tree) (n m : Tree) where
+  next_tree : (u : Tree) (o : Option Tree) → m ≡ unwrap_or o n → false ≡ is_some o → u ≡ unwrap_or (f m) m → u ≡ unwrap_or (first_written o (f n)) n
+  next_tree u None e g h = h ∙ ap (λ x. unwrap_or (f x) x) e
+  next_tree u (Some w) e g h = absurd (true≢false (sym g))
+
+  next_said : (c : Bool) (o : Option Tree) → m ≡ unwrap_or o n → false ≡ is_some o → c ≡ is_some (f m) → c ≡ is_some (first_written o (f n))
+  next_said c None e g h = h ∙ ap (λ x. is_some (f x)) e
+  next_said c (Some w) e g h = absurd (true≢false (sym g))
+
 pub then_tree : (n m u : Tree) (o : Option Tree) → m ≡ unwrap_or o n → false ≡ is_some o → u ≡ unwrap_or (joined_written m) m → u ≡ unwrap_or (first_written o (joined_written n)) n
-then_tree n m u None e f g = g ∙ ap (λ x. unwrap_or (joined_written x) x) e
-then_tree n m u (Some w) e f g = absurd (true≢false (sym f))
+then_tree n m u o e g h = next_tree joined_written n m u o e g h
 
 pub then_said : (n m : Tree) (c : Bool) (o : Option Tree) → m ≡ unwrap_or o n → false ≡ is_some o → c ≡ is_some (joined_written m) → c ≡ is_some (first_written o (joined_written n))
-then_said n m c None e f g = g ∙ ap (λ x. is_some (joined_written x)) e
-then_said n m c (Some w) e f g = absurd (true≢false (sym f))
+then_said n m c o e g h = next_said joined_written n m c o e g h
+
+pub others_tree : (s : Seat) (n m u : Tree) (o : Option Tree) → m ≡ unwrap_or o n → false ≡ is_some o → u ≡ unwrap_or (other_written s m) m → u ≡ unwrap_or (first_written o (other_written s n)) n
+others_tree s n m u o e g h = next_tree (other_written s) n m u o e g h
+
+pub others_said : (s : Seat) (n m : Tree) (c : Bool) (o : Option Tree) → m ≡ unwrap_or o n → false ≡ is_some o → c ≡ is_some (other_written s m) → c ≡ is_some (first_written o (other_written s n))
+others_said s n m c o e g h = next_said (other_written s) n m c o e g h
 
 pub applied : (s : Seat) (t u : Tree) (b : Bool) → u ≡ unwrap_or (written s t) t → b ≡ is_some (written s t) → Applied Gives Rests (Expr s) t u b
 applied s t u b e f = subst (λ v. Applied Gives Rests (Expr s) t v b) (sym e) (subst (Applied Gives Rests (Expr s) t (unwrap_or (written s t) t)) (sym f) (go (written s t) refl))

@@ -32,7 +32,7 @@ key_is (node h xs n ts) e =
     let (bare, named) = and_parts (is_bare (node h xs n ts) 0) (names_length h) e in
     bare_is h xs n ts bare ∙ ap leaf (length_named h named)
 
-both_true : (b c : Bool) → b ≡ true → c ≡ true → b && c ≡ true
+pub both_true : (b c : Bool) → b ≡ true → c ≡ true → b && c ≡ true
 both_true true c e f = f
 both_true false c e f = e
 
@@ -40,20 +40,31 @@ not_true : (b : Bool) → not b ≡ true → b ≡ false
 not_true false e = refl
 not_true true e = sym e
 
+-- `a.length`, where a number may stand
+pub record Asked (s : Seat) (n : Tree) : Type 0 where
+  pub unguarded : is_unguarded s.guard ≡ true
+  pub unsigned : takes_numbers s ≡ true
+  pub unchained : is_chain_seat s ≡ false
+  pub shape : n ≡ static_member false (part n 0) (key (codes "length"))
+
+pub asked_is : (s : Seat) (n : Tree) → asks_length s n ≡ true → Asked s n
+asked_is s n e =
+    let (is, rest) = and_parts (is_static_member n) (is_length_key (part n 1) && takes_length s) e in
+    let (named, takes) = and_parts (is_length_key (part n 1)) (takes_length s) rest in
+    let (unguarded, others) = and_parts (is_unguarded s.guard) (takes_numbers s && not (is_chain_seat s)) takes in
+    let (unsigned, unchained) = and_parts (takes_numbers s) (not (is_chain_seat s)) others in
+    record { unguarded = unguarded; unsigned = unsigned; unchained = not_true (is_chain_seat s) unchained; shape = static_member_is n is ∙ ap (static_member false (part n 0)) (key_is (part n 1) named) }
+
 module _ (s : Seat) (n : Tree) where
   length_row : asks_length s n ≡ true → (u : List ℕ) → string (part n 0) ≡ Some u → nat_le (length u) max_safe_integer ≡ true → Row9 s n (numeral (pos (length u)))
   length_row e u h small =
-      let (is, rest) = and_parts (is_static_member n) (is_length_key (part n 1) && takes_length s) e in
-      let (named, takes) = and_parts (is_length_key (part n 1)) (takes_length s) rest in
-      let (unguarded, others) = and_parts (is_unguarded s.guard) (takes_numbers s && not (is_chain_seat s)) takes in
-      let (unsigned, unchained) = and_parts (takes_numbers s) (not (is_chain_seat s)) others in
-      record {
+      let r = asked_is s n e in record {
         units = u;
-        unguarded = unguarded;
-        unsigned = unsigned;
-        unchained = not_true (is_chain_seat s) unchained;
+        unguarded = r.unguarded;
+        unsigned = r.unsigned;
+        unchained = r.unchained;
         small = leb-true (length u) max_safe_integer small;
-        shape = static_member_is n is ∙ ap (λ t. static_member false t (part n 1)) (string_is (part n 0) u h) ∙ ap (static_member false (text u)) (key_is (part n 1) named);
+        shape = r.shape ∙ ap (λ t. static_member false t (key (codes "length"))) (string_is (part n 0) u h);
         written = refl;
       }
 
@@ -74,8 +85,8 @@ length_is_row s n w e = go (asks_length s n) refl e
 
 -- of a member that the row reads something is written
 
-asked_here : (s : Seat) (u : List ℕ) → is_unguarded s.guard ≡ true → takes_numbers s ≡ true → is_chain_seat s ≡ false → asks_length s (static_member false (text u) (key (codes "length"))) ≡ true
-asked_here s u e f g = both_true (is_unguarded s.guard) (takes_numbers s && not (is_chain_seat s)) e (both_true (takes_numbers s) (not (is_chain_seat s)) f (ap not g))
+pub asked_here : (s : Seat) (a : Tree) → is_unguarded s.guard ≡ true → takes_numbers s ≡ true → is_chain_seat s ≡ false → asks_length s (static_member false a (key (codes "length"))) ≡ true
+asked_here s a e f g = both_true (is_unguarded s.guard) (takes_numbers s && not (is_chain_seat s)) e (both_true (takes_numbers s) (not (is_chain_seat s)) f (ap not g))
 
 never : (b c : Bool) (t : Tree) → b ≡ true → c ≡ true → (if b then (if c then Some t else None) else None) ≡ None → ⊥
 never true true t e f k = cc k
@@ -85,5 +96,5 @@ never false c t e f k = cc e
 pub length_rests : (s : Seat) (n : Tree) → written s n ≡ None → (w : Tree) → Row9 s n w → ⊥
 length_rests s n e w r =
     never (asks_length s (static_member false (text r.units) (key (codes "length")))) (nat_le (length r.units) max_safe_integer) (numeral (pos (length r.units)))
-    (asked_here s r.units r.unguarded r.unsigned r.unchained) (le-leb (length r.units) max_safe_integer r.small)
+    (asked_here s (text r.units) r.unguarded r.unsigned r.unchained) (le-leb (length r.units) max_safe_integer r.small)
     (sym (ap (written s) r.shape) ∙ e)

@@ -4,6 +4,8 @@ pub mod Counters
 pub mod ForHeads
 pub mod KnownSides
 pub mod Joins
+pub mod Gains
+pub mod KnownLengths
 pub mod Constants
 pub mod Sequences
 pub mod Operators

@@ -16,6 +16,7 @@ use Rattle.mini_terms.proofs.Reading.{same_in_seat}
 use Rattle.mini_rows.specs.Constants.{RowConstant, ConstantRow, ConstantContracts}
 use Rattle.mini_rows.proofs.FoldMeaning.{plain_of, value_of, plain_read}
 use Rattle.mini_rows.proofs.JoinedMeaning.{joined_same, joined_read}
+use Rattle.mini_rows.proofs.KnownLength.{known_length_same, known_length_read}
 
 pub nothing : {A : Type 0} {a : A} {B : Type 0} → None ≡ Some a → B
 nothing e = cc e
@@ -31,12 +32,14 @@ constant_same s n w r =
 
 row_same : (p : Position) (n w : Tree) → ConstantRow p n w → SameAt p n w
 row_same (Expr s) n w (inl r) = constant_same s n w r
-row_same (Expr s) n w (inr r) = joined_same s n w r
+row_same (Expr s) n w (inr (inl r)) = joined_same s n w r
+row_same (Expr s) n w (inr (inr r)) = known_length_same s n w r
 row_same p n w r = absurd r
 
 row_read : (p : Position) (n w : Tree) → ConstantRow p n w → summary n ≡ summary w
 row_read (Expr s) n w (inl r) = plain_read n (calculated_plain n r.value r.known) ∙ sym (plain_read w (plain_of s w r.stays))
-row_read (Expr s) n w (inr r) = joined_read s n w r
+row_read (Expr s) n w (inr (inl r)) = joined_read s n w r
+row_read (Expr s) n w (inr (inr r)) = known_length_read s n w r
 row_read p n w r = absurd r
 
 pub constants_same : MeansSame ConstantContracts

@@ -1,6 +1,6 @@
 -- A row on a constant, where it writes something lighter, makes the whole lighter.
-use Rattle.std.proofs.Common.{◌≡◌, zero, suc, ◌+◌, ◌≤◌, true, false, Some, refl, sym, ap, subst, ◌∙◌, ◌⊎◌, inl, inr, true≢false}
-use Rattle.std.specs.Prelude.{pos, negsuc}
+use Rattle.std.proofs.Common.{◌≡◌, ℕ, zero, suc, ◌+◌, ◌≤◌, true, false, Some, refl, sym, ap, subst, ◌∙◌, ◌⊎◌, inl, inr, true≢false}
+use Rattle.std.specs.Prelude.{pos, negsuc, length}
 use Rattle.mini_model.specs.declared.operator.UnaryOperator.TheVariants as unary_operator
 use Rattle.mini_model.specs.declared.place.Position.{Position}
 use Rattle.mini_model.specs.declared.place.Position.TheVariants.{Expr}
@@ -13,7 +13,8 @@ use Rattle.mini_laws.specs.Weights.{Lightens, counts_items}
 use Rattle.mini_terms.specs.Calculated.{free_value, calculated}
 use Rattle.mini_terms.specs.Plain.{lit, void_zero}
 use Rattle.mini_terms.proofs.Calculated.{Form, of_unary, of_binary, calculated_is}
-use Rattle.mini_rows.specs.Constants.{RowConstant, ConstantRow, least_gain, ConstantContracts}
+use Rattle.mini_rows.specs.Constants.{RowConstant, RowLength, ConstantRow, least_gain, ConstantContracts}
+use Rattle.mini_rows.specs.Spellings.{numeral}
 use Rattle.mini_rows.proofs.ConstantMeaning.{nothing, calculated_plain}
 use Rattle.mini_rows.proofs.FoldMeaning.{plain_of}
 use Rattle.mini_rows.proofs.FoldWeights.{there, no_choice}
@@ -53,18 +54,29 @@ constant_zero s n w r = go (lit_zero r.value w r.literal)
     go (inl e) = inl (calculated_no_zero n r.value r.known ∙ sym e)
     go (inr e) = inr (subst (λ k. weight (Expr s) w + k ≤ weight (Expr s) n) (ap least_gain (sym e)) r.gains)
 
+-- of what isn't 0, and of what is
+length_zero : (s : Seat) (n w : Tree) → RowLength s n w → ((outline n).is_zero ≡ (outline w).is_zero) ⊎ (weight (Expr s) w + 2 ≤ weight (Expr s) n)
+length_zero s n w r = go (length r.units) (r.written)
+  where
+    go : (k : ℕ) → w ≡ numeral (pos k) → ((outline n).is_zero ≡ (outline w).is_zero) ⊎ (weight (Expr s) w + 2 ≤ weight (Expr s) n)
+    go zero is = inr (subst (λ k. weight (Expr s) w + k ≤ weight (Expr s) n) (ap least_gain is) r.gains)
+    go (suc k) is = inl (ap (λ x. (outline x).is_zero) r.shape ∙ sym (ap (λ x. (outline x).is_zero) is))
+
 kept_zero : (p : Position) (n w : Tree) → ConstantRow p n w → ((outline n).is_zero ≡ (outline w).is_zero) ⊎ (weight p w + 2 ≤ weight p n)
 kept_zero (Expr s) n w (inl r) = constant_zero s n w r
-kept_zero (Expr s) n w (inr r) = inl (ap (λ x. (outline x).is_zero) r.shape ∙ sym (ap (λ x. (outline x).is_zero) r.written))
+kept_zero (Expr s) n w (inr (inr r)) = length_zero s n w r
+kept_zero (Expr s) n w (inr (inl r)) = inl (ap (λ x. (outline x).is_zero) r.shape ∙ sym (ap (λ x. (outline x).is_zero) r.written))
 kept_zero p n w r = absurd r
 
 kept_absent : (p : Position) (n w : Tree) → ConstantRow p n w → (outline n).absent ≡ (outline w).absent
-kept_absent (Expr s) n w (inr r) = ap (λ x. (outline x).absent) r.shape ∙ sym (ap (λ x. (outline x).absent) r.written)
+kept_absent (Expr s) n w (inr (inr r)) = ap (λ x. (outline x).absent) r.shape ∙ sym (ap (λ x. (outline x).absent) r.written)
+kept_absent (Expr s) n w (inr (inl r)) = ap (λ x. (outline x).absent) r.shape ∙ sym (ap (λ x. (outline x).absent) r.written)
 kept_absent (Expr s) n w (inl r) = there n (calculated_plain n r.value r.known) ∙ sym (there w (plain_of s w r.stays))
 kept_absent p n w r = absurd r
 
 kept_choice : (p : Position) (n w : Tree) → ConstantRow p n w → (outline n).chooses ≡ (outline w).chooses
-kept_choice (Expr s) n w (inr r) = ap (λ x. (outline x).chooses) r.shape ∙ sym (ap (λ x. (outline x).chooses) r.written)
+kept_choice (Expr s) n w (inr (inr r)) = ap (λ x. (outline x).chooses) r.shape ∙ sym (ap (λ x. (outline x).chooses) r.written)
+kept_choice (Expr s) n w (inr (inl r)) = ap (λ x. (outline x).chooses) r.shape ∙ sym (ap (λ x. (outline x).chooses) r.written)
 kept_choice (Expr s) n w (inl r) = no_choice n (calculated_plain n r.value r.known) ∙ sym (no_choice w (plain_of s w r.stays))
 kept_choice p n w r = absurd r
 

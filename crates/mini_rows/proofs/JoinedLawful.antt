@@ -14,6 +14,7 @@ use Rattle.mini_kept.specs.KeepsFrames.{is_body_slot}
 use Rattle.mini_kept.specs.KeepsNames.{is_rewritten_place}
 use Rattle.mini_kept.specs.KeepsShapes.{AskedAlike}
 use Rattle.mini_kept.specs.Lawful.{Lawful}
+use Rattle.mini_kept.specs.Placed.{fits_place}
 use Rattle.mini_kept.proofs.Expressions.{expression, TakesExpression, expression_taken, two_fit}
 use Rattle.mini_terms.specs.Parts.{leaves_nothing}
 use Rattle.mini_terms.specs.Plain.{lit}
@@ -27,6 +28,7 @@ use Rattle.mini_rows.proofs.ArrangedLawful.{kept_is_lawful}
 use Rattle.mini_rows.proofs.ConstantLawful.{both_dropped, constant_kept, constant_fits, constant_takes, constant_asked, binary_written, operand_written, binary_at, lit_fits}
 use Rattle.mini_rows.proofs.ConstantMeaning.{nothing, constants_same}
 use Rattle.mini_rows.proofs.FoldLawful.{vanishes, expression_slot}
+use Rattle.mini_rows.proofs.KnownLength.{known_length_kept, known_length_taken, known_length_fits, known_length_asked}
 
 -- ---- both of them go, and a literal is made
 
@@ -63,7 +65,8 @@ joined_kept q n w r =
 
 kept : (p : Position) (n w : Tree) → ConstantRow p n w → KeptAt p n w
 kept (Expr q) n w (inl r) = constant_kept q n w r
-kept (Expr q) n w (inr r) = joined_kept q n w r
+kept (Expr q) n w (inr (inl r)) = joined_kept q n w r
+kept (Expr q) n w (inr (inr r)) = known_length_kept q n w r
 kept p n w r = absurd r
 
 places : (p : Position) (n w : Tree) → ConstantRow p n w → is_rewritten_place p ≡ true
@@ -88,13 +91,14 @@ module _ (strict : Bool) (s : Slot) where
       let literal = lit_fits strict r.value r.literal r.written_out written in
       (takes, subst Fits (sym r.written) (two_fit strict r.operand r.literal operand literal))
 
-  row_stood : (p : Position) (n w : Tree) → ConstantRow p n w → fits strict s n ≡ true → TakesExpression s × (fits strict s w ≡ true)
-  row_stood (Expr q) n w (inl r) e = (constant_takes q n w r strict s e, constant_fits q n w r strict s e)
-  row_stood (Expr q) n w (inr r) e = let (takes, fit) = joined_stood q n w r e in (takes, expression_taken strict s w takes fit)
-  row_stood p n w r e = absurd r
+  row_stood : (p : Position) (n w : Tree) → ConstantRow p n w → fits_place p s ≡ true → fits strict s n ≡ true → TakesExpression s × (fits strict s w ≡ true)
+  row_stood (Expr q) n w (inl r) k e = (constant_takes q n w r strict s e, constant_fits q n w r strict s e)
+  row_stood (Expr q) n w (inr (inl r)) k e = let (takes, fit) = joined_stood q n w r e in (takes, expression_taken strict s w takes fit)
+  row_stood (Expr q) n w (inr (inr r)) k e = (known_length_taken q n w r strict s k e, known_length_fits q n w r strict s k e)
+  row_stood p n w r k e = absurd r
 
-row_slot : (p : Position) (n w : Tree) → ConstantRow p n w → (strict : Bool) (s : Slot) → fits strict s n ≡ true → is_body_slot p s ≡ true
-row_slot p n w r strict s e = expression_slot p s (row_stood strict s p n w r e).0
+row_slot : (p : Position) (n w : Tree) → ConstantRow p n w → (strict : Bool) (s : Slot) → fits_place p s ≡ true → fits strict s n ≡ true → is_body_slot p s ≡ true
+row_slot p n w r strict s k e = expression_slot p s (row_stood strict s p n w r k e).0
 
 -- ---- what a parent asks of them
 
@@ -111,13 +115,14 @@ joined_asked q n w r =
 
 row_asked : (p : Position) (n w : Tree) → ConstantRow p n w → AskedAlike p n w
 row_asked (Expr q) n w (inl r) = constant_asked q n w r
-row_asked (Expr q) n w (inr r) = joined_asked q n w r
+row_asked (Expr q) n w (inr (inl r)) = joined_asked q n w r
+row_asked (Expr q) n w (inr (inr r)) = known_length_asked q n w r
 row_asked p n w r = absurd r
 
 pub constants_lawful : Lawful ConstantContracts
 constants_lawful =
     kept_is_lawful ConstantContracts constants_same
-    (record { fitting = λ p n w c strict s k e. (row_stood strict s p n w c.row e).1; asked = λ p n w c. row_asked p n w c.row })
+    (record { fitting = λ p n w c strict s k e. (row_stood strict s p n w c.row k e).1; asked = λ p n w c. row_asked p n w c.row })
     (λ p n w c. places p n w c.row)
-    (λ p n w c strict s k e. row_slot p n w c.row strict s e)
+    (λ p n w c strict s k e. row_slot p n w c.row strict s k e)
     (λ p n w c. kept p n w c.row)

@@ -3,6 +3,7 @@ pub mod SpellSymmetry
 pub mod TemplateTexts
 pub mod TypeofMeaning
 pub mod TextLength
+pub mod KnownLength
 pub mod SpellMeaning
 pub mod SpellWeights
 pub mod SpellShapes

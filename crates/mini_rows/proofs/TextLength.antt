@@ -12,7 +12,7 @@ use Rattle.mini_model.specs.declared.seat.Seat.{Seat}
 use Rattle.mini_model.specs.declared.shape.Shape.TheVariants as shape
 use Rattle.mini_model.specs.Tree.{Tree, Trees, none, ◌▸◌}
 use Rattle.mini_model.specs.Weight.{weight, is_awkward, outlines}
-use Rattle.mini_accept.specs.WellShaped.{Depth, in_module, in_body, nested, Class, a_statement, a_chain, an_init, an_arrow_body, an_expression, a_link, an_argument, an_inner, an_inner_argument, a_key, a_private_or_key, an_inner_key, a_default_export, Slot, one, one_or_absent, filling, refused, fits}
+use Rattle.mini_accept.specs.WellShaped.{Depth, in_module, in_body, nested, Class, a_statement, a_chain, an_init, an_arrow_body, an_expression, a_link, an_argument, an_inner, an_inner_argument, a_key, a_private_or_key, an_inner_key, a_default_export, Slot, one, one_or_absent, filling, refused, fits, has_optional}
 use Rattle.mini_laws.specs.Demand.{Demand, As, Callee, OfType, Deleted, Target, AnEntry, Request}
 use Rattle.mini_laws.specs.State.{State, either, Environment}
 use Rattle.mini_laws.specs.Naming.{summary}
@@ -31,9 +31,13 @@ use Rattle.mini_rows.specs.Sketches.{StaticMember, String, PropertyName, Number,
 use Rattle.mini_rows.specs.Spellings.{static_member, text, key, numeral}
 use Rattle.mini_rows.proofs.ArrangedExpressions.{expressions_arranged}
 
+-- `a.length`
+abbrev pub length_on : Tree → Tree
+length_on a = static_member false a (key (codes "length"))
+
 -- `"abc".length`
 abbrev pub length_of : List ℕ → Tree
-length_of u = static_member false (text u) (key (codes "length"))
+length_of u = length_on (text u)
 
 abbrev pub count_of : List ℕ → Tree
 count_of u = numeral (pos (length u))
@@ -55,7 +59,7 @@ module _ (u : List ℕ) (s : Seat) (h : is_unguarded s.guard ≡ true) where
   length_does e Target f r z = absurd f
   length_does e q f r z = refl
 
-  same_here : SameAt (Expr s) (length_of u) (count_of u)
+  pub same_here : SameAt (Expr s) (length_of u) (count_of u)
   same_here = equal_same (Expr s) (length_of u) (count_of u) (record { by = length_does })
 
 pub length_same : (s : Seat) (n w : Tree) → Row9 s n w → SameAt (Expr s) n w
@@ -78,9 +82,9 @@ length_falls s u small =
 
 -- ---- where they stand
 
-module _ (u : List ℕ) where
+module _ (a : Tree) where
   abbrev parts : Trees
-  parts = text u ▸ key (codes "length") ▸ none
+  parts = a ▸ key (codes "length") ▸ none
 
   nowhere : (strict : Bool) (d : Depth) → filling strict (one (a_statement d)) (shape.StaticMemberExpression false) ≡ refused
   nowhere true in_module = refl
@@ -90,7 +94,7 @@ module _ (u : List ℕ) where
   nowhere false in_body = refl
   nowhere false nested = refl
 
-  length_in : (strict : Bool) (q : Seat) (c : Class) → is_chain_seat q ≡ false → fits_seat q c ≡ true → fits strict (one c) (length_of u) ≡ true → TakesExpressionIn c
+  length_in : (strict : Bool) (q : Seat) (c : Class) → is_chain_seat q ≡ false → fits_seat q c ≡ true → fits strict (one c) (length_on a) ≡ true → TakesExpressionIn c
   length_in strict q an_expression f v e = tt
   length_in strict q a_link f v e = tt
   length_in strict q an_argument f v e = tt
@@ -108,33 +112,33 @@ module _ (u : List ℕ) where
   length_in strict q (an_inner_key false) f v e = absurd (false≢true v)
   length_in strict q c f v e = absurd (false≢true v)
 
-  length_at : (strict : Bool) (q : Seat) (p : Slot) → is_chain_seat q ≡ false → fits_place (Expr q) p ≡ true → fits strict p (length_of u) ≡ true → TakesExpression p
+  pub length_at : (strict : Bool) (q : Seat) (p : Slot) → is_chain_seat q ≡ false → fits_place (Expr q) p ≡ true → fits strict p (length_on a) ≡ true → TakesExpression p
   length_at strict q (one c) f v e = length_in strict q c f v e
   length_at strict q (one_or_absent c) f v e = length_in strict q c f v e
   length_at strict q p f v e = absurd (false≢true v)
 
 pub length_taken : (q : Seat) (n w : Tree) → Row9 q n w → (strict : Bool) (p : Slot) → fits_place (Expr q) p ≡ true → fits strict p n ≡ true → TakesExpression p
-length_taken q n w r strict p v e = length_at r.units strict q p r.unchained v (subst (λ t. fits strict p t ≡ true) r.shape e)
+length_taken q n w r strict p v e = length_at (text r.units) strict q p r.unchained v (subst (λ t. fits strict p t ≡ true) r.shape e)
 
-count_fits : (u : List ℕ) (strict : Bool) → length u ≤ max_safe_integer → fits strict expression (count_of u) ≡ true
+pub count_fits : (u : List ℕ) (strict : Bool) → length u ≤ max_safe_integer → fits strict expression (count_of u) ≡ true
 count_fits u strict small = ap (λ a. (a && true) && true) (le-leb (length u) max_safe_integer small)
 
 pub length_fits : (q : Seat) (n w : Tree) → Row9 q n w → (strict : Bool) (p : Slot) → fits_place (Expr q) p ≡ true → fits strict p n ≡ true → fits strict p w ≡ true
 length_fits q n w r strict p v e =
     subst (λ t. fits strict p t ≡ true) (sym r.written) (expression_taken strict p (count_of r.units) (length_taken q n w r strict p v e) (count_fits r.units strict r.small))
 
-asked_here : (q : Seat) (u : List ℕ) → takes_numbers q ≡ true → AskedAlike (Expr q) (length_of u) (count_of u)
-asked_here q u h = record {
+pub asked_here : (q : Seat) (a : Tree) (u : List ℕ) → has_optional a ≡ false → takes_numbers q ≡ true → AskedAlike (Expr q) (length_on a) (count_of u)
+asked_here q a u o h = record {
   absent = λ e. absurd (false≢true e);
   body = λ e. absurd (false≢true e);
-  optional = λ e. absurd (false≢true e);
+  optional = λ e. absurd (true≢false (sym e ∙ o));
   number = λ asks e. absurd (true≢false (sym h ∙ asks));
   spelled = λ t e. absurd (cc e);
   plain = refl;
 }
 
 pub length_asked : (q : Seat) (n w : Tree) → Row9 q n w → AskedAlike (Expr q) n w
-length_asked q n w r = subst (λ t. AskedAlike (Expr q) t w) (sym r.shape) (subst (AskedAlike (Expr q) (length_of r.units)) (sym r.written) (asked_here q r.units r.unsigned))
+length_asked q n w r = subst (λ t. AskedAlike (Expr q) t w) (sym r.shape) (subst (AskedAlike (Expr q) (length_of r.units)) (sym r.written) (asked_here q (text r.units) r.units refl r.unsigned))
 
 pub length_kept : (q : Seat) (n w : Tree) → Row9 q n w → KeptAt (Expr q) n w
 length_kept q n w r = expressions_arranged (record { trees = none; lists = [] }) (under (StaticMember false) (under (String r.units) end ▹ under (PropertyName (codes "length")) end ▹ end)) (under (Number (pos (length r.units))) end) refl q n w r.shape r.written

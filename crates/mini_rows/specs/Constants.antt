@@ -1,6 +1,6 @@
 -- Rows on expressions whose value is calculated from their text, as equations, with the JavaScript before and after. No order of
 -- rewriting is meant.
-use Rattle.std.specs.Prelude.{◌≡◌, ℕ, zero, ◌+◌, ◌<◌, ◌≤◌, ◌⊎◌, ◌&&◌, Bool, true, false, Some, pos}
+use Rattle.std.specs.Prelude.{◌≡◌, ℕ, zero, ◌+◌, ◌<◌, ◌≤◌, ◌⊎◌, ◌&&◌, Bool, true, false, List, length, codes, Some, pos}
 use Rattle.mini_model.specs.declared.operator.BinaryOperator.{BinaryOperator}
 use Rattle.mini_model.specs.declared.operator.BinaryOperator.TheVariants as binary_operator
 use Rattle.mini_model.specs.declared.place.Position.{Position}
@@ -8,15 +8,19 @@ use Rattle.mini_model.specs.declared.place.Position.TheVariants.{Expr}
 use Rattle.mini_model.specs.declared.seat.Seat.{Seat}
 use Rattle.mini_model.specs.declared.shape.Shape.{Shape}
 use Rattle.mini_model.specs.declared.shape.Shape.TheVariants as shape
+use Rattle.mini_model.specs.Numerals.{max_safe_integer}
 use Rattle.mini_model.specs.Tree.{Tree, shape_of}
 use Rattle.mini_model.specs.Weight.{weight}
 use Rattle.mini_laws.specs.Value.{Value, Number, String}
-use Rattle.mini_terms.specs.Calculated.{operand_value, calculated}
+use Rattle.mini_kept.specs.Placed.{is_chain_seat}
+use Rattle.mini_terms.specs.Calculated.{operand_value, free_value, calculated}
 use Rattle.mini_terms.specs.Const.{binary_value}
-use Rattle.mini_terms.specs.Parts.{suits, leaves_nothing}
+use Rattle.mini_terms.specs.Folds.{is_effect_free}
+use Rattle.mini_terms.specs.Parts.{takes_numbers, suits, leaves_nothing}
 use Rattle.mini_terms.specs.Plain.{lit}
+use Rattle.mini_terms.specs.Reading.{is_unguarded}
 use Rattle.mini_rows.specs.Operands.{beside}
-use Rattle.mini_rows.specs.Spellings.{binary}
+use Rattle.mini_rows.specs.Spellings.{binary, static_member, key, numeral}
 
 -- how much less it is to weigh: `void 0` is a value that is written out, as `void +0` is none, and weighs 1 more on the left of an
 -- equality
@@ -67,9 +71,24 @@ pub record RowJoined (s : Seat) (n w : Tree) : Type 0 where
   pub written : w ≡ binary operator operand literal
   pub gains : weight (Expr s) w < weight (Expr s) n
 
+-- 9, of a text that isn't written out, as its literal would be no lighter: `` `${!1}`.length `` becomes `5`, and `(!0 + "").length` `4`
+pub record RowLength (s : Seat) (n w : Tree) : Type 0 where
+  pub text : Tree
+  pub units : List ℕ
+  pub known : free_value text ≡ Some (String units)
+  pub effect_free : is_effect_free text ≡ true
+  pub dropped : leaves_nothing n ≡ true
+  pub unguarded : is_unguarded s.guard ≡ true
+  pub unsigned : takes_numbers s ≡ true
+  pub unchained : is_chain_seat s ≡ false
+  pub small : length units ≤ max_safe_integer
+  pub shape : n ≡ static_member false text (key (codes "length"))
+  pub written : w ≡ numeral (pos (length units))
+  pub gains : weight (Expr s) w + least_gain w ≤ weight (Expr s) n
+
 -- a row reads n as w at this place
 abbrev pub ConstantRow : Position → Tree → Tree → Type 0
-ConstantRow (Expr s) n w = RowConstant s n w ⊎ RowJoined s n w
+ConstantRow (Expr s) n w = RowConstant s n w ⊎ (RowJoined s n w ⊎ RowLength s n w)
 ConstantRow _ n w = ⊥
 
 -- what it writes, where it weighs less

@@ -1,16 +1,19 @@
-//! Row 9: the length of a text that is written out becomes its number. `"abc".length` becomes `3`; of any other value the member
-//! stays, and so it does where a reference is asked, as of `delete "abc".length`. What is written is lighter in every place.
+//! Row 9: the length of a text that is written out becomes its number. `"abc".length` becomes `3`; the member stays where a reference is
+//! asked, as of `delete "abc".length`. What is written is lighter in every place; of a text that is known otherwise it is weighed.
 
-ghost use Rattle.std.specs.Prelude.{◌≡◌, is_some, unwrap_or, true};
+ghost use Rattle.std.specs.Prelude.{◌≡◌, is_some, unwrap_or, true, IfOk};
 ghost use Rattle.mini_model.specs.Tree.{shape_of, children, count};
 ghost use Rattle.mini_kept.specs.Placed.{is_chain_seat as is_it_chain_seat};
 ghost use Rattle.mini_terms.specs.Parts as part;
 ghost use Rattle.mini_terms.specs.Reading as term;
+ghost use Rattle.mini_terms.specs.Values.{value_in};
 ghost use Rattle.mini_node.specs.Kinds as kind;
+ghost use Rattle.mini_fold.specs.FoldConstants.{text_in, known_text, length_of as its_length};
 ghost use Rattle.mini_fold.specs.FoldStaticMember.{names_length as names_it_length, is_length_key as is_it_length_key, takes_length as may_take_length, asks_length as asks_it_length, count_of as its_count, written};
 
-use mini_model::{Guard, Seat, Shape};
+use mini_model::{Guard, OutOfMemory, Seat, Shape};
 use mini_node::{Node, is_static_member, numeric_literal, string};
+use mini_terms::{ConstantValue, given_value, has_no_effect};
 use std::alloc::Global;
 
 // The units of `length`.
@@ -76,6 +79,42 @@ fn count_of(alloc: Global, node: &Node) -> Option<Node>
     match string(node) {
         Some(text) if text.len() <= MAX_SAFE => Some(numeric_literal(alloc, text.len() as i64)),
         _ => None,
+    }
+}
+
+// The number of units of a value that is a text.
+fn count_of_value(alloc: Global, value: Option<ConstantValue>) -> Option<Node>
+    ensures { result ≡ its_count (text_in (value_in value)) }
+{
+    match value {
+        Some(ConstantValue::String(text)) if text.len() <= MAX_SAFE => {
+            Some(numeric_literal(alloc, text.len() as i64))
+        }
+        _ => None,
+    }
+}
+
+// The number of units of the text of an effect-free expression, where it is known.
+fn count_of_known(alloc: Global, node: &Node) -> Result<Option<Node>, OutOfMemory>
+    ensures { IfOk result (λ w. w ≡ its_count (known_text node.now)) }
+{
+    if !has_no_effect(node) {
+        return Ok(None);
+    }
+    let value = given_value(alloc, node)?;
+    Ok(count_of_value(alloc, value))
+}
+
+/// The number that the length of a text is which is known, where it may stand: of `` `${!1}`.length `` it is `5`.
+///
+/// The only error is that memory runs out.
+pub fn length_of(alloc: Global, node: &Node, seat: Seat) -> Result<Option<Node>, OutOfMemory>
+    ensures { IfOk result (λ w. w ≡ its_length seat node.now) }
+{
+    if asks_length(node, seat) {
+        count_of_known(alloc, node.child(0))
+    } else {
+        Ok(None)
     }
 }
 
