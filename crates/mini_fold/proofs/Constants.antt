@@ -1,7 +1,8 @@
 -- What is calculated makes what its rows say, and rests where no row makes the expression lighter.
 use Rattle.std.proofs.Common.{◌≡◌, ◌<◌, ◌^◌, Bool, true, false, refl, sym, ap, subst, ◌∙◌, true≢false, inl, inr}
-use Rattle.std.specs.Prelude.{◌&&◌, Option, Some, None, is_some, unwrap_or, if◌then◌else◌}
+use Rattle.std.specs.Prelude.{◌&&◌, Option, Some, None, is_some, unwrap_or, if◌then◌else◌, Result, Ok, Err, OnOk, IfOk}
 use Rattle.std.proofs.lemmas.Bool.{and_parts}
+use Rattle.mini_model.specs.declared.memory.OutOfMemory.{OutOfMemory}
 use Rattle.mini_model.specs.declared.place.Position.TheVariants.{Expr}
 use Rattle.mini_model.specs.declared.seat.Seat.{Seat}
 use Rattle.mini_model.specs.Tree.{Tree}
@@ -117,11 +118,14 @@ then_tree n m u o e g h = next_tree joined_written n m u o e g h
 pub then_said : (n m : Tree) (c : Bool) (o : Option Tree) → m ≡ unwrap_or o n → false ≡ is_some o → c ≡ is_some (joined_written m) → c ≡ is_some (first_written o (joined_written n))
 then_said n m c o e g h = next_said joined_written n m c o e g h
 
-pub others_tree : (s : Seat) (n m u : Tree) (o : Option Tree) → m ≡ unwrap_or o n → false ≡ is_some o → u ≡ unwrap_or (other_written s m) m → u ≡ unwrap_or (first_written o (other_written s n)) n
-others_tree s n m u o e g h = next_tree (other_written s) n m u o e g h
+module _ (s : Seat) (n m : Tree) (o : Option Tree) (is : m ≡ unwrap_or o n) (none : false ≡ is_some o) where
+  pub others_tree : (u : Tree) (r : Result Bool OutOfMemory) → OnOk r (u ≡ unwrap_or (other_written s m) m) → OnOk r (u ≡ unwrap_or (first_written o (other_written s n)) n)
+  others_tree u (Ok b) h = next_tree (other_written s) n m u o is none h
+  others_tree u (Err e) h = h
 
-pub others_said : (s : Seat) (n m : Tree) (c : Bool) (o : Option Tree) → m ≡ unwrap_or o n → false ≡ is_some o → c ≡ is_some (other_written s m) → c ≡ is_some (first_written o (other_written s n))
-others_said s n m c o e g h = next_said (other_written s) n m c o e g h
+  pub others_said : (r : Result Bool OutOfMemory) → IfOk r (λ c. c ≡ is_some (other_written s m)) → IfOk r (λ c. c ≡ is_some (first_written o (other_written s n)))
+  others_said (Ok c) h = next_said (other_written s) n m c o is none h
+  others_said (Err e) h = h
 
 pub applied : (s : Seat) (t u : Tree) (b : Bool) → u ≡ unwrap_or (written s t) t → b ≡ is_some (written s t) → Applied Gives Rests (Expr s) t u b
 applied s t u b e f = subst (λ v. Applied Gives Rests (Expr s) t v b) (sym e) (subst (Applied Gives Rests (Expr s) t (unwrap_or (written s t) t)) (sym f) (go (written s t) refl))

@@ -102,7 +102,7 @@ fn fold_other(alloc: Global, node: &mut Node, seat: Seat) -> Result<bool, OutOfM
 /// An operator over constants becomes the literal of its value, the length of a text that is known its number, or two operands become
 /// one, where that is lighter. The answer says whether something did; the only error is that memory runs out, and then the expression is
 /// fit only to be dropped.
-#[tactic(auto, using(crate::proofs::Constants::first_tree, crate::proofs::Constants::first_said, crate::proofs::Constants::others_tree, crate::proofs::Constants::others_said))]
+#[tactic(auto, using(crate::proofs::Constants::first_tree, crate::proofs::Constants::first_said))]
 pub fn fold_constant(alloc: Global, node: &mut Node, seat: Seat) -> Result<bool, OutOfMemory>
     ensures tree { OnOk result (node.new ≡ unwrap_or (written seat node.old) node.old) }
     ensures said { IfOk result (λ changed. changed ≡ is_some (written seat node.old)) }
