@@ -110,6 +110,7 @@ mod ForRowKept
 mod ForPartMeaning
 mod ForPartKept
 mod ChainEnds
+mod ChainGone
 mod ChainRest
 mod ChainEndKept
 mod ChoiceItems
