@@ -9,16 +9,16 @@ use Rattle.mini_model.specs.Weight.{weight}
 use Rattle.mini_model.specs.Tree.{Tree, Trees, node, none, ◌▸◌, child_or_absent, shape_of}
 use Rattle.mini_node.specs.Children.{part, is_bare}
 use Rattle.mini_terms.specs.Folds.{is_effect_free}
-use Rattle.mini_terms.specs.Parts.{leaves_nothing, leave_nothing}
 use Rattle.mini_terms.specs.Reading.{stands}
 use Rattle.mini_rows.specs.Chains.{is_calm, Link, a_member, a_computed, a_call, linked, is_calm_link, chain}
 use Rattle.mini_rows.specs.ChainLinks.{Marked, marked, links_over, are_calm_over, ChainRow}
-use Rattle.mini_rows.specs.ChainEnds.{is_nothing, key_of, keys_over, Row10, Row10Then, EndRow}
+use Rattle.mini_rows.specs.ChainEnds.{is_nothing, key_of, keys_over, enclose, Row10, Row10Then, EndRow}
 use Rattle.mini_rows.specs.Choices.{pair, ChoiceContracts}
+use Rattle.mini_rows.specs.Lists.{encloses}
 use Rattle.mini_rows.specs.Spellings.{void_zero}
 use Rattle.mini_choices.specs.MinimizeConditionalBranches.{is_lighter}
 use Rattle.mini_choices.specs.ChainLinks.{is_chain, is_step, is_marked, outcome, folded, wrapped, folded_written}
-use Rattle.mini_choices.specs.FoldChainExpr.{ends_at_once, ends_in, base_of, base_in, links_leave_nothing, links_in, ends_idly, may_end, acts, ends_after, may_end_after, base_then, after_written, written}
+use Rattle.mini_choices.specs.FoldChainExpr.{ends_at_once, ends_in, base_of, base_in, links_enclose, links_in, ends_idly, may_end, acts, ends_after, may_end_after, base_then, after_written, written}
 use Rattle.mini_choices.proofs.ChainLinks.{chain_is, Stepped, stepped_is, step_passes, first_of_link, mark_of_link, links_row, links_pass}
 use Rattle.mini_choices.proofs.FormsAre.{either_true}
 use Rattle.mini_choices.proofs.Trials.{not_true, both_true, tried, first_true, later_true, lighter_test}
@@ -51,15 +51,15 @@ none_before (node h xs n ts) e = ap (λ b. if b then base_in ts else node h xs n
 pub below_before : (t : Tree) → is_step t ≡ true → base_of t ≡ base_of (part t 0)
 below_before (node h xs n ts) e = ap (λ b. if b then base_in ts else node h xs n ts) e ∙ before_first ts
 
-leave_first : (ts : Trees) → links_in ts ≡ links_leave_nothing (child_or_absent ts 0)
-leave_first none = refl
-leave_first (t ▸ ts) = refl
+enclose_first : (ts : Trees) → links_in ts ≡ links_enclose (child_or_absent ts 0)
+enclose_first none = refl
+enclose_first (t ▸ ts) = refl
 
-pub none_leave : (t : Tree) → is_step t ≡ false → links_leave_nothing t ≡ true
-none_leave (node h xs n ts) e = ap (λ b. not b || (leaves_nothing (child_or_absent ts 1) && links_in ts)) e
+pub none_enclose : (t : Tree) → is_step t ≡ false → links_enclose t ≡ true
+none_enclose (node h xs n ts) e = ap (λ b. not b || (encloses false (child_or_absent ts 1) && links_in ts)) e
 
-pub below_leave : (t : Tree) → is_step t ≡ true → links_leave_nothing t ≡ (leaves_nothing (part t 1) && links_leave_nothing (part t 0))
-below_leave (node h xs n ts) e = ap (λ b. not b || (leaves_nothing (child_or_absent ts 1) && links_in ts)) e ∙ ap (λ b. leaves_nothing (child_or_absent ts 1) && b) (leave_first ts)
+pub below_enclose : (t : Tree) → is_step t ≡ true → links_enclose t ≡ (encloses false (part t 1) && links_enclose (part t 0))
+below_enclose (node h xs n ts) e = ap (λ b. not b || (encloses false (child_or_absent ts 1) && links_in ts)) e ∙ ap (λ b. encloses false (child_or_absent ts 1) && b) (enclose_first ts)
 
 -- ---- under links, one over what is known to be null or undefined
 
@@ -152,22 +152,22 @@ module _ (l : Link) (x : Tree) (known : is_nothing x ≡ true) (calm : is_calm_l
       let (here, rest) = and_parts (is_calm_link m) (are_calm_over ms) d in
       below_before (linked o m (over ms)) (step_passes o m (over ms) here) ∙ ap base_of (first_of_link o m (over ms)) ∙ base_is ms rest
 
-  leaving : (ms : List Marked) → are_calm_over ms ≡ true → links_leave_nothing (over ms) ≡ (leave_nothing (keys_over ms) && leaves_nothing (key_of l))
-  leaving [] d =
+  enclosing : (ms : List Marked) → are_calm_over ms ≡ true → links_enclose (over ms) ≡ (enclose (keys_over ms) && encloses false (key_of l))
+  enclosing [] d =
       let t = linked true l x in
-      below_leave t (step_passes true l x calm)
-      ∙ (λ i. leaves_nothing (key_of_link true l x i) && (ap links_leave_nothing (first_of_link true l x) ∙ none_leave x (no_step x known)) i)
-      ∙ and_one (leaves_nothing (key_of l))
+      below_enclose t (step_passes true l x calm)
+      ∙ (λ i. encloses false (key_of_link true l x i) && (ap links_enclose (first_of_link true l x) ∙ none_enclose x (no_step x known)) i)
+      ∙ and_one (encloses false (key_of l))
     where
       and_one : (b : Bool) → b && true ≡ b
       and_one true = refl
       and_one false = refl
-  leaving (marked o m ∷ ms) d =
+  enclosing (marked o m ∷ ms) d =
       let (here, rest) = and_parts (is_calm_link m) (are_calm_over ms) d in
       let t = linked o m (over ms) in
-      below_leave t (step_passes o m (over ms) here)
-      ∙ (λ i. leaves_nothing (key_of_link o m (over ms) i) && (ap links_leave_nothing (first_of_link o m (over ms)) ∙ leaving ms rest) i)
-      ∙ grouped (leaves_nothing (key_of m)) (leave_nothing (keys_over ms)) (leaves_nothing (key_of l))
+      below_enclose t (step_passes o m (over ms) here)
+      ∙ (λ i. encloses false (key_of_link o m (over ms) i) && (ap links_enclose (first_of_link o m (over ms)) ∙ enclosing ms rest) i)
+      ∙ grouped (encloses false (key_of m)) (enclose (keys_over ms)) (encloses false (key_of l))
     where
       grouped : (a b c : Bool) → a && (b && c) ≡ (a && b) && c
       grouped true b c = refl
@@ -183,8 +183,8 @@ module _ (s : Seat) (n : Tree) where
   end_row h =
       let (may, less) = and_parts (may_end n) (is_lighter s void_zero n) h in
       let (c, idly) = and_parts (is_chain n) (ends_idly links) may in
-      let (ends, rest) = and_parts (ends_at_once links) (is_effect_free (base_of links) && leaves_nothing links) idly in
-      let (idle, goes) = and_parts (is_effect_free (base_of links)) (leaves_nothing links) rest in
+      let (ends, rest) = and_parts (ends_at_once links) (is_effect_free (base_of links) && encloses false links) idly in
+      let (idle, goes) = and_parts (is_effect_free (base_of links)) (encloses false links) rest in
       let o = ended_of links ends in
       let base = ap base_of o.is ∙ base_is o.link o.base o.known o.calm o.others o.calm_others in
       let row : Row10 n void_zero = record {
@@ -195,7 +195,7 @@ module _ (s : Seat) (n : Tree) where
         idle = subst (λ t. is_effect_free t ≡ true) base idle;
         calm = o.calm;
         calm_others = o.calm_others;
-        dropped = subst (λ t. leaves_nothing t ≡ true) o.is goes;
+        dropped = subst (λ t. encloses false t ≡ true) o.is goes;
         shape = chain_is n c ∙ ap chain o.is;
         written = refl;
       } in
@@ -205,13 +205,13 @@ module _ (s : Seat) (n : Tree) where
   after_row h =
       let (may, less) = and_parts (may_end_after n) (is_lighter s (base_then n) n) h in
       let (c, after) = and_parts (is_chain n) (ends_after links) may in
-      let (ends, rest) = and_parts (ends_at_once links) (acts (base_of links) && links_leave_nothing links) after in
-      let (active, goes) = and_parts (acts (base_of links)) (links_leave_nothing links) rest in
+      let (ends, rest) = and_parts (ends_at_once links) (acts (base_of links) && links_enclose links) after in
+      let (active, goes) = and_parts (acts (base_of links)) (links_enclose links) rest in
       let o = ended_of links ends in
       let base = ap base_of o.is ∙ base_is o.link o.base o.known o.calm o.others o.calm_others in
       let (acting, others) = and_parts (not (is_effect_free o.base)) (stands o.base && is_calm o.base) (subst (λ t. acts t ≡ true) base active) in
       let (value, calm) = and_parts (stands o.base) (is_calm o.base) others in
-      let (keys, key) = and_parts (leave_nothing (keys_over o.others)) (leaves_nothing (key_of o.link)) (sym (ap links_leave_nothing o.is ∙ leaving o.link o.base o.known o.calm o.others o.calm_others) ∙ goes) in
+      let (keys, key) = and_parts (enclose (keys_over o.others)) (encloses false (key_of o.link)) (sym (ap links_enclose o.is ∙ enclosing o.link o.base o.known o.calm o.others o.calm_others) ∙ goes) in
       let row : Row10Then n (base_then n) = record {
         others = o.others;
         link = o.link;
@@ -222,7 +222,7 @@ module _ (s : Seat) (n : Tree) where
         calm_base = calm;
         calm = o.calm;
         calm_others = o.calm_others;
-        dropped = both_true (leaves_nothing (key_of o.link)) (leave_nothing (keys_over o.others)) key keys;
+        dropped = both_true (encloses false (key_of o.link)) (enclose (keys_over o.others)) key keys;
         shape = chain_is n c ∙ ap chain o.is;
         written = ap (λ t. pair t void_zero) base;
       } in
@@ -250,23 +250,23 @@ idle_passes s n w r small less =
     ap (λ t. is_some (written s t)) r.shape
     ∙ first_true (may_end (chain t) && is_lighter s void_zero (chain t)) void_zero (after_written s (chain t))
     (both_true (may_end (chain t)) (is_lighter s void_zero (chain t))
-    (both_true (ends_at_once t) _ (ends_passes r.link r.base r.known r.calm r.others r.calm_others) (both_true (is_effect_free (base_of t)) (leaves_nothing t) (ap is_effect_free base ∙ r.idle) r.dropped))
+    (both_true (ends_at_once t) _ (ends_passes r.link r.base r.known r.calm r.others r.calm_others) (both_true (is_effect_free (base_of t)) (encloses false t) (ap is_effect_free base ∙ r.idle) r.dropped))
     (lighter_test s void_zero (chain t) (omega (arith, small, same)) (omega (arith, less, same, made))))
 
 acting_passes : (s : Seat) (n w : Tree) → Row10Then n w → weight (Expr s) n < 2 ^ 64 → weight (Expr s) w < weight (Expr s) n → is_some (written s n) ≡ true
 acting_passes s n w r small less =
     let t : Tree = links_over r.others (linked true r.link r.base) in
     let base = base_is r.link r.base r.known r.calm r.others r.calm_others in
-    let (key, keys) = and_parts (leaves_nothing (key_of r.link)) (leave_nothing (keys_over r.others)) r.dropped in
+    let (key, keys) = and_parts (encloses false (key_of r.link)) (enclose (keys_over r.others)) r.dropped in
     let same = ap (weight (Expr s)) r.shape in
     let made = ap (weight (Expr s)) (ap (λ t. pair t void_zero) base ∙ sym r.written) in
     ap (λ t. is_some (written s t)) r.shape
     ∙ after_first s (chain t) (first_true (may_end_after (chain t) && is_lighter s (base_then (chain t)) (chain t)) (base_then (chain t)) (folded_written s (chain t))
     (both_true (may_end_after (chain t)) (is_lighter s (base_then (chain t)) (chain t))
     (both_true (ends_at_once t) _ (ends_passes r.link r.base r.known r.calm r.others r.calm_others)
-    (both_true (acts (base_of t)) (links_leave_nothing t)
+    (both_true (acts (base_of t)) (links_enclose t)
     (ap acts base ∙ both_true (not (is_effect_free r.base)) _ (ap not r.acts) (both_true (stands r.base) (is_calm r.base) r.value r.calm_base))
-    (leaving r.link r.base r.known r.calm r.others r.calm_others ∙ both_true (leave_nothing (keys_over r.others)) (leaves_nothing (key_of r.link)) keys key)))
+    (enclosing r.link r.base r.known r.calm r.others r.calm_others ∙ both_true (enclose (keys_over r.others)) (encloses false (key_of r.link)) keys key)))
     (lighter_test s (base_then (chain t)) (chain t) (omega (arith, small, same)) (omega (arith, less, same, made)))))
 
 pub end_passes : (s : Seat) (n w : Tree) → EndRow n w → weight (Expr s) n < 2 ^ 64 → weight (Expr s) w < weight (Expr s) n → is_some (written s n) ≡ true

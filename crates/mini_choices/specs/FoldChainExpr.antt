@@ -5,8 +5,8 @@ use Rattle.mini_model.specs.declared.seat.Seat.{Seat}
 use Rattle.mini_model.specs.Tree.{Tree, Trees, node, none, ◌▸◌, absent, child_or_absent}
 use Rattle.mini_node.specs.Children.{part}
 use Rattle.mini_terms.specs.Folds.{is_effect_free}
-use Rattle.mini_terms.specs.Parts.{leaves_nothing}
 use Rattle.mini_terms.specs.Reading.{stands}
+use Rattle.mini_rows.specs.Lists.{encloses}
 use Rattle.mini_rows.specs.Spellings.{void_zero}
 use Rattle.mini_rows.specs.Chains.{is_calm}
 use Rattle.mini_rows.specs.ChainEnds.{is_nothing}
@@ -32,18 +32,18 @@ abbrev mutual
   base_in none = absent
   base_in (t ▸ ts) = base_of t
 
--- of the names, keys and arguments of the links nothing is left behind
+-- the names, keys and arguments of the links take along the names in them that can't be written
 abbrev mutual
-  pub links_leave_nothing : Tree → Bool
-  links_leave_nothing (node h xs n ts) = not (is_step (node h xs n ts)) || (leaves_nothing (child_or_absent ts 1) && links_in ts)
+  pub links_enclose : Tree → Bool
+  links_enclose (node h xs n ts) = not (is_step (node h xs n ts)) || (encloses false (child_or_absent ts 1) && links_in ts)
 
   pub links_in : Trees → Bool
   links_in none = true
-  links_in (t ▸ ts) = links_leave_nothing t
+  links_in (t ▸ ts) = links_enclose t
 
--- of links that end at once, over what has no effect, nothing is left behind
+-- links that end at once, over what has no effect, go with such names
 abbrev pub ends_idly : Tree → Bool
-ends_idly t = ends_at_once t && (is_effect_free (base_of t) && leaves_nothing t)
+ends_idly t = ends_at_once t && (is_effect_free (base_of t) && encloses false t)
 
 abbrev pub may_end : Tree → Bool
 may_end t = is_chain t && ends_idly (part t 0)
@@ -54,7 +54,7 @@ acts x = not (is_effect_free x) && (stands x && is_calm x)
 
 -- of links that end at once, over what has an effect, that alone is left
 abbrev pub ends_after : Tree → Bool
-ends_after t = ends_at_once t && (acts (base_of t) && links_leave_nothing t)
+ends_after t = ends_at_once t && (acts (base_of t) && links_enclose t)
 
 abbrev pub may_end_after : Tree → Bool
 may_end_after t = is_chain t && ends_after (part t 0)

@@ -16,12 +16,12 @@ use Rattle.mini_node.specs.Made.{binary_is, logical_is, conditional_is, expressi
 use Rattle.mini_node.proofs.Equality.{tree_same, tree_itself}
 use Rattle.mini_terms.specs.Folds.{is_effect_free, has_one_kind, goes_on, stops}
 use Rattle.mini_terms.specs.Parts.{suits, leaves_nothing, weighs}
-use Rattle.mini_rows.specs.Folding.{names_exports, may_go, loosened, Row12, Row13, Row22, Row28, Row49Idle, FoldingRow}
+use Rattle.mini_rows.specs.Folding.{names_exports, loosened, Row12, Row13, Row22, Row28, Row49Idle, FoldingRow}
 use Rattle.mini_rows.specs.Spellings.{binary, static_member, text, key}
 use Rattle.mini_rows.proofs.FoldWeights.{lighter}
 use Rattle.mini_tree.specs.Rule.{Applied}
 use Rattle.mini_tree.proofs.Reaching.{moves_once}
-use Rattle.mini_rows.specs.Lists.{for_loop}
+use Rattle.mini_rows.specs.Lists.{for_loop, encloses}
 use Rattle.mini_rows.specs.Decrements.{subtracts}
 use Rattle.mini_rows.specs.ForParts.{ForPartRow}
 use Rattle.mini_fold.proofs.ForHeads.{for_row, for_rests}
@@ -45,9 +45,9 @@ module _ (s : Seat) (o : LogicalOperator) (a b : Tree) where
 
   stopped_row : is_stopped s o a b ≡ true → Row12 s (logical o a b) a
   stopped_row h =
-      let (known, others) = and_parts (stops o a) (not (names_exports o b) && (may_go b && (weighs b && suits s a))) h in
-      let (nameless, rest) = and_parts (not (names_exports o b)) (may_go b && (weighs b && suits s a)) others in
-      let (dropped, last) = and_parts (may_go b) (weighs b && suits s a) rest in
+      let (known, others) = and_parts (stops o a) (not (names_exports o b) && (encloses false b && (weighs b && suits s a))) h in
+      let (nameless, rest) = and_parts (not (names_exports o b)) (encloses false b && (weighs b && suits s a)) others in
+      let (dropped, last) = and_parts (encloses false b) (weighs b && suits s a) rest in
       let (heavy, stays) = and_parts (weighs b) (suits s a) last in
       record { operator = o; left = a; right = b; known = known; nameless = not_true (names_exports o b) nameless; dropped = dropped; heavy = heavy; stays = stays; shape = refl; written = refl }
 
@@ -58,8 +58,8 @@ module _ (s : Seat) (o : LogicalOperator) (a b : Tree) where
   passes : goes_on o a ≡ true → is_effect_free a ≡ true → leaves_nothing a ≡ true → weighs a ≡ true → suits s b ≡ true → is_passed s o a b ≡ true
   passes e f g h k = both_true (goes_on o a) _ e (both_true (is_effect_free a) _ f (both_true (leaves_nothing a) _ g (both_true (weighs a) (suits s b) h k)))
 
-  stopped : stops o a ≡ true → names_exports o b ≡ false → may_go b ≡ true → weighs b ≡ true → suits s a ≡ true → is_stopped s o a b ≡ true
-  stopped e f g h k = both_true (stops o a) _ e (both_true (not (names_exports o b)) _ (ap not f) (both_true (may_go b) _ g (both_true (weighs b) (suits s a) h k)))
+  stopped : stops o a ≡ true → names_exports o b ≡ false → encloses false b ≡ true → weighs b ≡ true → suits s a ≡ true → is_stopped s o a b ≡ true
+  stopped e f g h k = both_true (stops o a) _ e (both_true (not (names_exports o b)) _ (ap not f) (both_true (encloses false b) _ g (both_true (weighs b) (suits s a) h k)))
 
   side_row : (w : Tree) → side (is_passed s o a b) (is_stopped s o a b) a b ≡ Some w → FoldingRow (Expr s) (logical o a b) w
   side_row w e = go (is_passed s o a b) (is_stopped s o a b) refl refl e

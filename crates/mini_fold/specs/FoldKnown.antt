@@ -1,7 +1,7 @@
 -- The rewrites on what is known of an expression from its text: 12, 13 and 15 of logical expressions, 28 of equalities, 49 of
 -- conditionals whose test is effect-free, 9 of the lengths of texts, 22 of expression statements and of the head of a `for`, and 36 of its
 -- counter.
-use Rattle.std.specs.Prelude.{◌≡◌, Bool, not, ◌&&◌, Option, Some, None, if◌then◌else◌}
+use Rattle.std.specs.Prelude.{◌≡◌, Bool, false, not, ◌&&◌, Option, Some, None, if◌then◌else◌}
 use Rattle.mini_model.specs.declared.operator.LogicalOperator.{LogicalOperator}
 use Rattle.mini_model.specs.declared.place.Position.{Position}
 use Rattle.mini_model.specs.declared.place.Position.TheVariants.{Expr, Stmt}
@@ -15,7 +15,8 @@ use Rattle.mini_node.specs.Equal.{same_tree}
 use Rattle.mini_node.specs.Kinds.{logical_operator, is_conditional, is_expression_statement}
 use Rattle.mini_terms.specs.Folds.{is_effect_free, goes_on, stops}
 use Rattle.mini_terms.specs.Parts.{suits, leaves_nothing, weighs}
-use Rattle.mini_rows.specs.Folding.{names_exports, may_go, FoldingRow, FoldingContracts}
+use Rattle.mini_rows.specs.Folding.{names_exports, FoldingRow, FoldingContracts}
+use Rattle.mini_rows.specs.Lists.{encloses}
 use Rattle.mini_fold.specs.FoldStaticMember as member
 use Rattle.mini_fold.specs.MinimizeBinary as equality
 use Rattle.mini_fold.specs.RemoveIdleHead as head
@@ -27,7 +28,7 @@ is_passed s o a b = goes_on o a && (is_effect_free a && (leaves_nothing a && (we
 
 -- the right side goes: it is never evaluated
 abbrev pub is_stopped : Seat → LogicalOperator → Tree → Tree → Bool
-is_stopped s o a b = stops o a && (not (names_exports o b) && (may_go b && (weighs b && suits s a)))
+is_stopped s o a b = stops o a && (not (names_exports o b) && (encloses false b && (weighs b && suits s a)))
 
 abbrev pub side : Bool → Bool → Tree → Tree → Option Tree
 side passed stopped a b = if passed then Some b else (if stopped then Some a else None)

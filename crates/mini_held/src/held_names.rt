@@ -2,12 +2,10 @@
 
 ghost use Rattle.std.specs.Prelude.{◌≡◌, ◌<◌, ◌&&◌, nat_eq, true, false};
 ghost use Rattle.mini_model.specs.Tree.{children, child_or_absent, count, shape_of};
-ghost use Rattle.mini_rows.specs.Folding as folding;
 ghost use Rattle.mini_rows.specs.Lists as list;
 
 use mini_model::{Shape, UnaryOperator, VariableDeclarationKind};
 use mini_node::{Node, Nodes};
-use mini_scope::has_inner;
 
 // Whether the node is a name that is declared, or absent.
 fn is_name(node: &Node) -> bool
@@ -176,17 +174,9 @@ fn encloses(held: bool, node: &Node) -> bool
     encloses_itself(node, held) && all_enclose(held, node.shape(), node.children())
 }
 
-/// Whether each name in the node that can't be written is declared by a scope in it, as in any statement of a program.
+/// Whether each name in the node that can't be written is declared by a scope in it, as in any statement or expression of a program.
 pub fn takes_names_along(node: &Node) -> bool
     ensures { result ≡ list.encloses false node.now }
 {
     encloses(false, node)
-}
-
-/// Whether an expression that goes does so, and no inner expression stands in it, which as a part of a parameter would decide whether the
-/// body's `var`s are the parameters (ECMA-262, "FunctionDeclarationInstantiation").
-pub fn may_go(node: &Node) -> bool
-    ensures { result ≡ folding.may_go node.now }
-{
-    takes_names_along(node) && !has_inner(node)
 }

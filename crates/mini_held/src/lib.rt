@@ -3,4 +3,4 @@
 
 mod held_names;
 
-pub use held_names::{may_go, takes_names_along};
+pub use held_names::takes_names_along;

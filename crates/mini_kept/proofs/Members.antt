@@ -1,4 +1,5 @@
--- Among the parameters of a function stands no member of a class and no property that is assigned to, outside inner expressions.
+-- Among the parameters of a function stands no statement, no expression that holds others, no member of a class and no property that is
+-- assigned to, outside inner expressions.
 use Rattle.std.specs.Prelude.{ℕ, ◌≡◌, refl, ◌⊎◌, ◌||◌, ◌&&◌, not, Bool, true, false, List, [], ◌∷◌, Option, Some, None, pos, negsuc, if◌then◌else◌}
 use Rattle.std.proofs.Common.{sym, inl, inr}
 use Rattle.std.proofs.lemmas.Bool.{false≢true}

@@ -17,9 +17,9 @@ use Rattle.mini_kept.specs.Frames.{unbracketed}
 use Rattle.mini_kept.specs.KeepsNames.{Stands, is_rewritten_place, NamesOnce, HasTargets, count_of}
 use Rattle.mini_kept.specs.SameNames.{SameNames, SameScope, NoMoreClash}
 
--- a statement (ECMA-262, "Statement"), a member of a class, a property that is assigned to, or what declares names, which stands outside
--- inner expressions. Among parameters there is none (ECMA-262, "FormalParameters"), so what inner expressions stand in such a tree decides
--- nothing about a function
+-- a statement (ECMA-262, "Statement"), an expression that holds others, a member of a class, a property that is assigned to, or what
+-- declares names, which stands outside inner expressions. Among parameters there is none (ECMA-262, "FormalParameters"), where expressions
+-- stand in defaults and in brackets alone, so what inner expressions stand in such a tree decides nothing about a function
 abbrev pub is_member : Shape → Bool
 is_member shape.ExpressionStatement = true
 is_member shape.EmptyStatement = true
@@ -39,6 +39,29 @@ is_member shape.ForStatement = true
 is_member shape.ForInStatement = true
 is_member shape.ForOfStatement = true
 is_member (shape.VariableDeclaration k) = true
+is_member shape.ArrayExpression = true
+is_member shape.ObjectExpression = true
+is_member (shape.UnaryExpression o) = true
+is_member (shape.UpdateExpression o is_prefix) = true
+is_member (shape.BinaryExpression o) = true
+is_member shape.PrivateInExpression = true
+is_member (shape.LogicalExpression o) = true
+is_member (shape.AssignmentExpression o) = true
+is_member shape.ConditionalExpression = true
+is_member shape.SequenceExpression = true
+is_member (shape.CallExpression is_optional) = true
+is_member shape.SuperCallExpression = true
+is_member shape.NewExpression = true
+is_member (shape.StaticMemberExpression is_optional) = true
+is_member (shape.ComputedMemberExpression is_optional) = true
+is_member (shape.PrivateFieldExpression is_optional) = true
+is_member shape.SuperStaticMemberExpression = true
+is_member shape.SuperComputedMemberExpression = true
+is_member shape.ChainExpression = true
+is_member (shape.YieldExpression is_delegate) = true
+is_member shape.TemplateLiteral = true
+is_member shape.TaggedTemplateExpression = true
+is_member shape.ImportExpression = true
 is_member (shape.MethodDefinition k is_computed is_static) = true
 is_member (shape.PropertyDefinition is_computed is_static) = true
 is_member (shape.AssignmentTargetPropertyProperty is_computed) = true

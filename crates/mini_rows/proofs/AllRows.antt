@@ -133,7 +133,7 @@ module _ (o : Switches) where
   FixedKnown p n w = DeclarationContracts p n w ⊎ FixedEnd p n w
 
   abbrev FixedFinal : Position → Tree → Tree → Type 0
-  FixedFinal p n w = ChoiceContracts p n w ⊎ FixedKnown p n w
+  FixedFinal p n w = WhereFixed ChoiceContracts p n w ⊎ FixedKnown p n w
 
   abbrev FixedLatest : Position → Tree → Tree → Type 0
   FixedLatest p n w = KeyContracts p n w ⊎ FixedFinal p n w
@@ -151,7 +151,7 @@ module _ (o : Switches) where
   FixedFamilies p n w = first.Contracts p n w ⊎ FixedOthers p n w
 
   latest_lawful : Lawful FixedLatest
-  latest_lawful = lawful_join KeyContracts FixedFinal keys.lawful (lawful_join ChoiceContracts FixedKnown choices.lawful (lawful_join DeclarationContracts FixedEnd declarations_lawful (lawful_join (WhereFixed FoldingContracts) Functions foldings_lawful functions_lawful)))
+  latest_lawful = lawful_join KeyContracts FixedFinal keys.lawful (lawful_join (WhereFixed ChoiceContracts) FixedKnown choices.lawful (lawful_join DeclarationContracts FixedEnd declarations_lawful (lawful_join (WhereFixed FoldingContracts) Functions foldings_lawful functions_lawful)))
 
   fixed_lawful : Lawful FixedFamilies
   fixed_lawful =
@@ -164,7 +164,7 @@ module _ (o : Switches) where
   where_fixed p n w (inr (inr (inl c))) f = inr (inr (inl (c, f)))
   where_fixed p n w (inr (inr (inr (inl c)))) f = inr (inr (inr (inl (c, f))))
   where_fixed p n w (inr (inr (inr (inr (inl c))))) f = inr (inr (inr (inr (inl c))))
-  where_fixed p n w (inr (inr (inr (inr (inr (inl c)))))) f = inr (inr (inr (inr (inr (inl c)))))
+  where_fixed p n w (inr (inr (inr (inr (inr (inl c)))))) f = inr (inr (inr (inr (inr (inl (c, f))))))
   where_fixed p n w (inr (inr (inr (inr (inr (inr (inl c))))))) f = inr (inr (inr (inr (inr (inr (inl c))))))
   where_fixed p n w (inr (inr (inr (inr (inr (inr (inr (inl c)))))))) f = inr (inr (inr (inr (inr (inr (inr (inl (c, f))))))))
   where_fixed p n w (inr (inr (inr (inr (inr (inr (inr (inr c)))))))) f = inr (inr (inr (inr (inr (inr (inr (inr c)))))))
@@ -177,7 +177,7 @@ module _ (o : Switches) where
       (loose_join BranchContracts Last K nothing (branches_loose K)
       (loose_join (ListContracts o) Latest K nothing (lists_loose o K)
       (loose_join KeyContracts Final K nothing (lawful_is_loose KeyContracts K nothing keys.lawful)
-      (loose_join ChoiceContracts Known K nothing (lawful_is_loose ChoiceContracts K nothing choices.lawful)
+      (loose_join ChoiceContracts Known K nothing (choices.loose K)
       (loose_join DeclarationContracts End K nothing (lawful_is_loose DeclarationContracts K nothing declarations_lawful)
       (loose_join FoldingContracts Functions K nothing (foldings_loose K) (lawful_is_loose Functions K nothing functions_lawful))))))))
 

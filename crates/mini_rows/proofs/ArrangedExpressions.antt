@@ -1,7 +1,8 @@
 -- An expression that is built anew of the parts of another is kept.
-use Rattle.std.specs.Prelude.{◌≡◌, refl, ◌&&◌, ◌||◌, Bool, true, false, [], None}
-use Rattle.std.proofs.Common.{ap, ◌∙◌, sym, subst, arith}
+use Rattle.std.specs.Prelude.{◌≡◌, ◌≤◌, refl, ◌&&◌, ◌||◌, Bool, true, false, [], Option, None}
+use Rattle.std.proofs.Common.{ap, ◌∙◌, sym, subst, arith, inl}
 use Rattle.std.proofs.lemmas.Bool.{and_parts}
+use Rattle.mini_model.specs.declared.name.SymbolId.{SymbolId}
 use Rattle.mini_model.specs.declared.place.Position.{Position}
 use Rattle.mini_model.specs.declared.place.Position.TheVariants.{Expr}
 use Rattle.mini_model.specs.declared.seat.Seat.{Seat}
@@ -9,25 +10,30 @@ use Rattle.mini_model.specs.declared.shape.Shape.{Shape}
 use Rattle.mini_model.specs.declared.shape.Shape.TheVariants as shape
 use Rattle.mini_model.specs.Tree.{Tree, node, shape_of}
 use Rattle.mini_accept.specs.WellShaped.{Depth, in_module, in_body, nested, a_statement, a_method, a_default_export, Slot, one, statement_slots, slots_of, filling_by, fits}
+use Rattle.mini_laws.specs.declared.names.Declared.TheVariants as declared
 use Rattle.mini_laws.specs.declared.names.Use.{Use}
 use Rattle.mini_laws.specs.declared.names.Use.TheVariants.{Read}
 use Rattle.mini_laws.specs.DeclaredNames.{is_inner}
+use Rattle.mini_laws.specs.Early.{body_declarations}
+use Rattle.mini_laws.specs.Resolved.{Environment}
 use Rattle.mini_laws.specs.Scoped.{Scoped}
-use Rattle.mini_laws.specs.Symbols.{times}
+use Rattle.mini_laws.specs.Symbols.{declared as declared_in, times}
 use Rattle.mini_laws.specs.Body.{ArrowExpression}
 use Rattle.mini_laws.specs.Bodies.{Around, bodies, arrow_kind}
 use Rattle.mini_kept.specs.AlikeBodies.{BodiesKept}
 use Rattle.mini_kept.specs.Frames.{is_declaration}
+use Rattle.mini_kept.specs.KeepsLoosely.{InnerKept, KeepsLoosely}
 use Rattle.mini_kept.specs.KeepsNames.{Keeps, Stands as StandsFor, is_read, unplaced}
 use Rattle.mini_kept.specs.Lifted.{is_piece}
 use Rattle.mini_kept.specs.Loosely.{FixedKept}
+use Rattle.mini_kept.specs.SameNames.{is_among, first_symbol}
 use Rattle.mini_kept.specs.Standing.{is_method_slot}
 use Rattle.mini_kept.proofs.Bools.{left}
 use Rattle.mini_kept.proofs.Expressions.{refused_here}
-use Rattle.mini_kept.proofs.InOrder.{in_order}
+use Rattle.mini_kept.proofs.Clashes.{no_more_same}
 use Rattle.mini_kept.proofs.Quiet.{is_quiet, IsQuiet, no_names, no_body_names, no_body_declarations, no_loop, same_symbols as same_symbols_of}
 use Rattle.mini_rows.specs.Sketches.{still, rearranges_expression, Head, AList, Spread, Piece, Empty, OfExpression, Throw, Return, If, Block, shape_by, Sketch, part, under, list, Sketches, Parts, filled, all_filled, AsValue, parts_of, Free, is_rearranged, is_expression_head, is_piece_head, stands_well, is_expression}
-use Rattle.mini_rows.specs.Arranged.{KeptBy, SameFixed, KeptAt, KeptLoosely, AreFree, AreLoose, ExpressionsArranged, ExpressionsArrangedLoosely}
+use Rattle.mini_rows.specs.Arranged.{KeptBy, SameFixed, KeptAt, KeptLoosely, AllVanish, AreLoose, ExpressionsArranged, ExpressionsArrangedLoosely}
 use Rattle.mini_rows.proofs.Arranging.{Any, Each}
 use Rattle.mini_rows.proofs.ArrangedBodies.{quiet}
 use Rattle.mini_rows.proofs.ArrangedValues.{is_no_inner, is_value, suits_anywhere, Valued, head_valued}
@@ -166,28 +172,51 @@ module _ (f : Free) (ps : Parts) (u : AreLoose ps f) (h : Head) (ss : Sketches) 
   pub read_here : (q : Seat) (v : Use) → StandsFor (Expr q) v n → v ≡ Read
   read_here q v k = used v (sym (ap (λ b. b || is_read v) (no_inner (shape_by h) n_value)) ∙ k)
 
-  names_kept : (q : Seat) (strict : Bool) (s : Slot) → fits strict s n ≡ true → IsQuiet n → IsQuiet w → Keeps (Expr q) n w
-  names_kept q strict s fit a b =
-      let v = n_parts strict s fit in
-      record {
-        kept = record {
-          names = λ d. no_names d w b ∙ sym (no_names d n a);
-          body = no_body_names w b ∙ sym (no_body_names n a);
-          inner = same_inner f ps u AsValue (under h ss) r sn sr z;
-          symbols = λ o y. omega (arith, same_symbols f ps u AsValue (under h ss) r sn sr z v Read y, ap (times y) (same_symbols_of o w b), ap (times y) (same_symbols_of o n a));
-        };
-        scoped = λ o env k y. subst (λ m. Scoped m env w) (sym (read_here q o k)) (same_scoped f ps u AsValue (under h ss) r sn sr z v Read env (subst (λ m. Scoped m env n) (read_here q o k) y));
-        numbers = same_numbers f ps u AsValue (under h ss) r sn sr z v;
-        declared_as_body = λ l p. ap unplaced (no_body_declarations l p w b ∙ sym (no_body_declarations l p n a));
-        once = same_once f ps u AsValue (under h ss) r sn sr z;
-        targets = same_targets f ps u AsValue (under h ss) r sn sr z;
-        loop = no_loop w b ∙ sym (no_loop n a);
-        root = λ k. absurd (cc k);
-        block = λ k l p. absurd (cc k);
-      }
+  module _ (q : Seat) (strict : Bool) (s : Slot) (fit : fits strict s n ≡ true) where
+    n_quiet : IsQuiet n
+    n_quiet = quiet_of n n_value
 
-  pub expression_keeps : (q : Seat) (strict : Bool) (s : Slot) → fits strict s n ≡ true → Keeps (Expr q) n w
-  expression_keeps q strict s k = names_kept q strict s k (quiet_of n n_value) (quiet_of w (w_value strict s k))
+    w_quiet : IsQuiet w
+    w_quiet = quiet_of w (w_value strict s fit)
+
+    symbols_kept : (o : Use) (y : Option SymbolId) → times y (declared_in o w) ≤ times y (declared_in o n)
+    symbols_kept o y = omega (arith, same_symbols f ps u AsValue (under h ss) r sn sr z (n_parts strict s fit) Read y, ap (times y) (same_symbols_of o w w_quiet), ap (times y) (same_symbols_of o n n_quiet))
+
+    scoped_kept : (o : Use) (env : Environment) → StandsFor (Expr q) o n → Scoped o env n → Scoped o env w
+    scoped_kept o env k y = subst (λ m. Scoped m env w) (sym (read_here q o k)) (same_scoped f ps u AsValue (under h ss) r sn sr z (n_parts strict s fit) Read env (subst (λ m. Scoped m env n) (read_here q o k) y))
+
+    -- where what is dropped has no inner expression
+    pub expression_keeps : AllVanish ps.trees f.dropped → Keeps (Expr q) n w
+    expression_keeps g = record {
+      kept = record { names = λ d. no_names d w w_quiet ∙ sym (no_names d n n_quiet); body = no_body_names w w_quiet ∙ sym (no_body_names n n_quiet); inner = same_inner f ps u AsValue (under h ss) r sn sr z g; symbols = symbols_kept };
+      scoped = scoped_kept;
+      numbers = same_numbers f ps u AsValue (under h ss) r sn sr z (n_parts strict s fit);
+      declared_as_body = λ l p. ap unplaced (no_body_declarations l p w w_quiet ∙ sym (no_body_declarations l p n n_quiet));
+      once = same_once f ps u AsValue (under h ss) r sn sr z;
+      targets = same_targets f ps u AsValue (under h ss) r sn sr z;
+      loop = no_loop w w_quiet ∙ sym (no_loop n n_quiet);
+      root = λ k. absurd (cc k);
+      block = λ k l p. absurd (cc k);
+    }
+
+    -- where it may have one, and is no parameter
+    names_kept : InnerKept n w → KeepsLoosely (Expr q) n w
+    names_kept g = record {
+      bound = no_names declared.Bound w w_quiet ∙ sym (no_names declared.Bound n n_quiet);
+      lexical = no_names declared.Lexical w w_quiet ∙ sym (no_names declared.Lexical n n_quiet);
+      hoisted = λ x. ap (λ xs. is_among xs x) (no_names declared.Hoisted w w_quiet ∙ sym (no_names declared.Hoisted n n_quiet));
+      body = λ o env k y x. ap (first_symbol x) (no_body_names w w_quiet ∙ sym (no_body_names n n_quiet));
+      inner = g;
+      scoped = scoped_kept;
+      symbols = λ o env k y. symbols_kept o;
+      numbers = same_numbers f ps u AsValue (under h ss) r sn sr z (n_parts strict s fit);
+      declared_as_body = λ l p. no_more_same (body_declarations l p n) (body_declarations l p w) (ap unplaced (no_body_declarations l p w w_quiet ∙ sym (no_body_declarations l p n n_quiet)));
+      once = same_once f ps u AsValue (under h ss) r sn sr z;
+      targets = same_targets f ps u AsValue (under h ss) r sn sr z;
+      loop = no_loop w w_quiet ∙ sym (no_loop n n_quiet);
+      root = λ k. absurd (cc k);
+      block = λ k l p. absurd (cc k);
+    }
 
   bodies_kept : (a : Around) → a.constructs ≡ false → is_value (shape_of w) ≡ true → BodiesKept (bodies a n) (bodies a w)
   bodies_kept a k v = subst (BodiesKept (bodies a n)) (sym (rested a w k v)) (subst (λ bs. BodiesKept bs (bodies (quiet a) w)) (sym (rested a n k n_value)) (same_bodies f ps u AsValue (under h ss) r sn sr z a))
@@ -200,9 +229,9 @@ module _ (f : Free) (ps : Parts) (u : AreLoose ps f) (h : Head) (ss : Sketches) 
   no_port : (strict : Bool) (d : Depth) → fits strict (one (a_statement d)) n ≡ true → ⊥
   no_port strict d k = refused_here strict (one (a_statement d)) (shape_by h) [] 0 (all_filled ps ss) (ap filling_by (no_statement strict d h e)) k
 
-  pub expression_kept : (F : Position → Tree → Tree → Type 0) (q : Seat) → F (Expr q) n w → KeptBy F (Expr q) n w
-  expression_kept F q fixed = record {
-    keeps = λ strict s o k. in_order (Expr q) n w (expression_keeps q strict s k);
+  pub expression_kept : (F : Position → Tree → Tree → Type 0) (q : Seat) → InnerKept n w → F (Expr q) n w → KeptBy F (Expr q) n w
+  expression_kept F q inner fixed = record {
+    keeps = λ strict s o k. names_kept q strict s k inner;
     piece = no_piece h (expression_no_piece h e);
     kind = λ strict s k. kind_of_value (shape_of n) n_value ∙ sym (kind_of_value (shape_of w) (w_value strict s k));
     bodies = λ strict s o k a st. bodies_kept a (st.function (method_slot strict s k)) (w_value strict s k);
@@ -241,17 +270,17 @@ expressions_arranged_freely f ps u (under h ss) r e q n w a b =
     let t = tested f h ss r e in
     let o = loosened f ps u in
     subst (λ t. KeptAt (Expr q) t w) (sym a)
-    (subst (KeptAt (Expr q) (filled ps (under h ss))) (sym b) (expression_kept f ps o h ss r t.first t.second t.reads t.writes t.parts SameFixed q (same_fixed f ps o AsValue (under h ss) r t.reads t.writes t.parts u.2)))
+    (subst (KeptAt (Expr q) (filled ps (under h ss))) (sym b) (expression_kept f ps o h ss r t.first t.second t.reads t.writes t.parts SameFixed q (inl (same_inner f ps o AsValue (under h ss) r t.reads t.writes t.parts u.2)) (same_fixed f ps o AsValue (under h ss) r t.reads t.writes t.parts u.2)))
 
--- also such as declare what can't be written
+-- also such as have inner expressions, or declare what can't be written
 pub expressions_arranged_loosely : ExpressionsArrangedLoosely
-expressions_arranged_loosely f ps u (part i) r e q n w a b g = absurd (cc e)
-expressions_arranged_loosely f ps u (list is) r e q n w a b g = absurd (cc e)
-expressions_arranged_loosely f ps u (under h ss) r e q n w a b g =
+expressions_arranged_loosely f ps u (part i) r e q n w a b k g = absurd (cc e)
+expressions_arranged_loosely f ps u (list is) r e q n w a b k g = absurd (cc e)
+expressions_arranged_loosely f ps u (under h ss) r e q n w a b k g =
     let t = tested f h ss r e in
     subst (λ t. KeptLoosely (Expr q) t w) (sym a)
     (subst (KeptLoosely (Expr q) (filled ps (under h ss))) (sym b)
-    (expression_kept f ps u h ss r t.first t.second t.reads t.writes t.parts FixedKept q (subst (λ t. FixedKept (Expr q) t (filled ps r)) a (subst (FixedKept (Expr q) n) b g))))
+    (expression_kept f ps u h ss r t.first t.second t.reads t.writes t.parts FixedKept q (subst (λ t. InnerKept t (filled ps r)) a (subst (InnerKept n) b k)) (subst (λ t. FixedKept (Expr q) t (filled ps r)) a (subst (FixedKept (Expr q) n) b g))))
 
 -- where none is
 pub expressions_arranged : (ps : Parts) (s r : Sketch) → rearranges_expression still s r ≡ true → (q : Seat) (n w : Tree) → n ≡ filled ps s → w ≡ filled ps r → KeptAt (Expr q) n w

@@ -3,11 +3,10 @@ use Rattle.std.specs.Prelude.{ℕ, ◌+◌, ◌≤◌, ◌≡◌, refl, Bool, tr
 use Rattle.std.proofs.Common.{ap, ◌∙◌, sym, subst, arith}
 use Rattle.std.proofs.lemmas.Bool.{eqb-true}
 use Rattle.mini_model.specs.Tree.{Tree, Trees, none, ◌▸◌, child_or_absent}
-use Rattle.mini_laws.specs.DeclaredNames.{has_inner}
 use Rattle.mini_kept.proofs.Bools.{left, right}
 use Rattle.mini_rows.specs.Lists.{is_unscoped, are_unscoped}
 use Rattle.mini_rows.specs.Sketches.{Parts, list_at, Asked, AsWholeItem, AsBranch, AsItem, Leap, Hole, Part, Stretch, Leaps, has_as_often, has_each, Free, is_among, is_statement_asked, settled_as, all_settled, staying, is_rearranged}
-use Rattle.mini_rows.specs.Arranged.{Vanishes, AllUnscoped, ListsUnscoped, AllVanish, AllInnerless, AreFree, AreLoose}
+use Rattle.mini_rows.specs.Arranged.{Vanishes, AllUnscoped, ListsUnscoped, AllVanish, AreFree, AreLoose}
 use Rattle.mini_rows.proofs.Arranging.{All, Each, Any, some_each, often_each, sum_all, sum_each, sum_within}
 use Rattle.mini_rows.proofs.ArrangedValues.{Calm, Valued}
 
@@ -46,14 +45,6 @@ list_unscoped_at tss (j ∷ is) i u e = by (nat_eq j i) refl (list_unscoped_at t
     by true k f = subst (λ m. are_unscoped (list_at tss m) ≡ true) (eqb-true j i k) u.0
     by false k f = f (ap (λ b. b || is_among is i) (sym k) ∙ e)
 
-innerless_at : (ts : Trees) (is : List ℕ) (i : ℕ) → AllInnerless ts is → is_among is i ≡ true → has_inner (child_or_absent ts i) ≡ false
-innerless_at ts [] i u e = absurd (cc e)
-innerless_at ts (j ∷ is) i u e = by (nat_eq j i) refl (innerless_at ts is i u.1)
-  where
-    by : (b : Bool) → nat_eq j i ≡ b → (is_among is i ≡ true → has_inner (child_or_absent ts i) ≡ false) → has_inner (child_or_absent ts i) ≡ false
-    by true k f = subst (λ m. has_inner (child_or_absent ts m) ≡ false) (eqb-true j i k) u.0
-    by false k f = f (ap (λ b. b || is_among is i) (sym k) ∙ e)
-
 vanishes_at : (ts : Trees) (is : List ℕ) (i : ℕ) → AllVanish ts is → is_among is i ≡ true → Vanishes (child_or_absent ts i)
 vanishes_at ts [] i u e = absurd (cc e)
 vanishes_at ts (j ∷ is) i u e = by (nat_eq j i) refl (vanishes_at ts is i u.1)
@@ -69,18 +60,11 @@ pub lists_unscoped_among : (f : Free) (ps : Parts) → AreLoose ps f → (i : �
 lists_unscoped_among f ps u i e = list_unscoped_at ps.lists f.lists_moved i u.1 e
 
 -- what is dropped
-pub innerless_among : (f : Free) (ps : Parts) → AreLoose ps f → (i : ℕ) → is_among f.dropped i ≡ true → has_inner (child_or_absent ps.trees i) ≡ false
-innerless_among f ps u i e = innerless_at ps.trees f.dropped i u.2 e
-
 pub vanishes_among : (f : Free) (ps : Parts) → AllVanish ps.trees f.dropped → (i : ℕ) → is_among f.dropped i ≡ true → Vanishes (child_or_absent ps.trees i)
 vanishes_among f ps u i e = vanishes_at ps.trees f.dropped i u e
 
-all_innerless : (ts : Trees) (is : List ℕ) → AllVanish ts is → AllInnerless ts is
-all_innerless ts [] u = tt
-all_innerless ts (i ∷ is) u = (u.0.inner, all_innerless ts is u.1)
-
 pub loosened : (f : Free) (ps : Parts) → AreFree ps f → AreLoose ps f
-loosened f ps u = (u.0, u.1, all_innerless ps.trees f.dropped u.2)
+loosened f ps u = (u.0, u.1)
 
 -- ---- one part
 

@@ -1,6 +1,6 @@
 -- An expression that is built anew, with other expressions written for some of its parts, is kept.
 use Rattle.std.specs.Prelude.{◌≡◌, ◌&&◌, Bool, true, false, []}
-use Rattle.std.proofs.Common.{ap, ◌∙◌, sym, subst, arith}
+use Rattle.std.proofs.Common.{ap, ◌∙◌, sym, subst, arith, inl}
 use Rattle.std.proofs.lemmas.Bool.{and_parts}
 use Rattle.mini_model.specs.declared.place.Position.TheVariants.{Expr}
 use Rattle.mini_model.specs.declared.seat.Seat.{Seat}
@@ -21,7 +21,7 @@ use Rattle.mini_rows.specs.Sketches.{Head, shape_by, Sketch, part, under, list, 
 use Rattle.mini_rows.specs.Arranged.{SameFixed, KeptAt, AllVanish, AreFree, AreLoose, Rewritten, AreExpressions}
 use Rattle.mini_rows.proofs.ArrangedBodies.{quiet}
 use Rattle.mini_rows.proofs.ArrangedMoves.{loosened}
-use Rattle.mini_rows.proofs.ArrangedTrees.{same_fixed}
+use Rattle.mini_rows.proofs.ArrangedTrees.{same_inner, same_fixed}
 use Rattle.mini_rows.proofs.ArrangedValues.{is_no_inner, is_value}
 use Rattle.mini_rows.proofs.ArrangedExpressions.{expression_is_value, rested, read_here, expression_keeps, expression_kept, method_slot}
 use Rattle.mini_rows.proofs.ArrangedRewritten.{new_inner, new_fixed, new_declared, new_once, new_targets, new_scoped, new_symbols, new_numbers, new_bodies, new_frames}
@@ -37,7 +37,7 @@ module _ (f : Free) (ps qs : Parts) (u : AreLoose ps f) (o : AreLoose qs f) (h g
   w = filled qs (under g rs)
 
   base : KeptAt (Expr q) n m
-  base = expression_kept f ps u h ss (under g rs) e x sn sr y SameFixed q (same_fixed f ps u AsValue (under h ss) (under g rs) sn sr y v)
+  base = expression_kept f ps u h ss (under g rs) e x sn sr y SameFixed q (inl (same_inner f ps u AsValue (under h ss) (under g rs) sn sr y v)) (same_fixed f ps u AsValue (under h ss) (under g rs) sn sr y v)
 
   g_value : is_value (shape_by g) ≡ true
   g_value = expression_is_value g x
@@ -72,7 +72,7 @@ module _ (f : Free) (ps qs : Parts) (u : AreLoose ps f) (o : AreLoose qs f) (h g
 
   others_kept : KeptAt (Expr q) n w
   others_kept = record {
-    keeps = λ strict s p k. in_order (Expr q) n w (others_keep (expression_keeps f ps u h ss (under g rs) e x sn sr y q strict s k));
+    keeps = λ strict s p k. in_order (Expr q) n w (others_keep (expression_keeps f ps u h ss (under g rs) e x sn sr y q strict s k v));
     piece = base.piece;
     kind = base.kind;
     bodies = λ strict s p k a st. kept_on (bodies a n) (bodies a m) (bodies a w) (base.bodies strict s p k a st) (body_step strict s k a (st.function (method_slot f ps u h ss (under g rs) e x sn sr y strict s k)));

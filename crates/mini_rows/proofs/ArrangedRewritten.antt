@@ -201,7 +201,7 @@ module _ (f : Free) (ps qs : Parts) (u : AreLoose ps f) (o : AreLoose qs f) (h g
 
   pub rewritten_kept : KeptAt (Stmt q) (filled ps (under h ss)) (filled qs (under g rs))
   rewritten_kept = record {
-    keeps = λ strict s p k. in_order (Stmt q) (filled ps (under h ss)) (filled qs (under g rs)) (new_keeps f ps qs u o (under g rs) sr z strict (x strict s k) (middle_parts strict s k) q (filled ps (under h ss)) (no_loop g (all_filled qs rs) g_head ∙ sym (no_loop h (all_filled ps ss) h_head)) (statement_keeps f ps u h g ss rs sn sr y q strict s k));
+    keeps = λ strict s p k. in_order (Stmt q) (filled ps (under h ss)) (filled qs (under g rs)) (new_keeps f ps qs u o (under g rs) sr z strict (x strict s k) (middle_parts strict s k) q (filled ps (under h ss)) (no_loop g (all_filled qs rs) g_head ∙ sym (no_loop h (all_filled ps ss) h_head)) (statement_keeps f ps u h g ss rs sn sr y q v strict s k));
     piece = base.piece;
     kind = λ strict s k. kind_of_head h ∙ sym (kind_of_head g);
     bodies = λ strict s p k a st.

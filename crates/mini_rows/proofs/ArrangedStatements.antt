@@ -89,12 +89,12 @@ module _ (f : Free) (ps : Parts) (u : AreLoose ps f) (c : Asked) (p : Position) 
     same_names declared.Lexical = gathered Name (names_of declared.Lexical) (λ t. []) lexical_fold
     same_names declared.Hoisted = gathered Name (names_of declared.Hoisted) (names_of declared.Hoisted) hoisted_fold
 
-    pub names_kept : is_loop w ≡ is_loop n → Keeps p n w
-    names_kept l = record {
+    pub names_kept : AllVanish ps.trees f.dropped → is_loop w ≡ is_loop n → Keeps p n w
+    names_kept g l = record {
       kept = record {
         names = same_names;
         body = gathered Name body_names (names_of declared.Hoisted) body_fold;
-        inner = same_inner f ps u c s r sn sr parts_kept;
+        inner = same_inner f ps u c s r sn sr parts_kept g;
         symbols = λ o y. subst (λ m. times y (declared_in m w) ≤ times y (declared_in m n)) (whole_use c p o b) (same_symbols f ps u c s r sn sr parts_kept v o y);
       };
       scoped = λ o env k. subst (λ m. Scoped m env n → Scoped m env w) (whole_use c p o b) (same_scoped f ps u c s r sn sr parts_kept v o env);
@@ -159,14 +159,14 @@ module _ (f : Free) (ps : Parts) (u : AreLoose ps f) (h g : Head) (ss rs : Sketc
       subst (BodiesKept (bodies a (filled ps (under h ss)))) (sym (around_quiet a g (all_filled ps rs) k w_head))
       (subst (λ bs. BodiesKept bs (bodies (quiet a) (filled ps (under g rs)))) (sym (around_quiet a h (all_filled ps ss) k n_head)) (same_bodies f ps u AsWhole (under h ss) (under g rs) sn sr (parts_kept f ps u AsWhole (Stmt q) refl (under h ss) (under g rs) sn sr z) a))
 
-  pub statement_keeps : (strict : Bool) (s : Slot) → fits strict s (filled ps (under h ss)) ≡ true → Keeps (Stmt q) (filled ps (under h ss)) (filled ps (under g rs))
-  statement_keeps strict s k = names_kept f ps u AsWhole (Stmt q) refl (under h ss) (under g rs) sn sr z (head_valued ps strict AsWhole s h ss (not_list h n_head) k) (no_loop g (all_filled ps rs) w_head ∙ sym (no_loop h (all_filled ps ss) n_head))
+  pub statement_keeps : AllVanish ps.trees f.dropped → (strict : Bool) (s : Slot) → fits strict s (filled ps (under h ss)) ≡ true → Keeps (Stmt q) (filled ps (under h ss)) (filled ps (under g rs))
+  statement_keeps v strict s k = names_kept f ps u AsWhole (Stmt q) refl (under h ss) (under g rs) sn sr z (head_valued ps strict AsWhole s h ss (not_list h n_head) k) v (no_loop g (all_filled ps rs) w_head ∙ sym (no_loop h (all_filled ps ss) n_head))
 
   pub statement_kept : AllVanish ps.trees f.dropped → KeptAt (Stmt q) (filled ps (under h ss)) (filled ps (under g rs))
   statement_kept v =
       let y = parts_kept f ps u AsWhole (Stmt q) refl (under h ss) (under g rs) sn sr z in
       record {
-        keeps = λ strict s o k. in_order (Stmt q) (filled ps (under h ss)) (filled ps (under g rs)) (statement_keeps strict s k);
+        keeps = λ strict s o k. in_order (Stmt q) (filled ps (under h ss)) (filled ps (under g rs)) (statement_keeps v strict s k);
         piece = no_piece h (statement_no_piece h n_head);
         kind = λ strict s k. kind_of_head h ∙ sym (kind_of_head g);
         bodies = λ strict s o k a st. statement_bodies a (st.function (method_slot ps h ss strict s k));
@@ -263,7 +263,7 @@ module _ (f : Free) (ps : Parts) (u : AreLoose ps f) (is js : Items) (sn : items
   pub list_kept : AllVanish ps.trees f.dropped → KeptAt StatementList (listed (items_filled ps is)) (listed (items_filled ps js))
   list_kept g =
       list_kept_by f ps u is js sn sr rearranged g
-      (λ v. in_order StatementList (listed (items_filled ps is)) (listed (items_filled ps js)) (names_kept f ps u AsWholeList StatementList refl (list is) (list js) sn sr z v (same_loop (items_filled ps is) (items_filled ps js))))
+      (λ v. in_order StatementList (listed (items_filled ps is)) (listed (items_filled ps js)) (names_kept f ps u AsWholeList StatementList refl (list is) (list js) sn sr z v g (same_loop (items_filled ps is) (items_filled ps js))))
       same_ports
 
 pub lists_arranged : ListsArranged

@@ -27,7 +27,7 @@ use Rattle.mini_rows.proofs.Arranging.{Any, Each, Local, to_parts, of_parts, sum
 use Rattle.mini_rows.proofs.ArrangedNames.{ScopedAs, scoped_local, symbol_times, symbols_summed, number_times, numbers_summed, inner_local, once_local, HasTarget, aimed_local}
 use Rattle.mini_rows.proofs.ArrangedBodies.{quiet, bodies_local, frames_local, declares_local, rank, by_rank, fixed_local}
 use Rattle.mini_rows.proofs.ArrangedValues.{Valued}
-use Rattle.mini_rows.proofs.ArrangedMoves.{innerless_among, vanishes_among, forth, sum_forth, valued_there, anyhow_forth, anyhow_over}
+use Rattle.mini_rows.proofs.ArrangedMoves.{vanishes_among, forth, sum_forth, valued_there, anyhow_forth, anyhow_over}
 use Rattle.mini_rows.proofs.ArrangedPlain.{is_plain}
 use Rattle.mini_rows.proofs.ArrangedUses.{scoped_moves, symbols_moves}
 
@@ -54,10 +54,11 @@ module _ (f : Free) (ps : Parts) (u : AreLoose ps f) (c : Asked) (s r : Sketch) 
   over : (P : Tree → Type 0) → Local Any (λ d t. P t) → ((i : ℕ) → is_among f.dropped i ≡ true → P (child_or_absent ps.trees i)) → P w → P n
   over P l k a = of_parts Any (λ d t. P t) l ps c s (is_plain f ps u c s sn) (anyhow_over P f ps u (parts_of c s) (parts_of c r) z k (to_parts Any (λ d t. P t) l ps c r (is_plain f ps u c r sr) a))
 
-  pub same_inner : has_inner w ≡ has_inner n
-  same_inner =
+  -- where what is dropped has no inner expression
+  pub same_inner : AllVanish ps.trees f.dropped → has_inner w ≡ has_inner n
+  same_inner g =
       both_same (has_inner n) (has_inner w) (across Any (λ t. (has_inner t || has_inner n) ≡ has_inner n) (inner_local (has_inner n)) (itself (has_inner n)))
-      (over (λ t. (has_inner t || has_inner w) ≡ has_inner w) (inner_local (has_inner w)) (λ i e. ap (λ b. b || has_inner w) (innerless_among f ps u i e)) (itself (has_inner w)))
+      (over (λ t. (has_inner t || has_inner w) ≡ has_inner w) (inner_local (has_inner w)) (λ i e. ap (λ b. b || has_inner w) ((vanishes_among f ps g i e).inner)) (itself (has_inner w)))
 
   -- where what is dropped declares nothing that can't be written
   pub same_fixed : AllVanish ps.trees f.dropped → (y : Variable) → fixed_by n y ≡ fixed_by w y

@@ -123,13 +123,13 @@ module _ (f : Free) (ps : Parts) (u : AreLoose ps f) (is js : Items) (sn : items
         subst (λ r. NoMoreClash r (as_body o n)) (sym (put Declaration (as_body o) (as_body o) hoists (declared_fold o)))
         (subst (NoMoreClash (X t.before ++ (hoists branch ++ X t.after))) (sym (read Declaration (as_body o) (as_body o) hoists (declared_fold o))) (declared_twice (X t.before) (hoists branch) (X t.after)))
 
-    keeps : KeepsLoosely StatementList n w
-    keeps = record {
+    keeps : AllVanish ps.trees f.dropped → KeepsLoosely StatementList n w
+    keeps g = record {
       bound = direct Name (names_of declared.Bound) (names_of declared.Bound) bound_fold;
       lexical = direct Name (names_of declared.Lexical) (names_of declared.Lexical) lexical_fold;
       hoisted = same_hoisted;
       body = λ o env st k. same_body;
-      inner = inl (same_inner f ps u AsWholeList (list is) (list js) sn sr y);
+      inner = inl (same_inner f ps u AsWholeList (list is) (list js) sn sr y g);
       scoped = λ o env st k. same_scoped f ps u AsWholeList (list is) (list js) sn sr y v o env k;
       symbols = λ o env st k x. same_symbols f ps u AsWholeList (list is) (list js) sn sr y v o x;
       numbers = same_numbers f ps u AsWholeList (list is) (list js) sn sr y v;
@@ -145,7 +145,7 @@ module _ (f : Free) (ps : Parts) (u : AreLoose ps f) (is js : Items) (sn : items
     same_ports m = sym (same_trees (ports_of m (items_filled ps js)) (ports_of m (items_filled ps is)) (direct Tree (ports_in m) (port m) (ports_fold m)))
 
   pub list_kept_once : AllVanish ps.trees f.dropped → KeptAt StatementList n w
-  list_kept_once g = list_kept_by f ps u is js sn sr y g keeps (λ m v. same_ports v m)
+  list_kept_once g = list_kept_by f ps u is js sn sr y g (λ v. keeps v g) (λ m v. same_ports v m)
 
 pub lists_arranged_once : ListsArrangedOnce
 lists_arranged_once f ps u is js e n w a b =

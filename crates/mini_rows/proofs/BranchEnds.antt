@@ -172,18 +172,18 @@ module _ (p : Tree) (ps : Trees) (q r : Tree) (l : WrittenFor q r) where
   pub last_written : WrittenFor (sequence (p ▸ append ps (q ▸ none))) (sequence (p ▸ append ps (r ▸ none)))
   last_written = record {
     fitting = λ strict e. last_fits strict p ps q e r (l.fitting strict);
-    inner = new_inner still (parts p ps q) (parts p ps r) (tt, tt, tt) (tt, tt, tt) AsValue in_order refl (unchanged p, (refl, (l, tt)));
-    scoped = λ env s. new_scoped still (parts p ps q) (parts p ps r) (tt, tt, tt) (tt, tt, tt) AsValue in_order refl (unchanged p, (refl, (l, tt))) Read env s;
-    symbols = λ s. new_symbols still (parts p ps q) (parts p ps r) (tt, tt, tt) (tt, tt, tt) AsValue in_order refl (unchanged p, (refl, (l, tt))) Read s;
-    numbers = λ k. new_numbers still (parts p ps q) (parts p ps r) (tt, tt, tt) (tt, tt, tt) AsValue in_order refl (unchanged p, (refl, (l, tt))) k;
-    once = λ e. new_once still (parts p ps q) (parts p ps r) (tt, tt, tt) (tt, tt, tt) AsValue in_order refl (unchanged p, (refl, (l, tt))) e;
-    targets = λ g e. new_targets still (parts p ps q) (parts p ps r) (tt, tt, tt) (tt, tt, tt) AsValue in_order refl (unchanged p, (refl, (l, tt))) g e;
+    inner = new_inner still (parts p ps q) (parts p ps r) (tt, tt) (tt, tt) AsValue in_order refl (unchanged p, (refl, (l, tt)));
+    scoped = λ env s. new_scoped still (parts p ps q) (parts p ps r) (tt, tt) (tt, tt) AsValue in_order refl (unchanged p, (refl, (l, tt))) Read env s;
+    symbols = λ s. new_symbols still (parts p ps q) (parts p ps r) (tt, tt) (tt, tt) AsValue in_order refl (unchanged p, (refl, (l, tt))) Read s;
+    numbers = λ k. new_numbers still (parts p ps q) (parts p ps r) (tt, tt) (tt, tt) AsValue in_order refl (unchanged p, (refl, (l, tt))) k;
+    once = λ e. new_once still (parts p ps q) (parts p ps r) (tt, tt) (tt, tt) AsValue in_order refl (unchanged p, (refl, (l, tt))) e;
+    targets = λ g e. new_targets still (parts p ps q) (parts p ps r) (tt, tt) (tt, tt) AsValue in_order refl (unchanged p, (refl, (l, tt))) g e;
     bodies = λ strict e c d i. let (f, g) = last_is strict p ps q e in
         subst (λ h. BodiesKept (bodies h (sequence (p ▸ append ps (q ▸ none)))) (bodies h (sequence (p ▸ append ps (r ▸ none))))) (at_quiet c d i)
-        (new_bodies still (parts p ps q) (parts p ps r) (tt, tt, tt) (tt, tt, tt) AsValue in_order refl (unchanged p, (refl, (l, tt))) strict (f, (g, tt)) c);
-    frames = λ strict e. let (f, g) = last_is strict p ps q e in new_frames still (parts p ps q) (parts p ps r) (tt, tt, tt) (tt, tt, tt) AsValue in_order refl (unchanged p, (refl, (l, tt))) strict (f, (g, tt));
-    fixed = λ x. sym (new_fixed still (parts p ps q) (parts p ps r) (tt, tt, tt) (tt, tt, tt) AsValue in_order refl (unchanged p, (refl, (l, tt))) x);
-    declared = λ x c. new_declared still (parts p ps q) (parts p ps r) (tt, tt, tt) (tt, tt, tt) AsValue in_order refl (unchanged p, (refl, (l, tt))) x c;
+        (new_bodies still (parts p ps q) (parts p ps r) (tt, tt) (tt, tt) AsValue in_order refl (unchanged p, (refl, (l, tt))) strict (f, (g, tt)) c);
+    frames = λ strict e. let (f, g) = last_is strict p ps q e in new_frames still (parts p ps q) (parts p ps r) (tt, tt) (tt, tt) AsValue in_order refl (unchanged p, (refl, (l, tt))) strict (f, (g, tt));
+    fixed = λ x. sym (new_fixed still (parts p ps q) (parts p ps r) (tt, tt) (tt, tt) AsValue in_order refl (unchanged p, (refl, (l, tt))) x);
+    declared = λ x c. new_declared still (parts p ps q) (parts p ps r) (tt, tt) (tt, tt) AsValue in_order refl (unchanged p, (refl, (l, tt))) x c;
   }
 
 pub ending_written : (c : Ending) → WrittenFor (with_not c) (without_not c)

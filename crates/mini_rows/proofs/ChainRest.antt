@@ -1,7 +1,6 @@
 -- A chain of which what stands before its links stays, and undefined is written behind it: the same parts, but for those of the links.
-use Rattle.std.proofs.Common.{◌≡◌, ℕ, suc, Bool, true, false, List, [], ◌∷◌, refl, sym, ap, ◌∙◌}
+use Rattle.std.proofs.Common.{◌≡◌, ℕ, suc, Bool, true, false, List, [], ◌∷◌, refl, sym, ap, ◌∙◌, inr}
 use Rattle.std.specs.Prelude.{not, ◌||◌, ◌++◌, nat_eq, pos, if◌then◌else◌}
-use Rattle.std.proofs.lemmas.Bool.{and_parts}
 use Rattle.std.proofs.Common.{eq-eqb}
 use Rattle.std.proofs.lemmas.List.{append-nil}
 use Rattle.mini_model.specs.declared.operator.UnaryOperator.TheVariants.{Void}
@@ -10,14 +9,14 @@ use Rattle.mini_model.specs.declared.seat.Seat.{Seat}
 use Rattle.mini_model.specs.declared.shape.Shape.TheVariants as shape
 use Rattle.mini_model.specs.Tree.{Tree, Trees, node, none, ◌▸◌, child_or_absent}
 use Rattle.mini_kept.proofs.Bools.{both}
-use Rattle.mini_terms.specs.Parts.{leaves_nothing, leave_nothing}
-use Rattle.mini_rows.specs.Arranged.{KeptAt, AllVanish}
+use Rattle.mini_kept.specs.KeepsLoosely.{has_member}
+use Rattle.mini_kept.specs.Loosely.{FixedKept}
+use Rattle.mini_rows.specs.Arranged.{KeptLoosely}
 use Rattle.mini_rows.specs.Sketches.{Unary, Number, Sequence, Call, StaticMember, ComputedMember, Chain, Head, Sketch, part, under, list, end, ◌▹◌, item, no_items, Parts, filled, Asked, AsValue, AsValues, AsWord, Hole, Part, parts_of, Free, is_among, staying, all_settled, has_each, is_rearranged, stands_well, rearranges_expression}
 use Rattle.mini_rows.specs.Chains.{Link, a_member, a_computed, a_call, linked, chain}
 use Rattle.mini_rows.specs.ChainLinks.{Marked, marked, links_over}
 use Rattle.mini_rows.specs.ChainEnds.{key_of, keys_over}
-use Rattle.mini_rows.proofs.ArrangedExpressions.{expressions_arranged_freely}
-use Rattle.mini_rows.proofs.Vanishing.{vanishes}
+use Rattle.mini_rows.proofs.ArrangedExpressions.{expressions_arranged_loosely}
 
 -- ---- links as sketches, from the last one on, each with what stands in it as the part at the next index
 
@@ -98,16 +97,6 @@ numbers_from i (m ∷ ms) = i ∷ numbers_from (suc i) ms
 abbrev without_them : List ℕ → Free
 without_them is = record { moved = []; lists_moved = []; dropped = is }
 
-vanish_behind : (x : Tree) (ts : Trees) (i : ℕ) (ms : List Marked) → AllVanish ts (numbers_from i ms) → AllVanish (x ▸ ts) (numbers_from (suc i) ms)
-vanish_behind x ts i [] h = tt
-vanish_behind x ts i (m ∷ ms) h = (h.0, vanish_behind x ts (suc i) ms h.1)
-
-all_vanish : (ms : List Marked) → leave_nothing (keys_over ms) ≡ true → AllVanish (keys_over ms) (numbers_from 0 ms)
-all_vanish [] e = tt
-all_vanish (marked o l ∷ ms) e =
-    let (first, rest) = and_parts (leaves_nothing (key_of l)) (leave_nothing (keys_over ms)) e in
-    (vanishes (key_of l) first, vanish_behind (key_of l) (keys_over ms) 0 ms (all_vanish ms rest))
-
 -- parts that are all dropped
 abbrev Gone : List ℕ → List Hole → Type 0
 Gone is [] = Unit {0}
@@ -176,8 +165,8 @@ module _ (ms : List Marked) where
       both (stands_well (without_them numbers) AsValue before) _ (both (stands_well (without_them numbers) AsValue (sketch_over 1 ms (part 0))) true (over_stands (without_them numbers) 1 ms (part 0) refl) refl)
       (ap (λ hs. is_rearranged (without_them numbers) hs (Part 0 AsValue ∷ [])) before_holes ∙ only_first)
 
-  pub rest_kept : (q : Seat) (x : Tree) (n w : Tree) → leave_nothing (keys_over ms) ≡ true → n ≡ chain (links_over ms x) → w ≡ filled (record { trees = x ▸ keys_over ms; lists = [] }) then_void → KeptAt (Expr q) n w
-  rest_kept q x n w e f g =
+  pub rest_kept : (q : Seat) (x : Tree) (n w : Tree) → n ≡ chain (links_over ms x) → w ≡ filled (record { trees = x ▸ keys_over ms; lists = [] }) then_void → FixedKept (Expr q) n w → KeptLoosely (Expr q) n w
+  rest_kept q x n w f g k =
       let ps : Parts = record { trees = x ▸ keys_over ms; lists = [] } in
-      expressions_arranged_freely (without_them numbers) ps (tt, tt, vanish_behind x (keys_over ms) 0 ms (all_vanish ms e)) before then_void rearranged q n w
-      (f ∙ sym (ap chain (over_filled ps 1 ms (part 0) x refl (behind x (keys_over ms) 0 ms (themselves ms))))) g
+      expressions_arranged_loosely (without_them numbers) ps (tt, tt) before then_void rearranged q n w
+      (f ∙ sym (ap chain (over_filled ps 1 ms (part 0) x refl (behind x (keys_over ms) 0 ms (themselves ms))))) g (inr (ap has_member f)) k

@@ -28,18 +28,18 @@ use Rattle.mini_kept.specs.Carried.{numbers}
 use Rattle.mini_kept.specs.KeepsLoosely.{KeepsLoosely}
 use Rattle.mini_kept.specs.KeepsNames.{is_rewritten_place}
 use Rattle.mini_kept.specs.SameNames.{SameNames, SameScope, NoMoreClash}
-use Rattle.mini_kept.specs.Lawful.{Lawful}
+use Rattle.mini_kept.specs.KeepsShapes.{KeepsShapes}
 use Rattle.mini_kept.proofs.Quiet.{no_names, no_body_names, no_body_declarations, no_loop}
-use Rattle.mini_rows.specs.Arranged.{KeptAt, Vanishes}
+use Rattle.mini_rows.specs.Arranged.{KeptAt, KeptLoosely, Vanishes}
 use Rattle.mini_rows.specs.Sketches.{Unary, Binary, Logical, Conditional, Assignment, Parts, Sketch, part, under, end, ◌▹◌, Free, Null, Sequence, list, no_items, item, items}
 use Rattle.mini_model.specs.Paths.{append}
 use Rattle.mini_rows.specs.Lists.{sequence}
 use Rattle.mini_rows.specs.Spellings.{IsUndefined, void_zero, assignment}
-use Rattle.mini_rows.specs.Choices.{assign, deciding, strictly, loosely, joining, AreNullish, Row37, Row37After, asks_object, null_compared, held, ended, Row57, Row57Null, Key, Named, Spelled, Numbered, member_on, member_of, Row39, Row38, Row35, Row35Member, Row45, Row45Member, Row38Last, ChoiceRow, ChoiceContracts, Row46Equal, Row46Unequal, Row41Or, Row41And, Row42And, Row42Or, Row43Or, Row43And, Row43AndThen, Row43OrThen, Row49, Row13Both, LighterRow, OwnRow, HeldRow}
+use Rattle.mini_rows.specs.Choices.{assign, deciding, strictly, loosely, joining, AreNullish, Row37, Row37After, asks_object, null_compared, held, ended, Row57, Row57Null, Key, Named, Spelled, Numbered, member_on, member_of, Row39, Row38, Row35, Row35Member, Row45, Row45Member, Row38Last, ChoiceRow, ChoiceContracts, ChoicesLawful, ChoicesLoose, Row46Equal, Row46Unequal, Row41Or, Row41And, Row42And, Row42Or, Row43Or, Row43And, Row43AndThen, Row43OrThen, Row49, Row13Both, LighterRow, OwnRow, HeldRow}
 use Rattle.mini_rows.proofs.ChainLinkLawful.{chains_kept}
 use Rattle.mini_rows.proofs.ChainEndKept.{end_kept}
 use Rattle.mini_rows.proofs.ArrangedExpressions.{expressions_arranged, expressions_arranged_freely}
-use Rattle.mini_rows.proofs.ArrangedLawful.{kept_is_lawful}
+use Rattle.mini_rows.proofs.ArrangedLawful.{kept_loosely, fixed_is_lawful, kept_is_loose}
 use Rattle.mini_rows.proofs.ChainLawful.{chain_row_kept}
 use Rattle.mini_rows.proofs.ChoiceCalls.{calls_kept}
 use Rattle.mini_rows.proofs.ChoiceIndexed.{indexed_kept}
@@ -344,18 +344,18 @@ held_kept q n w (inr (inr (inr (inr (inl r))))) = and_then_kept q n w r
 held_kept q n w (inr (inr (inr (inr (inr (inl r)))))) = or_then_kept q n w r
 held_kept q n w (inr (inr (inr (inr (inr (inr r)))))) = both_kept q n w r
 
-expression_kept : (q : Seat) (n w : Tree) → ChoiceRow (Expr q) n w → KeptAt (Expr q) n w
-expression_kept q n w (inl r) = lighter_kept q n w r
-expression_kept q n w (inr (inl r)) = own_kept q n w r
-expression_kept q n w (inr (inr (inl r))) = held_kept q n w r
-expression_kept q n w (inr (inr (inr (inl r)))) = chain_row_kept q n w r (undefined_vanishes r.missing r.undefined)
-expression_kept q n w (inr (inr (inr (inr (inl r))))) = calls_kept q n w r
-expression_kept q n w (inr (inr (inr (inr (inr (inl r)))))) = chains_kept q n w r
+expression_kept : (q : Seat) (n w : Tree) → ChoiceRow (Expr q) n w → KeptLoosely (Expr q) n w
+expression_kept q n w (inl r) = kept_loosely (Expr q) n w (lighter_kept q n w r)
+expression_kept q n w (inr (inl r)) = kept_loosely (Expr q) n w (own_kept q n w r)
+expression_kept q n w (inr (inr (inl r))) = kept_loosely (Expr q) n w (held_kept q n w r)
+expression_kept q n w (inr (inr (inr (inl r)))) = kept_loosely (Expr q) n w (chain_row_kept q n w r (undefined_vanishes r.missing r.undefined))
+expression_kept q n w (inr (inr (inr (inr (inl r))))) = kept_loosely (Expr q) n w (calls_kept q n w r)
+expression_kept q n w (inr (inr (inr (inr (inr (inl r)))))) = kept_loosely (Expr q) n w (chains_kept q n w r)
 expression_kept q n w (inr (inr (inr (inr (inr (inr (inl r))))))) = end_kept q n w r
-expression_kept q n w (inr (inr (inr (inr (inr (inr (inr (inl r)))))))) = both_sides_kept q n w r
-expression_kept q n w (inr (inr (inr (inr (inr (inr (inr (inr r)))))))) = indexed_kept q n w r
+expression_kept q n w (inr (inr (inr (inr (inr (inr (inr (inl r)))))))) = kept_loosely (Expr q) n w (both_sides_kept q n w r)
+expression_kept q n w (inr (inr (inr (inr (inr (inr (inr (inr r)))))))) = kept_loosely (Expr q) n w (indexed_kept q n w r)
 
-kept : (p : Position) (n w : Tree) → ChoiceRow p n w → KeptAt p n w
+kept : (p : Position) (n w : Tree) → ChoiceRow p n w → KeptLoosely p n w
 kept (Expr q) n w r = expression_kept q n w r
 kept p n w r = absurd r
 
@@ -363,10 +363,11 @@ places : (p : Position) (n w : Tree) → ChoiceRow p n w → is_rewritten_place 
 places (Expr q) n w r = refl
 places p n w r = absurd r
 
-pub lawful : Lawful ChoiceContracts
-lawful =
-    kept_is_lawful ChoiceContracts choices_same
-    (record { fitting = λ p n w c strict s k e. row_fits p n w c.row strict s e; asked = λ p n w c. row_asked p n w c.row })
-    (λ p n w c. places p n w c.row)
-    (λ p n w c strict s k e. row_slot p n w c.row strict s e)
-    (λ p n w c. kept p n w c.row)
+shapes : KeepsShapes ChoiceContracts
+shapes = record { fitting = λ p n w c strict s k e. row_fits p n w c.row strict s e; asked = λ p n w c. row_asked p n w c.row }
+
+pub lawful : ChoicesLawful
+lawful = fixed_is_lawful ChoiceContracts choices_same shapes (λ p n w c. places p n w c.row) (λ p n w c strict s k e. row_slot p n w c.row strict s e) (λ p n w c. kept p n w c.row)
+
+pub loose : ChoicesLoose
+loose K = kept_is_loose ChoiceContracts choices_same shapes (λ p n w c. places p n w c.row) (λ p n w c strict s k e. row_slot p n w c.row strict s e) (λ p n w c. kept p n w c.row) K

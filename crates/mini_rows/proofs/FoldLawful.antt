@@ -1,6 +1,6 @@
 -- What each row on what is known writes keeps what a program has to keep.
-use Rattle.std.proofs.Common.{◌≡◌, Bool, true, false, [], refl, sym, true≢false}
-use Rattle.std.specs.Prelude.{◌&&◌, not}
+use Rattle.std.proofs.Common.{◌≡◌, Bool, true, false, [], refl, sym, ap, inr, true≢false}
+use Rattle.std.specs.Prelude.{◌&&◌}
 use Rattle.std.proofs.lemmas.Bool.{and_parts}
 use Rattle.mini_model.specs.declared.operator.BinaryOperator.{BinaryOperator}
 use Rattle.mini_model.specs.declared.operator.LogicalOperator.{LogicalOperator}
@@ -11,17 +11,16 @@ use Rattle.mini_model.specs.declared.seat.StmtSeat.{StmtSeat}
 use Rattle.mini_model.specs.declared.shape.Shape.TheVariants as shape
 use Rattle.mini_model.specs.Tree.{Tree, node, none, ◌▸◌, logical, conditional, expression_statement, empty_statement}
 use Rattle.mini_accept.specs.WellShaped.{Class, a_statement, an_init, an_arrow_body, an_expression, a_link, an_argument, a_key, a_private_or_key, an_inner_key, a_default_export, Slot, one, one_or_absent, fits, is_not_positive_number}
-use Rattle.mini_laws.specs.DeclaredNames.{has_inner}
 use Rattle.mini_kept.specs.KeepsShapes.{AskedAlike}
 use Rattle.mini_kept.specs.KeepsFrames.{is_in_body, is_body_slot}
+use Rattle.mini_kept.specs.KeepsLoosely.{has_member}
 use Rattle.mini_kept.proofs.Bools.{left}
 use Rattle.mini_kept.proofs.Expressions.{refused_here, expression, TakesExpressionIn, TakesExpression}
 use Rattle.mini_kept.proofs.Rows.{TakesStatementIn, TakesStatement}
 use Rattle.mini_terms.specs.Parts.{is_number, suits}
 use Rattle.mini_rows.specs.Arranged.{KeptAt, KeptLoosely}
 use Rattle.mini_rows.specs.Sketches.{Empty, OfExpression, Logical, Binary, Conditional, part, under, end, ◌▹◌}
-use Rattle.mini_rows.specs.Folding.{may_go, Row12, Row13, Row22, Row28, Row49Idle}
-use Rattle.mini_rows.specs.Lists.{encloses}
+use Rattle.mini_rows.specs.Folding.{Row12, Row13, Row22, Row28, Row49Idle}
 use Rattle.mini_rows.specs.Spellings.{binary}
 use Rattle.mini_rows.proofs.ArrangedExpressions.{expressions_arranged, expressions_arranged_freely, expressions_arranged_loosely}
 use Rattle.mini_rows.proofs.ArrangedStatements.{statements_arranged}
@@ -36,18 +35,11 @@ use Rattle.mini_rows.proofs.SpellShapes.{a_logical, a_binary, Alone, Linked, End
 pub passed_kept : (q : Seat) (n w : Tree) → Row13 q n w → KeptAt (Expr q) n w
 passed_kept q n w r = expressions_arranged_freely first_dropped (record { trees = r.left ▸ r.right ▸ none; lists = [] }) (tt, tt, (vanishes r.left r.dropped, tt)) (under (Logical r.operator) (part 0 ▹ part 1 ▹ end)) (part 1) refl q n w r.shape r.written
 
--- what goes may declare what can't be written
-not_true : (b : Bool) → not b ≡ true → b ≡ false
-not_true false e = refl
-not_true true e = sym e
-
-innerless : (t : Tree) → may_go t ≡ true → has_inner t ≡ false
-innerless t e = not_true (has_inner t) (and_parts (encloses false t) (not (has_inner t)) e).1
-
+-- what goes may be anything, and declare what can't be written
 pub stopped_kept : (q : Seat) (n w : Tree) → Row12 q n w → KeptLoosely (Expr q) n w
 stopped_kept q n w r =
-    expressions_arranged_loosely first_dropped (record { trees = r.right ▸ r.left ▸ none; lists = [] }) (tt, tt, (innerless r.right r.dropped, tt)) (under (Logical r.operator) (part 1 ▹ part 0 ▹ end)) (part 1) refl q n w r.shape r.written
-    (side_fixed q n w r.operator r.left r.right (and_parts (encloses false r.right) (not (has_inner r.right)) r.dropped).0 r.shape r.written)
+    expressions_arranged_loosely first_dropped (record { trees = r.right ▸ r.left ▸ none; lists = [] }) (tt, tt) (under (Logical r.operator) (part 1 ▹ part 0 ▹ end)) (part 1) refl q n w r.shape r.written
+    (inr (ap has_member r.shape)) (side_fixed q n w r.operator r.left r.right r.dropped r.shape r.written)
 
 pub loosened_kept : (q : Seat) (n w : Tree) → Row28 n w → KeptAt (Expr q) n w
 loosened_kept q n w r = expressions_arranged (record { trees = r.left ▸ r.right ▸ none; lists = [] }) (under (Binary r.operator) (part 0 ▹ part 1 ▹ end)) (under (Binary r.loose) (part 0 ▹ part 1 ▹ end)) refl q n w r.shape r.written

@@ -111,6 +111,7 @@ mod ForRowKept
 mod ForPartMeaning
 mod ForPartKept
 mod ChainEnds
+mod ChainGone
 mod ChainRest
 mod ChainEndKept
 mod ChoiceItems

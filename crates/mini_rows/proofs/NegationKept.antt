@@ -168,16 +168,16 @@ module _ (o : LogicalOperator) (a b x y : Tree) (l : WrittenFor a x) (r : Writte
   pub both_written : WrittenFor (logical o a b) (logical o x y)
   both_written = record {
     fitting = λ strict e. let (p, q) = of_two strict o a b e in two_fit strict x y (l.fitting strict p) (r.fitting strict q);
-    inner = new_inner still (two a b) (two x y) (tt, tt, tt) (tt, tt, tt) AsValue (sides o) refl (l, (r, tt));
-    scoped = λ env s. new_scoped still (two a b) (two x y) (tt, tt, tt) (tt, tt, tt) AsValue (sides o) refl (l, (r, tt)) Read env s;
-    symbols = λ s. new_symbols still (two a b) (two x y) (tt, tt, tt) (tt, tt, tt) AsValue (sides o) refl (l, (r, tt)) Read s;
-    numbers = λ k. new_numbers still (two a b) (two x y) (tt, tt, tt) (tt, tt, tt) AsValue (sides o) refl (l, (r, tt)) k;
-    once = λ e. new_once still (two a b) (two x y) (tt, tt, tt) (tt, tt, tt) AsValue (sides o) refl (l, (r, tt)) e;
-    targets = λ g e. new_targets still (two a b) (two x y) (tt, tt, tt) (tt, tt, tt) AsValue (sides o) refl (l, (r, tt)) g e;
-    bodies = λ strict e c d i. let (p, q) = of_two strict o a b e in subst (λ h. BodiesKept (bodies h (logical o a b)) (bodies h (logical o x y))) (at_quiet c d i) (new_bodies still (two a b) (two x y) (tt, tt, tt) (tt, tt, tt) AsValue (sides o) refl (l, (r, tt)) strict (p, (q, tt)) c);
-    frames = λ strict e. let (p, q) = of_two strict o a b e in new_frames still (two a b) (two x y) (tt, tt, tt) (tt, tt, tt) AsValue (sides o) refl (l, (r, tt)) strict (p, (q, tt));
-    fixed = λ s. sym (new_fixed still (two a b) (two x y) (tt, tt, tt) (tt, tt, tt) AsValue (sides o) refl (l, (r, tt)) s);
-    declared = λ s c. new_declared still (two a b) (two x y) (tt, tt, tt) (tt, tt, tt) AsValue (sides o) refl (l, (r, tt)) s c;
+    inner = new_inner still (two a b) (two x y) (tt, tt) (tt, tt) AsValue (sides o) refl (l, (r, tt));
+    scoped = λ env s. new_scoped still (two a b) (two x y) (tt, tt) (tt, tt) AsValue (sides o) refl (l, (r, tt)) Read env s;
+    symbols = λ s. new_symbols still (two a b) (two x y) (tt, tt) (tt, tt) AsValue (sides o) refl (l, (r, tt)) Read s;
+    numbers = λ k. new_numbers still (two a b) (two x y) (tt, tt) (tt, tt) AsValue (sides o) refl (l, (r, tt)) k;
+    once = λ e. new_once still (two a b) (two x y) (tt, tt) (tt, tt) AsValue (sides o) refl (l, (r, tt)) e;
+    targets = λ g e. new_targets still (two a b) (two x y) (tt, tt) (tt, tt) AsValue (sides o) refl (l, (r, tt)) g e;
+    bodies = λ strict e c d i. let (p, q) = of_two strict o a b e in subst (λ h. BodiesKept (bodies h (logical o a b)) (bodies h (logical o x y))) (at_quiet c d i) (new_bodies still (two a b) (two x y) (tt, tt) (tt, tt) AsValue (sides o) refl (l, (r, tt)) strict (p, (q, tt)) c);
+    frames = λ strict e. let (p, q) = of_two strict o a b e in new_frames still (two a b) (two x y) (tt, tt) (tt, tt) AsValue (sides o) refl (l, (r, tt)) strict (p, (q, tt));
+    fixed = λ s. sym (new_fixed still (two a b) (two x y) (tt, tt) (tt, tt) AsValue (sides o) refl (l, (r, tt)) s);
+    declared = λ s c. new_declared still (two a b) (two x y) (tt, tt) (tt, tt) AsValue (sides o) refl (l, (r, tt)) s c;
   }
 
 -- ---- all

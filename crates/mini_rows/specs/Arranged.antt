@@ -22,7 +22,7 @@ use Rattle.mini_laws.specs.Rewritten.{MeansSame}
 use Rattle.mini_kept.specs.AlikeBodies.{BodiesKept}
 use Rattle.mini_kept.specs.Declaring.{declared}
 use Rattle.mini_kept.specs.Frames.{is_declaration, is_port, ports as ports_of, frames, FramesKept}
-use Rattle.mini_kept.specs.KeepsLoosely.{KeepsLoosely}
+use Rattle.mini_kept.specs.KeepsLoosely.{InnerKept, KeepsLoosely}
 use Rattle.mini_kept.specs.KeepsNames.{is_rewritten_place, NamesOnce, HasTargets, count_of}
 use Rattle.mini_kept.specs.Carried.{numbers}
 use Rattle.mini_kept.specs.KeepsFrames.{is_body_slot}
@@ -85,13 +85,9 @@ AllVanish ts (i ∷ is) = Vanishes (child_or_absent ts i) × AllVanish ts is
 abbrev pub AreFree : Parts → Free → Type 0
 AreFree ps f = AllUnscoped ps.trees f.moved × ListsUnscoped ps.lists f.lists_moved × AllVanish ps.trees f.dropped
 
--- what is dropped may declare what can't be written
-abbrev pub AllInnerless : Trees → List ℕ → Type 0
-AllInnerless ts [] = Unit {0}
-AllInnerless ts (i ∷ is) = (has_inner (child_or_absent ts i) ≡ false) × AllInnerless ts is
-
+-- what is dropped may be anything
 abbrev pub AreLoose : Parts → Free → Type 0
-AreLoose ps f = AllUnscoped ps.trees f.moved × ListsUnscoped ps.lists f.lists_moved × AllInnerless ps.trees f.dropped
+AreLoose ps f = AllUnscoped ps.trees f.moved × ListsUnscoped ps.lists f.lists_moved
 
 -- ---- the laws
 
@@ -100,10 +96,10 @@ abbrev pub ExpressionsArranged : Type 0
 ExpressionsArranged =
     (f : Free) (ps : Parts) → AreFree ps f → (s r : Sketch) → rearranges_expression f s r ≡ true → (q : Seat) (n w : Tree) → n ≡ filled ps s → w ≡ filled ps r → KeptAt (Expr q) n w
 
--- so is one of which parts are dropped that declare what can't be written, but for what a write of each variable does
+-- so is one of which any parts are dropped, where it is no parameter, but for what a write of each variable does
 abbrev pub ExpressionsArrangedLoosely : Type 0
 ExpressionsArrangedLoosely =
-    (f : Free) (ps : Parts) → AreLoose ps f → (s r : Sketch) → rearranges_expression f s r ≡ true → (q : Seat) (n w : Tree) → n ≡ filled ps s → w ≡ filled ps r → FixedKept (Expr q) n w → KeptLoosely (Expr q) n w
+    (f : Free) (ps : Parts) → AreLoose ps f → (s r : Sketch) → rearranges_expression f s r ≡ true → (q : Seat) (n w : Tree) → n ≡ filled ps s → w ≡ filled ps r → InnerKept n w → FixedKept (Expr q) n w → KeptLoosely (Expr q) n w
 
 -- a statement that is built anew of the parts of another, which keep their order where they declare names
 abbrev pub StatementsArranged : Type 0

@@ -10,6 +10,7 @@ use Rattle.mini_model.specs.declared.operator.LogicalOperator.{LogicalOperator}
 use Rattle.mini_model.specs.declared.operator.LogicalOperator.TheVariants.{Or, And, Coalesce}
 use Rattle.mini_model.specs.declared.operator.UnaryOperator.TheVariants.{Typeof}
 use Rattle.mini_model.specs.declared.seat.Seat.{Seat}
+use Rattle.mini_model.specs.declared.shape.Shape.{Shape}
 use Rattle.mini_model.specs.declared.shape.Shape.TheVariants as shape
 use Rattle.mini_model.specs.Tree.{Tree, Trees, node, leaf, none, ◌▸◌, identifier, unary, negation, logical, conditional, null_literal, call}
 use Rattle.mini_model.specs.declared.place.Position.{Position}
@@ -20,6 +21,9 @@ use Rattle.mini_model.specs.Weight.{is_parenthesized, weight}
 use Rattle.mini_node.specs.Kinds.{static_member, computed_member}
 use Rattle.mini_terms.specs.Folds.{is_effect_free, goes_on}
 use Rattle.mini_terms.specs.Reading.{is_item, is_plain_part}
+use Rattle.mini_kept.specs.Lawful.{Lawful}
+use Rattle.mini_kept.specs.Loosely.{LawfulLoosely}
+use Rattle.mini_rows.specs.Arranged.{WhereFixed}
 use Rattle.mini_rows.specs.Lists.{sequence}
 use Rattle.mini_rows.specs.Spellings.{IsUndefined, binary, text, assignment}
 use Rattle.mini_rows.specs.Chains.{Row46Chain}
@@ -435,3 +439,13 @@ CallsLighter = (s : Seat) (n w : Tree) → Row44 n w → weight (Expr s) w < wei
 
 abbrev pub IndexedLighter : Type 0
 IndexedLighter = (s : Seat) (n w : Tree) → Row45Indexed s n w → weight (Expr s) w < weight (Expr s) n
+
+-- ---- the laws
+
+-- what it writes is lawful, where what a write of each variable does stays
+abbrev pub ChoicesLawful : Type 0
+ChoicesLawful = Lawful (WhereFixed ChoiceContracts)
+
+-- and loosely, where names go that are declared in what goes and can't be written
+abbrev pub ChoicesLoose : Type 0
+ChoicesLoose = (K : Shape → Bool) → LawfulLoosely K ChoiceContracts

@@ -1,6 +1,6 @@
 -- Rows on what is known of an expression from its text, as equations: each is a shape and what is written in its place, with the
 -- JavaScript before and after. No order of rewriting is meant.
-use Rattle.std.specs.Prelude.{◌≡◌, ℕ, not, pos, ◌<◌, ◌≤◌, ◌⊎◌, ◌&&◌, ◌||◌, Bool, true, false, List, [], ◌∷◌, length, codes, Option, Some, None}
+use Rattle.std.specs.Prelude.{◌≡◌, ℕ, pos, ◌<◌, ◌≤◌, ◌⊎◌, ◌&&◌, ◌||◌, Bool, true, false, List, [], ◌∷◌, length, codes, Option, Some, None}
 use Rattle.mini_model.specs.declared.name.Name.{Name}
 use Rattle.mini_model.specs.declared.operator.AssignmentOperator.{AssignmentOperator}
 use Rattle.mini_model.specs.declared.operator.AssignmentOperator.TheVariants.{Assign}
@@ -19,7 +19,6 @@ use Rattle.mini_model.specs.Weight.{same_text, weight}
 use Rattle.mini_node.specs.Children.{names_of, part}
 use Rattle.mini_node.specs.Kinds.{assignment_operator, is_identifier, is_static_member, is_computed_member}
 use Rattle.mini_terms.specs.Folds.{is_effect_free, has_one_kind, goes_on, stops}
-use Rattle.mini_laws.specs.DeclaredNames.{has_inner}
 use Rattle.mini_kept.specs.Lawful.{Lawful}
 use Rattle.mini_kept.specs.Loosely.{LawfulLoosely}
 use Rattle.mini_kept.specs.Placed.{is_chain_seat}
@@ -72,19 +71,15 @@ abbrev pub names_exports : LogicalOperator → Tree → Bool
 names_exports And b = assigns_exports b
 names_exports o b = false
 
--- It takes along what it declares that can't be written, as a function's own name, and no inner expression stands in it, which as a part
--- of a parameter would decide whether the body's `var`s are the parameters (ECMA-262, "FunctionDeclarationInstantiation")
-abbrev pub may_go : Tree → Bool
-may_go t = encloses false t && not (has_inner t)
-
--- 12, and 15 of `??`: where the right side is never evaluated, `0 && b`, `[] || b` and `"" ?? b` become their left sides
+-- 12, and 15 of `??`: where the right side is never evaluated, `0 && b`, `[] || b` and `"" ?? b` become their left sides; what goes takes
+-- along what it declares that can't be written, as a function's own name
 pub record Row12 (s : Seat) (n w : Tree) : Type 0 where
   pub operator : LogicalOperator
   pub left : Tree
   pub right : Tree
   pub known : stops operator left ≡ true
   pub nameless : names_exports operator right ≡ false
-  pub dropped : may_go right ≡ true
+  pub dropped : encloses false right ≡ true
   pub heavy : weighs right ≡ true
   pub stays : suits s left ≡ true
   pub shape : n ≡ logical operator left right

@@ -1,9 +1,8 @@
 //! The rows of conditionals, logical expressions and assignments.
 
-ghost use Rattle.mini_kept.specs.Lawful.{Lawful};
 ghost use Rattle.mini_laws.specs.Rewritten.{MeansSame};
 ghost use Rattle.mini_laws.specs.Weights.{Lightens};
-ghost use Rattle.mini_rows.specs.Choices.{ChoiceContracts, ChoicesLighter, CallsLighter, IndexedLighter};
+ghost use Rattle.mini_rows.specs.Choices.{ChoiceContracts, ChoicesLighter, CallsLighter, IndexedLighter, ChoicesLawful, ChoicesLoose};
 
 /// What a row of choices writes means the same wherever the expression stands, and a parent reads it alike.
 pub fn choices_mean_the_same()
@@ -19,7 +18,9 @@ pub fn choices_are_lighter()
     ensures step { Lightens ChoiceContracts }
 {}
 
-/// What a row of choices writes keeps all that a program has to keep.
+/// What a row of choices writes keeps all that a program has to keep, where what a write of each variable does stays; and so, but for names
+/// that are declared in what goes, where such names may go.
 pub fn choices_are_lawful()
-    ensures { Lawful ChoiceContracts }
+    ensures lawful { ChoicesLawful }
+    ensures loosely { ChoicesLoose }
 {}

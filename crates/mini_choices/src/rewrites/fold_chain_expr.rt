@@ -7,15 +7,16 @@ ghost use Rattle.mini_model.specs.Weight.{capped, weight};
 ghost use Rattle.mini_node.specs.Children.{part};
 ghost use Rattle.mini_rows.specs.ChainEnds.{is_nothing as is_it_nothing};
 ghost use Rattle.mini_rows.specs.Spellings.{void_zero as void_zero_of};
-ghost use Rattle.mini_choices.specs.FoldChainExpr.{ends_at_once as ends_it_at_once, base_of, links_leave_nothing as leave_its_links_nothing, ends_idly as ends_it_idly, may_end as may_it_end, acts as acts_it, ends_after as ends_it_after, may_end_after as may_it_end_after, base_then as base_then_of, after_written, written};
+ghost use Rattle.mini_choices.specs.FoldChainExpr.{ends_at_once as ends_it_at_once, base_of, links_enclose as its_links_enclose, ends_idly as ends_it_idly, may_end as may_it_end, acts as acts_it, ends_after as ends_it_after, may_end_after as may_it_end_after, base_then as base_then_of, after_written, written};
 
 use crate::rewrites::chain_links::{fold_links, is_chain, is_marked, is_step};
 use crate::rewrites::inject_optional_chaining::is_calm;
 use crate::rewrites::minimize_held_branches::pair;
 use crate::weights::pair_weight;
+use mini_held::takes_names_along;
 use mini_model::{LogicalOperator, OutOfMemory, Position, Seat, UnaryOperator};
 use mini_node::{Node, discard, numeric_literal, one, taken, two, unary};
-use mini_terms::{goes_on, has_no_effect, leaves_nothing, stands};
+use mini_terms::{goes_on, has_no_effect, stands};
 use mini_tree::expr_weight;
 use std::alloc::Global;
 
@@ -62,22 +63,22 @@ fn taken_base(node: Node) -> Node
     taken_base(before)
 }
 
-// Of the names, keys and arguments of the links nothing is left behind.
-#[tactic(auto, using(crate::proofs::ChainEnds::none_leave, crate::proofs::ChainEnds::below_leave))]
-fn links_leave_nothing(node: &Node) -> bool
-    ensures { result ≡ leave_its_links_nothing node.now }
+// The names, keys and arguments of the links take along the names in them that can't be written.
+#[tactic(auto, using(crate::proofs::ChainEnds::none_enclose, crate::proofs::ChainEnds::below_enclose))]
+fn links_enclose(node: &Node) -> bool
+    ensures { result ≡ its_links_enclose node.now }
 {
     if !is_step(node) {
         return true;
     }
-    leaves_nothing(node.child(1)) && links_leave_nothing(node.child(0))
+    takes_names_along(node.child(1)) && links_enclose(node.child(0))
 }
 
-// Of links that end at once, over what has no effect, nothing is left behind.
+// Links that end at once, over what has no effect, go with such names.
 fn ends_idly(node: &Node) -> bool
     ensures { result ≡ ends_it_idly node.now }
 {
-    ends_at_once(node) && has_no_effect(base(node)) && leaves_nothing(node)
+    ends_at_once(node) && has_no_effect(base(node)) && takes_names_along(node)
 }
 
 fn may_end(node: &Node) -> bool
@@ -97,7 +98,7 @@ fn acts(node: &Node) -> bool
 fn ends_after(node: &Node) -> bool
     ensures { result ≡ ends_it_after node.now }
 {
-    ends_at_once(node) && acts(base(node)) && links_leave_nothing(node)
+    ends_at_once(node) && acts(base(node)) && links_enclose(node)
 }
 
 fn may_end_after(node: &Node) -> bool

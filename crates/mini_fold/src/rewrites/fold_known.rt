@@ -14,7 +14,7 @@ use crate::rewrites::decrement_counter::decrement_counter;
 use crate::rewrites::fold_static_member::fold_static_member;
 use crate::rewrites::minimize_binary::minimize_binary;
 use crate::rewrites::remove_idle_head::{has_idle_head, remove_idle_head};
-use mini_held::may_go;
+use mini_held::takes_names_along;
 use mini_model::{LogicalOperator, OutOfMemory, Position, Seat, Shape};
 use mini_node::{
     Node, discard, empty_statement, is_conditional, is_expression_statement, is_same_tree,
@@ -41,7 +41,7 @@ fn is_stopped(seat: Seat, operator: LogicalOperator, left: &Node, right: &Node) 
 {
     stops(operator, left)
         && !names_exports(operator, right)
-        && may_go(right)
+        && takes_names_along(right)
         && weighs(right)
         && suits(seat, left)
 }
