@@ -49,7 +49,7 @@ use Rattle.mini_rows.proofs.ArrangedNames.{ScopedAs, scoped_local, symbol_times,
 use Rattle.mini_rows.proofs.ArrangedBodies.{quiet, HasBodies, bodies_local, HasFrames, frames_local, Among, Declares, declares_local, FixedBy, fixed_local, rank}
 use Rattle.mini_rows.proofs.ListKeptDeclarations.{all_both, over, is_var, body_are, names_if, declares_as, lets, scope_if, read_opens, own_fixed, own_both_fixed, fixed_down, fixed_up, either_up, either_down, names_are, declarations_are, used, scoped_down, scoped_up, symbols_are, inner_is, numbers_are, declared_are, frames_are, bodies_are, once_is, jumps_are}
 use Rattle.mini_rows.proofs.ListKeptStretch.{joined, parted, stretched, sum_joined, sum_stretched}
-use Rattle.mini_rows.proofs.SingleUse.{Lead, Not, Plus, Minus, Tilde, Typing, Emptying, Beside, Deciding, Choosing, Passing, Called, Making, Waiting, Member, Keyed, Linking, Holding, Against, Given, Filling, Keying, Following, Branching, Failing, Storing, Targeted, Changing, Gathering, Fielding, Spreading, Bracketing, Doing, Giving, Raising, Testing, head_of, before, Step, led, is_end, Stands, Well, statement, swapped, taken, swapped_sum, unnamed}
+use Rattle.mini_rows.proofs.SingleUse.{Lead, Not, Plus, Minus, Tilde, Typing, Emptying, Beside, Deciding, Choosing, Passing, Called, Making, Waiting, Member, Keyed, Linking, Holding, Against, Given, Filling, Keying, Following, Branching, Failing, Storing, Targeted, Changing, Gathering, Fielding, Spreading, Bracketing, Doing, Giving, Raising, Testing, head_of, before, Step, led, is_end, Stands, Well, statement, swapped, taken, swapped_sum, unnamed, found, by_front, ends_short, swapped_back}
 use Rattle.mini_rows.proofs.UnusedKept.{LeavesThere, NamesThere, DeclaresThere, alone_stricter}
 use Rattle.mini_rows.proofs.UnusedNames.{Other, or_parts, all_unmentioned, declared_other, all_other, unmentioned}
 
@@ -476,46 +476,50 @@ plain_hoists : (t : Tree) → is_plain_part t ≡ true → names_of declared.Hoi
 unfolding names_of
 plain_hoists (node h xs n ts) e = ap (λ p. names_by p xs (first_names ts) (all_names declared.Bound ts) (all_names declared.Hoisted ts)) (hoists_by h (first_of (are_plain_parts ts)) e)
 
-led_hoists : (c : Asked) (ss : List Step) → Well c ss → c ≡ AsValue → (t : Tree) → names_of declared.Hoisted t ≡ [] → names_of declared.Hoisted (led ss t) ≡ []
+value_hoists : (l : Lead) (b : Bool) → Stands AsValue l b → (u : Tree) (ts : Trees) → names_of declared.Hoisted (node (shape_by (head_of l)) [] 0 (append (before l) (u ▸ ts))) ≡ []
 unfolding names_of
-led_hoists AsValue [] w q t e = e
-led_hoists c [] w q t e = absurd w
-led_hoists AsValue (s ∷ ss) w q t e = by s.lead (is_end ss) w.0
-  where
-    by : (l : Lead) (b : Bool) → Stands AsValue l b → names_of declared.Hoisted (node (shape_by (head_of l)) [] 0 (append (before l) (led ss t ▸ s.rest))) ≡ []
-    by Not b w = refl
-    by Plus b w = refl
-    by Minus b w = refl
-    by Tilde b w = refl
-    by Typing b w = refl
-    by Emptying b w = refl
-    by (Beside o) b w = refl
-    by (Deciding o) b w = refl
-    by Choosing b w = refl
-    by Passing b w = refl
-    by (Called o) b w = refl
-    by Making b w = refl
-    by (Waiting d) b w = refl
-    by (Member o) b w = refl
-    by (Keyed o) b w = refl
-    by Linking b w = refl
-    by Holding b w = refl
-    by Gathering b w = refl
-    by Spreading b w = refl
-    by Bracketing b w = refl
-    by (Against o a) b w = refl
-    by (Given o a) b w = refl
-    by (Filling a) b w = refl
-    by (Keying o a) b w = refl
-    by (Following o a) b w = refl
-    by (Branching a) b w = refl
-    by (Failing a d) b w = refl
-    by (Storing o a) b w = refl
-    by (Targeted o) b w = refl
-    by (Changing o p) b w = refl
-    by (Fielding g a) b w = refl
-    by l b w = absurd w
-led_hoists c (s ∷ ss) w q t e = absurd (cc q)
+value_hoists Not b w u ts = refl
+value_hoists Plus b w u ts = refl
+value_hoists Minus b w u ts = refl
+value_hoists Tilde b w u ts = refl
+value_hoists Typing b w u ts = refl
+value_hoists Emptying b w u ts = refl
+value_hoists (Beside o) b w u ts = refl
+value_hoists (Deciding o) b w u ts = refl
+value_hoists Choosing b w u ts = refl
+value_hoists Passing b w u ts = refl
+value_hoists (Called o) b w u ts = refl
+value_hoists Making b w u ts = refl
+value_hoists (Waiting d) b w u ts = refl
+value_hoists (Member o) b w u ts = refl
+value_hoists (Keyed o) b w u ts = refl
+value_hoists Linking b w u ts = refl
+value_hoists Holding b w u ts = refl
+value_hoists Gathering b w u ts = refl
+value_hoists Spreading b w u ts = refl
+value_hoists Bracketing b w u ts = refl
+value_hoists (Against o a) b w u ts = refl
+value_hoists (Given o a) b w u ts = refl
+value_hoists (Filling a) b w u ts = refl
+value_hoists (Keying o a) b w u ts = refl
+value_hoists (Following o a) b w u ts = refl
+value_hoists (Branching a) b w u ts = refl
+value_hoists (Failing a d) b w u ts = refl
+value_hoists (Storing o a) b w u ts = refl
+value_hoists (Targeted o) b w u ts = refl
+value_hoists (Changing o p) b w u ts = refl
+value_hoists (Fielding g a) b w u ts = refl
+value_hoists l b w u ts = absurd w
+
+led_hoists : (ss : List Step) → Well AsValue ss → (t : Tree) → names_of declared.Hoisted t ≡ [] → names_of declared.Hoisted (led ss t) ≡ []
+led_hoists [] w t e = e
+led_hoists (s ∷ ss) w t e = value_hoists s.lead (is_end ss) w.0 (led ss t) s.rest
+
+found_hoists : (ss : List Step) → Well AsValue ss → (t : Tree) → names_of declared.Hoisted t ≡ [] → names_of declared.Hoisted (found ss t) ≡ []
+unfolding names_of
+found_hoists [] w t e = e
+found_hoists (s ∷ ss) w t e =
+    by_front (λ l h. Stands AsValue l (is_end ss) → names_of declared.Hoisted (node (shape_by h) [] 0 (append (before l) (found ss t ▸ s.rest))) ≡ []) (λ l v. value_hoists l (is_end ss) v (found ss t) s.rest) (λ a o v. refl) (ends_short s ss) s.lead w.0
 
 name_hoists : (y : Name) → names_of declared.Hoisted (identifier y) ≡ []
 unfolding names_of
@@ -585,7 +589,7 @@ module _ (K : VariableDeclarationKind) (x : Name) (first : Trees) (init : Tree) 
 
 module _ (K : VariableDeclarationKind) (x : Name) (k : ℕ) (e : x.symbol ≡ symbol k) (first : Trees) (init : Tree) (f : any_names x first ≡ false) (ss : List Step) (w : Well AsWholeItem ss) (y : Name) (g : names x (led ss init) ≡ false) where
   abbrev head : Tree
-  head = led ss (identifier y)
+  head = found ss (identifier y)
 
   abbrev put : Tree
   put = led ss init
@@ -600,7 +604,7 @@ module _ (K : VariableDeclarationKind) (x : Name) (k : ℕ) (e : x.symbol ≡ sy
   moved J Q l h a = let (p, q) = h a.0 in (p, (swapped J Q l AsWholeItem ss w (identifier y) init (λ z. q) a.1.0, tt))
 
   moved_back : (J : Leap → Type 0) (Q : Asked → Tree → Type 0) → Local J Q → Q AsValue (identifier y) → (Q AsWholeItem (declared_left K first) → Q AsValue init → Q AsWholeItem (declared_among K x first init none)) → All Q AsWholeItem later → All Q AsWholeItem earlier
-  moved_back J Q l o h a = (h a.0 (taken J Q l AsWholeItem ss w init a.1.0), (swapped J Q l AsWholeItem ss w init (identifier y) (λ z. o) a.1.0, tt))
+  moved_back J Q l o h a = (h a.0 (taken J Q l AsWholeItem ss w init a.1.0), (swapped_back J Q l AsWholeItem ss w init (identifier y) (λ z. o) a.1.0, tt))
 
   there_leaves : LeavesThere x earlier later
   unfolding Unmentioned has_inner
@@ -622,23 +626,23 @@ module _ (K : VariableDeclarationKind) (x : Name) (k : ℕ) (e : x.symbol ≡ sy
 
 -- the two as paths
 module _ (K : VariableDeclarationKind) (x : Name) (k : ℕ) (e : x.symbol ≡ symbol k) (first : Trees) (init head : Tree) (plain : is_plain_part init ≡ true) (r : reads_first x head ≡ true) (i : names x init ≡ false) (f : any_names x first ≡ false) (P : Trees → Trees → Type 0)
-    (by : (ss : List Step) → Well AsWholeItem ss → (y : Name) → names x (led ss init) ≡ false → Named (led ss (identifier y)) (led ss init) → P (declared_among K x first init none ▸ (led ss (identifier y) ▸ none)) (declared_left K first ▸ (led ss init ▸ none))) where
+    (by : (ss : List Step) → Well AsWholeItem ss → (y : Name) → names x (led ss init) ≡ false → Named (found ss (identifier y)) (led ss init) → P (declared_among K x first init none ▸ (found ss (identifier y) ▸ none)) (declared_left K first ▸ (led ss init ▸ none))) where
   along : P (declared_among K x first init none ▸ (head ▸ none)) (declared_left K first ▸ (put_first x init head ▸ none))
   along =
       let t = statement x head r in
-      let step : Step = record { lead = t.lead; rest = t.rest } in
+      let step : Step = record { lead = t.lead; rest = t.rest; is_short = false } in
       let steps : List Step = step ∷ t.path.steps in
       let one = λ (u : Tree). led (step ∷ []) u in
-      let there : head ≡ led steps (identifier t.path.read) = t.is ∙ t.along t.inner ∙ ap one t.path.is in
+      let there : head ≡ found steps (identifier t.path.read) = t.is ∙ t.along t.inner ∙ ap one t.path.is in
       let put : put_first x init head ≡ led steps init = t.puts init ∙ t.along (put_first x init t.inner) ∙ ap one (t.path.puts init) in
       subst₂ (λ h w. P (declared_among K x first init none ▸ (h ▸ none)) (declared_left K first ▸ (w ▸ none))) (sym there) (sym put)
-      (by steps (t.stands (is_end t.path.steps), subst (λ c. Well c t.path.steps) (sym (t.below AsWholeItem)) t.path.well) t.path.read (unnamed x steps ((ap (any_names x) t.front, t.free), t.path.spared) init i) (subst₂ Named (t.along (led t.path.steps (identifier t.path.read))) (t.along (led t.path.steps init)) (stated t.lead (t.stands true) (led t.path.steps (identifier t.path.read)) (led t.path.steps init) t.rest (led_hoists AsValue t.path.steps t.path.well refl (identifier t.path.read) (name_hoists t.path.read)) (led_hoists AsValue t.path.steps t.path.well refl init (plain_hoists init plain)))))
+      (by steps (t.stands (is_end t.path.steps), subst (λ c. Well c t.path.steps) (sym (t.below AsWholeItem)) t.path.well) t.path.read (unnamed x steps ((ap (any_names x) t.front, t.free), t.path.spared) init i) (subst₂ Named (t.along (found t.path.steps (identifier t.path.read))) (t.along (led t.path.steps init)) (stated t.lead (t.stands true) (found t.path.steps (identifier t.path.read)) (led t.path.steps init) t.rest (found_hoists t.path.steps t.path.well (identifier t.path.read) (name_hoists t.path.read)) (led_hoists t.path.steps t.path.well init (plain_hoists init plain)))))
 
 pub single_leaves : (K : VariableDeclarationKind) (x : Name) (k : ℕ) → x.symbol ≡ symbol k → (first : Trees) (init head : Tree) → is_plain_part init ≡ true → reads_first x head ≡ true → names x init ≡ false → any_names x first ≡ false → LeavesThere x (declared_among K x first init none ▸ (head ▸ none)) (declared_left K first ▸ (put_first x init head ▸ none))
 single_leaves K x k e first init head plain r i f = along K x k e first init head plain r i f (LeavesThere x) (λ ss w y g n. there_leaves K x k e first init f ss w y g)
 
 pub single_names : (K : VariableDeclarationKind) (x : Name) (k : ℕ) → x.symbol ≡ symbol k → (first : Trees) (init head : Tree) → is_plain_part init ≡ true → reads_first x head ≡ true → names x init ≡ false → any_names x first ≡ false → is_lexical K ≡ true → NamesThere x (declared_among K x first init none ▸ (head ▸ none)) (declared_left K first ▸ (put_first x init head ▸ none))
-single_names K x k e first init head plain r i f l = along K x k e first init head plain r i f (NamesThere x) (λ ss w y g n. named_names K x first init f (led ss (identifier y)) (led ss init) g n l)
+single_names K x k e first init head plain r i f l = along K x k e first init head plain r i f (NamesThere x) (λ ss w y g n. named_names K x first init f (found ss (identifier y)) (led ss init) g n l)
 
 pub single_declares : (K : VariableDeclarationKind) (x : Name) (k : ℕ) → x.symbol ≡ symbol k → (first : Trees) (init head : Tree) → is_plain_part init ≡ true → reads_first x head ≡ true → names x init ≡ false → any_names x first ≡ false → DeclaresThere x (declared_among K x first init none ▸ (head ▸ none)) (declared_left K first ▸ (put_first x init head ▸ none))
-single_declares K x k e first init head plain r i f = along K x k e first init head plain r i f (DeclaresThere x) (λ ss w y g n. named_declares K x first init f (led ss (identifier y)) (led ss init) g n)
+single_declares K x k e first init head plain r i f = along K x k e first init head plain r i f (DeclaresThere x) (λ ss w y g n. named_declares K x first init f (found ss (identifier y)) (led ss init) g n)

@@ -38,7 +38,7 @@ use Rattle.mini_rows.proofs.NextKept.{given, next_unnamed, inner_value, fixed_va
 use Rattle.mini_rows.proofs.ListKeptHeads.{seated}
 use Rattle.mini_rows.proofs.OpeningKept.{opening_leaves, opening_names, opening_declares}
 use Rattle.mini_rows.proofs.OverKept.{over_leaves, over_names, over_declares}
-use Rattle.mini_rows.proofs.SingleUse.{Step, led, Well, Spared, Path, path, Initial, Outside, Over, Heads, heads, swapped, taken, swapped_sum}
+use Rattle.mini_rows.proofs.SingleUse.{Step, led, Well, Spared, Path, path, Initial, Outside, Over, Heads, heads, swapped, taken, swapped_sum, found, swapped_back}
 use Rattle.mini_rows.proofs.UnusedKept.{LeavesThere, NamesThere, DeclaresThere}
 use Rattle.mini_rows.proofs.UnusedNames.{Other, all_other}
 
@@ -51,7 +51,7 @@ other_if x false xs o = tt
 
 module _ (K : VariableDeclarationKind) (x : Name) (k : ℕ) (e : x.symbol ≡ symbol k) (first : Trees) (init : Tree) (f : any_names x first ≡ false) (H : VariableDeclarationKind) (id : Tree) (last : Trees) (ss : List Step) (w : Well AsValue ss) (r : Name) (g : any_names x (given id (led ss init) ▸ last) ≡ false) where
   abbrev value : Tree
-  value = led ss (identifier r)
+  value = found ss (identifier r)
 
   abbrev put : Tree
   put = led ss init
@@ -73,7 +73,7 @@ module _ (K : VariableDeclarationKind) (x : Name) (k : ℕ) (e : x.symbol ≡ sy
   with_it J Q l down up i = stretched J Q l none last (given id value ▸ none) (given id put ▸ none) (λ a. (up a.0 (swapped J Q l AsValue ss w (identifier r) init (λ z. i) (down value a.0)), tt))
 
   without_it : (J : Leap → Type 0) (Q : Asked → Tree → Type 0) → Local J Q → ((v : Tree) → Q AsWholeItem (given id v) → Q AsValue v) → (Q AsWholeItem (given id put) → Q AsValue value → Q AsWholeItem (given id value)) → Q AsValue (identifier r) → Q AsWholeList (listed here) → Q AsWholeList (listed there)
-  without_it J Q l down up o = stretched J Q l none last (given id put ▸ none) (given id value ▸ none) (λ a. (up a.0 (swapped J Q l AsValue ss w init (identifier r) (λ z. o) (down put a.0)), tt))
+  without_it J Q l down up o = stretched J Q l none last (given id put ▸ none) (given id value ▸ none) (λ a. (up a.0 (swapped_back J Q l AsValue ss w init (identifier r) (λ z. o) (down put a.0)), tt))
 
   -- and of what moves
   moved_out : (J : Leap → Type 0) (Q : Asked → Tree → Type 0) → Local J Q → ((v : Tree) → Q AsWholeItem (given id v) → Q AsValue v) → Q AsWholeList (listed here) → Q AsValue init
@@ -175,18 +175,18 @@ module _ (K : VariableDeclarationKind) (x : Name) (k : ℕ) (e : x.symbol ≡ sy
   abbrev Written : (P : Trees → Trees → Type 0) → Tree → Tree → Type 0
   Written P h w = P (declared_among K x first init none ▸ (h ▸ none)) (declared_left K first ▸ (w ▸ none))
 
-  initial_along : (t : Initial x head) (P : Trees → Trees → Type 0) → ((ss : List Step) → Well AsValue ss → (r : Name) → any_names x (given t.binds (led ss init) ▸ t.last) ≡ false → Written P (made t.kind (given t.binds (led ss (identifier r)) ▸ t.last)) (made t.kind (given t.binds (led ss init) ▸ t.last))) → Written P head (put_first x init head)
+  initial_along : (t : Initial x head) (P : Trees → Trees → Type 0) → ((ss : List Step) → Well AsValue ss → (r : Name) → any_names x (given t.binds (led ss init) ▸ t.last) ≡ false → Written P (made t.kind (given t.binds (found ss (identifier r)) ▸ t.last)) (made t.kind (given t.binds (led ss init) ▸ t.last))) → Written P head (put_first x init head)
   initial_along t P h =
       let p : Path x AsValue t.value = path x false t.value t.once in
       let free = ap (λ u. any_names x (given t.binds u ▸ t.last)) (sym (p.puts init)) ∙ next_unnamed x t.binds t.value t.once init i t.other t.last t.later in
       subst₂ (Written P) (sym (t.is ∙ ap (λ u. declaration t.kind (declarator t.binds u ▸ t.last)) p.is)) (sym (t.puts init ∙ ap (λ u. declaration t.kind (declarator t.binds u ▸ t.last)) (p.puts init))) (h p.steps p.well p.read free)
 
-  outside_along : (t : Outside x head) (P : Trees → Trees → Type 0) → ((ss : List Step) → Well AsValue ss → Spared x ss → (r : Name) → Written P (seated t.seat (led ss (identifier r))) (seated t.seat (led ss init))) → Written P head (put_first x init head)
+  outside_along : (t : Outside x head) (P : Trees → Trees → Type 0) → ((ss : List Step) → Well AsValue ss → Spared x ss → (r : Name) → Written P (seated t.seat (found ss (identifier r))) (seated t.seat (led ss init))) → Written P head (put_first x init head)
   outside_along t P h =
       let p : Path x AsValue t.value = path x false t.value t.once in
       subst₂ (Written P) (sym (t.is ∙ ap (seated t.seat) p.is)) (sym (t.puts init ∙ ap (seated t.seat) (p.puts init))) (h p.steps p.well p.spared p.read)
 
-  over_along : (t : Over x head) (P : Trees → Trees → Type 0) → ((ss : List Step) → Well AsValue ss → Spared x ss → (r : Name) → Written P (each_loop t.kind t.left (led ss (identifier r)) t.body) (each_loop t.kind t.left (led ss init) t.body)) → Written P head (put_first x init head)
+  over_along : (t : Over x head) (P : Trees → Trees → Type 0) → ((ss : List Step) → Well AsValue ss → Spared x ss → (r : Name) → Written P (each_loop t.kind t.left (found ss (identifier r)) t.body) (each_loop t.kind t.left (led ss init) t.body)) → Written P head (put_first x init head)
   over_along t P h =
       let p : Path x AsValue t.value = path x false t.value t.once in
       let loops = λ (u : Tree). each_loop t.kind t.left u t.body in

@@ -176,6 +176,7 @@ pub mod ConstantMeaning
 pub mod ConstantWeights
 pub mod ConstantLawful
 pub mod UnusedMeaning
+pub mod FoundReads
 pub mod UnusedKept
 pub mod UnusedLawful
 pub mod UnusedWeights

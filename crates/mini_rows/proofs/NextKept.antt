@@ -48,7 +48,7 @@ use Rattle.mini_rows.proofs.ArrangedBodies.{split_bodies, split_frames, split_na
 use Rattle.mini_rows.proofs.DeclaredKept.{none_in, made, scoped_left, symbols_down, symbols_left, numbers_left, inner_left, inner_down, inner_up, inner_list, once_left, once_down, targets_left, targets_down, frames_left, bodies_left, declares_left, fixed_left, fixed_list, unmentioned_left, lexical_names, lexical_names_left, hoists_nothing, hoists_nothing_left, body_names_left, clash_less}
 use Rattle.mini_rows.proofs.ListKeptDeclarations.{split_rank, both_rank, all_both, is_var, body_are, lets, own_fixed, own_both_fixed, fixed_down, fixed_up, either_up, either_down, declarations_are, used, scoped_down, numbers_are, declared_are, frames_are, bodies_are}
 use Rattle.mini_rows.proofs.ListKeptStretch.{stretched, sum_stretched}
-use Rattle.mini_rows.proofs.SingleUse.{Step, led, Well, Path, path, swapped, taken, swapped_sum, unnamed}
+use Rattle.mini_rows.proofs.SingleUse.{Step, led, Well, Path, path, swapped, taken, swapped_sum, unnamed, found, swapped_back}
 use Rattle.mini_rows.proofs.UnusedKept.{LeavesThere, NamesThere, DeclaresThere, alone_stricter}
 use Rattle.mini_rows.proofs.UnusedNames.{Other, all_other}
 
@@ -176,7 +176,7 @@ symbol_sum u z id v =
 
 module _ (K : VariableDeclarationKind) (x : Name) (k : ℕ) (e : x.symbol ≡ symbol k) (first : Trees) (init id : Tree) (last : Trees) (ss : List Step) (w : Well AsValue ss) (r : Name) (f : any_names x first ≡ false) (g : any_names x (given id (led ss init) ▸ last) ≡ false) where
   abbrev value : Tree
-  value = led ss (identifier r)
+  value = found ss (identifier r)
 
   abbrev put : Tree
   put = led ss init
@@ -198,7 +198,7 @@ module _ (K : VariableDeclarationKind) (x : Name) (k : ℕ) (e : x.symbol ≡ sy
   shorter J Q l down up = stretched J Q l first last two one (λ a. (up a.1.0 (swapped J Q l AsValue ss w (identifier r) init (λ z. down (binding x) init a.0) (down id value a.1.0)), tt))
 
   longer : (J : Leap → Type 0) (Q : Asked → Tree → Type 0) → Local J Q → ((d v : Tree) → Q AsWholeItem (given d v) → Q AsValue v) → (Q AsValue init → Q AsWholeItem (given (binding x) init)) → (Q AsWholeItem (given id put) → Q AsValue value → Q AsWholeItem (given id value)) → Q AsValue (identifier r) → Q AsWholeList (listed left) → Q AsWholeList (listed whole)
-  longer J Q l down alone up o = stretched J Q l first last one two (λ a. let q = down id put a.0 in (alone (taken J Q l AsValue ss w init q), (up a.0 (swapped J Q l AsValue ss w init (identifier r) (λ z. o) q), tt)))
+  longer J Q l down alone up o = stretched J Q l first last one two (λ a. let q = down id put a.0 in (alone (taken J Q l AsValue ss w init q), (up a.0 (swapped_back J Q l AsValue ss w init (identifier r) (λ z. o) q), tt)))
 
   -- and what is counted
   fewer : (m : Asked → Tree → ℕ) → Summed m → (n : Tree → ℕ) → ((d v : Tree) → m AsWholeItem (given d v) ≡ n d + m AsValue v) → m AsWholeList (listed left) ≤ m AsWholeList (listed whole)
@@ -330,7 +330,7 @@ module _ (K : VariableDeclarationKind) (x : Name) (k : ℕ) (e : x.symbol ≡ sy
   unnamed_there : any_names x (given id (led p.steps init) ▸ last) ≡ false
   unnamed_there = ap (λ t. any_names x (given id t ▸ last)) (sym (p.puts init)) ∙ next_unnamed x id value once init i o last g
 
-  along : (P : Trees → Trees → Type 0) → P (made K (append first (given (binding x) init ▸ (given id (led p.steps (identifier p.read)) ▸ last))) ▸ none) (declared_left K (append first (given id (led p.steps init) ▸ last)) ▸ none) → P with_it without_it
+  along : (P : Trees → Trees → Type 0) → P (made K (append first (given (binding x) init ▸ (given id (found p.steps (identifier p.read)) ▸ last))) ▸ none) (declared_left K (append first (given id (led p.steps init) ▸ last)) ▸ none) → P with_it without_it
   along P h = subst₂ P (λ j. made K (append first (given (binding x) init ▸ (given id (sym p.is j) ▸ last))) ▸ none) ((λ j. declared_left K (append first (given id (sym (p.puts init) j) ▸ last)) ▸ none) ∙ ap (λ d. d ▸ none) (left_is K first (given id (put_first x init value)) last)) h
 
   pub next_leaves : LeavesThere x with_it without_it

@@ -27,12 +27,14 @@ use Rattle.mini_rows.specs.Declarations.{binding, declarator}
 use Rattle.mini_rows.specs.Sketches.{shape_by, AsValue}
 use Rattle.mini_rows.specs.Unused.{resolved, names, any_names, declared_among, may_move, is_first, put_first, are_passed, Row71Next}
 use Rattle.mini_rows.proofs.FoldMeaning.{plain_read}
+use Rattle.mini_rows.proofs.FoundReads.{path_same, read_there}
 use Rattle.mini_rows.proofs.ListStretches.{lets_append}
 use Rattle.mini_rows.proofs.ListStatements.{declaration_is, declare_more, declare_none, declarations_join}
 use Rattle.mini_rows.proofs.ItemReads.{plain_item}
+use Rattle.mini_rows.proofs.SpellAlike.{SameTree}
 use Rattle.mini_rows.proofs.SingleUse.{Lead, Not, head_of, before, Step, Path, path, led}
 use Rattle.mini_rows.proofs.ConstantUse.{moves_there}
-use Rattle.mini_rows.proofs.UnusedMeaning.{ReadAs, declared_lets, declared_then, movable, one_same, both_go, same_symbol, block_same, read_alone, never_written, lexical_alone}
+use Rattle.mini_rows.proofs.UnusedMeaning.{ReadAs, declared_lets, declared_then, movable, one_same, both_go, block_same, read_alone, never_written, lexical_alone}
 use Rattle.mini_rows.proofs.UnusedNames.{avoided, all_avoided}
 use Rattle.mini_rows.proofs.DeclaredKept.{none_in}
 use Rattle.mini_rows.proofs.NextKept.{next_unnamed}
@@ -100,19 +102,19 @@ module _ (e : Environment) (spelling : List ℕ) (k : ℕ) (z : Unseen (alone (D
   abbrev there : Tree
   there = led reading.steps (identifier (resolved reading.read.spelling k))
 
-  read_is : value ≡ there
-  read_is = reading.is ∙ ap (λ y. led reading.steps (identifier (record { spelling = reading.read.spelling; symbol = y }))) (same_symbol k reading.read.symbol reading.same)
+  same_there : SameTree value there
+  same_there = path_same x k refl AsValue value reading
 
   put_is : put_first x init value ≡ led reading.steps init
   put_is = reading.puts init
 
   value_goes : (s : State) → Go (either (means e init (As Val) tt s) (λ v t. means e value (As Val) tt (after v t)) (λ y t. stop y t)) (means e (put_first x init value) (As Val) tt s)
   value_goes s =
-      subst₂ (λ h w. Go (either (means e init (As Val) tt s) (λ v t. means e h (As Val) tt (after v t)) (λ y t. stop y t)) (means e w (As Val) tt s)) (sym read_is) (sym put_is)
+      subst₂ Go (read_there e k init value there same_there (As Val) tt s) (ap (λ w. means e w (As Val) tt s) (sym put_is))
       (moves_there e k z x refl reading.read.spelling init plain (plain_item init (movable init moves)) AsValue reading.steps reading.well reading.spared (reading.passed_in false init passed) (As Val) tt tt tt s)
 
   value_there : (summary value).facts.absent ≡ false
-  value_there = ap (λ t. (summary t).facts.absent) read_is ∙ led_there reading.steps (identifier (resolved reading.read.spelling k)) refl
+  value_there = ap (λ i. i.facts.absent) same_there.read ∙ led_there reading.steps (identifier (resolved reading.read.spelling k)) refl
 
   put_there : (summary (put_first x init value)).facts.absent ≡ false
   put_there = ap (λ t. (summary t).facts.absent) put_is ∙ led_there reading.steps init (sym (ap (λ i. i.facts.absent) plain))

@@ -34,7 +34,7 @@ use Rattle.mini_rows.proofs.ArrangedBodies.{quiet, HasBodies, bodies_local, HasF
 use Rattle.mini_rows.proofs.ArrangedValues.{is_value}
 use Rattle.mini_rows.proofs.DeclaredKept.{Named, unmentioned_left, scoped_both, symbols_both, numbers_both, inner_both, once_both, targets_both, frames_both, bodies_both, declares_both, fixed_both, inner_back, fixed_back, named_names, named_declares}
 use Rattle.mini_rows.proofs.ListKeptHeads.{Seat, Loop, Choice, seated, rest, inner_down, inner_up, fixed_down, fixed_up, declares_down, declares_up, frames_beside, frames_down, frames_up, bodies_down, bodies_up, numbers_beside, jumps_beside, aimed_down, aimed_up, declared_beside, names_beside, value_unlexical, once_down, once_up, ScopedBeside, scoped_down, scoped_up, symbols_beside, seated_symbols, seated_hoists, seated_body, seated_as_body}
-use Rattle.mini_rows.proofs.SingleUse.{Lead, Not, Plus, Minus, Tilde, Typing, Emptying, Beside, Deciding, Choosing, Passing, Called, Making, Waiting, Member, Keyed, Linking, Holding, Against, Given, Filling, Keying, Following, Branching, Failing, Storing, Targeted, Changing, Gathering, Fielding, Spreading, Bracketing, head_of, Stands, Step, led, is_end, Well, Spared, swapped, taken, swapped_sum, unnamed}
+use Rattle.mini_rows.proofs.SingleUse.{Lead, Not, Plus, Minus, Tilde, Typing, Emptying, Beside, Deciding, Choosing, Passing, Called, Making, Waiting, Member, Keyed, Linking, Holding, Against, Given, Filling, Keying, Following, Branching, Failing, Storing, Targeted, Changing, Gathering, Fielding, Spreading, Bracketing, head_of, Stands, Step, led, is_end, Well, Spared, swapped, taken, swapped_sum, unnamed, found, by_front, swapped_back, ends_short}
 use Rattle.mini_rows.proofs.UnusedKept.{LeavesThere, NamesThere, DeclaresThere}
 use Rattle.mini_rows.proofs.UnusedNames.{unmentioned}
 
@@ -121,6 +121,10 @@ led_value (s ∷ ss) w t e = by s.lead (is_end ss) w.0
     by (Fielding g a) b s = refl
     by l b s = absurd s
 
+pub found_value : (ss : List Step) → Well AsValue ss → (t : Tree) → is_value (shape_of t) ≡ true → is_value (shape_of (found ss t)) ≡ true
+found_value [] w t e = e
+found_value (s ∷ ss) w t e = by_front (λ l h. is_value (shape_by (head_of l)) ≡ true → is_value (shape_by h) ≡ true) (λ l f. f) (λ a o f. refl) (ends_short s ss) s.lead (led_value (s ∷ ss) w t e)
+
 module _ (s : Seat) (e j : Tree) (of_e : is_value (shape_of e) ≡ true) (of_j : is_value (shape_of j) ≡ true) where
   same_hoists : names_of declared.Hoisted (seated s j) ≡ names_of declared.Hoisted (seated s e)
   same_hoists = seated_hoists s j of_j ∙ sym (seated_hoists s e of_e)
@@ -146,7 +150,7 @@ module _ (s : Seat) (e j : Tree) (of_e : is_value (shape_of e) ≡ true) (of_j :
 
 module _ (K : VariableDeclarationKind) (x : Name) (k : ℕ) (e : x.symbol ≡ symbol k) (first : Trees) (init : Tree) (plain : is_plain_part init ≡ true) (f : any_names x first ≡ false) (i : names x init ≡ false) (s : Seat) (beside : any_names x (rest s) ≡ false) (ss : List Step) (w : Well AsValue ss) (spared : Spared x ss) (r : Name) where
   abbrev value : Tree
-  value = led ss (identifier r)
+  value = found ss (identifier r)
 
   abbrev put : Tree
   put = led ss init
@@ -158,7 +162,7 @@ module _ (K : VariableDeclarationKind) (x : Name) (k : ℕ) (e : x.symbol ≡ sy
   later = declared_left K first ▸ (seated s put ▸ none)
 
   of_value : is_value (shape_of value) ≡ true
-  of_value = led_value ss w (identifier r) refl
+  of_value = found_value ss w (identifier r) refl
 
   of_put : is_value (shape_of put) ≡ true
   of_put = led_value ss w init (plain_value init plain)
@@ -179,7 +183,7 @@ module _ (K : VariableDeclarationKind) (x : Name) (k : ℕ) (e : x.symbol ≡ sy
   moved_back : (Q : Asked → Tree → Type 0) → Local Any Q → (R : Type 0) → Q AsValue (identifier r) → (Q AsWholeItem (declared_left K first) → Q AsValue init → Q AsWholeItem (declared_among K x first init none)) → (Q AsWholeItem (seated s put) → Q AsValue put × R) → (Q AsValue value → R → Q AsWholeItem (seated s value)) → All Q AsWholeItem later → All Q AsWholeItem earlier
   moved_back Q l R o both down up a =
       let (v, b) = down a.1.0 in
-      (both a.0 (taken Any Q l AsValue ss w init v), (up (swapped Any Q l AsValue ss w init (identifier r) (λ z. o) v) b, tt))
+      (both a.0 (taken Any Q l AsValue ss w init v), (up (swapped_back Any Q l AsValue ss w init (identifier r) (λ z. o) v) b, tt))
 
   pub opening_leaves : LeavesThere x earlier later
   unfolding Unmentioned has_inner

@@ -25,8 +25,8 @@ use Rattle.mini_rows.proofs.DeclaredKept.{Named, unmentioned_left, scoped_both, 
 use Rattle.mini_rows.proofs.ListKeptKeys.{scope, left_scope, var_lexical}
 use Rattle.mini_rows.proofs.ListKeptSpots.{inner_loop, fixed_loop, declares_loop, frames_loop, bodies_loop, targets_loop, once_loop, scoped_loop, same_loop, numbers_loop, symbols_loop}
 use Rattle.mini_rows.proofs.ListKeptValues.{Opens}
-use Rattle.mini_rows.proofs.OpeningKept.{plain_value, led_value}
-use Rattle.mini_rows.proofs.SingleUse.{Step, led, Well, Spared, swapped, taken, swapped_sum, unnamed}
+use Rattle.mini_rows.proofs.OpeningKept.{plain_value, led_value, found_value}
+use Rattle.mini_rows.proofs.SingleUse.{Step, led, Well, Spared, swapped, taken, swapped_sum, unnamed, found, swapped_back}
 use Rattle.mini_rows.proofs.UnusedKept.{LeavesThere, NamesThere, DeclaresThere}
 use Rattle.mini_rows.proofs.UnusedNames.{unmentioned}
 
@@ -92,7 +92,7 @@ module _ (c : Each) (l w : Tree) where
 
 module _ (K : VariableDeclarationKind) (x : Name) (k : ℕ) (e : x.symbol ≡ symbol k) (first : Trees) (init : Tree) (plain : is_plain_part init ≡ true) (f : any_names x first ≡ false) (i : names x init ≡ false) (c : Each) (l w : Tree) (open_left : is_open_left l ≡ true) (other : names x l ≡ false) (after : any_names x (w ▸ none) ≡ false) (ss : List Step) (well : Well AsValue ss) (spared : Spared x ss) (r : Name) where
   abbrev value : Tree
-  value = led ss (identifier r)
+  value = found ss (identifier r)
 
   abbrev put : Tree
   put = led ss init
@@ -104,7 +104,7 @@ module _ (K : VariableDeclarationKind) (x : Name) (k : ℕ) (e : x.symbol ≡ sy
   later = declared_left K first ▸ (loops c l w put ▸ none)
 
   of_value : is_value (shape_of value) ≡ true
-  of_value = led_value ss well (identifier r) refl
+  of_value = found_value ss well (identifier r) refl
 
   of_put : is_value (shape_of put) ≡ true
   of_put = led_value ss well init (plain_value init plain)
@@ -124,7 +124,7 @@ module _ (K : VariableDeclarationKind) (x : Name) (k : ℕ) (e : x.symbol ≡ sy
   moved_back : (Q : Asked → Tree → Type 0) → Local Any Q → Q AsValue (identifier r) → (Q AsWholeItem (declared_left K first) → Q AsValue init → Q AsWholeItem (declared_among K x first init none)) → Opens Q (loops c l w) put value → All Q AsWholeItem later → All Q AsWholeItem earlier
   moved_back Q n o both opens a =
       let (v, b) = opens.down a.1.0 in
-      (both a.0 (taken Any Q n AsValue ss well init v), (opens.up (swapped Any Q n AsValue ss well init (identifier r) (λ z. o) v) b, tt))
+      (both a.0 (taken Any Q n AsValue ss well init v), (opens.up (swapped_back Any Q n AsValue ss well init (identifier r) (λ z. o) v) b, tt))
 
   pub over_leaves : LeavesThere x earlier later
   unfolding Unmentioned has_inner

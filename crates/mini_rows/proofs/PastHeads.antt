@@ -26,7 +26,9 @@ use Rattle.mini_rows.proofs.PastMeaning.{read_named, statement_goes}
 use Rattle.mini_rows.proofs.PastNext.{initial_goes}
 use Rattle.mini_rows.proofs.PastParts.{Still, path_held}
 use Rattle.mini_rows.proofs.PastRuns.{past_goes}
+use Rattle.mini_rows.proofs.FoundReads.{path_as, path_same, seated_same, loop_same, goes_as}
 use Rattle.mini_rows.proofs.SingleUse.{Path, path, led, Indirect, mentioned, Over, Heads, heads}
+use Rattle.mini_rows.proofs.SpellAlike.{SameTree}
 use Rattle.mini_rows.proofs.UnusedMeaning.{GoesWith, same_symbol, movable}
 use Rattle.mini_rows.proofs.UnusedNames.{avoided, all_avoided}
 
@@ -47,24 +49,29 @@ module _ (e : Environment) (spelling : List ℕ) (k : ℕ) (z : Unseen (alone (D
     reading : Path x AsValue value
     reading = path x false value once
 
-    read_is : value ≡ led reading.steps (identifier (resolved reading.read.spelling k))
-    read_is = reading.is ∙ ap (λ y. led reading.steps (identifier (record { spelling = reading.read.spelling; symbol = y }))) (same_symbol k reading.read.symbol reading.same)
+    abbrev there : Tree
+    there = led reading.steps (identifier (resolved reading.read.spelling k))
+
+    same_there : SameTree value there
+    same_there = path_same x k refl AsValue value reading
 
     value_goes : (v : Want) (r : Request (As v)) (s : State) → Initialised H s → Go (either (means e init (As Val) tt s) (λ p t. means e (led reading.steps (identifier (resolved reading.read.spelling k))) (As v) r (after p t)) (λ y t. stop y t)) (means e (led reading.steps init) (As v) r s)
     value_goes v r s ready =
         past_goes e k z init s x refl reading.read.spelling (sym (plain_read init (movable init moves))) (plain_item init (movable init moves)) AsValue reading.steps reading.well reading.spared
-        (path_held e k z init s H still ready x refl reading.steps (resolved reading.read.spelling k) (read_named spelling k reading.read.spelling) (subst (λ y. Indirect (identifier (record { spelling = reading.read.spelling; symbol = y })) reading.steps) (same_symbol k reading.read.symbol reading.same) reading.direct) reading.spared (sym (ap (are_past H x init) read_is) ∙ passed)) (As v) tt r tt
+        (path_held e k z init s H still ready x refl reading.steps (resolved reading.read.spelling k) (read_named spelling k reading.read.spelling) (subst (λ y. Indirect (identifier (record { spelling = reading.read.spelling; symbol = y })) reading.steps) (same_symbol k reading.read.symbol reading.same) reading.direct) reading.spared (sym (ap (are_past H x init) (path_as x k refl AsValue value reading)) ∙ passed)) (As v) tt r tt
 
     scope_goes : (c : Seat) → any_names x (rest c) ≡ false → (s : State) → Initialised H s → GoesWith e k init (seated c value) (seated c (put_first x init value)) s
     scope_goes c beside s ready =
-        subst₂ (λ h w. GoesWith e k init h w s) (ap (seated c) (sym read_is)) (ap (seated c) (sym (reading.puts init)))
-        (outside_goes e k z x refl reading.read.spelling init (sym (plain_read init (movable init moves))) reading.steps reading.well (Initialised H) value_goes c beside s ready)
+        subst (λ w. GoesWith e k init (seated c value) w s) (ap (seated c) (sym (reading.puts init)))
+        (goes_as e k init (seated c value) (seated c there) (seated_same c value there same_there) (seated c (led reading.steps init)) s
+        (outside_goes e k z x refl reading.read.spelling init (sym (plain_read init (movable init moves))) reading.steps reading.well (Initialised H) value_goes c beside s ready))
 
     loop_goes : (t : Over x head) → t.value ≡ value → (s : State) → Initialised H s → GoesWith e k init (each_loop t.kind t.left value t.body) (each_loop t.kind t.left (put_first x init value) t.body) s
     loop_goes t same s ready =
         let loops = λ (u : Tree). each_loop t.kind t.left u t.body in
-        subst₂ (λ h w. GoesWith e k init h w s) (ap loops (sym read_is)) (ap loops (sym (reading.puts init)))
-        (each_goes e k z x refl reading.read.spelling init reading.steps (Initialised H) (value_goes Val tt) t.kind t.left t.body t.plain t.other t.later s ready)
+        subst (λ w. GoesWith e k init (loops value) w s) (ap loops (sym (reading.puts init)))
+        (goes_as e k init (loops value) (loops there) (loop_same t.kind t.left value there t.body same_there) (loops (led reading.steps init)) s
+        (each_goes e k z x refl reading.read.spelling init reading.steps (Initialised H) (value_goes Val tt) t.kind t.left t.body t.plain t.other t.later s ready))
 
   -- what a statement that opens a scope evaluates before all else
   seated_past : (c : Seat) (value : Tree) → names x value ≡ true → are_past H x init (seated c value) ≡ true → are_past H x init value ≡ true

@@ -29,15 +29,16 @@ use Rattle.mini_kept.specs.AlikeBodies.{RunsAs}
 use Rattle.mini_kept.specs.Without.{Assured, Steadies, Begins, Unseen}
 use Rattle.mini_rows.specs.Lists.{declaration}
 use Rattle.mini_rows.specs.Past.{any_bind, is_let, begun, held, are_past}
-use Rattle.mini_rows.specs.Sketches.{AsWholeItem}
+use Rattle.mini_rows.specs.Sketches.{AsWholeItem, AsValue}
 use Rattle.mini_rows.specs.Unused.{resolved, names, any_names, declared_one, declared_left, may_move, statements, static_block, put_first, reads_first}
 use Rattle.mini_rows.proofs.FoldMeaning.{plain_read}
+use Rattle.mini_rows.proofs.FoundReads.{found_same, path_as, goes_as}
 use Rattle.mini_rows.proofs.ItemReads.{plain_item}
 use Rattle.mini_rows.proofs.ListStretches.{exec_one, exec_two, exec_more, exec_append, listed_is}
 use Rattle.mini_rows.proofs.ListStatements.{declarations_join, empty_is}
 use Rattle.mini_rows.proofs.PastParts.{Still, path_held}
 use Rattle.mini_rows.proofs.PastRuns.{past_goes}
-use Rattle.mini_rows.proofs.SingleUse.{Step, led, is_end, Well, Indirect, Spared, statement, or_true}
+use Rattle.mini_rows.proofs.SingleUse.{Step, led, is_end, Well, Indirect, Spared, statement, or_true, found}
 use Rattle.mini_rows.proofs.Unbound.{unhidden}
 use Rattle.mini_rows.proofs.UnusedMeaning.{GoesWith, ReadThere, declared_then, list_read, all_join, same_append, same_symbol, movable}
 
@@ -77,17 +78,18 @@ module _ (e : Environment) (spelling : List ℕ) (k : ℕ) (z : Unseen (alone (D
   pub statement_goes : reads_first x head ≡ true → are_past H x init head ≡ true → (s : State) → Initialised H s → GoesWith e k init head (put_first x init head) s
   statement_goes once passed s ready =
       let t = statement x head once in
-      let step : Step = record { lead = t.lead; rest = t.rest } in
+      let step : Step = record { lead = t.lead; rest = t.rest; is_short = false } in
       let steps : List Step = step ∷ t.path.steps in
       let reading = t.path.read in
       let read_as : identifier reading ≡ identifier (resolved reading.spelling k) = ap (λ y. identifier (record { spelling = reading.spelling; symbol = y })) (same_symbol k reading.symbol t.path.same) in
       let one = λ (u : Tree). led (step ∷ []) u in
-      let there : head ≡ led steps (identifier (resolved reading.spelling k)) = t.is ∙ t.along t.inner ∙ ap one (t.path.is ∙ ap (led t.path.steps) read_as) in
+      let there : head ≡ found steps (identifier (resolved reading.spelling k)) = t.is ∙ t.along t.inner ∙ ap one (path_as x k refl AsValue t.inner t.path) in
       let put : put_first x init head ≡ led steps init = t.puts init ∙ t.along (put_first x init t.inner) ∙ ap one (t.path.puts init) in
       let spared : Spared x steps = ((ap (any_names x) t.front, t.free), t.path.spared) in
-      let past = path_held e k z init s H still ready x refl steps (resolved reading.spelling k) (read_named spelling k reading.spelling) (t.direct (led t.path.steps (identifier (resolved reading.spelling k))), subst (λ u. Indirect u t.path.steps) read_as t.path.direct) spared (sym (ap (are_past H x init) there) ∙ passed) in
+      let past = path_held e k z init s H still ready x refl steps (resolved reading.spelling k) (read_named spelling k reading.spelling) (t.direct (found t.path.steps (identifier (resolved reading.spelling k))), subst (λ u. Indirect u t.path.steps) read_as t.path.direct) spared (sym (ap (are_past H x init) there) ∙ passed) in
       subst₂ (λ h w. GoesWith e k init h w s) (sym there) (sym put)
-      (past_goes e k z init s x refl reading.spelling (sym (plain_read init (movable init moves))) (plain_item init (movable init moves)) AsWholeItem steps (t.stands (is_end t.path.steps), subst (λ c. Well c t.path.steps) (sym (t.below AsWholeItem)) t.path.well) spared past (Stat None) tt [] tt)
+      (goes_as e k init (found steps (identifier (resolved reading.spelling k))) (led steps (identifier (resolved reading.spelling k))) (found_same steps (identifier (resolved reading.spelling k))) (led steps init) s
+      (past_goes e k z init s x refl reading.spelling (sym (plain_read init (movable init moves))) (plain_item init (movable init moves)) AsWholeItem steps (t.stands (is_end t.path.steps), subst (λ c. Well c t.path.steps) (sym (t.below AsWholeItem)) t.path.well) spared past (Stat None) tt [] tt))
 
 -- ---- a declaration in two
 

@@ -29,7 +29,9 @@ use Rattle.mini_rows.proofs.NextMeaning.{led_there, stopped, rest, with_others}
 use Rattle.mini_rows.proofs.PastMeaning.{read_named}
 use Rattle.mini_rows.proofs.PastParts.{Still, path_held}
 use Rattle.mini_rows.proofs.PastRuns.{past_goes}
+use Rattle.mini_rows.proofs.FoundReads.{path_as, path_same, read_there}
 use Rattle.mini_rows.proofs.SingleUse.{Path, path, led, Indirect}
+use Rattle.mini_rows.proofs.SpellAlike.{SameTree}
 use Rattle.mini_rows.proofs.UnusedMeaning.{declared_then, movable, same_symbol}
 
 module _ (e : Environment) (spelling : List ℕ) (k : ℕ) (z : Unseen (alone (Declared k)) e) (H : VariableSet) (still : Still H e) (K : VariableDeclarationKind) (init id value : Tree) (last : Trees) (moves : may_move init ≡ true) (once : is_first (resolved spelling k) false value ≡ true) (passed : are_past H (resolved spelling k) init value ≡ true) where
@@ -54,17 +56,17 @@ module _ (e : Environment) (spelling : List ℕ) (k : ℕ) (z : Unseen (alone (D
   abbrev there : Tree
   there = led reading.steps (identifier (resolved reading.read.spelling k))
 
-  read_is : value ≡ there
-  read_is = reading.is ∙ ap (λ y. led reading.steps (identifier (record { spelling = reading.read.spelling; symbol = y }))) (same_symbol k reading.read.symbol reading.same)
+  same_there : SameTree value there
+  same_there = path_same x k refl AsValue value reading
 
   value_goes : (s : State) → Initialised H s → Go (either (means e init (As Val) tt s) (λ v t. means e value (As Val) tt (after v t)) (λ y t. stop y t)) (means e (put_first x init value) (As Val) tt s)
   value_goes s ready =
-      subst₂ (λ h w. Go (either (means e init (As Val) tt s) (λ v t. means e h (As Val) tt (after v t)) (λ y t. stop y t)) (means e w (As Val) tt s)) (sym read_is) (sym (reading.puts init))
+      subst₂ Go (read_there e k init value there same_there (As Val) tt s) (ap (λ w. means e w (As Val) tt s) (sym (reading.puts init)))
       (past_goes e k z init s x refl reading.read.spelling plain (plain_item init (movable init moves)) AsValue reading.steps reading.well reading.spared
-      (path_held e k z init s H still ready x refl reading.steps (resolved reading.read.spelling k) (read_named spelling k reading.read.spelling) (subst (λ y. Indirect (identifier (record { spelling = reading.read.spelling; symbol = y })) reading.steps) (same_symbol k reading.read.symbol reading.same) reading.direct) reading.spared (sym (ap (are_past H x init) read_is) ∙ passed)) (As Val) tt tt tt)
+      (path_held e k z init s H still ready x refl reading.steps (resolved reading.read.spelling k) (read_named spelling k reading.read.spelling) (subst (λ y. Indirect (identifier (record { spelling = reading.read.spelling; symbol = y })) reading.steps) (same_symbol k reading.read.symbol reading.same) reading.direct) reading.spared (sym (ap (are_past H x init) (path_as x k refl AsValue value reading)) ∙ passed)) (As Val) tt tt tt)
 
   value_there : (summary value).facts.absent ≡ false
-  value_there = ap (λ t. (summary t).facts.absent) read_is ∙ led_there reading.steps (identifier (resolved reading.read.spelling k)) refl
+  value_there = ap (λ i. i.facts.absent) same_there.read ∙ led_there reading.steps (identifier (resolved reading.read.spelling k)) refl
 
   put_there : (summary (put_first x init value)).facts.absent ≡ false
   put_there = ap (λ t. (summary t).facts.absent) (reading.puts init) ∙ led_there reading.steps init (sym (ap (λ i. i.facts.absent) plain))

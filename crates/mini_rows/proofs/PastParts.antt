@@ -32,7 +32,7 @@ use Rattle.mini_rows.proofs.ItemReads.{item_read}
 use Rattle.mini_rows.proofs.Passing.{Replies, constant_replies}
 use Rattle.mini_rows.proofs.PastSpared.{left_alone}
 use Rattle.mini_rows.proofs.PastRuns.{Held, AllHeld, HeldPath}
-use Rattle.mini_rows.proofs.SingleUse.{Lead, Minus, Typing, Called as CalledLead, Given, Keying, Linking, Following, Branching, Failing, Storing, Fielding, Spreading, Bracketing, head_of, before, Step, led, is_end, is_steady, suited, whole, allows, Indirect, Spared}
+use Rattle.mini_rows.proofs.SingleUse.{Lead, Minus, Typing, Called as CalledLead, Given, Keying, Linking, Following, Branching, Failing, Storing, Fielding, Spreading, Bracketing, head_of, before, Step, is_end, is_steady, suited, whole, allows, Indirect, Spared, found, found_head, by_front, ends_short}
 use Rattle.mini_rows.proofs.UnusedNames.{or_parts}
 use Rattle.mini_rows.proofs.WriteMeaning.{read_value}
 
@@ -170,9 +170,9 @@ module _ (e : Environment) (k : ℕ) (z : Unseen (alone (Declared k)) e) (init :
     whole_by Linking t ts e = (and_parts (not (is_childless t && names x t) || true) (is_calm init) e).1
     whole_by l t ts e = refl
 
-    suited_by : (l : Lead) (ss : List Step) (y : Name) (ts : Trees) → names x (identifier y) ≡ true → suits x init (shape_by (head_of l)) (append (before l) (led ss (identifier y) ▸ ts)) ≡ true → suited init l (is_end ss) ≡ true
+    suited_by : (l : Lead) (ss : List Step) (y : Name) (ts : Trees) → names x (identifier y) ≡ true → suits x init (shape_by (head_of l)) (append (before l) (found ss (identifier y) ▸ ts)) ≡ true → suited init l (is_end ss) ≡ true
     suited_by l [] y ts n e = suited_end l y ts n e
-    suited_by l (s ∷ ss) y ts n e = suited_free l (whole_by l (led (s ∷ ss) (identifier y)) ts e)
+    suited_by l (s ∷ ss) y ts n e = suited_free l (whole_by l (found (s ∷ ss) (identifier y)) ts e)
 
     first_true : (a b : Bool) → a ≡ true → (a || b) ≡ true
     first_true true b e = refl
@@ -186,18 +186,22 @@ module _ (e : Environment) (k : ℕ) (z : Unseen (alone (Declared k)) e) (init :
     any_there none t ts n = first_true (names x t) (any_names x ts) n
     any_there (p ▸ ps) t ts n = second_true (names x p) (any_names x (append ps (t ▸ ts))) (any_there ps t ts n)
 
-    led_there : (ss : List Step) (u : Tree) → names x u ≡ true → names x (led ss u) ≡ true
-    led_there [] u n = n
-    led_there (l ∷ ss) u n = any_there (before l.lead) (led ss u) l.rest (led_there ss u n)
+    found_there : (ss : List Step) (u : Tree) → names x u ≡ true → names x (found ss u) ≡ true
+    found_there [] u n = n
+    found_there (l ∷ ss) u n = any_there (before l.lead) (found ss u) l.rest (found_there ss u n)
 
-    pub path_held : (ss : List Step) (y : Name) → names x (identifier y) ≡ true → Indirect (identifier y) ss → Spared x ss → are_past H x init (led ss (identifier y)) ≡ true → HeldPath e k z init s y.spelling ss
+    -- a property is passed the same, shorthand and in full
+    past_in_full : (ts : Trees) (b : Bool) (l : Lead) → is_certain x init (shape_by (found_head b l)) ts && all_past H x init ts ≡ true → is_certain x init (shape_by (head_of l)) ts && all_past H x init ts ≡ true
+    past_in_full ts = by_front (λ l h. is_certain x init (shape_by h) ts && all_past H x init ts ≡ true → is_certain x init (shape_by (head_of l)) ts && all_past H x init ts ≡ true) (λ l e. e) (λ a o e. e)
+
+    pub path_held : (ss : List Step) (y : Name) → names x (identifier y) ≡ true → Indirect (identifier y) ss → Spared x ss → are_past H x init (found ss (identifier y)) ≡ true → HeldPath e k z init s y.spelling ss
     path_held [] y n o f p = tt
     path_held (l ∷ ss) y n o f p =
         let h = shape_by (head_of l.lead) in
-        let u = led ss (identifier y) in
+        let u = found ss (identifier y) in
         let ts = append (before l.lead) (u ▸ l.rest) in
-        let (certain, b) = and_parts (is_certain x init h ts) (all_past H x init ts) p in
+        let (certain, b) = and_parts (is_certain x init h ts) (all_past H x init ts) (past_in_full ts (ends_short l ss) l.lead p) in
         let (suit, q) = and_parts (suits x init h ts) (is_placed false false h && (not (may_go_on h) || begins_with x ts)) certain in
         let (placed, a) = and_parts (is_placed false false h) (not (may_go_on h) || begins_with x ts) q in
-        let (c, d) = parts_held (before l.lead) u l.rest f.0.0 (led_there ss (identifier y) n) b in
+        let (c, d) = parts_held (before l.lead) u l.rest f.0.0 (found_there ss (identifier y) n) b in
         ((c, steady_by l.lead f.0.0 u l.rest placed a, allows y init l.lead ss (suited_by l.lead ss y l.rest n suit) o.0, whole_by l.lead u l.rest suit), path_held ss y n o.1 f.1 d)

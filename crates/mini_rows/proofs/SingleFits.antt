@@ -8,12 +8,12 @@ use Rattle.mini_model.specs.declared.operator.AssignmentOperator.TheVariants.{As
 use Rattle.mini_model.specs.declared.shape.Shape.TheVariants as shape
 use Rattle.mini_model.specs.Tree.{Tree, Trees, node, none, ◌▸◌, count, children, identifier, shape_of}
 use Rattle.mini_model.specs.Paths.{append}
-use Rattle.mini_accept.specs.WellShaped.{nested, a_statement, an_init, an_expression, a_link, a_chain, has_optional, an_argument, an_object_property, a_key, a_target, a_simple_target, Slot, one, one_or_absent, many, many_or_holes, these, each, fits, fill, is_not_positive_number}
+use Rattle.mini_accept.specs.WellShaped.{nested, a_statement, an_init, an_expression, a_link, a_chain, has_optional, an_argument, an_object_property, a_key, a_target, a_simple_target, Slot, one, one_or_absent, many, many_or_holes, these, each, fits, fill, is_not_positive_number, repeats_key}
 use Rattle.mini_kept.proofs.Bools.{both}
 use Rattle.mini_kept.proofs.Expressions.{refused_here, expression_taken}
 use Rattle.mini_rows.specs.Sketches.{shape_by, Asked, AsWholeItem, AsValue, AsValues, AsTarget, AsUpdated, asked_below}
 use Rattle.mini_rows.specs.Unused.{is_number_shape, is_constant, is_first, put_first, are_passed, reads_first}
-use Rattle.mini_rows.proofs.SingleUse.{Lead, Not, Plus, Minus, Tilde, Typing, Emptying, Beside, Deciding, Choosing, Passing, Called, Making, Waiting, Member, Keyed, Linking, Holding, Against, Given, Filling, Keying, Following, Branching, Failing, Storing, Gathering, Fielding, Spreading, Bracketing, Targeted, Changing, Listing, Doing, Giving, Raising, Testing, target_stands, head_of, before, place, Step, led, is_end, Stands, Well, suited, Suited, Path, path, statement}
+use Rattle.mini_rows.proofs.SingleUse.{Lead, Not, Plus, Minus, Tilde, Typing, Emptying, Beside, Deciding, Choosing, Passing, Called, Making, Waiting, Member, Keyed, Linking, Holding, Against, Given, Filling, Keying, Following, Branching, Failing, Storing, Gathering, Fielding, Spreading, Bracketing, Targeted, Changing, Listing, Doing, Giving, Raising, Testing, target_stands, head_of, before, place, Step, led, is_end, Stands, Well, suited, Suited, Path, path, statement, found, found_head, by_front, ends_short}
 
 -- r is no number that stands right under a minus
 abbrev unsigned : Tree → Lead → Bool → Bool
@@ -301,10 +301,10 @@ module _ (strict : Bool) where
   list_step (Listing ps) b s t u ts f r k e = absurd k
   list_step l b s t u ts f r k e = absurd s
 
-  same_count : (c : Asked) (ss : List Step) → Well c ss → (t u : Tree) → c ≡ AsValues → count (children (led ss t)) ≡ count (children (led ss u))
+  same_count : (c : Asked) (ss : List Step) → Well c ss → (t u : Tree) → c ≡ AsValues → count (children (found ss t)) ≡ count (children (led ss u))
   same_count AsValue [] w t u e = absurd (cc e)
   same_count c [] w t u e = absurd w
-  same_count c (s ∷ ss) w t u e = count_put (before s.lead) (led ss t) (led ss u) s.rest
+  same_count c (s ∷ ss) w t u e = count_put (before s.lead) (found ss t) (led ss u) s.rest
 
   below_value : (l : Lead) (b : Bool) → Stands AsValue l b → asked_below (head_of l) AsValue (place 0 (before l)) ≡ AsWholeItem → ⊥
   below_value Not b s e = cc e
@@ -386,29 +386,54 @@ module _ (strict : Bool) where
   optional_by (Keying o a) t u ts f e = e
   optional_by l t u ts f e = absurd (true≢false (sym e))
 
-  still_optional : (ss : List Step) (y : Name) (r : Tree) → has_optional (led ss (identifier y)) ≡ true → has_optional (led ss r) ≡ true
-  still_optional [] y r e = absurd (true≢false (sym e))
-  still_optional (s ∷ ss) y r e = optional_by s.lead (led ss (identifier y)) (led ss r) s.rest (still_optional ss y r) e
+  -- a shorthand property fits in full
+  in_full_fits : (ts : Trees) (s : Slot) → Takes AsValue s → fits strict s (node (shape.ObjectProperty Init false true false) [] 0 ts) ≡ true → fits strict s (node (shape.ObjectProperty Init false false false) [] 0 ts) ≡ true
+  in_full_fits ts (one an_object_property) k e = (and_parts (repeats_key ts) (fits strict (one an_object_property) (node (shape.ObjectProperty Init false false false) [] 0 ts)) e).1
+  in_full_fits ts (one an_expression) k e = absurd (refused_here strict (one an_expression) (shape.ObjectProperty Init false true false) [] 0 ts refl e)
+  in_full_fits ts (one_or_absent an_expression) k e = absurd (refused_here strict (one_or_absent an_expression) (shape.ObjectProperty Init false true false) [] 0 ts refl e)
+  in_full_fits ts (one an_argument) k e = absurd (refused_here strict (one an_argument) (shape.ObjectProperty Init false true false) [] 0 ts refl e)
+  in_full_fits ts (one_or_absent an_argument) k e = absurd (refused_here strict (one_or_absent an_argument) (shape.ObjectProperty Init false true false) [] 0 ts refl e)
+  in_full_fits ts (one (a_key true)) k e = absurd (refused_here strict (one (a_key true)) (shape.ObjectProperty Init false true false) [] 0 ts refl e)
+  in_full_fits ts (one a_link) k e = absurd (refused_here strict (one a_link) (shape.ObjectProperty Init false true false) [] 0 ts refl e)
+  in_full_fits ts (one a_chain) k e = absurd (refused_here strict (one a_chain) (shape.ObjectProperty Init false true false) [] 0 ts refl e)
+  in_full_fits ts s k e = absurd k
 
-  put_value : (c : Asked) (ss : List Step) → Well c ss → (c ≡ AsWholeItem → ⊥) → (y : Name) (r : Tree) → Unsigned r ss → ((s : Slot) → Takes AsValue s → fits strict s (identifier y) ≡ true → fits strict s r ≡ true) → FitsAs c (led ss (identifier y)) (led ss r)
+  found_fits : (c : Asked) (o : Bool) (ts : Trees) (b : Bool) (l : Lead) → Stands c l o → (s : Slot) → Takes c s → fits strict s (node (shape_by (found_head b l)) [] 0 ts) ≡ true → fits strict s (node (shape_by (head_of l)) [] 0 ts) ≡ true
+  found_fits c o ts = by_front (λ l h. Stands c l o → (s : Slot) → Takes c s → fits strict s (node (shape_by h) [] 0 ts) ≡ true → fits strict s (node (shape_by (head_of l)) [] 0 ts) ≡ true) (λ l v s k e. e) (λ a own v s k e. by c a v s k e)
+    where
+      by : (c : Asked) (a : Tree) → Stands c (Fielding false a) o → (s : Slot) → Takes c s → fits strict s (node (shape.ObjectProperty Init false true false) [] 0 ts) ≡ true → fits strict s (node (shape.ObjectProperty Init false false false) [] 0 ts) ≡ true
+      by AsValue a v s k e = in_full_fits ts s k e
+      by c a v s k e = absurd v
+
+  found_optional : (ts : Trees) (b : Bool) (l : Lead) → has_optional (node (shape_by (found_head b l)) [] 0 ts) ≡ true → has_optional (node (shape_by (head_of l)) [] 0 ts) ≡ true
+  found_optional ts = by_front (λ l h. has_optional (node (shape_by h) [] 0 ts) ≡ true → has_optional (node (shape_by (head_of l)) [] 0 ts) ≡ true) (λ l e. e) (λ a own e. e)
+
+  still_optional : (ss : List Step) (y : Name) (r : Tree) → has_optional (found ss (identifier y)) ≡ true → has_optional (led ss r) ≡ true
+  still_optional [] y r e = absurd (true≢false (sym e))
+  still_optional (s ∷ ss) y r e = optional_by s.lead (found ss (identifier y)) (led ss r) s.rest (still_optional ss y r) (found_optional (append (before s.lead) (found ss (identifier y) ▸ s.rest)) (ends_short s ss) s.lead e)
+
+  abbrev found_there : Step → List Step → Name → Trees
+  found_there q ss y = append (before q.lead) (found ss (identifier y) ▸ q.rest)
+
+  put_value : (c : Asked) (ss : List Step) → Well c ss → (c ≡ AsWholeItem → ⊥) → (y : Name) (r : Tree) → Unsigned r ss → ((s : Slot) → Takes AsValue s → fits strict s (identifier y) ≡ true → fits strict s r ≡ true) → FitsAs c (found ss (identifier y)) (led ss r)
   put_value AsValue [] w n y r g f s k e = f s k e
   put_value AsValue (q ∷ ss) w n y r g f s k e =
       let inner = put_value (asked_below (head_of q.lead) AsValue (place 0 (before q.lead))) ss w.1 (below_value q.lead (is_end ss) w.0) y r g.1 f in
-      room q.lead (is_end ss) w.0 s k (led ss (identifier y)) (led ss r) q.rest inner (value_step q.lead (is_end ss) w.0 (led ss (identifier y)) (led ss r) q.rest (same_count (asked_below (head_of q.lead) AsValue (place 0 (before q.lead))) ss w.1 (identifier y) r) (no_number q.lead ss r g.0) (still_optional ss y r) inner) e
-  put_value AsValues (q ∷ ss) w n y r g f s k e = list_step q.lead (is_end ss) w.0 (led ss (identifier y)) (led ss r) q.rest (put_value (asked_below (head_of q.lead) AsValues (place 0 (before q.lead))) ss w.1 (below_list q.lead (is_end ss) w.0) y r g.1 f) s k e
+      room q.lead (is_end ss) w.0 s k (found ss (identifier y)) (led ss r) q.rest inner (value_step q.lead (is_end ss) w.0 (found ss (identifier y)) (led ss r) q.rest (same_count (asked_below (head_of q.lead) AsValue (place 0 (before q.lead))) ss w.1 (identifier y) r) (no_number q.lead ss r g.0) (still_optional ss y r) inner) (found_fits AsValue (is_end ss) (found_there q ss y) (ends_short q ss) q.lead w.0 s k e)
+  put_value AsValues (q ∷ ss) w n y r g f s k e = list_step q.lead (is_end ss) w.0 (found ss (identifier y)) (led ss r) q.rest (put_value (asked_below (head_of q.lead) AsValues (place 0 (before q.lead))) ss w.1 (below_list q.lead (is_end ss) w.0) y r g.1 f) s k (found_fits AsValues (is_end ss) (found_there q ss y) (ends_short q ss) q.lead w.0 s k e)
   put_value AsTarget (q ∷ ss) w n y r g f (one a_target) k e =
-      (target_step q.lead (is_end ss) w.0 AsTarget (led ss (identifier y)) (led ss r) q.rest (put_value (asked_below (head_of q.lead) AsTarget (place 0 (before q.lead))) ss w.1 (below_target q.lead (is_end ss) w.0 AsTarget) y r g.1 f)).0 e
+      (target_step q.lead (is_end ss) w.0 AsTarget (found ss (identifier y)) (led ss r) q.rest (put_value (asked_below (head_of q.lead) AsTarget (place 0 (before q.lead))) ss w.1 (below_target q.lead (is_end ss) w.0 AsTarget) y r g.1 f)).0 (found_fits AsTarget (is_end ss) (found_there q ss y) (ends_short q ss) q.lead w.0 (one a_target) k e)
   put_value AsTarget (q ∷ ss) w n y r g f s k e = absurd k
   put_value AsUpdated (q ∷ ss) w n y r g f (one a_simple_target) k e =
-      let there = target_stands q.lead (is_end ss) w.0 in
-      (target_step q.lead (is_end ss) there AsUpdated (led ss (identifier y)) (led ss r) q.rest (put_value (asked_below (head_of q.lead) AsUpdated (place 0 (before q.lead))) ss w.1 (below_target q.lead (is_end ss) there AsUpdated) y r g.1 f)).1 e
+      let stands = target_stands q.lead (is_end ss) w.0 in
+      (target_step q.lead (is_end ss) stands AsUpdated (found ss (identifier y)) (led ss r) q.rest (put_value (asked_below (head_of q.lead) AsUpdated (place 0 (before q.lead))) ss w.1 (below_target q.lead (is_end ss) stands AsUpdated) y r g.1 f)).1 (found_fits AsUpdated (is_end ss) (found_there q ss y) (ends_short q ss) q.lead w.0 (one a_simple_target) k e)
   put_value AsUpdated (q ∷ ss) w n y r g f s k e = absurd k
   put_value AsWholeItem ss w n y r g f s k e = absurd (n refl)
   put_value c [] w n y r g f s k e = absurd w
   put_value c (q ∷ ss) w n y r g f s k e = absurd w.0
 
   -- an expression along a path
-  put_along : (ss : List Step) → Well AsValue ss → (y : Name) (r : Tree) → Unsigned r ss → fits strict (one an_expression) r ≡ true → FitsAs AsValue (led ss (identifier y)) (led ss r)
+  put_along : (ss : List Step) → Well AsValue ss → (y : Name) (r : Tree) → Unsigned r ss → fits strict (one an_expression) r ≡ true → FitsAs AsValue (found ss (identifier y)) (led ss r)
   put_along ss w y r g f = put_value AsValue ss w (λ e. cc e) y r g (taken_by strict y r f)
 
 -- what may stand in the place of what a tree reads: no number, or what its parts pass
@@ -491,9 +516,12 @@ begun strict (node shape.Absent xs n ts) e = absurd (refused_here strict (one an
 begun strict (node (shape.VariableDeclaration k) xs n ts) e = absurd (refused_here strict (one an_expression) (shape.VariableDeclaration k) xs n ts refl e)
 begun strict (node h xs n ts) e = e
 
-begun_there : (strict : Bool) (ss : List Step) → Well AsValue ss → (y : Name) → fits strict (one_or_absent an_init) (led ss (identifier y)) ≡ true → fits strict (one an_expression) (led ss (identifier y)) ≡ true
+begun_there : (strict : Bool) (ss : List Step) → Well AsValue ss → (y : Name) → fits strict (one_or_absent an_init) (found ss (identifier y)) ≡ true → fits strict (one an_expression) (found ss (identifier y)) ≡ true
 begun_there strict [] w y e = e
-begun_there strict (s ∷ ss) w y e = by s.lead w.0 (append (before s.lead) (led ss (identifier y) ▸ s.rest)) e
+begun_there strict (s ∷ ss) w y e =
+    let ts = append (before s.lead) (found ss (identifier y) ▸ s.rest) in
+    by_front (λ l h. Stands AsValue l (is_end ss) → fits strict (one_or_absent an_init) (node (shape_by h) [] 0 ts) ≡ true → fits strict (one an_expression) (node (shape_by h) [] 0 ts) ≡ true) (λ l v f. by l v ts f)
+    (λ a own v f. absurd (refused_here strict (one_or_absent an_init) (shape.ObjectProperty Init false true false) [] 0 ts refl f)) (ends_short s ss) s.lead w.0 e
   where
     by : (l : Lead) → Stands AsValue l (is_end ss) → (ts : Trees) → fits strict (one_or_absent an_init) (node (shape_by (head_of l)) [] 0 ts) ≡ true → fits strict (one an_expression) (node (shape_by (head_of l)) [] 0 ts) ≡ true
     by Not s ts e = e

@@ -1199,7 +1199,7 @@ module _ (e : Environment) (k : ℕ) (z : Unseen (alone (Declared k)) e) where
         let shape = shape_by (head_of l) in
         let kids = λ (t : Tree). append (before l) (led ss t ▸ ts) in
         let is = summaries (kids spot) in
-        let put : means e (node shape [] 0 (kids init)) Target r y ≡ by_summaries shape Target r is (kids init) y = node_is shape Target r (kids init) y ∙ ap (λ i. by_summaries shape Target r i (kids init) y) (sym (summaries_led (record { lead = l; rest = ts }) ss spot init plain)) in
+        let put : means e (node shape [] 0 (kids init)) Target r y ≡ by_summaries shape Target r is (kids init) y = node_is shape Target r (kids init) y ∙ ap (λ i. by_summaries shape Target r i (kids init) y) (sym (summaries_led (record { lead = l; rest = ts; is_short = false }) ss spot init plain)) in
         subst₂ Go (sym (node_is shape Target r (kids spot) s)) (sym put)
         (later_goes shape Target is (before l) (led ss spot) (led ss init) ts a b (parts_alike l (is_end ss) w (facts_all is) (led ss spot) (led ss init)) (step shape [] (facts_all is) Target r) (settled_later (count (before l)) l (is_end ss) w (facts_all is) r h) s y g)
 

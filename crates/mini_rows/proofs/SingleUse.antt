@@ -19,7 +19,7 @@ use Rattle.mini_model.specs.Weight.{same_text}
 use Rattle.mini_laws.specs.Naming.{summary, summaries, summary_of}
 use Rattle.mini_laws.specs.ScopeList.{is_eval_callee}
 use Rattle.mini_laws.specs.Symbols.{is_same}
-use Rattle.mini_node.specs.Children.{part, is_bare, is_nameless, rest_children}
+use Rattle.mini_node.specs.Children.{part, is_bare, rest_children}
 use Rattle.mini_node.specs.Kinds.{is_identifier}
 use Rattle.mini_terms.specs.Folds.{is_effect_free}
 use Rattle.mini_terms.specs.Reading.{is_typed_by_value}
@@ -27,7 +27,7 @@ use Rattle.mini_rows.specs.Sketches.{Head, AList, Update, target_asked, AsTarget
 use Rattle.mini_rows.specs.Lists.{declaration, Each, EachIn, EachOf, each_loop}
 use Rattle.mini_rows.specs.Declarations.{declarator}
 use Rattle.mini_rows.specs.Chains.{is_calm}
-use Rattle.mini_rows.specs.Unused.{is_like_one, is_member_shape, is_member, names, any_names, begins, goes_on, may_go_on, has_branches, leads, holds_list, is_childless, reads, is_first, leads_to, put_first, put_among, is_constant, passes_at, is_plain_assignment, is_sure, is_placed, entries_below, begins_with, is_reached, is_number_shape, is_called_by_value, suits, are_passed_in, are_passed, all_passed, reads_first, is_declarator, declares_list, reads_declarator, reads_declarators, reads_initially, reads_outside, is_open_left, reads_over, reads_head, evaluated}
+use Rattle.mini_rows.specs.Unused.{is_like_one, is_member_shape, is_member, names, any_names, begins, goes_on, may_go_on, has_branches, leads, holds_list, is_childless, is_own_key, can_be_full, in_full, may_hold, reads, is_first, leads_to, put_first, put_among, is_constant, passes_at, is_plain_assignment, is_sure, is_placed, entries_below, begins_with, is_reached, is_number_shape, is_called_by_value, suits, are_passed_in, are_passed, all_passed, reads_first, is_declarator, declares_list, reads_declarator, reads_declarators, reads_initially, reads_outside, is_open_left, reads_over, reads_head, evaluated}
 use Rattle.mini_rows.proofs.Arranging.{Plain, Below, sum_below, Local, Summed}
 use Rattle.mini_rows.proofs.ListKeptHeads.{Seat, Loop, Choice, seated, rest}
 
@@ -161,9 +161,25 @@ abbrev pub place : ℕ → Trees → ℕ
 place i none = i
 place i (t ▸ ts) = place (suc i) ts
 
+-- as it is found: a property may be shorthand
+abbrev pub found_head : Bool → Lead → Head
+found_head true (Fielding false a) = Property (is_own_key a) false
+found_head is_short l = head_of l
+
+-- whatever holds of what is found
+pub by_front : (P : Lead → Head → Type 0) → ((l : Lead) → P l (head_of l)) → ((a : Tree) → is_own_key a ≡ true → P (Fielding false a) (Property true false)) → (b : Bool) (l : Lead) → P l (found_head b l)
+by_front P f g true (Fielding false a) = by (is_own_key a) refl
+  where
+    by : (c : Bool) → is_own_key a ≡ c → P (Fielding false a) (Property c false)
+    by true e = g a e
+    by false e = f (Fielding false a)
+by_front P f g b l = f l
+
 pub record Step : Type 0 where
   pub lead : Lead
   pub rest : Trees
+  -- a property that is found shorthand
+  pub is_short : Bool
 
 abbrev pub led : List Step → Tree → Tree
 led [] u = u
@@ -172,6 +188,15 @@ led (s ∷ ss) u = node (shape_by (head_of s.lead)) [] 0 (append (before s.lead)
 abbrev pub is_end : List Step → Bool
 is_end [] = true
 is_end (s ∷ ss) = false
+
+-- so it is where its value is the read itself
+abbrev pub ends_short : Step → List Step → Bool
+ends_short s ss = s.is_short && is_end ss
+
+-- as it is found
+abbrev pub found : List Step → Tree → Tree
+found [] u = u
+found (s ∷ ss) u = node (shape_by (found_head (ends_short s ss) s.lead)) [] 0 (append (before s.lead) (found ss u ▸ s.rest))
 
 -- it stands there
 abbrev pub Stands : Asked → Lead → Bool → Type 0
@@ -273,7 +298,7 @@ indirect l t = true
 
 abbrev pub Indirect : Tree → List Step → Type 0
 Indirect u [] = Unit {0}
-Indirect u (s ∷ ss) = (indirect s.lead (led ss u) ≡ true) × Indirect u ss
+Indirect u (s ∷ ss) = (indirect s.lead (found ss u) ≡ true) × Indirect u ss
 
 -- what may be read of a name, and of r in its place, by their values: what is called, and what `typeof` reads
 pub record End : Type 0 where
@@ -310,7 +335,7 @@ allows_free Linking = refl
 allows_free Typing = refl
 allows_free l = tt
 
-pub allows : (y : Name) (r : Tree) (l : Lead) (ss : List Step) → suited r l (is_end ss) ≡ true → indirect l (led ss (identifier y)) ≡ true → Allows l (end_of y.spelling r ss)
+pub allows : (y : Name) (r : Tree) (l : Lead) (ss : List Step) → suited r l (is_end ss) ≡ true → indirect l (found ss (identifier y)) ≡ true → Allows l (end_of y.spelling r ss)
 allows y r l [] e f = allows_end y r l e f
 allows y r l (s ∷ ss) e f = allows_free l
 
@@ -331,7 +356,7 @@ pub record Path (x : Name) (c : Asked) (t : Tree) : Type 0 where
   pub spared : Spared x steps
   pub same : is_same x.symbol read.symbol ≡ true
   pub direct : Indirect (identifier read) steps
-  pub is : t ≡ led steps (identifier read)
+  pub is : t ≡ found steps (identifier read)
   pub puts : (r : Tree) → put_first x r t ≡ led steps r
   pub ends : is_end steps ≡ is_childless t
   pub passed_in : (m : Bool) (r : Tree) → are_passed_in x m r t ≡ true → PassedIn m r read.spelling steps
@@ -368,7 +393,9 @@ no_leaf (node h ys n none) e = absurd (bare_leaf h ys n (and_parts (is_member_sh
 
 record Leads (b : Bool) (t : Tree) (h : Shape) (ts : Trees) : Type 0 where
   lead : Lead
-  is : shape_by (head_of lead) ≡ h
+  is_short : Bool
+  is : shape_by (found_head (is_short && is_childless t) lead) ≡ h
+  full : in_full h ≡ shape_by (head_of lead)
   front : before lead ≡ ts
   stands : Stands (asked b) lead (is_childless t)
   below : Reads t (asked_below (head_of lead) (asked b) (place 0 (before lead))) (holds_list h (place 0 ts))
@@ -404,43 +431,57 @@ optional_there : (o f : Bool) → ((not o || f) || false) ≡ true → (not o ||
 optional_there o f e = sure_there (not o || f) e
 
 begun_by : (t : Tree) (h : Shape) → begins h t ≡ true → Leads false t h none
-begun_by t (shape.UnaryExpression LogicalNot) e = record { lead = Not; is = refl; front = refl; stands = tt; below = inl refl; direct = refl; sure = λ m f q. refl; suit = λ x r us n e. refl }
-begun_by t (shape.UnaryExpression UnaryPlus) e = record { lead = Plus; is = refl; front = refl; stands = tt; below = inl refl; direct = refl; sure = λ m f q. refl; suit = λ x r us n e. refl }
-begun_by t (shape.UnaryExpression UnaryNegation) e = record { lead = Minus; is = refl; front = refl; stands = tt; below = inl refl; direct = refl; sure = λ m f q. refl; suit = λ x r us n e. suit_there (is_childless t) (names x t) (not (is_number_shape (shape_of r))) n e }
-begun_by t (shape.UnaryExpression BitwiseNot) e = record { lead = Tilde; is = refl; front = refl; stands = tt; below = inl refl; direct = refl; sure = λ m f q. refl; suit = λ x r us n e. refl }
-begun_by t (shape.UnaryExpression Typeof) e = record { lead = Typing; is = refl; front = refl; stands = tt; below = inl refl; direct = refl; sure = λ m f q. refl; suit = λ x r us n e. suit_there (is_childless t) (names x t) (is_typed_by_value r) n e }
-begun_by t (shape.UnaryExpression Void) e = record { lead = Emptying; is = refl; front = refl; stands = tt; below = inl refl; direct = refl; sure = λ m f q. refl; suit = λ x r us n e. refl }
-begun_by t (shape.BinaryExpression o) e = record { lead = Beside o; is = refl; front = refl; stands = tt; below = inl refl; direct = refl; sure = λ m f q. refl; suit = λ x r us n e. refl }
-begun_by t (shape.LogicalExpression o) e = record { lead = Deciding o; is = refl; front = refl; stands = tt; below = inl refl; direct = refl; sure = λ m f q. refl; suit = λ x r us n e. refl }
-begun_by t shape.ConditionalExpression e = record { lead = Choosing; is = refl; front = refl; stands = tt; below = inl refl; direct = refl; sure = λ m f q. refl; suit = λ x r us n e. refl }
-begun_by t shape.SequenceExpression e = record { lead = Passing; is = refl; front = refl; stands = tt; below = inl refl; direct = refl; sure = λ m f q. refl; suit = λ x r us n e. refl }
-begun_by t (shape.CallExpression o) e = record { lead = Called o; is = refl; front = refl; stands = tt; below = inl refl; direct = e; sure = λ m f q. refl; suit = λ x r us n e. suit_there (is_childless t) (names x t) (is_called_by_value r) n e }
-begun_by t shape.NewExpression e = record { lead = Making; is = refl; front = refl; stands = tt; below = inl refl; direct = refl; sure = λ m f q. refl; suit = λ x r us n e. refl }
-begun_by t shape.ArrayExpression e = record { lead = Holding; is = refl; front = refl; stands = tt; below = inl refl; direct = refl; sure = λ m f q. refl; suit = λ x r us n e. refl }
-begun_by t shape.ObjectExpression e = record { lead = Gathering; is = refl; front = refl; stands = tt; below = inl refl; direct = refl; sure = λ m f q. refl; suit = λ x r us n e. refl }
-begun_by t shape.SpreadElement e = record { lead = Spreading; is = refl; front = refl; stands = tt; below = inl refl; direct = refl; sure = λ m f q. placed_there (m || f) true q; suit = λ x r us n e. refl }
-begun_by t (shape.ObjectProperty Init false false true) e = record { lead = Bracketing; is = refl; front = refl; stands = tt; below = inl refl; direct = refl; sure = λ m f q. placed_there (m || f) true q; suit = λ x r us n e. refl }
-begun_by t (shape.YieldExpression d) e = record { lead = Waiting d; is = refl; front = refl; stands = tt; below = inl refl; direct = refl; sure = λ m f q. refl; suit = λ x r us n e. refl }
-begun_by t (shape.StaticMemberExpression o) e = record { lead = Member o; is = refl; front = refl; stands = tt; below = inl refl; direct = refl; sure = λ m f q. refl; suit = λ x r us n e. refl }
-begun_by t shape.ChainExpression e = record { lead = Linking; is = refl; front = refl; stands = not_leaf (is_childless t) e; below = inl refl; direct = e; sure = λ m f q. refl; suit = λ x r us n e. (and_parts (not (is_childless t && names x t) || true) (is_calm r) e).1 }
-begun_by t (shape.ComputedMemberExpression o) e = record { lead = Keyed o; is = refl; front = refl; stands = tt; below = inl refl; direct = refl; sure = λ m f q. refl; suit = λ x r us n e. refl }
-begun_by t (shape.AssignmentExpression o) e = record { lead = Targeted o; is = refl; front = refl; stands = no_leaf t e; below = inr (e, refl, target_of o); direct = refl; sure = λ m f q. refl; suit = λ x r us n e. refl }
-begun_by t (shape.UpdateExpression o p) e = record { lead = Changing o p; is = refl; front = refl; stands = no_leaf t e; below = inr (e, refl, inr refl); direct = refl; sure = λ m f q. refl; suit = λ x r us n e. refl }
+begun_by t (shape.UnaryExpression LogicalNot) e = record { lead = Not; is_short = false; is = refl; full = refl; front = refl; stands = tt; below = inl refl; direct = refl; sure = λ m f q. refl; suit = λ x r us n e. refl }
+begun_by t (shape.UnaryExpression UnaryPlus) e = record { lead = Plus; is_short = false; is = refl; full = refl; front = refl; stands = tt; below = inl refl; direct = refl; sure = λ m f q. refl; suit = λ x r us n e. refl }
+begun_by t (shape.UnaryExpression UnaryNegation) e = record { lead = Minus; is_short = false; is = refl; full = refl; front = refl; stands = tt; below = inl refl; direct = refl; sure = λ m f q. refl; suit = λ x r us n e. suit_there (is_childless t) (names x t) (not (is_number_shape (shape_of r))) n e }
+begun_by t (shape.UnaryExpression BitwiseNot) e = record { lead = Tilde; is_short = false; is = refl; full = refl; front = refl; stands = tt; below = inl refl; direct = refl; sure = λ m f q. refl; suit = λ x r us n e. refl }
+begun_by t (shape.UnaryExpression Typeof) e = record { lead = Typing; is_short = false; is = refl; full = refl; front = refl; stands = tt; below = inl refl; direct = refl; sure = λ m f q. refl; suit = λ x r us n e. suit_there (is_childless t) (names x t) (is_typed_by_value r) n e }
+begun_by t (shape.UnaryExpression Void) e = record { lead = Emptying; is_short = false; is = refl; full = refl; front = refl; stands = tt; below = inl refl; direct = refl; sure = λ m f q. refl; suit = λ x r us n e. refl }
+begun_by t (shape.BinaryExpression o) e = record { lead = Beside o; is_short = false; is = refl; full = refl; front = refl; stands = tt; below = inl refl; direct = refl; sure = λ m f q. refl; suit = λ x r us n e. refl }
+begun_by t (shape.LogicalExpression o) e = record { lead = Deciding o; is_short = false; is = refl; full = refl; front = refl; stands = tt; below = inl refl; direct = refl; sure = λ m f q. refl; suit = λ x r us n e. refl }
+begun_by t shape.ConditionalExpression e = record { lead = Choosing; is_short = false; is = refl; full = refl; front = refl; stands = tt; below = inl refl; direct = refl; sure = λ m f q. refl; suit = λ x r us n e. refl }
+begun_by t shape.SequenceExpression e = record { lead = Passing; is_short = false; is = refl; full = refl; front = refl; stands = tt; below = inl refl; direct = refl; sure = λ m f q. refl; suit = λ x r us n e. refl }
+begun_by t (shape.CallExpression o) e = record { lead = Called o; is_short = false; is = refl; full = refl; front = refl; stands = tt; below = inl refl; direct = e; sure = λ m f q. refl; suit = λ x r us n e. suit_there (is_childless t) (names x t) (is_called_by_value r) n e }
+begun_by t shape.NewExpression e = record { lead = Making; is_short = false; is = refl; full = refl; front = refl; stands = tt; below = inl refl; direct = refl; sure = λ m f q. refl; suit = λ x r us n e. refl }
+begun_by t shape.ArrayExpression e = record { lead = Holding; is_short = false; is = refl; full = refl; front = refl; stands = tt; below = inl refl; direct = refl; sure = λ m f q. refl; suit = λ x r us n e. refl }
+begun_by t shape.ObjectExpression e = record { lead = Gathering; is_short = false; is = refl; full = refl; front = refl; stands = tt; below = inl refl; direct = refl; sure = λ m f q. refl; suit = λ x r us n e. refl }
+begun_by t shape.SpreadElement e = record { lead = Spreading; is_short = false; is = refl; full = refl; front = refl; stands = tt; below = inl refl; direct = refl; sure = λ m f q. placed_there (m || f) true q; suit = λ x r us n e. refl }
+begun_by t (shape.ObjectProperty Init false false true) e = record { lead = Bracketing; is_short = false; is = refl; full = refl; front = refl; stands = tt; below = inl refl; direct = refl; sure = λ m f q. placed_there (m || f) true q; suit = λ x r us n e. refl }
+begun_by t (shape.YieldExpression d) e = record { lead = Waiting d; is_short = false; is = refl; full = refl; front = refl; stands = tt; below = inl refl; direct = refl; sure = λ m f q. refl; suit = λ x r us n e. refl }
+begun_by t (shape.StaticMemberExpression o) e = record { lead = Member o; is_short = false; is = refl; full = refl; front = refl; stands = tt; below = inl refl; direct = refl; sure = λ m f q. refl; suit = λ x r us n e. refl }
+begun_by t shape.ChainExpression e = record { lead = Linking; is_short = false; is = refl; full = refl; front = refl; stands = not_leaf (is_childless t) e; below = inl refl; direct = e; sure = λ m f q. refl; suit = λ x r us n e. (and_parts (not (is_childless t && names x t) || true) (is_calm r) e).1 }
+begun_by t (shape.ComputedMemberExpression o) e = record { lead = Keyed o; is_short = false; is = refl; full = refl; front = refl; stands = tt; below = inl refl; direct = refl; sure = λ m f q. refl; suit = λ x r us n e. refl }
+begun_by t (shape.AssignmentExpression o) e = record { lead = Targeted o; is_short = false; is = refl; full = refl; front = refl; stands = no_leaf t e; below = inr (e, refl, target_of o); direct = refl; sure = λ m f q. refl; suit = λ x r us n e. refl }
+begun_by t (shape.UpdateExpression o p) e = record { lead = Changing o p; is_short = false; is = refl; full = refl; front = refl; stands = no_leaf t e; below = inr (e, refl, inr refl); direct = refl; sure = λ m f q. refl; suit = λ x r us n e. refl }
 begun_by t h e = absurd (true≢false (sym e))
 
-gone_on_by : (t : Tree) (h : Shape) (a : Tree) → (goes_on h || may_go_on h) ≡ true → Leads false t h (a ▸ none)
-gone_on_by t (shape.BinaryExpression o) a e = record { lead = Against o a; is = refl; front = refl; stands = tt; below = inl refl; direct = refl; sure = λ m f q. refl; suit = λ x r us n e. refl }
-gone_on_by t (shape.CallExpression o) a e = record { lead = Given o a; is = refl; front = refl; stands = tt; below = inl refl; direct = refl; sure = λ m f q. optional_there o f q; suit = λ x r us n e. refl }
-gone_on_by t shape.NewExpression a e = record { lead = Filling a; is = refl; front = refl; stands = tt; below = inl refl; direct = refl; sure = λ m f q. refl; suit = λ x r us n e. refl }
-gone_on_by t (shape.ComputedMemberExpression o) a e = record { lead = Keying o a; is = refl; front = refl; stands = tt; below = inl refl; direct = refl; sure = λ m f q. optional_there o f q; suit = λ x r us n e. refl }
-gone_on_by t (shape.LogicalExpression o) a e = record { lead = Following o a; is = refl; front = refl; stands = tt; below = inl refl; direct = refl; sure = λ m f q. sure_there f q; suit = λ x r us n e. refl }
-gone_on_by t shape.ConditionalExpression a e = record { lead = Branching a; is = refl; front = refl; stands = tt; below = inl refl; direct = refl; sure = λ m f q. sure_there f q; suit = λ x r us n e. refl }
-gone_on_by t (shape.AssignmentExpression o) a e = record { lead = Storing o a; is = refl; front = refl; stands = tt; below = inl refl; direct = refl; sure = λ m f q. sure_there (is_plain_assignment o || f) q; suit = λ x r us n e. refl }
-gone_on_by t (shape.ObjectProperty Init false false d) a e = record { lead = Fielding d a; is = refl; front = refl; stands = tt; below = inl refl; direct = refl; sure = λ m f q. placed_further (m || f) (not d) q; suit = λ x r us n e. refl }
-gone_on_by t h a e = absurd (true≢false (sym e))
+gone_on_by : (t : Tree) (h : Shape) (a : Tree) (us : Trees) → can_be_full (node h [] 0 (a ▸ (t ▸ us))) ≡ true → (goes_on h || may_go_on h) ≡ true → Leads false t h (a ▸ none)
+gone_on_by t (shape.BinaryExpression o) a us k e = record { lead = Against o a; is_short = false; is = refl; full = refl; front = refl; stands = tt; below = inl refl; direct = refl; sure = λ m f q. refl; suit = λ x r us n e. refl }
+gone_on_by t (shape.CallExpression o) a us k e = record { lead = Given o a; is_short = false; is = refl; full = refl; front = refl; stands = tt; below = inl refl; direct = refl; sure = λ m f q. optional_there o f q; suit = λ x r us n e. refl }
+gone_on_by t shape.NewExpression a us k e = record { lead = Filling a; is_short = false; is = refl; full = refl; front = refl; stands = tt; below = inl refl; direct = refl; sure = λ m f q. refl; suit = λ x r us n e. refl }
+gone_on_by t (shape.ComputedMemberExpression o) a us k e = record { lead = Keying o a; is_short = false; is = refl; full = refl; front = refl; stands = tt; below = inl refl; direct = refl; sure = λ m f q. optional_there o f q; suit = λ x r us n e. refl }
+gone_on_by t (shape.LogicalExpression o) a us k e = record { lead = Following o a; is_short = false; is = refl; full = refl; front = refl; stands = tt; below = inl refl; direct = refl; sure = λ m f q. sure_there f q; suit = λ x r us n e. refl }
+gone_on_by t shape.ConditionalExpression a us k e = record { lead = Branching a; is_short = false; is = refl; full = refl; front = refl; stands = tt; below = inl refl; direct = refl; sure = λ m f q. sure_there f q; suit = λ x r us n e. refl }
+gone_on_by t (shape.AssignmentExpression o) a us k e = record { lead = Storing o a; is_short = false; is = refl; full = refl; front = refl; stands = tt; below = inl refl; direct = refl; sure = λ m f q. sure_there (is_plain_assignment o || f) q; suit = λ x r us n e. refl }
+gone_on_by t (shape.ObjectProperty Init false false d) a us k e = record { lead = Fielding d a; is_short = false; is = refl; full = refl; front = refl; stands = tt; below = inl refl; direct = refl; sure = λ m f q. placed_further (m || f) (not d) q; suit = λ x r us n e. refl }
+gone_on_by t (shape.ObjectProperty Init false true false) a us k e =
+    let (own, bare) = and_parts (is_own_key a) (is_childless t) (and_parts (is_bare (node (shape.ObjectProperty Init false true false) [] 0 (a ▸ (t ▸ us))) 2) (is_own_key a && is_childless t) k).1 in
+    record {
+      lead = Fielding false a;
+      is_short = true;
+      is = ap (λ b. shape_by (found_head b (Fielding false a))) bare ∙ ap (λ b. shape_by (Property b false)) own;
+      full = refl;
+      front = refl;
+      stands = tt;
+      below = inl refl;
+      direct = refl;
+      sure = λ m f q. placed_further (m || f) true q;
+      suit = λ x r us n e. refl;
+    }
+gone_on_by t h a us k e = absurd (true≢false (sym e))
 
 branched_by : (t : Tree) (h : Shape) (a b : Tree) → has_branches h ≡ true → Leads false t h (a ▸ (b ▸ none))
-branched_by t shape.ConditionalExpression a b e = record { lead = Failing a b; is = refl; front = refl; stands = tt; below = inl refl; direct = refl; sure = λ m f q. sure_there f q; suit = λ x r us n e. refl }
+branched_by t shape.ConditionalExpression a b e = record { lead = Failing a b; is_short = false; is = refl; full = refl; front = refl; stands = tt; below = inl refl; direct = refl; sure = λ m f q. sure_there f q; suit = λ x r us n e. refl }
 branched_by t h a b e = absurd (true≢false (sym e))
 
 place_next : (i : ℕ) (ts : Trees) → place (suc i) ts ≡ suc (place i ts)
@@ -454,13 +495,13 @@ no_list_of : (i : ℕ) → holds_list shape.Listed i ≡ false
 no_list_of zero = refl
 no_list_of (suc i) = refl
 
-lead_by : (b : Bool) (t : Tree) (h : Shape) (ts : Trees) → leads b h (place 0 ts) t ≡ true → Leads b t h ts
-lead_by true t shape.Listed ts e = record { lead = Listing ts; is = refl; front = refl; stands = tt; below = inl (ap asked (sym (no_list_of (place 0 ts)))); direct = refl; sure = λ m f q. refl; suit = λ x r us n e. refl }
-lead_by true t h ts e = absurd (true≢false (sym e))
-lead_by false t h none e = begun_by t h e
-lead_by false t h (a ▸ none) e = gone_on_by t h a e
-lead_by false t h (a ▸ (b ▸ none)) e = branched_by t h a b e
-lead_by false t h (a ▸ (b ▸ (d ▸ ts))) e = absurd (no_later h t (place 0 ts) (sym (ap (λ i. leads false h i t) (place_next 2 ts ∙ ap suc (place_next 1 ts ∙ ap suc (place_next 0 ts)))) ∙ e))
+lead_by : (b : Bool) (t : Tree) (h : Shape) (ts us : Trees) → can_be_full (node h [] 0 (append ts (t ▸ us))) ≡ true → leads b h (place 0 ts) t ≡ true → Leads b t h ts
+lead_by true t shape.Listed ts us k e = record { lead = Listing ts; is_short = false; is = refl; full = refl; front = refl; stands = tt; below = inl (ap asked (sym (no_list_of (place 0 ts)))); direct = refl; sure = λ m f q. refl; suit = λ x r us n e. refl }
+lead_by true t h ts us k e = absurd (true≢false (sym e))
+lead_by false t h none us k e = begun_by t h e
+lead_by false t h (a ▸ none) us k e = gone_on_by t h a us k e
+lead_by false t h (a ▸ (b ▸ none)) us k e = branched_by t h a b e
+lead_by false t h (a ▸ (b ▸ (d ▸ ts))) us k e = absurd (no_later h t (place 0 ts) (sym (ap (λ i. leads false h i t) (place_next 2 ts ∙ ap suc (place_next 1 ts ∙ ap suc (place_next 0 ts)))) ∙ e))
 
 not_true : (b : Bool) → not b ≡ true → b ≡ false
 not_true true e = absurd (true≢false (sym e))
@@ -559,10 +600,14 @@ member_leads (Keyed false) ss b m w = (w, w)
 member_leads (Keying false a) ss b m w = (w, w)
 member_leads l ss b m w = absurd (true≢false (sym m))
 
-member_well : (ss : List Step) (y : Name) (c : Asked) → IsTarget c → is_member (led ss (identifier y)) ≡ true → Well AsValue ss → Well c ss
+found_member : (b : Bool) (l : Lead) → is_member_shape (shape_by (found_head b l)) ≡ true → is_member_shape (shape_by (head_of l)) ≡ true
+found_member = by_front (λ l h. is_member_shape (shape_by h) ≡ true → is_member_shape (shape_by (head_of l)) ≡ true) (λ l e. e) (λ a e f. absurd (true≢false (sym f)))
+
+member_well : (ss : List Step) (y : Name) (c : Asked) → IsTarget c → is_member (found ss (identifier y)) ≡ true → Well AsValue ss → Well c ss
 member_well [] y c h e w = absurd (true≢false (sym e))
 member_well (s ∷ ss) y c h e w =
-    let (target, updated) = member_leads s.lead ss (is_end ss) (and_parts (is_member_shape (shape_by (head_of s.lead))) (is_bare (node (shape_by (head_of s.lead)) [] 0 (append (before s.lead) (led ss (identifier y) ▸ s.rest))) 2) e).0 w in
+    let b = ends_short s ss in
+    let (target, updated) = member_leads s.lead ss (is_end ss) (found_member b s.lead (and_parts (is_member_shape (shape_by (found_head b s.lead))) (is_bare (found (s ∷ ss) (identifier y)) 2) e).0) w in
     by h target updated
   where
     by : IsTarget c → Well AsTarget (s ∷ ss) → Well AsUpdated (s ∷ ss) → Well c (s ∷ ss)
@@ -573,14 +618,29 @@ well_below : (x : Name) (b : Bool) (t : Tree) (c : Asked) (p : Path x (asked b) 
 well_below x b t c p (inl e) = subst (λ d. Well d p.steps) (sym e) p.well
 well_below x b t c p (inr r) = member_well p.steps p.read c r.2 (ap is_member (sym p.is) ∙ r.0) (subst (λ d. Well (asked d) p.steps) r.1 p.well)
 
-one_step : (x : Name) (b : Bool) (h : Shape) (t : Tree) (ts : Trees) → Among x b h 0 (t ▸ ts) → Path x (asked b) (node h [] 0 (t ▸ ts))
-one_step x b h t ts a =
-    let l = lead_by b a.one h a.first a.leads in
+-- in full it is asked and passed the same
+full_passes : (m : Bool) (r : Tree) (h : Shape) (i : ℕ) (t : Tree) → passes_at m r (in_full h) i t ≡ passes_at m r h i t
+full_passes m r (shape.ObjectProperty Init false true false) i t = refl
+full_passes m r h i t = refl
+
+all_pass_full : (m : Bool) (r : Tree) (h : Shape) (i : ℕ) (ts : Trees) → AllPass m r h i ts → AllPass m r (in_full h) i ts
+all_pass_full m r h i none a = tt
+all_pass_full m r h i (t ▸ ts) a = (full_passes m r h i t ∙ a.0, all_pass_full m r h (suc i) ts a.1)
+
+full_entries : (m : Bool) (h : Shape) (i : ℕ) → entries_below m h i ≡ entries_below m (in_full h) i
+full_entries m (shape.ObjectProperty Init false true false) i = refl
+full_entries m h i = refl
+
+one_step : (x : Name) (b : Bool) (h : Shape) (t : Tree) (ts : Trees) → can_be_full (node h [] 0 (t ▸ ts)) ≡ true → Among x b h 0 (t ▸ ts) → Path x (asked b) (node h [] 0 (t ▸ ts))
+one_step x b h t ts full a =
+    let l = lead_by b a.one h a.first a.rest (sym (ap (λ us. can_be_full (node h [] 0 us)) a.is) ∙ full) a.leads in
     let p = a.path in
-    let step : Step = record { lead = l.lead; rest = a.rest } in
-    let direct : indirect l.lead (led p.steps (identifier p.read)) ≡ true = ap (indirect l.lead) (sym p.is) ∙ l.direct in
+    let step : Step = record { lead = l.lead; rest = a.rest; is_short = l.is_short } in
+    let direct : indirect l.lead (found p.steps (identifier p.read)) ≡ true = ap (indirect l.lead) (sym p.is) ∙ l.direct in
     let suit : (r : Tree) → suits x r h (append a.first (a.one ▸ a.rest)) ≡ true → suited r l.lead (is_end p.steps) ≡ true = λ r e. ap (suited r l.lead) p.ends ∙ l.suit x r a.rest a.mentions e in
-    let along : (r u : Tree) → u ≡ led p.steps r → node h [] 0 (append a.first (u ▸ a.rest)) ≡ led (step ∷ p.steps) r = λ r u e k. node (sym l.is k) [] 0 (append (sym l.front k) (e k ▸ a.rest)) in
+    let as_found : h ≡ shape_by (found_head (l.is_short && is_end p.steps) l.lead) = sym (ap (λ c. shape_by (found_head (l.is_short && c) l.lead)) p.ends ∙ l.is) in
+    let along : (r u : Tree) → u ≡ found p.steps r → node h [] 0 (append a.first (u ▸ a.rest)) ≡ found (step ∷ p.steps) r = λ r u e k. node (as_found k) [] 0 (append (sym l.front k) (e k ▸ a.rest)) in
+    let along_full : (r u : Tree) → u ≡ led p.steps r → node (in_full h) [] 0 (append a.first (u ▸ a.rest)) ≡ led (step ∷ p.steps) r = λ r u e k. node (l.full k) [] 0 (append (sym l.front k) (e k ▸ a.rest)) in
     record {
       steps = step ∷ p.steps;
       read = p.read;
@@ -589,14 +649,16 @@ one_step x b h t ts a =
       same = p.same;
       direct = (direct, p.direct);
       is = ap (node h [] 0) a.is ∙ along (identifier p.read) a.one p.is;
-      puts = λ r. ap (node h [] 0) (a.puts r) ∙ along r (put_first x r a.one) (p.puts r);
+      puts = λ r. ap (node (in_full h) [] 0) (a.puts r) ∙ along_full r (put_first x r a.one) (p.puts r);
       ends = refl;
       passed_in = λ m r e.
           let d = parted x m r h (t ▸ ts) e in
           let (f, g) = a.passed m r d.all in
           let sure = sure_by x m r h a.first a.one a.rest (surely m (is_effect_free r) l.lead) a.earlier (l.sure m (is_effect_free r)) (subst (λ us. is_reached x m r h us ≡ true) a.is d.reached) in
           let there = allows p.read r l.lead p.steps (suit r (subst (λ us. suits x r h us ≡ true) a.is d.suit)) direct in
-          ((subst₂ (λ k us. AllPass m r k 0 us) (sym l.is) (sym l.front) f, sure, there, suited_whole r l.lead (is_end p.steps) (suit r (subst (λ us. suits x r h us ≡ true) a.is d.suit))), subst₂ (λ k us. PassedIn (entries_below m k (place 0 us)) r p.read.spelling p.steps) (sym l.is) (sym l.front) (p.passed_in (entries_below m h (place 0 a.first)) r g));
+          let passing = subst₂ (λ k us. AllPass m r k 0 us) l.full (sym l.front) (all_pass_full m r h 0 a.first f) in
+          let further = subst (λ n. PassedIn n r p.read.spelling p.steps) (full_entries m h (place 0 a.first)) (p.passed_in (entries_below m h (place 0 a.first)) r g) in
+          ((passing, sure, there, suited_whole r l.lead (is_end p.steps) (suit r (subst (λ us. suits x r h us ≡ true) a.is d.suit))), subst₂ (λ k us. PassedIn (entries_below m k (place 0 us)) r p.read.spelling p.steps) l.full (sym l.front) further);
       suit_in = λ m r e.
           let d = parted x m r h (t ▸ ts) e in
           let (f, g) = a.passed m r d.all in
@@ -609,7 +671,7 @@ mutual
   path x false (node h ys n none) e =
       let (y, is, same) = read_is x (node h ys n none) e in
       record { steps = []; read = y; well = tt; spared = tt; same = same; direct = tt; is = is; puts = λ r. refl; ends = refl; passed_in = λ m r e. tt; suit_in = λ m r e. tt }
-  path x b (node h [] zero (t ▸ ts)) e = one_step x b h t ts (among x b h 0 (t ▸ ts) e)
+  path x b (node h [] zero (t ▸ ts)) e = let (f, g) = and_parts (can_be_full (node h [] 0 (t ▸ ts))) (leads_to x b h 0 (t ▸ ts)) e in one_step x b h t ts f (among x b h 0 (t ▸ ts) g)
   path x b (node h [] (suc n) (t ▸ ts)) e = absurd (true≢false (sym e))
   path x b (node h (y ∷ ys) n (t ▸ ts)) e = absurd (true≢false (sym e))
 
@@ -631,7 +693,7 @@ mutual
   mentioned x b (node h (y ∷ ys) n none) e =
       let same = (and_parts (is_identifier (node h (y ∷ ys) n none)) (is_same x.symbol y.symbol) (and_parts (not b) (reads x (node h (y ∷ ys) n none)) e).1).1 in
       first_true (is_like_one x (y ∷ ys)) false (first_true (same_text x.spelling y.spelling || is_same x.symbol y.symbol) (is_like_one x ys) (or_true (same_text x.spelling y.spelling) (is_same x.symbol y.symbol) same))
-  mentioned x b (node h ys n (t ▸ ts)) e = or_true (is_like_one x ys) (any_names x (t ▸ ts)) (any_mentioned x b h 0 (t ▸ ts) (and_parts (is_nameless (node h ys n (t ▸ ts))) (leads_to x b h 0 (t ▸ ts)) e).1)
+  mentioned x b (node h ys n (t ▸ ts)) e = or_true (is_like_one x ys) (any_names x (t ▸ ts)) (any_mentioned x b h 0 (t ▸ ts) (and_parts (may_hold (node h ys n (t ▸ ts))) (leads_to x b h 0 (t ▸ ts)) e).1)
 
   any_mentioned : (x : Name) (b : Bool) (h : Shape) (i : ℕ) (ts : Trees) → leads_to x b h i ts ≡ true → any_names x ts ≡ true
   any_mentioned x b h i none e = absurd (true≢false (sym e))
@@ -658,8 +720,13 @@ pub record Statement (x : Name) (t : Tree) : Type 0 where
   pub free : any_names x rest ≡ false
   pub is : t ≡ node (shape_by (head_of lead)) [] 0 (inner ▸ rest)
   pub puts : (r : Tree) → put_first x r t ≡ node (shape_by (head_of lead)) [] 0 (put_first x r inner ▸ rest)
-  pub along : (u : Tree) → node (shape_by (head_of lead)) [] 0 (u ▸ rest) ≡ led (record { lead = lead; rest = rest } ∷ []) u
+  pub along : (u : Tree) → node (shape_by (head_of lead)) [] 0 (u ▸ rest) ≡ led (record { lead = lead; rest = rest; is_short = false } ∷ []) u
   pub passed : (r : Tree) → are_passed x r t ≡ true → are_passed x r inner ≡ true
+
+-- nothing that leads there is shorthand, but as it is found
+full_head : (l : Lead) → in_full (shape_by (head_of l)) ≡ shape_by (head_of l)
+full_head (Fielding c a) = refl
+full_head l = refl
 
 -- of this lead
 stated : (x : Name) (l : Lead) (t : Tree) (ts : Trees) → ((b : Bool) → Stands AsWholeItem l b) → before l ≡ none → ((b : End) → Allows l b) → ((r : Tree) → whole r l ≡ true) → ((u : Tree) → indirect l u ≡ true) → ((f : Bool) → surely false f l ≡ true) → entries_below false (shape_by (head_of l)) 0 ≡ false → ((c : Asked) → asked_below (head_of l) c (place 0 (before l)) ≡ AsValue) → is_first x false t && not (any_names x ts) ≡ true → Statement x (node (shape_by (head_of l)) [] 0 (t ▸ ts))
@@ -681,7 +748,7 @@ stated x l t ts s o g w i d k b e =
       path = path x false t q;
       free = not_true (any_names x ts) f;
       is = refl;
-      puts = λ r. ap (λ c. node (shape_by (head_of l)) [] 0 (if c then put_first x r t ▸ ts else t ▸ put_among x r ts)) n;
+      puts = λ r. ap (λ h. node h [] 0 (put_among x r (t ▸ ts))) (full_head l) ∙ ap (λ c. node (shape_by (head_of l)) [] 0 (if c then put_first x r t ▸ ts else t ▸ put_among x r ts)) n;
       along = λ u. ap (λ us. node (shape_by (head_of l)) [] 0 (append us (u ▸ ts))) (sym o);
       passed = λ r e. let h = shape_by (head_of l) in sym (ap (λ m. are_passed_in x m r t) k) ∙ sym (ap (λ c. if c then are_passed_in x (entries_below false h 0) r t else (passes_at false r h 0 t && all_passed x false r h 1 ts)) n) ∙ (parted x false r h (t ▸ ts) e).all;
     }
@@ -772,8 +839,8 @@ pub record Outside (x : Name) (t : Tree) : Type 0 where
   pub evaluates : evaluated t ≡ t
   pub passed : (r : Tree) → are_passed x r t ≡ true → are_passed x r value ≡ true
 
-outside_of : (x : Name) (s : Seat) (h : Shape) (value : Tree) (ts : Trees) → ((u : Tree) → seated s u ≡ node h [] 0 (u ▸ ts)) → rest s ≡ ts → evaluated (seated s value) ≡ seated s value → entries_below false h 0 ≡ false → is_first x false value && not (any_names x (rest_children 0 ts)) ≡ true → Outside x (seated s value)
-outside_of x s h value ts there same evaluates low e =
+outside_of : (x : Name) (s : Seat) (h : Shape) (value : Tree) (ts : Trees) → in_full h ≡ h → ((u : Tree) → seated s u ≡ node h [] 0 (u ▸ ts)) → rest s ≡ ts → evaluated (seated s value) ≡ seated s value → entries_below false h 0 ≡ false → is_first x false value && not (any_names x (rest_children 0 ts)) ≡ true → Outside x (seated s value)
+outside_of x s h value ts full there same evaluates low e =
     let (a, b) = and_parts (is_first x false value) (not (any_names x (rest_children 0 ts))) e in
     let n = mentioned x false value a in
     record {
@@ -782,14 +849,14 @@ outside_of x s h value ts there same evaluates low e =
       once = a;
       beside = ap (any_names x) (same ∙ sym (no_first ts)) ∙ not_true (any_names x (rest_children 0 ts)) b;
       is = refl;
-      puts = λ r. ap (put_first x r) (there value) ∙ ap (λ c. node h [] 0 (if c then put_first x r value ▸ ts else value ▸ put_among x r ts)) n ∙ sym (there (put_first x r value));
+      puts = λ r. ap (put_first x r) (there value) ∙ ap (λ h. node h [] 0 (put_among x r (value ▸ ts))) full ∙ ap (λ c. node h [] 0 (if c then put_first x r value ▸ ts else value ▸ put_among x r ts)) n ∙ sym (there (put_first x r value));
       evaluates = evaluates;
       passed = λ r e. sym (ap (λ m. are_passed_in x m r value) low) ∙ sym (ap (λ c. if c then are_passed_in x (entries_below false h 0) r value else (passes_at false r h 0 value && all_passed x false r h 1 ts)) n) ∙ (parted x false r h (value ▸ ts) (sym (ap (are_passed x r) (there value)) ∙ e)).all;
     }
 
 outside : (x : Name) (t : Tree) → reads_outside x t ≡ true → Outside x t
-outside x (node shape.SwitchStatement [] zero (value ▸ (cases ▸ none))) e = outside_of x (Choice cases) shape.SwitchStatement value (cases ▸ none) (λ u. refl) refl refl refl e
-outside x (node shape.ForStatement [] zero (value ▸ (u ▸ (v ▸ (w ▸ none))))) e = outside_of x (Loop u v w) shape.ForStatement value (u ▸ (v ▸ (w ▸ none))) (λ u. refl) refl refl refl e
+outside x (node shape.SwitchStatement [] zero (value ▸ (cases ▸ none))) e = outside_of x (Choice cases) shape.SwitchStatement value (cases ▸ none) refl (λ u. refl) refl refl refl e
+outside x (node shape.ForStatement [] zero (value ▸ (u ▸ (v ▸ (w ▸ none))))) e = outside_of x (Loop u v w) shape.ForStatement value (u ▸ (v ▸ (w ▸ none))) refl (λ u. refl) refl refl refl e
 outside x t e = absurd (true≢false (sym e))
 
 -- a loop over keys or values, and reads it in its right side
@@ -868,16 +935,47 @@ module _ (Q : Asked → Tree → Type 0) (cs : ℕ → Asked) where
   one_below i none t ts a = a.0
   one_below i (p ▸ ps) t ts a = one_below (suc i) ps t ts a.1
 
+-- a property is asked the same, shorthand and in full
+same_asked : (c : Asked) (i : ℕ) → asked_below (Property true false) c i ≡ asked_below (Property false false) c i
+same_asked c zero = refl
+same_asked c (suc i) = refl
+
+asked_the_same : (c : Asked) → asked_below (Property true false) c ≡ asked_below (Property false false) c
+asked_the_same c k i = same_asked c i k
+
 module _ (J : Leap → Type 0) (Q : Asked → Tree → Type 0) (l : Local J Q) where
-  pub swapped : (c : Asked) (ss : List Step) → Well c ss → (t r : Tree) → (Q AsValue t → Q AsValue r) → Q c (led ss t) → Q c (led ss r)
+  from_found : (c : Asked) (ts : Trees) (b : Bool) (d : Lead) → Q c (node (shape_by (found_head b d)) [] 0 ts) → Q c (node (shape_by (head_of d)) [] 0 ts)
+  from_found c ts =
+      by_front (λ d h. Q c (node (shape_by h) [] 0 ts) → Q c (node (shape_by (head_of d)) [] 0 ts)) (λ d q. q)
+      (λ a e q. let (x, y) = l.down (Property true false) c ts tt q in l.up (Property false false) c ts tt x (subst (λ cs. Below Q cs 0 ts) (asked_the_same c) y))
+
+  to_found : (c : Asked) (ts : Trees) (b : Bool) (d : Lead) → Q c (node (shape_by (head_of d)) [] 0 ts) → Q c (node (shape_by (found_head b d)) [] 0 ts)
+  to_found c ts =
+      by_front (λ d h. Q c (node (shape_by (head_of d)) [] 0 ts) → Q c (node (shape_by h) [] 0 ts)) (λ d q. q)
+      (λ a e q. let (x, y) = l.down (Property false false) c ts tt q in l.up (Property true false) c ts tt x (subst (λ cs. Below Q cs 0 ts) (sym (asked_the_same c)) y))
+
+  pub swapped : (c : Asked) (ss : List Step) → Well c ss → (t r : Tree) → (Q AsValue t → Q AsValue r) → Q c (found ss t) → Q c (led ss r)
   swapped AsValue [] w t r f q = f q
   swapped c [] w t r f q = absurd w
   swapped c (s ∷ ss) w t r f q =
       let h = head_of s.lead in
       let ps = before s.lead in
-      let kids = λ (u : Tree). append ps (led ss u ▸ s.rest) in
-      let (x, y) = l.down h c (kids t) (plain_lead s.lead (kids t)) q in
-      l.up h c (kids r) (plain_lead s.lead (kids r)) x (swap_below Q (asked_below h c) 0 ps (led ss t) (led ss r) s.rest (swapped (asked_below h c (place 0 ps)) ss w.1 t r f) y)
+      let there = append ps (found ss t ▸ s.rest) in
+      let here = append ps (led ss r ▸ s.rest) in
+      let (x, y) = l.down h c there (plain_lead s.lead there) (from_found c there (ends_short s ss) s.lead q) in
+      l.up h c here (plain_lead s.lead here) x (swap_below Q (asked_below h c) 0 ps (found ss t) (led ss r) s.rest (swapped (asked_below h c (place 0 ps)) ss w.1 t r f) y)
+
+  -- and back
+  pub swapped_back : (c : Asked) (ss : List Step) → Well c ss → (t r : Tree) → (Q AsValue t → Q AsValue r) → Q c (led ss t) → Q c (found ss r)
+  swapped_back AsValue [] w t r f q = f q
+  swapped_back c [] w t r f q = absurd w
+  swapped_back c (s ∷ ss) w t r f q =
+      let h = head_of s.lead in
+      let ps = before s.lead in
+      let there = append ps (led ss t ▸ s.rest) in
+      let here = append ps (found ss r ▸ s.rest) in
+      let (x, y) = l.down h c there (plain_lead s.lead there) q in
+      to_found c here (ends_short s ss) s.lead (l.up h c here (plain_lead s.lead here) x (swap_below Q (asked_below h c) 0 ps (led ss t) (found ss r) s.rest (swapped_back (asked_below h c (place 0 ps)) ss w.1 t r f) y))
 
   pub taken : (c : Asked) (ss : List Step) → Well c ss → (r : Tree) → Q c (led ss r) → Q AsValue r
   taken AsValue [] w r q = q
@@ -893,18 +991,25 @@ module _ (m : Asked → Tree → ℕ) (cs : ℕ → Asked) where
   swap_sum i (p ▸ ps) t u ts = let rest = swap_sum (suc i) ps t u ts in omega (arith, rest)
 
 module _ (m : Asked → Tree → ℕ) (l : Summed m) where
-  pub swapped_sum : (c : Asked) (ss : List Step) → Well c ss → (t r : Tree) → m c (led ss r) + m AsValue t ≡ m c (led ss t) + m AsValue r
+  found_sum : (c : Asked) (ts : Trees) (b : Bool) (d : Lead) → m c (node (shape_by (found_head b d)) [] 0 ts) ≡ m c (node (shape_by (head_of d)) [] 0 ts)
+  found_sum c ts =
+      by_front (λ d h. m c (node (shape_by h) [] 0 ts) ≡ m c (node (shape_by (head_of d)) [] 0 ts)) (λ d. refl)
+      (λ a e. l (Property true false) c ts tt ∙ ap (λ cs. sum_below m cs 0 ts) (asked_the_same c) ∙ sym (l (Property false false) c ts tt))
+
+  pub swapped_sum : (c : Asked) (ss : List Step) → Well c ss → (t r : Tree) → m c (led ss r) + m AsValue t ≡ m c (found ss t) + m AsValue r
   swapped_sum AsValue [] w t r = omega arith
   swapped_sum c [] w t r = absurd w
   swapped_sum c (s ∷ ss) w t r =
       let h = head_of s.lead in
       let ps = before s.lead in
-      let kids = λ (u : Tree). append ps (led ss u ▸ s.rest) in
-      let one = l h c (kids t) (plain_lead s.lead (kids t)) in
-      let other = l h c (kids r) (plain_lead s.lead (kids r)) in
+      let there = append ps (found ss t ▸ s.rest) in
+      let here = append ps (led ss r ▸ s.rest) in
+      let one = l h c there (plain_lead s.lead there) in
+      let other = l h c here (plain_lead s.lead here) in
+      let full = found_sum c there (ends_short s ss) s.lead in
       let inner = swapped_sum (asked_below h c (place 0 ps)) ss w.1 t r in
-      let beside = swap_sum m (asked_below h c) 0 ps (led ss t) (led ss r) s.rest in
-      omega (arith, one, other, inner, beside)
+      let beside = swap_sum m (asked_below h c) 0 ps (found ss t) (led ss r) s.rest in
+      omega (arith, one, other, full, inner, beside)
 
 -- what a parent reads of it
 summaries_put : (ps : Trees) (t u : Tree) (ts : Trees) → summary t ≡ summary u → summaries (append ps (t ▸ ts)) ≡ summaries (append ps (u ▸ ts))

@@ -1,10 +1,11 @@
 -- What a tree weighs with another in the place of what it reads.
 use Rattle.std.proofs.Common.{◌≡◌, inl, inr, ℕ, suc, ◌+◌, ◌≤◌, Bool, true, false, [], ◌∷◌, List, Option, Some, None, refl, sym, ap, ◌∙◌, subst, true≢false, arith}
-use Rattle.std.specs.Prelude.{is_none, if◌then◌else◌, pos, zero}
+use Rattle.std.specs.Prelude.{is_none, if◌then◌else◌, pos, zero, ◌&&◌}
 use Rattle.mini_model.specs.declared.kind.VariableDeclarationKind.{VariableDeclarationKind}
 use Rattle.mini_model.specs.declared.kind.VariableDeclarationKind.TheVariants.{Var, Let, Const}
 use Rattle.mini_model.specs.declared.name.Name.{Name}
 use Rattle.mini_model.specs.declared.name.SymbolId.{SymbolId}
+use Rattle.mini_model.specs.declared.kind.PropertyKind.TheVariants.{Init}
 use Rattle.mini_model.specs.declared.operator.AssignmentOperator.TheVariants.{Assign}
 use Rattle.mini_model.specs.declared.operator.UnaryOperator.TheVariants.{Void}
 use Rattle.mini_model.specs.declared.place.Position.{Position}
@@ -22,12 +23,12 @@ use Rattle.mini_terms.specs.Reading.{is_plain_part}
 use Rattle.mini_rows.specs.Declarations.{binding, declarator}
 use Rattle.mini_rows.specs.Lists.{block, declaration, Each, EachIn, EachOf, each_loop}
 use Rattle.mini_rows.specs.Sketches.{shape_by, Asked, AsWholeItem, AsValue, AsValues, AsTarget, AsUpdated, asked_below}
-use Rattle.mini_rows.specs.Unused.{resolved, declared_among, declared_left, is_first, put_first, reads_first, reads_head}
+use Rattle.mini_rows.specs.Unused.{resolved, declared_among, declared_left, is_first, put_first, reads_first, reads_head, is_own_key}
 use Rattle.mini_rows.proofs.BooleanWeights.{moved}
 use Rattle.mini_rows.proofs.ListWeights.{total, in_list, comma_list, declarators_append}
 use Rattle.mini_rows.proofs.ListKeptHeads as opening
 use Rattle.mini_rows.proofs.ListKeptHeads.{Loop, Choice, seated}
-use Rattle.mini_rows.proofs.SingleUse.{Lead, Not, Plus, Minus, Tilde, Typing, Emptying, Beside, Deciding, Choosing, Passing, Called, Making, Waiting, Member, Keyed, Linking, Holding, Against, Given, Filling, Keying, Following, Branching, Failing, Storing, Gathering, Fielding, Spreading, Bracketing, Targeted, Changing, Listing, Doing, Giving, Raising, Testing, target_stands, head_of, before, place, Step, led, is_end, Stands, Well, Initial, heads, path, statement, Outside, Over, Heads, Path}
+use Rattle.mini_rows.proofs.SingleUse.{Lead, Not, Plus, Minus, Tilde, Typing, Emptying, Beside, Deciding, Choosing, Passing, Called, Making, Waiting, Member, Keyed, Linking, Holding, Against, Given, Filling, Keying, Following, Branching, Failing, Storing, Gathering, Fielding, Spreading, Bracketing, Targeted, Changing, Listing, Doing, Giving, Raising, Testing, target_stands, head_of, before, place, Step, led, is_end, Stands, Well, Initial, heads, path, statement, Outside, Over, Heads, Path, found, found_head, by_front, ends_short}
 
 -- ---- where the steps stand
 
@@ -263,8 +264,11 @@ no_zero : (l : Lead) (ts : Trees) → (outline (node (shape_by (head_of l)) [] 0
 no_zero (Listing us) ts = refl
 no_zero l ts = refl
 
-same_zero : (s : Step) (ss : List Step) (t u : Tree) → (outline (led (s ∷ ss) t)).is_zero ≡ (outline (led (s ∷ ss) u)).is_zero
-same_zero s ss t u = no_zero s.lead (append (before s.lead) (led ss t ▸ s.rest)) ∙ sym (no_zero s.lead (append (before s.lead) (led ss u ▸ s.rest)))
+found_no_zero : (ts : Trees) (b : Bool) (l : Lead) → (outline (node (shape_by (found_head b l)) [] 0 ts)).is_zero ≡ false
+found_no_zero ts = by_front (λ l h. (outline (node (shape_by h) [] 0 ts)).is_zero ≡ false) (λ l. no_zero l ts) (λ a e. refl)
+
+same_zero : (s : Step) (ss : List Step) (t u : Tree) → (outline (found (s ∷ ss) t)).is_zero ≡ (outline (led (s ∷ ss) u)).is_zero
+same_zero s ss t u = found_no_zero (append (before s.lead) (found ss t ▸ s.rest)) (ends_short s ss) s.lead ∙ sym (no_zero s.lead (append (before s.lead) (led ss u ▸ s.rest)))
 
 -- where no expression stands there are no parentheses
 no_marks : (a b w : ℕ) → (a + 0) + w ≤ (a + b) + w
@@ -322,17 +326,49 @@ module _ (r : Tree) (y : Name) (ts : Trees) where
       by true z = zero_falls l c s p a z h
       by false z = node_falls p l (identifier y) r ts (weight (Expr argument_seat) r + 3) (same_own c l true s p a (identifier y) r ts (zeros l (identifier y) r (sym z))) h
 
-led_falls : (c : Asked) (ss : List Step) → Well c ss → (p : Position) → Placed c p → (r : Tree) → is_plain_part r ≡ true → (y : Name) → is_none y.symbol ≡ false → weight p (led ss r) ≤ weight p (led ss (identifier y)) + (weight (Expr argument_seat) r + 3)
-led_falls AsValue [] w (Expr s) a r f y e = let here = moved s argument_seat r f in let name = name_weighs s y e in omega (arith, here, name)
-led_falls AsValue [] w Elsewhere a r f y e = let bare = bare_falls r f in let here = moved (seat_of_level 0) argument_seat r f in let name = name_there y e in omega (arith, bare, here, name)
-led_falls AsValue [] w p a r f y e = absurd a
-led_falls c [] w p a r f y e = absurd w
+-- a shorthand property in full: its key and a colon more, and no parentheses
+key_weighs : (a : Tree) → is_own_key a ≡ true → weight Elsewhere a ≤ 2
+key_weighs (node (shape.IdentifierName s) [] zero none) e = omega arith
+key_weighs a e = absurd (true≢false (sym e))
+
+property_falls : (p : Position) → Placed AsValue p → (r a : Tree) (ts : Trees) (y : Name) → is_none y.symbol ≡ false → is_own_key a ≡ true → weight p (node (shape.ObjectProperty Init false false false) [] 0 (a ▸ (r ▸ ts))) ≤ weight p (node (shape.ObjectProperty Init false true false) [] 0 (a ▸ (identifier y ▸ ts))) + (weight (Expr argument_seat) r + 3)
+property_falls (Expr s) q r a ts y n e = let key = key_weighs a e in let name = name_weighs argument_seat y n in omega (arith, key, name)
+property_falls Elsewhere q r a ts y n e = let key = key_weighs a e in let name = name_weighs argument_seat y n in omega (arith, key, name)
+property_falls p q r a ts y n e = absurd q
+
+short_falls : (c : Asked) (p : Position) → Placed c p → (r : Tree) (ts : Trees) (y : Name) → is_none y.symbol ≡ false → ((l : Lead) → Stands c l true → Well (asked_below (head_of l) c (place 0 (before l))) [] → Falls r y ts c l p) → (b : Bool) (l : Lead) → Stands c l true → Well (asked_below (head_of l) c (place 0 (before l))) []
+    → weight p (node (shape_by (head_of l)) [] 0 (append (before l) (r ▸ ts))) ≤ weight p (node (shape_by (found_head b l)) [] 0 (append (before l) (identifier y ▸ ts))) + (weight (Expr argument_seat) r + 3)
+short_falls c p q r ts y n f =
+    by_front (λ l h. Stands c l true → Well (asked_below (head_of l) c (place 0 (before l))) [] → weight p (node (shape_by (head_of l)) [] 0 (append (before l) (r ▸ ts))) ≤ weight p (node (shape_by h) [] 0 (append (before l) (identifier y ▸ ts))) + (weight (Expr argument_seat) r + 3)) f (λ a e s w. by c q a e s)
+  where
+    by : (c : Asked) → Placed c p → (a : Tree) → is_own_key a ≡ true → Stands c (Fielding false a) true → weight p (node (shape.ObjectProperty Init false false false) [] 0 (a ▸ (r ▸ ts))) ≤ weight p (node (shape.ObjectProperty Init false true false) [] 0 (a ▸ (identifier y ▸ ts))) + (weight (Expr argument_seat) r + 3)
+    by AsValue q a e s = property_falls p q r a ts y n e
+    by c q a e s = absurd s
+
+-- what isn't the read itself is found in full
+never_short : (s : Step) (q : Step) (ss : List Step) → ends_short s (q ∷ ss) ≡ false
+never_short s q ss = by s.is_short
+  where
+    by : (b : Bool) → (b && false) ≡ false
+    by true = refl
+    by false = refl
+
+-- the read itself
+read_falls : (c : Asked) → Well c [] → (p : Position) → Placed c p → (r : Tree) → is_plain_part r ≡ true → (y : Name) → is_none y.symbol ≡ false → weight p r ≤ weight p (identifier y) + (weight (Expr argument_seat) r + 3)
+read_falls AsValue w (Expr s) a r f y e = let here = moved s argument_seat r f in let name = name_weighs s y e in omega (arith, here, name)
+read_falls AsValue w Elsewhere a r f y e = let bare = bare_falls r f in let here = moved (seat_of_level 0) argument_seat r f in let name = name_there y e in omega (arith, bare, here, name)
+read_falls AsValue w p a r f y e = absurd a
+read_falls c w p a r f y e = absurd w
+
+led_falls : (c : Asked) (ss : List Step) → Well c ss → (p : Position) → Placed c p → (r : Tree) → is_plain_part r ≡ true → (y : Name) → is_none y.symbol ≡ false → weight p (led ss r) ≤ weight p (found ss (identifier y)) + (weight (Expr argument_seat) r + 3)
+led_falls c [] w p a r f y e = read_falls c w p a r f y e
 led_falls c (s ∷ []) w p a r f y e =
-    end_falls r y s.rest s.lead c w.0 p a
-    (λ n. led_falls (asked_below (head_of s.lead) c (place 0 (before s.lead))) [] w.1 (child_position (shape_by (head_of s.lead)) p n (count (before s.lead))) (placed_below c s.lead true w.0 p a n) r f y e)
+    short_falls c p a r s.rest y e
+    (λ l v u. end_falls r y s.rest l c v p a (λ n. read_falls (asked_below (head_of l) c (place 0 (before l))) u (child_position (shape_by (head_of l)) p n (count (before l))) (placed_below c l true v p a n) r f y e)) (ends_short s []) s.lead w.0 w.1
 led_falls c (s ∷ (q ∷ ss)) w p a r f y e =
-    node_falls p s.lead (led (q ∷ ss) (identifier y)) (led (q ∷ ss) r) s.rest (weight (Expr argument_seat) r + 3) (same_own c s.lead false w.0 p a (led (q ∷ ss) (identifier y)) (led (q ∷ ss) r) s.rest (zeros s.lead (led (q ∷ ss) (identifier y)) (led (q ∷ ss) r) (same_zero q ss (identifier y) r)))
-    (λ n. led_falls (asked_below (head_of s.lead) c (place 0 (before s.lead))) (q ∷ ss) w.1 (child_position (shape_by (head_of s.lead)) p n (count (before s.lead))) (placed_below c s.lead false w.0 p a n) r f y e)
+    subst (λ b. weight p (led (s ∷ (q ∷ ss)) r) ≤ weight p (node (shape_by (found_head b s.lead)) [] 0 (append (before s.lead) (found (q ∷ ss) (identifier y) ▸ s.rest))) + (weight (Expr argument_seat) r + 3)) (sym (never_short s q ss))
+    (node_falls p s.lead (found (q ∷ ss) (identifier y)) (led (q ∷ ss) r) s.rest (weight (Expr argument_seat) r + 3) (same_own c s.lead false w.0 p a (found (q ∷ ss) (identifier y)) (led (q ∷ ss) r) s.rest (zeros s.lead (found (q ∷ ss) (identifier y)) (led (q ∷ ss) r) (same_zero q ss (identifier y) r)))
+    (λ n. led_falls (asked_below (head_of s.lead) c (place 0 (before s.lead))) (q ∷ ss) w.1 (child_position (shape_by (head_of s.lead)) p n (count (before s.lead))) (placed_below c s.lead false w.0 p a n) r f y e))
 
 some_symbol : (k : ℕ) (y : Option SymbolId) → is_same (Some (record { 0 = k })) y ≡ true → is_none y ≡ false
 some_symbol k (Some y) e = refl
@@ -341,22 +377,26 @@ some_symbol k None e = absurd (true≢false (sym e))
 head_falls : (s : List ℕ) (k : ℕ) (head : Tree) → reads_first (resolved s k) head ≡ true → (q : StmtSeat) (r : Tree) → is_plain_part r ≡ true → weight (Stmt q) (put_first (resolved s k) r head) ≤ weight (Stmt q) head + (weight (Expr argument_seat) r + 3)
 head_falls s k head e q r f =
     let t = statement (resolved s k) head e in
-    let step : Step = record { lead = t.lead; rest = t.rest } in
+    let step : Step = record { lead = t.lead; rest = t.rest; is_short = false } in
     let steps : List Step = step ∷ t.path.steps in
     let falls = led_falls AsWholeItem steps (t.stands (is_end t.path.steps), subst (λ c. Well c t.path.steps) (sym (t.below AsWholeItem)) t.path.well) (Stmt q) tt r f t.path.read (some_symbol k t.path.read.symbol t.path.same) in
-    let there : head ≡ led steps (identifier t.path.read) = t.is ∙ t.along t.inner ∙ ap (λ u. led (step ∷ []) u) t.path.is in
+    let there : head ≡ found steps (identifier t.path.read) = t.is ∙ t.along t.inner ∙ ap (λ u. led (step ∷ []) u) t.path.is in
     let put : put_first (resolved s k) r head ≡ led steps r = t.puts r ∙ t.along (put_first (resolved s k) r t.inner) ∙ ap (λ u. led (step ∷ []) u) (t.path.puts r) in
     omega (arith, falls, ap (weight (Stmt q)) there, ap (weight (Stmt q)) put)
 
 -- ---- where the next declarator reads it
 
+stands_by : (l : Lead) (t : Tree) (ts : Trees) → (outline (node (shape_by (head_of l)) [] 0 (append (before l) (t ▸ ts)))).absent ≡ false
+stands_by (Listing us) t ts = refl
+stands_by l t ts = refl
+
 led_stands : (ss : List Step) (t : Tree) → (outline t).absent ≡ false → (outline (led ss t)).absent ≡ false
 led_stands [] t e = e
-led_stands (s ∷ ss) t e = by s.lead
-  where
-    by : (l : Lead) → (outline (node (shape_by (head_of l)) [] 0 (append (before l) (led ss t ▸ s.rest)))).absent ≡ false
-    by (Listing ts) = refl
-    by l = refl
+led_stands (s ∷ ss) t e = stands_by s.lead (led ss t) s.rest
+
+found_stands : (ss : List Step) (t : Tree) → (outline t).absent ≡ false → (outline (found ss t)).absent ≡ false
+found_stands [] t e = e
+found_stands (s ∷ ss) t e = by_front (λ l h. (outline (node (shape_by h) [] 0 (append (before l) (found ss t ▸ s.rest)))).absent ≡ false) (λ l. stands_by l (found ss t) s.rest) (λ a o. refl) (ends_short s ss) s.lead
 
 plain_stands : (t : Tree) → is_plain_part t ≡ true → (outline t).absent ≡ false
 plain_stands (node shape.Absent xs n ts) e = absurd (true≢false (sym e))
@@ -370,7 +410,7 @@ declarator_falls : (s : List ℕ) (k : ℕ) (binds value : Tree) → is_first (r
 declarator_falls s k binds value e r f =
     let p = path (resolved s k) false value e in
     let falls = led_falls AsValue p.steps p.well (Expr argument_seat) tt r f p.read (some_symbol k p.read.symbol p.same) in
-    let stands = ap (λ t. (outline t).absent) p.is ∙ led_stands p.steps (identifier p.read) refl in
+    let stands = ap (λ t. (outline t).absent) p.is ∙ found_stands p.steps (identifier p.read) refl in
     let put_stands = ap (λ t. (outline t).absent) (p.puts r) ∙ led_stands p.steps r (plain_stands r f) in
     let own = λ (t : Tree) (h : (outline t).absent ≡ false). ap (λ b. own_weight Elsewhere shape.VariableDeclarator [] (outline binds ∷ (record (outline t) { absent = b } ∷ []))) h in
     omega (arith, falls, own value stands, own (put_first (resolved s k) r value) put_stands, ap (weight (Expr argument_seat)) p.is, ap (weight (Expr argument_seat)) (p.puts r))

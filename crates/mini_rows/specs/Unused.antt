@@ -31,6 +31,7 @@ pub use Rattle.mini_rows.specs.Lists.{resolved}
 use Rattle.mini_rows.specs.Declarations.{binding, declarator}
 use Rattle.mini_rows.specs.Chains.{is_calm}
 use Rattle.mini_rows.specs.ChainLinks.{is_lone_by}
+use Rattle.mini_rows.specs.SpellKeys.{is_proto}
 
 -- whether one of these names has the symbol of this one, or its spelling
 abbrev pub is_like_one : Name → List Name → Bool
@@ -161,13 +162,13 @@ goes_on (shape.ComputedMemberExpression false) = true
 goes_on h = false
 
 -- what evaluates its first part, or what is assigned to, or a key, and then, if at all, this one, and asks for the value of this one
--- alone: a link with `?.` asks for it where its first part is neither undefined nor null. A property that is shorthand isn't such a part: its
--- value repeats its key
+-- alone: a link with `?.` asks for it where its first part is neither undefined nor null
 abbrev pub may_go_on : Shape → Bool
 may_go_on (shape.LogicalExpression o) = true
 may_go_on shape.ConditionalExpression = true
 may_go_on (shape.AssignmentExpression o) = true
 may_go_on (shape.ObjectProperty Init false false is_computed) = true
+may_go_on (shape.ObjectProperty Init false true false) = true
 may_go_on (shape.CallExpression true) = true
 may_go_on (shape.ComputedMemberExpression true) = true
 may_go_on h = false
@@ -215,22 +216,45 @@ has_symbol_of x (y ∷ ys) = is_same x.symbol y.symbol
 abbrev pub reads : Name → Tree → Bool
 reads x t = is_identifier t && has_symbol_of x (names_of t)
 
+-- a key that is a name, and not `__proto__`
+abbrev pub is_own_key : Tree → Bool
+is_own_key (node (shape.IdentifierName s) [] zero none) = not (is_proto s)
+is_own_key t = false
+
+-- `x`, as a property
+abbrev pub is_short : Shape → Bool
+is_short (shape.ObjectProperty Init false true false) = true
+is_short h = false
+
+-- a shorthand property can be written in full: its value is a name alone, and its key isn't `__proto__`, by which `{ __proto__: a }` would
+-- set the prototype (ECMA-262, "__proto__ Property Names in Object Initializers"). All else is in full
+abbrev pub can_be_full : Tree → Bool
+can_be_full t = not (is_short (shape_of t)) || (is_bare t 2 && (is_own_key (part t 0) && is_childless (part t 1)))
+
+-- `x: a` of `x`
+abbrev pub in_full : Shape → Shape
+in_full h = if is_short h then shape.ObjectProperty Init false false false else h
+
+-- no name and no number, and in full, or it can be
+abbrev pub may_hold : Tree → Bool
+may_hold t = is_nameless t && can_be_full t
+
 -- an expression, or a list of parts, reads the variable after the parts that stand before, and nothing else in it mentions the name
 abbrev mutual
   pub is_first : Name → Bool → Tree → Bool
   is_first x in_list (node h ys n none) = not in_list && reads x (node h ys n none)
-  is_first x in_list (node h ys n (t ▸ ts)) = is_nameless (node h ys n (t ▸ ts)) && leads_to x in_list h 0 (t ▸ ts)
+  is_first x in_list (node h ys n (t ▸ ts)) = may_hold (node h ys n (t ▸ ts)) && leads_to x in_list h 0 (t ▸ ts)
 
   -- of the parts from a place on, the one that mentions it
   pub leads_to : Name → Bool → Shape → ℕ → Trees → Bool
   leads_to x in_list h i none = false
   leads_to x in_list h i (t ▸ ts) = if names x t then (leads in_list h i t && (is_first x (holds_list h i) t && not (any_names x ts))) else leads_to x in_list h (suc i) ts
 
--- another tree in the place of what is read there
+-- another tree in the place of what is read there: `{ x }` becomes `{ x: a() }`
 abbrev mutual
   pub put_first : Name → Tree → Tree → Tree
   put_first x r (node h ys n none) = r
-  put_first x r (node h ys n (t ▸ ts)) = node h ys n (put_among x r (t ▸ ts))
+  put_first x r (node h ys n (t ▸ ts)) = node (in_full h) ys n (put_among x r (t ▸ ts))
 
   pub put_among : Name → Tree → Trees → Trees
   put_among x r none = none

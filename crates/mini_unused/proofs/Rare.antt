@@ -15,7 +15,7 @@ use Rattle.mini_node.specs.Kinds.{is_identifier}
 use Rattle.mini_node.specs.Walks.{next_child}
 use Rattle.mini_kept.proofs.SameScopes.{same_texts}
 use Rattle.mini_rows.specs.Declarations.{declarator}
-use Rattle.mini_rows.specs.Unused.{resolved, is_like_one, names, any_names, is_idle, leads, holds_list, is_childless, reads, is_first, leads_to, put_first, put_among, are_passed, is_head_shape, reads_first, reads_head, has_declarator, goes_over, evaluated}
+use Rattle.mini_rows.specs.Unused.{may_hold, resolved, is_like_one, names, any_names, is_idle, leads, holds_list, is_childless, reads, is_first, leads_to, put_first, put_among, are_passed, is_head_shape, reads_first, reads_head, has_declarator, goes_over, evaluated}
 use Rattle.mini_rows.proofs.ListKeptHeads.{Seat, Loop, Choice, seated}
 use Rattle.mini_rows.specs.Lists.{Each, EachIn, EachOf, each_loop}
 use Rattle.mini_rows.proofs.SingleUse.{Heads, heads}
@@ -207,7 +207,7 @@ mutual
       let same = (and_parts (is_identifier (node h (y ∷ ys) k none)) (is_same x.symbol y.symbol) reads_it).1 in
       let one = counted_there (bucket true n) (bucket true n x) y (sym (symbols_alike n x y same)) in
       omega (arith, one)
-  first_counted n x c (node h ys k (t ▸ ts)) e = let rest = lead_counted n x c h 0 (t ▸ ts) (and_parts (is_nameless (node h ys k (t ▸ ts))) (leads_to x c h 0 (t ▸ ts)) e).1 in omega (arith, rest)
+  first_counted n x c (node h ys k (t ▸ ts)) e = let rest = lead_counted n x c h 0 (t ▸ ts) (and_parts (may_hold (node h ys k (t ▸ ts))) (leads_to x c h 0 (t ▸ ts)) e).1 in omega (arith, rest)
 
   lead_counted : (n : ℕ) (x : Name) (c : Bool) (h : Shape) (i : ℕ) (ts : Trees) → leads_to x c h i ts ≡ true → 1 ≤ tallies (bucket true n) (bucket true n x) ts
   lead_counted n x c h i none e = absurd (true≢false (sym e))

@@ -3,6 +3,7 @@ use Rattle.std.proofs.Common.{◌≡◌, ℕ, zero, suc, ◌+◌, ◌<◌, ◌�
 use Rattle.std.specs.Prelude.{not, ◌&&◌, ◌||◌, if◌then◌else◌}
 use Rattle.std.proofs.lemmas.Bool.{and_parts, ltb-true, ltb-false}
 use Rattle.std.proofs.Math.Dec.{ltb}
+use Rattle.mini_model.specs.declared.kind.PropertyKind.TheVariants.{Init}
 use Rattle.mini_model.specs.declared.kind.VariableDeclarationKind.{VariableDeclarationKind}
 use Rattle.mini_model.specs.declared.name.Name.{Name}
 use Rattle.mini_model.specs.declared.shape.Shape.{Shape}
@@ -12,17 +13,17 @@ use Rattle.mini_model.specs.Paths.{append}
 use Rattle.mini_laws.specs.Naming as kinds
 use Rattle.mini_laws.specs.ScopeList.{has_eval}
 use Rattle.mini_laws.specs.Value.{VariableSet}
-use Rattle.mini_node.specs.Children.{names_of, part, with_child, with_part, is_nameless, first_children, rest_children}
+use Rattle.mini_node.specs.Children.{names_of, part, with_child, with_part, is_bare, is_nameless, number_of, first_children, rest_children}
 use Rattle.mini_node.specs.Kinds.{is_absent_part, is_block}
 use Rattle.mini_node.specs.Made.{block_is}
 use Rattle.mini_node.specs.Walks.{next_child}
 use Rattle.mini_terms.specs.Folds.{is_effect_free}
 use Rattle.mini_rows.specs.Lists.{block, declaration}
 use Rattle.mini_rows.specs.Declarations.{binding, declarator}
-use Rattle.mini_rows.specs.Unused.{resolved, declared_among, declared_left, names, any_names, is_reached, leads, has_arguments, holds_list, is_childless, is_written_value, is_value_operator, is_constant, reads, is_first, leads_to, put_first, put_among, passes_branch, passes_at, is_sure, is_placed, holds_entries, entries_below, begins_bare, suits, are_passed_in, are_passed, all_passed, is_head_shape, reads_first, reads_head, evaluated, may_move, lets_go, Row71}
+use Rattle.mini_rows.specs.Unused.{resolved, declared_among, declared_left, names, any_names, is_own_key, is_short, in_full, may_hold, is_reached, leads, has_arguments, holds_list, is_childless, is_written_value, is_value_operator, is_constant, reads, is_first, leads_to, put_first, put_among, passes_branch, passes_at, is_sure, is_placed, holds_entries, entries_below, begins_bare, suits, are_passed_in, are_passed, all_passed, is_head_shape, reads_first, reads_head, evaluated, may_move, lets_go, Row71}
 use Rattle.mini_unused.specs.RemoveUnusedDeclaration.{declares_name, is_lexical_shape, declares_list, may_lose, is_free_at, list_at}
 use Rattle.mini_unused.specs.SubstituteNext.{put_named}
-use Rattle.mini_unused.specs.SubstituteSingleUse.{mention_place, may_lead, all_pass, is_reached_at, may_reach, is_head, reads_here, last_place, is_declared_over, is_mentioned_around, reads_next, is_read_once, is_single_declarator, is_single, declaration_left, list_single}
+use Rattle.mini_unused.specs.SubstituteSingleUse.{is_own_name, written_in_full, mention_place, may_lead, all_pass, is_reached_at, may_reach, is_head, reads_here, last_place, is_declared_over, is_mentioned_around, reads_next, is_read_once, is_single_declarator, is_single, declaration_left, list_single}
 use Rattle.mini_unused.proofs.Unused.{no_outside, parts_of, there_child, there_first, and_both, Declares, declares, a_declaration, left_is}
 
 -- ---- the part that reads
@@ -34,6 +35,18 @@ childless (node h xs n (t ▸ ts)) e = absurd (omega (arith, e))
 pub first_leaf : (x : Name) (b : Bool) (t : Tree) → count (children t) ≡ 0 → is_first x b t ≡ (not b && reads x t)
 first_leaf x b (node h xs n none) e = refl
 first_leaf x b (node h xs n (t ▸ ts)) e = absurd (omega (arith, e))
+
+-- a key
+pub own_key_is : (t : Tree) → is_own_key t ≡ (is_bare t 0 && is_own_name (shape_of t))
+own_key_is (node (shape.IdentifierName s) [] zero none) = refl
+own_key_is (node (shape.IdentifierName s) [] zero (t ▸ ts)) = refl
+own_key_is (node (shape.IdentifierName s) [] (suc n) ts) = refl
+own_key_is (node (shape.IdentifierName s) (x ∷ xs) n ts) = refl
+own_key_is (node h xs n ts) = sym (never (is_bare (node h xs n ts) 0))
+  where
+    never : (b : Bool) → (b && false) ≡ false
+    never true = refl
+    never false = refl
 
 pub no_first : (ts : Trees) → rest_children 0 ts ≡ ts
 no_first none = refl
@@ -156,13 +169,13 @@ pub first_by : (x : Name) (b : Bool) (t : Tree) (p : ℕ) (m f a : Bool) → p �
 first_by x b (node h xs n none) p m f a e l g i k = absurd (omega (arith, l))
 first_by x b (node h xs n (t ▸ ts)) p m f a e l g i k =
     let us : Trees = t ▸ ts in
-    let same = is_nameless (node h xs n us) in
+    let same = may_hold (node h xs n us) in
     let there = leads_at x b h 0 us (omega (arith, e, l)) ∙ ap (λ j. leads_there x b h j (mention_place x us) us) (omega arith) ∙ sym (ap (λ j. leads_there x b h j j us) e) in
     ap (λ c. same && c) there ∙ and_turned same (leads b h p (child_or_absent us p)) (is_first x (holds_list h p) (child_or_absent us p) && not (any_names x (rest_children (suc p) us))) ∙ sym (λ j. g j && (i j && not (k j)))
 
 pub not_mentioned : (x : Name) (b : Bool) (t : Tree) (p : ℕ) → 0 < count (children t) → p ≡ mention_place x (children t) → count (children t) ≤ p → is_first x b t ≡ false
 not_mentioned x b (node h xs n none) p s e l = absurd (omega (arith, s))
-not_mentioned x b (node h xs n (t ▸ ts)) p s e l = ap (λ c. is_nameless (node h xs n (t ▸ ts)) && c) (leads_nowhere x b h 0 (t ▸ ts) (omega (arith, e, l))) ∙ and_false (is_nameless (node h xs n (t ▸ ts)))
+not_mentioned x b (node h xs n (t ▸ ts)) p s e l = ap (λ c. may_hold (node h xs n (t ▸ ts)) && c) (leads_nowhere x b h 0 (t ▸ ts) (omega (arith, e, l))) ∙ and_false (may_hold (node h xs n (t ▸ ts)))
 
 pub not_begun : (x : Name) (b : Bool) (t : Tree) (p : ℕ) → p ≡ mention_place x (children t) → p < count (children t) → may_lead b t p ≡ false → is_first x b t ≡ false
 not_begun x b t p s l e = first_by x b t p false (is_first x (holds_list (shape_of t) p) (part t p)) (any_names x (rest_children (suc p) (children t))) s l (sym e) refl refl
@@ -355,6 +368,13 @@ head_not_read x t s e = reads_by x t (is_head t) false (any_names x (rest_childr
 pub head_read_by : (x : Name) (t : Tree) (a : Bool) → 0 < count (children t) → is_head t ≡ true → is_first x false (part t 0) ≡ true → a ≡ any_names x (rest_children 1 (children t)) → reads_first x t ≡ not a
 head_read_by x t a s e f g = reads_by x t true true a s (sym e) (sym f) g
 
+-- a property, shorthand and in full
+pub stays_in_full : (t : Tree) → is_short (shape_of t) ≡ false → written_in_full t ≡ t
+stays_in_full (node h xs n ts) e = ap (λ b. node (if b then shape.ObjectProperty Init false false false else h) xs n ts) e
+
+pub now_in_full : (t : Tree) → is_short (shape_of t) ≡ true → written_in_full t ≡ node (shape.ObjectProperty Init false false false) (names_of t) (number_of t) (children t)
+now_in_full (node h xs n ts) e = ap (λ b. node (if b then shape.ObjectProperty Init false false false else h) xs n ts) e
+
 pub put_leaf : (x : Name) (r t : Tree) → count (children t) ≡ 0 → put_first x r t ≡ r
 put_leaf x r (node h xs n none) e = refl
 put_leaf x r (node h xs n (t ▸ ts)) e = absurd (omega (arith, e))
@@ -381,13 +401,13 @@ put_nowhere x r (t ▸ ts) l = by (names x t) refl l (put_nowhere x r ts)
     by true e l f = let here = place_here x t ts e in absurd (omega (arith, l, here))
     by false e l f = let later = place_later x t ts e in ap (λ c. if c then put_first x r t ▸ ts else t ▸ put_among x r ts) e ∙ ap (λ us. t ▸ us) (f (omega (arith, l, later)))
 
-pub put_step : (x : Name) (r t : Tree) (p : ℕ) → p ≡ mention_place x (children t) → p < count (children t) → put_first x r t ≡ with_part t p (put_first x r (part t p))
+pub put_step : (x : Name) (r t : Tree) (p : ℕ) → p ≡ mention_place x (children t) → p < count (children t) → put_first x r t ≡ written_in_full (with_part t p (put_first x r (part t p)))
 put_step x r (node h xs n none) p e l = absurd (omega (arith, l))
-put_step x r (node h xs n (t ▸ ts)) p e l = ap (node h xs n) (put_at x r (t ▸ ts) (omega (arith, e, l)) ∙ sym (ap (λ j. with_child (t ▸ ts) j (put_first x r (child_or_absent (t ▸ ts) j))) e))
+put_step x r (node h xs n (t ▸ ts)) p e l = ap (node (in_full h) xs n) (put_at x r (t ▸ ts) (omega (arith, e, l)) ∙ sym (ap (λ j. with_child (t ▸ ts) j (put_first x r (child_or_absent (t ▸ ts) j))) e))
 
-pub put_none : (x : Name) (r t : Tree) (p : ℕ) → 0 < count (children t) → p ≡ mention_place x (children t) → count (children t) ≤ p → put_first x r t ≡ t
+pub put_none : (x : Name) (r t : Tree) (p : ℕ) → 0 < count (children t) → p ≡ mention_place x (children t) → count (children t) ≤ p → put_first x r t ≡ written_in_full t
 put_none x r (node h xs n none) p s e l = absurd (omega (arith, s))
-put_none x r (node h xs n (t ▸ ts)) p s e l = ap (node h xs n) (put_nowhere x r (t ▸ ts) (omega (arith, e, l)))
+put_none x r (node h xs n (t ▸ ts)) p s e l = ap (node (in_full h) xs n) (put_nowhere x r (t ▸ ts) (omega (arith, e, l)))
 
 pub smaller_at : (t u : Tree) (p : ℕ) → p < count (children t) → u ≡ part t p → node_count u < node_count t
 smaller_at (node h xs n ts) u p l e = let same = ap node_count e in let less = go ts p l in omega (arith, same, less)

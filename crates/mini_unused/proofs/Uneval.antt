@@ -2,6 +2,7 @@
 use Rattle.std.proofs.Common.{◌≡◌, ℕ, zero, suc, Bool, true, false, List, [], ◌∷◌, refl, sym, ap, ◌∙◌, subst, inl, inr, true≢false}
 use Rattle.std.specs.Prelude.{not, ◌&&◌, ◌||◌, ◌⊎◌, if◌then◌else◌}
 use Rattle.std.proofs.lemmas.Bool.{and_parts}
+use Rattle.mini_model.specs.declared.kind.PropertyKind.TheVariants.{Init}
 use Rattle.mini_model.specs.declared.kind.VariableDeclarationKind.{VariableDeclarationKind}
 use Rattle.mini_model.specs.declared.name.Name.{Name}
 use Rattle.mini_model.specs.declared.shape.Shape.{Shape}
@@ -12,7 +13,7 @@ use Rattle.mini_laws.specs.Value.{VariableSet}
 use Rattle.mini_node.specs.Children.{names_of, part, with_child, with_part, without, is_bare, is_nameless}
 use Rattle.mini_node.specs.Kinds.{is_listed}
 use Rattle.mini_rows.specs.Lists.{declaration, Each, EachIn, EachOf, each_loop}
-use Rattle.mini_rows.specs.Unused.{is_idle, any_names, names, begins, goes_on, may_go_on, has_branches, leads, holds_list, is_childless, is_first, leads_to, put_first, put_among, is_reached, entries_below, passes_at, is_called_by_value, suits, are_passed, are_passed_in, all_passed, is_head_shape, reads_first, reads_head, evaluated, may_move}
+use Rattle.mini_rows.specs.Unused.{is_short, can_be_full, in_full, may_hold, is_idle, any_names, names, begins, goes_on, may_go_on, has_branches, leads, holds_list, is_childless, is_first, leads_to, put_first, put_among, is_reached, entries_below, passes_at, is_called_by_value, suits, are_passed, are_passed_in, all_passed, is_head_shape, reads_first, reads_head, evaluated, may_move}
 use Rattle.mini_unused.specs.RemoveUnusedDeclaration.{declares_list, declares_name, may_lose, is_free_at, is_unused_declarator, list_at, statement_left, let_left}
 use Rattle.mini_rows.specs.Declarations.{declarator}
 use Rattle.mini_unused.specs.SubstituteNext.{reads_then, put_named, is_declarator, is_mentioned_beside, is_mentioned_elsewhere, is_read_then, declarators_next, NextGone}
@@ -145,12 +146,20 @@ leading x h i (t ▸ ts) e = by (names x t) e (leading x h (suc i) ts)
     by true e f = record { at = i; part = t; leads = (and_parts (leads false h i t) (is_first x (holds_list h i) t && not (any_names x ts)) e).0 }
     by false e f = let l = f e in record { at = l.at; part = l.part; leads = l.leads }
 
+-- what holds of a property in full, and of what is no shorthand
+by_full : (P : Shape → Type 0) → P (shape.ObjectProperty Init false false false) → (h : Shape) → P h → P (in_full h)
+by_full P f h p = by (is_short h)
+  where
+    by : (b : Bool) → P (if b then shape.ObjectProperty Init false false false else h)
+    by true = f
+    by false = p
+
 -- a callee that is no name alone, with the tree in it
 callee : (x : Name) (r t : Tree) → is_childless t ≡ false → is_first x false t ≡ true → is_eval_callee (put_first x r t) ≡ false
 callee x r (node h ys n none) c e = absurd (true≢false c)
 callee x r (node h ys n (t ▸ ts)) c e =
-    let l = leading x h 0 (t ▸ ts) (and_parts (is_nameless (node h ys n (t ▸ ts))) (leads_to x false h 0 (t ▸ ts)) e).1 in
-    led_by h l.at l.part l.leads ys n (put_among x r (t ▸ ts))
+    let l = leading x h 0 (t ▸ ts) (and_parts (may_hold (node h ys n (t ▸ ts))) (leads_to x false h 0 (t ▸ ts)) e).1 in
+    by_full (λ k. is_eval_callee (node k ys n (put_among x r (t ▸ ts))) ≡ false) refl h (led_by h l.at l.part l.leads ys n (put_among x r (t ▸ ts)))
 
 -- ---- the tree may stand in each place on the way to the read
 
@@ -209,8 +218,9 @@ mutual
   put_there x b r (node h ys n none) f s e g = e
   put_there x b r (node h [] zero (t ▸ ts)) f s e g =
       let (o, i) = and_parts (suits x r h (t ▸ ts)) (suits_among x r (t ▸ ts)) s in
-      let (a, c) = put_in x b h 0 r (t ▸ ts) f i e (below (node h [] 0 (t ▸ ts)) g) in
-      over (node h [] 0 (put_among x r (t ▸ ts))) (by (names x t) refl f o) a
+      let q = (and_parts (can_be_full (node h [] 0 (t ▸ ts))) (leads_to x b h 0 (t ▸ ts)) f).1 in
+      let (a, c) = put_in x b h 0 r (t ▸ ts) q i e (below (node h [] 0 (t ▸ ts)) g) in
+      over (node (in_full h) [] 0 (put_among x r (t ▸ ts))) (by_full (λ k. is_eval_call k (put_among x r (t ▸ ts)) ≡ false) refl h (by (names x t) refl q o)) a
     where
       by : (c : Bool) → names x t ≡ c → (if c then (leads b h 0 t && (is_first x (holds_list h 0) t && not (any_names x ts))) else leads_to x b h 1 ts) ≡ true → suits x r h (t ▸ ts) ≡ true → is_eval_call h (put_among x r (t ▸ ts)) ≡ false
       by true n f o =
@@ -237,6 +247,13 @@ no_call : (h : Shape) → is_head_shape h ≡ true → (ts : Trees) → is_eval_
 no_call (shape.CallExpression false) e ts = absurd (true≢false (sym e))
 no_call h e ts = refl
 
+head_full : (h : Shape) → is_head_shape h ≡ true → in_full h ≡ h
+head_full shape.ExpressionStatement e = refl
+head_full shape.ReturnStatement e = refl
+head_full shape.ThrowStatement e = refl
+head_full shape.IfStatement e = refl
+head_full h e = absurd (true≢false (sym e))
+
 first_along : (x : Name) (r t : Tree) (ts : Trees) → names x t ≡ true → suits_among x r (t ▸ ts) ≡ true → suits_along x r t ≡ true
 first_along x r t ts n e = sym (ap (λ c. if c then suits_along x r t else suits_among x r ts) n) ∙ e
 
@@ -247,7 +264,7 @@ put_in_head x r (node h ys n (t ▸ ts)) f i e g =
     let (m, q) = and_parts (is_nameless (node h ys n (t ▸ ts))) (is_first x false t && not (any_names x ts)) p in
     let (s, u) = and_parts (is_first x false t) (not (any_names x ts)) q in
     let (a, c) = first_and_others t ts (below (node h ys n (t ▸ ts)) g) in
-    ap (λ d. has_eval (node h ys n (if d then put_first x r t ▸ ts else t ▸ put_among x r ts))) (mentioned x false t s) ∙ over (node h ys n (put_first x r t ▸ ts)) (no_call h l (put_first x r t ▸ ts)) (all_of (put_first x r t) ts (put_there x false r t s (first_along x r t ts (mentioned x false t s) (and_parts (suits x r h (t ▸ ts)) (suits_among x r (t ▸ ts)) i).1) e a) c)
+    ap (λ k. has_eval (node k ys n (put_among x r (t ▸ ts)))) (head_full h l) ∙ ap (λ d. has_eval (node h ys n (if d then put_first x r t ▸ ts else t ▸ put_among x r ts))) (mentioned x false t s) ∙ over (node h ys n (put_first x r t ▸ ts)) (no_call h l (put_first x r t ▸ ts)) (all_of (put_first x r t) ts (put_there x false r t s (first_along x r t ts (mentioned x false t s) (and_parts (suits x r h (t ▸ ts)) (suits_among x r (t ▸ ts)) i).1) e a) c)
 
 -- in the first initializer of a declaration
 put_in_initial : (x : Name) (r t : Tree) (i : Initial x t) → suits_along x r i.value ≡ true → has_eval r ≡ false → has_eval t ≡ false → has_eval (put_first x r t) ≡ false

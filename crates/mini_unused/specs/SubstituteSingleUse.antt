@@ -4,12 +4,14 @@
 use Rattle.std.specs.Prelude.{◌≡◌, ◌<◌, ◌^◌, ◌⊎◌, ℕ, suc, Bool, true, false, not, ◌&&◌, ◌||◌, zero, List, [], ◌∷◌, Option, Some, None, if◌then◌else◌}
 use Rattle.mini_model.specs.declared.name.Name.{Name}
 use Rattle.mini_model.specs.declared.shape.Shape.{Shape}
-use Rattle.mini_model.specs.Tree.{Tree, Trees, none, ◌▸◌, count, child_or_absent, empty_statement, shape_of, children}
+use Rattle.mini_model.specs.declared.shape.Shape.TheVariants as shape
+use Rattle.mini_model.specs.Tree.{Tree, Trees, node, none, ◌▸◌, count, child_or_absent, empty_statement, shape_of, children}
 use Rattle.mini_laws.specs.ScopeList.{has_eval}
 use Rattle.mini_laws.specs.Value.{VariableSet}
 use Rattle.mini_node.specs.Children.{names_of, part, with_part, is_bare, is_nameless, first_children, rest_children}
 use Rattle.mini_terms.specs.Folds.{is_effect_free}
-use Rattle.mini_rows.specs.Unused.{names, any_names, leads, is_constant, is_head_shape, may_move, passes_at, is_sure, is_placed, suits, are_passed, reads_head, evaluated}
+use Rattle.mini_rows.specs.SpellKeys.{is_proto}
+use Rattle.mini_rows.specs.Unused.{names, any_names, leads, in_full, may_hold, is_constant, is_head_shape, may_move, passes_at, is_sure, is_placed, suits, are_passed, reads_head, evaluated}
 use Rattle.mini_unused.specs.Chains.{Several}
 use Rattle.mini_unused.specs.SubstituteNext.{put_named, NextAt, NextGone}
 use Rattle.mini_unused.specs.RemoveUnusedDeclaration.{declares_name, declares_list, may_lose, is_free_at, list_at, let_left, list_left, UnusedAt}
@@ -19,9 +21,18 @@ abbrev pub mention_place : Name → Trees → ℕ
 mention_place x none = 0
 mention_place x (t ▸ ts) = if names x t then 0 else suc (mention_place x ts)
 
--- a node without a name and a number, which evaluates the part at the place after those before it
+-- a name other than `__proto__`
+abbrev pub is_own_name : Shape → Bool
+is_own_name (shape.IdentifierName s) = not (is_proto s)
+is_own_name h = false
+
+-- a property in full
+abbrev pub written_in_full : Tree → Tree
+written_in_full (node h xs n ts) = node (in_full h) xs n ts
+
+-- a node without a name and a number, which evaluates the part at the place after those before it, in full, or it can be
 abbrev pub may_lead : Bool → Tree → ℕ → Bool
-may_lead in_list t i = leads in_list (shape_of t) i (part t i) && is_nameless t
+may_lead in_list t i = leads in_list (shape_of t) i (part t i) && may_hold t
 
 -- each of them, from a place of such a shape on, may be evaluated before r
 abbrev pub all_pass : Bool → Tree → Shape → ℕ → Trees → Bool

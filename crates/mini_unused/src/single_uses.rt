@@ -29,6 +29,9 @@ use mini_node::{Node, Nodes, discard, empty_statement, is_absent_part, is_identi
 use mini_terms::{is_effect_free, is_item, is_plain_part, is_typed_by_value, stands};
 use std::alloc::Global;
 
+// The units of `__proto__`.
+const PROTO: [u16; 9] = [95, 95, 112, 114, 111, 116, 111, 95, 95];
+
 // What evaluates this part, its first one, before all else, and asks for its value, for what is called, or for what `typeof` reads.
 fn begins(shape: &Shape, node: &Node) -> bool
     ensures { result ≡ reading.begins shape.now node.now }
@@ -75,7 +78,7 @@ fn goes_on(shape: &Shape) -> bool
 }
 
 /// What evaluates its first part, or what is assigned to, or a key, and then, if at all, the second, and asks for the second's value
-/// alone. A property that is shorthand isn't such a part.
+/// alone.
 pub fn may_go_on(shape: &Shape) -> bool
     ensures { result ≡ reading.may_go_on shape.now }
 {
@@ -85,6 +88,7 @@ pub fn may_go_on(shape: &Shape) -> bool
             | Shape::ConditionalExpression
             | Shape::AssignmentExpression(_)
             | Shape::ObjectProperty(PropertyKind::Init, false, false, _)
+            | Shape::ObjectProperty(PropertyKind::Init, false, true, false)
             | Shape::CallExpression(true)
             | Shape::ComputedMemberExpression(true)
     )
@@ -188,12 +192,55 @@ fn mention_place(name: &Name, nodes: &Nodes) -> usize
     nodes.len()
 }
 
-// A node without a name and a number, which evaluates the part at the place after those before it.
+// A name other than `__proto__`.
+fn is_own_name(shape: &Shape) -> bool
+    ensures { result ≡ row.is_own_name shape.now }
+{
+    match shape {
+        Shape::IdentifierName(text) => text.as_slice() != PROTO.as_slice(),
+        _ => false,
+    }
+}
+
+// A key that is such a name.
+#[tactic(auto, using(crate::proofs::SingleUses::own_key_is))]
+fn is_own_key(node: &Node) -> bool
+    ensures { result ≡ reading.is_own_key node.now }
+{
+    node.is_bare(0) && is_own_name(node.shape())
+}
+
+// `x`, as a property.
+fn is_short(shape: &Shape) -> bool
+    ensures { result ≡ reading.is_short shape.now }
+{
+    matches!(
+        shape,
+        Shape::ObjectProperty(PropertyKind::Init, false, true, false)
+    )
+}
+
+// A shorthand property can be written in full: its value is a name alone, and its key isn't `__proto__`. All else is in full.
+fn can_be_full(node: &Node) -> bool
+    ensures { result ≡ reading.can_be_full node.now }
+{
+    !is_short(node.shape())
+        || (node.is_bare(2) && (is_own_key(node.child(0)) && is_childless(node.child(1))))
+}
+
+// No name and no number, and in full, or it can be.
+fn may_hold(node: &Node) -> bool
+    ensures { result ≡ reading.may_hold node.now }
+{
+    node.is_nameless() && can_be_full(node)
+}
+
+// A node without a name and a number, which evaluates the part at the place after those before it, in full, or it can be.
 fn may_lead(in_list: bool, node: &Node, at: usize) -> bool
     requires { at < count (children node.now) }
     ensures { result ≡ row.may_lead in_list node.now at }
 {
-    leads(in_list, node.shape(), at, node.child(at)) && node.is_nameless()
+    leads(in_list, node.shape(), at, node.child(at)) && may_hold(node)
 }
 
 /// An expression, or a list of parts, reads the variable after the parts that stand before, and nothing else in it mentions the name.
@@ -872,7 +919,20 @@ fn single_at(outside: &Node, statements: &Nodes, scopes: &Scopes) -> Option<usiz
     None
 }
 
-/// Another tree in the place of what is read.
+// `x: a` of `x`.
+#[tactic(auto, using(crate::proofs::SingleUses::stays_in_full, crate::proofs::SingleUses::now_in_full))]
+fn in_full(node: Node) -> Node
+    ensures { result ≡ row.written_in_full node }
+{
+    if !is_short(node.shape()) {
+        return node;
+    }
+    let (_, name, number, children) = node.into_parts();
+    let shape = Shape::ObjectProperty(PropertyKind::Init, false, false, false);
+    Node::with(shape, name, number, children)
+}
+
+/// Another tree in the place of what is read: `{ x }` becomes `{ x: a() }`.
 #[tactic(auto, using(crate::proofs::SingleUses::put_leaf, crate::proofs::SingleUses::put_step, crate::proofs::SingleUses::put_none, crate::proofs::SingleUses::smaller_at, crate::proofs::Unused::same_parts, crate::proofs::Unused::part_twice))]
 fn put_first(name: &Name, value: Node, mut node: Node) -> Node
     ensures { result ≡ reading.put_first name.now value node }
@@ -884,12 +944,12 @@ fn put_first(name: &Name, value: Node, mut node: Node) -> Node
     let at = mention_place(name, node.children());
     if at >= node.children().len() {
         discard(value);
-        return node;
+        return in_full(node);
     }
     let part = take_child(&mut node, at);
     let part = put_first(name, value, part);
     put_child(&mut node, at, part);
-    node
+    in_full(node)
 }
 
 /// In the place of what is read of a name, where there is one.
