@@ -6,12 +6,13 @@ use Rattle.mini_model.specs.Tree.{Tree, Trees, node, none, ◌▸◌, count, chi
 use Rattle.mini_kept.specs.Without.{Assured}
 use Rattle.mini_laws.specs.Value.{VariableSet}
 use Rattle.mini_node.specs.Children.{part}
+use Rattle.mini_rows.specs.Past.{Kept}
 use Rattle.mini_unused.specs.RemoveUnusedDeclaration.{declares_list, is_free_at, is_lexical_shape, list_at}
 use Rattle.mini_unused.specs.SubstituteSingleUse.{last_place}
 use Rattle.mini_past.specs.SubstitutePast.{reads_past, is_past_declarator, is_past}
 pub use Rattle.mini_unused.proofs.SingleUses.{last_is}
 
-pub next_read : (H : VariableSet) (x : Name) (r : Tree) (ts : Trees) (i : ℕ) → reads_past H x r (child_or_absent ts (i + 1)) ≡ reads_past H x r (child_or_absent ts (suc i))
+pub next_read : (H : Kept) (x : Name) (r : Tree) (ts : Trees) (i : ℕ) → reads_past H x r (child_or_absent ts (i + 1)) ≡ reads_past H x r (child_or_absent ts (suc i))
 next_read H x r ts i = ap (λ k. reads_past H x r (child_or_absent ts k)) (add-one i)
 
 pub no_declarator : (V : Assured) (free : Bool) (W : VariableSet) (l o : Tree) (ts : Trees) (i j : ℕ) → count (children l) ≡ 0 → is_past_declarator V free W l j o ts i ≡ false

@@ -10,7 +10,7 @@ use Rattle.mini_laws.specs.ScopeList.{has_eval}
 use Rattle.mini_laws.specs.Value.{VariableSet}
 use Rattle.mini_node.specs.Children.{names_of, part, first_children}
 use Rattle.mini_node.specs.Kinds.{is_listed}
-use Rattle.mini_rows.specs.Past.{held, are_past, PastFunctionRow, PastFunction}
+use Rattle.mini_rows.specs.Past.{Kept, held, are_past, PastFunctionRow, PastFunction}
 use Rattle.mini_rows.specs.PastArrows.{PastArrowRow, PastArrow}
 use Rattle.mini_rows.specs.PastModules.{PastModuleRow, PastModule}
 use Rattle.mini_rows.specs.PastStatics.{PastStaticRow, PastStatic}
@@ -21,7 +21,7 @@ use Rattle.mini_unused.specs.SubstituteNext.{is_declarator, is_mentioned_beside,
 use Rattle.mini_unused.specs.SubstituteSingleUse.{last_place, is_declared_over, is_mentioned_around, list_single}
 
 -- what is held where a declarator stands, behind those before it in its list and the statements before theirs
-abbrev pub held_at : Assured → Trees → ℕ → Trees → ℕ → VariableSet
+abbrev pub held_at : Assured → Trees → ℕ → Trees → ℕ → Kept
 held_at V ts i ds j = held V ts (first_children i ts) (is_free_at ts i) (first_children j ds)
 
 -- of a declarator the initializer may move, and is no constant, and the name is free to go, or one of these variables
@@ -34,7 +34,7 @@ may_pass_by free W d = declares_name d && (may_lose free W (names_of (part d 0))
 -- ---- the next statement reads the name
 
 -- before all else, or after parts that pass the initializer r
-abbrev pub reads_past : VariableSet → Name → Tree → Tree → Bool
+abbrev pub reads_past : Kept → Name → Tree → Tree → Bool
 reads_past H x r t = reads_head x t && are_past H x r (evaluated t)
 
 -- and no name like it stands elsewhere, nor in what is outside of the statements
@@ -58,7 +58,7 @@ PastAt V W o ts None = (i : ℕ) → suc i < count ts → is_past V W o ts i ≡
 -- ---- the next declarator does
 
 -- its initializer reads it first, after such parts
-abbrev pub reads_past_in : VariableSet → Name → Tree → Tree → Bool
+abbrev pub reads_past_in : Kept → Name → Tree → Tree → Bool
 reads_past_in H x r v = is_first x false v && are_past H x r v
 
 abbrev pub is_read_past_then : Assured → List Name → Tree → Tree → Tree → Trees → ℕ → Trees → ℕ → Bool

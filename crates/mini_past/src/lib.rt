@@ -7,6 +7,7 @@ mod lets;
 mod names;
 mod next_declarators;
 mod passing;
+mod reaching;
 mod rule;
 mod searching;
 mod sweeping;
@@ -16,7 +17,7 @@ pub use functions::{
     substitute_past_in_static,
 };
 pub use names::{PastContext, PastNames};
-pub use passing::are_past;
+pub use reaching::are_past;
 pub use rule::{
     SubstitutePast, SubstitutePastArrows, SubstitutePastModules, SubstitutePastStatics,
 };

@@ -9,7 +9,7 @@ ghost use Rattle.mini_past.specs.SubstitutePast.{held_at, PastAt, PastNextAt, Pa
 
 use crate::declared::may_pass_by;
 use crate::names::PastNames;
-use crate::passing::are_past;
+use crate::reaching::are_past;
 use crate::sweeping::sweep;
 use mini_model::Name;
 use mini_node::{Node, Nodes};

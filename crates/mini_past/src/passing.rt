@@ -1,18 +1,19 @@
-//! What may be evaluated before an initializer, whatever that does: constants, and names that are steady and initialised.
+//! What may be evaluated before an initializer, whatever that does: constants, names that are steady and initialised, and `this`; and what is
+//! assigned to and what stands in a list, by such parts.
 
-ghost use Rattle.std.specs.Prelude.{◌≡◌, ◌<◌, false};
-ghost use Rattle.mini_model.specs.Tree.{children, count, shape_of};
+ghost use Rattle.std.specs.Prelude.{◌≡◌, ◌<◌};
+ghost use Rattle.mini_model.specs.Tree.{count};
 ghost use Rattle.mini_laws.specs.Value.{Declared};
 ghost use Rattle.mini_node.specs.Children.{names as names_in};
 ghost use Rattle.mini_rows.specs.Past as reading;
-ghost use Rattle.mini_rows.specs.Unused.{begins_with as it_begins_with, is_placed as is_it_placed};
 ghost use Rattle.mini_past.specs.SubstitutePast.{held_at};
 
 use crate::lets::is_let;
-use mini_model::{Name, Shape, SymbolId};
+use mini_model::{AssignmentOperator, Name, Shape, SymbolId};
 use mini_node::{Node, Nodes, is_identifier};
-use mini_steady::{SteadyNames, any_bind, binds, writes};
-use mini_unused::{is_constant, is_mentioned, may_go_on, suits};
+use mini_steady::{SteadyNames, any_bind, binds, is_this, writes};
+use mini_terms::is_effect_free;
+use mini_unused::{is_constant, is_field, is_member, is_plain_assignment, is_word};
 
 // The initializer neither declares nor writes it.
 fn leaves(init: &Node, name: &Name, symbol: SymbolId) -> bool
@@ -33,7 +34,7 @@ fn is_held_variable<S: SteadyNames>(
 ) -> bool
     requires statement { at < count statements.now }
     requires declarator { which < count declarators.now }
-    ensures { result ≡ held_at (S.sets steady.now body) statements.now at declarators.now which (Declared symbol.0) }
+    ensures { result ≡ (held_at (S.sets steady.now body) statements.now at declarators.now which).variables (Declared symbol.0) }
 {
     steady.is_steady(symbol, body)
         && ((steady.is_initial(symbol, body) && !any_bind(symbol, statements))
@@ -53,7 +54,7 @@ fn is_held_symbol<S: SteadyNames>(
 ) -> bool
     requires statement { at < count statements.now }
     requires declarator { which < count declarators.now }
-    ensures { result ≡ reading.is_held_symbol (held_at (S.sets steady.now body) statements.now at declarators.now which) init.now name.now name.now.symbol }
+    ensures { result ≡ reading.is_held_symbol (held_at (S.sets steady.now body) statements.now at declarators.now which).variables init.now name.now name.now.symbol }
 {
     match name.symbol {
         Some(symbol) => {
@@ -76,12 +77,41 @@ fn is_held_name<S: SteadyNames>(
 ) -> bool
     requires statement { at < count statements.now }
     requires declarator { which < count declarators.now }
-    ensures { result ≡ reading.is_held_name (held_at (S.sets steady.now body) statements.now at declarators.now which) init.now (names_in name.now) }
+    ensures { result ≡ reading.is_held_name (held_at (S.sets steady.now body) statements.now at declarators.now which).variables init.now (names_in name.now) }
 {
     match name {
         Some(name) => is_held_symbol(name, init, statements, at, declarators, which, body, steady),
         None => false,
     }
+}
+
+// It is the name of such a variable, or `this` where the body doesn't ask the world for it.
+fn keeps_value<S: SteadyNames>(
+    init: &Node,
+    node: &Node,
+    statements: &Nodes,
+    at: usize,
+    declarators: &Nodes,
+    which: usize,
+    body: u32,
+    steady: &S,
+) -> bool
+    requires statement { at < count statements.now }
+    requires declarator { which < count declarators.now }
+    ensures { result ≡ reading.keeps_value (held_at (S.sets steady.now body) statements.now at declarators.now which) init.now node.now }
+{
+    (is_identifier(node)
+        && is_held_name(
+            node.name(),
+            init,
+            statements,
+            at,
+            declarators,
+            which,
+            body,
+            steady,
+        ))
+        || (steady.has_this(body) && is_this(node))
 }
 
 // It may be evaluated before the initializer.
@@ -99,55 +129,11 @@ fn passes_any<S: SteadyNames>(
     requires declarator { which < count declarators.now }
     ensures { result ≡ reading.passes_any (held_at (S.sets steady.now body) statements.now at declarators.now which) init.now node.now }
 {
-    is_constant(node)
-        || (is_identifier(node)
-            && is_held_name(
-                node.name(),
-                init,
-                statements,
-                at,
-                declarators,
-                which,
-                body,
-                steady,
-            ))
+    is_constant(node) || keeps_value(init, node, statements, at, declarators, which, body, steady)
 }
 
-// The first of some parts mentions the name, or there is none.
-#[tactic(auto, using(crate::proofs::PassedParts::begins_none, crate::proofs::PassedParts::begins_some))]
-fn begins_with(name: &Name, nodes: &Nodes) -> bool
-    ensures { result ≡ it_begins_with name.now nodes.now }
-{
-    if nodes.len() == 0 {
-        return true;
-    }
-    is_mentioned(name, nodes.child(0))
-}
-
-// What is no property and isn't spread.
-fn is_no_entry(shape: &Shape) -> bool
-    ensures { result ≡ is_it_placed false false shape.now }
-{
-    !matches!(
-        shape,
-        Shape::ObjectProperty(_, _, _, _) | Shape::SpreadElement
-    )
-}
-
-// What mentions the name is evaluated whatever stands before it, and the initializer may stand in its place.
-fn is_certain(name: &Name, init: &Node, node: &Node) -> bool
-    ensures { result ≡ reading.is_certain name.now init.now (shape_of node.now) (children node.now) }
-{
-    suits(name, init, node)
-        && (is_no_entry(node.shape())
-            && (!may_go_on(node.shape()) || begins_with(name, node.children())))
-}
-
-/// Each part that is evaluated before the variable is read may be evaluated before the initializer, and the read is reached whatever they
-/// are.
-#[cycle(past)]
-pub fn are_past<S: SteadyNames>(
-    name: &Name,
+// So may the key of a member.
+fn passes_any_word<S: SteadyNames>(
     init: &Node,
     node: &Node,
     statements: &Nodes,
@@ -159,28 +145,16 @@ pub fn are_past<S: SteadyNames>(
 ) -> bool
     requires statement { at < count statements.now }
     requires declarator { which < count declarators.now }
-    ensures { result ≡ reading.are_past (held_at (S.sets steady.now body) statements.now at declarators.now which) name.now init.now node.now }
+    ensures { result ≡ reading.passes_any_word (held_at (S.sets steady.now body) statements.now at declarators.now which) init.now node.now }
 {
-    is_certain(name, init, node)
-        && all_past(
-            name,
-            init,
-            node.children(),
-            statements,
-            at,
-            declarators,
-            which,
-            body,
-            steady,
-        )
+    is_word(node.shape())
+        || passes_any(init, node, statements, at, declarators, which, body, steady)
 }
 
-// So may each of some parts up to the one that mentions it.
-#[cycle(past)]
-fn all_past<S: SteadyNames>(
-    name: &Name,
+// So may a member that is assigned to: its object and its key.
+fn passes_any_member<S: SteadyNames>(
     init: &Node,
-    nodes: &Nodes,
+    node: &Node,
     statements: &Nodes,
     at: usize,
     declarators: &Nodes,
@@ -190,26 +164,123 @@ fn all_past<S: SteadyNames>(
 ) -> bool
     requires statement { at < count statements.now }
     requires declarator { which < count declarators.now }
-    ensures { result ≡ reading.all_past (held_at (S.sets steady.now body) statements.now at declarators.now which) name.now init.now nodes.now }
+    ensures { result ≡ reading.passes_any_member (held_at (S.sets steady.now body) statements.now at declarators.now which) init.now node.now }
 {
-    for place in 0..nodes.len() {
-        let part = nodes.child(place);
-        if is_mentioned(name, part) {
-            return are_past(
-                name,
-                init,
-                part,
-                statements,
-                at,
-                declarators,
-                which,
-                body,
-                steady,
-            );
-        }
-        if !passes_any(init, part, statements, at, declarators, which, body, steady) {
-            return false;
-        }
+    is_member(node)
+        && (passes_any(
+            init,
+            node.child(0),
+            statements,
+            at,
+            declarators,
+            which,
+            body,
+            steady,
+        ) && passes_any_word(
+            init,
+            node.child(1),
+            statements,
+            at,
+            declarators,
+            which,
+            body,
+            steady,
+        ))
+}
+
+// So may what `=` assigns to: such a member, or a name, of which nothing is evaluated before the right side.
+fn passes_any_target<S: SteadyNames>(
+    init: &Node,
+    operator: &AssignmentOperator,
+    node: &Node,
+    statements: &Nodes,
+    at: usize,
+    declarators: &Nodes,
+    which: usize,
+    body: u32,
+    steady: &S,
+) -> bool
+    requires statement { at < count statements.now }
+    requires declarator { which < count declarators.now }
+    ensures { result ≡ reading.passes_any_target (held_at (S.sets steady.now body) statements.now at declarators.now which) init.now operator.now node.now }
+{
+    is_plain_assignment(operator)
+        && (passes_any_member(init, node, statements, at, declarators, which, body, steady)
+            || (is_identifier(node) && is_effect_free(node, true)))
+}
+
+// So may an item of a list, of which an entry is asked or isn't: of a property its value.
+fn passes_any_item<S: SteadyNames>(
+    of_entries: bool,
+    init: &Node,
+    node: &Node,
+    statements: &Nodes,
+    at: usize,
+    declarators: &Nodes,
+    which: usize,
+    body: u32,
+    steady: &S,
+) -> bool
+    requires statement { at < count statements.now }
+    requires declarator { which < count declarators.now }
+    ensures { result ≡ reading.passes_any_item (held_at (S.sets steady.now body) statements.now at declarators.now which) of_entries init.now node.now }
+{
+    passes_any(init, node, statements, at, declarators, which, body, steady)
+        || (of_entries
+            && (is_field(node)
+                && passes_any(
+                    init,
+                    node.child(1),
+                    statements,
+                    at,
+                    declarators,
+                    which,
+                    body,
+                    steady,
+                )))
+}
+
+/// So may what stands before the read, in a node of such a shape.
+pub fn passes_any_at<S: SteadyNames>(
+    of_entries: bool,
+    init: &Node,
+    shape: &Shape,
+    node: &Node,
+    statements: &Nodes,
+    at: usize,
+    declarators: &Nodes,
+    which: usize,
+    body: u32,
+    steady: &S,
+) -> bool
+    requires statement { at < count statements.now }
+    requires declarator { which < count declarators.now }
+    ensures { result ≡ reading.passes_any_at (held_at (S.sets steady.now body) statements.now at declarators.now which) of_entries init.now shape.now node.now }
+{
+    match shape {
+        Shape::AssignmentExpression(operator) => passes_any_target(
+            init,
+            operator,
+            node,
+            statements,
+            at,
+            declarators,
+            which,
+            body,
+            steady,
+        ),
+        Shape::ObjectProperty(_, _, _, is_computed) => !*is_computed && is_word(node.shape()),
+        Shape::Listed => passes_any_item(
+            of_entries,
+            init,
+            node,
+            statements,
+            at,
+            declarators,
+            which,
+            body,
+            steady,
+        ),
+        _ => passes_any(init, node, statements, at, declarators, which, body, steady),
     }
-    true
 }

@@ -11,7 +11,7 @@ ghost use Rattle.mini_past.specs.SubstitutePast.{PastAt, PastRemoved, held_at};
 use crate::declared::may_pass_by;
 use crate::names::PastNames;
 use crate::next_declarators::substitute_next_past;
-use crate::passing::are_past;
+use crate::reaching::are_past;
 use crate::sweeping::sweep;
 use mini_model::Name;
 use mini_node::{Node, Nodes};

@@ -14,7 +14,7 @@ use Rattle.mini_laws.specs.Step.{means}
 use Rattle.mini_laws.specs.Substitution.{alone}
 use Rattle.mini_kept.specs.Without.{Unseen}
 use Rattle.mini_rows.specs.Lists.{each_loop}
-use Rattle.mini_rows.specs.Past.{passes_any, is_certain, are_past, all_past}
+use Rattle.mini_rows.specs.Past.{Kept, passes_any, is_certain, are_past, all_past}
 use Rattle.mini_rows.specs.Sketches.{AsValue}
 use Rattle.mini_rows.specs.Unused.{resolved, names, any_names, may_move, is_first, put_first, reads_head, evaluated}
 use Rattle.mini_rows.proofs.FoldMeaning.{plain_read}
@@ -32,7 +32,7 @@ use Rattle.mini_rows.proofs.SpellAlike.{SameTree}
 use Rattle.mini_rows.proofs.UnusedMeaning.{GoesWith, same_symbol, movable}
 use Rattle.mini_rows.proofs.UnusedNames.{avoided, all_avoided}
 
-module _ (e : Environment) (spelling : List ℕ) (k : ℕ) (z : Unseen (alone (Declared k)) e) (H : VariableSet) (still : Still H e) (init head : Tree) (moves : may_move init ≡ true) where
+module _ (e : Environment) (spelling : List ℕ) (k : ℕ) (z : Unseen (alone (Declared k)) e) (H : Kept) (still : Still H e) (init head : Tree) (moves : may_move init ≡ true) where
   abbrev x : Name
   x = resolved spelling k
 
@@ -55,34 +55,34 @@ module _ (e : Environment) (spelling : List ℕ) (k : ℕ) (z : Unseen (alone (D
     same_there : SameTree value there
     same_there = path_same x k refl AsValue value reading
 
-    value_goes : (v : Want) (r : Request (As v)) (s : State) → Initialised H s → Go (either (means e init (As Val) tt s) (λ p t. means e (led reading.steps (identifier (resolved reading.read.spelling k))) (As v) r (after p t)) (λ y t. stop y t)) (means e (led reading.steps init) (As v) r s)
+    value_goes : (v : Want) (r : Request (As v)) (s : State) → Initialised H.variables s → Go (either (means e init (As Val) tt s) (λ p t. means e (led reading.steps (identifier (resolved reading.read.spelling k))) (As v) r (after p t)) (λ y t. stop y t)) (means e (led reading.steps init) (As v) r s)
     value_goes v r s ready =
-        past_goes e k z init s x refl reading.read.spelling (sym (plain_read init (movable init moves))) (plain_item init (movable init moves)) AsValue reading.steps reading.well reading.spared
-        (path_held e k z init s H still ready x refl reading.steps (resolved reading.read.spelling k) (read_named spelling k reading.read.spelling) (subst (λ y. Indirect (identifier (record { spelling = reading.read.spelling; symbol = y })) reading.steps) (same_symbol k reading.read.symbol reading.same) reading.direct) reading.spared (sym (ap (are_past H x init) (path_as x k refl AsValue value reading)) ∙ passed)) (As v) tt r tt
+        past_goes e k z init s x refl reading.read.spelling (sym (plain_read init (movable init moves))) (plain_item init (movable init moves)) false AsValue reading.steps reading.well reading.spared
+        (path_held e k z init s H still ready x refl false reading.steps (resolved reading.read.spelling k) (read_named spelling k reading.read.spelling) (subst (λ y. Indirect (identifier (record { spelling = reading.read.spelling; symbol = y })) reading.steps) (same_symbol k reading.read.symbol reading.same) reading.direct) reading.spared (sym (ap (are_past H x init) (path_as x k refl AsValue value reading)) ∙ passed)) (As v) tt tt r tt
 
-    scope_goes : (c : Seat) → any_names x (rest c) ≡ false → (s : State) → Initialised H s → GoesWith e k init (seated c value) (seated c (put_first x init value)) s
+    scope_goes : (c : Seat) → any_names x (rest c) ≡ false → (s : State) → Initialised H.variables s → GoesWith e k init (seated c value) (seated c (put_first x init value)) s
     scope_goes c beside s ready =
         subst (λ w. GoesWith e k init (seated c value) w s) (ap (seated c) (sym (reading.puts init)))
         (goes_as e k init (seated c value) (seated c there) (seated_same c value there same_there) (seated c (led reading.steps init)) s
-        (outside_goes e k z x refl reading.read.spelling init (sym (plain_read init (movable init moves))) reading.steps reading.well (Initialised H) value_goes c beside s ready))
+        (outside_goes e k z x refl reading.read.spelling init (sym (plain_read init (movable init moves))) reading.steps reading.well (Initialised H.variables) value_goes c beside s ready))
 
-    loop_goes : (t : Over x head) → t.value ≡ value → (s : State) → Initialised H s → GoesWith e k init (each_loop t.kind t.left value t.body) (each_loop t.kind t.left (put_first x init value) t.body) s
+    loop_goes : (t : Over x head) → t.value ≡ value → (s : State) → Initialised H.variables s → GoesWith e k init (each_loop t.kind t.left value t.body) (each_loop t.kind t.left (put_first x init value) t.body) s
     loop_goes t same s ready =
         let loops = λ (u : Tree). each_loop t.kind t.left u t.body in
         subst (λ w. GoesWith e k init (loops value) w s) (ap loops (sym (reading.puts init)))
         (goes_as e k init (loops value) (loops there) (loop_same t.kind t.left value there t.body same_there) (loops (led reading.steps init)) s
-        (each_goes e k z x refl reading.read.spelling init reading.steps (Initialised H) (value_goes Val tt) t.kind t.left t.body t.plain t.other t.later s ready))
+        (each_goes e k z x refl reading.read.spelling init reading.steps (Initialised H.variables) (value_goes Val tt) t.kind t.left t.body t.plain t.other t.later s ready))
 
   -- what a statement that opens a scope evaluates before all else
   seated_past : (c : Seat) (value : Tree) → names x value ≡ true → are_past H x init (seated c value) ≡ true → are_past H x init value ≡ true
   seated_past (Choice cases) value n p =
       let ts : Trees = value ▸ (cases ▸ none) in
-      sym (ap (λ b. if b then are_past H x init value else (passes_any H init value && all_past H x init (cases ▸ none))) n) ∙ (and_parts (is_certain x init shape.SwitchStatement ts) (all_past H x init ts) p).1
+      sym (ap (λ b. if b then are_past H x init value else (passes_any H init value && all_past H x false init shape.SwitchStatement 1 (cases ▸ none))) n) ∙ (and_parts (is_certain x false init shape.SwitchStatement ts) (all_past H x false init shape.SwitchStatement 0 ts) p).1
   seated_past (Loop u v w) value n p =
       let ts : Trees = value ▸ (u ▸ (v ▸ (w ▸ none))) in
-      sym (ap (λ b. if b then are_past H x init value else (passes_any H init value && all_past H x init (u ▸ (v ▸ (w ▸ none))))) n) ∙ (and_parts (is_certain x init shape.ForStatement ts) (all_past H x init ts) p).1
+      sym (ap (λ b. if b then are_past H x init value else (passes_any H init value && all_past H x false init shape.ForStatement 1 (u ▸ (v ▸ (w ▸ none))))) n) ∙ (and_parts (is_certain x false init shape.ForStatement ts) (all_past H x false init shape.ForStatement 0 ts) p).1
 
-  pub head_goes : reads_head x head ≡ true → are_past H x init (evaluated head) ≡ true → (s : State) → Initialised H s → GoesWith e k init head (put_first x init head) s
+  pub head_goes : reads_head x head ≡ true → are_past H x init (evaluated head) ≡ true → (s : State) → Initialised H.variables s → GoesWith e k init head (put_first x init head) s
   head_goes once passed s ready = by (heads x head once)
     where
       by : Heads x head → GoesWith e k init head (put_first x init head) s

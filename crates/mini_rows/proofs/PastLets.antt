@@ -15,7 +15,7 @@ use Rattle.mini_node.specs.Children.{part}
 use Rattle.mini_rows.specs.Declarations.{declarator}
 use Rattle.mini_rows.specs.Inside.{is_lexical_shape}
 use Rattle.mini_rows.specs.Lists.{declaration}
-use Rattle.mini_rows.specs.Past.{is_symbol, is_only_symbol, is_name, is_let_name, lets_at_most, all_of, lets_here, spares, is_let, begun, held, binds, any_bind}
+use Rattle.mini_rows.specs.Past.{is_symbol, is_only_symbol, is_name, is_let_name, lets_at_most, all_of, lets_here, spares, is_let, begun, held_variables, binds, any_bind}
 use Rattle.mini_rows.specs.Unused.{is_declarator, declares_list, declared_left}
 use Rattle.mini_rows.proofs.Avoiding.{Out, out_both}
 use Rattle.mini_rows.proofs.SingleUse.{declarator_is, a_declaration}
@@ -201,7 +201,7 @@ module _ (V : Assured) (ts before : Trees) (K : VariableDeclarationKind) (first 
   last true c e = refl
   last false c e = e
 
-  pub held_there : Off (hidden_all pre) (begun V ts) → Within (held V ts before (is_lexical K) first) (minus (plus (begun V ts) (lets_all (summaries pre))) (hidden_all pre))
+  pub held_there : Off (hidden_all pre) (begun V ts) → Within (held_variables V ts before (is_lexical K) first) (minus (plus (begun V ts) (lets_all (summaries pre))) (hidden_all pre))
   unfolding Within Off
   held_there off (Global s) h = absurd (true≢false (sym h))
   held_there off (Declared k) h = by (begun V ts (Declared k)) refl (and_parts (V.steady (Declared k)) (begun V ts (Declared k) || is_let k before (is_lexical K) first) h).1

@@ -28,7 +28,7 @@ use Rattle.mini_laws.proofs.Simulation.{within_refl}
 use Rattle.mini_kept.specs.AlikeBodies.{RunsAs}
 use Rattle.mini_kept.specs.Without.{Assured, Steadies, Begins, Unseen}
 use Rattle.mini_rows.specs.Lists.{declaration}
-use Rattle.mini_rows.specs.Past.{any_bind, is_let, begun, held, are_past}
+use Rattle.mini_rows.specs.Past.{any_bind, is_let, begun, Kept, held, are_past}
 use Rattle.mini_rows.specs.Sketches.{AsWholeItem, AsValue}
 use Rattle.mini_rows.specs.Unused.{resolved, names, any_names, declared_one, declared_left, may_move, statements, static_block, put_first, reads_first}
 use Rattle.mini_rows.proofs.FoldMeaning.{plain_read}
@@ -48,7 +48,7 @@ use Rattle.mini_rows.proofs.UnusedMeaning.{GoesWith, ReadThere, declared_then, l
 module _ (V : Assured) (ts : Trees) where
   -- no answer changes what is held behind some of them
   pub held_still : (before : Trees) (is_lexical : Bool) (first : Trees) (e : Environment) → Steadies V e → Still (held V ts before is_lexical first) e
-  held_still before is_lexical first e s = record { by = λ j h. s.steady (Declared j) (and_parts (V.steady (Declared j)) (begun V ts (Declared j) || is_let j before is_lexical first) h).0 }
+  held_still before is_lexical first e s = record { by = λ j h. s.steady (Declared j) (and_parts (V.steady (Declared j)) (begun V ts (Declared j) || is_let j before is_lexical first) h).0; has_this = s.has_this }
 
   pub held_begins : (X : VariableSet) → Begins V X → Within (begun V ts) X
   unfolding Within
@@ -71,11 +71,11 @@ module _ (V : Assured) (ts : Trees) where
 pub read_named : (spelling : List ℕ) (k : ℕ) (s : List ℕ) → names (resolved spelling k) (identifier (resolved s k)) ≡ true
 read_named spelling k s = ap (λ b. b || false) (ap (λ b. b || false) (or_true (same_text spelling s) (nat_eq k k) (eq-eqb k k refl)))
 
-module _ (e : Environment) (spelling : List ℕ) (k : ℕ) (z : Unseen (alone (Declared k)) e) (H : VariableSet) (still : Still H e) (init head : Tree) (moves : may_move init ≡ true) where
+module _ (e : Environment) (spelling : List ℕ) (k : ℕ) (z : Unseen (alone (Declared k)) e) (H : Kept) (still : Still H e) (init head : Tree) (moves : may_move init ≡ true) where
   abbrev x : Name
   x = resolved spelling k
 
-  pub statement_goes : reads_first x head ≡ true → are_past H x init head ≡ true → (s : State) → Initialised H s → GoesWith e k init head (put_first x init head) s
+  pub statement_goes : reads_first x head ≡ true → are_past H x init head ≡ true → (s : State) → Initialised H.variables s → GoesWith e k init head (put_first x init head) s
   statement_goes once passed s ready =
       let t = statement x head once in
       let step : Step = record { lead = t.lead; rest = t.rest; is_short = false } in
@@ -86,10 +86,10 @@ module _ (e : Environment) (spelling : List ℕ) (k : ℕ) (z : Unseen (alone (D
       let there : head ≡ found steps (identifier (resolved reading.spelling k)) = t.is ∙ t.along t.inner ∙ ap one (path_as x k refl AsValue t.inner t.path) in
       let put : put_first x init head ≡ led steps init = t.puts init ∙ t.along (put_first x init t.inner) ∙ ap one (t.path.puts init) in
       let spared : Spared x steps = ((ap (any_names x) t.front, t.free), t.path.spared) in
-      let past = path_held e k z init s H still ready x refl steps (resolved reading.spelling k) (read_named spelling k reading.spelling) (t.direct (found t.path.steps (identifier (resolved reading.spelling k))), subst (λ u. Indirect u t.path.steps) read_as t.path.direct) spared (sym (ap (are_past H x init) there) ∙ passed) in
+      let past = path_held e k z init s H still ready x refl false steps (resolved reading.spelling k) (read_named spelling k reading.spelling) (t.direct (found t.path.steps (identifier (resolved reading.spelling k))), subst (λ u. Indirect u t.path.steps) read_as t.path.direct) spared (sym (ap (are_past H x init) there) ∙ passed) in
       subst₂ (λ h w. GoesWith e k init h w s) (sym there) (sym put)
       (goes_as e k init (found steps (identifier (resolved reading.spelling k))) (led steps (identifier (resolved reading.spelling k))) (found_same steps (identifier (resolved reading.spelling k))) (led steps init) s
-      (past_goes e k z init s x refl reading.spelling (sym (plain_read init (movable init moves))) (plain_item init (movable init moves)) AsWholeItem steps (t.stands (is_end t.path.steps), subst (λ c. Well c t.path.steps) (sym (t.below AsWholeItem)) t.path.well) spared past (Stat None) tt [] tt))
+      (past_goes e k z init s x refl reading.spelling (sym (plain_read init (movable init moves))) (plain_item init (movable init moves)) false AsWholeItem steps (t.stands (is_end t.path.steps), subst (λ c. Well c t.path.steps) (sym (t.below AsWholeItem)) t.path.well) spared past (Stat None) tt tt [] tt))
 
 -- ---- a declaration in two
 

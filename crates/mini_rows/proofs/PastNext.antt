@@ -18,7 +18,7 @@ use Rattle.mini_laws.proofs.Simulation.{goes_either}
 use Rattle.mini_kept.specs.Without.{Unseen}
 use Rattle.mini_rows.specs.Lists.{declaration}
 use Rattle.mini_rows.specs.Declarations.{binding, declarator}
-use Rattle.mini_rows.specs.Past.{are_past}
+use Rattle.mini_rows.specs.Past.{Kept, are_past}
 use Rattle.mini_rows.specs.Sketches.{AsValue}
 use Rattle.mini_rows.specs.Unused.{resolved, may_move, is_first, put_first}
 use Rattle.mini_rows.proofs.FoldMeaning.{plain_read}
@@ -34,7 +34,7 @@ use Rattle.mini_rows.proofs.SingleUse.{Path, path, led, Indirect}
 use Rattle.mini_rows.proofs.SpellAlike.{SameTree}
 use Rattle.mini_rows.proofs.UnusedMeaning.{declared_then, movable, same_symbol}
 
-module _ (e : Environment) (spelling : List ℕ) (k : ℕ) (z : Unseen (alone (Declared k)) e) (H : VariableSet) (still : Still H e) (K : VariableDeclarationKind) (init id value : Tree) (last : Trees) (moves : may_move init ≡ true) (once : is_first (resolved spelling k) false value ≡ true) (passed : are_past H (resolved spelling k) init value ≡ true) where
+module _ (e : Environment) (spelling : List ℕ) (k : ℕ) (z : Unseen (alone (Declared k)) e) (H : Kept) (still : Still H e) (K : VariableDeclarationKind) (init id value : Tree) (last : Trees) (moves : may_move init ≡ true) (once : is_first (resolved spelling k) false value ≡ true) (passed : are_past H (resolved spelling k) init value ≡ true) where
   abbrev x : Name
   x = resolved spelling k
 
@@ -59,11 +59,11 @@ module _ (e : Environment) (spelling : List ℕ) (k : ℕ) (z : Unseen (alone (D
   same_there : SameTree value there
   same_there = path_same x k refl AsValue value reading
 
-  value_goes : (s : State) → Initialised H s → Go (either (means e init (As Val) tt s) (λ v t. means e value (As Val) tt (after v t)) (λ y t. stop y t)) (means e (put_first x init value) (As Val) tt s)
+  value_goes : (s : State) → Initialised H.variables s → Go (either (means e init (As Val) tt s) (λ v t. means e value (As Val) tt (after v t)) (λ y t. stop y t)) (means e (put_first x init value) (As Val) tt s)
   value_goes s ready =
       subst₂ Go (read_there e k init value there same_there (As Val) tt s) (ap (λ w. means e w (As Val) tt s) (sym (reading.puts init)))
-      (past_goes e k z init s x refl reading.read.spelling plain (plain_item init (movable init moves)) AsValue reading.steps reading.well reading.spared
-      (path_held e k z init s H still ready x refl reading.steps (resolved reading.read.spelling k) (read_named spelling k reading.read.spelling) (subst (λ y. Indirect (identifier (record { spelling = reading.read.spelling; symbol = y })) reading.steps) (same_symbol k reading.read.symbol reading.same) reading.direct) reading.spared (sym (ap (are_past H x init) (path_as x k refl AsValue value reading)) ∙ passed)) (As Val) tt tt tt)
+      (past_goes e k z init s x refl reading.read.spelling plain (plain_item init (movable init moves)) false AsValue reading.steps reading.well reading.spared
+      (path_held e k z init s H still ready x refl false reading.steps (resolved reading.read.spelling k) (read_named spelling k reading.read.spelling) (subst (λ y. Indirect (identifier (record { spelling = reading.read.spelling; symbol = y })) reading.steps) (same_symbol k reading.read.symbol reading.same) reading.direct) reading.spared (sym (ap (are_past H x init) (path_as x k refl AsValue value reading)) ∙ passed)) (As Val) tt tt tt tt)
 
   value_there : (summary value).facts.absent ≡ false
   value_there = ap (λ i. i.facts.absent) same_there.read ∙ led_there reading.steps (identifier (resolved reading.read.spelling k)) refl
@@ -90,7 +90,7 @@ module _ (e : Environment) (spelling : List ℕ) (k : ℕ) (z : Unseen (alone (D
     earlier s = either_cong (means e init (As Val) tt s) _ _ _ _ (λ v t. with_others e id value value_there K last (after v t)) (λ y t. refl) ∙ sym (either_assoc (means e init (As Val) tt s) _ _ _ _ ∙ either_cong (means e init (As Val) tt s) _ _ _ _ (λ v t. refl) (λ y t. either_stop y t _ _))
 
     -- x holds the value where the next is run, or the next is run with the initializer in it
-    pub initial_goes : (s : State) → Initialised H s → Go (either (means e init (As Val) tt s) (λ v t. run_of (declarator id value ▸ last) (after v t)) (λ y t. stop y t)) (run_of (declarator id (put_first x init value) ▸ last) s)
+    pub initial_goes : (s : State) → Initialised H.variables s → Go (either (means e init (As Val) tt s) (λ v t. run_of (declarator id value ▸ last) (after v t)) (λ y t. stop y t)) (run_of (declarator id (put_first x init value) ▸ last) s)
     initial_goes s ready =
         subst₂ Go (sym (earlier s)) (sym (with_others e id (put_first x init value) put_there K last s))
         (goes_either true (λ v. Agree D) (Agree D) (Agree D) (λ u. Agree D) (Agree D) (valued s) (means e (put_first x init value) (As Val) tt s) _ _ _ _ (value_goes s ready) on_goes (λ y s t g. stopped (Unit {0}) D y s t g))
@@ -103,10 +103,10 @@ module _ (e : Environment) (spelling : List ℕ) (k : ℕ) (z : Unseen (alone (D
       abbrev those : Trees
       those = declarator id (put_first x init value) ▸ last
 
-      next_goes : (s : State) → Initialised H s → Go (run_of these s) (run_of those s)
+      next_goes : (s : State) → Initialised H.variables s → Go (run_of these s) (run_of those s)
       next_goes s ready =
           subst (λ c. Go c (run_of those s)) (sym (declarations_join e K (declarator (binding x) init ▸ none) (declarator id value ▸ last) s))
           (declared_then e spelling k z K permit init (ap (λ i. i.facts.absent) (sym plain)) (run_of (declarator id value ▸ last)) s (run_of those s) (initial_goes s ready))
 
-      pub next_past : Same e D H (Stat None) (listed (declaration K these ▸ none)) (listed (declaration K those ▸ none))
+      pub next_past : Same e D H.variables (Stat None) (listed (declaration K these ▸ none)) (listed (declaration K those ▸ none))
       next_past = record { by = λ r s i. subst₂ Go (sym (listed_is e (declaration K these ▸ none) r s ∙ exec_one e (declaration K these) s)) (sym (listed_is e (declaration K those ▸ none) r s ∙ exec_one e (declaration K those) s)) (next_goes s i) }

@@ -57,7 +57,7 @@ use Rattle.mini_rows.proofs.CalledReads.{called_read, name_called_read}
 use Rattle.mini_rows.proofs.ChainCalm.{Calm as Calmly, tree_calm}
 use Rattle.mini_rows.proofs.ItemReads.{item_read}
 use Rattle.mini_rows.proofs.Passing.{Replies, Does, Mild, Replying, Quietly, constant_replies, word_replies, target_replies, member_replies, quiet_replying, member_quietly, field_replies, field_quietly, quiet_there, quietly, fetched_quietly, passes_by}
-use Rattle.mini_rows.proofs.SingleUse.{target_stands, Lead, Not, Plus, Minus, Tilde, Typing, Emptying, Beside, Deciding, Choosing, Passing, Called as CalledLead, Making, Waiting, Member, Keyed, Linking, Holding, Against, Given as GivenLead, Filling, Keying, Following, Branching, Failing, Storing, Gathering, Fielding, Spreading, Bracketing, Targeted, Changing, Listing, Doing, Giving, Raising, Testing, head_of, before, place, Step, led, is_end, is_steady, surely, Stands, Well, Spared, AllPass, whole, End, free, end_of, Allows, PassedIn, summaries_led}
+use Rattle.mini_rows.proofs.SingleUse.{target_stands, Lead, Not, Plus, Minus, Tilde, Typing, Emptying, Beside, Deciding, Choosing, Passing, Called as CalledLead, Making, Waiting, Member, Keyed, Linking, Holding, Against, Given as GivenLead, Filling, Keying, Following, Branching, Failing, Storing, Gathering, Fielding, Spreading, Bracketing, Targeted, Changing, Listing, Doing, Giving, Raising, Testing, head_of, before, place, Step, led, is_end, surely, Stands, Well, Spared, AllPass, whole, End, free, end_of, Allows, PassedIn, summaries_led}
 use Rattle.mini_rows.proofs.UnusedNames.{all_avoided}
 
 -- ---- a command that doesn't ask a child any more
@@ -671,28 +671,6 @@ suits_below AsValue l v s b g fs h OfType u r = (asks true true false AsValue l 
 suits_below AsValues l v s b g fs h (Parts w) u r = (asks true true false AsValues l v s b g (always_chains l) fs h (Parts w) u tt r tt).below
 suits_below AsValues l v s b g fs h Items u r = (asks true true false AsValues l v s b g (always_chains l) fs h Items u tt r tt).below
 suits_below c l v s b g fs h q u r = absurd u
-
--- one that is evaluated whatever is before it, which is asked for values
-pub steady_sure : (m f : Bool) (l : Lead) → is_steady l ≡ true → surely m f l ≡ true
-steady_sure m f (Following o a) e = absurd (true≢false (sym e))
-steady_sure m f (Branching a) e = absurd (true≢false (sym e))
-steady_sure m f (Failing a b) e = absurd (true≢false (sym e))
-steady_sure m f (Storing o a) e = absurd (true≢false (sym e))
-steady_sure m f (Fielding c a) e = absurd (true≢false (sym e))
-steady_sure m f Spreading e = absurd (true≢false (sym e))
-steady_sure m f Bracketing e = absurd (true≢false (sym e))
-steady_sure m f (GivenLead o a) e = ap (λ b. b || f) e
-steady_sure m f (Keying o a) e = ap (λ b. b || f) e
-steady_sure m f l e = refl
-
-pub steady_earlier : (l : Lead) → is_steady l ≡ true → earlier l ≡ before l
-steady_earlier (Failing a b) e = absurd (true≢false (sym e))
-steady_earlier l e = refl
-
-pub steady_valued : (l : Lead) → is_steady l ≡ true → valued_before l ≡ before l
-steady_valued (Failing a b) e = absurd (true≢false (sym e))
-steady_valued (Storing o a) e = absurd (true≢false (sym e))
-steady_valued l e = refl
 
 -- what is evaluated before stands before
 pub earlier_within : (l : Lead) (j : ℕ) → Before j (count (earlier l)) → Before j (count (before l))

@@ -130,20 +130,7 @@ before (Fielding c a) = a ▸ none
 before (Listing ts) = ts
 before l = none
 
--- it is evaluated whatever the parts before are, each of which is asked for a value
-abbrev pub is_steady : Lead → Bool
-is_steady (Following o a) = false
-is_steady (Branching a) = false
-is_steady (Failing a b) = false
-is_steady (Storing o a) = false
-is_steady (Fielding c a) = false
-is_steady Spreading = false
-is_steady Bracketing = false
-is_steady (Given o a) = not o
-is_steady (Keying o a) = not o
-is_steady l = true
-
--- it is evaluated whatever they are; where nothing is lost by it, it may be left out
+-- it is evaluated whatever the parts before are; where nothing is lost by it, it may be left out
 abbrev pub surely : Bool → Bool → Lead → Bool
 surely m is_free (Following o a) = is_free
 surely m is_free (Branching a) = is_free

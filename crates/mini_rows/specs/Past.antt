@@ -1,9 +1,10 @@
 -- Row 71 past steady names: a name that is read once, behind what may be evaluated before its initializer because no answer of the world
 -- changes it while the body runs, as equations with the JavaScript before and after.
-use Rattle.std.specs.Prelude.{◌≡◌, ◌⊎◌, ◌||◌, ◌&&◌, not, ℕ, nat_eq, Bool, true, false, List, [], ◌∷◌, Option, Some, None, if◌then◌else◌}
+use Rattle.std.specs.Prelude.{◌≡◌, ◌⊎◌, ◌||◌, ◌&&◌, not, ℕ, suc, nat_eq, Bool, true, false, List, [], ◌∷◌, Option, Some, None, if◌then◌else◌}
 use Rattle.mini_model.specs.declared.kind.VariableDeclarationKind.{VariableDeclarationKind}
 use Rattle.mini_model.specs.declared.name.Name.{Name}
 use Rattle.mini_model.specs.declared.name.SymbolId.{SymbolId}
+use Rattle.mini_model.specs.declared.operator.AssignmentOperator.{AssignmentOperator}
 use Rattle.mini_model.specs.declared.place.Position.{Position}
 use Rattle.mini_model.specs.declared.place.Position.TheVariants.{Expr, Stmt, Method, Elsewhere}
 use Rattle.mini_model.specs.declared.shape.Shape.{Shape}
@@ -20,12 +21,13 @@ use Rattle.mini_laws.specs.Weights.{Lightens}
 use Rattle.mini_kept.specs.AlikeBodies.{RunsAs}
 use Rattle.mini_kept.specs.Loosely.{LawfulUnder}
 use Rattle.mini_kept.specs.Without.{Assured, BodySets, Steadies, Begins, Permits}
-use Rattle.mini_node.specs.Children.{names_of, part}
+use Rattle.mini_node.specs.Children.{names_of, part, is_bare}
 use Rattle.mini_node.specs.Kinds.{is_identifier}
+use Rattle.mini_terms.specs.Folds.{is_effect_free}
 use Rattle.mini_rows.specs.Lists.{block, declaration}
 use Rattle.mini_rows.specs.Declarations.{declarator}
 use Rattle.mini_rows.specs.Inside.{is_lexical_shape}
-use Rattle.mini_rows.specs.Unused.{resolved, names, any_names, declared_among, declared_left, lets_go, may_go_on, begins_with, suits, is_placed, is_first, put_first, is_constant, reads_head, evaluated, is_declarator, declares_list, is_childless, may_move, statements, function_with}
+use Rattle.mini_rows.specs.Unused.{resolved, names, any_names, declared_among, declared_left, lets_go, begins_with, suits, is_sure, is_placed, is_first, put_first, is_constant, is_plain_assignment, is_word, is_member, is_field, entries_below, reads_head, evaluated, is_declarator, declares_list, is_childless, may_move, statements, function_with}
 
 -- ---- what may be evaluated before the initializer
 
@@ -90,9 +92,18 @@ begun V ts (Global s) = false
 
 -- those that keep the value that they have behind some of the statements and declarators, where nothing writes them: no answer changes them, and they
 -- are such, or a `let` or a `const` has initialised them before: `const y = a(); let x = b(); return [y, x];`
-abbrev pub held : Assured → Trees → Trees → Bool → Trees → VariableSet
-held V ts before is_lexical first (Declared k) = V.steady (Declared k) && (begun V ts (Declared k) || is_let k before is_lexical first)
-held V ts before is_lexical first (Global s) = false
+abbrev pub held_variables : Assured → Trees → Trees → Bool → Trees → VariableSet
+held_variables V ts before is_lexical first (Declared k) = V.steady (Declared k) && (begun V ts (Declared k) || is_let k before is_lexical first)
+held_variables V ts before is_lexical first (Global s) = false
+
+-- what keeps its value there: some variables, and `this` or not
+pub record Kept : Type 0 where
+  pub variables : VariableSet
+  pub has_this : Bool
+
+-- `this` does where the body doesn't ask the world for it (ECMA-262, "ResolveThisBinding")
+abbrev pub held : Assured → Trees → Trees → Bool → Trees → Kept
+held V ts before is_lexical first = record { variables = held_variables V ts before is_lexical first; has_this = V.has_this }
 
 -- what writes a part of it
 abbrev pub is_writer : Shape → Bool
@@ -127,28 +138,69 @@ is_held_name H r ys = false
 abbrev pub is_held : VariableSet → Tree → Tree → Bool
 is_held H r t = is_identifier t && is_held_name H r (names_of t)
 
--- it may be evaluated before r rather than after, whatever r does: it is a constant, or such a name
-abbrev pub passes_any : VariableSet → Tree → Tree → Bool
-passes_any H r t = is_constant t || is_held H r t
+abbrev pub is_this_shape : Shape → Bool
+is_this_shape shape.ThisExpression = true
+is_this_shape h = false
 
--- the part that mentions the name is evaluated whatever those before it are, and r may stand in its place. A property and what is spread are
--- no such way
-abbrev pub is_certain : Name → Tree → Shape → Trees → Bool
-is_certain x r h ts = suits x r h ts && (is_placed false false h && (not (may_go_on h) || begins_with x ts))
+-- `this`
+abbrev pub is_this : Tree → Bool
+is_this t = is_this_shape (shape_of t) && is_bare t 0
+
+-- such a name, or `this`, which nothing writes
+abbrev pub keeps_value : Kept → Tree → Tree → Bool
+keeps_value H r t = is_held H.variables r t || (H.has_this && is_this t)
+
+-- it may be evaluated before r rather than after, whatever r does: it is a constant, or keeps its value
+abbrev pub passes_any : Kept → Tree → Tree → Bool
+passes_any H r t = is_constant t || keeps_value H r t
+
+-- so may the key of a member
+abbrev pub passes_any_word : Kept → Tree → Tree → Bool
+passes_any_word H r t = is_word (shape_of t) || passes_any H r t
+
+-- so may a member that is assigned to: before the right side its object and its key are evaluated, and no more, whatever the object is
+-- (ECMA-262, "Assignment Operators")
+abbrev pub passes_any_member : Kept → Tree → Tree → Bool
+passes_any_member H r t = is_member t && (passes_any H r (part t 0) && passes_any_word H r (part t 1))
+
+-- so may what `=` assigns to, such a member, or a name, of which nothing is evaluated before the right side: `y.b = x`, `this[y] = x`, `z = x`
+abbrev pub passes_any_target : Kept → Tree → AssignmentOperator → Tree → Bool
+passes_any_target H r o t = is_plain_assignment o && (passes_any_member H r t || (is_identifier t && is_effect_free t))
+
+-- so may an item of a list, of which an entry is asked or isn't: of a property its value
+abbrev pub passes_any_item : Kept → Bool → Tree → Tree → Bool
+passes_any_item H of_entries r t = passes_any H r t || (of_entries && (is_field t && passes_any H r (part t 1)))
+
+-- so may what stands before the read, in a node of such a shape; a key in brackets is converted before the value
+abbrev pub passes_any_at : Kept → Bool → Tree → Shape → Tree → Bool
+passes_any_at H of_entries r (shape.AssignmentExpression o) t = passes_any_target H r o t
+passes_any_at H of_entries r (shape.ObjectProperty k is_method is_shorthand is_computed) t = not is_computed && is_word (shape_of t)
+passes_any_at H of_entries r shape.Listed t = passes_any_item H of_entries r t
+passes_any_at H of_entries r h t = passes_any H r t
+
+-- the part that mentions the name is evaluated whatever those before it are, and r may stand in its place. A property and what is spread stand
+-- where an entry is asked
+abbrev pub is_certain : Name → Bool → Tree → Shape → Trees → Bool
+is_certain x of_entries r h ts = suits x r h ts && (is_placed of_entries false h && (is_sure false h || begins_with x ts))
 
 -- so is the read, and each part that is evaluated before it may be evaluated before r
 abbrev mutual
-  pub are_past : VariableSet → Name → Tree → Tree → Bool
-  are_past H x r (node h ys n ts) = is_certain x r h ts && all_past H x r ts
+  pub are_past_in : Kept → Name → Bool → Tree → Tree → Bool
+  are_past_in H x of_entries r (node h ys n ts) = is_certain x of_entries r h ts && all_past H x of_entries r h 0 ts
 
-  pub all_past : VariableSet → Name → Tree → Trees → Bool
-  all_past H x r none = true
-  all_past H x r (t ▸ ts) = if names x t then are_past H x r t else (passes_any H r t && all_past H x r ts)
+  -- from a place on
+  pub all_past : Kept → Name → Bool → Tree → Shape → ℕ → Trees → Bool
+  all_past H x of_entries r h i none = true
+  all_past H x of_entries r h i (t ▸ ts) = if names x t then are_past_in H x (entries_below of_entries h i) r t else (passes_any_at H of_entries r h t && all_past H x of_entries r h (suc i) ts)
+
+-- of which no entry is asked
+abbrev pub are_past : Kept → Name → Tree → Tree → Bool
+are_past H x = are_past_in H x false
 
 -- ---- in the statements of a body
 
--- 71: `function f(g) { let x = a(); return g(x); }` becomes `function f(g) { ; return g(a()); }`, and so of `[g, x]` and `g + x`, of
--- `const y = g(x);`, `switch (g(x)) { }` and `for (c of g(x)) d();`, and of each other head
+-- 71: `function f(g) { let x = a(); return g(x); }` becomes `function f(g) { ; return g(a()); }`, and so of `[g, x]`, `g + x`, `g.b = x`, `this.b = x`
+-- and `{ b: g, c: x }`, of `const y = g(x);`, `switch (g(x)) { }` and `for (c of g(x)) d();`, and of each other head
 pub record Row71Past (V : Assured) (W : VariableSet) (outside : Tree) (ts us : Trees) : Type 0 where
   pub before : Trees
   pub kind : VariableDeclarationKind

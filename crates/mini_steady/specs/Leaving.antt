@@ -2,11 +2,10 @@
 use Rattle.std.specs.Prelude.{ℕ, Bool, true, false, ◌&&◌, List, [], ◌∷◌, Option, Some, None}
 use Rattle.mini_model.specs.declared.name.Name.{Name}
 use Rattle.mini_model.specs.declared.name.SymbolId.{SymbolId}
-use Rattle.mini_model.specs.declared.shape.Shape.{Shape}
-use Rattle.mini_model.specs.declared.shape.Shape.TheVariants as shape
 use Rattle.mini_model.specs.Tree.{Tree, Trees, none, ◌▸◌, shape_of}
-use Rattle.mini_node.specs.Children.{names_of, is_bare}
+use Rattle.mini_node.specs.Children.{names_of}
 use Rattle.mini_rows.specs.Past.{is_binding, has_symbol, leaves}
+pub use Rattle.mini_rows.specs.Past.{is_this_shape, is_this}
 
 -- a node declares a name with the symbol
 abbrev pub declares : ℕ → Tree → Bool
@@ -28,11 +27,3 @@ leaves_object o t = leaves_name (names_of o) t
 abbrev pub all_leave : Tree → Trees → Bool
 all_leave o none = true
 all_leave o (t ▸ ts) = leaves_object o t && all_leave o ts
-
-abbrev pub is_this_shape : Shape → Bool
-is_this_shape shape.ThisExpression = true
-is_this_shape h = false
-
--- `this`
-abbrev pub is_this : Tree → Bool
-is_this t = is_this_shape (shape_of t) && is_bare t 0

@@ -21,6 +21,7 @@ pub use bindings::{any_bind, binds};
 pub use code::{BodyCode, code_of, is_initialised};
 pub use functions::minimize_in_function;
 pub use laws::{members_are_rows, told_stays};
+pub use leaving::is_this;
 pub use members::{SteadyMembers, minimize_members};
 pub use own::{OwnRewrites, minimize_own_code};
 pub use parts::minimize_in_part;

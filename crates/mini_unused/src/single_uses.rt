@@ -77,9 +77,9 @@ fn goes_on(shape: &Shape) -> bool
     )
 }
 
-/// What evaluates its first part, or what is assigned to, or a key, and then, if at all, the second, and asks for the second's value
-/// alone.
-pub fn may_go_on(shape: &Shape) -> bool
+// What evaluates its first part, or what is assigned to, or a key, and then, if at all, the second, and asks for the second's value
+// alone.
+fn may_go_on(shape: &Shape) -> bool
     ensures { result ≡ reading.may_go_on shape.now }
 {
     matches!(
@@ -313,15 +313,15 @@ fn passes(init: &Node, node: &Node) -> bool
         || (is_effect_free(init, true) && (is_effect_free(node, true) && is_item(node)))
 }
 
-// `=`.
-fn is_plain_assignment(operator: &AssignmentOperator) -> bool
+/// `=`.
+pub fn is_plain_assignment(operator: &AssignmentOperator) -> bool
     ensures { result ≡ reading.is_plain_assignment operator.now }
 {
     matches!(operator, AssignmentOperator::Assign)
 }
 
-// A key that is written out.
-fn is_word(shape: &Shape) -> bool
+/// A key that is written out.
+pub fn is_word(shape: &Shape) -> bool
     ensures { result ≡ reading.is_word shape.now }
 {
     matches!(
@@ -330,8 +330,8 @@ fn is_word(shape: &Shape) -> bool
     )
 }
 
-// `y.b` and `y[b]`.
-fn is_member(node: &Node) -> bool
+/// `y.b` and `y[b]`.
+pub fn is_member(node: &Node) -> bool
     ensures member { result ≡ reading.is_member node.now }
     ensures parts { result ≡ true → count (children node.now) ≡ 2 }
 {
@@ -385,8 +385,8 @@ fn passes_branch(init: &Node, at: usize, node: &Node) -> bool
     true
 }
 
-// A property with a key that is written out.
-fn is_field(node: &Node) -> bool
+/// A property with a key that is written out.
+pub fn is_field(node: &Node) -> bool
     ensures field { result ≡ reading.is_field node.now }
     ensures parts { result ≡ true → count (children node.now) ≡ 2 }
 {
@@ -555,8 +555,8 @@ fn holds_entries(shape: &Shape, at: usize) -> bool
     )
 }
 
-// So does a list of which they are asked.
-fn entries_below(of_entries: bool, shape: &Shape, at: usize) -> bool
+/// So does a list of which they are asked.
+pub fn entries_below(of_entries: bool, shape: &Shape, at: usize) -> bool
     ensures { result ≡ reading.entries_below of_entries shape.now at }
 {
     holds_entries(shape, at) || (of_entries && is_listed_shape(shape))

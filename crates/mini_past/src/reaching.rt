@@ -1,0 +1,178 @@
+//! Whether what is read may be put there, whatever the initializer does: the way to the read, and what is evaluated before it.
+
+ghost use Rattle.std.specs.Prelude.{◌≡◌, ◌<◌, false};
+ghost use Rattle.mini_model.specs.Tree.{children, count, shape_of};
+ghost use Rattle.mini_rows.specs.Past as reading;
+ghost use Rattle.mini_rows.specs.Unused.{begins_with as it_begins_with, is_placed as is_it_placed, is_sure as is_it_sure};
+ghost use Rattle.mini_past.specs.SubstitutePast.{held_at};
+
+use crate::passing::passes_any_at;
+use mini_model::{Name, Shape};
+use mini_node::{Node, Nodes};
+use mini_steady::SteadyNames;
+use mini_unused::{entries_below, is_mentioned, is_plain_assignment, suits};
+
+// The first of some parts mentions the name, or there is none.
+#[tactic(auto, using(crate::proofs::PassedParts::begins_none, crate::proofs::PassedParts::begins_some))]
+fn begins_with(name: &Name, nodes: &Nodes) -> bool
+    ensures { result ≡ it_begins_with name.now nodes.now }
+{
+    if nodes.len() == 0 {
+        return true;
+    }
+    is_mentioned(name, nodes.child(0))
+}
+
+// A property and what is spread stand where an entry is asked.
+#[tactic(auto, using(crate::proofs::PassedParts::or_none))]
+fn is_placed(of_entries: bool, shape: &Shape) -> bool
+    ensures { result ≡ is_it_placed of_entries false shape.now }
+{
+    match shape {
+        Shape::ObjectProperty(_, _, _, _) | Shape::SpreadElement => of_entries,
+        _ => true,
+    }
+}
+
+// What evaluates the part behind its first one whatever that gives.
+#[tactic(auto, using(crate::proofs::PassedParts::or_none))]
+fn is_sure(shape: &Shape) -> bool
+    ensures { result ≡ is_it_sure false shape.now }
+{
+    match shape {
+        Shape::LogicalExpression(_) | Shape::ConditionalExpression => false,
+        Shape::AssignmentExpression(operator) => is_plain_assignment(operator),
+        Shape::ObjectProperty(_, _, _, is_computed) => !*is_computed,
+        Shape::CallExpression(is_optional) | Shape::ComputedMemberExpression(is_optional) => {
+            !*is_optional
+        }
+        _ => true,
+    }
+}
+
+// What mentions the name is evaluated whatever stands before it, and the initializer may stand in its place.
+fn is_certain(name: &Name, of_entries: bool, init: &Node, node: &Node) -> bool
+    ensures { result ≡ reading.is_certain name.now of_entries init.now (shape_of node.now) (children node.now) }
+{
+    suits(name, init, node)
+        && (is_placed(of_entries, node.shape())
+            && (is_sure(node.shape()) || begins_with(name, node.children())))
+}
+
+// Each part that is evaluated before the variable is read may be evaluated before the initializer, and the read is reached whatever they
+// are.
+#[cycle(past)]
+fn are_past_in<S: SteadyNames>(
+    name: &Name,
+    of_entries: bool,
+    init: &Node,
+    node: &Node,
+    statements: &Nodes,
+    at: usize,
+    declarators: &Nodes,
+    which: usize,
+    body: u32,
+    steady: &S,
+) -> bool
+    requires statement { at < count statements.now }
+    requires declarator { which < count declarators.now }
+    ensures { result ≡ reading.are_past_in (held_at (S.sets steady.now body) statements.now at declarators.now which) name.now of_entries init.now node.now }
+{
+    is_certain(name, of_entries, init, node)
+        && all_past(
+            name,
+            of_entries,
+            init,
+            node.shape(),
+            node.children(),
+            statements,
+            at,
+            declarators,
+            which,
+            body,
+            steady,
+        )
+}
+
+// So may each of some parts, of a node of such a shape, up to the one that mentions it.
+#[cycle(past)]
+fn all_past<S: SteadyNames>(
+    name: &Name,
+    of_entries: bool,
+    init: &Node,
+    shape: &Shape,
+    nodes: &Nodes,
+    statements: &Nodes,
+    at: usize,
+    declarators: &Nodes,
+    which: usize,
+    body: u32,
+    steady: &S,
+) -> bool
+    requires statement { at < count statements.now }
+    requires declarator { which < count declarators.now }
+    ensures { result ≡ reading.all_past (held_at (S.sets steady.now body) statements.now at declarators.now which) name.now of_entries init.now shape.now 0 nodes.now }
+{
+    for place in 0..nodes.len() {
+        let part = nodes.child(place);
+        if is_mentioned(name, part) {
+            return are_past_in(
+                name,
+                entries_below(of_entries, shape, place),
+                init,
+                part,
+                statements,
+                at,
+                declarators,
+                which,
+                body,
+                steady,
+            );
+        }
+        if !passes_any_at(
+            of_entries,
+            init,
+            shape,
+            part,
+            statements,
+            at,
+            declarators,
+            which,
+            body,
+            steady,
+        ) {
+            return false;
+        }
+    }
+    true
+}
+
+/// So it is, where no entry is asked.
+pub fn are_past<S: SteadyNames>(
+    name: &Name,
+    init: &Node,
+    node: &Node,
+    statements: &Nodes,
+    at: usize,
+    declarators: &Nodes,
+    which: usize,
+    body: u32,
+    steady: &S,
+) -> bool
+    requires statement { at < count statements.now }
+    requires declarator { which < count declarators.now }
+    ensures { result ≡ reading.are_past (held_at (S.sets steady.now body) statements.now at declarators.now which) name.now init.now node.now }
+{
+    are_past_in(
+        name,
+        false,
+        init,
+        node,
+        statements,
+        at,
+        declarators,
+        which,
+        body,
+        steady,
+    )
+}
