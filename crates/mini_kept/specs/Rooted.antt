@@ -1,5 +1,6 @@
 -- A relation of rewriting that may give a program other statements by what is known of its body, and so a static block, or an inner
 -- expression another value. No node that is evaluated asks these, so that it has to keep no meaning at a place, but what a program has to keep.
+-- So may it give a function another body by what holds of the program alone, as that each name has the symbol that the scopes around give.
 use Rattle.std.specs.Prelude.{ℕ, ◌≡◌, ◌⊎◌, Bool, true, false}
 use Rattle.mini_model.specs.declared.place.Position.{Position}
 use Rattle.mini_model.specs.declared.place.Position.TheVariants.{Elsewhere}
@@ -16,9 +17,11 @@ abbrev pub is_program : Shape → Bool
 is_program (shape.Program is_module directives) = true
 is_program h = false
 
--- what is itself a body that is run
+-- what is itself a body that is run, or has one
 abbrev pub is_body : Shape → Bool
 is_body (shape.Program is_module directives) = true
+is_body (shape.Function is_declaration is_generator directives) = true
+is_body (shape.ArrowFunctionExpression directives) = true
 is_body shape.StaticBlock = true
 is_body shape.InnerExpression = true
 is_body h = false

@@ -147,6 +147,11 @@ pub mod PastLawful
 pub mod PastArrowLawful
 pub mod PastModuleLawful
 pub mod PastStaticLawful
+pub mod PastBlockKept
+pub mod OwnLightens
+pub mod OwnLosses
+pub mod PastBlockLawful
+pub mod PastBlockMore
 pub mod FoldEqualities
 mod FoldBranches
 pub mod FoldMeaning

@@ -64,7 +64,7 @@ created ds k ps t u e Deleted r s = refl
 created ds k ps t u e AnEntry r s = refl
 created ds k ps t u e q r s = refl
 
-created_same : (ds : List (List ℕ)) (k : ℕ) (ps t u : Tree) (p : Position) → SameAt p (arrow_over ds k ps t) (arrow_over ds k ps u)
+pub created_same : (ds : List (List ℕ)) (k : ℕ) (ps t u : Tree) (p : Position) → SameAt p (arrow_over ds k ps t) (arrow_over ds k ps u)
 created_same ds k ps t u p = equal_same p (arrow_over ds k ps t) (arrow_over ds k ps u) (record { by = λ e q z r s. created ds k ps t u e q r s })
 
 -- ---- where it stands
@@ -99,7 +99,7 @@ module _ (ds : List (List ℕ)) (k : ℕ) (ps t : Tree) where
 
 -- ---- its body
 
-body_fits : (h : Shape) → Fits (Expr argument_seat) (body_demand (arrow_kind h))
+pub body_fits : (h : Shape) → Fits (Expr argument_seat) (body_demand (arrow_kind h))
 body_fits shape.FunctionBody = refl
 body_fits h = (λ t. absurd (true≢false (sym t)), λ t. absurd (true≢false (sym t)))
 

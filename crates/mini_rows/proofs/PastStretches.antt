@@ -83,12 +83,12 @@ left_bound j K (t ▸ first) rest hs e =
     ap (λ b. (b || false) || false) (bind_parts j (t ▸ first) rest list).0
 
 -- neither the statements before hide one of them nor the declarators before
-behind_off : (V : Assured) (before : Trees) (K : VariableDeclarationKind) (first rest after ts : Trees) → ts ≡ append before (declaration K (append first rest) ▸ after) → Off (hidden_all (append before (declared_left K first ▸ none))) (begun V ts)
+pub behind_off : (V : Assured) (before : Trees) (K : VariableDeclarationKind) (first rest after ts : Trees) → ts ≡ append before (declaration K (append first rest) ▸ after) → Off (hidden_all (append before (declared_left K first ▸ none))) (begun V ts)
 behind_off V before K first rest after ts is =
     held_off V ts (hidden_all (append before (declared_left K first ▸ none)))
     (λ j f. let (a, b) = bind_parts j before (declaration K (append first rest) ▸ after) (sym (ap (any_bind j) is) ∙ f) in all_unhidden j (append before (declared_left K first ▸ none)) (both_unbound j before (declared_left K first ▸ none) a (left_bound j K first rest after b)))
 
-pub of_head : (V : Assured) (W : VariableSet) (outside : Tree) (ts us : Trees) → Row71Past V W outside ts us → Behind V W outside ts us
+unfoldable pub of_head : (V : Assured) (W : VariableSet) (outside : Tree) (ts us : Trees) → Row71Past V W outside ts us → Behind V W outside ts us
 of_head V W outside ts us r =
     let k = r.symbol in
     let x : Name = resolved r.spelling k in
@@ -132,7 +132,7 @@ of_head V W outside ts us r =
       written_is = r.written;
     }
 
-pub of_next : (V : Assured) (W : VariableSet) (outside : Tree) (ts us : Trees) → Row71PastNext V W outside ts us → Behind V W outside ts us
+unfoldable pub of_next : (V : Assured) (W : VariableSet) (outside : Tree) (ts us : Trees) → Row71PastNext V W outside ts us → Behind V W outside ts us
 of_next V W outside ts us r =
     let k = r.symbol in
     let x : Name = resolved r.spelling k in
@@ -172,7 +172,7 @@ of_next V W outside ts us r =
       written_is = r.written;
     }
 
-pub behind : (V : Assured) (W : VariableSet) (outside : Tree) (ts us : Trees) → PastRow V W outside ts us → Behind V W outside ts us
+unfoldable pub behind : (V : Assured) (W : VariableSet) (outside : Tree) (ts us : Trees) → PastRow V W outside ts us → Behind V W outside ts us
 behind V W outside ts us (inl r) = of_head V W outside ts us r
 behind V W outside ts us (inr r) = of_next V W outside ts us r
 

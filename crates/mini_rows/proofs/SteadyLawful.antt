@@ -80,7 +80,7 @@ module _ (d g : Bool) (ds : List (List ℕ)) (k : ℕ) (name ps t u : Tree) wher
   created false e AnEntry r s = refl
   created false e q r s = refl
 
-  created_same : (p : Position) → SameAt p this that
+  pub created_same : (p : Position) → SameAt p this that
   created_same p = equal_same p this that (record { by = λ e q z r s. created d e q r s })
 
 -- it has a number from 1
@@ -136,7 +136,7 @@ left_still q I X ts w o zero = w
 left_still q I X ts w o (suc zero) = w
 left_still q I X ts w o (suc (suc i)) = within_minus I _ (hidden_all ts) o (within_trans I X _ w (within_plus X (kept q (lets_at ts 0))))
 
-needs_still : (h : Shape) (q : Demand) (I X : VariableSet) (ts : Trees) → Within I X → Off (hidden_all ts) I → (i : ℕ) → Within I (needs h q X ts i)
+pub needs_still : (h : Shape) (q : Demand) (I X : VariableSet) (ts : Trees) → Within I X → Off (hidden_all ts) I → (i : ℕ) → Within I (needs h q X ts i)
 needs_still shape.Listed q I X ts w o i = list_still q I X ts w o i
 needs_still shape.CatchClause q I X ts w o i = first_still (Binds true) I X ts w o i
 needs_still shape.ForStatement q I X ts w o i = first_still (demand shape.ForStatement (facts ts) q 0) I X ts w o i

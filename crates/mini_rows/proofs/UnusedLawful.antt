@@ -97,7 +97,7 @@ module _ (first_list second_list : Trees) (h : (strict : Bool) → fill strict (
   in_class strict (an_inner_key true) e = refused strict (an_inner_key true) refl e
   in_class strict c e = refused strict c refl e
 
-  in_slot : (strict : Bool) (p : Position) (s : Slot) → fits strict s (block first_list) ≡ true → (fits strict s (block second_list) ≡ true) × (is_body_slot p s ≡ true)
+  pub in_slot : (strict : Bool) (p : Position) (s : Slot) → fits strict s (block first_list) ≡ true → (fits strict s (block second_list) ≡ true) × (is_body_slot p s ≡ true)
   in_slot strict p (one c) e = in_class strict c e
   in_slot strict p (one_or_absent c) e = in_class strict c e
   in_slot strict p (many c) e = absurd (refused_here strict (many c) shape.BlockStatement [] 0 (listed first_list ▸ none) refl e)
@@ -276,20 +276,20 @@ module _ (q : StmtSeat) (s : List ℕ) (k : ℕ) (before after d w : Trees) (l :
   abbrev second_list : Trees
   second_list = append before (append w after)
 
-  block_bodies : (a : Around) → BodiesKept (bodies a (block first_list)) (bodies a (block second_list))
+  pub block_bodies : (a : Around) → BodiesKept (bodies a (block first_list)) (bodies a (block second_list))
   block_bodies a =
       subst (λ cs. BodiesKept cs (bodies (quiet a) (listed second_list) ++ [])) (sym (append-nil (bodies (quiet a) (listed first_list))))
       (subst (BodiesKept (bodies (quiet a) (listed first_list))) (sym (append-nil (bodies (quiet a) (listed second_list)))) (list_bodies x before after d w l a))
 
-  block_frames : FramesKept (frames None (block first_list)) (frames None (block second_list))
+  pub block_frames : FramesKept (frames None (block first_list)) (frames None (block second_list))
   block_frames =
       subst (λ fs. FramesKept fs (frames None (listed second_list) ++ [])) (sym (append-nil (frames None (listed first_list))))
       (subst (FramesKept (frames None (listed first_list))) (sym (append-nil (frames None (listed second_list)))) (list_frames x before after d w l))
 
-  block_fixed : (y : Variable) → alone (Declared k) y ≡ false → fixed_by (block first_list) y ≡ fixed_by (block second_list) y
+  pub block_fixed : (y : Variable) → alone (Declared k) y ≡ false → fixed_by (block first_list) y ≡ fixed_by (block second_list) y
   block_fixed y o = of_children shape.BlockStatement [] 0 (listed first_list ▸ none) y refl ∙ ap (λ f. stricter f Writable) (list_fixed x before after d w l y o) ∙ sym (of_children shape.BlockStatement [] 0 (listed second_list ▸ none) y refl)
 
-  block_declares : (y : Name) → Contains (declared (block second_list)) y → Contains (declared (block first_list)) y
+  pub block_declares : (y : Name) → Contains (declared (block second_list)) y → Contains (declared (block first_list)) y
   block_declares y c = subst (λ ys. Contains ys y) (sym (append-nil (declared (listed first_list)))) (list_declares x before after d w l y (subst (λ ys. Contains ys y) (append-nil (declared (listed second_list))) c))
 
   dropped : ((e : Environment) → Unseen (alone (Declared k)) e → (d : Demand) → Fits (Stmt q) d → Same e (alone (Declared k)) nothing d (block first_list) (block second_list)) → Dropped q k (block first_list) (block second_list)
@@ -398,7 +398,7 @@ row_blocks q n w (inr (inr (inr r))) =
 shaped : (n w : Tree) (P : Tree → Tree → Type 0) → ((first_list second_list : Trees) → P (block first_list) (block second_list)) → Blocks n w → P n w
 shaped n w P f b = subst (λ t. P t w) (sym b.before) (subst (P (block b.first)) (sym b.after) (f b.first b.second))
 
-blocks_asked : (p : Position) (first_list second_list : Trees) → AskedAlike p (block first_list) (block second_list)
+pub blocks_asked : (p : Position) (first_list second_list : Trees) → AskedAlike p (block first_list) (block second_list)
 blocks_asked p first_list second_list = record { absent = λ g. absurd (true≢false (sym g)); body = λ g. absurd (true≢false (sym g)); optional = λ g. absurd (true≢false (sym g)); number = λ g h. refl; spelled = λ r g. absurd (cc g); plain = refl }
 
 in_place : (q : StmtSeat) (n w : Tree) → BlockRow nothing n w → (strict : Bool) (s : Slot) → fits strict s n ≡ true → (fits strict s w ≡ true) × (is_body_slot (Stmt q) s ≡ true)

@@ -41,6 +41,7 @@ pub mod Past
 pub mod PastArrows
 pub mod PastModules
 pub mod PastStatics
+pub mod PastBlocks
 pub mod Cases
 pub mod LoopGuards
 pub mod DeadCases

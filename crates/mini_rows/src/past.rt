@@ -4,6 +4,7 @@ ghost use Rattle.mini_rows.specs.Past.{PastIsLawful, PastLightens, PastRunsAlike
 ghost use Rattle.mini_rows.specs.PastArrows.{PastArrowIsLawful, PastArrowLightens};
 ghost use Rattle.mini_rows.specs.PastModules.{PastModuleIsLawful, PastModuleLightens};
 ghost use Rattle.mini_rows.specs.PastStatics.{PastStaticIsLawful, PastStaticLightens};
+ghost use Rattle.mini_rows.specs.PastBlocks.{PastBlocksAreLawful, PastBlocksAreLawfulInPrograms, PastBlocksLighten, PastBlocksReadMore};
 
 /// A body runs as before where the initializer goes past names that are held, from each start that initialises what is known to be
 /// initialised, in any environment in which that is so which is known, where nobody else sees the name that goes.
@@ -50,4 +51,24 @@ pub fn past_steady_names_lighten_static_blocks()
 /// And the program is kept, where that is so which is known of its body.
 pub fn past_steady_names_are_lawful_in_static_blocks()
     ensures { PastStaticIsLawful }
+{}
+
+/// So is what is written of a block further inside a body.
+pub fn past_steady_names_lighten_blocks()
+    ensures { PastBlocksLighten }
+{}
+
+/// Where more variables have values, a block is read as it was.
+pub fn past_steady_names_read_more_in_blocks()
+    ensures { PastBlocksReadMore }
+{}
+
+/// And a program is kept in which a function or an arrow function has such a block, where that is so which is known of its body.
+pub fn past_steady_names_are_lawful_in_blocks()
+    ensures { PastBlocksAreLawful }
+{}
+
+/// And so is one that has such a block itself.
+pub fn past_steady_names_are_lawful_in_blocks_of_programs()
+    ensures { PastBlocksAreLawfulInPrograms }
 {}

@@ -1,0 +1,134 @@
+-- A step in the code of a body by which a block loses a name: the body runs as before, where nobody else sees the name and nothing that is left
+-- mentions it.
+use Rattle.std.specs.Prelude.{ℕ, zero, suc, ◌≡◌, refl, Bool, true, false, List, [], ◌∷◌, ◌++◌, not}
+use Rattle.std.proofs.Common.{ap, ◌∙◌, sym, subst, subst₂, length}
+use Rattle.mini_model.specs.declared.name.Name.{Name}
+use Rattle.mini_model.specs.declared.place.Position.{Position}
+use Rattle.mini_model.specs.declared.shape.Shape.{Shape}
+use Rattle.mini_model.specs.declared.shape.Shape.TheVariants as shape
+use Rattle.mini_model.specs.Tree.{Tree, Trees, node, none, ◌▸◌, count, shape_of}
+use Rattle.mini_model.specs.Position.{child_position}
+use Rattle.mini_laws.specs.Value.{Declared, VariableSet, nothing, variables}
+use Rattle.mini_laws.specs.State.{Environment}
+use Rattle.mini_laws.specs.Demand.{Demand}
+use Rattle.mini_laws.specs.Naming.{summary, summary_of, summaries, facts, facts_all, naming, nth_absent, scope_of}
+use Rattle.mini_laws.specs.Body.{BodyKind, body_demand}
+use Rattle.mini_laws.specs.Bodies.{Around, below, bodies, bodies_from, arrow_kind}
+use Rattle.mini_laws.specs.Skeleton.{Within, Off, hidden, hidden_all, needs, Rules, Sound, TreesGo}
+use Rattle.mini_laws.specs.Fits.{Fits}
+use Rattle.mini_laws.specs.Asking.{demand}
+use Rattle.mini_laws.specs.Same.{Same}
+use Rattle.mini_laws.specs.Substitution.{alone}
+use Rattle.mini_laws.specs.Congruence.{Apart, Avoids, AllAvoid, dead_rules}
+use Rattle.mini_laws.proofs.Congruent.{kids_self, from_same, to_same, body_same, weaker}
+use Rattle.mini_laws.proofs.Dead.{dead_sound, dead_self, AllAlike, all_alike_self, alive_alike}
+use Rattle.mini_laws.proofs.Fitting.{fits_children}
+use Rattle.mini_laws.proofs.Fundamental.{PlaceGo, one_node, place_cons}
+use Rattle.mini_laws.proofs.Simulation.{off_front, off_back, within_refl}
+use Rattle.mini_kept.specs.AlikeBodies.{RunsAs, BodiesKept}
+use Rattle.mini_kept.specs.Without.{Assured, Steadies, Permits}
+use Rattle.mini_kept.proofs.BodyLists.{kept_itself, each_of as each_body}
+use Rattle.mini_rows.specs.PastBlocks.{PastBlocks}
+use Rattle.mini_rows.specs.Steady.{has_body, OwnStep, own_here, own_inside, OwnStepIn, own_first, own_later}
+use Rattle.mini_rows.proofs.OwnPartLawful.{bodiless}
+use Rattle.mini_rows.proofs.PastBlockKept.{Lost, Loses, some_lost, at_statement, loses_read, loses_kind}
+use Rattle.mini_rows.proofs.SteadyLawful.{needs_still}
+
+-- ---- a step by a row is one by which some symbol is lost
+
+module _ (V : Assured) where
+  mutual
+    pub some_step : {p : Position} {t u : Tree} → OwnStep (PastBlocks V) p t u → (k : ℕ) × OwnStep (Loses V k) p t u
+    some_step (own_here p n w r) = let (k, l) = some_lost V p n w r in (k, own_here p n w l)
+    some_step (own_inside p h xs ts us b s) = let (k, l) = some_steps s in (k, own_inside p h xs ts us b l)
+
+    some_steps : {π : ℕ → Position} {ts us : Trees} → OwnStepIn (PastBlocks V) π ts us → (k : ℕ) × OwnStepIn (Loses V k) π ts us
+    some_steps (own_first π t u ts s) = let (k, l) = some_step s in (k, own_first π t u ts l)
+    some_steps (own_later π t ts us s) = let (k, l) = some_steps s in (k, own_later π t ts us l)
+
+module _ (V : Assured) (k : ℕ) where
+  abbrev R : Position → Tree → Tree → Type 0
+  R = Loses V k
+
+  abbrev D : VariableSet
+  D = alone (Declared k)
+
+  mutual
+    pub lost_read : {p : Position} {t u : Tree} → OwnStep R p t u → summary t ≡ summary u
+    lost_read (own_here p n w r) = loses_read V k p n w r
+    lost_read (own_inside p h xs ts us b s) = ap (λ is. summary_of h (variables xs) 0 is) (lost_reads s)
+
+    lost_reads : {π : ℕ → Position} {ts us : Trees} → OwnStepIn R π ts us → summaries ts ≡ summaries us
+    lost_reads (own_first π t u ts s) = ap (λ i. i ∷ summaries ts) (lost_read s)
+    lost_reads (own_later π t ts us s) = ap (λ is. summary t ∷ is) (lost_reads s)
+
+  pub lost_kind : {p : Position} {t u : Tree} → OwnStep R p t u → arrow_kind (shape_of t) ≡ arrow_kind (shape_of u)
+  lost_kind (own_here p n w r) = loses_kind V k p n w r
+  lost_kind (own_inside p h xs ts us b s) = refl
+
+  -- the bodies in it are among those that were there
+
+  around_same : (a : Around) (h : Shape) {π : ℕ → Position} {ts us : Trees} → OwnStepIn R π ts us → below a h ts ≡ below a h us
+  around_same a (shape.Class c) {ts = ts} s = (λ j i. record (below a (shape.Class c) ts i) { extends = not (nth_absent (facts_all (lost_reads s j)) 1) })
+  around_same a h s = refl
+
+  mutual
+    pub lost_bodies : {p : Position} {t u : Tree} → OwnStep R p t u → (a : Around) → BodiesKept (bodies a t) (bodies a u)
+    lost_bodies (own_here p n w r) a = at_statement V k (λ p n w. BodiesKept (bodies a n) (bodies a w)) (λ q n w r. r.bodied a) p n w r
+    lost_bodies (own_inside p h xs ts us b s) a =
+        subst₂ BodiesKept (sym (λ i. bodiless a h 0 (node h xs 0 ts) ts b i ++ bodies_from (below a h ts) 0 ts)) (ap (λ α. bodies_from α 0 us) (around_same a h s) ∙ sym (λ i. bodiless a h 0 (node h xs 0 us) us b i ++ bodies_from (below a h us) 0 us))
+        (lost_bodies_in s (below a h ts) 0)
+
+    lost_bodies_in : {π : ℕ → Position} {ts us : Trees} → OwnStepIn R π ts us → (α : ℕ → Around) (i : ℕ) → BodiesKept (bodies_from α i ts) (bodies_from α i us)
+    lost_bodies_in (own_first π t u ts s) α i = each_body (bodies (α i) t) (bodies_from α (suc i) ts) (bodies (α i) u) (bodies_from α (suc i) ts) (lost_bodies s (α i)) (kept_itself (bodies_from α (suc i) ts))
+    lost_bodies_in (own_later π t ts us s) α i = each_body (bodies (α i) t) (bodies_from α (suc i) ts) (bodies (α i) t) (bodies_from α (suc i) us) (kept_itself (bodies (α i) t)) (lost_bodies_in s α (suc i))
+
+  -- and it runs as before, from a start that initialises what is known, which no scope in it hides
+
+  module _ (e : Environment) (z : Permits nothing D e) (y : Steadies V e) where
+    abbrev apart : Apart e D
+    apart = z.unseen.shared
+
+    abbrev U : Rules
+    U = dead_rules D e
+
+    abbrev sound : Sound U
+    sound = dead_sound D e apart
+
+    abbrev I : VariableSet
+    I = V.initial
+
+    facts_count : (ts : Trees) → length (facts ts) ≡ count ts
+    facts_count none = refl
+    facts_count (t ▸ ts) = ap suc (facts_count ts)
+
+    mutual
+      lost_goes : {p : Position} {t u : Tree} → OwnStep R p t u → Off (hidden t) I → Avoids D u → (X : VariableSet) → Within I X → (q : Demand) → Fits p q → TreesGo U X q t u
+      lost_goes (own_here p n w r) o av X wide q f =
+          from_same D e apart X q n w av (weaker e D D I X (within_refl D) wide q n w (at_statement V k (λ p n w. (q : Demand) → Fits p q → Same e D I q n w) (λ s n w r. r.means e z y) p n w r q f))
+      lost_goes (own_inside p h xs ts us b s) o av X wide q f =
+          let inner = off_back (scope_of h (summaries ts)) (hidden_all ts) I o in
+          one_node U sound h xs xs 0 0 ts us X q (alive_alike D e h q (variables xs) 0 (summaries ts) (summaries us) av.0 (subst (AllAlike D e (summaries ts)) (lost_reads s) (all_alike_self D e (summaries ts)))) refl (ap facts_all (lost_reads s))
+          (lost_goes_in s inner av.1 (needs h q X ts) (needs_still h q I X ts wide inner) (demand h (facts ts) q) (λ i. subst (λ m. Fits (child_position h p m i) (demand h (facts ts) q i)) (facts_count ts) (fits_children h (facts ts) p q f i)))
+
+      lost_goes_in : {π : ℕ → Position} {ts us : Trees} → OwnStepIn R π ts us → Off (hidden_all ts) I → AllAvoid D us → (X : ℕ → VariableSet) → ((i : ℕ) → Within I (X i)) → (σ : ℕ → Demand) → ((i : ℕ) → Fits (π i) (σ i)) → PlaceGo U sound X σ (hidden_all ts) ts us
+      lost_goes_in (own_first π t u ts s) o av X wide σ f = place_cons U sound t u ts ts X σ (lost_goes s (off_front (hidden t) (hidden_all ts) I o) av.0 (X 0) (wide 0) (σ 0) (f 0)) (kids_self D e apart ts av.1 (λ i. X (suc i)) (λ i. σ (suc i)))
+      lost_goes_in (own_later π t ts us s) o av X wide σ f =
+          place_cons U sound t t ts us X σ (dead_self D e apart t av.0 (X 0) (σ 0)) (lost_goes_in s (off_back (hidden t) (hidden_all ts) I o) av.1 (λ i. X (suc i)) (λ i. wide (suc i)) (λ i. σ (suc i)) (λ i. f (suc i)))
+
+    pub lost_runs : {p : Position} {t u : Tree} → OwnStep R p t u → Off (hidden t) I → Avoids D u → (b : BodyKind) → Fits p (body_demand b) → (X : VariableSet) → Within I X → RunsAs e b b X t u
+    lost_runs {t = t} {u = u} s o av b fit X wide =
+        record { by = (body_same e D X apart b t u (weaker e D D I X (within_refl D) wide (body_demand b) t u (to_same D e I (body_demand b) t u o (lost_goes s o av I (within_refl I) (body_demand b) fit)))).by }
+
+    -- and so does a node over it that is its own body
+    pub lost_runs_over : (h : Shape) (n : ℕ) (p : Position) {ts us : Trees} → OwnStepIn R (child_position h p (count ts)) ts us → Off (hidden (node h [] n ts)) I → AllAvoid D us → (b : BodyKind) → Fits p (body_demand b) → (X : VariableSet) → Within I X → RunsAs e b b X (node h [] n ts) (node h [] n us)
+    lost_runs_over h n p {ts = ts} {us = us} s o av b fit X wide =
+        record { by = (body_same e D X apart b (node h [] n ts) (node h [] n us) (weaker e D D I X (within_refl D) wide (body_demand b) (node h [] n ts) (node h [] n us) (to_same D e I (body_demand b) (node h [] n ts) (node h [] n us) o (goes (body_demand b) fit)))).by }
+      where
+        inner : Off (hidden_all ts) I
+        inner = off_back (scope_of h (summaries ts)) (hidden_all ts) I o
+
+        goes : (q : Demand) → Fits p q → TreesGo U I q (node h [] n ts) (node h [] n us)
+        goes q f =
+            one_node U sound h [] [] n n ts us I q (alive_alike D e h q [] n (summaries ts) (summaries us) tt (subst (AllAlike D e (summaries ts)) (lost_reads s) (all_alike_self D e (summaries ts)))) refl (ap facts_all (lost_reads s))
+            (lost_goes_in s inner av (needs h q I ts) (needs_still h q I I ts (within_refl I) inner) (demand h (facts ts) q) (λ i. subst (λ m. Fits (child_position h p m i) (demand h (facts ts) q i)) (facts_count ts) (fits_children h (facts ts) p q f i)))

@@ -1,0 +1,246 @@
+-- What the rows of names that are read behind held names make of a block in the code of a body.
+use Rattle.std.specs.Prelude.{ℕ, ◌+◌, ◌<◌, ◌≤◌, ◌≡◌, ◌⊎◌, refl, ◌||◌, Bool, true, false, [], Contains, Option, None}
+use Rattle.std.proofs.Common.{ap, ◌∙◌, sym, subst, subst₂, arith, inl, inr, true≢false}
+use Rattle.mini_model.specs.declared.name.Name.{Name}
+use Rattle.mini_model.specs.declared.place.Position.{Position}
+use Rattle.mini_model.specs.declared.place.Position.TheVariants.{Stmt}
+use Rattle.mini_model.specs.declared.seat.StmtSeat.{StmtSeat}
+use Rattle.mini_model.specs.declared.shape.Shape.TheVariants as shape
+use Rattle.mini_model.specs.Tree.{Tree, Trees, none, ◌▸◌, listed, shape_of}
+use Rattle.mini_model.specs.Paths.{append}
+use Rattle.mini_model.specs.Weight.{outline, weight}
+use Rattle.mini_accept.specs.WellShaped.{Depth, nested, a_statement, a_default_export, Slot, one, each, fits, fill}
+use Rattle.mini_laws.specs.declared.names.Use.{Use}
+use Rattle.mini_laws.specs.declared.names.Declared.TheVariants.{Lexical}
+use Rattle.mini_laws.specs.Edits.{Kept}
+use Rattle.mini_laws.specs.Symbols.{declared as declared_in, times}
+use Rattle.mini_laws.specs.Value.{Variable, Declared, VariableSet, nothing, is_in}
+use Rattle.mini_laws.specs.State.{Environment}
+use Rattle.mini_laws.specs.Demand.{Demand, Tail, Stat}
+use Rattle.mini_laws.specs.Fits.{Fits}
+use Rattle.mini_laws.specs.Same.{Same}
+use Rattle.mini_laws.specs.Skeleton.{Off, hidden}
+use Rattle.mini_laws.specs.Path.{here, inside}
+use Rattle.mini_laws.specs.Substitution.{alone}
+use Rattle.mini_laws.specs.Naming.{summary}
+use Rattle.mini_laws.specs.Fixity.{fixed_by}
+use Rattle.mini_laws.specs.Bodies.{Around, bodies, arrow_kind}
+use Rattle.mini_laws.specs.Weights.{Lightens}
+use Rattle.mini_laws.proofs.Anywhere.{in_each_tail}
+use Rattle.mini_laws.proofs.Congruent.{congruent_same, weaker}
+use Rattle.mini_laws.proofs.Simulation.{within_refl}
+use Rattle.mini_kept.specs.AlikeBodies.{BodiesKept}
+use Rattle.mini_kept.specs.Declaring.{declared}
+use Rattle.mini_kept.specs.Frames.{frames, FramesKept}
+use Rattle.mini_kept.specs.KeepsFrames.{is_body_slot, IsShownAlike, NoPort, NoDeclaration, KeepsFunction, KeepsHolder, KeepsPlaces}
+use Rattle.mini_kept.specs.KeepsLoosely.{KeepsLoosely}
+use Rattle.mini_kept.specs.KeepsNames.{is_rewritten_place}
+use Rattle.mini_kept.specs.KeepsShapes.{KeepsShapes, AskedAlike}
+use Rattle.mini_kept.specs.Lifted.{is_piece, KeepsRoot, KeepsNames}
+use Rattle.mini_kept.specs.Loosely.{symbol}
+use Rattle.mini_kept.specs.Placed.{fits_place, is_statement_list}
+use Rattle.mini_kept.specs.Without.{Assured, Steadies, Permits}
+use Rattle.mini_kept.proofs.InOrder.{in_order}
+use Rattle.mini_rows.specs.Lists.{block, declaration}
+use Rattle.mini_rows.specs.Declarations.{declarator}
+use Rattle.mini_rows.specs.Past.{any_bind, begun, PastRow}
+use Rattle.mini_rows.specs.PastBlocks.{PastBlockRow, PastBlocks, PastBlocksLighten}
+use Rattle.mini_rows.specs.Unused.{resolved, names, any_names, declared_among, put_first}
+use Rattle.mini_rows.proofs.HeadKept.{head_names}
+use Rattle.mini_rows.proofs.NextKept.{next_names}
+use Rattle.mini_rows.proofs.PastLawful.{list_fits}
+use Rattle.mini_rows.proofs.PastMeaning.{held_begins, held_off}
+use Rattle.mini_rows.proofs.PastStretches.{Behind, behind, of_head, of_next}
+use Rattle.mini_rows.proofs.SingleWeights.{single_falls, next_falls}
+use Rattle.mini_rows.proofs.Unbound.{unhidden}
+use Rattle.mini_rows.proofs.UnusedKept.{NamesThere, block_kept, block_less, block_keeps}
+use Rattle.mini_rows.proofs.UnusedLawful.{item, gone, in_slot, block_bodies, block_frames, block_fixed, block_declares, blocks_asked}
+use Rattle.mini_rows.proofs.UnusedMeaning.{movable, lexical_alone, all_join, list_read}
+use Rattle.mini_rows.proofs.UnusedNames.{all_avoided, all_unmentioned, all_other}
+use Rattle.mini_rows.proofs.UnusedWeights.{block_falls}
+
+-- ---- it means the same where nobody else sees the name
+
+module _ (e : Environment) (V : Assured) (W : VariableSet) (a b : Trees) (t : Behind V W (listed none) a b) (u : Permits W (alone (Declared t.symbol)) e) (s : Steadies V e) where
+  abbrev D : VariableSet
+  D = alone (Declared t.symbol)
+
+  abbrev ts : Trees
+  ts = append t.before (append t.d t.after)
+
+  abbrev us : Trees
+  us = append t.before (append t.w t.after)
+
+  abbrev H : VariableSet
+  H = begun V ts
+
+  list_same : Same e D H (Stat None) (listed ts) (listed us)
+  list_same = subst (λ l. Same e D (begun V l) (Stat None) (listed ts) (listed us)) t.read_is (t.same e u s)
+
+  unhidden_there : (j : ℕ) → any_bind j ts ≡ false → is_in (Declared j) (hidden (block ts)) ≡ false
+  unhidden_there j f = unhidden j (block ts) (ap (λ b. b || false) f)
+
+  in_tail : (tail : Option Tail) → Same e D H (Stat tail) (block ts) (block us)
+  in_tail tail =
+      let x = resolved t.spelling t.symbol in
+      congruent_same e D u.unseen.shared (inside shape.BlockStatement [] 0 none here none) (listed ts) (listed us) (tt, tt, tt, tt) (tt, all_join D t.before (append t.w t.after) (all_avoided x t.symbol refl t.before t.earlier) (all_join D t.w t.after t.avoids (all_avoided x t.symbol refl t.after t.later)))
+      (list_read e t.spelling t.symbol u.unseen t.before t.after t.d t.w t.read) H (Stat tail) (held_off V ts (hidden (block ts)) unhidden_there) (in_each_tail e D H (listed ts) (listed us) list_same tail)
+
+  at_demand : (q : StmtSeat) (d : Demand) → Fits (Stmt q) d → Same e D V.initial d (block ts) (block us)
+  at_demand q (Stat tail) f = weaker e D D H V.initial (within_refl D) (held_begins V ts V.initial (λ x h. h)) (Stat tail) (block ts) (block us) (in_tail tail)
+  at_demand q d f = elim f [ ]
+
+-- ---- a block that loses the name with a symbol
+
+pub record Lost (V : Assured) (k : ℕ) (q : StmtSeat) (n w : Tree) : Type 0 where
+  pub first : Trees
+  pub second : Trees
+  pub before : n ≡ block first
+  pub after : w ≡ block second
+  pub fitting : (strict : Bool) → fill strict (each item) first ≡ true → fill strict (each item) second ≡ true
+  pub keeps : KeepsLoosely (Stmt q) n w
+  pub kept : Kept n w
+  pub less : (v : Use) → times (symbol k) (declared_in v w) + 1 ≤ times (symbol k) (declared_in v n)
+  pub fixed : (y : Variable) → alone (Declared k) y ≡ false → fixed_by n y ≡ fixed_by w y
+  pub declares : (y : Name) → Contains (declared w) y → Contains (declared n) y
+  pub framed : FramesKept (frames None n) (frames None w)
+  pub bodied : (a : Around) → BodiesKept (bodies a n) (bodies a w)
+  pub means : (e : Environment) → Permits nothing (alone (Declared k)) e → Steadies V e → (d : Demand) → Fits (Stmt q) d → Same e (alone (Declared k)) V.initial d n w
+
+-- what is declared there is a lexical name
+names_there : (V : Assured) (o : Tree) (a b : Trees) (r : PastRow V nothing o a b) → let t = behind V nothing o a b r in NamesThere (resolved t.spelling t.symbol) t.d t.w
+unfolding behind of_head of_next
+names_there V o a b (inl r) = head_names r.kind (resolved r.spelling r.symbol) r.symbol refl r.first r.init r.head (movable r.init r.moves) r.once r.initial r.declared_earlier (lexical_alone r.kind r.goes)
+names_there V o a b (inr r) = next_names r.kind (resolved r.spelling r.symbol) r.symbol refl r.first r.init r.binds r.value r.last r.once r.declared_earlier r.initial r.other r.declared_later (lexical_alone r.kind r.goes)
+
+module _ (V : Assured) (q : StmtSeat) (a b : Trees) (t : Behind V nothing (listed none) a b) (n : NamesThere (resolved t.spelling t.symbol) t.d t.w) where
+  abbrev x : Name
+  x = resolved t.spelling t.symbol
+
+  abbrev A : Trees
+  A = append t.before (append t.d t.after)
+
+  abbrev B : Trees
+  B = append t.before (append t.w t.after)
+
+  these_fit : (strict : Bool) → fill strict (each item) A ≡ true → fill strict (each item) B ≡ true
+  these_fit strict e = sym (ap (fill strict (each item)) t.written_is) ∙ list_fits V nothing (listed none) a b t nested strict (ap (fill strict (each item)) t.read_is ∙ e)
+
+  lost_there : Lost V t.symbol q (block A) (block B)
+  lost_there =
+      let o = all_other x Lexical t.before t.earlier in
+      let p = all_other x Lexical t.after t.later in
+      let m = gone (record { name = x; hoists = false }) t.before t.after t.w (all_unmentioned x t.symbol refl t.before t.earlier) t.leaves.unmentioned (all_unmentioned x t.symbol refl t.after t.later) in
+      record {
+        first = A;
+        second = B;
+        before = refl;
+        after = refl;
+        fitting = these_fit;
+        keeps = in_order (Stmt q) (block A) (block B) (block_keeps x t.before t.after t.d t.w t.leaves n o p m q);
+        kept = block_kept x t.before t.after t.d t.w t.leaves n o p;
+        less = block_less x t.before t.after t.d t.w t.leaves n o p t.symbol refl;
+        fixed = block_fixed q t.spelling t.symbol t.before t.after t.d t.w t.leaves n t.earlier t.later;
+        declares = block_declares q t.spelling t.symbol t.before t.after t.d t.w t.leaves n t.earlier t.later;
+        framed = block_frames q t.spelling t.symbol t.before t.after t.d t.w t.leaves n t.earlier t.later;
+        bodied = block_bodies q t.spelling t.symbol t.before t.after t.d t.w t.leaves n t.earlier t.later;
+        means = λ e u s d f. at_demand e V nothing a b t u s q d f;
+      }
+
+pub lost : (V : Assured) (q : StmtSeat) (n w : Tree) → PastBlockRow V n w → (k : ℕ) × Lost V k q n w
+lost V q n w r =
+    let t = behind V nothing (listed none) r.before r.after r.row in
+    let there = lost_there V q r.before r.after t (names_there V (listed none) r.before r.after r.row) in
+    (t.symbol, subst₂ (Lost V t.symbol q) (sym (r.shape ∙ ap block t.read_is)) (sym (r.written ∙ ap block t.written_is)) there)
+
+-- ---- those of a symbol
+
+abbrev pub Loses : Assured → ℕ → Position → Tree → Tree → Type 0
+Loses V k (Stmt q) n w = Lost V k q n w
+Loses V k p n w = ⊥
+
+pub some_lost : (V : Assured) (p : Position) (n w : Tree) → PastBlocks V p n w → (k : ℕ) × Loses V k p n w
+some_lost V (Stmt q) n w r = lost V q n w r
+some_lost V p n w r = absurd r
+
+module _ (V : Assured) (k : ℕ) where
+  -- what holds of each statement
+  pub at_statement : (P : Position → Tree → Tree → Type 0) → ((q : StmtSeat) (n w : Tree) → Lost V k q n w → P (Stmt q) n w) → (p : Position) (n w : Tree) → Loses V k p n w → P p n w
+  at_statement P f (Stmt q) n w r = f q n w r
+  at_statement P f p n w r = absurd r
+
+  -- what is told by the shape
+  shaped : (P : Tree → Tree → Type 0) → ((ts us : Trees) → P (block ts) (block us)) → (q : StmtSeat) (n w : Tree) → Lost V k q n w → P n w
+  shaped P f q n w r = subst₂ P (sym r.before) (sym r.after) (f r.first r.second)
+
+  in_place : (q : StmtSeat) (n w : Tree) → Lost V k q n w → (strict : Bool) (s : Slot) → fits strict s n ≡ true → (fits strict s w ≡ true) × (is_body_slot (Stmt q) s ≡ true)
+  in_place q n w r strict s e =
+      let (f, g) = in_slot r.first r.second r.fitting strict (Stmt q) s (sym (ap (fits strict s) r.before) ∙ e) in
+      (ap (fits strict s) r.after ∙ f, g)
+
+  pub loses_names : KeepsNames (Loses V k)
+  loses_names = record {
+    places = at_statement (λ p n w. (is_rewritten_place p ≡ true) ⊎ KeepsRoot p n w) (λ q n w r. inl refl);
+    pieces = at_statement (λ p n w. is_piece (shape_of n) ≡ false) (λ q n w r. ap (λ t. is_piece (shape_of t)) r.before);
+    keeps = at_statement (λ p n w. (strict : Bool) (s : Slot) → fits_place p s ≡ true → fits strict s n ≡ true → KeepsLoosely p n w) (λ q n w r strict s z e. r.keeps);
+  }
+
+  pub loses_shapes : KeepsShapes (Loses V k)
+  loses_shapes = record {
+    fitting = at_statement (λ p n w. (strict : Bool) (s : Slot) → fits_place p s ≡ true → fits strict s n ≡ true → fits strict s w ≡ true) (λ q n w r strict s z e. (in_place q n w r strict s e).0);
+    asked = at_statement AskedAlike (λ q n w r. shaped (AskedAlike (Stmt q)) (blocks_asked (Stmt q)) q n w r);
+  }
+
+  pub loses_places : KeepsPlaces (Loses V k)
+  loses_places = record {
+    names = loses_names;
+    slots = at_statement (λ p n w. (strict : Bool) (s : Slot) → fits_place p s ≡ true → fits strict s n ≡ true → ((is_body_slot p s ≡ true) ⊎ IsShownAlike s n w) ⊎ KeepsHolder n w) (λ q n w r strict s z e. inl (inl (in_place q n w r strict s e).1));
+    ports = at_statement (λ p n w. (strict : Bool) (d : Depth) → fits strict (one (a_statement d)) n ≡ true → (m : Bool) → NoPort m n w ⊎ KeepsFunction n w) (λ q n w r strict d e m. inl (shaped (NoPort m) (λ ts us. (refl, refl)) q n w r));
+    listed = λ p n w e r. absurd (at_statement (λ p n w. is_statement_list p ≡ true → ⊥) (λ q n w r e. cc e) p n w r e);
+    exported = at_statement (λ p n w. (strict : Bool) → fits strict (one a_default_export) n ≡ true → NoDeclaration n w ⊎ KeepsFunction n w) (λ q n w r strict e. inl (shaped NoDeclaration (λ ts us. (refl, refl)) q n w r));
+  }
+
+  pub loses_read : (p : Position) (n w : Tree) → Loses V k p n w → summary n ≡ summary w
+  loses_read = at_statement (λ p n w. summary n ≡ summary w) (shaped (λ n w. summary n ≡ summary w) (λ ts us. refl))
+
+  pub loses_kind : (p : Position) (n w : Tree) → Loses V k p n w → arrow_kind (shape_of n) ≡ arrow_kind (shape_of w)
+  loses_kind = at_statement (λ p n w. arrow_kind (shape_of n) ≡ arrow_kind (shape_of w)) (shaped (λ n w. arrow_kind (shape_of n) ≡ arrow_kind (shape_of w)) (λ ts us. refl))
+
+-- ---- lighter
+
+falls : (V : Assured) (q : StmtSeat) (ts us : Trees) → PastRow V nothing (listed none) ts us → weight (Stmt q) (block us) + 1 ≤ weight (Stmt q) (block ts)
+falls V q ts us (inl r) =
+    let less = single_falls q r.before r.kind r.first r.spelling r.symbol r.init r.head r.after (movable r.init r.moves) r.once in
+    omega (arith, less, ap (λ l. weight (Stmt q) (block l)) r.shape, ap (λ l. weight (Stmt q) (block l)) r.written)
+falls V q ts us (inr r) =
+    let x = resolved r.spelling r.symbol in
+    let less = block_falls q r.before r.after (declared_among r.kind x r.first r.init (declarator r.binds r.value ▸ r.last)) (declaration r.kind (append r.first (declarator r.binds (put_first x r.init r.value) ▸ r.last))) refl (next_falls r.kind r.spelling r.symbol r.first r.init r.binds r.value r.last (movable r.init r.moves) r.once) in
+    omega (arith, less, ap (λ l. weight (Stmt q) (block l)) r.shape, ap (λ l. weight (Stmt q) (block l)) r.written)
+
+module _ (V : Assured) where
+  of_block : (P : Position → Tree → Tree → Type 0) → ((q : StmtSeat) (n w : Tree) → PastBlockRow V n w → P (Stmt q) n w) → (p : Position) (n w : Tree) → PastBlocks V p n w → P p n w
+  of_block P f (Stmt q) n w r = f q n w r
+  of_block P f p n w r = absurd r
+
+  block_lighter : (q : StmtSeat) (n w : Tree) → PastBlockRow V n w → weight (Stmt q) w < weight (Stmt q) n
+  block_lighter q n w r = let less = falls V q r.before r.after r.row in omega (arith, less, ap (weight (Stmt q)) r.shape, ap (weight (Stmt q)) r.written)
+
+  block_outline : (p : Position) (n w : Tree) → PastBlocks V p n w → outline n ≡ outline w
+  block_outline = of_block (λ p n w. outline n ≡ outline w) (λ q n w r. ap outline r.shape ∙ sym (ap outline r.written))
+
+  pub blocks_lighten : Lightens (PastBlocks V)
+  blocks_lighten = record {
+    lighter = of_block (λ p n w. weight p w < weight p n) block_lighter;
+    absent = λ p n w r e. ap (λ o. o.absent) (block_outline p n w r);
+    items = λ p n w r e. ap (λ o. o.items) (block_outline p n w r);
+    is_zero = λ p n w r e. inl (ap (λ o. o.is_zero) (block_outline p n w r));
+    chooses = λ p n w r e. inl (λ h. sym (ap (λ o. o.chooses) (block_outline p n w r)) ∙ h);
+  }
+
+-- and it declares no other name
+pub blocks_declare : (V : Assured) (p : Position) (n w : Tree) → PastBlocks V p n w → (y : Name) → Contains (declared w) y → Contains (declared n) y
+blocks_declare V (Stmt q) n w r = (lost V q n w r).1.declares
+blocks_declare V p n w r = absurd r
+
+pub past_blocks_are_lighter : PastBlocksLighten
+past_blocks_are_lighter = blocks_lighten
