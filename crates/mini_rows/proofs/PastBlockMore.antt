@@ -1,22 +1,25 @@
 -- The rows of names that are read behind held names read what they read where more variables are known to have values.
-use Rattle.std.proofs.Common.{◌≡◌, ℕ, Bool, true, false, List, [], ◌∷◌, Option, Some, None, refl, sym, ap, true≢false, inl, inr}
-use Rattle.std.specs.Prelude.{◌⊎◌, ◌||◌, ◌&&◌, not, if◌then◌else◌}
+use Rattle.std.proofs.Common.{◌≡◌, ℕ, suc, Bool, true, false, List, [], ◌∷◌, Option, Some, None, refl, sym, ap, true≢false, inl, inr}
+use Rattle.std.specs.Prelude.{◌||◌, ◌&&◌, not, if◌then◌else◌}
 use Rattle.std.proofs.lemmas.Bool.{and_parts}
 use Rattle.mini_model.specs.declared.name.Name.{Name}
 use Rattle.mini_model.specs.declared.name.SymbolId.{SymbolId}
-use Rattle.mini_model.specs.declared.place.Position.{Position}
 use Rattle.mini_model.specs.declared.place.Position.TheVariants.{Stmt}
-use Rattle.mini_model.specs.Tree.{Tree, Trees, node, none, ◌▸◌, listed}
+use Rattle.mini_model.specs.declared.operator.AssignmentOperator.{AssignmentOperator}
+use Rattle.mini_model.specs.declared.shape.Shape.{Shape}
+use Rattle.mini_model.specs.declared.shape.Shape.TheVariants as shape
+use Rattle.mini_model.specs.Tree.{Tree, Trees, node, none, ◌▸◌, listed, shape_of}
 use Rattle.mini_laws.specs.Naming.{is_lexical}
 use Rattle.mini_laws.specs.Value.{Variable, Declared, Global, VariableSet, nothing}
 use Rattle.mini_kept.specs.Without.{Assured}
 use Rattle.mini_kept.proofs.Bools.{both}
-use Rattle.mini_node.specs.Children.{names_of}
+use Rattle.mini_node.specs.Children.{names_of, part}
+use Rattle.mini_terms.specs.Folds.{is_effect_free}
 use Rattle.mini_node.specs.Kinds.{is_identifier}
-use Rattle.mini_rows.specs.Past.{any_bind, is_let, begun, held, leaves, is_held_symbol, is_held_name, is_held, passes_any, is_certain, are_past, all_past, Row71Past, Row71PastNext, PastRow}
-use Rattle.mini_rows.specs.PastBlocks.{PastBlockRow, PastBlocks}
+use Rattle.mini_rows.specs.Past.{any_bind, is_let, begun, Kept, held, leaves, is_held_symbol, is_held_name, is_held, is_this, keeps_value, passes_any, passes_any_word, passes_any_member, passes_any_target, passes_any_item, passes_any_at, is_certain, are_past, are_past_in, all_past, PastRow}
+use Rattle.mini_rows.specs.PastBlocks.{PastBlocks}
 use Rattle.mini_rows.specs.Steady.{ReadsMore}
-use Rattle.mini_rows.specs.Unused.{resolved, names, is_constant, evaluated}
+use Rattle.mini_rows.specs.Unused.{resolved, names, is_constant, is_plain_assignment, is_word, is_member, is_field, entries_below, evaluated}
 
 either_more : (a b c : Bool) → (a ≡ true → b ≡ true) → (a || c) ≡ true → (b || c) ≡ true
 either_more true b c f e = ap (λ d. d || c) (f refl)
@@ -33,33 +36,68 @@ branch_more false a c d e f g h = g h
 
 -- ---- what is passed
 
-module _ (H G : VariableSet) (more : (x : Variable) → H x ≡ true → G x ≡ true) where
-  symbol_more : (r : Tree) (y : Name) (s : Option SymbolId) → is_held_symbol H r y s ≡ true → is_held_symbol G r y s ≡ true
-  symbol_more r y (Some s) e = let (there, left) = and_parts (H (Declared s.0)) (leaves r y s.0) e in both (G (Declared s.0)) (leaves r y s.0) (more (Declared s.0) there) left
+both_more : (a b c d : Bool) → (a ≡ true → c ≡ true) → (b ≡ true → d ≡ true) → (a && b) ≡ true → (c && d) ≡ true
+both_more a b c d f g e = let (h, i) = and_parts a b e in both c d (f h) (g i)
+
+some_more : (a b c d : Bool) → (a ≡ true → c ≡ true) → (b ≡ true → d ≡ true) → (a || b) ≡ true → (c || d) ≡ true
+some_more a b c d f g e = last_more c b d g (either_more a c b f e)
+
+module _ (H G : Kept) (more : (x : Variable) → H.variables x ≡ true → G.variables x ≡ true) (still : H.has_this ≡ true → G.has_this ≡ true) where
+  symbol_more : (r : Tree) (y : Name) (s : Option SymbolId) → is_held_symbol H.variables r y s ≡ true → is_held_symbol G.variables r y s ≡ true
+  symbol_more r y (Some s) e = let (there, left) = and_parts (H.variables (Declared s.0)) (leaves r y s.0) e in both (G.variables (Declared s.0)) (leaves r y s.0) (more (Declared s.0) there) left
   symbol_more r y None e = absurd (true≢false (sym e))
 
-  name_more : (r : Tree) (ys : List Name) → is_held_name H r ys ≡ true → is_held_name G r ys ≡ true
+  name_more : (r : Tree) (ys : List Name) → is_held_name H.variables r ys ≡ true → is_held_name G.variables r ys ≡ true
   name_more r [] e = absurd (true≢false (sym e))
   name_more r (y ∷ []) e = symbol_more r y y.symbol e
   name_more r (y ∷ (z ∷ ys)) e = absurd (true≢false (sym e))
 
-  held_more : (r t : Tree) → is_held H r t ≡ true → is_held G r t ≡ true
-  held_more r t e = let (kind, there) = and_parts (is_identifier t) (is_held_name H r (names_of t)) e in both (is_identifier t) (is_held_name G r (names_of t)) kind (name_more r (names_of t) there)
+  held_more : (r t : Tree) → is_held H.variables r t ≡ true → is_held G.variables r t ≡ true
+  held_more r t e = let (kind, there) = and_parts (is_identifier t) (is_held_name H.variables r (names_of t)) e in both (is_identifier t) (is_held_name G.variables r (names_of t)) kind (name_more r (names_of t) there)
+
+  keeps_more : (r t : Tree) → keeps_value H r t ≡ true → keeps_value G r t ≡ true
+  keeps_more r t = some_more (is_held H.variables r t) (H.has_this && is_this t) (is_held G.variables r t) (G.has_this && is_this t) (held_more r t) (both_more H.has_this (is_this t) G.has_this (is_this t) still (λ e. e))
 
   passes_more : (r t : Tree) → passes_any H r t ≡ true → passes_any G r t ≡ true
-  passes_more r t e = last_more (is_constant t) (is_held H r t) (is_held G r t) (held_more r t) e
+  passes_more r t = last_more (is_constant t) (keeps_value H r t) (keeps_value G r t) (keeps_more r t)
+
+  word_more : (r t : Tree) → passes_any_word H r t ≡ true → passes_any_word G r t ≡ true
+  word_more r t = last_more (is_word (shape_of t)) (passes_any H r t) (passes_any G r t) (passes_more r t)
+
+  member_more : (r t : Tree) → passes_any_member H r t ≡ true → passes_any_member G r t ≡ true
+  member_more r t =
+      both_more (is_member t) (passes_any H r (part t 0) && passes_any_word H r (part t 1)) (is_member t) (passes_any G r (part t 0) && passes_any_word G r (part t 1)) (λ e. e)
+      (both_more (passes_any H r (part t 0)) (passes_any_word H r (part t 1)) (passes_any G r (part t 0)) (passes_any_word G r (part t 1)) (passes_more r (part t 0)) (word_more r (part t 1)))
+
+  target_more : (r : Tree) (o : AssignmentOperator) (t : Tree) → passes_any_target H r o t ≡ true → passes_any_target G r o t ≡ true
+  target_more r o t =
+      both_more (is_plain_assignment o) (passes_any_member H r t || (is_identifier t && is_effect_free t)) (is_plain_assignment o) (passes_any_member G r t || (is_identifier t && is_effect_free t)) (λ e. e)
+      (either_more (passes_any_member H r t) (passes_any_member G r t) (is_identifier t && is_effect_free t) (member_more r t))
+
+  item_more : (m : Bool) (r t : Tree) → passes_any_item H m r t ≡ true → passes_any_item G m r t ≡ true
+  item_more m r t =
+      some_more (passes_any H r t) (m && (is_field t && passes_any H r (part t 1))) (passes_any G r t) (m && (is_field t && passes_any G r (part t 1))) (passes_more r t)
+      (both_more m (is_field t && passes_any H r (part t 1)) m (is_field t && passes_any G r (part t 1)) (λ e. e) (both_more (is_field t) (passes_any H r (part t 1)) (is_field t) (passes_any G r (part t 1)) (λ e. e) (passes_more r (part t 1))))
+
+  at_more : (m : Bool) (r : Tree) (h : Shape) (t : Tree) → passes_any_at H m r h t ≡ true → passes_any_at G m r h t ≡ true
+  at_more m r (shape.AssignmentExpression o) t e = target_more r o t e
+  at_more m r (shape.ObjectProperty k is_method is_shorthand is_computed) t e = e
+  at_more m r shape.Listed t e = item_more m r t e
+  at_more m r h t e = passes_more r t e
 
   mutual
-    past_more : (x : Name) (r t : Tree) → are_past H x r t ≡ true → are_past G x r t ≡ true
-    past_more x r (node h ys n ts) e =
-        let (sure, there) = and_parts (is_certain x r h ts) (all_past H x r ts) e in
-        both (is_certain x r h ts) (all_past G x r ts) sure (all_more x r ts there)
+    past_in_more : (x : Name) (m : Bool) (r t : Tree) → are_past_in H x m r t ≡ true → are_past_in G x m r t ≡ true
+    past_in_more x m r (node h ys n ts) =
+        both_more (is_certain x m r h ts) (all_past H x m r h 0 ts) (is_certain x m r h ts) (all_past G x m r h 0 ts) (λ e. e) (all_more x m r h 0 ts)
 
-    all_more : (x : Name) (r : Tree) (ts : Trees) → all_past H x r ts ≡ true → all_past G x r ts ≡ true
-    all_more x r none e = refl
-    all_more x r (t ▸ ts) e =
-        branch_more (names x t) (are_past H x r t) (are_past G x r t) (passes_any H r t && all_past H x r ts) (passes_any G r t && all_past G x r ts) (past_more x r t)
-        (λ f. let (one, others) = and_parts (passes_any H r t) (all_past H x r ts) f in both (passes_any G r t) (all_past G x r ts) (passes_more r t one) (all_more x r ts others)) e
+    all_more : (x : Name) (m : Bool) (r : Tree) (h : Shape) (i : ℕ) (ts : Trees) → all_past H x m r h i ts ≡ true → all_past G x m r h i ts ≡ true
+    all_more x m r h i none e = refl
+    all_more x m r h i (t ▸ ts) e =
+        branch_more (names x t) (are_past_in H x (entries_below m h i) r t) (are_past_in G x (entries_below m h i) r t) (passes_any_at H m r h t && all_past H x m r h (suc i) ts) (passes_any_at G m r h t && all_past G x m r h (suc i) ts) (past_in_more x (entries_below m h i) r t)
+        (both_more (passes_any_at H m r h t) (all_past H x m r h (suc i) ts) (passes_any_at G m r h t) (all_past G x m r h (suc i) ts) (at_more m r h t) (all_more x m r h (suc i) ts)) e
+
+  past_more : (x : Name) (r t : Tree) → are_past H x r t ≡ true → are_past G x r t ≡ true
+  past_more x r t = past_in_more x false r t
 
 -- ---- what is held
 
@@ -70,7 +108,7 @@ module _ (V : Assured) (X : VariableSet) (holds : (x : Variable) → V.initial x
   begun_more : (ts : Trees) (k : ℕ) → begun V ts (Declared k) ≡ true → begun V' ts (Declared k) ≡ true
   begun_more ts k e = let (there, free) = and_parts (V.initial (Declared k)) (not (any_bind k ts)) e in both (X (Declared k)) (not (any_bind k ts)) (holds (Declared k) there) free
 
-  set_more : (ts before : Trees) (l : Bool) (first : Trees) (x : Variable) → held V ts before l first x ≡ true → held V' ts before l first x ≡ true
+  set_more : (ts before : Trees) (l : Bool) (first : Trees) (x : Variable) → (held V ts before l first).variables x ≡ true → (held V' ts before l first).variables x ≡ true
   set_more ts before l first (Declared k) e =
       let (kept, there) = and_parts (V.steady (Declared k)) (begun V ts (Declared k) || is_let k before l first) e in
       both (V.steady (Declared k)) (begun V' ts (Declared k) || is_let k before l first) kept (either_more (begun V ts (Declared k)) (begun V' ts (Declared k)) (is_let k before l first) (begun_more ts k) there)
@@ -92,7 +130,7 @@ module _ (V : Assured) (X : VariableSet) (holds : (x : Variable) → V.initial x
     moves = r.moves;
     varies = r.varies;
     once = r.once;
-    passed = past_more (held V ts r.before (is_lexical r.kind) r.first) (held V' ts r.before (is_lexical r.kind) r.first) (set_more ts r.before (is_lexical r.kind) r.first) (resolved r.spelling r.symbol) r.init (evaluated r.head) r.passed;
+    passed = past_more (held V ts r.before (is_lexical r.kind) r.first) (held V' ts r.before (is_lexical r.kind) r.first) (set_more ts r.before (is_lexical r.kind) r.first) (λ e. e) (resolved r.spelling r.symbol) r.init (evaluated r.head) r.passed;
     outer = r.outer;
     earlier = r.earlier;
     declared_earlier = r.declared_earlier;
@@ -117,7 +155,7 @@ module _ (V : Assured) (X : VariableSet) (holds : (x : Variable) → V.initial x
     moves = r.moves;
     varies = r.varies;
     once = r.once;
-    passed = past_more (held V ts r.before (is_lexical r.kind) r.first) (held V' ts r.before (is_lexical r.kind) r.first) (set_more ts r.before (is_lexical r.kind) r.first) (resolved r.spelling r.symbol) r.init r.value r.passed;
+    passed = past_more (held V ts r.before (is_lexical r.kind) r.first) (held V' ts r.before (is_lexical r.kind) r.first) (set_more ts r.before (is_lexical r.kind) r.first) (λ e. e) (resolved r.spelling r.symbol) r.init r.value r.passed;
     other = r.other;
     outer = r.outer;
     earlier = r.earlier;
