@@ -1,10 +1,9 @@
 -- The rows of names that are read behind held names read what they read where more variables are known to have values.
 use Rattle.std.proofs.Common.{◌≡◌, ℕ, Bool, true, false, List, [], ◌∷◌, Option, Some, None, refl, sym, ap, true≢false, inl, inr}
-use Rattle.std.specs.Prelude.{◌⊎◌, ◌||◌, ◌&&◌, not, if◌then◌else◌}
+use Rattle.std.specs.Prelude.{◌||◌, ◌&&◌, not, if◌then◌else◌}
 use Rattle.std.proofs.lemmas.Bool.{and_parts}
 use Rattle.mini_model.specs.declared.name.Name.{Name}
 use Rattle.mini_model.specs.declared.name.SymbolId.{SymbolId}
-use Rattle.mini_model.specs.declared.place.Position.{Position}
 use Rattle.mini_model.specs.declared.place.Position.TheVariants.{Stmt}
 use Rattle.mini_model.specs.Tree.{Tree, Trees, node, none, ◌▸◌, listed}
 use Rattle.mini_laws.specs.Naming.{is_lexical}
@@ -13,8 +12,8 @@ use Rattle.mini_kept.specs.Without.{Assured}
 use Rattle.mini_kept.proofs.Bools.{both}
 use Rattle.mini_node.specs.Children.{names_of}
 use Rattle.mini_node.specs.Kinds.{is_identifier}
-use Rattle.mini_rows.specs.Past.{any_bind, is_let, begun, held, leaves, is_held_symbol, is_held_name, is_held, passes_any, is_certain, are_past, all_past, Row71Past, Row71PastNext, PastRow}
-use Rattle.mini_rows.specs.PastBlocks.{PastBlockRow, PastBlocks}
+use Rattle.mini_rows.specs.Past.{any_bind, is_let, begun, held, leaves, is_held_symbol, is_held_name, is_held, passes_any, is_certain, are_past, all_past, PastRow}
+use Rattle.mini_rows.specs.PastBlocks.{PastBlocks}
 use Rattle.mini_rows.specs.Steady.{ReadsMore}
 use Rattle.mini_rows.specs.Unused.{resolved, names, is_constant, evaluated}
 
