@@ -9,6 +9,7 @@ use Rattle.mini_kept.specs.Without.{Assured}
 use Rattle.mini_laws.specs.Value.{VariableSet}
 use Rattle.mini_rows.specs.Lexical.{LexicalStatement, Row80Lexical, Row84Lexical}
 use Rattle.mini_rows.specs.Steady.{LexicalRows}
+use Rattle.mini_steady.specs.Chains.{once}
 use Rattle.mini_steady.specs.Own.{AppliedHere}
 use Rattle.mini_lexical.specs.MinimizeLexicalStatement.{AppliedBy}
 
@@ -28,5 +29,5 @@ module _ (V : VariableSet) where
 
 -- at a statement in its place
 pub here_applied : (V : Assured) (p : Position) (t u : Tree) (b : Bool) → AppliedBy (LexicalStatement V.unshared) t u b → (q : StmtSeat) → p ≡ Stmt q → AppliedHere (LexicalRows V) p t u b
-here_applied V p t u true r q e = subst (λ o. AppliedHere (LexicalRows V) o t u true) (sym e) r
+here_applied V p t u true r q e = subst (λ o. AppliedHere (LexicalRows V) o t u true) (sym e) (once t u r)
 here_applied V p t u false r q e = subst (λ o. AppliedHere (LexicalRows V) o t u false) (sym e) r

@@ -3,9 +3,9 @@
 ghost use Rattle.std.specs.Prelude.{◌≡◌, IfOk};
 ghost use Rattle.mini_rows.specs.Lexical.{LexicalStatement};
 ghost use Rattle.mini_rows.specs.Steady.{LexicalRows};
-ghost use Rattle.mini_rows.proofs.LexicalKept.{lexical_more, lexical_own};
+ghost use Rattle.mini_rows.proofs.LexicalKept.{lexical_more};
 ghost use Rattle.mini_lexical.specs.MinimizeLexicalStatement.{AppliedBy};
-ghost use Rattle.mini_lexical.specs.Open.{lexical_open};
+ghost use Rattle.mini_lexical.specs.Open.{lexical_keeps, lexical_open};
 
 use crate::loops::minimize_lexical_for_statement;
 use crate::switches::minimize_lexical_switch_statement;
@@ -54,5 +54,5 @@ impl<S: SteadyNames> OwnRewrites<S> for LexicalNames {
 
     ghost more = { lexical_more };
 
-    ghost keeps = { lexical_own };
+    ghost keeps = { lexical_keeps };
 }

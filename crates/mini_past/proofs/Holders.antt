@@ -110,10 +110,10 @@ module _ (V : Assured) (W : VariableSet) (o q : Tree) (mentions : (x : Name) →
       (subst (λ v. Q (over v) (over u)) (sym i) (subst (λ v. Q (over (listed ts)) (over v)) (sym left) (held_row ts (children u) (row_of V W q ts u there))), left)
 
   -- names that go one after another go so from what holds them
-  several_held : (ts : Trees) (m : Tree) → Several (PastGone V W o) (listed ts) m → Several Q (over (listed ts)) (over m)
+  pub several_held : (ts : Trees) (m : Tree) → Several (PastGone V W o) (listed ts) m → Several Q (over (listed ts)) (over m)
   several_held ts m = several_over (PastGone V W o) Q is_list over one_over (listed ts) m refl
 
-  none_held : (ts us : Trees) (m : Tree) → PastRemoved V W o (listed ts) m false → PastRow V W q ts us → ⊥
+  pub none_held : (ts us : Trees) (m : Tree) → PastRemoved V W o (listed ts) m false → PastRow V W q ts us → ⊥
   none_held ts us m r = none_here V W q ts us (rests_alike V W o q mentions evals ts r.1)
 
 -- ---- a function

@@ -8,3 +8,4 @@ pub mod Swept
 pub mod Holders
 pub mod Steps
 pub mod Lawful
+pub mod InBlocks

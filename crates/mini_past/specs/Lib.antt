@@ -1,3 +1,4 @@
 pub mod SubstitutePast
 pub mod Lighter
 pub mod Writing
+pub mod PastInBlocks

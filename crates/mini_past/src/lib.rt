@@ -1,6 +1,7 @@
 //! Row 71 past names that are steady in the body around them, over what tells which names are.
 #![tactic(auto)]
 
+mod blocks;
 mod declared;
 mod functions;
 mod lets;
@@ -12,6 +13,7 @@ mod rule;
 mod searching;
 mod sweeping;
 
+pub use blocks::{PastNamesInBlocks, substitute_past_in_block};
 pub use functions::{
     substitute_past_in_arrow, substitute_past_in_function, substitute_past_in_module,
     substitute_past_in_static,

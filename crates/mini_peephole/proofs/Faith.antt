@@ -73,9 +73,12 @@ read_by_none S W p n x y w (inl (inr (inl (inl (inl c))))) = x.0.1.0.0.0 w c
 read_by_none S W p n x y w (inl (inr (inl (inl (inr c))))) = x.0.1.0.0.1 w c
 read_by_none S W p n x y w (inl (inr (inl (inr c)))) = x.0.1.0.1 w c
 read_by_none S W p n x y w (inl (inr (inr c))) = x.0.1.1 w c
-read_by_none S W p n x y w (inr (inl (inl (inl c)))) = x.1.0.0.0 w c
-read_by_none S W p n x y w (inr (inl (inl (inr c)))) = x.1.0.0.1 w c
-read_by_none S W p n x y w (inr (inl (inr (inl c)))) = x.1.0.1.0 w c
+read_by_none S W p n x y w (inr (inl (inl (inl (inl c))))) = x.1.0.0.0.0 w c
+read_by_none S W p n x y w (inr (inl (inl (inl (inr c))))) = x.1.0.0.0.1 w c
+read_by_none S W p n x y w (inr (inl (inl (inr (inl c))))) = x.1.0.0.1.0 w c
+read_by_none S W p n x y w (inr (inl (inl (inr (inr c))))) = x.1.0.0.1.1 w c
+read_by_none S W p n x y w (inr (inl (inr (inl (inl c))))) = x.1.0.1.0.0 w c
+read_by_none S W p n x y w (inr (inl (inr (inl (inr c))))) = x.1.0.1.0.1 w c
 read_by_none S W p n x y w (inr (inl (inr (inr c)))) = x.1.0.1.1 w c
 read_by_none S W p n x y w (inr (inr c)) = x.1.1 w c.row c.stands
 

@@ -1,6 +1,7 @@
 -- Which rows rest on what is known of the bodies of a program, S, where the variables W can be written: those of the own code of functions, of
 -- arrow functions, of the program itself, of static blocks and of inner expressions, over what keeps its value and over lexical names that no event shows, those of a name of a
--- function, an arrow function, a module or a static block that is read once, and those of a `var` further inside its body, where the variables W can be written.
+-- function, an arrow function, a module or a static block that is read once, or of a block in the own code of a function, an arrow function or a
+-- program, and those of a `var` further inside its body, where the variables W can be written.
 use Rattle.mini_model.specs.declared.place.Position.{Position}
 use Rattle.mini_model.specs.declared.place.Position.TheVariants.{Elsewhere}
 use Rattle.mini_model.specs.Tree.{Tree}
@@ -14,6 +15,7 @@ use Rattle.mini_rows.specs.OwnParts.{OwnPart}
 use Rattle.mini_rows.specs.OwnPrograms.{OwnProgram}
 use Rattle.mini_rows.specs.Past.{PastFunction}
 use Rattle.mini_rows.specs.PastArrows.{PastArrow}
+use Rattle.mini_rows.specs.PastBlocks.{PastBlocks}
 use Rattle.mini_rows.specs.PastModules.{PastModule}
 use Rattle.mini_rows.specs.PastStatics.{PastStatic}
 use Rattle.mini_rows.specs.Steady.{OwnRows, SteadyRow, LexicalRows}
@@ -30,9 +32,12 @@ use Rattle.mini_unused.specs.Further.{RestsInside}
 abbrev pub AnyCode : OwnRows → BodySets → Position → Tree → Tree → Type 0
 AnyCode F S = Either (Either (OwnCode F S) (OwnProgram F S)) (OwnPart F S)
 
--- 71 past names that keep their value, of whatever has a body
+-- 71 past names that keep their value, of whatever has a body, and of a block in its own code
+abbrev pub PastBlockCode : BodySets → Position → Tree → Tree → Type 0
+PastBlockCode S = Either (OwnCode PastBlocks S) (OwnProgram PastBlocks S)
+
 abbrev pub PastCode : BodySets → VariableSet → Position → Tree → Tree → Type 0
-PastCode S W = Either (Either (PastFunction S W) (PastArrow S W)) (Either (PastModule S W) (PastStatic S W))
+PastCode S W = Either (Either (Either (PastFunction S W) (PastArrow S W)) (Either (PastModule S W) (PastStatic S W))) (PastBlockCode S)
 
 abbrev pub SteadyRewrites : BodySets → VariableSet → Position → Tree → Tree → Type 0
 SteadyRewrites S W = Either (Either (AnyCode SteadyRow S) (AnyCode LexicalRows S)) (Either (PastCode S W) (InsideContracts W))
@@ -41,9 +46,13 @@ SteadyRewrites S W = Either (Either (AnyCode SteadyRow S) (AnyCode LexicalRows S
 abbrev pub CodeRests : OwnRows → BodySets → Position → Tree → Type 0
 CodeRests F S = Both (Both (Both (Rests F S) (ArrowRests F S)) (ProgramRests F S)) (PartRests F S)
 
+-- none of 71 past names
+abbrev pub PastRests : BodySets → VariableSet → Position → Tree → Type 0
+PastRests S W = Both (Both (Both (RestsPast S W) (RestsPastArrow S W)) (Both (RestsPastModule S W) (RestsPastStatic S W))) (Both (Both (Rests PastBlocks S) (ArrowRests PastBlocks S)) (ProgramRests PastBlocks S))
+
 -- none reads a node in its place
 abbrev pub IsSteadilySettled : BodySets → VariableSet → Position → Tree → Type 0
-IsSteadilySettled S W = Both (Both (CodeRests SteadyRow S) (CodeRests LexicalRows S)) (Both (Both (Both (RestsPast S W) (RestsPastArrow S W)) (Both (RestsPastModule S W) (RestsPastStatic S W))) (RestsInside W))
+IsSteadilySettled S W = Both (Both (CodeRests SteadyRow S) (CodeRests LexicalRows S)) (Both (PastRests S W) (RestsInside W))
 
 -- and nowhere in a program, by what a look at it tells of its bodies, and of what can be written in it
 abbrev pub IsSteadilyRewritten : Tree → Type 0

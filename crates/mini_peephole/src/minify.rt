@@ -26,7 +26,8 @@ use mini_logic::{
 };
 use mini_passes::{SteadyPasses, run_steady_passes};
 use mini_past::{
-    SubstitutePast, SubstitutePastArrows, SubstitutePastModules, SubstitutePastStatics,
+    PastNamesInBlocks, SubstitutePast, SubstitutePastArrows, SubstitutePastModules,
+    SubstitutePastStatics,
 };
 use mini_steady::{InArrows, InFunctions, InParts, InPrograms, SteadyMembers};
 use mini_stmt::{JoinLets, MinimizeStatements, TurnLoopGuards};
@@ -264,8 +265,39 @@ type Past = Then<
     Then<SubstitutePastModules, SubstitutePastStatics>,
 >;
 
+// And those of blocks further inside a body.
+type InBlocks = Then<
+    Then<InFunctions<PastNamesInBlocks>, InArrows<PastNamesInBlocks>>,
+    InPrograms<PastNamesInBlocks>,
+>;
+
 // Of names that are read once or not at all.
-type Once = Then<Past, RemoveInside>;
+type Once = Then<Then<Past, InBlocks>, RemoveInside>;
+
+const PAST: Past = Then {
+    first: Then {
+        first: SubstitutePast,
+        second: SubstitutePastArrows,
+    },
+    second: Then {
+        first: SubstitutePastModules,
+        second: SubstitutePastStatics,
+    },
+};
+
+const IN_BLOCKS: InBlocks = Then {
+    first: Then {
+        first: InFunctions {
+            rewrites: PastNamesInBlocks,
+        },
+        second: InArrows {
+            rewrites: PastNamesInBlocks,
+        },
+    },
+    second: InPrograms {
+        rewrites: PastNamesInBlocks,
+    },
+};
 
 const STEADY_RULES: Then<OwnRules, Once> = Then {
     first: Then {
@@ -274,14 +306,8 @@ const STEADY_RULES: Then<OwnRules, Once> = Then {
     },
     second: Then {
         first: Then {
-            first: Then {
-                first: SubstitutePast,
-                second: SubstitutePastArrows,
-            },
-            second: Then {
-                first: SubstitutePastModules,
-                second: SubstitutePastStatics,
-            },
+            first: PAST,
+            second: IN_BLOCKS,
         },
         second: RemoveInside,
     },

@@ -1,23 +1,19 @@
 -- A step in the own code of a function, of an arrow function, of a program, of a static block or of an inner expression makes the whole lighter, by rows
 -- of any family that do.
-use Rattle.std.specs.Prelude.{ℕ, zero, suc, ◌≡◌, ◌<◌, refl, Bool, List, []}
+use Rattle.std.specs.Prelude.{ℕ, ◌≡◌, ◌<◌, refl, []}
 use Rattle.std.proofs.Common.{ap, ◌∙◌, sym, subst, inl, inr}
-use Rattle.mini_model.specs.declared.name.Name.{Name}
 use Rattle.mini_model.specs.declared.place.Position.{Position}
-use Rattle.mini_model.specs.declared.place.Position.TheVariants.{Expr, Stmt, Method, StatementList, Elsewhere}
-use Rattle.mini_model.specs.declared.seat.Seat.{Seat}
+use Rattle.mini_model.specs.declared.place.Position.TheVariants.{Expr, Stmt, Method, Elsewhere}
 use Rattle.mini_model.specs.declared.shape.Shape.TheVariants as shape
 use Rattle.mini_model.specs.Tree.{Tree, Trees, none, ◌▸◌}
-use Rattle.mini_model.specs.Position.{argument_seat}
 use Rattle.mini_model.specs.Rewriting.{Step, here, inside, StepIn, first, later}
 use Rattle.mini_model.specs.Weight.{outline, weight}
 use Rattle.mini_laws.specs.Weights.{Lightens}
 use Rattle.mini_laws.proofs.Lighter.{any_step_lighter}
-use Rattle.mini_kept.specs.KeepsFrames.{function_over}
 use Rattle.mini_kept.specs.Without.{Assured, BodySets}
-use Rattle.mini_rows.specs.OwnArrows.{arrow_over, OwnArrow}
-use Rattle.mini_rows.specs.OwnParts.{block_over, inner_over, OwnPart}
-use Rattle.mini_rows.specs.OwnPrograms.{program_over, OwnProgram}
+use Rattle.mini_rows.specs.OwnArrows.{OwnArrow}
+use Rattle.mini_rows.specs.OwnParts.{OwnPart}
+use Rattle.mini_rows.specs.OwnPrograms.{OwnProgram}
 use Rattle.mini_rows.specs.Steady.{known_in, OwnRows, OwnStep, own_here, own_inside, OwnStepIn, own_first, own_later, OwnFunctionRow, OwnFunction}
 
 -- a step in the code of a body itself is one

@@ -1,8 +1,7 @@
 -- A step in the code of a body by which a block loses a name: the body runs as before, where nobody else sees the name and nothing that is left
 -- mentions it.
-use Rattle.std.specs.Prelude.{ℕ, zero, suc, ◌≡◌, refl, Bool, true, false, List, [], ◌∷◌, ◌++◌, not}
+use Rattle.std.specs.Prelude.{ℕ, suc, ◌≡◌, refl, [], ◌∷◌, ◌++◌, not}
 use Rattle.std.proofs.Common.{ap, ◌∙◌, sym, subst, subst₂, length}
-use Rattle.mini_model.specs.declared.name.Name.{Name}
 use Rattle.mini_model.specs.declared.place.Position.{Position}
 use Rattle.mini_model.specs.declared.shape.Shape.{Shape}
 use Rattle.mini_model.specs.declared.shape.Shape.TheVariants as shape
@@ -11,7 +10,7 @@ use Rattle.mini_model.specs.Position.{child_position}
 use Rattle.mini_laws.specs.Value.{Declared, VariableSet, nothing, variables}
 use Rattle.mini_laws.specs.State.{Environment}
 use Rattle.mini_laws.specs.Demand.{Demand}
-use Rattle.mini_laws.specs.Naming.{summary, summary_of, summaries, facts, facts_all, naming, nth_absent, scope_of}
+use Rattle.mini_laws.specs.Naming.{summary, summary_of, summaries, facts, facts_all, nth_absent, scope_of}
 use Rattle.mini_laws.specs.Body.{BodyKind, body_demand}
 use Rattle.mini_laws.specs.Bodies.{Around, below, bodies, bodies_from, arrow_kind}
 use Rattle.mini_laws.specs.Skeleton.{Within, Off, hidden, hidden_all, needs, Rules, Sound, TreesGo}
@@ -29,9 +28,9 @@ use Rattle.mini_kept.specs.AlikeBodies.{RunsAs, BodiesKept}
 use Rattle.mini_kept.specs.Without.{Assured, Steadies, Permits}
 use Rattle.mini_kept.proofs.BodyLists.{kept_itself, each_of as each_body}
 use Rattle.mini_rows.specs.PastBlocks.{PastBlocks}
-use Rattle.mini_rows.specs.Steady.{has_body, OwnStep, own_here, own_inside, OwnStepIn, own_first, own_later}
+use Rattle.mini_rows.specs.Steady.{OwnStep, own_here, own_inside, OwnStepIn, own_first, own_later}
 use Rattle.mini_rows.proofs.OwnPartLawful.{bodiless}
-use Rattle.mini_rows.proofs.PastBlockKept.{Lost, Loses, some_lost, at_statement, loses_read, loses_kind}
+use Rattle.mini_rows.proofs.PastBlockKept.{Loses, some_lost, at_statement, loses_read, loses_kind}
 use Rattle.mini_rows.proofs.SteadyLawful.{needs_still}
 
 -- ---- a step by a row is one by which some symbol is lost

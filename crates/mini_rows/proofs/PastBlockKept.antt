@@ -1,6 +1,6 @@
 -- What the rows of names that are read behind held names make of a block in the code of a body.
 use Rattle.std.specs.Prelude.{ℕ, ◌+◌, ◌<◌, ◌≤◌, ◌≡◌, ◌⊎◌, refl, ◌||◌, Bool, true, false, [], Contains, Option, None}
-use Rattle.std.proofs.Common.{ap, ◌∙◌, sym, subst, subst₂, arith, inl, inr, true≢false}
+use Rattle.std.proofs.Common.{ap, ◌∙◌, sym, subst, subst₂, arith, inl, inr}
 use Rattle.mini_model.specs.declared.name.Name.{Name}
 use Rattle.mini_model.specs.declared.place.Position.{Position}
 use Rattle.mini_model.specs.declared.place.Position.TheVariants.{Stmt}
@@ -19,7 +19,7 @@ use Rattle.mini_laws.specs.State.{Environment}
 use Rattle.mini_laws.specs.Demand.{Demand, Tail, Stat}
 use Rattle.mini_laws.specs.Fits.{Fits}
 use Rattle.mini_laws.specs.Same.{Same}
-use Rattle.mini_laws.specs.Skeleton.{Off, hidden}
+use Rattle.mini_laws.specs.Skeleton.{hidden}
 use Rattle.mini_laws.specs.Path.{here, inside}
 use Rattle.mini_laws.specs.Substitution.{alone}
 use Rattle.mini_laws.specs.Naming.{summary}
@@ -45,7 +45,7 @@ use Rattle.mini_rows.specs.Lists.{block, declaration}
 use Rattle.mini_rows.specs.Declarations.{declarator}
 use Rattle.mini_rows.specs.Past.{any_bind, begun, PastRow}
 use Rattle.mini_rows.specs.PastBlocks.{PastBlockRow, PastBlocks, PastBlocksLighten}
-use Rattle.mini_rows.specs.Unused.{resolved, names, any_names, declared_among, put_first}
+use Rattle.mini_rows.specs.Unused.{resolved, names, declared_among, put_first}
 use Rattle.mini_rows.proofs.HeadKept.{head_names}
 use Rattle.mini_rows.proofs.NextKept.{next_names}
 use Rattle.mini_rows.proofs.PastLawful.{list_fits}

@@ -2,14 +2,14 @@
 -- program, where that is known of the body. That nothing else in the body mentions the name is known of the program alone: each name in it has the
 -- symbol that the scopes around it give, and no symbol is declared twice.
 use Rattle.std.specs.Prelude.{ℕ, ◌+◌, ◌≤◌, ◌≡◌, ◌||◌, refl, Bool, true, false, List, [], ◌∷◌, ◌++◌, Contains, None}
-use Rattle.std.proofs.Common.{ap, ◌∙◌, sym, subst, arith, inl, inr, true≢false}
+use Rattle.std.proofs.Common.{ap, sym, subst, arith, inl, inr, true≢false}
 use Rattle.mini_model.specs.declared.name.Name.{Name}
 use Rattle.mini_model.specs.declared.place.Position.{Position}
 use Rattle.mini_model.specs.declared.place.Position.TheVariants.{Expr, Stmt, Method, StatementList, Elsewhere}
 use Rattle.mini_model.specs.declared.seat.Seat.{Seat}
 use Rattle.mini_model.specs.declared.shape.Shape.{Shape}
 use Rattle.mini_model.specs.declared.shape.Shape.TheVariants as shape
-use Rattle.mini_model.specs.Tree.{Tree, Trees, node, none, ◌▸◌, children, shape_of}
+use Rattle.mini_model.specs.Tree.{Tree, Trees, none, ◌▸◌, children, shape_of}
 use Rattle.mini_model.specs.Position.{argument_seat}
 use Rattle.mini_model.specs.Rewriting.{Step, here, inside, StepIn, first, later, Reaches, done, more}
 use Rattle.mini_accept.specs.WellShaped.{a_program, Slot, one, fits, IsWellShaped}
@@ -51,11 +51,11 @@ use Rattle.mini_kept.proofs.WithoutLists as without
 use Rattle.mini_rows.specs.OwnArrows.{arrow_over, OwnCode}
 use Rattle.mini_rows.specs.OwnPrograms.{program_over, OwnProgram}
 use Rattle.mini_rows.specs.PastBlocks.{PastBlocks, PastBlocksAreLawful, PastBlocksAreLawfulInPrograms}
-use Rattle.mini_rows.specs.Steady.{known_in, OwnStep, own_first, OwnFunctionRow, OwnFunction}
+use Rattle.mini_rows.specs.Steady.{known_in, OwnStep, own_first, OwnFunctionRow}
 use Rattle.mini_rows.proofs.OwnArrowLawful.{body_fits, created_same as arrow_created}
 use Rattle.mini_rows.proofs.OwnLightens.{as_step}
 use Rattle.mini_rows.proofs.OwnLosses.{some_step, lost_read, lost_kind, lost_bodies, lost_runs, lost_runs_over}
-use Rattle.mini_rows.proofs.PastBlockKept.{Lost, Loses, at_statement, loses_names, loses_shapes, loses_places, loses_read}
+use Rattle.mini_rows.proofs.PastBlockKept.{Loses, at_statement, loses_names, loses_shapes, loses_places, loses_read}
 use Rattle.mini_rows.proofs.PastModuleLawful.{undeclared_there, still_declared}
 use Rattle.mini_rows.proofs.SteadyLawful.{created_same, known_off, over_off, known_begins, known_steady}
 

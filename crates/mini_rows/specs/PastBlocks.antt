@@ -1,6 +1,5 @@
 -- Row 71 past steady names of a `let` or a `const` that stands further inside a body than in its own statements: in a block.
 use Rattle.std.specs.Prelude.{◌≡◌, Bool}
-use Rattle.mini_model.specs.declared.place.Position.{Position}
 use Rattle.mini_model.specs.declared.place.Position.TheVariants.{Stmt}
 use Rattle.mini_model.specs.declared.shape.Shape.{Shape}
 use Rattle.mini_model.specs.Tree.{Tree, Trees, none, listed}

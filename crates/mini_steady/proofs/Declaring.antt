@@ -19,10 +19,10 @@ use Rattle.mini_kept.proofs.Counts.{first_or_other, at_first, at_other}
 use Rattle.mini_kept.proofs.Declared.{reaches_declared}
 use Rattle.mini_node.specs.Children.{names_of}
 use Rattle.mini_rows.specs.Past.{is_binding, is_symbol, has_symbol, binds, any_bind}
-use Rattle.mini_rows.specs.Steady.{throughout, known_in, KeepsOwn, OwnRows, ReadsMore, OwnStep, own_here, own_inside, OwnStepIn, own_first, own_later}
+use Rattle.mini_rows.specs.Steady.{throughout, known_in, OwnRows, ReadsMore, OwnStep, own_here, own_inside, OwnStepIn, own_first, own_later}
 use Rattle.mini_steady.specs.Chains.{Several, once, again}
-use Rattle.mini_steady.specs.Own.{KeepsEach}
-use Rattle.mini_rows.proofs.SteadyLawful.{forget}
+use Rattle.mini_steady.specs.Own.{KeepsCode, KeepsEach}
+use Rattle.mini_rows.proofs.OwnLightens.{as_step}
 use Rattle.mini_steady.specs.Declarations.{symbol_of, symbols_of, own_symbols, declared_in, declared_among, is_listed, unlisted, known_of}
 use Rattle.mini_steady.specs.declared.code.BodyCode.{BodyCode}
 use Rattle.mini_steady.proofs.Gathering.{Gathers}
@@ -161,15 +161,15 @@ pub fewer_then : (t u v : Tree) → Fewer t u → Fewer u v → Fewer t v
 unfolding Fewer
 fewer_then t u v f g k e = g k (f k e)
 
-pub step_fewer : (V : Assured) (R : Position → Tree → Tree → Type 0) → KeepsOwn V R → (p : Position) (t u : Tree) → OwnStep R p t u → Fewer t u
+pub step_fewer : (R : Position → Tree → Tree → Type 0) → KeepsCode R → (p : Position) (t u : Tree) → OwnStep R p t u → Fewer t u
 unfolding Fewer
-step_fewer V R keeps p t u s k e = by (binds k u) refl
+step_fewer R keeps p t u s k e = by (binds k u) refl
   where
     by : (b : Bool) → binds k u ≡ b → b ≡ false
     by false h = refl
     by true h =
         let d = declares k u h in
-        let there = reaches_declared R keeps.declared (more p t u u (forget V R keeps s) (done p u)) d.name d.there in
+        let there = reaches_declared R keeps.declared (more p t u u (as_step R s) (done p u)) d.name d.there in
         absurd (true≢false (sym (of_declares k t (record { name = d.name; there = there; is = d.is })) ∙ e))
 
 -- so all that was known in it is known after the step
@@ -201,7 +201,7 @@ module _ (F : OwnRows) (keeps : KeepsEach F) (wide : ReadsMore F) (V : Assured) 
   one_in : (s t u : Tree) → Fewer s t → OwnStep (F (known_in s V)) p t u → Q (over t) (over u) × Fewer s u
   one_in s t u f r = (
     step_in t u (step_by (F (known_in s V)) (F (known_in t V)) (wide (known_in s V) (throughout t V.initial) (known_more V s t f)) r),
-    fewer_then s t u f (step_fewer (known_in s V) (F (known_in s V)) (keeps (known_in s V)) p t u r),
+    fewer_then s t u f (step_fewer (F (known_in s V)) (keeps (known_in s V)) p t u r),
   )
 
   several_in : (s t u : Tree) → Fewer s t → Several (OwnStep (F (known_in s V)) p) t u → Several Q (over t) (over u) × Fewer s u

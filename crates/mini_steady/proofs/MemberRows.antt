@@ -37,6 +37,7 @@ use Rattle.mini_choices.proofs.Trials.{some_is, not_true, both_true, first_true,
 use Rattle.mini_steady.specs.Leaving.{all_leave, is_this}
 use Rattle.mini_steady.specs.Members as row
 use Rattle.mini_steady.specs.Members.{MembersAreRows, UnwrittenMembersRest}
+use Rattle.mini_steady.specs.Chains.{once}
 use Rattle.mini_steady.specs.Own.{AppliedHere}
 
 -- ---- what has members
@@ -420,4 +421,4 @@ here_applied V s t u b e f =
   where
     go : (o : Option Tree) → row.written V s t ≡ o → AppliedHere (SteadyRow V) (Expr s) t (unwrap_or o t) (is_some o)
     go None h = (refl, unwritten_rests V s t h)
-    go (Some w) h = members_are_rows V s t w h
+    go (Some w) h = once t w (members_are_rows V s t w h)

@@ -131,10 +131,14 @@ module _ (R : Position → Tree → Tree → Type 0) where
   rests _ _ _ f g (own_here p n w r) = f w r
   rests _ _ _ f g (own_inside p h xs ts us b s) = none_in (child_position h p (count ts)) ts us g s
 
+  -- steps at the node are steps in its code
+  all_here : (p : Position) (t u : Tree) → Several (R p) t u → Several (OwnStep R p) t u
+  all_here p = several_over (R p) (OwnStep R p) (λ t. t) (own_here p)
+
   pub walked_both : (p : Position) (t u v : Tree) (a b : Bool) → OwnWalkedBelow R p t u a → AppliedHere R p u v b → OwnWalked R p t v (a || b)
-  walked_both p t u v true true x y = again t u v x (own_here p u v y)
+  walked_both p t u v true true x y = several_then (OwnStep R p) t u v x (all_here p u v y)
   walked_both p t u v true false x y = subst (Several (OwnStep R p) t) (sym y.0) x
-  walked_both p t u v false true x y = subst (λ w. Several (OwnStep R p) w v) x.0 (once u v (own_here p u v y))
+  walked_both p t u v false true x y = subst (λ w. Several (OwnStep R p) w v) x.0 (all_here p u v y)
   walked_both p t u v false false x y = (y.0 ∙ x.0, λ w s. rests p t w (subst (λ z. (w : Tree) → R p z w → ⊥) x.0 y.1) x.1 s)
 
   -- ---- what isn't open

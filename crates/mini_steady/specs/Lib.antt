@@ -2,6 +2,7 @@ pub mod Chains
 pub mod Declarations
 pub mod Leaving
 pub mod Own
+pub mod Keeping
 pub mod Members
 pub mod Functions
 pub mod Arrows

@@ -1,11 +1,14 @@
 -- What a walk over the own code of a body does to it: steps in that code.
-use Rattle.std.specs.Prelude.{ℕ, ◌≡◌, ◌<◌, ◌==◌, ◌&&◌, not, Bool, true, false}
+use Rattle.std.specs.Prelude.{ℕ, ◌≡◌, ◌<◌, ◌==◌, ◌&&◌, not, Bool, true, false, Contains}
+use Rattle.mini_model.specs.declared.name.Name.{Name}
 use Rattle.mini_model.specs.declared.place.Position.{Position}
 use Rattle.mini_model.specs.Tree.{Tree, count, children, shape_of}
 use Rattle.mini_model.specs.Position.{child_position}
 use Rattle.mini_node.specs.Children.{part, number_of}
+use Rattle.mini_laws.specs.Weights.{Lightens}
+use Rattle.mini_kept.specs.Declaring.{declared}
 use Rattle.mini_kept.specs.Without.{Assured}
-use Rattle.mini_rows.specs.Steady.{has_body, KeepsOwn, OwnRows, OwnStep}
+use Rattle.mini_rows.specs.Steady.{has_body, OwnRows, OwnStep}
 use Rattle.mini_steady.specs.Chains.{Several}
 
 -- what stands in it is code of the body around it: it has neither a body of its own nor a number
@@ -16,9 +19,14 @@ is_open t = (number_of t == 0) && not (has_body (shape_of t))
 abbrev pub ReadsOpen : OwnRows → Type 0
 ReadsOpen F = (V : Assured) (p : Position) (n w : Tree) → F V p n w → is_open n ≡ true
 
--- and each keeps what the code of a body has to keep
+-- what it writes declares no name that what stood there didn't, and is lighter
+pub record KeepsCode (R : Position → Tree → Tree → Type 0) : Type 0 where
+  pub declared : (p : Position) (n w : Tree) → R p n w → (x : Name) → Contains (declared w) x → Contains (declared n) x
+  pub lightens : Lightens R
+
+-- so does each row of a family
 abbrev pub KeepsEach : OwnRows → Type 0
-KeepsEach F = (V : Assured) → KeepsOwn V (F V)
+KeepsEach F = (V : Assured) → KeepsCode (F V)
 
 -- where the child at an index stands
 abbrev pub place_in : Position → Tree → ℕ → Position
@@ -38,7 +46,7 @@ abbrev pub OwnWalkedBelow : (Position → Tree → Tree → Type 0) → Position
 OwnWalkedBelow R p t u true = Several (OwnStep R p) t u
 OwnWalkedBelow R p t u false = (u ≡ t) × ((i : ℕ) → i < count (children t) → OwnRests R (place_in p t i) (part t i))
 
--- and of the node alone
+-- and of the node alone: steps there, or none
 abbrev pub AppliedHere : (Position → Tree → Tree → Type 0) → Position → Tree → Tree → Bool → Type 0
-AppliedHere R p t u true = R p t u
+AppliedHere R p t u true = Several (R p) t u
 AppliedHere R p t u false = (u ≡ t) × ((w : Tree) → R p t w → ⊥)

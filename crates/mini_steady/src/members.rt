@@ -8,8 +8,9 @@ ghost use Rattle.mini_node.specs.Children.{names};
 ghost use Rattle.mini_choices.specs.MinimizeLogicalSequence.{parts_of};
 ghost use Rattle.mini_steady.specs.Declarations.{known_of};
 ghost use Rattle.mini_steady.specs.Members as row;
-ghost use Rattle.mini_rows.proofs.SteadyKept.{steady_more, steady_own};
+ghost use Rattle.mini_rows.proofs.SteadyKept.{steady_more};
 ghost use Rattle.mini_rows.specs.Steady.{SteadyRow};
+ghost use Rattle.mini_steady.specs.Keeping.{members_keep};
 ghost use Rattle.mini_steady.specs.Members.{members_open, written};
 
 use crate::code::{BodyCode, is_initialised};
@@ -295,5 +296,5 @@ impl<S: SteadyNames> OwnRewrites<S> for SteadyMembers {
 
     ghost more = { steady_more };
 
-    ghost keeps = { steady_own };
+    ghost keeps = { members_keep };
 }

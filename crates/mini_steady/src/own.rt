@@ -17,8 +17,8 @@ pub trait OwnRewrites<S: SteadyNames> {
     /// By what is known of the body, which nodes are read as which.
     ghost rows: { OwnRows };
 
-    /// Writes what a row says that reads the node at its place, in this body, and answers true; or leaves it, if none does, and
-    /// answers false. The only error is that memory runs out, and then the node is fit only to be dropped.
+    /// Writes what a row says that reads the node at its place, in this body, once or more often, and answers true; or leaves it, if none
+    /// does, and answers false. The only error is that memory runs out, and then the node is fit only to be dropped.
     fn rewrite(
         &self,
         alloc: Global,
@@ -35,7 +35,7 @@ pub trait OwnRewrites<S: SteadyNames> {
     /// What they read they read where more variables are known to have values.
     ghost more: { ReadsMore rows };
 
-    /// What a row writes keeps what the code of a body has to keep.
+    /// What a row writes declares no name that what stood there didn't, and is lighter.
     ghost keeps: { KeepsEach rows };
 }
 
