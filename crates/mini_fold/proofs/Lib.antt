@@ -9,3 +9,4 @@ pub mod Sequences
 pub mod Operators
 pub mod Operands
 pub mod Templates
+pub mod Naming
