@@ -21,3 +21,4 @@ pub mod FoldChainExpr
 pub mod Choices
 pub mod Writes
 pub mod Lighter
+pub mod Names

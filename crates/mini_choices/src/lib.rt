@@ -10,7 +10,11 @@ mod laws;
 mod rewrites;
 mod weights;
 
-pub use assigning::{assigns_plainly, has_written_key};
+// What rows 35 and 38 of names take for one target: a name, or a member of one with a key that is written out; and a name alone.
+pub use assigning::{
+    assigns_plainly, has_written_key, is_same_name as can_compress_to_logical_assignment,
+    is_same_target as has_no_side_effect_for_evaluation_same_target,
+};
 pub use joining::join_with_left_associative_op;
 pub use laws::{choices_are_rows, left_joins_mean_the_same, writes_are_rows};
 pub use rewrites::evaluate_both_sides::evaluate_both_sides;
@@ -35,5 +39,10 @@ pub use rewrites::minimize_normal_assignment_to_combined_logical_assignment::{
     MinimizeWrites, minimize_normal_assignment_to_combined_logical_assignment,
 };
 pub use rewrites::minimize_nullish_comparison::minimize_nullish_comparison;
-pub use rewrites::minimize_object_test::minimize_object_test;
+pub use rewrites::minimize_object_test::{
+    minimize_object_test, minimize_object_test as substitute_is_object_and_not_null,
+};
+pub use rewrites::names::{
+    extract_id_or_assign_to_id, inject_optional_chaining_if_matched, substitute_chain_expression,
+};
 pub use rewrites::substitute_rotate_logical_expression::substitute_rotate_logical_expression;

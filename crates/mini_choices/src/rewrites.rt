@@ -14,4 +14,5 @@ pub mod minimize_normal_assignment_to_combined_assignment;
 pub mod minimize_normal_assignment_to_combined_logical_assignment;
 pub mod minimize_nullish_comparison;
 pub mod minimize_object_test;
+pub mod names;
 pub mod substitute_rotate_logical_expression;

@@ -11,3 +11,4 @@ pub mod Sequences
 pub mod Operators
 pub mod Operands
 pub mod Templates
+pub mod Naming

@@ -10,3 +10,4 @@ pub mod FoldOperators
 pub mod FoldOperands
 pub mod FoldTemplates
 pub mod Lighter
+pub mod Names

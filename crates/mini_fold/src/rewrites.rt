@@ -8,4 +8,5 @@ pub mod fold_static_member;
 pub mod fold_templates;
 pub mod join_constants;
 pub mod minimize_binary;
+pub mod names;
 pub mod remove_idle_head;

@@ -35,7 +35,7 @@ pub use rewrites::remove_last_break::remove_last_break;
 pub use rewrites::remove_last_continue::remove_last_continue;
 pub use rewrites::unwrap_block::unwrap_block;
 pub use sequences::{
-    has_negated_result, last_expression_in_sequence, pop_expression_from_sequence,
+    has_negated_result, last_expression_in_sequence, pop_expression_from_sequence, unwrap_unary,
 };
 pub use terms::{
     has_own_negation, is_boolean, lighter_negation, lighter_negation_weight, neg_weight, negated,

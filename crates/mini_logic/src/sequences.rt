@@ -43,6 +43,13 @@ pub fn last_expression_in_sequence(sequence: &Node) -> Option<&Node>
     Some(end_of(sequence))
 }
 
+/// The operand of a unary expression: a of `!a`.
+pub fn unwrap_unary(unary: Node) -> Node
+    ensures { result ≡ part unary 0 }
+{
+    one(unary)
+}
+
 /// Whether an expression is a `!`, or the last expression of a sequence is.
 pub fn has_negated_result(test: &Node) -> bool
     ensures { result ≡ end.ends_in_negation test.now }

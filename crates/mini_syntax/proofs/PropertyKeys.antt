@@ -28,7 +28,7 @@ use Rattle.mini_syntax.specs.SubstituteBindingProperty.{declares_brackets, decla
 use Rattle.mini_syntax.proofs.InnerKeys.{inner_is, literal_is}
 use Rattle.mini_syntax.proofs.BindingKeys.{declared_row, declared_reads, declared_stays}
 use Rattle.mini_syntax.proofs.ShorthandTargets.{doubled_row, doubled_reads, compressed_stays}
-use Rattle.mini_syntax.specs.SubstitutePropertyKey.{is_holder, names_key, key_number, respelled_by, respelled, respells, with_key, spelled, is_spelled, is_bracketed, keeps, drops_brackets, bare_shape, bare, held_written, is_held_written, key_written, is_key_written, written, is_written, Gives, Rests, WrittenIsRow, UnwrittenRests}
+use Rattle.mini_syntax.specs.SubstitutePropertyKey.{is_holder, names_key, key_number, respelled_by, respelled, respells, with_key, spelled, is_spelled, is_bracketed, keeps, drops_brackets, bare_shape, bare, held_written, is_held_written, key_written, is_key_written, written, is_written, Gives, Rests, WrittenIsRow, UnwrittenRests, target_written, is_target_written}
 
 -- ---- what the tests say
 
@@ -194,6 +194,15 @@ key_said t u b d e f = f ∙ ap is_key_written (e ∙ compressed_stays t (sym d)
 
 pub doubled_instead : (t u : Tree) → true ≡ is_doubled t → u ≡ compressed t → u ≡ written t
 doubled_instead t u d e = e ∙ sym (ap (λ b. if b then compressed t else key_written t) (sym d))
+
+pub target_instead : (t u v : Tree) → false ≡ is_doubled t → u ≡ compressed t → v ≡ held_written u → v ≡ target_written t
+target_instead t u v d e f = f ∙ ap held_written (e ∙ compressed_stays t (sym d)) ∙ sym (ap (λ b. if b then compressed t else held_written t) (sym d))
+
+pub target_said : (t u : Tree) (b : Bool) → false ≡ is_doubled t → u ≡ compressed t → b ≡ is_held_written u → b ≡ is_target_written t
+target_said t u b d e f = f ∙ ap is_held_written (e ∙ compressed_stays t (sym d)) ∙ sym (ap (λ c. c || is_held_written t) (sym d))
+
+pub shorthand_instead : (t u : Tree) → true ≡ is_doubled t → u ≡ compressed t → u ≡ target_written t
+shorthand_instead t u d e = e ∙ sym (ap (λ b. if b then compressed t else held_written t) (sym d))
 
 -- ---- what stays
 

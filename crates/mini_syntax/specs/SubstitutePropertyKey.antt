@@ -128,6 +128,13 @@ key_written t = if declares_brackets t then declared_bare t else held_written t
 abbrev pub is_key_written : Tree → Bool
 is_key_written t = declares_brackets t || is_held_written t
 
+-- of what is assigned to: the shorthand, or the key alone
+abbrev pub target_written : Tree → Tree
+target_written t = if is_doubled t then compressed t else held_written t
+
+abbrev pub is_target_written : Tree → Bool
+is_target_written t = is_doubled t || is_held_written t
+
 -- and of a key that is the name assigned to
 
 abbrev pub written : Tree → Tree

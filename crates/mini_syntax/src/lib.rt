@@ -7,7 +7,10 @@ mod rewrites;
 
 pub use forms::{is_list_of, is_plain};
 pub use laws::{keys_are_rows, property_keys_are_rows, returns_are_rows, spellings_are_rows};
-pub use rewrites::compress_assignment_target_property::compress_assignment_target_property;
+pub use rewrites::compress_assignment_target_property::{
+    compress_assignment_target_property,
+    compress_assignment_target_property as try_compress_assignment_target_property,
+};
 pub use rewrites::convert_to_dotted_properties::convert_to_dotted_properties;
 pub use rewrites::substitute_arrow_expression::{SubstituteArrows, substitute_arrow_expression};
 pub use rewrites::substitute_binding_property::substitute_binding_property;
@@ -16,6 +19,7 @@ pub use rewrites::substitute_loose_equals_undefined::substitute_loose_equals_und
 pub use rewrites::substitute_object_property::{SubstituteKeys, substitute_object_property};
 pub use rewrites::substitute_property_key::{
     ClassPropertyKeyParent, ClassPropertyKeyParentType, SubstitutePropertyKeys,
+    substitute_assignment_target_property,
     substitute_held_key as substitute_assignment_target_property_property,
     substitute_held_key as substitute_method_definition,
     substitute_held_key as substitute_property_definition, substitute_key, substitute_property_key,

@@ -33,7 +33,7 @@ pub record Constant (t : Tree) (v : Value) : Type 0 where
   pub constant : const t ≡ Some v
   pub plain : is_plain_part t ≡ true
 
-undefined_const : (k : NameKind) (v : Value) → undefined_if (is_undefined_name k) ≡ Some v → name_const k ≡ Some v
+pub undefined_const : (k : NameKind) (v : Value) → undefined_if (is_undefined_name k) ≡ Some v → name_const k ≡ Some v
 undefined_const UndefinedName v e = e
 undefined_const k v e = nothing e
 
@@ -51,12 +51,12 @@ checked : (b : Bool) (c : Option Value) (v : Value) → choose b c None ≡ Some
 checked true c v e = e
 checked false c v e = nothing e
 
-numbered : (o : UnaryOperator) (m : Made ℤ) (v : Value) → over_number o (made m) ≡ Some v → made (of_operand o m) ≡ Some v
+pub numbered : (o : UnaryOperator) (m : Made ℤ) (v : Value) → over_number o (made m) ≡ Some v → made (of_operand o m) ≡ Some v
 numbered o (makes n) v e = checked (is_safe n) (made (of_number o n)) v e
 numbered o raises v e = nothing e
 numbered o outside v e = nothing e
 
-undeleted : (c : Option ℤ) (v : Value) → over_number unary_operator.Delete c ≡ Some v → None ≡ Some v
+pub undeleted : (c : Option ℤ) (v : Value) → over_number unary_operator.Delete c ≡ Some v → None ≡ Some v
 undeleted (Some n) v e = checked (is_safe n) None v e
 undeleted None v e = e
 

@@ -19,3 +19,5 @@ pub mod Arithmetic
 pub mod Mixed
 pub mod Deep
 pub mod TextNumbers
+pub mod ConstantTable
+pub mod ExactTable

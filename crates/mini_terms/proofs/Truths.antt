@@ -14,13 +14,13 @@ use Rattle.mini_terms.specs.Sound.{Gives, TruthSound, TruthOfValue, LitSound}
 use Rattle.mini_terms.proofs.KindTable.{kind_sound}
 use Rattle.mini_terms.proofs.ConstTable.{const_sound}
 
-truth_known : (c : Option Value) (k : Kind) (v : Value) → Agrees c v → OfKind k v → Agrees (truth_by c k) (truth v)
+pub truth_known : (c : Option Value) (k : Kind) (v : Value) → Agrees c v → OfKind k v → Agrees (truth_by c k) (truth v)
 truth_known (Some c) k v p q = ap truth p
 truth_known None IsObject (Object n f) p q = refl
 truth_known None IsObject v p q = absurd q
 truth_known None k v p q = tt
 
-gives_both : {A : Type 0} (P Q R : A → Type 0) → ((a : A) → P a → Q a → R a) → (x : Completion A) → Gives P x → Gives Q x → Gives R x
+pub gives_both : {A : Type 0} (P Q R : A → Type 0) → ((a : A) → P a → Q a → R a) → (x : Completion A) → Gives P x → Gives Q x → Gives R x
 unfolding Gives
 gives_both P Q R f (ok a s) p q = f a p q
 gives_both P Q R f (stop x s) p q = tt

@@ -12,4 +12,7 @@ pub mod Templates
 pub mod Calculated
 pub mod Texts
 pub mod Values
+pub mod Constant
+pub mod Exact
 pub mod Examples
+pub mod ExactExamples

@@ -320,7 +320,7 @@ pub fn are_round(pieces: &Nodes, parts: &Nodes) -> bool
 }
 
 // Whether they are the lists of a template.
-fn are_lists(node: &Node) -> bool
+pub fn are_lists(node: &Node) -> bool
     ensures kind { result ≡ term.are_lists (children node.now) }
     ensures parts { result ≡ true → count (children node.now) ≡ 2 }
 {
@@ -460,7 +460,7 @@ pub fn evident_truth(node: &Node) -> Option<bool>
 }
 
 // An object counts as true.
-fn object_truth(kind: Kind) -> Option<bool>
+pub fn object_truth(kind: Kind) -> Option<bool>
     ensures { result ≡ term.truth_by None kind }
 {
     match kind {

@@ -1,5 +1,6 @@
 //! That what is known of an expression is so. Each function's contract is a law, and its body is empty.
 
+ghost use Rattle.mini_terms.specs.Constant.{ConstantIsConst, ConstantTruth};
 ghost use Rattle.mini_terms.specs.Folds.{GoesOnSame, StopsSame, DoesNothing};
 ghost use Rattle.mini_terms.specs.Reading.{ReadByValue, SameByValue, SameItem, SameInSeat};
 ghost use Rattle.mini_terms.specs.Sound.{KindSound, EffectFreeSound, ConstSound, TruthSound, TruthOfValue, LitSound};
@@ -18,6 +19,12 @@ pub fn effect_free_is_sound()
 /// The value of an expression is its Const.
 pub fn const_is_sound()
     ensures { ConstSound }
+{}
+
+/// The constant that is calculated of an expression is its Const, and each value that it has counts as its truth by that.
+pub fn constants_are_sound()
+    ensures value { ConstantIsConst }
+    ensures truth { ConstantTruth }
 {}
 
 /// The truth that a test gets of an expression, and that of its value, is its Truth.

@@ -65,7 +65,7 @@ pub fn copied(alloc: Global, units: &[u16]) -> Result<Text, OutOfMemory>
 }
 
 // A text with these units behind it.
-fn extended(mut text: Text, units: &[u16]) -> Result<Text, OutOfMemory>
+pub fn extended(mut text: Text, units: &[u16]) -> Result<Text, OutOfMemory>
     ensures { IfOk result (λ whole. whole ≡ text ++ units.now) }
 {
     for unit in units {
@@ -85,7 +85,7 @@ pub fn text_of_both(alloc: Global, before: &[u16], after: Text) -> Result<Text, 
     Ok(text)
 }
 
-fn undefined_if(condition: bool) -> Option<ConstantValue>
+pub fn undefined_if(condition: bool) -> Option<ConstantValue>
     ensures { value_in result ≡ term.undefined_if condition }
 {
     if condition {
@@ -173,7 +173,7 @@ fn over_value(operator: UnaryOperator, operand: &ConstantValue) -> Option<Consta
 }
 
 // Of an operator over a value.
-fn calculated_unary(
+pub fn calculated_unary(
     alloc: Global,
     operator: UnaryOperator,
     operand: &ConstantValue,
@@ -242,7 +242,7 @@ pub fn to_text(alloc: Global, value: ConstantValue) -> Result<Text, OutOfMemory>
     }
 }
 
-fn is_text(value: &ConstantValue) -> bool
+pub fn is_text(value: &ConstantValue) -> bool
     ensures { result ≡ is_text_value (value_of value.now) }
 {
     matches!(value, ConstantValue::String(_))
@@ -319,7 +319,7 @@ fn ordered(
     }
 }
 
-fn is_nullish(value: &ConstantValue) -> bool
+pub fn is_nullish(value: &ConstantValue) -> bool
     ensures { result ≡ is_it_nullish (value_of value.now) }
 {
     matches!(value, ConstantValue::Undefined | ConstantValue::Null)
@@ -495,7 +495,11 @@ fn calculated_over(
 }
 
 // Which of two values a logical operator gives.
-fn decided(operator: LogicalOperator, left: ConstantValue, right: ConstantValue) -> ConstantValue
+pub fn decided(
+    operator: LogicalOperator,
+    left: ConstantValue,
+    right: ConstantValue,
+) -> ConstantValue
     ensures { value_of result ≡ chosen_of operator (value_of left) (value_of right) }
 {
     let takes_right = match operator {
@@ -541,7 +545,7 @@ fn logical_value(
 }
 
 // The branch that a test's truth tells, where both have a value.
-fn branch(
+pub fn branch(
     is_true: bool,
     consequent: Option<ConstantValue>,
     alternate: Option<ConstantValue>,
@@ -617,7 +621,7 @@ fn is_template(node: &Node) -> bool
 }
 
 // What is known up to here, with one more piece.
-fn with_piece(before: Option<Text>, piece: &Node) -> Result<Option<Text>, OutOfMemory>
+pub fn with_piece(before: Option<Text>, piece: &Node) -> Result<Option<Text>, OutOfMemory>
     ensures { IfOk result (λ t. t ≡ template.joined_text before (template.cooked_in (shape_of piece.now))) }
 {
     match (before, piece.shape()) {
@@ -629,7 +633,7 @@ fn with_piece(before: Option<Text>, piece: &Node) -> Result<Option<Text>, OutOfM
 }
 
 // A text with that of a value behind it.
-fn with_value(
+pub fn with_value(
     alloc: Global,
     before: Text,
     value: Option<ConstantValue>,

@@ -6,7 +6,7 @@ ghost use Rattle.mini_model.specs.Tree.{children, count, node as tree, none, ◌
 ghost use Rattle.mini_node.specs.Children.{part};
 ghost use Rattle.mini_terms.specs.Parts.{is_link as is_link_shape};
 ghost use Rattle.mini_rows.specs.ChainLinks.{is_there as is_it_there, is_lone as is_it_lone, chain_if};
-ghost use Rattle.mini_choices.specs.ChainLinks.{is_chain as is_it_chain, ends_none as ends_it_none, is_step as is_it_step, is_marked as is_it_marked, link_shape as shape_of_link, relinked as relinked_of, holds_link as holds_it_link, is_value as is_it_value, folds_here as folds_it_here, here, outcome as outcome_of, folded as folded_of, folded_written};
+ghost use Rattle.mini_choices.specs.ChainLinks.{is_chain as is_it_chain, ends_none as ends_it_none, is_step as is_it_step, is_marked as is_it_marked, link_shape as shape_of_link, relinked as relinked_of, holds_link as holds_it_link, is_value as is_it_value, folds_here as folds_it_here, here, outcome as outcome_of, folded as folded_of, wrapped as wrapped_if, folded_written};
 
 use crate::rewrites::inject_optional_chaining::{are_calm, is_calm, is_word};
 use mini_model::{LogicalOperator, OutOfMemory, Seat, Shape};
@@ -187,6 +187,23 @@ fn wrapped(alloc: Global, stays: bool, links: Node) -> Result<Node, OutOfMemory>
     Ok(links)
 }
 
+/// Of links in a chain the outermost optional one over a chain takes what that holds, or loses its mark over a value that is there, where marks may go. The
+/// answer says whether there is one; the only error is that memory runs out, and then the expression is fit only to be dropped.
+pub fn fold_outermost(alloc: Global, node: &mut Node, may_close: bool) -> Result<bool, OutOfMemory>
+    requires { count (children node.old) ≡ 1 }
+    ensures tree { OnOk result (node.new ≡ unwrap_or (wrapped_if (outcome_of may_close (part node.old 0)) (folded_of may_close (part node.old 0))) node.old) }
+    ensures said { IfOk result (λ changed. changed ≡ is_some (wrapped_if (outcome_of may_close (part node.old 0)) (folded_of may_close (part node.old 0)))) }
+{
+    match outcome(may_close, node.child(0)) {
+        Some(stays) => {
+            let links = folded(alloc, may_close, one(taken(alloc, node)))?;
+            *node = wrapped(alloc, stays, links)?;
+            Ok(true)
+        }
+        None => Ok(false),
+    }
+}
+
 /// `(a?.b)?.c` becomes `a?.b?.c`, and `[1]?.length` becomes `[1].length`, where what stands before `?.` is known to be neither undefined nor
 /// null. The answer says whether it did; the only error is that memory runs out, and then the expression is fit only to be dropped.
 pub fn fold_links(alloc: Global, node: &mut Node, seat: Seat) -> Result<bool, OutOfMemory>
@@ -196,13 +213,5 @@ pub fn fold_links(alloc: Global, node: &mut Node, seat: Seat) -> Result<bool, Ou
     if !is_chain(node) {
         return Ok(false);
     }
-    let may_close = !seat.new_callee;
-    match outcome(may_close, node.child(0)) {
-        Some(stays) => {
-            let links = folded(alloc, may_close, one(taken(alloc, node)))?;
-            *node = wrapped(alloc, stays, links)?;
-            Ok(true)
-        }
-        None => Ok(false),
-    }
+    fold_outermost(alloc, node, !seat.new_callee)
 }

@@ -108,7 +108,8 @@ fn may_end_after(node: &Node) -> bool
     is_chain(node) && ends_after(node.child(0))
 }
 
-fn void_zero(alloc: Global) -> Result<Node, OutOfMemory>
+/// `void 0`
+pub fn void_zero(alloc: Global) -> Result<Node, OutOfMemory>
     ensures { IfOk result (λ w. w ≡ void_zero_of) }
 {
     unary(alloc, UnaryOperator::Void, numeric_literal(alloc, 0))

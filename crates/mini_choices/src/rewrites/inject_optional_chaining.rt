@@ -152,9 +152,9 @@ fn opened(shape: Shape) -> Shape
     }
 }
 
-// The links, of which the first stands over this, in place of the name, and is optional.
+/// The links, of which the first stands over this, in place of the name, and is optional.
 #[tactic(auto, using(crate::proofs::OptionalChains::over_name, crate::proofs::OptionalChains::over_link, crate::proofs::OptionalChains::over_other))]
-fn optional_over(alloc: Global, base: Node, node: Node) -> Result<Node, OutOfMemory>
+pub fn optional_over(alloc: Global, base: Node, node: Node) -> Result<Node, OutOfMemory>
     ensures { IfOk result (λ w. w ≡ optional_over_it base node) }
 {
     if !is_link(&node) {

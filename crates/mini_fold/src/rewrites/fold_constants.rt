@@ -50,7 +50,7 @@ fn literal(alloc: Global, node: &Node) -> Result<Option<Node>, OutOfMemory>
 }
 
 // An operator over constants becomes the literal of its value, where that is lighter.
-fn fold_literal(alloc: Global, node: &mut Node, seat: Seat) -> Result<bool, OutOfMemory>
+pub fn fold_literal(alloc: Global, node: &mut Node, seat: Seat) -> Result<bool, OutOfMemory>
     ensures tree { OnOk result (node.new ≡ unwrap_or (literal_written seat node.old) node.old) }
     ensures said { IfOk result (λ changed. changed ≡ is_some (literal_written seat node.old)) }
 {

@@ -67,7 +67,7 @@ fn is_redundant(seat: Seat, operator: LogicalOperator, left: &Node, right: &Node
 }
 
 // `a || b` of `a || 0 || b`
-fn fold_middle(alloc: Global, node: &mut Node, seat: Seat) -> Result<bool, OutOfMemory>
+pub fn fold_middle(alloc: Global, node: &mut Node, seat: Seat) -> Result<bool, OutOfMemory>
     ensures tree { OnOk result (node.new ≡ unwrap_or (operand.logical_written seat (its_logical_operator node.old) node.old) node.old) }
     ensures said { IfOk result (λ changed. changed ≡ is_some (operand.logical_written seat (its_logical_operator node.old) node.old)) }
 {
@@ -274,7 +274,7 @@ fn is_zero(number: Option<i64>) -> bool
 }
 
 // Whether they are bits beside 0.
-fn tests_bits(left: &Node, right: &Node) -> bool
+pub fn tests_bits(left: &Node, right: &Node) -> bool
     ensures { result ≡ operand.tests_bits left.now right.now }
 {
     is_zero(number(right)) && is_bits(left)
@@ -299,7 +299,7 @@ fn is_shifted(node: &Node) -> bool
 }
 
 // Whether a shift is held against 0 where only the truth is asked: `if (a << 1 != 0)`
-fn tests_shift(seat: Seat, equal: bool, left: &Node, right: &Node) -> bool
+pub fn tests_shift(seat: Seat, equal: bool, left: &Node, right: &Node) -> bool
     ensures { result ≡ operand.tests_shift seat equal left.now right.now }
 {
     is_zero(number(right)) && !equal && seat.boolean && is_shifted(left)
@@ -313,14 +313,14 @@ fn encloses(seat: Seat) -> bool
 }
 
 // Whether a shift is held against 0 in parentheses: `a + (b << 1 == 0)`
-fn tests_enclosed(seat: Seat, left: &Node, right: &Node) -> bool
+pub fn tests_enclosed(seat: Seat, left: &Node, right: &Node) -> bool
     ensures { result ≡ operand.tests_enclosed seat left.now right.now }
 {
     is_zero(number(right)) && encloses(seat) && is_shifted(left)
 }
 
 // `!a`, or `!!a`
-fn zero_told(alloc: Global, equal: bool, bits: Node) -> Result<Node, OutOfMemory>
+pub fn zero_told(alloc: Global, equal: bool, bits: Node) -> Result<Node, OutOfMemory>
     ensures { IfOk result (λ w. w ≡ zero_told_of equal bits) }
 {
     let negated = negation(alloc, bits)?;
@@ -342,7 +342,7 @@ fn negated_truth(digit: Option<i64>) -> Option<bool>
 }
 
 // The truth of `!0`, and of `!1`.
-fn truth_in(node: &Node) -> Option<bool>
+pub fn truth_in(node: &Node) -> Option<bool>
     ensures { result ≡ operand.truth_in node.now }
 {
     if is_negation(node) {
@@ -352,7 +352,7 @@ fn truth_in(node: &Node) -> Option<bool>
     }
 }
 
-fn are_same(left: bool, right: bool) -> bool
+pub fn are_same(left: bool, right: bool) -> bool
     ensures { result ≡ are_they_same left right }
 {
     if left { right } else { !right }
@@ -371,14 +371,14 @@ fn may_stand(seat: Seat, holds: bool, boolean: &Node) -> bool
 }
 
 // Whether the boolean tells the whole.
-fn is_told(seat: Seat, holds: bool, boolean: &Node) -> bool
+pub fn is_told(seat: Seat, holds: bool, boolean: &Node) -> bool
     ensures { result ≡ operand.is_told seat holds boolean.now }
 {
     is_boolean_kind(kind_of(boolean)) && may_stand(seat, holds, boolean)
 }
 
 // The boolean, or its negation.
-fn told(alloc: Global, holds: bool, boolean: Node) -> Result<Node, OutOfMemory>
+pub fn told(alloc: Global, holds: bool, boolean: Node) -> Result<Node, OutOfMemory>
     ensures { IfOk result (λ w. w ≡ told_by holds boolean) }
 {
     if holds {
@@ -389,7 +389,7 @@ fn told(alloc: Global, holds: bool, boolean: Node) -> Result<Node, OutOfMemory>
 }
 
 // `1`, or `0`
-fn digit(alloc: Global, truth: bool) -> Node
+pub fn digit(alloc: Global, truth: bool) -> Node
     ensures { result ≡ digit_of truth }
 {
     if truth {
@@ -399,7 +399,7 @@ fn digit(alloc: Global, truth: bool) -> Node
     }
 }
 
-fn loosely(equal: bool) -> BinaryOperator
+pub fn loosely(equal: bool) -> BinaryOperator
     ensures { result ≡ loose equal }
 {
     if equal {
@@ -498,7 +498,7 @@ fn has_room(operator: BinaryOperator, seat: Seat) -> bool
 }
 
 // `a | 0` of `a << 0`
-fn fold_kept(
+pub fn fold_kept(
     alloc: Global,
     node: &mut Node,
     seat: Seat,
@@ -521,7 +521,7 @@ fn fold_kept(
 }
 
 // The same with the number on either side: `a | 0` of `0 ^ a`
-fn fold_bits(
+pub fn fold_bits(
     alloc: Global,
     node: &mut Node,
     seat: Seat,
@@ -570,7 +570,7 @@ fn is_int32(node: &Node) -> bool
 }
 
 // `a << 1` of `a << 1 | 0`, and of `0 | a << 1`
-fn fold_whole(alloc: Global, node: &mut Node) -> bool
+pub fn fold_whole(alloc: Global, node: &mut Node) -> bool
     requires { count (children node.old) ≡ 2 }
     ensures tree { node.new ≡ unwrap_or (operand.wholes_written (part node.old 0) (part node.old 1)) node.old }
     ensures said { result ≡ is_some (operand.wholes_written (part node.old 0) (part node.old 1)) }

@@ -262,6 +262,23 @@ pub fn substitute_key(alloc: Global, node: &mut Node) -> Result<bool, OutOfMemor
     Ok(changed)
 }
 
+/// A property that is assigned to becomes the shorthand, as `x: x` becomes `x`, or its key is spelled otherwise, as of `"x": a` and `["x"]: a`. The
+/// answer says whether anything changed; the only error is that memory runs out, and then the property is fit only to be dropped.
+#[tactic(auto, using(crate::proofs::PropertyKeys::target_instead, crate::proofs::PropertyKeys::target_said, crate::proofs::PropertyKeys::shorthand_instead))]
+pub fn substitute_assignment_target_property(
+    alloc: Global,
+    node: &mut Node,
+) -> Result<bool, OutOfMemory>
+    ensures tree { OnOk result (node.new ≡ row.target_written node.old) }
+    ensures said { IfOk result (λ changed. changed ≡ row.is_target_written node.old) }
+{
+    if compress_assignment_target_property(alloc, node)? {
+        return Ok(true);
+    }
+    let changed = substitute_held_key(alloc, node)?;
+    Ok(changed)
+}
+
 // A property that is assigned to becomes the shorthand, or a key is spelled otherwise. The answer says whether anything changed.
 #[tactic(auto, using(crate::proofs::PropertyKeys::key_instead, crate::proofs::PropertyKeys::key_said, crate::proofs::PropertyKeys::doubled_instead))]
 fn rewrite_key(alloc: Global, node: &mut Node) -> Result<bool, OutOfMemory>
