@@ -9,7 +9,7 @@ use Rattle.mini_laws.specs.Naming.{kinds}
 use Rattle.mini_terms.specs.Kind.{is_primitive, Undetermined, nth_kind, last_kind, kind_by, kind, each_kind}
 use Rattle.mini_terms.specs.Effects.{nth_true, all_true, all_primitive, primitive_items, each_primitive, is_identifier, each_identifier, ef_by, ef, each_ef}
 use Rattle.mini_terms.specs.Reading.{is_plain_part_by, first_of, is_plain_part, are_plain_parts}
-use Rattle.mini_terms.specs.Parts.{leaves_nothing_by, leaves_nothing, leave_nothing, is_link, is_several, first_is_several, first_is_link, weighs_over, weighs}
+use Rattle.mini_terms.specs.Parts.{leaves_nothing_by, leaves_nothing, leave_nothing, is_link, is_several, first_is_several, first_is_link, is_template_by, second_is_template, weighs_over, weighs}
 
 pub kind_is : (t : Tree) → kind t ≡ kind_by (shape_of t) (kinds (names_of t)) (each_kind (children t))
 kind_is (node h xs n ts) = refl
@@ -180,6 +180,16 @@ first_link (node h xs n (a ▸ ts)) e = refl
 pub no_link : (t : Tree) → count (children t) ≤ zero → first_is_link (children t) ≡ false
 no_link (node h xs n none) e = refl
 no_link (node h xs n (a ▸ ts)) e = absurd (omega (arith, e))
+
+pub second_template : (t : Tree) → suc zero < count (children t) → second_is_template (children t) ≡ is_template_by (shape_of (part t 1))
+second_template (node h xs n none) e = absurd (omega (arith, e))
+second_template (node h xs n (a ▸ none)) e = absurd (omega (arith, e))
+second_template (node h xs n (a ▸ (b ▸ ts))) e = refl
+
+pub no_template : (t : Tree) → count (children t) ≤ suc zero → second_is_template (children t) ≡ false
+no_template (node h xs n none) e = refl
+no_template (node h xs n (a ▸ none)) e = refl
+no_template (node h xs n (a ▸ (b ▸ ts))) e = absurd (omega (arith, e))
 
 pub weighs_is : (t : Tree) → weighs t ≡ weighs_over (shape_of t) (names_of t) (children t)
 weighs_is (node h xs n ts) = refl

@@ -76,6 +76,12 @@ weighs_by shape.ConditionalExpression = true
 weighs_by shape.NewExpression = true
 weighs_by (shape.YieldExpression is_delegate) = true
 weighs_by shape.TemplateLiteral = true
+weighs_by shape.PrivateInExpression = true
+weighs_by shape.SuperCallExpression = true
+weighs_by shape.SuperStaticMemberExpression = true
+weighs_by shape.SuperComputedMemberExpression = true
+weighs_by shape.ImportExpression = true
+weighs_by (shape.MetaProperty k) = true
 weighs_by h = is_link h
 
 abbrev pub has_name : List Name → Bool
@@ -98,10 +104,20 @@ abbrev pub first_is_link : Trees → Bool
 first_is_link none = false
 first_is_link (t ▸ ts) = is_link (shape_of t)
 
+-- the template of a tag
+abbrev pub is_template_by : Shape → Bool
+is_template_by shape.TemplateLiteral = true
+is_template_by h = false
+
+abbrev pub second_is_template : Trees → Bool
+second_is_template (a ▸ (t ▸ ts)) = is_template_by (shape_of t)
+second_is_template ts = false
+
 abbrev pub weighs_over : Shape → List Name → Trees → Bool
 weighs_over shape.Identifier xs ts = has_name xs
 weighs_over shape.SequenceExpression xs ts = first_is_several ts
 weighs_over shape.ChainExpression xs ts = first_is_link ts
+weighs_over shape.TaggedTemplateExpression xs ts = second_is_template ts
 weighs_over h xs ts = weighs_by h
 
 -- it weighs 2 at least, wherever it stands

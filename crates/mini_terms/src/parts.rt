@@ -217,6 +217,13 @@ fn is_first_link(node: &Node) -> bool
     node.children().len() > 0 && is_link(node.child(0))
 }
 
+#[tactic(auto, using(crate::proofs::Children::second_template, crate::proofs::Children::no_template))]
+fn is_second_template(node: &Node) -> bool
+    ensures { result ≡ part.second_is_template (children node.now) }
+{
+    node.children().len() > 1 && matches!(node.child(1).shape(), Shape::TemplateLiteral)
+}
+
 fn weighs_itself(node: &Node) -> bool
     ensures { result ≡ part.weighs_by (shape_of node.now) }
 {
@@ -241,7 +248,13 @@ fn weighs_itself(node: &Node) -> bool
         | Shape::ConditionalExpression
         | Shape::NewExpression
         | Shape::YieldExpression(_)
-        | Shape::TemplateLiteral => true,
+        | Shape::TemplateLiteral
+        | Shape::PrivateInExpression
+        | Shape::SuperCallExpression
+        | Shape::SuperStaticMemberExpression
+        | Shape::SuperComputedMemberExpression
+        | Shape::ImportExpression
+        | Shape::MetaProperty(_) => true,
         _ => is_link(node),
     }
 }
@@ -255,6 +268,7 @@ pub fn weighs(node: &Node) -> bool
         Shape::Identifier => has_name(node.name()),
         Shape::SequenceExpression => is_first_several(node),
         Shape::ChainExpression => is_first_link(node),
+        Shape::TaggedTemplateExpression => is_second_template(node),
         _ => weighs_itself(node),
     }
 }
