@@ -7,7 +7,7 @@ ghost use Rattle.mini_fold.specs.FoldOperators.{mask_written, masks_written};
 ghost use Rattle.mini_fold.specs.Names as name;
 
 use crate::rewrites::fold_constants::fold_literal;
-use crate::rewrites::fold_operands::{fold_sum as fold_texts, first_of_first, second_of_first};
+use crate::rewrites::fold_operands::{first_of_first, fold_sum as fold_texts, second_of_first};
 use crate::rewrites::fold_operators::{holds_bitwise, masked};
 use crate::rewrites::fold_templates::fold_sum as add_template;
 use crate::rewrites::join_constants::join_constants;
