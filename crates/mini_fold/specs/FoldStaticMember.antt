@@ -8,7 +8,7 @@ use Rattle.mini_model.specs.Tree.{Tree, shape_of}
 use Rattle.mini_model.specs.Weight.{same_text}
 use Rattle.mini_kept.specs.Placed.{is_chain_seat}
 use Rattle.mini_node.specs.Children.{is_bare, part}
-use Rattle.mini_node.specs.Kinds.{is_static_member, string}
+use Rattle.mini_node.specs.Kinds.{is_computed_member, is_static_member, string}
 use Rattle.mini_terms.specs.Parts.{takes_numbers}
 use Rattle.mini_terms.specs.Reading.{is_unguarded}
 use Rattle.mini_rows.specs.Spellings.{numeral}
@@ -36,3 +36,16 @@ count_of None = None
 -- what is written for an expression
 abbrev pub written : Seat → Tree → Option Tree
 written s t = if asks_length s t then count_of (string (part t 0)) else None
+
+-- the text `length`
+abbrev pub says_length : Option (List ℕ) → Bool
+says_length (Some u) = same_text u (codes "length")
+says_length None = false
+
+-- `a["length"]`, where a number may stand
+abbrev pub asks_computed : Seat → Tree → Bool
+asks_computed s t = is_computed_member t && (says_length (string (part t 1)) && takes_length s)
+
+-- what is written for an expression in brackets
+abbrev pub computed_written : Seat → Tree → Option Tree
+computed_written s t = if asks_computed s t then count_of (string (part t 0)) else None

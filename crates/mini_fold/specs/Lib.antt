@@ -11,3 +11,4 @@ pub mod FoldOperands
 pub mod FoldTemplates
 pub mod Lighter
 pub mod Names
+pub mod Examples

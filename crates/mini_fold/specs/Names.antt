@@ -1,7 +1,7 @@
 -- Rewrites that stand in larger ones, each by itself: what is written for a node by its rows alone.
 use Rattle.std.specs.Prelude.{Bool, true, false, Option, Some, None, if◌then◌else◌}
 use Rattle.mini_model.specs.declared.operator.BinaryOperator.{BinaryOperator}
-use Rattle.mini_model.specs.declared.operator.BinaryOperator.TheVariants.{Equality, Inequality, BitwiseAnd, BitwiseXor, BitwiseOr, ShiftLeft, ShiftRight}
+use Rattle.mini_model.specs.declared.operator.BinaryOperator.TheVariants.{Addition, Equality, Inequality, BitwiseAnd, BitwiseXor, BitwiseOr, ShiftLeft, ShiftRight}
 use Rattle.mini_model.specs.declared.operator.LogicalOperator.{LogicalOperator}
 use Rattle.mini_model.specs.declared.operator.LogicalOperator.TheVariants.{Coalesce}
 use Rattle.mini_model.specs.declared.operator.UnaryOperator.{UnaryOperator}
@@ -16,8 +16,10 @@ use Rattle.mini_rows.specs.Operands.{told_by, zero_told}
 use Rattle.mini_rows.specs.Spellings.{binary}
 use Rattle.mini_fold.specs.FoldConstants.{literal_written}
 use Rattle.mini_fold.specs.FoldKnown.{folded}
-use Rattle.mini_fold.specs.FoldOperands.{or_else, tests_bits, tests_shift, tests_enclosed, truth_in, is_told, left_written, kept_written, bits_written, wholes_written, logical_written}
-use Rattle.mini_fold.specs.FoldOperators.{delete_written, told, boolean_or, without_plus}
+use Rattle.mini_fold.specs.FoldOperands.{or_else, sum_written, tests_bits, tests_shift, tests_enclosed, truth_in, is_told, left_written, kept_written, bits_written, wholes_written, logical_written}
+use Rattle.mini_fold.specs.FoldOperators.{delete_written, told, boolean_or, without_plus, mask_written}
+use Rattle.mini_fold.specs.FoldTemplates.{added_written}
+use Rattle.mini_fold.specs.JoinConstants.{joined_written}
 use Rattle.mini_fold.specs.MinimizeBinary as equality
 
 -- ---- 16 and 17, `fold_binary_typeof_comparison`
@@ -141,3 +143,50 @@ either_in s None t = None
 
 abbrev pub either_written : Seat → Tree → Option Tree
 either_written s t = either_in s (logical_operator t) t
+
+-- ---- 3 to 8, `fold_binary_expr`
+
+-- 7, and 4 of texts that are written out
+abbrev pub texts_by : Seat → Option BinaryOperator → Tree → Option Tree
+texts_by s (Some Addition) t = sum_written s (part t 0) (part t 1)
+texts_by s o t = None
+
+abbrev pub texts_written : Seat → Tree → Option Tree
+texts_written s t = texts_by s (binary_operator t) t
+
+-- 8 of numbers that are written out
+abbrev pub masks_by : Option BinaryOperator → Tree → Option Tree
+masks_by (Some o) t = mask_written o (part t 0) (part t 1) None
+masks_by None t = None
+
+abbrev pub masks_written : Tree → Option Tree
+masks_written t = masks_by (binary_operator t) t
+
+-- 5 and 6
+abbrev pub templates_by : Seat → Option BinaryOperator → Tree → Option Tree
+templates_by s (Some Addition) t = added_written s (part t 0) (part t 1)
+templates_by s o t = None
+
+abbrev pub templates_written : Seat → Tree → Option Tree
+templates_written s t = templates_by s (binary_operator t) t
+
+-- 4 and 8 of other constants, and else those
+abbrev pub joins_written : Seat → Tree → Option Tree
+joins_written s t = or_else (joined_written t) (templates_written s t)
+
+abbrev pub masked_written : Seat → Tree → Option Tree
+masked_written s t = or_else (masks_written t) (joins_written s t)
+
+abbrev pub summed_written : Seat → Tree → Option Tree
+summed_written s t = or_else (texts_written s t) (masked_written s t)
+
+-- 3, and else those
+abbrev pub operator_written : Seat → Tree → Option Tree
+operator_written s t = or_else (literal_written s t) (summed_written s t)
+
+abbrev pub operator_by : Seat → Option BinaryOperator → Tree → Option Tree
+operator_by s (Some o) t = operator_written s t
+operator_by s None t = None
+
+abbrev pub binary_expression_written : Seat → Tree → Option Tree
+binary_expression_written s t = operator_by s (binary_operator t) t

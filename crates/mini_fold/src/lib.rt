@@ -11,6 +11,7 @@ pub use mini_terms::{ConstantValue, evaluate_value, is_true, operand_value, valu
 pub use rewrites::decrement_counter::{
     decrement_counter, decrement_counter as minimize_assignment_to_update_expression,
 };
+pub use rewrites::fold_binary::fold_binary_expr;
 pub use rewrites::fold_constants::{FoldConstants, fold_constant};
 pub use rewrites::fold_known::{
     FoldKnown, fold_conditional, fold_expression, fold_for, fold_logical_expression,
@@ -20,7 +21,7 @@ pub use rewrites::fold_operands::{FoldOperands, fold_operands};
 pub use rewrites::fold_operators::fold_delete;
 pub use rewrites::fold_sequences::{FoldSequences, fold_sequence_expression};
 pub use rewrites::fold_static_member::{
-    fold_static_member, fold_static_member as fold_static_member_expr,
+    fold_computed_member_expr, fold_static_member, fold_static_member as fold_static_member_expr,
 };
 pub use rewrites::fold_templates::{FoldTemplates, fold_templates, inline_template_literal};
 pub use rewrites::minimize_binary::minimize_binary;

@@ -2,6 +2,7 @@
 #![tactic(auto)]
 
 mod bodies;
+mod calls;
 mod calm;
 mod catches;
 mod declarations;
@@ -19,6 +20,10 @@ mod tallies;
 mod ways;
 
 pub use bodies::{remove_inside_arrow, remove_inside_function, remove_inside_module};
+pub use calls::{
+    should_remove_unused_declarator, substitute_within, try_remove_name_from_classes,
+    try_remove_name_from_functions,
+};
 pub use catches::{SubstituteCatches, substitute_catch_clause};
 pub use declarations::{
     RemoveUnusedDeclarations, declares_list, declares_name, has_statements, is_function,

@@ -203,7 +203,8 @@ fn joined_text(alloc: Global, left: &Node, right: &Node) -> Result<Option<Text>,
     }
 }
 
-fn first_of_first(node: Node) -> Node
+/// `a` of `a + b + c`
+pub fn first_of_first(node: Node) -> Node
     ensures { result ≡ part (part node 0) 0 }
 {
     one(one(node))
@@ -228,7 +229,8 @@ fn join_texts(alloc: Global, node: &mut Node) -> Result<bool, OutOfMemory>
     Ok(true)
 }
 
-fn fold_sum(alloc: Global, node: &mut Node, seat: Seat) -> Result<bool, OutOfMemory>
+/// `typeof a` of `typeof a + ""`, and `a + "st"` of `a + "s" + "t"`
+pub fn fold_sum(alloc: Global, node: &mut Node, seat: Seat) -> Result<bool, OutOfMemory>
     requires { count (children node.old) ≡ 2 }
     ensures tree { OnOk result (node.new ≡ unwrap_or (operand.sum_written seat (part node.old 0) (part node.old 1)) node.old) }
     ensures said { IfOk result (λ changed. changed ≡ is_some (operand.sum_written seat (part node.old 0) (part node.old 1))) }
@@ -610,8 +612,8 @@ fn fold_sides(
     }
 }
 
-// `b` of `a & b`
-fn second_of_first(node: Node) -> Node
+/// `b` of `a & b & c`
+pub fn second_of_first(node: Node) -> Node
     ensures { result ≡ part (part node 0) 1 }
 {
     last(one(node))

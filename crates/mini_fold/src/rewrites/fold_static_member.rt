@@ -9,10 +9,10 @@ ghost use Rattle.mini_terms.specs.Reading as term;
 ghost use Rattle.mini_terms.specs.Values.{value_in};
 ghost use Rattle.mini_node.specs.Kinds as kind;
 ghost use Rattle.mini_fold.specs.FoldConstants.{text_in, known_text, length_of as its_length};
-ghost use Rattle.mini_fold.specs.FoldStaticMember.{names_length as names_it_length, is_length_key as is_it_length_key, takes_length as may_take_length, asks_length as asks_it_length, count_of as its_count, written};
+ghost use Rattle.mini_fold.specs.FoldStaticMember.{names_length as names_it_length, is_length_key as is_it_length_key, says_length as says_it_length, takes_length as may_take_length, asks_length as asks_it_length, asks_computed as asks_it_computed, count_of as its_count, written, computed_written};
 
 use mini_model::{Guard, OutOfMemory, Seat, Shape};
-use mini_node::{Node, is_static_member, numeric_literal, string};
+use mini_node::{Node, is_computed_member, is_static_member, numeric_literal, string};
 use mini_terms::{ConstantValue, given_value, has_no_effect};
 use std::alloc::Global;
 
@@ -124,6 +124,39 @@ pub fn fold_static_member(alloc: Global, node: &mut Node, seat: Seat) -> bool
     ensures said { result ≡ is_some (written seat node.old) }
 {
     if !asks_length(node, seat) {
+        return false;
+    }
+    let Some(number) = count_of(alloc, node.child(0)) else {
+        return false;
+    };
+    *node = number;
+    true
+}
+
+// The text `length`.
+fn says_length(node: &Node) -> bool
+    ensures { result ≡ says_it_length (kind.string node.now) }
+{
+    match string(node) {
+        Some(text) => text.as_slice() == LENGTH.as_slice(),
+        None => false,
+    }
+}
+
+// `a["length"]`, where a number may stand.
+fn asks_computed(node: &Node, seat: Seat) -> bool
+    ensures kind { result ≡ asks_it_computed seat node.now }
+    ensures parts { result ≡ true → count (children node.now) ≡ 2 }
+{
+    is_computed_member(node) && says_length(node.child(1)) && takes_length(seat)
+}
+
+/// The same in brackets: `"abc"["length"]` becomes `3`. The answer says whether it did.
+pub fn fold_computed_member_expr(alloc: Global, node: &mut Node, seat: Seat) -> bool
+    ensures tree { node.new ≡ unwrap_or (computed_written seat node.old) node.old }
+    ensures said { result ≡ is_some (computed_written seat node.old) }
+{
+    if !asks_computed(node, seat) {
         return false;
     }
     let Some(number) = count_of(alloc, node.child(0)) else {

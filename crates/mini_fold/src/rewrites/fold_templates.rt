@@ -654,9 +654,9 @@ fn fold_sum_of_sum(alloc: Global, node: &mut Node, seat: Seat) -> Result<bool, O
     }
 }
 
-// A sum with a template in it.
+/// A sum with a template in it.
 #[tactic(auto, using(crate::proofs::Templates::two_operands, crate::proofs::Templates::plain_tree, crate::proofs::Templates::plain_said))]
-fn fold_sum(alloc: Global, node: &mut Node, seat: Seat) -> Result<bool, OutOfMemory>
+pub fn fold_sum(alloc: Global, node: &mut Node, seat: Seat) -> Result<bool, OutOfMemory>
     requires outer { its_binary_operator node.old ≡ Some Addition }
     requires sides { count (children node.old) ≡ 2 }
     ensures tree { OnOk result (node.new ≡ unwrap_or (template.added_written seat (part node.old 0) (part node.old 1)) node.old) }
