@@ -1,9 +1,9 @@
 -- The symbols that a statement declares in the scope around it, as the code gathers them, are those that it lets; and what is begun in a list of statements.
-use Rattle.std.proofs.Common.{◌≡◌, ℕ, zero, suc, ◌+◌, ◌<◌, Bool, true, false, List, [], ◌∷◌, Option, Some, None, refl, sym, ap, ◌∙◌, subst, subst₂, length, take, arith}
+use Rattle.std.proofs.Common.{◌≡◌, ℕ, ◌+◌, ◌<◌, Bool, true, false, List, [], ◌∷◌, Option, Some, None, refl, sym, ap, ◌∙◌, subst, subst₂, length, take}
 use Rattle.std.specs.Prelude.{◌&&◌, ◌||◌, ◌++◌, nat_eq, if◌then◌else◌}
 use Rattle.std.proofs.Math.Path.{fun_ext}
 use Rattle.std.proofs.Math.Seq.{take-append_seam}
-use Rattle.std.proofs.lemmas.Bool.{and_parts, false≢true}
+use Rattle.std.proofs.lemmas.Bool.{false≢true}
 use Rattle.std.proofs.lemmas.List.{append-nil, append_assoc}
 use Rattle.mini_model.specs.declared.kind.VariableDeclarationKind.TheVariants.{Var, Let, Const}
 use Rattle.mini_model.specs.declared.name.Name.{Name}
@@ -18,7 +18,7 @@ use Rattle.mini_laws.specs.Value.{Variable, Declared, choose, is_in, variable_by
 use Rattle.mini_node.specs.Children.{names, names_of, part}
 use Rattle.mini_rows.specs.Past.{is_binding}
 use Rattle.mini_kept.specs.Without.{Assured, BodySets}
-use Rattle.mini_rows.specs.Steady.{OwnRows, Symbols, behind, holds_statements, begun_at}
+use Rattle.mini_rows.specs.Steady.{OwnRows, Symbols, behind, holds_statements}
 use Rattle.mini_steady.specs.Declarations.{symbol_of, symbols_of, is_listed, Lets, Itself, Each, First, OfClass, NoName, lets_at, is_each, is_first, is_of_class, is_class_shape, is_negation, is_class, is_class_first, front_symbols, lets_by, lets_in, lets_among, lets_first, lets_if, unlisted, known_there, known_of, begun_by}
 use Rattle.mini_steady.specs.Own.{KeepsEach, begun_in, rows_there, OwnWalked, AppliedHere, AsBefore, BeginsBesides}
 use Rattle.mini_steady.specs.declared.code.BodyCode.{BodyCode}

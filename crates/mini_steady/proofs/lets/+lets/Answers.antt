@@ -1,4 +1,4 @@
-use Rattle.std.proofs.Common.{ap, ◌∙◌, refl, arith}
+use Rattle.std.proofs.Common.{refl, arith}
 use Rattle.mini_steady.specs.Declarations.{lets_among}
 use Rattle.mini_steady.proofs.Letting.{gathers}
 use Rattle.mini_steady.proofs.Gathering.{child_falls, before_turns, turn, after_turns}

@@ -1,4 +1,4 @@
-use Rattle.std.proofs.Common.{ap, sym, ◌∙◌, refl, subst, arith}
+use Rattle.std.proofs.Common.{ap, sym, ◌∙◌, refl, arith}
 use Rattle.mini_model.specs.Tree.{count}
 use Rattle.mini_tree.proofs.Walks.{child_smaller}
 use Rattle.mini_rows.specs.Steady.{holds_statements}
