@@ -6,7 +6,7 @@ use Rattle.mini_model.specs.declared.place.Position.TheVariants.{Stmt}
 use Rattle.mini_model.specs.Tree.{Tree}
 use Rattle.mini_kept.specs.Without.{Assured}
 use Rattle.mini_rows.specs.PastBlocks.{PastBlockRow, PastBlocks}
-use Rattle.mini_rows.proofs.PastBlockKept.{blocks_lighten, blocks_declare}
+use Rattle.mini_rows.proofs.PastBlockKept.{blocks_lighten, blocks_read, blocks_declare, blocks_bound}
 use Rattle.mini_steady.specs.Chains.{Several}
 use Rattle.mini_steady.specs.Own.{is_open, ReadsOpen, KeepsEach}
 
@@ -20,6 +20,6 @@ pub blocks_open : ReadsOpen PastBlocks
 blocks_open V (Stmt q) n w r = ap is_open r.shape
 blocks_open V p n w r = absurd r
 
--- and what it writes declares no other name, and is lighter
+-- and what it writes is read alike, declares no other name and no symbol more often, and is lighter
 pub blocks_keep : KeepsEach PastBlocks
-blocks_keep V = record { declared = blocks_declare V; lightens = blocks_lighten V }
+blocks_keep V = record { reads = blocks_read V; declared = blocks_declare V; bound = blocks_bound V; lightens = blocks_lighten V }

@@ -1,5 +1,5 @@
 -- What is written in place of a statement that declares names keeps what it has to keep, and is lighter.
-use Rattle.std.proofs.Common.{◌≡◌, ◌<◌, Bool, true, false, List, [], ◌∷◌, ◌++◌, refl, sym, ap, subst, subst₂, ◌∙◌, inl, inr, arith, true≢false}
+use Rattle.std.proofs.Common.{◌≡◌, ◌<◌, ◌≤◌, ℕ, Bool, true, false, List, [], ◌∷◌, ◌++◌, refl, sym, ap, subst, subst₂, ◌∙◌, inl, inr, arith, true≢false}
 use Rattle.std.proofs.lemmas.Bool.{and_parts}
 use Rattle.std.proofs.lemmas.List.{append-nil}
 use Rattle.std.specs.Prelude.{Option, None, Some, ◌&&◌, not, map, if◌then◌else◌}
@@ -9,7 +9,7 @@ use Rattle.mini_model.specs.declared.kind.PropertyKind.{PropertyKind}
 use Rattle.mini_model.specs.declared.place.Position.{Position}
 use Rattle.mini_model.specs.declared.place.Position.TheVariants.{Stmt}
 use Rattle.mini_model.specs.declared.seat.StmtSeat.{StmtSeat}
-use Rattle.mini_model.specs.Tree.{Tree, Trees, shape_of}
+use Rattle.mini_model.specs.Tree.{Tree, Trees, none, ◌▸◌, shape_of}
 use Rattle.mini_model.specs.Weight.{weight}
 use Rattle.mini_laws.specs.Value.{VariableSet}
 use Rattle.mini_laws.specs.declared.names.Use.TheVariants.{Read}
@@ -24,9 +24,11 @@ use Rattle.mini_kept.specs.AlikeBodies.{BodiesKept}
 use Rattle.mini_kept.specs.Frames.{frames, FramesKept}
 use Rattle.mini_kept.proofs.BodyLists.{kept_itself}
 use Rattle.mini_kept.proofs.FrameLists.{same_frames}
-use Rattle.mini_rows.specs.Steady.{LexicalRows, LexicalKeepsOwn, ReadsMore}
+use Rattle.mini_rows.specs.Steady.{bindings, all_bindings, LexicalRows, LexicalKeepsOwn, ReadsMore}
 use Rattle.mini_rows.specs.Lexical.{is_of, is_of_by, is_of_outside, all_pass, are_held, LexicalStatement, LexicalRow, LexicalLightens}
-use Rattle.mini_rows.specs.Loops.{before}
+use Rattle.mini_rows.specs.Cases.{ended}
+use Rattle.mini_rows.specs.Lists.{block, for_loop}
+use Rattle.mini_rows.specs.Loops.{before, Tested, always, while_true, test_of, also, Leaving, alone, or_else, unless, leaves_by, goes_by, runs_on}
 use Rattle.mini_rows.specs.Unused.{names}
 use Rattle.mini_rows.proofs.BranchLawful.{IsKind, Kind, kind_along, row_80_case, row_84_kind, kinds_shapes, placed_at, kept_at}
 use Rattle.mini_rows.proofs.BranchWeights.{Outlined, outlined}
@@ -120,6 +122,25 @@ statement_frames : (V : VariableSet) (n w : Tree) → LexicalStatement V n w →
 statement_frames V n w (inl r) k = same_frames (frames k n) (frames k w) (ap (frames k) r.shape ∙ case_frames r.discriminant r.is_ended r.statements r.stays r.test ∙ sym (ap (frames k) r.written))
 statement_frames V n w (inr r) k = subst₂ FramesKept (sym (ap (frames k) r.shape)) (sym (ap (frames k) r.written)) (loop_frames r.init r.update r.x r.test (before r.others) r.leaving)
 
+-- names are declared in it as often
+
+ended_bound : (k : ℕ) (b : Bool) (ts : Trees) → all_bindings k (ended b ts) ≡ all_bindings k ts
+ended_bound k true none = refl
+ended_bound k true (t ▸ ts) = omega (arith, ended_bound k true ts)
+ended_bound k false ts = refl
+
+loop_bound : (k : ℕ) (init update x : Tree) (test : Tested) (l : Leaving) (ts : Trees) → bindings k (for_loop init (also test (goes_by l x)) update (block (runs_on l ▸ ts))) ≤ bindings k (for_loop init (test_of test) update (block (leaves_by l x ▸ ts)))
+loop_bound k init update x always alone ts = omega arith
+loop_bound k init update x always (or_else s) ts = omega arith
+loop_bound k init update x always (unless s) ts = omega arith
+loop_bound k init update x (while_true t) alone ts = omega arith
+loop_bound k init update x (while_true t) (or_else s) ts = omega arith
+loop_bound k init update x (while_true t) (unless s) ts = omega arith
+
+statement_bound : (V : VariableSet) (n w : Tree) → LexicalStatement V n w → (k : ℕ) → bindings k w ≤ bindings k n
+statement_bound V n w (inl r) k = omega (arith, ap (bindings k) r.shape, ap (bindings k) r.written, ended_bound k r.is_ended r.statements)
+statement_bound V n w (inr r) k = subst₂ (λ v u. bindings k u ≤ bindings k v) (sym r.shape) (sym r.written) (loop_bound k r.init r.update r.x r.test r.leaving r.others)
+
 module _ (V : VariableSet) where
   -- what holds of each holds at its place
   at_place : (G : Position → Tree → Tree → Type 0) → ((q : StmtSeat) (n w : Tree) → LexicalStatement V n w → G (Stmt q) n w) → (p : Position) (n w : Tree) → LexicalRow V p n w → G p n w
@@ -143,6 +164,7 @@ lexical_own V = record {
   };
   fixed = λ p n w r. (kept_at p n w (lexical_kind V.unshared p n w r)).fixed;
   declared = λ p n w r. (kept_at p n w (lexical_kind V.unshared p n w r)).declared;
+  bound = at_place V.unshared (λ p n w. (k : ℕ) → bindings k w ≤ bindings k n) (λ q. statement_bound V.unshared);
   bodies = at_place V.unshared (λ p n w. (a : Around) → BodiesKept (bodies a n) (bodies a w)) (λ q. statement_bodies V.unshared);
   frames = at_place V.unshared (λ p n w. (k : Option PropertyKind) → FramesKept (frames k n) (frames k w)) (λ q. statement_frames V.unshared);
   lightens = lexical_lightens V.unshared;

@@ -135,6 +135,7 @@ pub mod SteadyKept
 pub mod SteadyLawful
 pub mod OwnArrowLawful
 pub mod Unbound
+pub mod Valued
 pub mod PastSpared
 pub mod PastRuns
 pub mod PastParts

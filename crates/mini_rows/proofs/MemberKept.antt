@@ -1,5 +1,5 @@
 -- What a row of members writes means the same where that is so which is known of the body, is built anew of the same parts, and is lighter.
-use Rattle.std.proofs.Common.{◌≡◌, ◌<◌, ℕ, suc, Bool, true, false, List, [], ◌∷◌, refl, sym, ap, subst₂, ◌∙◌, inl, inr, arith}
+use Rattle.std.proofs.Common.{◌≡◌, ◌<◌, ◌≤◌, ◌+◌, ℕ, suc, Bool, true, false, List, [], ◌∷◌, refl, sym, ap, subst₂, ◌∙◌, inl, inr, arith}
 use Rattle.std.specs.Prelude.{◌++◌, Option, Some, nat_eq}
 use Rattle.mini_model.specs.declared.kind.PropertyKind.{PropertyKind}
 use Rattle.mini_model.specs.declared.operator.AssignmentOperator.{AssignmentOperator}
@@ -34,6 +34,7 @@ use Rattle.mini_rows.specs.Lists.{sequence}
 use Rattle.mini_rows.specs.Members.{this, Object, OfThis, OfName, object, is_kept, are_left, is_ready, Index, Written, Held, member_at, is_kept_index, is_ready_index, MemberRow}
 use Rattle.mini_rows.specs.Sketches.{Logical, Binary, Conditional, Sequence, Sketch, part, under, end, ◌▹◌, list, no_items, item, items}
 use Rattle.mini_rows.specs.Spellings.{binary, assignment}
+use Rattle.mini_rows.specs.Steady.{bindings, all_bindings}
 use Rattle.mini_rows.specs.Unused.{resolved}
 use Rattle.mini_rows.proofs.ArrangedExpressions.{expressions_arranged_freely}
 use Rattle.mini_rows.proofs.ChoiceLawful.{member_reads, member_vanishes, retargeted_tree, first_dropped, assigns_first}
@@ -56,6 +57,7 @@ pub record Keeps (V : Assured) (s : Seat) (n w : Tree) : Type 0 where
   pub fit : (strict : Bool) (c : Slot) → fits strict c n ≡ true → fits strict c w ≡ true
   pub bodies : (a : Around) → bodies a n ≡ bodies a w
   pub frames : (k : Option PropertyKind) → frames k n ≡ frames k w
+  pub bound : (k : ℕ) → bindings k w ≤ bindings k n
   pub lighter : weight (Expr s) w < weight (Expr s) n
   pub read : summary n ≡ summary w
   pub kind : arrow_kind (shape_of n) ≡ arrow_kind (shape_of w)
@@ -143,6 +145,11 @@ frames_at : (ps : Trees) (t u : Tree) (kind : ℕ → Option PropertyKind) (i : 
 frames_at none t u kind i h = ap (λ xs. xs ++ []) (h i)
 frames_at (p ▸ ps) t u kind i h = ap (λ xs. frames (kind i) p ++ xs) (frames_at ps t u kind (suc i) h)
 
+-- names are declared in them as often, part by part
+declared_at : (ps : Trees) (t : Tree) (k : ℕ) → all_bindings k (append ps (t ▸ none)) ≡ all_bindings k ps + bindings k t
+declared_at none t k = omega arith
+declared_at (p ▸ ps) t k = omega (arith, declared_at ps t k)
+
 -- ---- 38
 
 deciding_falls : (o : LogicalOperator) (s : Seat) (t : Tree) (j : Key) (b : Tree) → weight (Expr s) (assignment (deciding o) (member_on t j) b) < weight (Expr s) (logical o (member_on t j) (assignment Assign (member_on t j) b))
@@ -178,6 +185,7 @@ module _ (V : Assured) (s : Seat) (of : Object) (j : Key) (o : LogicalOperator) 
     fit = decided_fits (assignment Assign m b) b (λ strict e. (of_member_assignment strict (object of) j b e).1);
     bodies = λ a. one_goes _ _ _ (no_bodies of j _) (no_bodies of j _) (no_bodies of j _) (bodies _ b);
     frames = λ k. one_goes _ _ _ (no_frames of j _) (no_frames of j _) (no_frames of j _) (frames _ b);
+    bound = λ i. omega arith;
     lighter = deciding_falls o s (object of) j b;
     read = refl;
     kind = refl;
@@ -208,6 +216,7 @@ module _ (V : Assured) (s : Seat) (of : Object) (j : Key) (o : LogicalOperator) 
         fit = decided_fits w v (λ strict e. last_fits strict p ps (assignment Assign m b) e b (λ f. (of_member_assignment strict (object of) j b f).1));
         bodies = λ a. before_goes _ _ _ _ (no_bodies of j _) (no_bodies of j _) (last_bodies p ps b (below a (shape.LogicalExpression o) none 1));
         frames = λ k. before_goes _ _ _ _ (no_frames of j _) (no_frames of j _) (last_frames p ps b (property_below (shape.LogicalExpression o) 1));
+        bound = λ i. omega (arith, declared_at ps (assignment Assign m b) i, declared_at ps b i);
         lighter = last_falls o s m p ps b seated (λ q. member_heavy q (object of) j);
         read = refl;
         kind = refl;
@@ -232,6 +241,7 @@ module _ (V : Assured) (s : Seat) (j : Key) (known : V.has_this ≡ true) where
             expression_taken strict d (assignment c this_member b) here (member_assignment_fits strict c this j b target (of_two strict this_member b rest).1);
         bodies = λ a. one_goes _ _ _ (no_bodies OfThis j _) (no_bodies OfThis j _) (no_bodies OfThis j _) (bodies _ b);
         frames = λ k. one_goes _ _ _ (no_frames OfThis j _) (no_frames OfThis j _) (no_frames OfThis j _) (frames _ b);
+        bound = λ i. omega arith;
         lighter = computing_member_falls o c computes s this j b;
         read = refl;
         kind = refl;
@@ -258,6 +268,7 @@ module _ (V : Assured) (s : Seat) (of : Object) (j : Index) (known : is_kept V o
             expression_taken strict d w here (indexed_fit strict target a b c test first second);
         bodies = λ x. two_go _ _ _ (index_bodies of j _) (index_bodies of j _) (index_bodies of j _) (bodies _ a) (bodies _ b) (bodies _ c);
         frames = λ k. two_go _ _ _ (index_frames of j _) (index_frames of j _) (index_frames of j _) (frames _ a) (frames _ b) (frames _ c);
+        bound = λ i. omega arith;
         lighter = indexed_falls s seated target a b c;
         read = refl;
         kind = refl;

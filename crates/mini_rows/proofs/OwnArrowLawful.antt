@@ -1,6 +1,6 @@
 -- What a row writes in the own code of an arrow function is lawful where that is so which is known of its body.
 use Rattle.std.specs.Prelude.{ℕ, ◌≡◌, ◌<◌, ◌⊎◌, refl, Bool, true, false, List, [], ◌∷◌, ◌++◌, None, Contains}
-use Rattle.std.proofs.Common.{ap, ◌∙◌, sym, subst, inl, inr, true≢false}
+use Rattle.std.proofs.Common.{ap, ◌∙◌, sym, subst, inl, inr, true≢false, arith}
 use Rattle.mini_model.specs.declared.name.Name.{Name}
 use Rattle.mini_model.specs.declared.place.Position.{Position}
 use Rattle.mini_model.specs.declared.place.Position.TheVariants.{Expr}
@@ -47,11 +47,11 @@ use Rattle.mini_kept.proofs.Stepping.{step_keeps}
 use Rattle.mini_kept.proofs.Steps.{any_step_fits}
 use Rattle.mini_kept.proofs.WithoutLists.{each_under, itself_under}
 use Rattle.mini_kept.proofs.FrameLists.{each_of as each_frame}
-use Rattle.mini_rows.specs.Steady.{known_in, KeepsOwn, OwnRows, OwnStep, own_here, own_inside, OwnFunction, SteadyRow, LexicalRows}
+use Rattle.mini_rows.specs.Steady.{Symbols, no_symbols, known_in, own_rows, KeepsOwn, OwnRows, OwnStep, own_here, own_inside, OwnFunction, SteadyRow, LexicalRows}
 use Rattle.mini_rows.specs.OwnArrows.{arrow_over, OwnArrow, OwnCodeIsLawful, OwnCodeLightens, SteadyCodeIsLawful, SteadyCodeLightens, LexicalCodeIsLawful, LexicalCodeLightens}
 use Rattle.mini_rows.proofs.LexicalKept.{lexical_own}
 use Rattle.mini_rows.proofs.SteadyKept.{steady_own}
-use Rattle.mini_rows.proofs.SteadyLawful.{known_off, known_begins, known_steady, forget, own_read, own_bodies, own_frames, own_runs, kept_under, functions_lawful, functions_lighten}
+use Rattle.mini_rows.proofs.SteadyLawful.{AnyRow, KeepsForm, any_form, known_off, known_begins, forget, own_read, own_bodies, own_frames, own_runs, kept_under, functions_lawful, functions_lighten}
 
 -- ---- an arrow function is made alike, whatever its body is
 
@@ -103,13 +103,13 @@ pub body_fits : (h : Shape) → Fits (Expr argument_seat) (body_demand (arrow_ki
 body_fits shape.FunctionBody = refl
 body_fits h = (λ t. absurd (true≢false (sym t)), λ t. absurd (true≢false (sym t)))
 
-own_kind : (V : Assured) (R : Position → Tree → Tree → Type 0) → KeepsOwn V R → {p : Position} {t u : Tree} → OwnStep R p t u → arrow_kind (shape_of t) ≡ arrow_kind (shape_of u)
-own_kind V R k (own_here p n w r) = k.kind p n w r
-own_kind V R k (own_inside p h xs ts us b s) = refl
+own_kind : (F : OwnRows) → ((V : Assured) → KeepsOwn V (F V)) → (c : Tree) (V : Assured) {L : Symbols} {p : Position} {t u : Tree} → OwnStep (own_rows F c V) L p t u → arrow_kind (shape_of t) ≡ arrow_kind (shape_of u)
+own_kind F keeps c V (own_here L p n w r) = (any_form F keeps).kind p n w (known_in c V L, r)
+own_kind F keeps c V (own_inside L p h xs ts us b s) = refl
 
 -- ---- an instance
 
-module _ (F : OwnRows) (keeps : (V : Assured) → KeepsOwn V (F V)) (S : BodySets) (W : VariableSet) (q : Seat) (ds : List (List ℕ)) (k : ℕ) (ps t u : Tree) (s : OwnStep (F (known_in t (S k))) (Expr argument_seat) t u) where
+module _ (F : OwnRows) (keeps : (V : Assured) → KeepsOwn V (F V)) (S : BodySets) (W : VariableSet) (q : Seat) (ds : List (List ℕ)) (k : ℕ) (ps t u : Tree) (s : OwnStep (own_rows F t (S k)) no_symbols (Expr argument_seat) t u) where
   abbrev p : Position
   p = Expr q
 
@@ -119,26 +119,26 @@ module _ (F : OwnRows) (keeps : (V : Assured) → KeepsOwn V (F V)) (S : BodySet
   abbrev f' : Tree
   f' = arrow_over ds k ps u
 
-  abbrev V : Assured
-  V = known_in t (S k)
+  abbrev Q : Position → Tree → Tree → Type 0
+  Q = AnyRow F
 
-  own : KeepsOwn V (F V)
-  own = keeps V
+  own : KeepsForm Q
+  own = any_form F keeps
 
-  whole : Step (F V) p f f'
-  whole = inside p (shape.ArrowFunctionExpression ds) [] k (ps ▸ (t ▸ none)) (ps ▸ (u ▸ none)) (later _ ps (t ▸ none) (u ▸ none) (first _ t u none (forget V (F V) own s)))
+  whole : Step Q p f f'
+  whole = inside p (shape.ArrowFunctionExpression ds) [] k (ps ▸ (t ▸ none)) (ps ▸ (u ▸ none)) (later _ ps (t ▸ none) (u ▸ none) (first _ t u none (forget F keeps t (S k) s)))
 
   whole_fits : (strict : Bool) (c : Slot) → fits_place p c ≡ true → fits strict c f ≡ true → fits strict c f' ≡ true
-  whole_fits strict c z e = any_step_fits (F V) own.names own.shapes whole strict c z e
+  whole_fits strict c z e = any_step_fits Q own.names own.shapes whole strict c z e
 
   whole_keeps : (strict : Bool) (c : Slot) → fits_place p c ≡ true → fits strict c f ≡ true → KeepsLoosely p f f'
-  whole_keeps strict c z e = step_keeps (F V) own.names whole strict c z e
+  whole_keeps strict c z e = step_keeps Q own.names whole strict c z e
 
   whole_declares : (x : Name) → Contains (declared f') x → Contains (declared f) x
-  whole_declares = reaches_declared (F V) own.declared (more p f f' f' whole (done p f'))
+  whole_declares = reaches_declared Q own.declared (more p f f' f' whole (done p f'))
 
   whole_fixed : (x : Variable) → fixed_by f x ≡ fixed_by f' x
-  whole_fixed x = step_fixed nothing (F V) (record { reads = own.reads; fixed = λ q n w r y c. own.fixed q n w r y }) whole x refl
+  whole_fixed x = step_fixed nothing Q (record { reads = own.reads; fixed = λ q n w r y c. own.fixed q n w r y }) whole x refl
 
   abbrev own_frame : List Frame
   own_frame = frame_of None (shape.ArrowFunctionExpression ds) k (frame_outline (shape.ArrowFunctionExpression ds) [] k (ps ▸ (t ▸ none))) (globals (shape.ArrowFunctionExpression ds) (ps ▸ (t ▸ none)))
@@ -147,7 +147,7 @@ module _ (F : OwnRows) (keeps : (V : Assured) → KeepsOwn V (F V)) (S : BodySet
   after es fs gs h = each_frame es fs es gs (λ f m. m) h
 
   whole_frames : FramesKept (frames None f) (frames None f')
-  whole_frames = after own_frame _ _ (after (frames None ps) _ _ (each_frame (frames None t) [] (frames None u) [] (own_frames V (F V) own s None) (λ f m. m)))
+  whole_frames = after own_frame _ _ (after (frames None ps) _ _ (each_frame (frames None t) [] (frames None u) [] (own_frames F keeps t (S k) s None) (λ f m. m)))
 
   abbrev own_body : Around → Tree → List Body
   own_body a v = body_of a (shape.ArrowFunctionExpression ds) k (arrow_over ds k ps v) (ps ▸ (v ▸ none))
@@ -159,14 +159,14 @@ module _ (F : OwnRows) (keeps : (V : Assured) → KeepsOwn V (F V)) (S : BodySet
   kind_of v = arrow_kind (shape_of v)
 
   runs : (e : Environment) → Steadies (S k) e → (X : VariableSet) → Begins (S k) X → RunsAs e (kind_of t) (kind_of u) X t u
-  runs e z X b = subst (λ l. RunsAs e (kind_of t) l X t u) (own_kind V (F V) own s) (own_runs V (F V) own e (known_steady t (S k) e z) s (known_off t (S k)) (kind_of t) (body_fits (shape_of t)) X (known_begins t (S k) X b))
+  runs e z X b = subst (λ l. RunsAs e (kind_of t) l X t u) (own_kind F keeps t (S k) s) (own_runs F keeps t (S k) e z s (λ j. omega arith) (known_off t (S k)) (kind_of t) (body_fits (shape_of t)) X (known_begins t (S k) X b))
 
   whole_bodies : (a : Around) → BodiesUnder W S nothing (bodies a f) (bodies a f')
   whole_bodies a =
       each_under W S nothing (own_body a t) (bodies (below_it a 0) ps ++ (bodies (below_it a 1) t ++ [])) (own_body a u) (bodies (below_it a 0) ps ++ (bodies (below_it a 1) u ++ []))
-      (inl (record { number = refl; kind = inl (own_kind V (F V) own s); strict = refl; asks_this = refl; same = λ e z y X g. runs e y X g }), tt)
+      (inl (record { number = refl; kind = inl (own_kind F keeps t (S k) s); strict = refl; asks_this = refl; same = λ e z y X g. runs e y X g }), tt)
       (each_under W S nothing (bodies (below_it a 0) ps) _ (bodies (below_it a 0) ps) _ (itself_under W S nothing (bodies (below_it a 0) ps))
-      (each_under W S nothing (bodies (below_it a 1) t) [] (bodies (below_it a 1) u) [] (kept_under S W (bodies (below_it a 1) t) (bodies (below_it a 1) u) (own_bodies V (F V) own s (below_it a 1))) tt))
+      (each_under W S nothing (bodies (below_it a 1) t) [] (bodies (below_it a 1) u) [] (kept_under S W (bodies (below_it a 1) t) (bodies (below_it a 1) u) (own_bodies F keeps t (S k) s (below_it a 1))) tt))
 
   whole_steadies : SteadiesWith W S p f f'
   whole_steadies = record {
@@ -180,7 +180,7 @@ module _ (F : OwnRows) (keeps : (V : Assured) → KeepsOwn V (F V)) (S : BodySet
 
 module _ (F : OwnRows) (keeps : (V : Assured) → KeepsOwn V (F V)) (S : BodySets) where
   -- what holds of each such arrow function holds of what a row reads and writes
-  by_row : (P : Position → Tree → Tree → Type 0) → ((q : Seat) (ds : List (List ℕ)) (k : ℕ) (ps t u : Tree) → OwnStep (F (known_in t (S k))) (Expr argument_seat) t u → P (Expr q) (arrow_over ds k ps t) (arrow_over ds k ps u)) → (p : Position) (n w : Tree) → OwnArrow F S p n w → P p n w
+  by_row : (P : Position → Tree → Tree → Type 0) → ((q : Seat) (ds : List (List ℕ)) (k : ℕ) (ps t u : Tree) → OwnStep (own_rows F t (S k)) no_symbols (Expr argument_seat) t u → P (Expr q) (arrow_over ds k ps t) (arrow_over ds k ps u)) → (p : Position) (n w : Tree) → OwnArrow F S p n w → P p n w
   by_row P h (Expr q) n w r = subst (λ v. P (Expr q) v w) (sym r.shape) (subst (P (Expr q) (arrow_over r.directives r.number r.parameters r.before)) (sym r.written) (h q r.directives r.number r.parameters r.before r.after r.step))
   by_row P h p n w r = absurd r
 
@@ -201,7 +201,7 @@ module _ (F : OwnRows) (keeps : (V : Assured) → KeepsOwn V (F V)) (S : BodySet
       listed = λ p n w e c. absurd (by_row (λ p n w. is_statement_list p ≡ true → ⊥) (λ q ds k ps t u s e. cc e) p n w c e);
       exported = by_row (λ p n w. (strict : Bool) → fits strict (one a_default_export) n ≡ true → NoDeclaration n w ⊎ KeepsFunction n w) (λ q ds k ps t u s strict e. inl (refl, refl));
     };
-    reads = by_row (λ p n w. summary n ≡ summary w) (λ q ds k ps t u s. ap (λ i. summary_of (shape.ArrowFunctionExpression ds) [] k (summary ps ∷ (i ∷ []))) (own_read (known_in t (S k)) (F (known_in t (S k))) (keeps (known_in t (S k))) s));
+    reads = by_row (λ p n w. summary n ≡ summary w) (λ q ds k ps t u s. ap (λ i. summary_of (shape.ArrowFunctionExpression ds) [] k (summary ps ∷ (i ∷ []))) (own_read F keeps t (S k) s));
     kind = by_row (λ p n w. (strict : Bool) (c : Slot) → fits strict c n ≡ true → arrow_kind (shape_of n) ≡ arrow_kind (shape_of w)) (λ q ds k ps t u s strict c e. refl);
     declared = by_row (λ p n w. (x : Name) → Contains (declared w) x → Contains (declared n) x) (λ q ds k ps t u s. whole_declares F keeps S W q ds k ps t u s);
     instances = λ p n w c. inl (by_row (SteadiesWith W S) (λ q ds k ps t u s. whole_steadies F keeps S W q ds k ps t u s) p n w c);
@@ -210,7 +210,7 @@ module _ (F : OwnRows) (keeps : (V : Assured) → KeepsOwn V (F V)) (S : BodySet
   -- ---- lighter
 
   arrow_lighter : (p : Position) (n w : Tree) → OwnArrow F S p n w → weight p w < weight p n
-  arrow_lighter = by_row (λ p n w. weight p w < weight p n) (λ q ds k ps t u s. any_step_lighter (F (known_in t (S k))) (keeps (known_in t (S k))).lightens (Expr q) _ _ (whole F keeps S nothing q ds k ps t u s))
+  arrow_lighter = by_row (λ p n w. weight p w < weight p n) (λ q ds k ps t u s. any_step_lighter (AnyRow F) (any_form F keeps).lightens (Expr q) _ _ (whole F keeps S nothing q ds k ps t u s))
 
   arrow_outline : (p : Position) (n w : Tree) → OwnArrow F S p n w → outline n ≡ outline w
   arrow_outline = by_row (λ p n w. outline n ≡ outline w) (λ q ds k ps t u s. refl)

@@ -1,7 +1,7 @@
 -- What a row writes in the own code of a static block or an inner expression keeps the program, where that is so which is known of its body:
 -- the node around evaluates none of its children, so that all but that body run as before.
-use Rattle.std.specs.Prelude.{ℕ, suc, ◌≡◌, ◌<◌, ◌||◌, refl, Bool, true, false, List, [], ◌∷◌, ◌++◌, None, not}
-use Rattle.std.proofs.Common.{ap, ◌∙◌, sym, subst, inl, inr, true≢false}
+use Rattle.std.specs.Prelude.{ℕ, suc, ◌≡◌, ◌<◌, ◌||◌, refl, Bool, true, false, List, [], ◌∷◌, ◌++◌, None, not, ◌≤◌}
+use Rattle.std.proofs.Common.{ap, ◌∙◌, sym, subst, inl, inr, true≢false, arith}
 use Rattle.mini_model.specs.declared.name.Name.{Name}
 use Rattle.mini_model.specs.declared.place.Position.{Position}
 use Rattle.mini_model.specs.declared.place.Position.TheVariants.{StatementList, Elsewhere}
@@ -16,8 +16,7 @@ use Rattle.mini_laws.specs.Value.{VariableSet, choose, nothing, variables}
 use Rattle.mini_laws.specs.Fixity.{written_in}
 use Rattle.mini_laws.specs.Naming.{summary, summary_of, summaries, facts_all, nth_absent}
 use Rattle.mini_laws.specs.Rows.{SameAt}
-use Rattle.mini_laws.specs.Skeleton.{Within, Off, hidden}
-use Rattle.mini_laws.specs.State.{Environment}
+use Rattle.mini_laws.specs.Skeleton.{Off, hidden}
 use Rattle.mini_laws.specs.Body.{FunctionStatements, InnerValue, InnerTarget}
 use Rattle.mini_laws.specs.Bodies.{Around, outermost, below, Body, bodies, bodies_from, bodies_in, body_of, arrow_kind}
 use Rattle.mini_laws.specs.Weights.{Lightens}
@@ -34,7 +33,7 @@ use Rattle.mini_kept.specs.Loosely.{undeclared, ProgramIsKeptUnder}
 use Rattle.mini_kept.specs.Rooted.{is_body, LawfulRooted}
 use Rattle.mini_kept.specs.ShownFrames.{KeyGivenUnder, KeyGiven, none_gone, gone_from, FramesShown}
 use Rattle.mini_kept.specs.Standing.{is_asked_whole, is_unseated}
-use Rattle.mini_kept.specs.Without.{Assured, BodySets, Steadies, Begins, BodiesUnder, KeepsBodiesUnder}
+use Rattle.mini_kept.specs.Without.{Assured, BodySets, BodiesUnder, KeepsBodiesUnder}
 use Rattle.mini_kept.proofs.BodyPlaces.{assigned_below, Unseats, unseats_first, unseats_later, unseats_all}
 use Rattle.mini_kept.proofs.BodySteps.{value_fits, target_fits, step_under, whole_stands}
 use Rattle.mini_kept.proofs.Declared.{reaches_declared}
@@ -45,37 +44,35 @@ use Rattle.mini_kept.proofs.ShownFrames.{all_frames_more, none_less, given_seldo
 use Rattle.mini_kept.proofs.Whole.{any_reaches_keep}
 use Rattle.mini_kept.proofs.WithoutLists.{nothing_part, part_itself, each_itself, more_under, each_under, itself_under}
 use Rattle.mini_rows.specs.OwnParts.{block_over, inner_over, OwnPart, OwnPartsAreLawful, OwnPartsLighten, SteadyPartsAreLawful, SteadyPartsLighten, LexicalPartsAreLawful, LexicalPartsLighten}
-use Rattle.mini_rows.specs.Steady.{known_in, KeepsOwn, OwnRows, OwnStep, own_first, has_body, SteadyRow, LexicalRows}
+use Rattle.mini_rows.specs.Steady.{bindings, no_symbols, own_rows, KeepsOwn, OwnRows, OwnStep, own_first, has_body, SteadyRow, LexicalRows}
 use Rattle.mini_rows.proofs.LexicalKept.{lexical_own}
-use Rattle.mini_rows.proofs.OwnProgramLawful.{steady_places, lexical_places}
+use Rattle.mini_rows.proofs.OwnProgramLawful.{any_places, steady_places, lexical_places}
 use Rattle.mini_rows.proofs.PartPlaces.{is_part, is_inert, Bare, bare_here, bare_inside, BareIn, bare_first, bare_later, Innermost, innermost, step_innermost}
 use Rattle.mini_rows.proofs.PartRuns.{inert_same}
 use Rattle.mini_rows.proofs.SteadyKept.{steady_own}
-use Rattle.mini_rows.proofs.SteadyLawful.{over_off, known_begins, known_steady, forget, own_read, own_bodies, own_runs_over, kept_under}
+use Rattle.mini_rows.proofs.SteadyLawful.{AnyRow, KeepsForm, any_form, at_start, over_off, known_begins, forget, own_read, own_bodies, own_runs_over, kept_under}
 
 -- ---- a part, which is itself its body
 
 module _ (F : OwnRows) (S : BodySets) where
   -- what holds of each such block, and of each such inner expression, holds of what a row reads and writes
-  by_row : (P : Position → Tree → Tree → Type 0) → ((p : Position) (k : ℕ) (t u : Tree) → OwnStep (F (known_in t (S k))) StatementList t u → P p (block_over k t) (block_over k u)) → ((p : Position) (k : ℕ) (t u : Tree) → OwnStep (F (known_in t (S k))) p t u → P p (inner_over k t) (inner_over k u)) → (p : Position) (n w : Tree) → OwnPart F S p n w → P p n w
+  by_row : (P : Position → Tree → Tree → Type 0) → ((p : Position) (k : ℕ) (t u : Tree) → OwnStep (own_rows F t (S k)) no_symbols StatementList t u → P p (block_over k t) (block_over k u)) → ((p : Position) (k : ℕ) (t u : Tree) → OwnStep (own_rows F t (S k)) no_symbols p t u → P p (inner_over k t) (inner_over k u)) → (p : Position) (n w : Tree) → OwnPart F S p n w → P p n w
   by_row P b i p n w (inl r) = subst (λ v. P p v w) (sym r.shape) (subst (P p (block_over r.number r.before)) (sym r.written) (b p r.number r.before r.after r.step))
   by_row P b i p n w (inr r) = subst (λ v. P p v w) (sym r.shape) (subst (P p (inner_over r.number r.before)) (sym r.written) (i p r.number r.before r.after r.step))
 
--- a part with a number, whose code takes a step by a relation, and in which no scope hides the variables that V says to have values
-data Part (R : Position → Tree → Tree → Type 0) (V : Assured) (k : ℕ) : Position → Tree → Tree → Type 0 where
-  a_block : (p : Position) (t u : Tree) → OwnStep R StatementList t u → Off (hidden (block_over k t)) V.initial → Part R V k p (block_over k t) (block_over k u)
-  an_inner : (p : Position) (t u : Tree) → OwnStep R p t u → Off (hidden (inner_over k t)) V.initial → Part R V k p (inner_over k t) (inner_over k u)
+-- a part with a number, of whose code c this is known, which takes a step by a row, and in which no scope hides the variables that have values as it
+-- starts
+data Part (F : OwnRows) (c : Tree) (V : Assured) (k : ℕ) : Position → Tree → Tree → Type 0 where
+  a_block : (p : Position) (t u : Tree) → OwnStep (own_rows F c V) no_symbols StatementList t u → ((j : ℕ) → bindings j t ≤ bindings j c) → Off (hidden (block_over k t)) (at_start c V).initial → Part F c V k p (block_over k t) (block_over k u)
+  an_inner : (p : Position) (t u : Tree) → OwnStep (own_rows F c V) no_symbols p t u → ((j : ℕ) → bindings j t ≤ bindings j c) → Off (hidden (inner_over k t)) (at_start c V).initial → Part F c V k p (inner_over k t) (inner_over k u)
 
--- the number of a body, and what is known in this code of it
+-- the number of a body, and its code
 record Place (S : BodySets) : Type 0 where
   number : ℕ
   code : Tree
 
-abbrev known_at : (S : BodySets) → Place S → Assured
-known_at S i = known_in i.code (S i.number)
-
 abbrev Placed : (F : OwnRows) (S : BodySets) → Place S → Position → Tree → Tree → Type 0
-Placed F S i = Part (F (known_at S i)) (known_at S i) i.number
+Placed F S i = Part F i.code (S i.number) i.number
 
 abbrev Numbered : OwnRows → BodySets → Position → Tree → Tree → Type 0
 Numbered F S p n w = (i : Place S) × Placed F S i p n w
@@ -83,8 +80,8 @@ Numbered F S p n w = (i : Place S) × Placed F S i p n w
 numbered : (F : OwnRows) (S : BodySets) (p : Position) (n w : Tree) → OwnPart F S p n w → Numbered F S p n w
 numbered F S =
     by_row F S (Numbered F S)
-    (λ p k t u s. (record { number = k; code = t }, a_block p t u s (over_off (block_over k t) t (S k) (λ i h. ap (λ b. b || false) h))))
-    (λ p k t u s. (record { number = k; code = t }, an_inner p t u s (over_off (inner_over k t) t (S k) (λ i h. ap (λ b. b || false) h))))
+    (λ p k t u s. (record { number = k; code = t }, a_block p t u s (λ j. omega arith) (over_off (block_over k t) t (S k) (λ i h. ap (λ b. b || false) h))))
+    (λ p k t u s. (record { number = k; code = t }, an_inner p t u s (λ j. omega arith) (over_off (inner_over k t) t (S k) (λ i h. ap (λ b. b || false) h))))
 
 -- what has no body
 pub bodiless : (a : Around) (h : Shape) (n : ℕ) (t : Tree) (ts : Trees) → has_body h ≡ false → body_of a h n t ts ≡ []
@@ -107,18 +104,27 @@ pub inert_piece : (h : Shape) → is_inert h ≡ true → is_piece h ≡ false
 inert_piece (shape.TemplateElement tail raw c) e = absurd (true≢false (sym e))
 inert_piece h e = refl
 
-module _ (R : Position → Tree → Tree → Type 0) (S : BodySets) (V : Assured) (k : ℕ) (own : KeepsOwn V R) (starts : (X : VariableSet) → Begins (S k) X → Within V.initial X) (steadies : (e : Environment) → Steadies (S k) e → Steadies V e) where
+module _ (F : OwnRows) (keeps : (V : Assured) → KeepsOwn V (F V)) (S : BodySets) (k : ℕ) (c : Tree) where
+  abbrev V : Assured
+  V = S k
+
+  abbrev R : Position → Tree → Tree → Type 0
+  R = AnyRow F
+
+  own : KeepsForm R
+  own = any_form F keeps
+
   abbrev O : Position → Tree → Tree → Type 0
-  O = Part R V k
+  O = Part F c V k
 
   parts : {p : Position} {n w : Tree} → O p n w → is_part (shape_of n) ≡ true
-  parts (a_block p t u s o) = refl
-  parts (an_inner p t u s o) = refl
+  parts (a_block p t u s l o) = refl
+  parts (an_inner p t u s l o) = refl
 
   -- a step at a part is one of a row
   flat_here : {p : Position} {t u : Tree} → O p t u → Step R p t u
-  flat_here (a_block p t u s o) = inside p shape.StaticBlock [] k (t ▸ none) (u ▸ none) (first _ t u none (forget V R own s))
-  flat_here (an_inner p t u s o) = inside p shape.InnerExpression [] k (t ▸ none) (u ▸ none) (first _ t u none (forget V R own s))
+  flat_here (a_block p t u s l o) = inside p shape.StaticBlock [] k (t ▸ none) (u ▸ none) (first _ t u none (forget F keeps c V s))
+  flat_here (an_inner p t u s l o) = inside p shape.InnerExpression [] k (t ▸ none) (u ▸ none) (first _ t u none (forget F keeps c V s))
 
   mutual
     flat : {p : Position} {t u : Tree} → Step O p t u → Step R p t u
@@ -131,8 +137,8 @@ module _ (R : Position → Tree → Tree → Type 0) (S : BodySets) (V : Assured
 
   -- what a parent reads
   part_read : {p : Position} {n w : Tree} → O p n w → summary n ≡ summary w
-  part_read (a_block p t u s o) = ap (λ i. summary_of shape.StaticBlock [] k (i ∷ [])) (own_read V R own s)
-  part_read (an_inner p t u s o) = ap (λ i. summary_of shape.InnerExpression [] k (i ∷ [])) (own_read V R own s)
+  part_read (a_block p t u s l o) = ap (λ i. summary_of shape.StaticBlock [] k (i ∷ [])) (own_read F keeps c V s)
+  part_read (an_inner p t u s l o) = ap (λ i. summary_of shape.InnerExpression [] k (i ∷ [])) (own_read F keeps c V s)
 
   mutual
     bare_read : {p : Position} {t u : Tree} → Bare O p t u → summary t ≡ summary u
@@ -151,23 +157,23 @@ module _ (R : Position → Tree → Tree → Type 0) (S : BodySets) (V : Assured
 
   module _ (W : VariableSet) where
     part_bodies : {p : Position} {n w : Tree} → O p n w → (shape_of n ≡ shape.InnerExpression → is_asked_whole p ≡ true) → (a : Around) → (a.is_assigned ≡ true → is_unseated p ≡ true) → BodiesUnder W S nothing (bodies a n) (bodies a w)
-    part_bodies (a_block p t u s o) q a z =
+    part_bodies (a_block p t u s l o) q a z =
         let inner = below a shape.StaticBlock (t ▸ none) 0 in
         each_under W S nothing (body_of a shape.StaticBlock k (block_over k t) (t ▸ none)) (bodies inner t ++ []) (body_of a shape.StaticBlock k (block_over k u) (u ▸ none)) (bodies inner u ++ [])
-        (inl (record { number = refl; kind = inl refl; strict = refl; asks_this = refl; same = λ e y x X g. own_runs_over V R own e (steadies e x) shape.StaticBlock k Elsewhere (own_first _ t u none s) o FunctionStatements tt X (starts X g) }), tt)
-        (each_under W S nothing (bodies inner t) [] (bodies inner u) [] (kept_under S W (bodies inner t) (bodies inner u) (own_bodies V R own s inner)) tt)
-    part_bodies (an_inner p t u s o) q a z =
+        (inl (record { number = refl; kind = inl refl; strict = refl; asks_this = refl; same = λ e y x X g. own_runs_over F keeps c V e x shape.StaticBlock k Elsewhere (own_first _ _ t u none s) (λ j. omega (arith, l j)) o FunctionStatements tt X (known_begins c V X g) }), tt)
+        (each_under W S nothing (bodies inner t) [] (bodies inner u) [] (kept_under S W (bodies inner t) (bodies inner u) (own_bodies F keeps c V s inner)) tt)
+    part_bodies (an_inner p t u s l o) q a z =
         let inner = below a shape.InnerExpression (t ▸ none) 0 in
         each_under W S nothing (own_body t) (bodies inner t ++ []) (own_body u) (bodies inner u ++ [])
         (own_kept a.is_assigned refl)
-        (each_under W S nothing (bodies inner t) [] (bodies inner u) [] (kept_under S W (bodies inner t) (bodies inner u) (own_bodies V R own s inner)) tt)
+        (each_under W S nothing (bodies inner t) [] (bodies inner u) [] (kept_under S W (bodies inner t) (bodies inner u) (own_bodies F keeps c V s inner)) tt)
       where
         own_body : Tree → List Body
         own_body v = body_of a shape.InnerExpression k (inner_over k v) (v ▸ none)
 
         own_kept : (b : Bool) → a.is_assigned ≡ b → BodiesUnder W S nothing (record { number = k; kind = choose b InnerTarget InnerValue; root = inner_over k t; strict = a.strict; asks_this = a.asks_this } ∷ []) (record { number = k; kind = choose b InnerTarget InnerValue; root = inner_over k u; strict = a.strict; asks_this = a.asks_this } ∷ [])
-        own_kept true v = (inl (record { number = refl; kind = inl refl; strict = refl; asks_this = refl; same = λ e y x X g. own_runs_over V R own e (steadies e x) shape.InnerExpression k p (own_first _ t u none s) o InnerTarget (target_fits p (q refl) (z v)) X (starts X g) }), tt)
-        own_kept false v = (inl (record { number = refl; kind = inl refl; strict = refl; asks_this = refl; same = λ e y x X g. own_runs_over V R own e (steadies e x) shape.InnerExpression k p (own_first _ t u none s) o InnerValue (value_fits p (q refl)) X (starts X g) }), tt)
+        own_kept true v = (inl (record { number = refl; kind = inl refl; strict = refl; asks_this = refl; same = λ e y x X g. own_runs_over F keeps c V e x shape.InnerExpression k p (own_first _ _ t u none s) (λ j. omega (arith, l j)) o InnerTarget (target_fits p (q refl) (z v)) X (known_begins c V X g) }), tt)
+        own_kept false v = (inl (record { number = refl; kind = inl refl; strict = refl; asks_this = refl; same = λ e y x X g. own_runs_over F keeps c V e x shape.InnerExpression k p (own_first _ _ t u none s) (λ j. omega (arith, l j)) o InnerValue (value_fits p (q refl)) X (known_begins c V X g) }), tt)
 
     inside_kept : (p : Position) (h : Shape) (xs : List Name) (n : ℕ) (ts us : Trees) → has_body h ≡ false → BareIn O (child_position h p (count ts)) ts us → (a : Around) → BodiesUnder W S nothing (bodies_from (below a h ts) 0 ts) (bodies_from (below a h ts) 0 us) → BodiesUnder W S nothing (bodies a (node h xs n ts)) (bodies a (node h xs n us))
     inside_kept p h xs n ts us b s a k =
@@ -219,8 +225,8 @@ module _ (R : Position → Tree → Tree → Type 0) (S : BodySets) (V : Assured
     -- ---- the program
 
     root_kept : {p : Position} {t u : Tree} → Step O p t u → u ≡ over t (children u)
-    root_kept (here _ _ _ (a_block p t u s o)) = refl
-    root_kept (here _ _ _ (an_inner p t u s o)) = refl
+    root_kept (here _ _ _ (a_block p t u s l o)) = refl
+    root_kept (here _ _ _ (an_inner p t u s l o)) = refl
     root_kept (inside p h xs n ts us s) = refl
 
     module _ (places : KeepsPlaces R) (K : Shape → Bool) (t u : Tree) (s : Step O Elsewhere t u) (e : IsWellShaped t) where
@@ -256,13 +262,13 @@ module _ (F : OwnRows) (keeps : (V : Assured) → KeepsOwn V (F V)) (S : BodySet
     where
       kept : (t u : Tree) → Step (OwnPart F S) Elsewhere t u → IsWellShaped t → ProgramIsKeptUnder K W S t u
       kept t u s e = let (i, o) = step_of (Place S) (Placed F S) (step_on (numbered F S) s) in
-          let V = known_at S i in program_kept (F V) S V i.number (keeps V) (known_begins i.code (S i.number)) (known_steady i.code (S i.number)) W (places V) K t u o e
+          program_kept F keeps S i.number i.code W (any_places F places) K t u o e
 
   part_lighter : (p : Position) (n w : Tree) → OwnPart F S p n w → weight p w < weight p n
   part_lighter =
       by_row F S (λ p n w. weight p w < weight p n)
-      (λ p k t u s. any_step_lighter (F (known_in t (S k))) (keeps (known_in t (S k))).lightens p (block_over k t) (block_over k u) (inside p shape.StaticBlock [] k (t ▸ none) (u ▸ none) (first _ t u none (forget (known_in t (S k)) (F (known_in t (S k))) (keeps (known_in t (S k))) s))))
-      (λ p k t u s. any_step_lighter (F (known_in t (S k))) (keeps (known_in t (S k))).lightens p (inner_over k t) (inner_over k u) (inside p shape.InnerExpression [] k (t ▸ none) (u ▸ none) (first _ t u none (forget (known_in t (S k)) (F (known_in t (S k))) (keeps (known_in t (S k))) s))))
+      (λ p k t u s. any_step_lighter (AnyRow F) (any_form F keeps).lightens p (block_over k t) (block_over k u) (inside p shape.StaticBlock [] k (t ▸ none) (u ▸ none) (first _ t u none (forget F keeps t (S k) s))))
+      (λ p k t u s. any_step_lighter (AnyRow F) (any_form F keeps).lightens p (inner_over k t) (inner_over k u) (inside p shape.InnerExpression [] k (t ▸ none) (u ▸ none) (first _ t u none (forget F keeps t (S k) s))))
 
   part_outline : (p : Position) (n w : Tree) → OwnPart F S p n w → outline n ≡ outline w
   part_outline = by_row F S (λ p n w. outline n ≡ outline w) (λ p k t u s. refl) (λ p k t u s. refl)

@@ -1,6 +1,6 @@
 -- What a row writes in the own code of a program keeps it, where that is so which is known of its body.
 use Rattle.std.specs.Prelude.{ℕ, ◌≡◌, ◌<◌, ◌||◌, refl, Bool, true, false, List, [], ◌++◌, None}
-use Rattle.std.proofs.Common.{ap, ◌∙◌, sym, subst, inl}
+use Rattle.std.proofs.Common.{ap, ◌∙◌, sym, subst, inl, arith}
 use Rattle.mini_model.specs.declared.place.Position.{Position}
 use Rattle.mini_model.specs.declared.place.Position.TheVariants.{Expr, Stmt, StatementList, Elsewhere}
 use Rattle.mini_model.specs.declared.shape.Shape.{Shape}
@@ -32,33 +32,48 @@ use Rattle.mini_kept.proofs.Whole.{any_reaches_keep}
 use Rattle.mini_kept.proofs.WithoutLists.{nothing_part, part_itself, each_itself, more_under, each_under}
 use Rattle.mini_rows.specs.Arranged.{KeptAt}
 use Rattle.mini_rows.specs.OwnPrograms.{program_over, OwnProgram, OwnProgramsAreLawful, OwnProgramsLighten, SteadyProgramsAreLawful, SteadyProgramsLighten, LexicalProgramsAreLawful, LexicalProgramsLighten}
-use Rattle.mini_rows.specs.Steady.{known_in, KeepsOwn, OwnRows, OwnStep, own_first, SteadyRow, LexicalRows}
+use Rattle.mini_rows.specs.Steady.{no_symbols, own_rows, KeepsOwn, OwnRows, OwnStep, own_first, SteadyRow, LexicalRows}
 use Rattle.mini_rows.proofs.BranchLawful.{IsKind, taken, body_slot, kept_at}
 use Rattle.mini_rows.proofs.LexicalKept.{lexical_kind, lexical_own}
 use Rattle.mini_rows.proofs.SpellShapes.{formed_slot}
 use Rattle.mini_rows.proofs.MemberKept.{keeps}
 use Rattle.mini_rows.proofs.SteadyKept.{steady_own}
-use Rattle.mini_rows.proofs.SteadyLawful.{over_off, known_begins, known_steady, forget, own_bodies, own_runs_over, kept_under}
+use Rattle.mini_rows.proofs.SteadyLawful.{AnyRow, KeepsForm, any_form, at_start, over_off, known_begins, forget, own_bodies, own_runs_over, kept_under}
+
+-- ---- imports, exports and functions stay where they are, whatever is known
+
+pub any_places : (F : OwnRows) → ((V : Assured) → KeepsPlaces (F V)) → KeepsPlaces (AnyRow F)
+any_places F places = record {
+  names = record {
+    places = λ p n w r. (places r.0).names.places p n w r.1;
+    pieces = λ p n w r. (places r.0).names.pieces p n w r.1;
+    keeps = λ p n w r. (places r.0).names.keeps p n w r.1;
+  };
+  slots = λ p n w r. (places r.0).slots p n w r.1;
+  ports = λ p n w r. (places r.0).ports p n w r.1;
+  listed = λ p n w e r. (places r.0).listed p n w e r.1;
+  exported = λ p n w r. (places r.0).exported p n w r.1;
+}
 
 -- ---- one program
 
-module _ (F : OwnRows) (keeps : (V : Assured) → KeepsOwn V (F V)) (places : (V : Assured) → KeepsPlaces (F V)) (K : Shape → Bool) (W : VariableSet) (S : BodySets) (m : Bool) (ds : List (List ℕ)) (k : ℕ) (t u : Tree) (s : OwnStep (F (known_in t (S k))) StatementList t u) where
+module _ (F : OwnRows) (keeps : (V : Assured) → KeepsOwn V (F V)) (places : (V : Assured) → KeepsPlaces (F V)) (K : Shape → Bool) (W : VariableSet) (S : BodySets) (m : Bool) (ds : List (List ℕ)) (k : ℕ) (t u : Tree) (s : OwnStep (own_rows F t (S k)) no_symbols StatementList t u) where
   abbrev f : Tree
   f = program_over m ds k t
 
   abbrev f' : Tree
   f' = program_over m ds k u
 
-  abbrev V : Assured
-  V = known_in t (S k)
+  abbrev Q : Position → Tree → Tree → Type 0
+  Q = AnyRow F
 
-  own : KeepsOwn V (F V)
-  own = keeps V
+  own : KeepsForm Q
+  own = any_form F keeps
 
-  whole : Step (F V) Elsewhere f f'
-  whole = inside Elsewhere (shape.Program m ds) [] k (t ▸ none) (u ▸ none) (first _ t u none (forget V (F V) own s))
+  whole : Step Q Elsewhere f f'
+  whole = inside Elsewhere (shape.Program m ds) [] k (t ▸ none) (u ▸ none) (first _ t u none (forget F keeps t (S k) s))
 
-  reached : Reaches (F V) Elsewhere f f'
+  reached : Reaches Q Elsewhere f f'
   reached = more Elsewhere f f' f' whole (done Elsewhere f')
 
   abbrev own_body : Tree → List Body
@@ -67,30 +82,30 @@ module _ (F : OwnRows) (keeps : (V : Assured) → KeepsOwn V (F V)) (places : (V
   abbrev inner : Around
   inner = below outermost (shape.Program m ds) (t ▸ none) 0
 
-  program_off : Off (hidden f) V.initial
+  program_off : Off (hidden f) (at_start t (S k)).initial
   program_off = over_off f t (S k) (λ i h. ap (λ b. b || false) h)
 
   whole_bodies : BodiesUnder W S nothing (bodies_in f) (bodies_in f')
   whole_bodies =
       each_under W S nothing (own_body t) (bodies inner t ++ []) (own_body u) (bodies inner u ++ [])
-      (inl (record { number = refl; kind = inl refl; strict = refl; asks_this = refl; same = λ e z y X g. own_runs_over V (F V) own e (known_steady t (S k) e y) (shape.Program m ds) k Elsewhere (own_first _ t u none s) program_off Program tt X (known_begins t (S k) X g) }), tt)
-      (each_under W S nothing (bodies inner t) [] (bodies inner u) [] (kept_under S W (bodies inner t) (bodies inner u) (own_bodies V (F V) own s inner)) tt)
+      (inl (record { number = refl; kind = inl refl; strict = refl; asks_this = refl; same = λ e z y X g. own_runs_over F keeps t (S k) e y (shape.Program m ds) k Elsewhere (own_first _ _ t u none s) (λ j. omega arith) program_off Program tt X (known_begins t (S k) X g) }), tt)
+      (each_under W S nothing (bodies inner t) [] (bodies inner u) [] (kept_under S W (bodies inner t) (bodies inner u) (own_bodies F keeps t (S k) s inner)) tt)
 
-  keeps_frames : KeepsFramesBut none_gone (F V)
-  keeps_frames = record { places = places V; frames = λ p n w r strict c z e a. kept_are_shown n w (own.frames p n w r None) a }
+  keeps_frames : KeepsFramesBut none_gone Q
+  keeps_frames = record { places = any_places F places; frames = λ p n w r strict c z e a. kept_are_shown n w (own.frames p n w r None) a }
 
   whole_frames : IsWellShaped f → FramesShown (gone_from K (undeclared f')) (KeyGivenUnder W S (undeclared f') (bodies_in f)) (frames_in f) (frames_in f')
   whole_frames e =
       all_frames_more none_gone (gone_from K (undeclared f')) (KeyGiven nothing (bodies_in f)) (KeyGivenUnder W S (undeclared f') (bodies_in f)) (none_less (gone_from K (undeclared f'))) (given_seldom W S (undeclared f') (bodies_in f)) (frames_in f) (frames_in f')
-      (step_frames_but none_gone (F V) keeps_frames f f' whole e)
+      (step_frames_but none_gone Q keeps_frames f f' whole e)
 
   program_kept : IsWellShaped f → ProgramIsKeptUnder K W S f f'
   program_kept e = record {
-    names = any_reaches_keep (F V) own.names own.shapes f f' reached;
+    names = any_reaches_keep Q own.names own.shapes f f' reached;
     bodies = λ v d. more_under W W S S nothing (undeclared f') (part_itself W) (each_itself S) (nothing_part (undeclared f')) (bodies_in f) (bodies_in f') whole_bodies;
     frames = λ v d. whole_frames e;
-    fixities = λ v d strict x h. ap (written_in strict) (step_fixed nothing (F V) (record { reads = own.reads; fixed = λ q n w r y c. own.fixed q n w r y }) whole x refl);
-    declared = reaches_declared (F V) own.declared reached;
+    fixities = λ v d strict x h. ap (written_in strict) (step_fixed nothing Q (record { reads = own.reads; fixed = λ q n w r y c. own.fixed q n w r y }) whole x refl);
+    declared = reaches_declared Q own.declared reached;
     root = refl;
   }
 
@@ -98,7 +113,7 @@ module _ (F : OwnRows) (keeps : (V : Assured) → KeepsOwn V (F V)) (places : (V
 
 module _ (F : OwnRows) (keeps : (V : Assured) → KeepsOwn V (F V)) (S : BodySets) where
   -- what holds of each such program holds of what a row reads and writes
-  by_row : (P : Position → Tree → Tree → Type 0) → ((m : Bool) (ds : List (List ℕ)) (k : ℕ) (t u : Tree) → OwnStep (F (known_in t (S k))) StatementList t u → P Elsewhere (program_over m ds k t) (program_over m ds k u)) → (p : Position) (n w : Tree) → OwnProgram F S p n w → P p n w
+  by_row : (P : Position → Tree → Tree → Type 0) → ((m : Bool) (ds : List (List ℕ)) (k : ℕ) (t u : Tree) → OwnStep (own_rows F t (S k)) no_symbols StatementList t u → P Elsewhere (program_over m ds k t) (program_over m ds k u)) → (p : Position) (n w : Tree) → OwnProgram F S p n w → P p n w
   by_row P h Elsewhere n w r = subst (λ v. P Elsewhere v w) (sym r.shape) (subst (P Elsewhere (program_over r.is_module r.directives r.number r.before)) (sym r.written) (h r.is_module r.directives r.number r.before r.after r.step))
   by_row P h p n w r = absurd r
 
@@ -108,7 +123,7 @@ module _ (F : OwnRows) (keeps : (V : Assured) → KeepsOwn V (F V)) (S : BodySet
       (λ n w r. by_row (λ p n w. IsWellShaped n → ProgramIsKeptUnder K W S n w) (λ m ds k t u s. program_kept F keeps places K W S m ds k t u s) Elsewhere n w r)
 
   program_lighter : (p : Position) (n w : Tree) → OwnProgram F S p n w → weight p w < weight p n
-  program_lighter = by_row (λ p n w. weight p w < weight p n) (λ m ds k t u s. any_step_lighter (F (known_in t (S k))) (keeps (known_in t (S k))).lightens Elsewhere (program_over m ds k t) (program_over m ds k u) (inside Elsewhere (shape.Program m ds) [] k (t ▸ none) (u ▸ none) (first _ t u none (forget (known_in t (S k)) (F (known_in t (S k))) (keeps (known_in t (S k))) s))))
+  program_lighter = by_row (λ p n w. weight p w < weight p n) (λ m ds k t u s. any_step_lighter (AnyRow F) (any_form F keeps).lightens Elsewhere (program_over m ds k t) (program_over m ds k u) (inside Elsewhere (shape.Program m ds) [] k (t ▸ none) (u ▸ none) (first _ t u none (forget F keeps t (S k) s))))
 
   program_outline : (p : Position) (n w : Tree) → OwnProgram F S p n w → outline n ≡ outline w
   program_outline = by_row (λ p n w. outline n ≡ outline w) (λ m ds k t u s. refl)

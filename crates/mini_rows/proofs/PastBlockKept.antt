@@ -1,12 +1,15 @@
 -- What the rows of names that are read behind held names make of a block in the code of a body.
-use Rattle.std.specs.Prelude.{ℕ, ◌+◌, ◌<◌, ◌≤◌, ◌≡◌, ◌⊎◌, refl, ◌||◌, Bool, true, false, [], Contains, Option, None}
+use Rattle.std.specs.Prelude.{ℕ, ◌+◌, ◌<◌, ◌≤◌, ◌≡◌, ◌⊎◌, refl, ◌||◌, if◌then◌else◌, Bool, true, false, [], Contains, Option, None}
 use Rattle.std.proofs.Common.{ap, ◌∙◌, sym, subst, subst₂, arith, inl, inr}
 use Rattle.mini_model.specs.declared.name.Name.{Name}
 use Rattle.mini_model.specs.declared.place.Position.{Position}
 use Rattle.mini_model.specs.declared.place.Position.TheVariants.{Stmt}
 use Rattle.mini_model.specs.declared.seat.StmtSeat.{StmtSeat}
+use Rattle.mini_model.specs.declared.kind.PropertyKind.TheVariants.{Init}
+use Rattle.mini_model.specs.declared.kind.VariableDeclarationKind.{VariableDeclarationKind}
+use Rattle.mini_model.specs.declared.shape.Shape.{Shape}
 use Rattle.mini_model.specs.declared.shape.Shape.TheVariants as shape
-use Rattle.mini_model.specs.Tree.{Tree, Trees, none, ◌▸◌, listed, shape_of}
+use Rattle.mini_model.specs.Tree.{Tree, Trees, node, none, ◌▸◌, listed, shape_of}
 use Rattle.mini_model.specs.Paths.{append}
 use Rattle.mini_model.specs.Weight.{outline, weight}
 use Rattle.mini_accept.specs.WellShaped.{Depth, nested, a_statement, a_default_export, Slot, one, each, fits, fill}
@@ -42,10 +45,11 @@ use Rattle.mini_kept.specs.Placed.{fits_place, is_statement_list}
 use Rattle.mini_kept.specs.Without.{Assured, Steadies, Permits}
 use Rattle.mini_kept.proofs.InOrder.{in_order}
 use Rattle.mini_rows.specs.Lists.{block, declaration}
-use Rattle.mini_rows.specs.Declarations.{declarator}
-use Rattle.mini_rows.specs.Past.{any_bind, begun, PastRow}
+use Rattle.mini_rows.specs.Declarations.{binding, declarator}
+use Rattle.mini_rows.specs.Past.{is_binding, any_bind, begun, PastRow}
 use Rattle.mini_rows.specs.PastBlocks.{PastBlockRow, PastBlocks, PastBlocksLighten}
-use Rattle.mini_rows.specs.Unused.{resolved, names, declared_among, put_first}
+use Rattle.mini_rows.specs.Steady.{times_named, bindings, all_bindings}
+use Rattle.mini_rows.specs.Unused.{resolved, names, is_short, declared_among, declared_left, put_first, put_among}
 use Rattle.mini_rows.proofs.HeadKept.{head_names}
 use Rattle.mini_rows.proofs.NextKept.{next_names}
 use Rattle.mini_rows.proofs.PastLawful.{list_fits}
@@ -155,55 +159,67 @@ lost V q n w r =
 
 -- ---- those of a symbol
 
-abbrev pub Loses : Assured → ℕ → Position → Tree → Tree → Type 0
-Loses V k (Stmt q) n w = Lost V k q n w
-Loses V k p n w = ⊥
+abbrev pub LosesHere : Assured → ℕ → Position → Tree → Tree → Type 0
+LosesHere V k (Stmt q) n w = Lost V k q n w
+LosesHere V k p n w = ⊥
 
-pub some_lost : (V : Assured) (p : Position) (n w : Tree) → PastBlocks V p n w → (k : ℕ) × Loses V k p n w
+-- whatever is known
+abbrev pub Loses : ℕ → Position → Tree → Tree → Type 0
+Loses k p n w = (V : Assured) × LosesHere V k p n w
+
+pub some_lost : (V : Assured) (p : Position) (n w : Tree) → PastBlocks V p n w → (k : ℕ) × LosesHere V k p n w
 some_lost V (Stmt q) n w r = lost V q n w r
 some_lost V p n w r = absurd r
 
-module _ (V : Assured) (k : ℕ) where
+module _ (k : ℕ) where
+  here_lost : (V : Assured) (P : Position → Tree → Tree → Type 0) → ((q : StmtSeat) (n w : Tree) → Lost V k q n w → P (Stmt q) n w) → (p : Position) (n w : Tree) → LosesHere V k p n w → P p n w
+  here_lost V P f (Stmt q) n w r = f q n w r
+  here_lost V P f p n w r = absurd r
+
   -- what holds of each statement
-  pub at_statement : (P : Position → Tree → Tree → Type 0) → ((q : StmtSeat) (n w : Tree) → Lost V k q n w → P (Stmt q) n w) → (p : Position) (n w : Tree) → Loses V k p n w → P p n w
-  at_statement P f (Stmt q) n w r = f q n w r
-  at_statement P f p n w r = absurd r
+  pub at_statement : (P : Position → Tree → Tree → Type 0) → ((V : Assured) (q : StmtSeat) (n w : Tree) → Lost V k q n w → P (Stmt q) n w) → (p : Position) (n w : Tree) → Loses k p n w → P p n w
+  at_statement P f p n w (V, r) = here_lost V P (f V) p n w r
+
+  -- it means the same where that is so which is known, but for a name that nobody else sees
+  pub lost_means : (V : Assured) (p : Position) (n w : Tree) → LosesHere V k p n w → (e : Environment) → Permits nothing (alone (Declared k)) e → Steadies V e → (d : Demand) → Fits p d → Same e (alone (Declared k)) V.initial d n w
+  lost_means V (Stmt q) n w r e z y d f = r.means e z y d f
+  lost_means V p n w r e z y d f = absurd r
 
   -- what is told by the shape
-  shaped : (P : Tree → Tree → Type 0) → ((ts us : Trees) → P (block ts) (block us)) → (q : StmtSeat) (n w : Tree) → Lost V k q n w → P n w
-  shaped P f q n w r = subst₂ P (sym r.before) (sym r.after) (f r.first r.second)
+  shaped : (P : Tree → Tree → Type 0) → ((ts us : Trees) → P (block ts) (block us)) → (V : Assured) (q : StmtSeat) (n w : Tree) → Lost V k q n w → P n w
+  shaped P f V q n w r = subst₂ P (sym r.before) (sym r.after) (f r.first r.second)
 
-  in_place : (q : StmtSeat) (n w : Tree) → Lost V k q n w → (strict : Bool) (s : Slot) → fits strict s n ≡ true → (fits strict s w ≡ true) × (is_body_slot (Stmt q) s ≡ true)
-  in_place q n w r strict s e =
+  in_place : (V : Assured) (q : StmtSeat) (n w : Tree) → Lost V k q n w → (strict : Bool) (s : Slot) → fits strict s n ≡ true → (fits strict s w ≡ true) × (is_body_slot (Stmt q) s ≡ true)
+  in_place V q n w r strict s e =
       let (f, g) = in_slot r.first r.second r.fitting strict (Stmt q) s (sym (ap (fits strict s) r.before) ∙ e) in
       (ap (fits strict s) r.after ∙ f, g)
 
-  pub loses_names : KeepsNames (Loses V k)
+  pub loses_names : KeepsNames (Loses k)
   loses_names = record {
-    places = at_statement (λ p n w. (is_rewritten_place p ≡ true) ⊎ KeepsRoot p n w) (λ q n w r. inl refl);
-    pieces = at_statement (λ p n w. is_piece (shape_of n) ≡ false) (λ q n w r. ap (λ t. is_piece (shape_of t)) r.before);
-    keeps = at_statement (λ p n w. (strict : Bool) (s : Slot) → fits_place p s ≡ true → fits strict s n ≡ true → KeepsLoosely p n w) (λ q n w r strict s z e. r.keeps);
+    places = at_statement (λ p n w. (is_rewritten_place p ≡ true) ⊎ KeepsRoot p n w) (λ V q n w r. inl refl);
+    pieces = at_statement (λ p n w. is_piece (shape_of n) ≡ false) (λ V q n w r. ap (λ t. is_piece (shape_of t)) r.before);
+    keeps = at_statement (λ p n w. (strict : Bool) (s : Slot) → fits_place p s ≡ true → fits strict s n ≡ true → KeepsLoosely p n w) (λ V q n w r strict s z e. r.keeps);
   }
 
-  pub loses_shapes : KeepsShapes (Loses V k)
+  pub loses_shapes : KeepsShapes (Loses k)
   loses_shapes = record {
-    fitting = at_statement (λ p n w. (strict : Bool) (s : Slot) → fits_place p s ≡ true → fits strict s n ≡ true → fits strict s w ≡ true) (λ q n w r strict s z e. (in_place q n w r strict s e).0);
-    asked = at_statement AskedAlike (λ q n w r. shaped (AskedAlike (Stmt q)) (blocks_asked (Stmt q)) q n w r);
+    fitting = at_statement (λ p n w. (strict : Bool) (s : Slot) → fits_place p s ≡ true → fits strict s n ≡ true → fits strict s w ≡ true) (λ V q n w r strict s z e. (in_place V q n w r strict s e).0);
+    asked = at_statement AskedAlike (λ V q n w r. shaped (AskedAlike (Stmt q)) (blocks_asked (Stmt q)) V q n w r);
   }
 
-  pub loses_places : KeepsPlaces (Loses V k)
+  pub loses_places : KeepsPlaces (Loses k)
   loses_places = record {
     names = loses_names;
-    slots = at_statement (λ p n w. (strict : Bool) (s : Slot) → fits_place p s ≡ true → fits strict s n ≡ true → ((is_body_slot p s ≡ true) ⊎ IsShownAlike s n w) ⊎ KeepsHolder n w) (λ q n w r strict s z e. inl (inl (in_place q n w r strict s e).1));
-    ports = at_statement (λ p n w. (strict : Bool) (d : Depth) → fits strict (one (a_statement d)) n ≡ true → (m : Bool) → NoPort m n w ⊎ KeepsFunction n w) (λ q n w r strict d e m. inl (shaped (NoPort m) (λ ts us. (refl, refl)) q n w r));
-    listed = λ p n w e r. absurd (at_statement (λ p n w. is_statement_list p ≡ true → ⊥) (λ q n w r e. cc e) p n w r e);
-    exported = at_statement (λ p n w. (strict : Bool) → fits strict (one a_default_export) n ≡ true → NoDeclaration n w ⊎ KeepsFunction n w) (λ q n w r strict e. inl (shaped NoDeclaration (λ ts us. (refl, refl)) q n w r));
+    slots = at_statement (λ p n w. (strict : Bool) (s : Slot) → fits_place p s ≡ true → fits strict s n ≡ true → ((is_body_slot p s ≡ true) ⊎ IsShownAlike s n w) ⊎ KeepsHolder n w) (λ V q n w r strict s z e. inl (inl (in_place V q n w r strict s e).1));
+    ports = at_statement (λ p n w. (strict : Bool) (d : Depth) → fits strict (one (a_statement d)) n ≡ true → (m : Bool) → NoPort m n w ⊎ KeepsFunction n w) (λ V q n w r strict d e m. inl (shaped (NoPort m) (λ ts us. (refl, refl)) V q n w r));
+    listed = λ p n w e r. absurd (at_statement (λ p n w. is_statement_list p ≡ true → ⊥) (λ V q n w r e. cc e) p n w r e);
+    exported = at_statement (λ p n w. (strict : Bool) → fits strict (one a_default_export) n ≡ true → NoDeclaration n w ⊎ KeepsFunction n w) (λ V q n w r strict e. inl (shaped NoDeclaration (λ ts us. (refl, refl)) V q n w r));
   }
 
-  pub loses_read : (p : Position) (n w : Tree) → Loses V k p n w → summary n ≡ summary w
+  pub loses_read : (p : Position) (n w : Tree) → Loses k p n w → summary n ≡ summary w
   loses_read = at_statement (λ p n w. summary n ≡ summary w) (shaped (λ n w. summary n ≡ summary w) (λ ts us. refl))
 
-  pub loses_kind : (p : Position) (n w : Tree) → Loses V k p n w → arrow_kind (shape_of n) ≡ arrow_kind (shape_of w)
+  pub loses_kind : (p : Position) (n w : Tree) → Loses k p n w → arrow_kind (shape_of n) ≡ arrow_kind (shape_of w)
   loses_kind = at_statement (λ p n w. arrow_kind (shape_of n) ≡ arrow_kind (shape_of w)) (shaped (λ n w. arrow_kind (shape_of n) ≡ arrow_kind (shape_of w)) (λ ts us. refl))
 
 -- ---- lighter
@@ -237,7 +253,69 @@ module _ (V : Assured) where
     chooses = λ p n w r e. inl (λ h. sym (ap (λ o. o.chooses) (block_outline p n w r)) ∙ h);
   }
 
--- and it declares no other name
+-- a parent reads it alike
+pub blocks_read : (V : Assured) (p : Position) (n w : Tree) → PastBlocks V p n w → summary n ≡ summary w
+blocks_read V p n w r = let (k, l) = some_lost V p n w r in loses_read k p n w (V, l)
+
+-- it declares no symbol more often
+
+all_bindings_both : (k : ℕ) (ts us : Trees) → all_bindings k (append ts us) ≡ all_bindings k ts + all_bindings k us
+all_bindings_both k none us = omega arith
+all_bindings_both k (t ▸ ts) us = omega (arith, all_bindings_both k ts us)
+
+full_bound : (b : Bool) (h : Shape) (m : ℕ) → (if is_binding (if b then shape.ObjectProperty Init false false false else h) then m else 0) ≤ (if is_binding h then m else 0)
+full_bound true h m = omega arith
+full_bound false h m = omega arith
+
+module _ (k : ℕ) (x : Name) (r : Tree) where
+  mutual
+    put_bound : (t : Tree) → bindings k (put_first x r t) ≤ bindings k r + bindings k t
+    put_bound (node h ys n none) = omega arith
+    put_bound (node h ys n (t ▸ ts)) = omega (arith, full_bound (is_short h) h (times_named k ys), put_among_bound (t ▸ ts))
+
+    put_among_bound : (ts : Trees) → all_bindings k (put_among x r ts) ≤ bindings k r + all_bindings k ts
+    put_among_bound none = omega arith
+    put_among_bound (t ▸ ts) = by (names x t) (put_bound t) (put_among_bound ts)
+      where
+        by : (b : Bool) → bindings k (put_first x r t) ≤ bindings k r + bindings k t → all_bindings k (put_among x r ts) ≤ bindings k r + all_bindings k ts → all_bindings k (if b then put_first x r t ▸ ts else t ▸ put_among x r ts) ≤ bindings k r + all_bindings k (t ▸ ts)
+        by true e f = omega (arith, e)
+        by false e f = omega (arith, f)
+
+left_bound : (k : ℕ) (kind : VariableDeclarationKind) (ds : Trees) → bindings k (declared_left kind ds) ≡ all_bindings k ds
+left_bound k kind none = refl
+left_bound k kind (d ▸ ds) = omega arith
+
+rows_bound : (V : Assured) (ts us : Trees) → PastRow V nothing (listed none) ts us → (k : ℕ) → all_bindings k us ≤ all_bindings k ts
+rows_bound V ts us (inl r) k =
+    let x = resolved r.spelling r.symbol in
+    omega (
+      arith,
+      ap (all_bindings k) r.shape,
+      ap (all_bindings k) r.written,
+      put_bound k x r.init r.head,
+      left_bound k r.kind r.first,
+      all_bindings_both k r.before (declared_among r.kind x r.first r.init none ▸ (r.head ▸ r.after)),
+      all_bindings_both k r.before (declared_left r.kind r.first ▸ (put_first x r.init r.head ▸ r.after)),
+      all_bindings_both k r.first (declarator (binding x) r.init ▸ none),
+    )
+rows_bound V ts us (inr r) k =
+    let x = resolved r.spelling r.symbol in
+    omega (
+      arith,
+      ap (all_bindings k) r.shape,
+      ap (all_bindings k) r.written,
+      put_bound k x r.init r.value,
+      all_bindings_both k r.before (declared_among r.kind x r.first r.init (declarator r.binds r.value ▸ r.last) ▸ r.after),
+      all_bindings_both k r.before (declaration r.kind (append r.first (declarator r.binds (put_first x r.init r.value) ▸ r.last)) ▸ r.after),
+      all_bindings_both k r.first (declarator (binding x) r.init ▸ (declarator r.binds r.value ▸ r.last)),
+      all_bindings_both k r.first (declarator r.binds (put_first x r.init r.value) ▸ r.last),
+    )
+
+pub blocks_bound : (V : Assured) (p : Position) (n w : Tree) → PastBlocks V p n w → (k : ℕ) → bindings k w ≤ bindings k n
+blocks_bound V (Stmt q) n w r k = omega (arith, rows_bound V r.before r.after r.row k, ap (bindings k) r.shape, ap (bindings k) r.written)
+blocks_bound V p n w r k = absurd r
+
+-- and no other name
 pub blocks_declare : (V : Assured) (p : Position) (n w : Tree) → PastBlocks V p n w → (y : Name) → Contains (declared w) y → Contains (declared n) y
 blocks_declare V (Stmt q) n w r = (lost V q n w r).1.declares
 blocks_declare V p n w r = absurd r

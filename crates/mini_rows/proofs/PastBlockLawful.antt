@@ -20,7 +20,7 @@ use Rattle.mini_laws.specs.Symbols.{declared as declared_in, declared_symbols, t
 use Rattle.mini_laws.specs.Value.{Variable, Declared, VariableSet, nothing}
 use Rattle.mini_laws.specs.State.{Environment}
 use Rattle.mini_laws.specs.Naming.{summary, summary_of}
-use Rattle.mini_laws.specs.Skeleton.{Within, Off, hidden}
+use Rattle.mini_laws.specs.Skeleton.{Off, hidden}
 use Rattle.mini_laws.specs.Substitution.{alone}
 use Rattle.mini_laws.specs.Fixity.{fixed_by, written_in}
 use Rattle.mini_laws.specs.Body.{FunctionStatements, Program}
@@ -38,7 +38,7 @@ use Rattle.mini_kept.specs.Loosely.{symbol, undeclared, ProgramIsKeptUnder}
 use Rattle.mini_kept.specs.Placed.{fits_place}
 use Rattle.mini_kept.specs.Rooted.{is_body, is_program, LawfulRooted}
 use Rattle.mini_kept.specs.ShownFrames.{KeyGivenUnder, KeyGiven, gone_from, FramesShown}
-use Rattle.mini_kept.specs.Without.{Assured, BodySets, none_steady, Steadies, Begins, Permits, BodiesUnder, KeepsBodiesUnder}
+use Rattle.mini_kept.specs.Without.{Assured, BodySets, none_steady, Permits, BodiesUnder, KeepsBodiesUnder}
 use Rattle.mini_kept.proofs.BodySteps.{step_under, whole_stands}
 use Rattle.mini_kept.proofs.Declared.{reaches_declared}
 use Rattle.mini_kept.proofs.Fixed.{step_fixed}
@@ -51,13 +51,12 @@ use Rattle.mini_kept.proofs.WithoutLists as without
 use Rattle.mini_rows.specs.OwnArrows.{arrow_over, OwnCode}
 use Rattle.mini_rows.specs.OwnPrograms.{program_over, OwnProgram}
 use Rattle.mini_rows.specs.PastBlocks.{PastBlocks, PastBlocksAreLawful, PastBlocksAreLawfulInPrograms}
-use Rattle.mini_rows.specs.Steady.{known_in, OwnStep, own_first, OwnFunctionRow}
+use Rattle.mini_rows.specs.Steady.{no_symbols, own_rows, OwnStep, own_first, OwnFunctionRow}
 use Rattle.mini_rows.proofs.OwnArrowLawful.{body_fits, created_same as arrow_created}
-use Rattle.mini_rows.proofs.OwnLightens.{as_step}
-use Rattle.mini_rows.proofs.OwnLosses.{some_step, lost_read, lost_kind, lost_bodies, lost_runs, lost_runs_over}
+use Rattle.mini_rows.proofs.OwnLosses.{LosesThere, some_step, lost_step, lost_read, lost_kind, lost_bodies, lost_runs, lost_runs_over}
 use Rattle.mini_rows.proofs.PastBlockKept.{Loses, at_statement, loses_names, loses_shapes, loses_places, loses_read}
 use Rattle.mini_rows.proofs.PastModuleLawful.{undeclared_there, still_declared}
-use Rattle.mini_rows.proofs.SteadyLawful.{created_same, known_off, over_off, known_begins, known_steady}
+use Rattle.mini_rows.proofs.SteadyLawful.{at_start, created_same, known_off, over_off, known_begins}
 
 -- bodies that are there stand for themselves, whatever is gone
 bodies_there : (W : VariableSet) (S : BodySets) (D : VariableSet) (bs cs : List Body) → BodiesKept bs cs → BodiesUnder W S D bs cs
@@ -68,9 +67,9 @@ permitted W D e z = record { unseen = z.unseen; writable = λ x h. absurd (true�
 
 -- ---- a program in which a block loses the name with a symbol
 
-module _ (V : Assured) (k : ℕ) (K : Shape → Bool) (W : VariableSet) (S : BodySets) (t u : Tree) (s : Step (Loses V k) Elsewhere t u) (e : IsWellShaped t) (rooted : u ≡ over t (children u)) (bodied : Avoids (alone (Declared k)) u → BodiesUnder W S (alone (Declared k)) (bodies_in t) (bodies_in u)) where
+module _ (k : ℕ) (K : Shape → Bool) (W : VariableSet) (S : BodySets) (t u : Tree) (s : Step (Loses k) Elsewhere t u) (e : IsWellShaped t) (rooted : u ≡ over t (children u)) (bodied : Avoids (alone (Declared k)) u → BodiesUnder W S (alone (Declared k)) (bodies_in t) (bodies_in u)) where
   abbrev R : Position → Tree → Tree → Type 0
-  R = Loses V k
+  R = Loses k
 
   abbrev D : VariableSet
   D = alone (Declared k)
@@ -79,19 +78,19 @@ module _ (V : Assured) (k : ℕ) (K : Shape → Bool) (W : VariableSet) (S : Bod
   reached = more Elsewhere t u u s (done Elsewhere u)
 
   names : ProgramKeeps t u
-  names = any_reaches_keep R (loses_names V k) (loses_shapes V k) t u reached
+  names = any_reaches_keep R (loses_names k) (loses_shapes k) t u reached
 
   -- its symbol was declared once, and is declared no more
   gone : Distinct (declared_symbols t) → times (symbol k) (declared_symbols u) ≡ 0
   gone d =
-      let less = step_less R (symbol k) (at_statement V k (λ p n w. Kept n w) (λ q n w r. r.kept)) (at_statement V k (λ p n w. (v : Use) → times (symbol k) (declared_in v w) + 1 ≤ times (symbol k) (declared_in v n)) (λ q n w r. r.less)) s Read in
+      let less = step_less R (symbol k) (at_statement k (λ p n w. Kept n w) (λ V q n w r. r.kept)) (at_statement k (λ p n w. (v : Use) → times (symbol k) (declared_in v w) + 1 ≤ times (symbol k) (declared_in v n)) (λ V q n w r. r.less)) s Read in
       let once : times (symbol k) (declared_symbols t) ≤ 1 = d (symbol k) in
       omega (arith, less, once)
 
   keeps_frames : KeepsFramesBut (gone_from K D) R
   keeps_frames = record {
-    places = loses_places V k;
-    frames = at_statement V k (λ p n w. (strict : Bool) (c : Slot) → fits_place p c ≡ true → fits strict c n ≡ true → (a : Around) → FramesShown (gone_from K D) (KeyGiven nothing (bodies a n)) (frames None n) (frames None w)) (λ q n w r strict c z e a. kept_shown (gone_from K D) (KeyGiven nothing (bodies a n)) (frames None n) (frames None w) r.framed);
+    places = loses_places k;
+    frames = at_statement k (λ p n w. (strict : Bool) (c : Slot) → fits_place p c ≡ true → fits strict c n ≡ true → (a : Around) → FramesShown (gone_from K D) (KeyGiven nothing (bodies a n)) (frames None n) (frames None w)) (λ V q n w r strict c z e a. kept_shown (gone_from K D) (KeyGiven nothing (bodies a n)) (frames None n) (frames None w) r.framed);
   }
 
   program_kept : ProgramIsKeptUnder K W S t u
@@ -101,36 +100,39 @@ module _ (V : Assured) (k : ℕ) (K : Shape → Bool) (W : VariableSet) (S : Bod
     frames = λ v d.
         all_frames_more (gone_from K D) (gone_from K (undeclared u)) (KeyGiven nothing (bodies_in t)) (KeyGivenUnder W S (undeclared u) (bodies_in t)) (gone_more K D (undeclared u) (undeclared_there k u (gone d))) (given_seldom W S (undeclared u) (bodies_in t)) (frames_in t) (frames_in u)
         (step_frames_but (gone_from K D) R keeps_frames t u s e);
-    fixities = λ v d strict y h. ap (written_in strict) (step_fixed D R (record { reads = loses_read V k; fixed = at_statement V k (λ p n w. (y : Variable) → D y ≡ false → fixed_by n y ≡ fixed_by w y) (λ q n w r. r.fixed) }) s y (still_declared k u (gone d) y h));
-    declared = reaches_declared R (at_statement V k (λ p n w. (y : Name) → Contains (declared w) y → Contains (declared n) y) (λ q n w r. r.declares)) reached;
+    fixities = λ v d strict y h. ap (written_in strict) (step_fixed D R (record { reads = loses_read k; fixed = at_statement k (λ p n w. (y : Variable) → D y ≡ false → fixed_by n y ≡ fixed_by w y) (λ V q n w r. r.fixed) }) s y (still_declared k u (gone d) y h));
+    declared = reaches_declared R (at_statement k (λ p n w. (y : Name) → Contains (declared w) y → Contains (declared n) y) (λ V q n w r. r.declares)) reached;
     root = rooted;
   }
 
 -- ---- functions and arrow functions
 
--- one whose body takes such a step, over what V says of the body with a number, of which no scope hides what is initialised as it starts
-data Owner (V : Assured) (k : ℕ) (number : ℕ) : Position → Tree → Tree → Type 0 where
-  a_function : (p : Position) (d g : Bool) (ds : List (List ℕ)) (name ps t u : Tree) → OwnStep (Loses V k) Elsewhere t u → Off (hidden t) V.initial → Owner V k number p (function_over d g ds number name ps t) (function_over d g ds number name ps u)
-  an_arrow : (q : Seat) (ds : List (List ℕ)) (ps t u : Tree) → OwnStep (Loses V k) (Expr argument_seat) t u → Off (hidden t) V.initial → Owner V k number (Expr q) (arrow_over ds number ps t) (arrow_over ds number ps u)
+-- one whose body takes such a step, over what S says of the body with a number
+data Owner (S : BodySets) (k : ℕ) (number : ℕ) : Position → Tree → Tree → Type 0 where
+  a_function : (p : Position) (d g : Bool) (ds : List (List ℕ)) (name ps t u : Tree) → OwnStep (LosesThere t (S number) k) no_symbols Elsewhere t u → Owner S k number p (function_over d g ds number name ps t) (function_over d g ds number name ps u)
+  an_arrow : (q : Seat) (ds : List (List ℕ)) (ps t u : Tree) → OwnStep (LosesThere t (S number) k) no_symbols (Expr argument_seat) t u → Owner S k number (Expr q) (arrow_over ds number ps t) (arrow_over ds number ps u)
 
-module _ (S : BodySets) (V : Assured) (k number : ℕ) (starts : (X : VariableSet) → Begins (S number) X → Within V.initial X) (steadies : (e : Environment) → Steadies (S number) e → Steadies V e) where
+module _ (S : BodySets) (k number : ℕ) where
   abbrev O : Position → Tree → Tree → Type 0
-  O = Owner V k number
+  O = Owner S k number
+
+  abbrev V : Assured
+  V = S number
 
   abbrev E : VariableSet
   E = alone (Declared k)
 
   -- a step at one is a step at the block
-  flat_here : {p : Position} {t u : Tree} → O p t u → Step (Loses V k) p t u
-  flat_here (a_function p d g ds name ps t u s o) = inside p (shape.Function d g ds) [] number (name ▸ (ps ▸ (t ▸ none))) (name ▸ (ps ▸ (u ▸ none))) (later _ name (ps ▸ (t ▸ none)) (ps ▸ (u ▸ none)) (later _ ps (t ▸ none) (u ▸ none) (first _ t u none (as_step (Loses V k) s))))
-  flat_here (an_arrow q ds ps t u s o) = inside (Expr q) (shape.ArrowFunctionExpression ds) [] number (ps ▸ (t ▸ none)) (ps ▸ (u ▸ none)) (later _ ps (t ▸ none) (u ▸ none) (first _ t u none (as_step (Loses V k) s)))
+  flat_here : {p : Position} {t u : Tree} → O p t u → Step (Loses k) p t u
+  flat_here (a_function p d g ds name ps t u s) = inside p (shape.Function d g ds) [] number (name ▸ (ps ▸ (t ▸ none))) (name ▸ (ps ▸ (u ▸ none))) (later _ name (ps ▸ (t ▸ none)) (ps ▸ (u ▸ none)) (later _ ps (t ▸ none) (u ▸ none) (first _ t u none (lost_step t V k s))))
+  flat_here (an_arrow q ds ps t u s) = inside (Expr q) (shape.ArrowFunctionExpression ds) [] number (ps ▸ (t ▸ none)) (ps ▸ (u ▸ none)) (later _ ps (t ▸ none) (u ▸ none) (first _ t u none (lost_step t V k s)))
 
   mutual
-    flat : {p : Position} {t u : Tree} → Step O p t u → Step (Loses V k) p t u
+    flat : {p : Position} {t u : Tree} → Step O p t u → Step (Loses k) p t u
     flat (here p n w r) = flat_here r
     flat (inside p h xs n ts us s) = inside p h xs n ts us (flat_in s)
 
-    flat_in : {π : ℕ → Position} {ts us : Trees} → StepIn O π ts us → StepIn (Loses V k) π ts us
+    flat_in : {π : ℕ → Position} {ts us : Trees} → StepIn O π ts us → StepIn (Loses k) π ts us
     flat_in (first π t u ts s) = first π t u ts (flat s)
     flat_in (later π t ts us s) = later π t ts us (flat_in s)
 
@@ -148,26 +150,26 @@ module _ (S : BodySets) (V : Assured) (k number : ℕ) (starts : (X : VariableSe
     quiet_steps (later π t ts us s) a = later π t ts us (quiet_steps s a.1)
 
   rooted_there : {p : Position} {t u : Tree} → Step O p t u → u ≡ over t (children u)
-  rooted_there (here _ _ _ (a_function p d g ds name ps t u s o)) = refl
-  rooted_there (here _ _ _ (an_arrow q ds ps t u s o)) = refl
+  rooted_there (here _ _ _ (a_function p d g ds name ps t u s)) = refl
+  rooted_there (here _ _ _ (an_arrow q ds ps t u s)) = refl
   rooted_there (inside p h xs n ts us s) = refl
 
   -- it is made alike, and read alike
   made_alike : {p : Position} {n w : Tree} → O p n w → SameAt p n w
-  made_alike (a_function p d g ds name ps t u s o) = created_same d g ds number name ps t u p
-  made_alike (an_arrow q ds ps t u s o) = arrow_created ds number ps t u (Expr q)
+  made_alike (a_function p d g ds name ps t u s) = created_same d g ds number name ps t u p
+  made_alike (an_arrow q ds ps t u s) = arrow_created ds number ps t u (Expr q)
 
   read_alike : {p : Position} {n w : Tree} → O p n w → summary n ≡ summary w
-  read_alike (a_function p d g ds name ps t u s o) = ap (λ i. summary_of (shape.Function d g ds) [] number (summary name ∷ (summary ps ∷ (i ∷ [])))) (lost_read V k s)
-  read_alike (an_arrow q ds ps t u s o) = ap (λ i. summary_of (shape.ArrowFunctionExpression ds) [] number (summary ps ∷ (i ∷ []))) (lost_read V k s)
+  read_alike (a_function p d g ds name ps t u s) = ap (λ i. summary_of (shape.Function d g ds) [] number (summary name ∷ (summary ps ∷ (i ∷ [])))) (lost_read t V k s)
+  read_alike (an_arrow q ds ps t u s) = ap (λ i. summary_of (shape.ArrowFunctionExpression ds) [] number (summary ps ∷ (i ∷ []))) (lost_read t V k s)
 
   no_piece : {p : Position} {n w : Tree} → O p n w → is_piece (shape_of n) ≡ false
-  no_piece (a_function p d g ds name ps t u s o) = refl
-  no_piece (an_arrow q ds ps t u s o) = refl
+  no_piece (a_function p d g ds name ps t u s) = refl
+  no_piece (an_arrow q ds ps t u s) = refl
 
   kind_alike : {p : Position} {n w : Tree} → O p n w → arrow_kind (shape_of n) ≡ arrow_kind (shape_of w)
-  kind_alike (a_function p d g ds name ps t u s o) = refl
-  kind_alike (an_arrow q ds ps t u s o) = refl
+  kind_alike (a_function p d g ds name ps t u s) = refl
+  kind_alike (an_arrow q ds ps t u s) = refl
 
   -- ---- its bodies
 
@@ -179,19 +181,19 @@ module _ (S : BodySets) (V : Assured) (k number : ℕ) (starts : (X : VariableSe
     after first_bodies bs cs h = without.each_under W S E first_bodies bs first_bodies cs (without.itself_under W S E first_bodies) h
 
     own_bodies : {p : Position} {n w : Tree} → O p n w → Avoids E w → (a : Around) → BodiesUnder W S E (bodies a n) (bodies a w)
-    own_bodies (a_function p d g ds name ps t u s o) v a =
+    own_bodies (a_function p d g ds name ps t u s) v a =
         let inner = below a (shape.Function d g ds) (name ▸ (ps ▸ (t ▸ none))) in
         let own = λ (x : Tree). body_of a (shape.Function d g ds) number (function_over d g ds number name ps x) (name ▸ (ps ▸ (x ▸ none))) in
         without.each_under W S E (own t) _ (own u) _
-        (inl (record { number = refl; kind = inl refl; strict = refl; asks_this = refl; same = λ e z y X g. lost_runs V k e (permitted W E e z) (steadies e y) s o v.1.1.1.0 FunctionStatements tt X (starts X g) }), tt)
-        (after (bodies (inner 0) name) _ _ (after (bodies (inner 1) ps) _ _ (inside_kept t u (inner 2) (lost_bodies V k s (inner 2)))))
-    own_bodies (an_arrow q ds ps t u s o) v a =
+        (inl (record { number = refl; kind = inl refl; strict = refl; asks_this = refl; same = λ e z y X g. lost_runs t V k e (permitted W E e z) y s (λ j. omega arith) (known_off t V) v.1.1.1.0 FunctionStatements tt X (known_begins t V X g) }), tt)
+        (after (bodies (inner 0) name) _ _ (after (bodies (inner 1) ps) _ _ (inside_kept t u (inner 2) (lost_bodies t V k s (inner 2)))))
+    own_bodies (an_arrow q ds ps t u s) v a =
         let inner = below a (shape.ArrowFunctionExpression ds) (ps ▸ (t ▸ none)) in
         let own = λ (x : Tree). body_of a (shape.ArrowFunctionExpression ds) number (arrow_over ds number ps x) (ps ▸ (x ▸ none)) in
-        let kind = lost_kind V k s in
+        let kind = lost_kind t V k s in
         without.each_under W S E (own t) _ (own u) _
-        (inl (record { number = refl; kind = inl kind; strict = refl; asks_this = refl; same = λ e z y X g. subst (λ l. RunsAs e (arrow_kind (shape_of t)) l X t u) kind (lost_runs V k e (permitted W E e z) (steadies e y) s o v.1.1.0 (arrow_kind (shape_of t)) (body_fits (shape_of t)) X (starts X g)) }), tt)
-        (after (bodies (inner 0) ps) _ _ (inside_kept t u (inner 1) (lost_bodies V k s (inner 1))))
+        (inl (record { number = refl; kind = inl kind; strict = refl; asks_this = refl; same = λ e z y X g. subst (λ l. RunsAs e (arrow_kind (shape_of t)) l X t u) kind (lost_runs t V k e (permitted W E e z) y s (λ j. omega arith) (known_off t V) v.1.1.0 (arrow_kind (shape_of t)) (body_fits (shape_of t)) X (known_begins t V X g)) }), tt)
+        (after (bodies (inner 0) ps) _ _ (inside_kept t u (inner 1) (lost_bodies t V k s (inner 1))))
 
     keeps_bodies : KeepsBodiesUnder W S E Quiet
     keeps_bodies = record {
@@ -203,33 +205,28 @@ module _ (S : BodySets) (V : Assured) (k number : ℕ) (starts : (X : VariableSe
     }
 
     owner_kept : (K : Shape → Bool) (t u : Tree) → Step O Elsewhere t u → IsWellShaped t → ProgramIsKeptUnder K W S t u
-    owner_kept K t u s e = program_kept V k K W S t u (flat s) e (rooted_there s) (λ v. step_under Quiet W S E keeps_bodies Elsewhere t u (quiet_step s v) v false (one a_program) refl e outermost whole_stands)
+    owner_kept K t u s e = program_kept k K W S t u (flat s) e (rooted_there s) (λ v. step_under Quiet W S E keeps_bodies Elsewhere t u (quiet_step s v) v false (one a_program) refl e outermost whole_stands)
 
 -- ---- all of them
 
--- the number of a body, what is known in this code of it, and the symbol that is lost
-record Place (S : BodySets) : Type 0 where
+-- the number of a body, and the symbol that is lost
+record Place : Type 0 where
   number : ℕ
-  code : Tree
   lost_symbol : ℕ
 
-abbrev known_at : (S : BodySets) → Place S → Assured
-known_at S i = known_in i.code (S i.number)
-
-abbrev Placed : (S : BodySets) → Place S → Position → Tree → Tree → Type 0
-Placed S i = Owner (known_at S i) i.lost_symbol i.number
+abbrev Placed : (S : BodySets) → Place → Position → Tree → Tree → Type 0
+Placed S i = Owner S i.lost_symbol i.number
 
 module _ (S : BodySets) where
   abbrev Somewhere : Position → Tree → Tree → Type 0
-  Somewhere p n w = (i : Place S) × Placed S i p n w
+  Somewhere p n w = (i : Place) × Placed S i p n w
 
   of_function : (p : Position) (n w : Tree) → OwnFunctionRow PastBlocks S n w → Somewhere p n w
   of_function p n w r =
-      let V = known_in r.before (S r.number) in
-      let (k, s) = some_step V r.step in
+      let (k, s) = some_step r.before (S r.number) r.step in
       subst (λ v. Somewhere p v w) (sym r.shape)
       (subst (Somewhere p (function_over r.is_declaration r.is_generator r.directives r.number r.name r.parameters r.before)) (sym r.written)
-      (record { number = r.number; code = r.before; lost_symbol = k }, a_function p r.is_declaration r.is_generator r.directives r.name r.parameters r.before r.after s (known_off r.before (S r.number))))
+      (record { number = r.number; lost_symbol = k }, a_function p r.is_declaration r.is_generator r.directives r.name r.parameters r.before r.after s))
 
   somewhere : (p : Position) (n w : Tree) → OwnCode PastBlocks S p n w → Somewhere p n w
   somewhere (Stmt q) n w (inl r) = of_function (Stmt q) n w r
@@ -237,39 +234,38 @@ module _ (S : BodySets) where
   somewhere Method n w (inl r) = of_function Method n w r
   somewhere Elsewhere n w (inl r) = of_function Elsewhere n w r
   somewhere (Expr q) n w (inr r) =
-      let V = known_in r.before (S r.number) in
-      let (k, s) = some_step V r.step in
+      let (k, s) = some_step r.before (S r.number) r.step in
       subst (λ v. Somewhere (Expr q) v w) (sym r.shape)
       (subst (Somewhere (Expr q) (arrow_over r.directives r.number r.parameters r.before)) (sym r.written)
-      (record { number = r.number; code = r.before; lost_symbol = k }, an_arrow q r.directives r.parameters r.before r.after s (known_off r.before (S r.number))))
+      (record { number = r.number; lost_symbol = k }, an_arrow q r.directives r.parameters r.before r.after s))
   somewhere p n w (inl r) = absurd r
   somewhere p n w (inr r) = absurd r
 
   is_one : (p : Position) (n w : Tree) → OwnCode PastBlocks S p n w → is_body (shape_of n) ≡ true
   is_one p n w r = let (i, o) = somewhere p n w r in by o
     where
-      by : {V : Assured} {k m : ℕ} {p : Position} {n w : Tree} → Owner V k m p n w → is_body (shape_of n) ≡ true
-      by (a_function p d g ds name ps t u s o) = refl
-      by (an_arrow q ds ps t u s o) = refl
+      by : {k m : ℕ} {p : Position} {n w : Tree} → Owner S k m p n w → is_body (shape_of n) ≡ true
+      by (a_function p d g ds name ps t u s) = refl
+      by (an_arrow q ds ps t u s) = refl
 
   pub code_lawful : (K : Shape → Bool) (W : VariableSet) → LawfulRooted K W S (OwnCode PastBlocks S)
   code_lawful K W = bodies_rooted (OwnCode PastBlocks S) is_one K W S kept
     where
       kept : (t u : Tree) → Step (OwnCode PastBlocks S) Elsewhere t u → IsWellShaped t → ProgramIsKeptUnder K W S t u
-      kept t u s e = let (i, o) = step_of (Place S) (Placed S) (step_on somewhere s) in
-          owner_kept S (known_at S i) i.lost_symbol i.number (known_begins i.code (S i.number)) (known_steady i.code (S i.number)) W K t u o e
+      kept t u s e = let (i, o) = step_of Place (Placed S) (step_on somewhere s) in
+          owner_kept S i.lost_symbol i.number W K t u o e
 
   -- ---- the program itself
 
-  module _ (K : Shape → Bool) (W : VariableSet) (m : Bool) (ds : List (List ℕ)) (number : ℕ) (t u : Tree) (r : OwnStep (PastBlocks (known_in t (S number))) StatementList t u) where
+  module _ (K : Shape → Bool) (W : VariableSet) (m : Bool) (ds : List (List ℕ)) (number : ℕ) (t u : Tree) (r : OwnStep (own_rows PastBlocks t (S number)) no_symbols StatementList t u) where
     abbrev known : Assured
-    known = known_in t (S number)
+    known = S number
 
     abbrev lost_there : ℕ
-    lost_there = (some_step known r).0
+    lost_there = (some_step t known r).0
 
-    abbrev own_step : OwnStep (Loses known lost_there) StatementList t u
-    own_step = (some_step known r).1
+    abbrev own_step : OwnStep (LosesThere t known lost_there) no_symbols StatementList t u
+    own_step = (some_step t known r).1
 
     abbrev gone_there : VariableSet
     gone_there = alone (Declared lost_there)
@@ -280,7 +276,7 @@ module _ (S : BodySets) where
     abbrev f' : Tree
     f' = program_over m ds number u
 
-    program_off : Off (hidden f) known.initial
+    program_off : Off (hidden f) (at_start t known).initial
     program_off = over_off f t (S number) (λ i h. ap (λ b. b || false) h)
 
     program_bodies : Avoids gone_there f' → BodiesUnder W S gone_there (bodies_in f) (bodies_in f')
@@ -288,13 +284,13 @@ module _ (S : BodySets) where
         let inner = below outermost (shape.Program m ds) (t ▸ none) 0 in
         let own = λ (x : Tree). body_of outermost (shape.Program m ds) number (program_over m ds number x) (x ▸ none) in
         without.each_under W S gone_there (own t) _ (own u) _
-        (inl (record { number = refl; kind = inl refl; strict = refl; asks_this = refl; same = λ e z y X g. lost_runs_over known lost_there e (permitted W gone_there e z) (known_steady t (S number) e y) (shape.Program m ds) number Elsewhere (own_first _ t u none own_step) program_off v.1 Program tt X (known_begins t (S number) X g) }), tt)
-        (without.each_under W S gone_there (bodies inner t) [] (bodies inner u) [] (bodies_there W S gone_there (bodies inner t) (bodies inner u) (lost_bodies known lost_there own_step inner)) tt)
+        (inl (record { number = refl; kind = inl refl; strict = refl; asks_this = refl; same = λ e z y X g. lost_runs_over t known lost_there e (permitted W gone_there e z) y (shape.Program m ds) number Elsewhere (own_first _ _ t u none own_step) (λ j. omega arith) program_off v.1 Program tt X (known_begins t (S number) X g) }), tt)
+        (without.each_under W S gone_there (bodies inner t) [] (bodies inner u) [] (bodies_there W S gone_there (bodies inner t) (bodies inner u) (lost_bodies t known lost_there own_step inner)) tt)
 
     whole_kept : IsWellShaped f → ProgramIsKeptUnder K W S f f'
-    whole_kept e = program_kept known lost_there K W S f f' (inside Elsewhere (shape.Program m ds) [] number (t ▸ none) (u ▸ none) (first _ t u none (as_step (Loses known lost_there) own_step))) e refl program_bodies
+    whole_kept e = program_kept lost_there K W S f f' (inside Elsewhere (shape.Program m ds) [] number (t ▸ none) (u ▸ none) (first _ t u none (lost_step t known lost_there own_step))) e refl program_bodies
 
-  of_program : (P : Tree → Tree → Type 0) → ((m : Bool) (ds : List (List ℕ)) (number : ℕ) (t u : Tree) → OwnStep (PastBlocks (known_in t (S number))) StatementList t u → P (program_over m ds number t) (program_over m ds number u)) → (p : Position) (n w : Tree) → OwnProgram PastBlocks S p n w → P n w
+  of_program : (P : Tree → Tree → Type 0) → ((m : Bool) (ds : List (List ℕ)) (number : ℕ) (t u : Tree) → OwnStep (own_rows PastBlocks t (S number)) no_symbols StatementList t u → P (program_over m ds number t) (program_over m ds number u)) → (p : Position) (n w : Tree) → OwnProgram PastBlocks S p n w → P n w
   of_program P h Elsewhere n w r = subst (λ v. P v w) (sym r.shape) (subst (P (program_over r.is_module r.directives r.number r.before)) (sym r.written) (h r.is_module r.directives r.number r.before r.after r.step))
   of_program P h p n w r = absurd r
 

@@ -1,5 +1,5 @@
 -- What a row of members writes keeps what the code of a body has to keep, where that is so which is known of the body.
-use Rattle.std.proofs.Common.{◌≡◌, ◌<◌, Bool, true, false, refl, sym, ap, subst, ◌∙◌, inl, inr}
+use Rattle.std.proofs.Common.{◌≡◌, ◌<◌, ◌≤◌, ℕ, Bool, true, false, refl, sym, ap, subst, ◌∙◌, inl, inr}
 use Rattle.std.specs.Prelude.{Option, ◌||◌}
 use Rattle.std.proofs.lemmas.Bool.{and_parts}
 use Rattle.mini_model.specs.declared.kind.PropertyKind.{PropertyKind}
@@ -23,7 +23,7 @@ use Rattle.mini_kept.proofs.FrameLists.{same_frames}
 use Rattle.mini_rows.specs.Arranged.{KeptAt}
 use Rattle.mini_rows.specs.Members.{Object, OfThis, OfName, is_kept, begins_at, is_ready, Index, Written, Held, is_kept_index, is_ready_index, MemberRow}
 use Rattle.mini_rows.specs.Past.{leaves}
-use Rattle.mini_rows.specs.Steady.{SteadyRow, KeepsOwn, ReadsMore, SteadyMeansSame, SteadyLightens}
+use Rattle.mini_rows.specs.Steady.{bindings, SteadyRow, KeepsOwn, ReadsMore, SteadyMeansSame, SteadyLightens}
 use Rattle.mini_rows.specs.Unused.{resolved}
 use Rattle.mini_rows.proofs.FadingSteps.{same_fades}
 use Rattle.mini_rows.proofs.MemberKept.{Keeps, keeps}
@@ -67,6 +67,7 @@ steady_own V = record {
   };
   fixed = λ p n w r. (kept p n w r).fixed;
   declared = λ p n w r. (kept p n w r).declared;
+  bound = at_place V (λ p n w. (k : ℕ) → bindings k w ≤ bindings k n) (λ s n w k. k.bound);
   bodies = λ p n w r a. subst (BodiesKept (bodies a n)) (at_place V (λ p n w. (a : Around) → bodies a n ≡ bodies a w) (λ s n w k. k.bodies) p n w r a) (kept_itself (bodies a n));
   frames = λ p n w r q. same_frames (frames q n) (frames q w) (at_place V (λ p n w. (q : Option PropertyKind) → frames q n ≡ frames q w) (λ s n w k. k.frames) p n w r q);
   lightens = steady_lightens V;

@@ -1,6 +1,6 @@
 -- What a row of steady names writes in the body of a function is lawful where those names are steady in that body.
-use Rattle.std.specs.Prelude.{ℕ, zero, suc, ◌≡◌, ◌<◌, ◌⊎◌, refl, Bool, true, false, List, [], ◌∷◌, ◌++◌, Option, None, not, Contains}
-use Rattle.std.proofs.Common.{ap, ◌∙◌, sym, subst, subst₂, length, inl, inr, true≢false}
+use Rattle.std.specs.Prelude.{ℕ, zero, suc, ◌≡◌, ◌<◌, ◌≤◌, ◌⊎◌, refl, Bool, true, false, List, [], ◌∷◌, ◌++◌, Option, None, not, Contains}
+use Rattle.std.proofs.Common.{ap, ◌∙◌, sym, subst, subst₂, length, inl, inr, arith, true≢false}
 use Rattle.std.proofs.lemmas.Bool.{and_parts}
 use Rattle.mini_model.specs.declared.kind.PropertyKind.{PropertyKind}
 use Rattle.mini_model.specs.declared.name.Name.{Name}
@@ -16,7 +16,7 @@ use Rattle.mini_accept.specs.WellShaped.{a_statement, a_default_export, Slot, on
 use Rattle.mini_laws.specs.Value.{Variable, Declared, Global, VariableSet, nothing, variables}
 use Rattle.mini_laws.specs.State.{State, Environment}
 use Rattle.mini_laws.specs.Demand.{Demand, As, Callee, OfType, Deleted, AnEntry, Stat, Declares, Binds, Request}
-use Rattle.mini_laws.specs.Naming.{summary, summary_of, summaries, facts, facts_all, naming, nth_absent, scope_of}
+use Rattle.mini_laws.specs.Naming.{Summary, summary, summary_of, summaries, facts, facts_all, naming, nth_absent, scope_of}
 use Rattle.mini_laws.specs.Step.{step, means}
 use Rattle.mini_laws.specs.Rows.{SameAt}
 use Rattle.mini_laws.specs.Fixity.{fixed_by}
@@ -37,8 +37,8 @@ use Rattle.mini_kept.specs.Frames.{Frame, FramesKept, frame_of, frames, frames_f
 use Rattle.mini_kept.specs.KeepsFrames.{KeepsFunction, function_over}
 use Rattle.mini_kept.specs.KeepsLoosely.{KeepsLoosely}
 use Rattle.mini_kept.specs.KeepsNames.{is_rewritten_place}
-use Rattle.mini_kept.specs.KeepsShapes.{AskedAlike}
-use Rattle.mini_kept.specs.Lifted.{is_piece, is_rooted_place, KeepsRoot}
+use Rattle.mini_kept.specs.KeepsShapes.{AskedAlike, KeepsShapes}
+use Rattle.mini_kept.specs.Lifted.{is_piece, is_rooted_place, KeepsRoot, KeepsNames}
 use Rattle.mini_kept.specs.Loosely.{SteadiesWith, LawfulUnder}
 use Rattle.mini_kept.specs.Placed.{is_statement_list, fits_place}
 use Rattle.mini_kept.specs.Without.{none_steady, Assured, BodySets, Steadies, Begins, BodiesUnder}
@@ -53,12 +53,13 @@ use Rattle.mini_kept.proofs.FrameLists.{each_of as each_frame}
 use Rattle.mini_kept.proofs.WithoutLists.{from_kept, more_under, nothing_within, each_under, itself_under}
 use Rattle.mini_rows.specs.Fading.{Fades, FadingFrom}
 use Rattle.mini_rows.specs.Past.{binds}
-use Rattle.mini_rows.specs.Steady.{SteadyRow, known_in, KeepsOwn, has_body, OwnStep, own_here, own_inside, OwnStepIn, own_first, own_later, OwnRows, LexicalRows, OwnFunctionRow, OwnFunction, SteadyFunctionsAreLawful, SteadyFunctionsLighten, LexicalFunctionsAreLawful, LexicalFunctionsLighten}
+use Rattle.mini_rows.specs.Steady.{SteadyRow, bindings, all_bindings, Symbols, no_symbols, passing, behind, begun_at, valued, known_in, own_rows, KeepsOwn, has_body, OwnStep, own_here, own_inside, OwnStepIn, own_first, own_later, OwnRows, LexicalRows, OwnFunctionRow, OwnFunction, SteadyFunctionsAreLawful, SteadyFunctionsLighten, LexicalFunctionsAreLawful, LexicalFunctionsLighten}
 use Rattle.mini_rows.proofs.Fading.{fading_rules, fading_sound}
 use Rattle.mini_rows.proofs.FadingSteps.{trees_fade_from, tree_itself, runs_alike}
 use Rattle.mini_rows.proofs.LexicalKept.{lexical_own}
 use Rattle.mini_rows.proofs.SteadyKept.{steady_own}
 use Rattle.mini_rows.proofs.Unbound.{unhidden}
+use Rattle.mini_rows.proofs.Valued.{behind_off, more_known}
 
 -- ---- a function is made alike, whatever its body is
 
@@ -94,26 +95,30 @@ pub not_true : (b : Bool) → not b ≡ true → b ≡ false
 not_true true e = absurd (true≢false (sym e))
 not_true false e = refl
 
+-- of a body of which this is known, what is known as its code starts
+abbrev pub at_start : Tree → Assured → Assured
+at_start t V = known_in t V no_symbols
+
 -- no scope in the code hides it
-pub known_off : (t : Tree) (V : Assured) → Off (hidden t) (known_in t V).initial
+pub known_off : (t : Tree) (V : Assured) → Off (hidden t) (at_start t V).initial
 unfolding Off
 known_off t V (Declared k) h = unhidden k t (not_true (binds k t) (and_parts (V.initial (Declared k)) (not (binds k t)) h).1)
 known_off t V (Global s) h = absurd (true≢false (sym h))
 
 -- nor does one in a node over it
-pub over_off : (f t : Tree) (V : Assured) → ((k : ℕ) → binds k t ≡ false → binds k f ≡ false) → Off (hidden f) (known_in t V).initial
+pub over_off : (f t : Tree) (V : Assured) → ((k : ℕ) → binds k t ≡ false → binds k f ≡ false) → Off (hidden f) (at_start t V).initial
 unfolding Off
 over_off f t V h (Declared k) e = unhidden k f (h k (not_true (binds k t) (and_parts (V.initial (Declared k)) (not (binds k t)) e).1))
 over_off f t V h (Global s) e = absurd (true≢false (sym e))
 
 -- it has its value as the body starts
-pub known_begins : (t : Tree) (V : Assured) (X : VariableSet) → Begins V X → Within (known_in t V).initial X
+pub known_begins : (t : Tree) (V : Assured) (X : VariableSet) → Begins V X → Within (at_start t V).initial X
 unfolding Within
 known_begins t V X b (Declared k) h = b (Declared k) (and_parts (V.initial (Declared k)) (not (binds k t)) h).0
 known_begins t V X b (Global s) h = absurd (true≢false (sym h))
 
-pub known_steady : (t : Tree) (V : Assured) (e : Environment) → Steadies V e → Steadies (known_in t V) e
-known_steady t V e z = record { steady = z.steady; unshared = z.unshared; has_this = z.has_this }
+pub known_steady : (t : Tree) (V : Assured) (L : Symbols) (e : Environment) → Steadies V e → Steadies (known_in t V L) e
+known_steady t V L e z = record { steady = z.steady; unshared = z.unshared; has_this = z.has_this }
 
 -- and wherever a child is evaluated
 along_still : (I S : VariableSet) (H : List Variable) (ts : Trees) → Within I S → Off H I → (i : ℕ) → Within I (along H S ts i)
@@ -158,51 +163,139 @@ no_frame : (k : Option PropertyKind) (h : Shape) (o : Tree) (xs : List Name) →
 no_frame k (shape.Program m ds) o xs e = absurd (true≢false e)
 no_frame k h o xs e = refl
 
-module _ (V : Assured) (R : Position → Tree → Tree → Type 0) (k : KeepsOwn V R) where
+-- some row of F reads n as w, whatever is known
+abbrev pub AnyRow : OwnRows → Position → Tree → Tree → Type 0
+AnyRow F p n w = (V : Assured) × F V p n w
+
+-- what such a row keeps besides what it means
+pub record KeepsForm (R : Position → Tree → Tree → Type 0) : Type 0 where
+  pub reads : (p : Position) (n w : Tree) → R p n w → summary n ≡ summary w
+  pub kind : (p : Position) (n w : Tree) → R p n w → arrow_kind (shape_of n) ≡ arrow_kind (shape_of w)
+  pub shapes : KeepsShapes R
+  pub names : KeepsNames R
+  pub fixed : (p : Position) (n w : Tree) → R p n w → (x : Variable) → fixed_by n x ≡ fixed_by w x
+  pub declared : (p : Position) (n w : Tree) → R p n w → (x : Name) → Contains (declared w) x → Contains (declared n) x
+  pub bound : (p : Position) (n w : Tree) → R p n w → (k : ℕ) → bindings k w ≤ bindings k n
+  pub bodies : (p : Position) (n w : Tree) → R p n w → (a : Around) → BodiesKept (bodies a n) (bodies a w)
+  pub frames : (p : Position) (n w : Tree) → R p n w → (k : Option PropertyKind) → FramesKept (frames k n) (frames k w)
+  pub lightens : Lightens R
+
+pub any_form : (F : OwnRows) → ((V : Assured) → KeepsOwn V (F V)) → KeepsForm (AnyRow F)
+any_form F keeps = record {
+  reads = λ p n w r. (keeps r.0).reads p n w r.1;
+  kind = λ p n w r. (keeps r.0).kind p n w r.1;
+  shapes = record {
+    fitting = λ p n w r. (keeps r.0).shapes.fitting p n w r.1;
+    asked = λ p n w r. (keeps r.0).shapes.asked p n w r.1;
+  };
+  names = record {
+    places = λ p n w r. (keeps r.0).names.places p n w r.1;
+    pieces = λ p n w r. (keeps r.0).names.pieces p n w r.1;
+    keeps = λ p n w r. (keeps r.0).names.keeps p n w r.1;
+  };
+  fixed = λ p n w r. (keeps r.0).fixed p n w r.1;
+  declared = λ p n w r. (keeps r.0).declared p n w r.1;
+  bound = λ p n w r. (keeps r.0).bound p n w r.1;
+  bodies = λ p n w r. (keeps r.0).bodies p n w r.1;
+  frames = λ p n w r. (keeps r.0).frames p n w r.1;
+  lightens = record {
+    lighter = λ p n w r. (keeps r.0).lightens.lighter p n w r.1;
+    absent = λ p n w r. (keeps r.0).lightens.absent p n w r.1;
+    items = λ p n w r. (keeps r.0).lightens.items p n w r.1;
+    is_zero = λ p n w r. (keeps r.0).lightens.is_zero p n w r.1;
+    chooses = λ p n w r. (keeps r.0).lightens.chooses p n w r.1;
+  };
+}
+
+-- what is known at each child has its value there, and no scope in them hides it
+module _ (c : Tree) (X : VariableSet) where
+  abbrev K : Symbols → VariableSet
+  K L = valued c L X
+
+  abbrev Fewer : Trees → Type 0
+  Fewer ts = (k : ℕ) → all_bindings k ts ≤ bindings k c
+
+  pub begun_off : (h : Shape) (p : Position) (L : Symbols) (ts : Trees) → Off (hidden_all ts) (K L) → Fewer ts → (i : ℕ) → Off (hidden_all ts) (K (begun_at h p L (summaries ts) i))
+  begun_off shape.Listed StatementList L ts o f i = behind_off c X L ts o f i
+  begun_off shape.Listed BodyList L ts o f i = behind_off c X L ts o f i
+  begun_off h p L ts o f i = o
+
+  nothing_behind : (L : Symbols) (is : List Summary) → behind L is 0 ≡ L
+  nothing_behind L [] = refl
+  nothing_behind L (s ∷ is) = refl
+
+  behind_along : (H : List Variable) (L : Symbols) (S : VariableSet) (ts : Trees) → Within (K L) S → ((i : ℕ) → Off H (K (behind L (summaries ts) i))) → (i : ℕ) → Within (K (behind L (summaries ts) i)) (along H S ts i)
+  behind_along H L S none w o i = w
+  behind_along H L S (t ▸ ts) w o zero = w
+  behind_along H L S (t ▸ ts) w o (suc i) =
+      let next = passing L (summary t).lets in
+      let off : Off H (K next) = subst (λ M. Off H (K M)) (nothing_behind next (summaries ts)) (o 1) in
+      behind_along H next (minus (plus S (summary t).lets) H) ts (within_minus (K next) _ H off (more_known c X L t S w)) (λ j. o (suc j)) i
+
+  listed_wide : (q : Demand) (L : Symbols) (S : VariableSet) (ts : Trees) → Fits StatementList q → Within (K L) S → Off (hidden_all ts) (K L) → Fewer ts → (i : ℕ) → Within (K (behind L (summaries ts) i)) (list_needs q S ts i)
+  listed_wide (Stat t) L S ts fit w o f i = behind_along (hidden_all ts) L S ts w (behind_off c X L ts o f) i
+  listed_wide q L S ts fit w o f i = absurd fit
+
+  body_listed : (q : Demand) → Fits BodyList q → Fits StatementList q
+  body_listed (Stat t) fit = tt
+  body_listed q fit = absurd fit
+
+  pub begun_wide : (h : Shape) (p : Position) (q : Demand) (L : Symbols) (S : VariableSet) (ts : Trees) → Fits p q → Within (K L) S → Off (hidden_all ts) (K L) → Fewer ts → (i : ℕ) → Within (K (begun_at h p L (summaries ts) i)) (needs h q S ts i)
+  begun_wide shape.Listed StatementList q L S ts fit w o f i = listed_wide q L S ts fit w o f i
+  begun_wide shape.Listed BodyList q L S ts fit w o f i = listed_wide q L S ts (body_listed q fit) w o f i
+  begun_wide h p q L S ts fit w o f i = needs_still h q (K L) S ts w o i
+
+module _ (F : OwnRows) (keeps : (V : Assured) → KeepsOwn V (F V)) (c : Tree) (V : Assured) where
+  abbrev R : Symbols → Position → Tree → Tree → Type 0
+  R = own_rows F c V
+
+  form : KeepsForm (AnyRow F)
+  form = any_form F keeps
+
   mutual
-    pub forget : {p : Position} {t u : Tree} → OwnStep R p t u → Step R p t u
-    forget (own_here p n w r) = here p n w r
-    forget (own_inside p h xs ts us b s) = inside p h xs 0 ts us (forget_in s)
+    pub forget : {L : Symbols} {p : Position} {t u : Tree} → OwnStep R L p t u → Step (AnyRow F) p t u
+    forget (own_here L p n w r) = here p n w (known_in c V L, r)
+    forget (own_inside L p h xs ts us b s) = inside p h xs 0 ts us (forget_in s)
 
-    forget_in : {π : ℕ → Position} {ts us : Trees} → OwnStepIn R π ts us → StepIn R π ts us
-    forget_in (own_first π t u ts s) = first π t u ts (forget s)
-    forget_in (own_later π t ts us s) = later π t ts us (forget_in s)
+    forget_in : {Λ : ℕ → Symbols} {π : ℕ → Position} {ts us : Trees} → OwnStepIn R Λ π ts us → StepIn (AnyRow F) π ts us
+    forget_in (own_first Λ π t u ts s) = first π t u ts (forget s)
+    forget_in (own_later Λ π t ts us s) = later π t ts us (forget_in s)
 
   mutual
-    pub own_read : {p : Position} {t u : Tree} → OwnStep R p t u → summary t ≡ summary u
-    own_read (own_here p n w r) = k.reads p n w r
-    own_read (own_inside p h xs ts us b s) = ap (λ is. summary_of h (variables xs) 0 is) (own_reads s)
+    pub own_read : {L : Symbols} {p : Position} {t u : Tree} → OwnStep R L p t u → summary t ≡ summary u
+    own_read (own_here L p n w r) = (keeps (known_in c V L)).reads p n w r
+    own_read (own_inside L p h xs ts us b s) = ap (λ is. summary_of h (variables xs) 0 is) (own_reads s)
 
-    own_reads : {π : ℕ → Position} {ts us : Trees} → OwnStepIn R π ts us → summaries ts ≡ summaries us
-    own_reads (own_first π t u ts s) = ap (λ i. i ∷ summaries ts) (own_read s)
-    own_reads (own_later π t ts us s) = ap (λ is. summary t ∷ is) (own_reads s)
+    own_reads : {Λ : ℕ → Symbols} {π : ℕ → Position} {ts us : Trees} → OwnStepIn R Λ π ts us → summaries ts ≡ summaries us
+    own_reads (own_first Λ π t u ts s) = ap (λ i. i ∷ summaries ts) (own_read s)
+    own_reads (own_later Λ π t ts us s) = ap (λ is. summary t ∷ is) (own_reads s)
 
-  around_same : (a : Around) (h : Shape) {π : ℕ → Position} {ts us : Trees} → OwnStepIn R π ts us → below a h ts ≡ below a h us
+  around_same : (a : Around) (h : Shape) {Λ : ℕ → Symbols} {π : ℕ → Position} {ts us : Trees} → OwnStepIn R Λ π ts us → below a h ts ≡ below a h us
   around_same a (shape.Class c) {ts = ts} {us = us} s = (λ j i. record (below a (shape.Class c) ts i) { extends = not (nth_absent (facts_all (own_reads s j)) 1) })
   around_same a h s = refl
 
   -- the bodies and frames in it are among those that were there
   mutual
-    pub own_bodies : {p : Position} {t u : Tree} → OwnStep R p t u → (a : Around) → BodiesKept (bodies a t) (bodies a u)
-    own_bodies (own_here p n w r) a = k.bodies p n w r a
-    own_bodies (own_inside p h xs ts us b s) a =
+    pub own_bodies : {L : Symbols} {p : Position} {t u : Tree} → OwnStep R L p t u → (a : Around) → BodiesKept (bodies a t) (bodies a u)
+    own_bodies (own_here L p n w r) a = (keeps (known_in c V L)).bodies p n w r a
+    own_bodies (own_inside L p h xs ts us b s) a =
         subst₂ BodiesKept (sym (λ i. no_body a h (node h xs 0 ts) ts b i ++ bodies_from (below a h ts) 0 ts)) (ap (λ α. bodies_from α 0 us) (around_same a h s) ∙ sym (λ i. no_body a h (node h xs 0 us) us b i ++ bodies_from (below a h us) 0 us))
         (own_bodies_in s (below a h ts) 0)
 
-    own_bodies_in : {π : ℕ → Position} {ts us : Trees} → OwnStepIn R π ts us → (α : ℕ → Around) (i : ℕ) → BodiesKept (bodies_from α i ts) (bodies_from α i us)
-    own_bodies_in (own_first π t u ts s) α i = each_body (bodies (α i) t) (bodies_from α (suc i) ts) (bodies (α i) u) (bodies_from α (suc i) ts) (own_bodies s (α i)) (kept_itself (bodies_from α (suc i) ts))
-    own_bodies_in (own_later π t ts us s) α i = each_body (bodies (α i) t) (bodies_from α (suc i) ts) (bodies (α i) t) (bodies_from α (suc i) us) (kept_itself (bodies (α i) t)) (own_bodies_in s α (suc i))
+    own_bodies_in : {Λ : ℕ → Symbols} {π : ℕ → Position} {ts us : Trees} → OwnStepIn R Λ π ts us → (α : ℕ → Around) (i : ℕ) → BodiesKept (bodies_from α i ts) (bodies_from α i us)
+    own_bodies_in (own_first Λ π t u ts s) α i = each_body (bodies (α i) t) (bodies_from α (suc i) ts) (bodies (α i) u) (bodies_from α (suc i) ts) (own_bodies s (α i)) (kept_itself (bodies_from α (suc i) ts))
+    own_bodies_in (own_later Λ π t ts us s) α i = each_body (bodies (α i) t) (bodies_from α (suc i) ts) (bodies (α i) t) (bodies_from α (suc i) us) (kept_itself (bodies (α i) t)) (own_bodies_in s α (suc i))
 
   mutual
-    pub own_frames : {p : Position} {t u : Tree} → OwnStep R p t u → (κ : Option PropertyKind) → FramesKept (frames κ t) (frames κ u)
-    own_frames (own_here p n w r) κ = k.frames p n w r κ
-    own_frames (own_inside p h xs ts us b s) κ =
+    pub own_frames : {L : Symbols} {p : Position} {t u : Tree} → OwnStep R L p t u → (κ : Option PropertyKind) → FramesKept (frames κ t) (frames κ u)
+    own_frames (own_here L p n w r) κ = (keeps (known_in c V L)).frames p n w r κ
+    own_frames (own_inside L p h xs ts us b s) κ =
         subst₂ FramesKept (sym (λ i. no_frame κ h (frame_outline h xs 0 ts) (globals h ts) b i ++ frames_from (property_below h) 0 ts)) (sym (λ i. no_frame κ h (frame_outline h xs 0 us) (globals h us) b i ++ frames_from (property_below h) 0 us))
         (own_frames_in s (property_below h) 0)
 
-    own_frames_in : {π : ℕ → Position} {ts us : Trees} → OwnStepIn R π ts us → (κ : ℕ → Option PropertyKind) (i : ℕ) → FramesKept (frames_from κ i ts) (frames_from κ i us)
-    own_frames_in (own_first π t u ts s) κ i = each_frame (frames (κ i) t) (frames_from κ (suc i) ts) (frames (κ i) u) (frames_from κ (suc i) ts) (own_frames s (κ i)) (λ f m. m)
-    own_frames_in (own_later π t ts us s) κ i = each_frame (frames (κ i) t) (frames_from κ (suc i) ts) (frames (κ i) t) (frames_from κ (suc i) us) (λ f m. m) (own_frames_in s κ (suc i))
+    own_frames_in : {Λ : ℕ → Symbols} {π : ℕ → Position} {ts us : Trees} → OwnStepIn R Λ π ts us → (κ : ℕ → Option PropertyKind) (i : ℕ) → FramesKept (frames_from κ i ts) (frames_from κ i us)
+    own_frames_in (own_first Λ π t u ts s) κ i = each_frame (frames (κ i) t) (frames_from κ (suc i) ts) (frames (κ i) u) (frames_from κ (suc i) ts) (own_frames s (κ i)) (λ f m. m)
+    own_frames_in (own_later Λ π t ts us s) κ i = each_frame (frames (κ i) t) (frames_from κ (suc i) ts) (frames (κ i) t) (frames_from κ (suc i) us) (λ f m. m) (own_frames_in s κ (suc i))
 
   -- and it does what it did where that is so which is known
   module _ (e : Environment) (z : Steadies V e) where
@@ -220,41 +313,45 @@ module _ (V : Assured) (R : Position → Tree → Tree → Type 0) (k : KeepsOwn
     facts_count none = refl
     facts_count (t ▸ ts) = ap suc (facts_count ts)
 
-    -- the variables that have values wherever it is evaluated
-    abbrev I : VariableSet
-    I = V.initial
+    -- the variables that have values wherever it is evaluated, behind what has declared L
+    abbrev I : Symbols → VariableSet
+    I L = (known_in c V L).initial
 
     mutual
-      own_goes : {p : Position} {t u : Tree} → OwnStep R p t u → (X : VariableSet) → Within I X → Off (hidden t) I → (q : Demand) → Fits p q → TreesGo U X q t u
-      own_goes (own_here p n w r) X wide o q f = trees_fade_from V.unshared e z.unshared I X wide q n w (k.means e z p n w r q f)
-      own_goes (own_inside p h xs ts us b s) X wide o q f =
-          let inner = off_back (scope_of h (summaries ts)) (hidden_all ts) I o in
+      own_goes : {L : Symbols} {p : Position} {t u : Tree} → OwnStep R L p t u → ((k : ℕ) → bindings k t ≤ bindings k c) → (X : VariableSet) → Within (I L) X → Off (hidden t) (I L) → (q : Demand) → Fits p q → TreesGo U X q t u
+      own_goes (own_here L p n w r) less X wide o q f = trees_fade_from V.unshared e z.unshared (I L) X wide q n w ((keeps (known_in c V L)).means e (known_steady c V L e z) p n w r q f)
+      own_goes (own_inside L p h xs ts us b s) less X wide o q f =
+          let inner = off_back (scope_of h (summaries ts)) (hidden_all ts) (I L) o in
+          let fewer : (k : ℕ) → all_bindings k ts ≤ bindings k c = λ k. omega (arith, less k) in
           one_node U sound h xs xs 0 0 ts us X q (ap (naming h q (variables xs) 0) (own_reads s)) refl (ap facts_all (own_reads s))
-          (own_goes_in s (needs h q X ts) (needs_still h q I X ts wide inner) inner (demand h (facts ts) q) (λ i. subst (λ m. Fits (child_position h p m i) (demand h (facts ts) q i)) (facts_count ts) (fits_children h (facts ts) p q f i)))
+          (own_goes_in s fewer (needs h q X ts) (begun_wide c V.initial h p q L X ts f wide inner fewer) (begun_off c V.initial h p L ts inner fewer) (demand h (facts ts) q) (λ i. subst (λ m. Fits (child_position h p m i) (demand h (facts ts) q i)) (facts_count ts) (fits_children h (facts ts) p q f i)))
 
-      own_goes_in : {π : ℕ → Position} {ts us : Trees} → OwnStepIn R π ts us → (X : ℕ → VariableSet) → ((i : ℕ) → Within I (X i)) → Off (hidden_all ts) I → (σ : ℕ → Demand) → ((i : ℕ) → Fits (π i) (σ i)) → PlaceGo U sound X σ (hidden_all ts) ts us
-      own_goes_in (own_first π t u ts s) X wide o σ f = place_cons U sound t u ts ts X σ (own_goes s (X 0) (wide 0) (off_front (hidden t) (hidden_all ts) I o) (σ 0) (f 0)) (kids_itself ts (λ i. X (suc i)) (λ i. σ (suc i)))
-      own_goes_in (own_later π t ts us s) X wide o σ f = place_cons U sound t t ts us X σ (tree_itself V.unshared e z.unshared (X 0) (σ 0) t) (own_goes_in s (λ i. X (suc i)) (λ i. wide (suc i)) (off_back (hidden t) (hidden_all ts) I o) (λ i. σ (suc i)) (λ i. f (suc i)))
+      own_goes_in : {Λ : ℕ → Symbols} {π : ℕ → Position} {ts us : Trees} → OwnStepIn R Λ π ts us → ((k : ℕ) → all_bindings k ts ≤ bindings k c) → (X : ℕ → VariableSet) → ((i : ℕ) → Within (I (Λ i)) (X i)) → ((i : ℕ) → Off (hidden_all ts) (I (Λ i))) → (σ : ℕ → Demand) → ((i : ℕ) → Fits (π i) (σ i)) → PlaceGo U sound X σ (hidden_all ts) ts us
+      own_goes_in (own_first Λ π t u ts s) less X wide o σ f = place_cons U sound t u ts ts X σ (own_goes s (λ k. omega (arith, less k)) (X 0) (wide 0) (off_front (hidden t) (hidden_all ts) (I (Λ 0)) (o 0)) (σ 0) (f 0)) (kids_itself ts (λ i. X (suc i)) (λ i. σ (suc i)))
+      own_goes_in (own_later Λ π t ts us s) less X wide o σ f = place_cons U sound t t ts us X σ (tree_itself V.unshared e z.unshared (X 0) (σ 0) t) (own_goes_in s (λ k. omega (arith, less k)) (λ i. X (suc i)) (λ i. wide (suc i)) (λ i. off_back (hidden t) (hidden_all ts) (I (Λ (suc i))) (o (suc i))) (λ i. σ (suc i)) (λ i. f (suc i)))
+
+    abbrev J : VariableSet
+    J = (at_start c V).initial
 
     -- from a start that initialises them
-    from_start : (q : Demand) (n w : Tree) → Off (hidden n) I → TreesGo U I q n w → (X : VariableSet) → Within I X → FadingFrom V.unshared X e q n w
+    from_start : (q : Demand) (n w : Tree) → Off (hidden n) J → TreesGo U J q n w → (X : VariableSet) → Within J X → FadingFrom V.unshared X e q n w
     unfolding TreesGo
-    from_start q n w o g X wide r x y f i = goes_map true _ (λ a. Fades V.unshared) _ (Fades V.unshared) (Fades V.unshared) _ _ (λ a s t b. b.0) (λ s t b. b.0) (g r I (within_refl I) o x y (f, init_less I X x wide i))
+    from_start q n w o g X wide r x y f i = goes_map true _ (λ a. Fades V.unshared) _ (Fades V.unshared) (Fades V.unshared) _ _ (λ a s t b. b.0) (λ s t b. b.0) (g r J (within_refl J) o x y (f, init_less J X x wide i))
 
-    pub own_runs : {p : Position} {t u : Tree} → OwnStep R p t u → Off (hidden t) I → (b : BodyKind) → Fits p (body_demand b) → (X : VariableSet) → Within I X → RunsAs e b b X t u
-    own_runs {t = t} {u = u} s o b fit X wide = runs_alike V.unshared e z.unshared b t u X (from_start (body_demand b) t u o (own_goes s I (within_refl I) o (body_demand b) fit) X wide)
+    pub own_runs : {p : Position} {t u : Tree} → OwnStep R no_symbols p t u → ((k : ℕ) → bindings k t ≤ bindings k c) → Off (hidden t) J → (b : BodyKind) → Fits p (body_demand b) → (X : VariableSet) → Within J X → RunsAs e b b X t u
+    own_runs {t = t} {u = u} s less o b fit X wide = runs_alike V.unshared e z.unshared b t u X (from_start (body_demand b) t u o (own_goes s less J (within_refl J) o (body_demand b) fit) X wide)
 
     -- and so does a node over it that is its own body
-    pub own_runs_over : (h : Shape) (n : ℕ) (p : Position) {ts us : Trees} → OwnStepIn R (child_position h p (count ts)) ts us → Off (hidden (node h [] n ts)) I → (b : BodyKind) → Fits p (body_demand b) → (X : VariableSet) → Within I X → RunsAs e b b X (node h [] n ts) (node h [] n us)
-    own_runs_over h n p {ts = ts} {us = us} s o b fit X wide = runs_alike V.unshared e z.unshared b (node h [] n ts) (node h [] n us) X (from_start (body_demand b) (node h [] n ts) (node h [] n us) o (goes (body_demand b) fit) X wide)
+    pub own_runs_over : (h : Shape) (n : ℕ) (p : Position) {ts us : Trees} → OwnStepIn R (λ i. no_symbols) (child_position h p (count ts)) ts us → ((k : ℕ) → all_bindings k ts ≤ bindings k c) → Off (hidden (node h [] n ts)) J → (b : BodyKind) → Fits p (body_demand b) → (X : VariableSet) → Within J X → RunsAs e b b X (node h [] n ts) (node h [] n us)
+    own_runs_over h n p {ts = ts} {us = us} s less o b fit X wide = runs_alike V.unshared e z.unshared b (node h [] n ts) (node h [] n us) X (from_start (body_demand b) (node h [] n ts) (node h [] n us) o (goes (body_demand b) fit) X wide)
       where
-        inner : Off (hidden_all ts) I
-        inner = off_back (scope_of h (summaries ts)) (hidden_all ts) I o
+        inner : Off (hidden_all ts) J
+        inner = off_back (scope_of h (summaries ts)) (hidden_all ts) J o
 
-        goes : (q : Demand) → Fits p q → TreesGo U I q (node h [] n ts) (node h [] n us)
+        goes : (q : Demand) → Fits p q → TreesGo U J q (node h [] n ts) (node h [] n us)
         goes q f =
-            one_node U sound h [] [] n n ts us I q (ap (naming h q [] n) (own_reads s)) refl (ap facts_all (own_reads s))
-            (own_goes_in s (needs h q I ts) (needs_still h q I I ts (within_refl I) inner) inner (demand h (facts ts) q) (λ i. subst (λ m. Fits (child_position h p m i) (demand h (facts ts) q i)) (facts_count ts) (fits_children h (facts ts) p q f i)))
+            one_node U sound h [] [] n n ts us J q (ap (naming h q [] n) (own_reads s)) refl (ap facts_all (own_reads s))
+            (own_goes_in s less (needs h q J ts) (needs_still h q J J ts (within_refl J) inner) (λ i. inner) (demand h (facts ts) q) (λ i. subst (λ m. Fits (child_position h p m i) (demand h (facts ts) q i)) (facts_count ts) (fits_children h (facts ts) p q f i)))
 
 -- bodies that are there stand for themselves
 pub kept_under : (S : BodySets) (W : VariableSet) (bs cs : List Body) → BodiesKept bs cs → BodiesUnder W S nothing bs cs
@@ -262,36 +359,36 @@ kept_under S W bs cs h = more_under nothing W none_steady S nothing nothing (λ 
 
 -- ---- an instance
 
-module _ (F : OwnRows) (keeps : (V : Assured) → KeepsOwn V (F V)) (S : BodySets) (W : VariableSet) (d g : Bool) (ds : List (List ℕ)) (k : ℕ) (name ps t u : Tree) (s : OwnStep (F (known_in t (S k))) Elsewhere t u) (p : Position) where
+module _ (F : OwnRows) (keeps : (V : Assured) → KeepsOwn V (F V)) (S : BodySets) (W : VariableSet) (d g : Bool) (ds : List (List ℕ)) (k : ℕ) (name ps t u : Tree) (s : OwnStep (own_rows F t (S k)) no_symbols Elsewhere t u) (p : Position) where
   abbrev f : Tree
   f = function_over d g ds k name ps t
 
   abbrev f' : Tree
   f' = function_over d g ds k name ps u
 
-  abbrev V : Assured
-  V = known_in t (S k)
+  abbrev Q : Position → Tree → Tree → Type 0
+  Q = AnyRow F
 
-  own : KeepsOwn V (F V)
-  own = keeps V
+  own : KeepsForm Q
+  own = any_form F keeps
 
-  whole : Step (F V) p f f'
-  whole = inside p (shape.Function d g ds) [] k (name ▸ (ps ▸ (t ▸ none))) (name ▸ (ps ▸ (u ▸ none))) (later _ name (ps ▸ (t ▸ none)) (ps ▸ (u ▸ none)) (later _ ps (t ▸ none) (u ▸ none) (first _ t u none (forget V (F V) own s))))
+  whole : Step Q p f f'
+  whole = inside p (shape.Function d g ds) [] k (name ▸ (ps ▸ (t ▸ none))) (name ▸ (ps ▸ (u ▸ none))) (later _ name (ps ▸ (t ▸ none)) (ps ▸ (u ▸ none)) (later _ ps (t ▸ none) (u ▸ none) (first _ t u none (forget F keeps t (S k) s))))
 
   whole_fits : (strict : Bool) (c : Slot) → fits_place p c ≡ true → fits strict c f ≡ true → fits strict c f' ≡ true
-  whole_fits strict c z e = any_step_fits (F V) own.names own.shapes whole strict c z e
+  whole_fits strict c z e = any_step_fits Q own.names own.shapes whole strict c z e
 
   whole_keeps : (strict : Bool) (c : Slot) → fits_place p c ≡ true → fits strict c f ≡ true → KeepsLoosely p f f'
-  whole_keeps strict c z e = step_keeps (F V) own.names whole strict c z e
+  whole_keeps strict c z e = step_keeps Q own.names whole strict c z e
 
   whole_declares : (x : Name) → Contains (declared f') x → Contains (declared f) x
-  whole_declares = reaches_declared (F V) own.declared (more p f f' f' whole (done p f'))
+  whole_declares = reaches_declared Q own.declared (more p f f' f' whole (done p f'))
 
   whole_fixed : (x : Variable) → fixed_by f x ≡ fixed_by f' x
-  whole_fixed x = step_fixed nothing (F V) (record { reads = own.reads; fixed = λ q n w r y c. own.fixed q n w r y }) whole x refl
+  whole_fixed x = step_fixed nothing Q (record { reads = own.reads; fixed = λ q n w r y c. own.fixed q n w r y }) whole x refl
 
   body_frames : FramesKept (frames None t) (frames None u)
-  body_frames = own_frames V (F V) own s None
+  body_frames = own_frames F keeps t (S k) s None
 
   abbrev own_frame : List Frame
   own_frame = frame_of None (shape.Function d g ds) k (frame_outline (shape.Function d g ds) [] k (name ▸ (ps ▸ (t ▸ none)))) (globals (shape.Function d g ds) (name ▸ (ps ▸ (t ▸ none))))
@@ -315,12 +412,12 @@ module _ (F : OwnRows) (keeps : (V : Assured) → KeepsOwn V (F V)) (S : BodySet
   others_kept a =
       each_under W S nothing (bodies (below_it a 0) name) _ (bodies (below_it a 0) name) _ (itself_under W S nothing (bodies (below_it a 0) name))
       (each_under W S nothing (bodies (below_it a 1) ps) _ (bodies (below_it a 1) ps) _ (itself_under W S nothing (bodies (below_it a 1) ps))
-      (each_under W S nothing (bodies (below_it a 2) t) [] (bodies (below_it a 2) u) [] (kept_under S W (bodies (below_it a 2) t) (bodies (below_it a 2) u) (own_bodies V (F V) own s (below_it a 2))) tt))
+      (each_under W S nothing (bodies (below_it a 2) t) [] (bodies (below_it a 2) u) [] (kept_under S W (bodies (below_it a 2) t) (bodies (below_it a 2) u) (own_bodies F keeps t (S k) s (below_it a 2))) tt))
 
   whole_bodies : (a : Around) → BodiesUnder W S nothing (bodies a f) (bodies a f')
   whole_bodies a =
       each_under W S nothing (own_body a t) (others a (bodies (below_it a 2) t)) (own_body a u) (others a (bodies (below_it a 2) u))
-      (inl (record { number = refl; kind = inl refl; strict = refl; asks_this = refl; same = λ e z y X g. own_runs V (F V) own e (known_steady t (S k) e y) s (known_off t (S k)) FunctionStatements tt X (known_begins t (S k) X g) }), tt)
+      (inl (record { number = refl; kind = inl refl; strict = refl; asks_this = refl; same = λ e z y X g. own_runs F keeps t (S k) e y s (λ j. omega arith) (known_off t (S k)) FunctionStatements tt X (known_begins t (S k) X g) }), tt)
       (others_kept a)
 
   whole_steadies : SteadiesWith W S p f f'
@@ -379,7 +476,7 @@ no_list p z e = cc e
 
 module _ (F : OwnRows) (keeps : (V : Assured) → KeepsOwn V (F V)) (S : BodySets) where
   -- what holds of each such function holds of what a row reads and writes
-  by_row : (P : Position → Tree → Tree → Type 0) → ((p : Position) (d g : Bool) (ds : List (List ℕ)) (k : ℕ) (name ps t u : Tree) → is_function_place p ≡ true → OwnStep (F (known_in t (S k))) Elsewhere t u → P p (function_over d g ds k name ps t) (function_over d g ds k name ps u)) → (p : Position) (n w : Tree) → OwnFunction F S p n w → P p n w
+  by_row : (P : Position → Tree → Tree → Type 0) → ((p : Position) (d g : Bool) (ds : List (List ℕ)) (k : ℕ) (name ps t u : Tree) → is_function_place p ≡ true → OwnStep (own_rows F t (S k)) no_symbols Elsewhere t u → P p (function_over d g ds k name ps t) (function_over d g ds k name ps u)) → (p : Position) (n w : Tree) → OwnFunction F S p n w → P p n w
   by_row P h p n w c =
       let (z, r) = placed_row F S p n w c in
       subst (λ v. P p v w) (sym r.shape) (subst (P p (function_over r.is_declaration r.is_generator r.directives r.number r.name r.parameters r.before)) (sym r.written) (h p r.is_declaration r.is_generator r.directives r.number r.name r.parameters r.before r.after z r.step))
@@ -405,7 +502,7 @@ module _ (F : OwnRows) (keeps : (V : Assured) → KeepsOwn V (F V)) (S : BodySet
       listed = λ p n w e c. absurd (no_list p (placed_row F S p n w c).0 e);
       exported = λ p n w c strict e. inr (function_kept p n w c strict (one a_default_export) e);
     };
-    reads = by_row (λ p n w. summary n ≡ summary w) (λ p d g ds k name ps t u z s. ap (λ i. summary_of (shape.Function d g ds) [] k (summary name ∷ (summary ps ∷ (i ∷ [])))) (own_read (known_in t (S k)) (F (known_in t (S k))) (keeps (known_in t (S k))) s));
+    reads = by_row (λ p n w. summary n ≡ summary w) (λ p d g ds k name ps t u z s. ap (λ i. summary_of (shape.Function d g ds) [] k (summary name ∷ (summary ps ∷ (i ∷ [])))) (own_read F keeps t (S k) s));
     kind = by_row (λ p n w. (strict : Bool) (c : Slot) → fits strict c n ≡ true → arrow_kind (shape_of n) ≡ arrow_kind (shape_of w)) (λ p d g ds k name ps t u z s strict c e. refl);
     declared = by_row (λ p n w. (x : Name) → Contains (declared w) x → Contains (declared n) x) (λ p d g ds k name ps t u z s. whole_declares F keeps S W d g ds k name ps t u s p);
     instances = λ p n w c. inl (by_row (SteadiesWith W S) (λ p d g ds k name ps t u z s. whole_steadies F keeps S W d g ds k name ps t u s p) p n w c);
@@ -417,7 +514,7 @@ module _ (F : OwnRows) (keeps : (V : Assured) → KeepsOwn V (F V)) (S : BodySet
   -- ---- lighter
 
   function_lighter : (p : Position) (n w : Tree) → OwnFunction F S p n w → weight p w < weight p n
-  function_lighter = by_row (λ p n w. weight p w < weight p n) (λ p d g ds k name ps t u z s. any_step_lighter (F (known_in t (S k))) (keeps (known_in t (S k))).lightens p _ _ (whole F keeps S nothing d g ds k name ps t u s p))
+  function_lighter = by_row (λ p n w. weight p w < weight p n) (λ p d g ds k name ps t u z s. any_step_lighter (AnyRow F) (any_form F keeps).lightens p _ _ (whole F keeps S nothing d g ds k name ps t u s p))
 
   function_outline : (p : Position) (n w : Tree) → OwnFunction F S p n w → outline n ≡ outline w
   function_outline = by_row (λ p n w. outline n ≡ outline w) (λ p d g ds k name ps t u z s. refl)

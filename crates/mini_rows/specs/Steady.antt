@@ -1,19 +1,19 @@
 -- Rows that rest on what is known of the body in which they stand, and the node that has the body.
-use Rattle.std.specs.Prelude.{◌≡◌, ◌&&◌, not, ℕ, zero, suc, Bool, true, false, List, Option, Contains}
+use Rattle.std.specs.Prelude.{◌≡◌, ◌≤◌, ◌+◌, ◌&&◌, ◌||◌, not, nat_lt, if◌then◌else◌, ℕ, zero, suc, Bool, true, false, List, [], ◌∷◌, Option, Contains}
 use Rattle.mini_model.specs.declared.kind.PropertyKind.{PropertyKind}
 use Rattle.mini_model.specs.declared.name.Name.{Name}
 use Rattle.mini_model.specs.declared.place.Position.{Position}
-use Rattle.mini_model.specs.declared.place.Position.TheVariants.{Expr, Stmt, Method, Elsewhere}
+use Rattle.mini_model.specs.declared.place.Position.TheVariants.{Expr, Stmt, Method, StatementList, BodyList, Elsewhere}
 use Rattle.mini_model.specs.declared.shape.Shape.{Shape}
 use Rattle.mini_model.specs.declared.shape.Shape.TheVariants as shape
-use Rattle.mini_model.specs.Tree.{Tree, Trees, node, ◌▸◌, count, shape_of}
+use Rattle.mini_model.specs.Tree.{Tree, Trees, node, none, ◌▸◌, count, shape_of}
 use Rattle.mini_model.specs.Position.{child_position}
 use Rattle.mini_laws.specs.Demand.{Demand}
 use Rattle.mini_laws.specs.Fits.{Fits}
 use Rattle.mini_laws.specs.Same.{Same}
 use Rattle.mini_laws.specs.State.{Environment}
-use Rattle.mini_laws.specs.Value.{Variable, Declared, Global, VariableSet, nothing}
-use Rattle.mini_laws.specs.Naming.{summary}
+use Rattle.mini_laws.specs.Value.{Variable, Declared, Global, VariableSet, is_in, nothing}
+use Rattle.mini_laws.specs.Naming.{Summary, summary, summaries}
 use Rattle.mini_laws.specs.Fixity.{fixed_by}
 use Rattle.mini_laws.specs.Bodies.{Around, bodies, arrow_kind}
 use Rattle.mini_laws.specs.Weights.{Lightens}
@@ -28,7 +28,7 @@ use Rattle.mini_kept.specs.Without.{Assured, BodySets, Steadies}
 use Rattle.mini_rows.specs.Fading.{FadingFrom}
 use Rattle.mini_rows.specs.Lexical.{LexicalRow}
 use Rattle.mini_rows.specs.Members.{MemberRow}
-use Rattle.mini_rows.specs.Past.{binds}
+use Rattle.mini_rows.specs.Past.{is_binding, is_symbol, binds}
 
 -- a row reads n as w at this place, in a body of which this is known
 abbrev pub SteadyRow : Assured → Position → Tree → Tree → Type 0
@@ -45,14 +45,58 @@ OwnRows = Assured → Position → Tree → Tree → Type 0
 abbrev pub LexicalRows : OwnRows
 LexicalRows V = LexicalRow V.unshared
 
--- the variables of X that have their values throughout this code of a body, if they have them as it starts: no scope in it declares them
-abbrev pub throughout : Tree → VariableSet → VariableSet
-throughout t X (Declared k) = X (Declared k) && not (binds k t)
-throughout t X (Global s) = false
+-- how often a symbol is among names, and how often a name with it is declared in a tree
+abbrev pub times_named : ℕ → List Name → ℕ
+times_named k [] = 0
+times_named k (x ∷ xs) = (if is_symbol k x.symbol then 1 else 0) + times_named k xs
 
--- what is known wherever a node stands in the code of a body of which this is known
-abbrev pub known_in : Tree → Assured → Assured
-known_in t V = record V { initial = throughout t V.initial }
+abbrev mutual
+  pub bindings : ℕ → Tree → ℕ
+  bindings k (node h xs n ts) = (if is_binding h then times_named k xs else 0) + all_bindings k ts
+
+  pub all_bindings : ℕ → Trees → ℕ
+  all_bindings k none = 0
+  all_bindings k (t ▸ ts) = bindings k t + all_bindings k ts
+
+-- some symbols
+abbrev pub Symbols : Type 0
+Symbols = ℕ → Bool
+
+abbrev pub no_symbols : Symbols
+no_symbols k = false
+
+-- and those of some variables besides
+abbrev pub passing : Symbols → List Variable → Symbols
+passing L xs k = L k || is_in (Declared k) xs
+
+-- in a list of statements: at each also what those before it declare, a `let`, a `const` or a class, which has its value from there on
+abbrev pub behind : Symbols → List Summary → ℕ → Symbols
+behind L [] i = L
+behind L (s ∷ is) zero = L
+behind L (s ∷ is) (suc i) = behind (passing L s.lets) is i
+
+abbrev pub holds_statements : Shape → Position → Bool
+holds_statements shape.Listed StatementList = true
+holds_statements shape.Listed BodyList = true
+holds_statements h p = false
+
+-- so at each child of a node at a place
+abbrev pub begun_at : Shape → Position → Symbols → List Summary → ℕ → Symbols
+begun_at h p L is i = if holds_statements h p then behind L is i else L
+
+-- the variables that have their values in this code of a body, where statements before have declared L: those, if the code declares them only once;
+-- and of X, if they have them as it starts, those that no scope in it declares, throughout
+abbrev pub valued : Tree → Symbols → VariableSet → VariableSet
+valued t L X (Declared k) = (L k && not (nat_lt 1 (bindings k t))) || (X (Declared k) && not (binds k t))
+valued t L X (Global s) = false
+
+-- what is known there in the code of a body of which this is known
+abbrev pub known_in : Tree → Assured → Symbols → Assured
+known_in t V L = record V { initial = valued t L V.initial }
+
+-- and the rows that rest on it
+abbrev pub own_rows : OwnRows → Tree → Assured → Symbols → Position → Tree → Tree → Type 0
+own_rows F t V L = F (known_in t V L)
 
 -- What a relation has to keep of a node in the code of a body of which this is known, there where the node stands: it means the same but for
 -- variables that no event shows and that may have no value where the node stood, a parent reads both alike, and it keeps shapes, names, bodies
@@ -66,6 +110,7 @@ pub record KeepsOwn (V : Assured) (R : Position → Tree → Tree → Type 0) : 
   pub names : KeepsNames R
   pub fixed : (p : Position) (n w : Tree) → R p n w → (x : Variable) → fixed_by n x ≡ fixed_by w x
   pub declared : (p : Position) (n w : Tree) → R p n w → (x : Name) → Contains (declared w) x → Contains (declared n) x
+  pub bound : (p : Position) (n w : Tree) → R p n w → (k : ℕ) → bindings k w ≤ bindings k n
   pub bodies : (p : Position) (n w : Tree) → R p n w → (a : Around) → BodiesKept (bodies a n) (bodies a w)
   pub frames : (p : Position) (n w : Tree) → R p n w → (k : Option PropertyKind) → FramesKept (frames k n) (frames k w)
   pub lightens : Lightens R
@@ -81,16 +126,16 @@ has_body shape.StaticBlock = true
 has_body shape.InnerExpression = true
 has_body h = false
 
--- one step in the code of a body itself: at a place around which no other body stands, and no other node with a number, which the world
--- evaluates
+-- one step in the code of a body itself, by a row that may rest on what statements before declare: at a place around which no other body stands, and
+-- no other node with a number, which the world evaluates
 mutual
-  pub data OwnStep (R : Position → Tree → Tree → Type 0) : Position → Tree → Tree → Type 0 where
-    own_here : (p : Position) (n w : Tree) → R p n w → OwnStep R p n w
-    own_inside : (p : Position) (h : Shape) (xs : List Name) (ts us : Trees) → has_body h ≡ false → OwnStepIn R (child_position h p (count ts)) ts us → OwnStep R p (node h xs 0 ts) (node h xs 0 us)
+  pub data OwnStep (R : Symbols → Position → Tree → Tree → Type 0) : Symbols → Position → Tree → Tree → Type 0 where
+    own_here : (L : Symbols) (p : Position) (n w : Tree) → R L p n w → OwnStep R L p n w
+    own_inside : (L : Symbols) (p : Position) (h : Shape) (xs : List Name) (ts us : Trees) → has_body h ≡ false → OwnStepIn R (begun_at h p L (summaries ts)) (child_position h p (count ts)) ts us → OwnStep R L p (node h xs 0 ts) (node h xs 0 us)
 
-  pub data OwnStepIn (R : Position → Tree → Tree → Type 0) : (ℕ → Position) → Trees → Trees → Type 0 where
-    own_first : (π : ℕ → Position) (t u : Tree) (ts : Trees) → OwnStep R (π zero) t u → OwnStepIn R π (t ▸ ts) (u ▸ ts)
-    own_later : (π : ℕ → Position) (t : Tree) (ts us : Trees) → OwnStepIn R (λ i. π (suc i)) ts us → OwnStepIn R π (t ▸ ts) (t ▸ us)
+  pub data OwnStepIn (R : Symbols → Position → Tree → Tree → Type 0) : (ℕ → Symbols) → (ℕ → Position) → Trees → Trees → Type 0 where
+    own_first : (Λ : ℕ → Symbols) (π : ℕ → Position) (t u : Tree) (ts : Trees) → OwnStep R (Λ zero) (π zero) t u → OwnStepIn R Λ π (t ▸ ts) (u ▸ ts)
+    own_later : (Λ : ℕ → Symbols) (π : ℕ → Position) (t : Tree) (ts us : Trees) → OwnStepIn R (λ i. Λ (suc i)) (λ i. π (suc i)) ts us → OwnStepIn R Λ π (t ▸ ts) (t ▸ us)
 
 -- a function whose body takes such a step by a row of F, over what S says of the body with its number and what so is known in it
 pub record OwnFunctionRow (F : OwnRows) (S : BodySets) (n w : Tree) : Type 0 where
@@ -102,7 +147,7 @@ pub record OwnFunctionRow (F : OwnRows) (S : BodySets) (n w : Tree) : Type 0 whe
   pub parameters : Tree
   pub before : Tree
   pub after : Tree
-  pub step : OwnStep (F (known_in before (S number))) Elsewhere before after
+  pub step : OwnStep (own_rows F before (S number)) no_symbols Elsewhere before after
   pub shape : n ≡ function_over is_declaration is_generator directives number name parameters before
   pub written : w ≡ function_over is_declaration is_generator directives number name parameters after
 

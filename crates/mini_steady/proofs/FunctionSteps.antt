@@ -1,7 +1,7 @@
 -- What is done in the body of a function is done in the function.
-use Rattle.std.proofs.Common.{◌≡◌, ℕ, Bool, true, false, List, [], refl, sym, ap, ◌∙◌, subst, arith}
+use Rattle.std.proofs.Common.{◌≡◌, ℕ, Bool, true, false, List, [], refl, sym, ap, ◌∙◌, subst, subst₂, arith}
 use Rattle.std.proofs.lemmas.Bool.{eqb-true, false≢true}
-use Rattle.mini_kept.specs.Without.{BodySets}
+use Rattle.mini_kept.specs.Without.{Assured, BodySets}
 use Rattle.mini_model.specs.declared.place.Position.{Position}
 use Rattle.mini_model.specs.declared.place.Position.TheVariants.{Expr, Stmt, Method, Elsewhere}
 use Rattle.mini_model.specs.declared.shape.Shape.TheVariants as shape
@@ -9,26 +9,26 @@ use Rattle.mini_model.specs.Tree.{Tree, Trees, node, none, ◌▸◌, count, chi
 use Rattle.mini_kept.specs.KeepsFrames.{function_over}
 use Rattle.mini_node.specs.Children.{part, number_of, with_child}
 use Rattle.mini_node.specs.Lends.{with_children}
-use Rattle.mini_rows.specs.Steady.{known_in, OwnRows, ReadsMore, OwnStep, OwnFunctionRow, OwnFunction}
+use Rattle.mini_rows.specs.Steady.{Symbols, no_symbols, own_rows, OwnRows, ReadsMore, OwnStep, OwnFunctionRow, OwnFunction}
 use Rattle.mini_tree.specs.Rule.{Moves, Applied}
 use Rattle.mini_tree.proofs.Reaching.{moves_once, moves_trans}
 use Rattle.mini_steady.specs.Chains.{Several, once, again}
 use Rattle.mini_steady.specs.Functions.{is_function, AppliedInFunction, Rests, holds_function}
-use Rattle.mini_steady.specs.Declarations.{declared_in, known_of}
-use Rattle.mini_steady.specs.Own.{KeepsEach, OwnWalked}
+use Rattle.mini_steady.specs.Declarations.{declared_in, begun_by}
+use Rattle.mini_steady.specs.Own.{KeepsEach, rows_there, OwnWalked}
 use Rattle.mini_steady.specs.declared.code.BodyCode.{BodyCode}
-use Rattle.mini_steady.proofs.Declaring.{known_is, several_known}
+use Rattle.mini_steady.proofs.Declaring.{all_known, none_begun, several_known}
 
 abbrev body_of : Tree → Tree
 body_of t = part t 2
 
 module _ (F : OwnRows) (keeps : KeepsEach F) (wide : ReadsMore F) (S : BodySets) (d g : Bool) (ds : List (List ℕ)) (k : ℕ) (name ps : Tree) where
-  step_in : (t u : Tree) → OwnStep (F (known_in t (S k))) Elsewhere t u → OwnFunctionRow F S (function_over d g ds k name ps t) (function_over d g ds k name ps u)
+  step_in : (t u : Tree) → OwnStep (own_rows F t (S k)) no_symbols Elsewhere t u → OwnFunctionRow F S (function_over d g ds k name ps t) (function_over d g ds k name ps u)
   step_in t u s = record { is_declaration = d; is_generator = g; directives = ds; number = k; name = name; parameters = ps; before = t; after = u; step = s; shape = refl; written = refl }
 
-  walked_in : (t u : Tree) (b : Bool) → OwnWalked (F (known_in t (S k))) Elsewhere t u b → AppliedInFunction F S (function_over d g ds k name ps t) (function_over d g ds k name ps u) b
+  walked_in : (t u : Tree) (b : Bool) → OwnWalked (own_rows F t (S k)) no_symbols Elsewhere t u b → AppliedInFunction F S (function_over d g ds k name ps t) (function_over d g ds k name ps u) b
   walked_in t u true m = several_known F keeps wide (S k) Elsewhere (OwnFunctionRow F S) (function_over d g ds k name ps) step_in t u m
-  walked_in t u false (e, rests) = (ap (function_over d g ds k name ps) e, λ w r. rests r.after (subst (λ z. OwnStep (F (known_in z (S k))) Elsewhere z r.after) (sym (ap body_of r.shape)) (subst (λ n. OwnStep (F (known_in r.before (S n))) Elsewhere r.before r.after) (sym (ap number_of r.shape)) r.step)))
+  walked_in t u false (e, rests) = (ap (function_over d g ds k name ps) e, λ w r. rests r.after (subst (λ z. OwnStep (own_rows F z (S k)) no_symbols Elsewhere z r.after) (sym (ap body_of r.shape)) (subst (λ n. OwnStep (own_rows F r.before (S n)) no_symbols Elsewhere r.before r.after) (sym (ap number_of r.shape)) r.step)))
 
 -- a function has three parts
 
@@ -49,11 +49,11 @@ function_is : (t : Tree) → is_function t ≡ true → IsFunction t
 function_is (node (shape.Function d g ds) [] n ts) e = record { is_declaration = d; is_generator = g; directives = ds; is = ap (node (shape.Function d g ds) [] n) (three ts (eqb-true (count ts) 3 e)) }
 function_is t e = absurd (false≢true e)
 
-pub walked_function : (F : OwnRows) → KeepsEach F → ReadsMore F → (S : BodySets) (t u x : Tree) (c : BodyCode) (ts : Trees) (b : Bool) → is_function t ≡ true → c.number ≡ number_of t → c.declared.items ≡ declared_in (part t 2) → ts ≡ children t → x ≡ child_or_absent ts 2 → OwnWalked (F (known_of S c)) Elsewhere x u b → AppliedInFunction F S t (with_children t (with_child ts 2 u)) b
-walked_function F keeps wide S t u x c ts b f e d these child m =
+pub walked_function : (F : OwnRows) → KeepsEach F → ReadsMore F → (S : BodySets) (t u x : Tree) (c : BodyCode) (ts : Trees) (b : Bool) → is_function t ≡ true → c.number ≡ number_of t → c.declared.items ≡ declared_in (part t 2) → c.begun.items ≡ [] → ts ≡ children t → x ≡ child_or_absent ts 2 → OwnWalked (rows_there F S c) (begun_by c) Elsewhere x u b → AppliedInFunction F S t (with_children t (with_child ts 2 u)) b
+walked_function F keeps wide S t u x c ts b f e d z these child m =
     let G = function_is t f in
-    let there = subst (λ z. OwnWalked (F (known_of S c)) Elsewhere z u b) (child ∙ ap (λ vs. child_or_absent vs 2) these) m in
-    let inside = subst (λ V. OwnWalked (F V) Elsewhere (part t 2) u b) (known_is S c (number_of t) (part t 2) e d) there in
+    let there = subst (λ z. OwnWalked (rows_there F S c) (begun_by c) Elsewhere z u b) (child ∙ ap (λ vs. child_or_absent vs 2) these) m in
+    let inside = subst₂ (λ (K : Symbols → Assured) (L : Symbols). OwnWalked (λ M. F (K M)) L Elsewhere (part t 2) u b) (all_known S c (number_of t) (part t 2) e d) (none_begun c z) there in
     subst (λ vs. AppliedInFunction F S t (with_children t (with_child vs 2 u)) b) (sym these)
     (subst (λ z. AppliedInFunction F S z (with_children z (with_child (children z) 2 u)) b) (sym G.is)
     (walked_in F keeps wide S G.is_declaration G.is_generator G.directives (number_of t) (part t 0) (part t 1) (part t 2) u b inside))

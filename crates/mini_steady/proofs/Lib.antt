@@ -5,6 +5,7 @@ pub mod Written
 pub mod LeftParts
 pub mod MemberRows
 pub mod Owning
+pub mod Letting
 pub mod FunctionSteps
 pub mod ArrowSteps
 pub mod ProgramSteps

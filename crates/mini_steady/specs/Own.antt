@@ -1,15 +1,19 @@
 -- What a walk over the own code of a body does to it: steps in that code.
-use Rattle.std.specs.Prelude.{ℕ, ◌≡◌, ◌<◌, ◌==◌, ◌&&◌, not, Bool, true, false, Contains}
+use Rattle.std.specs.Prelude.{ℕ, ◌≡◌, ◌<◌, ◌≤◌, ◌==◌, ◌&&◌, ◌++◌, not, Bool, true, false, List, Contains}
 use Rattle.mini_model.specs.declared.name.Name.{Name}
+use Rattle.mini_model.specs.declared.name.SymbolId.{SymbolId}
 use Rattle.mini_model.specs.declared.place.Position.{Position}
 use Rattle.mini_model.specs.Tree.{Tree, count, children, shape_of}
 use Rattle.mini_model.specs.Position.{child_position}
+use Rattle.mini_laws.specs.Naming.{summary, summaries}
 use Rattle.mini_node.specs.Children.{part, number_of}
 use Rattle.mini_laws.specs.Weights.{Lightens}
 use Rattle.mini_kept.specs.Declaring.{declared}
-use Rattle.mini_kept.specs.Without.{Assured}
-use Rattle.mini_rows.specs.Steady.{has_body, OwnRows, OwnStep}
+use Rattle.mini_kept.specs.Without.{Assured, BodySets}
+use Rattle.mini_rows.specs.Steady.{bindings, Symbols, begun_at, has_body, OwnRows, OwnStep}
 use Rattle.mini_steady.specs.Chains.{Several}
+use Rattle.mini_steady.specs.Declarations.{known_there}
+use Rattle.mini_steady.specs.declared.code.BodyCode.{BodyCode}
 
 -- what stands in it is code of the body around it: it has neither a body of its own nor a number
 abbrev pub is_open : Tree → Bool
@@ -19,9 +23,11 @@ is_open t = (number_of t == 0) && not (has_body (shape_of t))
 abbrev pub ReadsOpen : OwnRows → Type 0
 ReadsOpen F = (V : Assured) (p : Position) (n w : Tree) → F V p n w → is_open n ≡ true
 
--- what it writes declares no name that what stood there didn't, and is lighter
+-- what it writes is read alike by a parent, declares no name that what stood there didn't and no symbol more often, and is lighter
 pub record KeepsCode (R : Position → Tree → Tree → Type 0) : Type 0 where
+  pub reads : (p : Position) (n w : Tree) → R p n w → summary n ≡ summary w
   pub declared : (p : Position) (n w : Tree) → R p n w → (x : Name) → Contains (declared w) x → Contains (declared n) x
+  pub bound : (p : Position) (n w : Tree) → R p n w → (k : ℕ) → bindings k w ≤ bindings k n
   pub lightens : Lightens R
 
 -- so does each row of a family
@@ -32,21 +38,41 @@ KeepsEach F = (V : Assured) → KeepsCode (F V)
 abbrev pub place_in : Position → Tree → ℕ → Position
 place_in p t = child_position (shape_of t) p (count (children t))
 
--- nothing reads it, in the code of the body itself
-abbrev pub OwnRests : (Position → Tree → Tree → Type 0) → Position → Tree → Type 0
-OwnRests R p t = (w : Tree) → OwnStep R p t w → ⊥
+-- what a family says of a node in this code, by what statements before have declared
+abbrev pub rows_there : OwnRows → BodySets → BodyCode → Symbols → Position → Tree → Tree → Type 0
+rows_there F S c L = F (known_there S c L)
+
+-- nothing reads it, in the code of the body itself, where statements before have declared L
+abbrev pub OwnRests : (Symbols → Position → Tree → Tree → Type 0) → Symbols → Position → Tree → Type 0
+OwnRests R L p t = (w : Tree) → OwnStep R L p t w → ⊥
 
 -- steps in that code; or none, and then nothing in it reads it
-abbrev pub OwnWalked : (Position → Tree → Tree → Type 0) → Position → Tree → Tree → Bool → Type 0
-OwnWalked R p t u true = Several (OwnStep R p) t u
-OwnWalked R p t u false = (u ≡ t) × OwnRests R p t
+abbrev pub OwnWalked : (Symbols → Position → Tree → Tree → Type 0) → Symbols → Position → Tree → Tree → Bool → Type 0
+OwnWalked R L p t u true = Several (OwnStep R L p) t u
+OwnWalked R L p t u false = (u ≡ t) × OwnRests R L p t
+
+-- what statements before the child at an index have declared
+abbrev pub begun_in : Position → Symbols → Tree → ℕ → Symbols
+begun_in p L t = begun_at (shape_of t) p L (summaries (children t))
 
 -- the same of the children alone
-abbrev pub OwnWalkedBelow : (Position → Tree → Tree → Type 0) → Position → Tree → Tree → Bool → Type 0
-OwnWalkedBelow R p t u true = Several (OwnStep R p) t u
-OwnWalkedBelow R p t u false = (u ≡ t) × ((i : ℕ) → i < count (children t) → OwnRests R (place_in p t i) (part t i))
+abbrev pub OwnWalkedBelow : (Symbols → Position → Tree → Tree → Type 0) → Symbols → Position → Tree → Tree → Bool → Type 0
+OwnWalkedBelow R L p t u true = Several (OwnStep R L p) t u
+OwnWalkedBelow R L p t u false = (u ≡ t) × ((i : ℕ) → i < count (children t) → OwnRests R (begun_in p L t i) (place_in p t i) (part t i))
 
 -- and of the node alone: steps there, or none
 abbrev pub AppliedHere : (Position → Tree → Tree → Type 0) → Position → Tree → Tree → Bool → Type 0
 AppliedHere R p t u true = Several (R p) t u
 AppliedHere R p t u false = (u ≡ t) × ((w : Tree) → R p t w → ⊥)
+
+-- the code of a body is told as before
+pub record AsBefore (c d : BodyCode) : Type 0 where
+  pub number : d.number ≡ c.number
+  pub declared : d.declared.items ≡ c.declared.items
+  pub begun : d.begun.items ≡ c.begun.items
+
+-- and then these symbols are begun, too
+pub record BeginsBesides (us : List SymbolId) (c d : BodyCode) : Type 0 where
+  pub number : d.number ≡ c.number
+  pub declared : d.declared.items ≡ c.declared.items
+  pub begun : d.begun.items ≡ c.begun.items ++ us

@@ -1,27 +1,26 @@
 -- The tables of a context tell what is known of bodies, of every symbol: of those for which they have room by what they say, and of others nothing is said in
 -- the program. And what was told of one program is told of the next that stays so.
-use Rattle.std.specs.Prelude.{ℕ, zero, suc, ◌≡◌, ◌<◌, ◌≤◌, refl, nat_eq, nat_lt, Bool, true, false, not, ◌&&◌, ◌||◌, List, [], ◌∷◌, length}
+use Rattle.std.specs.Prelude.{ℕ, zero, suc, ◌≡◌, ◌<◌, refl, nat_eq, nat_lt, Bool, true, false, not, ◌&&◌, ◌||◌, List, [], ◌∷◌, length}
 use Rattle.std.specs.List.{list_any}
 use Rattle.std.proofs.Common.{ap, ◌∙◌, sym, subst}
 use Rattle.std.proofs.Math.Dec.{eqb-suc-suc, eqb-zero-suc}
 use Rattle.std.proofs.lemmas.Bool.{eqb-true, eq-eqb, false≢true, lt-ltb, ltb-true}
 use Rattle.mini_model.specs.Tree.{Tree, Trees, node, none, ◌▸◌}
 use Rattle.mini_tree.specs.declared.options.CompressOptions.{CompressOptions}
-use Rattle.mini_laws.specs.Bodies.{bodies_in}
 use Rattle.mini_laws.specs.Congruence.{NoneIn, Avoids, AllAvoid}
 use Rattle.mini_laws.specs.declared.names.Use.TheVariants.{Read}
-use Rattle.mini_laws.specs.Foreign.{all_writes, is_declared_in, is_foreign, is_foreign_always, is_write, lexical_variables, params_around, switched, is_read_early, moments}
+use Rattle.mini_laws.specs.Foreign.{all_writes, is_declared_in, is_foreign_always, is_write, lexical_variables, params_around, switched, is_read_early, moments}
 use Rattle.mini_laws.specs.Mentions.{Mention, is_among, is_elsewhere, outermost, program_mentions, same_variable}
 use Rattle.mini_laws.specs.Shared.{is_shared, is_shared_always}
 use Rattle.mini_laws.specs.Substitution.{alone}
-use Rattle.mini_laws.specs.Value.{Declared, Global, Variable, VariableSet, choose, is_in, variable_eq, variables}
+use Rattle.mini_laws.specs.Value.{Declared, Global, Variable, choose, is_in, variable_eq, variables}
 use Rattle.mini_laws.specs.Writable.{mentions, any_mentions}
 use Rattle.mini_kept.specs.Without.{Within}
 use Rattle.mini_kept.proofs.Undeclared.{unshared, native}
 use Rattle.mini_context.specs.declared.context.TraverseCtx.{TraverseCtx}
 use Rattle.mini_context.specs.Facts.{Facts, Told}
 use Rattle.mini_context.specs.Known.{Knows}
-use Rattle.mini_context.specs.Steady.{has_this, is_initial, is_past, is_steady, is_unshared, StaysTold, TellsBodies, Renewed}
+use Rattle.mini_context.specs.Steady.{is_initial, is_past, is_steady, is_unshared, StaysTold, TellsBodies, Renewed}
 use Rattle.mini_context.specs.Tables.{named}
 use Rattle.mini_context.proofs.Known.{told_length}
 use Rattle.mini_context.proofs.Stays.{bodies_told}

@@ -39,7 +39,7 @@ pub fn minimize_in_arrow<S: SteadyNames, W: OwnRewrites<S>>(
     }
     let number = node.number();
     let place = child_place(node.shape(), Position::Elsewhere, 2, 1);
-    let code = code_of(alloc, number, node.child(1))?;
+    let mut code = code_of(alloc, number, node.child(1))?;
     let body = node.children_mut().child_mut(1);
-    Ok(minimize_own_code(alloc, body, place, &code, steady, rewrites)?)
+    Ok(minimize_own_code(alloc, body, place, &mut code, steady, rewrites)?)
 }

@@ -1,13 +1,15 @@
-//! The code of a body: its number, and what is declared in it.
+//! The code of a body: its number, what is declared in it, and what of that before a place in it.
 
-ghost use Rattle.std.specs.Prelude.{◌≡◌, ◌∷◌, [], ◌++◌, OnOk, IfOk};
+ghost use Rattle.std.specs.Prelude.{◌≡◌, ◌∷◌, [], ◌++◌, length, take, OnOk, IfOk};
 ghost use Rattle.mini_node.specs.Children.{names, names_of};
-ghost use Rattle.mini_steady.specs.Declarations.{declared_among, declared_in, is_listed as is_listed_in, known_of, own_symbols, symbols_of};
+ghost use Rattle.mini_steady.specs.Declarations.{declared_among, declared_in, is_listed as is_listed_in, is_listed_twice as is_listed_twice_in, known_of, lets_if, own_symbols, symbols_of};
+ghost use Rattle.mini_steady.specs.Own.{BeginsBesides};
 ghost use Rattle.mini_rows.specs.Past as reading;
 ghost use Rattle.mini_model.specs.Tree.{shape_of};
 ghost use Rattle.mini_laws.specs.Value.{Declared};
 
 use crate::bindings::is_binding;
+use crate::lets::push_lets;
 use crate::steady::SteadyNames;
 use mini_model::{Name, OutOfMemory, SymbolId};
 use mini_node::{Node, Nodes};
@@ -20,6 +22,8 @@ pub struct BodyCode {
     pub number: u32,
     /// The symbols that are declared in it.
     pub declared: Vec<SymbolId>,
+    /// Of a place in it, those that statements before have declared.
+    pub begun: Vec<SymbolId>,
 }
 
 // Adds a symbol.
@@ -32,8 +36,8 @@ fn push_symbol(symbols: &mut Vec<SymbolId>, symbol: SymbolId) -> Result<(), OutO
     }
 }
 
-// Adds the symbol of a name, if it has one.
-fn push_name(symbols: &mut Vec<SymbolId>, name: &Option<Name>) -> Result<(), OutOfMemory>
+/// Adds the symbol of a name, if it has one.
+pub fn push_name(symbols: &mut Vec<SymbolId>, name: &Option<Name>) -> Result<(), OutOfMemory>
     ensures { OnOk result (symbols.new.items ≡ symbols.old.items ++ symbols_of (names name.now)) }
 {
     match name {
@@ -76,14 +80,47 @@ fn push_all(symbols: &mut Vec<SymbolId>, nodes: &Nodes) -> Result<(), OutOfMemor
     Ok(())
 }
 
-/// The code of the body with this number. The only error is that memory runs out.
+/// The code of the body with this number, as it starts. The only error is that memory runs out.
 pub fn code_of(alloc: Global, number: u32, node: &Node) -> Result<BodyCode, OutOfMemory>
     ensures number { IfOk result (λ code. code.number ≡ number) }
     ensures declared { IfOk result (λ code. code.declared.items ≡ declared_in node.now) }
+    ensures begun { IfOk result (λ code. code.begun.items ≡ []) }
 {
     let mut declared = Vec::new(alloc);
     push_declared(&mut declared, node)?;
-    Ok(BodyCode { number, declared })
+    let begun = Vec::new(alloc);
+    Ok(BodyCode {
+        number,
+        declared,
+        begun,
+    })
+}
+
+/// Adds to what is begun in it what a node declares in the scope around it, where that is asked.
+pub fn push_begun(code: &mut BodyCode, is_asked: bool, node: &Node) -> Result<(), OutOfMemory>
+    ensures { OnOk result (BeginsBesides (lets_if is_asked node.now) code.old code.new) }
+{
+    if is_asked {
+        push_lets(&mut code.begun, node)
+    } else {
+        Ok(())
+    }
+}
+
+/// How many are begun in it.
+pub fn begun_count(code: &BodyCode) -> usize
+    ensures { result ≡ length code.now.begun.items }
+{
+    code.begun.as_slice().len()
+}
+
+/// Leaves of what is begun in it so many.
+pub fn leave_begun(code: &mut BodyCode, count: usize)
+    ensures number { code.new.number ≡ code.old.number }
+    ensures declared { code.new.declared.items ≡ code.old.declared.items }
+    ensures begun { code.new.begun.items ≡ take count code.old.begun.items }
+{
+    code.begun.truncate(count);
 }
 
 // Whether a symbol is among these.
@@ -96,9 +133,27 @@ fn is_listed(symbol: SymbolId, symbols: &[SymbolId]) -> bool
     }
 }
 
-/// Whether the symbol is among those that have their values throughout the code.
+// Whether it is among them twice.
+fn is_listed_twice(symbol: SymbolId, symbols: &[SymbolId]) -> bool
+    ensures { result ≡ is_listed_twice_in symbol.0 symbols.now }
+{
+    match symbols {
+        [first, rest @ ..] => {
+            if first.0 == symbol.0 {
+                is_listed(symbol, rest)
+            } else {
+                is_listed_twice(symbol, rest)
+            }
+        }
+        [] => false,
+    }
+}
+
+/// Whether the symbol is among those that have their values there: statements before have declared it, and nothing else in the code does, or it has its
+/// value throughout the code.
 pub fn is_initialised<S: SteadyNames>(symbol: SymbolId, code: &BodyCode, steady: &S) -> bool
     ensures { result ≡ (known_of (S.sets steady.now) code.now).initial (Declared symbol.0) }
 {
-    steady.is_initial(symbol, code.number) && !is_listed(symbol, &code.declared)
+    is_listed(symbol, &code.begun) && !is_listed_twice(symbol, &code.declared)
+        || steady.is_initial(symbol, code.number) && !is_listed(symbol, &code.declared)
 }

@@ -48,7 +48,14 @@ pub fn minimize_in_function<S: SteadyNames, W: OwnRewrites<S>>(
         return Ok(false);
     }
     let number = node.number();
-    let code = code_of(alloc, number, node.child(2))?;
+    let mut code = code_of(alloc, number, node.child(2))?;
     let body = node.children_mut().child_mut(2);
-    Ok(minimize_own_code(alloc, body, Position::Elsewhere, &code, steady, rewrites)?)
+    Ok(minimize_own_code(
+        alloc,
+        body,
+        Position::Elsewhere,
+        &mut code,
+        steady,
+        rewrites,
+    )?)
 }

@@ -8,6 +8,7 @@ mod code;
 mod functions;
 mod laws;
 mod leaving;
+mod lets;
 mod members;
 mod own;
 mod parts;

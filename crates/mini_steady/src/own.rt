@@ -1,11 +1,11 @@
 //! Rows of the own code of a body, and a walk over that, children first, past no other body and no node with a number.
 
-ghost use Rattle.std.specs.Prelude.{◌≡◌, true, IfOk};
-ghost use Rattle.mini_rows.specs.Steady.{OwnRows, ReadsMore, has_body as has_it_body};
-ghost use Rattle.mini_steady.specs.Declarations.{known_of};
-ghost use Rattle.mini_steady.specs.Own.{AppliedHere, KeepsEach, OwnWalked, OwnWalkedBelow, ReadsOpen, is_open as is_it_open};
+ghost use Rattle.std.specs.Prelude.{◌≡◌, true, IfOk, OnOk};
+ghost use Rattle.mini_rows.specs.Steady.{OwnRows, ReadsMore, has_body as has_it_body, holds_statements as are_statements};
+ghost use Rattle.mini_steady.specs.Declarations.{begun_by, known_of};
+ghost use Rattle.mini_steady.specs.Own.{AppliedHere, AsBefore, KeepsEach, OwnWalked, OwnWalkedBelow, ReadsOpen, is_open as is_it_open, rows_there};
 
-use crate::code::BodyCode;
+use crate::code::{BodyCode, begun_count, leave_begun, push_begun};
 use crate::steady::SteadyNames;
 use mini_model::{OutOfMemory, Position, Shape};
 use mini_node::Node;
@@ -35,7 +35,7 @@ pub trait OwnRewrites<S: SteadyNames> {
     /// What they read they read where more variables are known to have values.
     ghost more: { ReadsMore rows };
 
-    /// What a row writes declares no name that what stood there didn't, and is lighter.
+    /// What a row writes is read alike, declares no name that what stood there didn't and no symbol more often, and is lighter.
     ghost keeps: { KeepsEach rows };
 }
 
@@ -60,25 +60,33 @@ fn is_open(node: &Node) -> bool
     node.number() == 0 && !has_body(node.shape())
 }
 
-/// Walks over the own code of this body, from a node in it, and writes there what these rows say. The answer says whether
-/// anything changed, and where nothing did no row reads anything in it; the only error is that memory runs out, and then the node is fit only
-/// to be dropped.
+// A list of statements.
+fn holds_statements(shape: &Shape, place: Position) -> bool
+    ensures { result ≡ are_statements shape.now place }
+{
+    matches!(shape, Shape::Listed) && matches!(place, Position::StatementList | Position::BodyList)
+}
+
+/// Walks over the own code of this body, from a node in it before which statements have declared what is begun, and writes there what these rows say.
+/// The answer says whether anything changed, and where nothing did no row reads anything in it; the only error is that memory runs out, and then the
+/// node and what is begun are fit only to be dropped.
 #[cycle(own)]
 pub fn minimize_own_code<S: SteadyNames, W: OwnRewrites<S>>(
     alloc: Global,
     node: &mut Node,
     place: Position,
-    body: &BodyCode,
+    body: &mut BodyCode,
     steady: &S,
     rewrites: &W,
 ) -> Result<bool, OutOfMemory>
-    ensures { IfOk result (λ changed. OwnWalked (W.rows (known_of (S.sets steady.now) body.now)) place node.old node.new changed) }
+    ensures walked { IfOk result (λ changed. OwnWalked (rows_there W.rows (S.sets steady.now) body.old) (begun_by body.old) place node.old node.new changed) }
+    ensures body { OnOk result (AsBefore body.old body.new) }
 {
     if !is_open(node) {
         return Ok(false);
     }
     let below = minimize_parts(alloc, node, place, body, steady, rewrites)?;
-    let here = rewrites.rewrite(alloc, node, place, body, steady)?;
+    let here = rewrites.rewrite(alloc, node, place, &*body, steady)?;
     Ok(below | here)
 }
 
@@ -88,20 +96,25 @@ fn minimize_parts<S: SteadyNames, W: OwnRewrites<S>>(
     alloc: Global,
     node: &mut Node,
     place: Position,
-    body: &BodyCode,
+    body: &mut BodyCode,
     steady: &S,
     rewrites: &W,
 ) -> Result<bool, OutOfMemory>
     requires { is_it_open node.old ≡ true }
-    ensures { IfOk result (λ changed. OwnWalkedBelow (W.rows (known_of (S.sets steady.now) body.now)) place node.old node.new changed) }
+    ensures walked { IfOk result (λ changed. OwnWalkedBelow (rows_there W.rows (S.sets steady.now) body.old) (begun_by body.old) place node.old node.new changed) }
+    ensures body { OnOk result (AsBefore body.old body.new) }
 {
     let count = node.children().len();
+    let are_statements = holds_statements(node.shape(), place);
+    let before = begun_count(body);
     let mut changed = false;
     for at in 0..count {
         let stands = child_place(node.shape(), place, count, at);
         let child = node.children_mut().child_mut(at);
         let part = minimize_own_code(alloc, child, stands, body, steady, rewrites)?;
+        push_begun(body, are_statements, child)?;
         changed = changed | part;
     }
+    leave_begun(body, before);
     Ok(changed)
 }

@@ -40,7 +40,7 @@ pub fn minimize_in_part<S: SteadyNames, W: OwnRewrites<S>>(
     }
     let number = node.number();
     let inside = child_place(node.shape(), place, 1, 0);
-    let code = code_of(alloc, number, node.child(0))?;
+    let mut code = code_of(alloc, number, node.child(0))?;
     let held = node.children_mut().child_mut(0);
-    Ok(minimize_own_code(alloc, held, inside, &code, steady, rewrites)?)
+    Ok(minimize_own_code(alloc, held, inside, &mut code, steady, rewrites)?)
 }

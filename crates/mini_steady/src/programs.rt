@@ -38,13 +38,13 @@ pub fn minimize_in_program<S: SteadyNames, W: OwnRewrites<S>>(
         return Ok(false);
     }
     let number = node.number();
-    let code = code_of(alloc, number, node.child(0))?;
+    let mut code = code_of(alloc, number, node.child(0))?;
     let list = node.children_mut().child_mut(0);
     Ok(minimize_own_code(
         alloc,
         list,
         Position::StatementList,
-        &code,
+        &mut code,
         steady,
         rewrites,
     )?)

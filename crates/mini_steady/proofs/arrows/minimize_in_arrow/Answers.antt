@@ -9,4 +9,4 @@ pub returns : goal.returns
 returns g c =
     let here = sym c.is_arrow.ensures.kind ∙ c.if-not-is_arrow.false in
     walked_arrow g.W.OwnRewrites.rows g.met.W.OwnRewrites.keeps g.met.W.OwnRewrites.more (g.S.SteadyNames.sets c.args.steady.now) c.args.node.now _ _ c.child_place-place.result c.in_ok-code.code _ _
-    here (c.child_place-place.ensures ∙ ap (λ h. child_position h Elsewhere 2 1) c.shape.ensures ∙ stands_there c.args.node.now here) (c.in_ok-code.ensures.number ∙ c.number-number.ensures) (c.in_ok-code.ensures.declared ∙ ap declared_in c.child.ensures.value) c.children_mut.ensures.value c.child_mut-body.ensures.value c.in_ok-minimize_own_code.ensures
+    here (c.child_place-place.ensures ∙ ap (λ h. child_position h Elsewhere 2 1) c.shape.ensures ∙ stands_there c.args.node.now here) (c.in_ok-code.ensures.number ∙ c.number-number.ensures) (c.in_ok-code.ensures.declared ∙ ap declared_in c.child.ensures.value) c.in_ok-code.ensures.begun c.children_mut.ensures.value c.child_mut-body.ensures.value c.in_ok-minimize_own_code.ensures.walked

@@ -1,31 +1,69 @@
-use Rattle.std.proofs.Common.{ap, sym, ◌∙◌, arith}
+use Rattle.std.proofs.Common.{ap, sym, ◌∙◌, refl, arith}
 use Rattle.mini_model.specs.Tree.{count}
 use Rattle.mini_tree.proofs.Walks.{child_smaller}
-use Rattle.mini_steady.specs.Declarations.{known_of}
-use Rattle.mini_steady.proofs.Owning.{walked_none, walked_child, walked_all, walked_both, walked_closed}
+use Rattle.mini_rows.specs.Steady.{holds_statements}
+use Rattle.mini_steady.specs.Declarations.{begun_by, known_there}
+use Rattle.mini_steady.specs.Own.{rows_there}
+use Rattle.mini_steady.proofs.Letting.{rows_read, applied_same, walked_same, as_was, begun_first, begun_next, begun_left}
+use Rattle.mini_steady.proofs.Owning.{walked_none, walked_child, child_read, walked_all, walked_both, walked_closed}
 use Rattle.mini_steady.proofs.own.+own.Goals as goal
 
-pub minimize_own_code-returns-then-not-is_open : goal.minimize_own_code-returns-then-not-is_open
-minimize_own_code-returns-then-not-is_open g t c = let V = known_of (g.S.SteadyNames.sets c.args.steady.now) c.args.body.now in walked_closed (g.W.OwnRewrites.rows V) (g.met.W.OwnRewrites.opens V) c.args.place c.args.node.now (sym c.is_open.ensures ∙ c.if-not-is_open.true)
+pub minimize_own_code-returns-then-not-is_open-clause-walked : goal.minimize_own_code-returns-then-not-is_open-clause-walked
+minimize_own_code-returns-then-not-is_open-clause-walked g t c =
+    let S = g.S.SteadyNames.sets c.args.steady.now in
+    let body = c.args.body.now in
+    walked_closed (rows_there g.W.OwnRewrites.rows S body) (rows_read g.W.OwnRewrites.rows g.met.W.OwnRewrites.keeps S body) (λ L. g.met.W.OwnRewrites.opens (known_there S body L)) (begun_by body) c.args.place c.args.node.now (sym c.is_open.ensures ∙ c.if-not-is_open.true)
 
-pub minimize_own_code-returns : goal.minimize_own_code-returns
-minimize_own_code-returns g t c = walked_both (g.W.OwnRewrites.rows (known_of (g.S.SteadyNames.sets c.args.steady.now) c.args.body.now)) _ _ _ _ _ _ c.in_ok-below.ensures c.in_ok-here.ensures
+pub minimize_own_code-returns-then-not-is_open-clause-body : goal.minimize_own_code-returns-then-not-is_open-clause-body
+minimize_own_code-returns-then-not-is_open-clause-body g t c = as_was c.args.body.now
+
+pub minimize_own_code-returns-clause-walked : goal.minimize_own_code-returns-clause-walked
+minimize_own_code-returns-clause-walked g t c =
+    let S = g.S.SteadyNames.sets c.args.steady.now in
+    let body = c.args.body.now in
+    walked_both (rows_there g.W.OwnRewrites.rows S body) (rows_read g.W.OwnRewrites.rows g.met.W.OwnRewrites.keeps S body) (begun_by body) _ _ _ _ _ _ c.in_ok-below.ensures.walked
+    (applied_same g.W.OwnRewrites.rows S body c.minimize_parts.new.body c.args.place _ _ _ c.in_ok-below.ensures.body c.in_ok-here.ensures)
+
+pub minimize_own_code-returns-clause-body : goal.minimize_own_code-returns-clause-body
+minimize_own_code-returns-clause-body g t c = c.in_ok-below.ensures.body
 
 pub minimize_parts-minimize_own_code-requires : goal.minimize_parts-minimize_own_code-requires
 minimize_parts-minimize_own_code-requires g t c κs within =
-    let as_before = c.loop-at.invariant.rest c.loop-at.at (omega arith) in
+    let as_before = c.loop-at.invariant.0.rest c.loop-at.at (omega arith) in
     let small = child_smaller c.args.node.now c.loop-at.node _ _ c.loop-at.at c.children_mut.ensures.value c.child_mut-child.ensures.value as_before (omega (arith, c.len-count.ensures, ap count c.children.ensures, c.loop-at-test.true)) in
     (omega (arith, c.decreases, small), within)
 
 pub minimize_parts-loop-at-init : goal.minimize_parts-loop-at-init
-minimize_parts-loop-at-init g t c = walked_none (g.W.OwnRewrites.rows (known_of (g.S.SteadyNames.sets c.args.steady.now) c.args.body.now)) c.args.place c.args.node.now c.requires
+minimize_parts-loop-at-init g t c =
+    let S = g.S.SteadyNames.sets c.args.steady.now in
+    let body = c.args.body.now in
+    (walked_none (rows_there g.W.OwnRewrites.rows S body) (rows_read g.W.OwnRewrites.rows g.met.W.OwnRewrites.keeps S body) (begun_by body) c.args.place c.args.node.now c.requires, begun_first c.args.place c.args.node.now body)
 
 pub minimize_parts-loop-at-preserved : goal.minimize_parts-loop-at-preserved
 minimize_parts-loop-at-preserved g t c =
-    walked_child (g.W.OwnRewrites.rows (known_of (g.S.SteadyNames.sets c.args.steady.now) c.args.body.now)) _ _ _ c.len-count.result c.loop-at.at _ c.loop-at.node _ _ _ c.loop-at.changed _
-    (c.child_place-stands.ensures, c.shape.ensures, c.len-count.ensures ∙ ap count c.children.ensures, c.children_mut.ensures.value, c.child_mut-child.ensures.value)
-    (omega (arith, c.loop-at-test.true)) c.loop-at.invariant c.in_ok-part.ensures
+    let F = g.W.OwnRewrites.rows in
+    let S = g.S.SteadyNames.sets c.args.steady.now in
+    let body = c.args.body.now in
+    let now = c.loop-at.body in
+    let begun = c.loop-at.invariant.1 in
+    let R = rows_there F S body in
+    let reads = rows_read F g.met.W.OwnRewrites.keeps S body in
+    let walked = walked_same F S body now (begun_by now) (begun_by now) _ _ _ _ begun.number begun.declared refl c.in_ok-part.ensures.walked in
+    let counted = c.len-count.ensures ∙ ap count c.children.ensures in (
+      walked_child R reads (begun_by body) (begun_by now) _ _ _ c.len-count.result c.loop-at.at _ c.loop-at.node _ _ _ c.loop-at.changed _
+          (c.child_place-stands.ensures, c.shape-in-loop-at.ensures, counted, c.children_mut.ensures.value, c.child_mut-child.ensures.value) begun.begun
+          (omega (arith, c.loop-at-test.true)) c.loop-at.invariant.0 walked,
+      begun_next c.args.place c.args.node.now c.minimize_own_code.new.node c.loop-at.at c.holds_statements-are_statements.result body now c.minimize_own_code.new.body c.push_begun.new.code (omega (arith, c.loop-at-test.true, counted))
+          (c.holds_statements-are_statements.ensures ∙ ap (λ h. holds_statements h c.args.place) c.shape.ensures)
+          (child_read R reads (begun_by body) (begun_by now) _ _ c.loop-at.at c.args.node.now c.loop-at.node _ _ _ c.loop-at.changed _ c.children_mut.ensures.value c.child_mut-child.ensures.value c.loop-at.invariant.0 walked)
+          begun c.in_ok-part.ensures.body c.in_ok-push_begun.ensures,
+    )
 
-pub minimize_parts-returns : goal.minimize_parts-returns
-minimize_parts-returns g t c =
-    walked_all (g.W.OwnRewrites.rows (known_of (g.S.SteadyNames.sets c.args.steady.now) c.args.body.now)) _ c.loop-at.at _ _ c.loop-at.changed (omega (arith, c.len-count.ensures, ap count c.children.ensures, c.loop-at-test.false, c.loop-at.auto)) c.loop-at.invariant
+pub minimize_parts-returns-clause-walked : goal.minimize_parts-returns-clause-walked
+minimize_parts-returns-clause-walked g t c =
+    let S = g.S.SteadyNames.sets c.args.steady.now in
+    let body = c.args.body.now in
+    walked_all (rows_there g.W.OwnRewrites.rows S body) (rows_read g.W.OwnRewrites.rows g.met.W.OwnRewrites.keeps S body) (begun_by body) _ c.loop-at.at _ _ c.loop-at.changed (omega (arith, c.len-count.ensures, ap count c.children.ensures, c.loop-at-test.false, c.loop-at.auto)) c.loop-at.invariant.0
+
+pub minimize_parts-returns-clause-body : goal.minimize_parts-returns-clause-body
+minimize_parts-returns-clause-body g t c = begun_left c.args.place c.args.node.now c.loop-at.at c.begun_count-before.result c.args.body.now c.loop-at.body c.leave_begun.new.code c.begun_count-before.ensures c.loop-at.invariant.1 c.leave_begun.ensures.number c.leave_begun.ensures.declared c.leave_begun.ensures.begun
