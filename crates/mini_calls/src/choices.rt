@@ -1,5 +1,6 @@
 //! Rewrites of choices, of optional chains, and of names that can be written.
 
+ghost use Rattle.mini_choices.specs.Assigning.{is_same_name, is_same_target};
 ghost use Rattle.mini_choices.specs.EvaluateBothSides.{written as written_of_evaluate_both_sides};
 ghost use Rattle.mini_choices.specs.FoldChainExpr.{written as written_of_fold_chain_expr};
 ghost use Rattle.mini_choices.specs.InjectAssignedChaining.{written as written_of_inject_assigned_chaining};
@@ -9,15 +10,17 @@ ghost use Rattle.mini_choices.specs.MinimizeAssignedComparison.{written as writt
 ghost use Rattle.mini_choices.specs.MinimizeAssignedNullishComparison.{written as written_of_minimize_assigned_nullish_comparison};
 ghost use Rattle.mini_choices.specs.MinimizeConditionalBranches.{written as written_of_minimize_conditional_branches};
 ghost use Rattle.mini_choices.specs.MinimizeHeldBranches.{written as written_of_minimize_held_branches};
-ghost use Rattle.mini_choices.specs.MinimizeLogicalExpression.{written};
 ghost use Rattle.mini_choices.specs.MinimizeNormalAssignmentToCombinedAssignment.{written as written_of_minimize_normal_assignment_to_combined_assignment};
 ghost use Rattle.mini_choices.specs.MinimizeNormalAssignmentToCombinedLogicalAssignment.{marked, written as written_of_minimize_normal_assignment_to_combined_logical_assignment};
 ghost use Rattle.mini_choices.specs.MinimizeLogicalSequence.{written as written_of_minimize_logical_sequence};
 ghost use Rattle.mini_choices.specs.MinimizeNullishComparison.{written as written_of_minimize_nullish_comparison};
 ghost use Rattle.mini_choices.specs.MinimizeObjectTest.{written as written_of_minimize_object_test};
+ghost use Rattle.mini_choices.specs.Names as name;
 ghost use Rattle.mini_choices.specs.SubstituteRotateLogicalExpression.{written as written_of_substitute_rotate_logical_expression};
 ghost use Rattle.mini_model.specs.Tree.{node as tree};
-ghost use Rattle.std.specs.Prelude.{IfOk, OnOk, is_some, unwrap_or, ◌≡◌};
+ghost use Rattle.mini_rows.specs.Spellings.{void_zero};
+ghost use Rattle.std.specs.Option.{option_copied};
+ghost use Rattle.std.specs.Prelude.{IfOk, OnOk, if◌then◌else◌, is_some, unwrap_or, ◌≡◌};
 
 use crate::PeepholeOptimizations;
 use mini_context::Scopes;
@@ -25,19 +28,6 @@ use mini_tree::{LogicalOperator, Node, OutOfMemory, Seat};
 use std::alloc::Global;
 
 impl PeepholeOptimizations {
-    /// `x || (x = b)` becomes `x ||= b`, and so of `&&` and `??`. The answer says whether it did; the only error is that memory runs
-    /// out, and then the expression is fit only to be dropped.
-    pub fn minimize_logical_expression(
-        &self,
-        alloc: Global,
-        node: &mut Node,
-    ) -> Result<bool, OutOfMemory>
-        ensures tree { OnOk result (node.new ≡ unwrap_or (written node.old) node.old) }
-        ensures said { IfOk result (λ changed. changed ≡ is_some (written node.old)) }
-    {
-        mini_choices::minimize_logical_expression(alloc, node)
-    }
-
     /// `x || (a, x = b)` becomes `x ||= (a, b)`, and so of `&&` and `??`, where an assignment has no parentheses in the seat that the
     /// operator hasn't. The answer says whether it did; the only error is that memory runs out, and then the expression is fit only
     /// to be dropped.
@@ -157,11 +147,15 @@ impl PeepholeOptimizations {
     /// `typeof x == "object" && x !== null` becomes `typeof x == "object" && !!x`, and `typeof x != "object" || x === null` becomes
     /// `typeof x != "object" || !x`, in any order, and after an equal operator to the left. The answer says whether it did; the only
     /// error is that memory runs out, and then the expression is fit only to be dropped.
-    pub fn minimize_object_test(&self, alloc: Global, node: &mut Node) -> Result<bool, OutOfMemory>
+    pub fn substitute_is_object_and_not_null(
+        &self,
+        alloc: Global,
+        node: &mut Node,
+    ) -> Result<bool, OutOfMemory>
         ensures tree { OnOk result (node.new ≡ unwrap_or (written_of_minimize_object_test node.old) node.old) }
         ensures said { IfOk result (λ changed. changed ≡ is_some (written_of_minimize_object_test node.old)) }
     {
-        mini_choices::minimize_object_test(alloc, node)
+        mini_choices::substitute_is_object_and_not_null(alloc, node)
     }
 
     /// `a && (b && c)` becomes `a && b && c`, and so of `||` and `??`, however many operands stand on the right. The answer says whether
@@ -252,5 +246,63 @@ impl PeepholeOptimizations {
         ensures said { IfOk result (λ changed. changed ≡ is_some (written_of_fold_chain_expr seat node.old)) }
     {
         mini_choices::fold_chain_expr(alloc, node, seat)
+    }
+
+    /// `(a?.b)?.c` becomes `a?.b?.c`, whatever links stand outside. The answer says whether it did; the only error is that memory runs out, and then
+    /// the expression is fit only to be dropped.
+    pub fn substitute_chain_expression(
+        &self,
+        alloc: Global,
+        node: &mut Node,
+    ) -> Result<bool, OutOfMemory>
+        ensures tree { OnOk result (node.new ≡ unwrap_or (name.chain_written node.old) node.old) }
+        ensures said { IfOk result (λ changed. changed ≡ is_some (name.chain_written node.old)) }
+    {
+        mini_choices::substitute_chain_expression(alloc, node)
+    }
+
+    /// Where an expression is a member, a call or more of these over the name, which a scope declares, and which isn't `eval`, the value goes into the
+    /// place of the name, the first link becomes optional, and the expression a chain: of `x.m(b)` and the value `x = a` it makes `(x = a)?.m(b)`, and
+    /// leaves `void 0` as the value. Else nothing changes. The answer says whether it did; the only error is that memory runs out, and then both are
+    /// fit only to be dropped.
+    pub fn inject_optional_chaining_if_matched(
+        &self,
+        alloc: Global,
+        target: &Node,
+        value: &mut Node,
+        expression: &mut Node,
+    ) -> Result<bool, OutOfMemory>
+        ensures tree { OnOk result (expression.new ≡ name.injected target.now value.old expression.old) }
+        ensures left { OnOk result (value.new ≡ (if name.reads_target target.now expression.old then void_zero else value.old)) }
+        ensures said { IfOk result (λ changed. changed ≡ name.reads_target target.now expression.old) }
+    {
+        mini_choices::inject_optional_chaining_if_matched(alloc, target, value, expression)
+    }
+
+    /// The name, where an expression is one, and the one that it assigns to, where it is an assignment by `=` to a name: x of `x` and of `x = a`. None
+    /// of everything else.
+    pub fn extract_id_or_assign_to_id<'a>(&self, expression: &'a Node) -> Option<&'a Node>
+        ensures { option_copied result ≡ name.assigned_name expression.now }
+    {
+        mini_choices::extract_id_or_assign_to_id(expression)
+    }
+
+    /// Whether an expression reads what is assigned to, and this is a name, or a member of a name with a key that is written out, so that `x.k = x.k + b`
+    /// may become `x.k += b`.
+    pub fn has_no_side_effect_for_evaluation_same_target(
+        &self,
+        target: &Node,
+        expression: &Node,
+    ) -> bool
+        ensures { result ≡ is_same_target target.now expression.now }
+    {
+        mini_choices::has_no_side_effect_for_evaluation_same_target(target, expression)
+    }
+
+    /// Whether what is read is the name that is assigned to, so that `x || (x = b)` may become `x ||= b`.
+    pub fn can_compress_to_logical_assignment(&self, target: &Node, read: &Node) -> bool
+        ensures { result ≡ is_same_name target.now read.now }
+    {
+        mini_choices::can_compress_to_logical_assignment(target, read)
     }
 }

@@ -6,20 +6,21 @@ ghost use Rattle.mini_fold.specs.FoldKnown.{branch_written, expression_written, 
 ghost use Rattle.mini_fold.specs.FoldOperands as operand;
 ghost use Rattle.mini_fold.specs.FoldOperators as tree;
 ghost use Rattle.mini_fold.specs.FoldSequences.{Gives, Rests};
-ghost use Rattle.mini_fold.specs.FoldStaticMember.{written as written_of_fold_static_member};
+ghost use Rattle.mini_fold.specs.FoldStaticMember.{computed_written, written as written_of_fold_static_member};
 ghost use Rattle.mini_fold.specs.FoldTemplates.{Gives as GivesOfFoldTemplates, PartsRest, Rests as RestsOfFoldTemplates};
 ghost use Rattle.mini_fold.specs.MinimizeBinary.{written as written_of_minimize_binary};
+ghost use Rattle.mini_fold.specs.Names as name;
 ghost use Rattle.mini_fold.specs.RemoveIdleHead as row;
 ghost use Rattle.mini_terms.specs.Values.{value, value_in};
 ghost use Rattle.mini_node.specs.Children.{part};
 ghost use Rattle.mini_node.specs.Kinds.{unary_operator as its_unary_operator};
-ghost use Rattle.mini_terms.specs.Calculated as term;
+ghost use Rattle.mini_terms.specs.Constant.{constant};
 ghost use Rattle.mini_terms.specs.Plain.{lit};
 ghost use Rattle.mini_tree.specs.Rule.{Applied};
 ghost use Rattle.std.specs.Prelude.{IfOk, OnOk, Some, is_some, unwrap_or, ◌≡◌};
 
 use crate::PeepholeOptimizations;
-use mini_fold::ConstantValue;
+use mini_terms::ConstantValue;
 use mini_tree::{Node, OutOfMemory, Position, Seat};
 use std::alloc::Global;
 
@@ -73,11 +74,34 @@ impl PeepholeOptimizations {
     }
 
     /// The length of a text that is written out becomes its number: `"abc".length` becomes `3`. The answer says whether it did.
-    pub fn fold_static_member(&self, alloc: Global, node: &mut Node, seat: Seat) -> bool
+    pub fn fold_static_member_expr(&self, alloc: Global, node: &mut Node, seat: Seat) -> bool
         ensures tree { node.new ≡ unwrap_or (written_of_fold_static_member seat node.old) node.old }
         ensures said { result ≡ is_some (written_of_fold_static_member seat node.old) }
     {
-        mini_fold::fold_static_member(alloc, node, seat)
+        mini_fold::fold_static_member_expr(alloc, node, seat)
+    }
+
+    /// The same in brackets: `"abc"["length"]` becomes `3`. The answer says whether it did.
+    pub fn fold_computed_member_expr(&self, alloc: Global, node: &mut Node, seat: Seat) -> bool
+        ensures tree { node.new ≡ unwrap_or (computed_written seat node.old) node.old }
+        ensures said { result ≡ is_some (computed_written seat node.old) }
+    {
+        mini_fold::fold_computed_member_expr(alloc, node, seat)
+    }
+
+    /// A binary operator over constants becomes the literal of its value, `typeof a + ""` `typeof a`, `a + "s" + "t"` `a + "st"`, `a & 6 & 3` `a & 2`, and a
+    /// sum with a template one template, each where it is lighter. The answer says whether one did; the only error is that memory runs out, and then
+    /// the expression is fit only to be dropped.
+    pub fn fold_binary_expr(
+        &self,
+        alloc: Global,
+        node: &mut Node,
+        seat: Seat,
+    ) -> Result<bool, OutOfMemory>
+        ensures tree { OnOk result (node.new ≡ unwrap_or (name.binary_expression_written seat node.old) node.old) }
+        ensures said { IfOk result (λ changed. changed ≡ is_some (name.binary_expression_written seat node.old)) }
+    {
+        mini_fold::fold_binary_expr(alloc, node, seat)
     }
 
     /// A part of the head of a `for` goes where it does nothing, or its counter steps by `--x`. The answer says whether something changed;
@@ -110,11 +134,15 @@ impl PeepholeOptimizations {
     /// A counter of a `for` that holds numbers only steps by `--x` in place of `x -= 1`, and by `++x` in place of `x -= -1` (ECMA-262,
     /// "Update Expressions"). The answer says whether it does now; the only error is that memory runs out, and then the statement is fit
     /// only to be dropped.
-    pub fn decrement_counter(&self, alloc: Global, node: &mut Node) -> Result<bool, OutOfMemory>
+    pub fn minimize_assignment_to_update_expression(
+        &self,
+        alloc: Global,
+        node: &mut Node,
+    ) -> Result<bool, OutOfMemory>
         ensures tree { OnOk result (node.new ≡ unwrap_or (row_of_decrement_counter.written node.old) node.old) }
         ensures said { IfOk result (λ changed. changed ≡ is_some (row_of_decrement_counter.written node.old)) }
     {
-        mini_fold::decrement_counter(alloc, node)
+        mini_fold::minimize_assignment_to_update_expression(alloc, node)
     }
 
     /// An operand whose value is known goes, or is written shorter. The answer says whether it was; the only error is that memory runs
@@ -181,14 +209,127 @@ impl PeepholeOptimizations {
     }
 
     /// A strict equality of two sides of one known Kind becomes a loose one. The answer says whether it did.
-    pub fn minimize_binary(&self, alloc: Global, node: &mut Node) -> bool
+    pub fn loosen_equality(&self, alloc: Global, node: &mut Node) -> bool
         ensures tree { node.new ≡ unwrap_or (written_of_minimize_binary node.old) node.old }
         ensures said { result ≡ is_some (written_of_minimize_binary node.old) }
     {
         mini_fold::minimize_binary(alloc, node)
     }
 
-    /// The constant of an operator over constants, as far as it is calculated; None of any other expression.
+    /// `(a & 1) == 0` becomes `!(a & 1)`, `!a == !0` becomes `!a`, and `a === b` `a == b` where both are of one known Kind. The answer says
+    /// whether it did; the only error is that memory runs out, and then the expression is fit only to be dropped.
+    pub fn minimize_binary(
+        &self,
+        alloc: Global,
+        node: &mut Node,
+        seat: Seat,
+    ) -> Result<bool, OutOfMemory>
+        ensures tree { OnOk result (node.new ≡ unwrap_or (name.binary_written seat node.old) node.old) }
+        ensures said { IfOk result (λ changed. changed ≡ is_some (name.binary_written seat node.old)) }
+    {
+        mini_fold::minimize_binary_expr(alloc, node, seat)
+    }
+
+    /// `a == !0` becomes `a == 1`, and `a != !1` `a != 0`, the boolean on either side. The answer says whether it did; the only error is that
+    /// memory runs out, and then the expression is fit only to be dropped.
+    pub fn minimize_loose_boolean(
+        &self,
+        alloc: Global,
+        node: &mut Node,
+    ) -> Result<bool, OutOfMemory>
+        ensures tree { OnOk result (node.new ≡ unwrap_or (name.loose_written node.old) node.old) }
+        ensures said { IfOk result (λ changed. changed ≡ is_some (name.loose_written node.old)) }
+    {
+        mini_fold::minimize_loose_boolean(alloc, node)
+    }
+
+    /// `a << 0`, `a >> 0`, `a ^ 0` and `a & 4294967295` become `a | 0`, and `a << 1 | 0` `a << 1`. The answer says whether it did; the only
+    /// error is that memory runs out, and then the expression is fit only to be dropped.
+    pub fn minimize_bitwise_binary_expr(
+        &self,
+        alloc: Global,
+        node: &mut Node,
+        seat: Seat,
+    ) -> Result<bool, OutOfMemory>
+        ensures tree { OnOk result (node.new ≡ unwrap_or (name.bitwise_written seat node.old) node.old) }
+        ensures said { IfOk result (λ changed. changed ≡ is_some (name.bitwise_written seat node.old)) }
+    {
+        mini_fold::minimize_bitwise_binary_expr(alloc, node, seat)
+    }
+
+    /// A unary operator over a constant becomes the literal of its value, where that is lighter, and `delete a()` becomes `a(), !0`. The answer
+    /// says whether one did; the only error is that memory runs out, and then the expression is fit only to be dropped.
+    pub fn fold_unary_expr(
+        &self,
+        alloc: Global,
+        node: &mut Node,
+        seat: Seat,
+    ) -> Result<bool, OutOfMemory>
+        ensures tree { OnOk result (node.new ≡ unwrap_or (name.unary_written seat node.old) node.old) }
+        ensures said { IfOk result (λ changed. changed ≡ is_some (name.unary_written seat node.old)) }
+    {
+        mini_fold::fold_unary_expr(alloc, node, seat)
+    }
+
+    /// What `try_fold_coalesce` does of `??`, and `try_fold_and_or` of `&&` and `||`. The answer says whether it did; the only error is that
+    /// memory runs out, and then the expression is fit only to be dropped.
+    pub fn fold_logical_expr(
+        &self,
+        alloc: Global,
+        node: &mut Node,
+        seat: Seat,
+    ) -> Result<bool, OutOfMemory>
+        ensures tree { OnOk result (node.new ≡ unwrap_or (name.either_written seat node.old) node.old) }
+        ensures said { IfOk result (λ changed. changed ≡ is_some (name.either_written seat node.old)) }
+    {
+        mini_fold::fold_logical_expr(alloc, node, seat)
+    }
+
+    /// `0 && b` becomes `0`, `1 && b` `b`, and `a || 0 || b` `a || b`: a side of `&&` or `||` goes whose truth is known. The answer says whether
+    /// one did; the only error is that memory runs out, and then the expression is fit only to be dropped.
+    pub fn try_fold_and_or(
+        &self,
+        alloc: Global,
+        node: &mut Node,
+        seat: Seat,
+    ) -> Result<bool, OutOfMemory>
+        ensures tree { OnOk result (node.new ≡ unwrap_or (name.and_or_written seat node.old) node.old) }
+        ensures said { IfOk result (λ changed. changed ≡ is_some (name.and_or_written seat node.old)) }
+    {
+        mini_fold::try_fold_and_or(alloc, node, seat)
+    }
+
+    /// `null ?? b` becomes `b`, and `!a ?? b` `!a`: a side of `??` goes where the Kind of the left one is known. The answer says whether one did.
+    pub fn try_fold_coalesce(&self, alloc: Global, node: &mut Node, seat: Seat) -> bool
+        ensures tree { node.new ≡ unwrap_or (name.coalesce_written seat node.old) node.old }
+        ensures said { result ≡ is_some (name.coalesce_written seat node.old) }
+    {
+        mini_fold::try_fold_coalesce(alloc, node, seat)
+    }
+
+    /// `typeof x == typeof x` becomes `!0`, and `typeof a == "text"` `!1` where no value of `typeof` is that; unequal the other one. The answer
+    /// says whether it did; the only error is that memory runs out.
+    pub fn fold_binary_typeof_comparison(
+        &self,
+        alloc: Global,
+        node: &mut Node,
+    ) -> Result<bool, OutOfMemory>
+        ensures tree { OnOk result (node.new ≡ unwrap_or (name.typeof_written node.old) node.old) }
+        ensures said { IfOk result (λ changed. changed ≡ is_some (name.typeof_written node.old)) }
+    {
+        mini_fold::fold_binary_typeof_comparison(alloc, node)
+    }
+
+    /// `+a * 2` becomes `a * 2`, and so of other operators that make numbers of their operands. The answer says whether it did; the only error is
+    /// that memory runs out, and then the expression is fit only to be dropped.
+    pub fn substitute_unary_plus(&self, alloc: Global, node: &mut Node) -> Result<bool, OutOfMemory>
+        ensures tree { OnOk result (node.new ≡ unwrap_or (name.plus_written node.old) node.old) }
+        ensures said { IfOk result (λ changed. changed ≡ is_some (name.plus_written node.old)) }
+    {
+        mini_fold::substitute_unary_plus(alloc, node)
+    }
+
+    /// The constant of an expression, whatever the expression does besides. None exactly where nothing is known.
     ///
     /// The only error is that memory runs out.
     pub fn evaluate_value(
@@ -196,9 +337,9 @@ impl PeepholeOptimizations {
         alloc: Global,
         node: &Node,
     ) -> Result<Option<ConstantValue>, OutOfMemory>
-        ensures { IfOk result (λ v. value_in v ≡ term.calculated node.now) }
+        ensures { IfOk result (λ v. value_in v ≡ constant node.now) }
     {
-        mini_fold::evaluate_value(alloc, node)
+        mini_terms::constant_value(alloc, node)
     }
 
     /// The literal of a value.
@@ -207,6 +348,6 @@ impl PeepholeOptimizations {
     pub fn value_to_expr(&self, alloc: Global, constant: ConstantValue) -> Result<Node, OutOfMemory>
         ensures { IfOk result (λ n. lit (value constant) ≡ Some n) }
     {
-        mini_fold::value_to_expr(alloc, constant)
+        mini_terms::value_to_expr(alloc, constant)
     }
 }

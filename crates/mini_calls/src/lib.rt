@@ -1,13 +1,23 @@
 //! Every rewrite of the minifier by itself, under its name, for who wants one and not all: each call is that of the crate of
-//! rewrites that has it, and adds nothing.
+//! rewrites that has it, or the first of several that writes something, and adds nothing.
 #![tactic(auto)]
 
 mod choices;
 mod folding;
+mod joined;
 mod logic;
 mod statements;
 mod syntax;
 mod unused;
+
+// What is known of an expression, and how a key of a class is kept.
+pub use mini_syntax::{ClassPropertyKeyParent, ClassPropertyKeyParentType};
+pub use mini_terms::{
+    ConstantValue, ValueType, constant_value as evaluate_value, is_expression_undefined,
+    is_int32_or_uint32, is_literal_value, may_have_side_effects,
+    preserve_indirect_access_if_needed, remove_unused_expression, to_boolean, value_to_expr,
+    value_type,
+};
 
 /// The rewrites, each a call.
 pub struct PeepholeOptimizations;

@@ -3,7 +3,6 @@
 ghost use Rattle.mini_logic.specs.DeMorganForVoidExpr.{Gives, Rests, written as written_of_de_morgan_for_void_expr};
 ghost use Rattle.mini_logic.specs.LastContinue.{written as written_of_last_continue};
 ghost use Rattle.mini_logic.specs.MinimizeBody.{written as written_of_minimize_body};
-ghost use Rattle.mini_logic.specs.MinimizeConditionalExpression.{written as written_of_minimize_conditional_expression};
 ghost use Rattle.mini_logic.specs.MinimizeExpressionInBooleanContext as boolean;
 ghost use Rattle.mini_logic.specs.MinimizeForStatement as row;
 ghost use Rattle.mini_logic.specs.MinimizeIfStatement.{written as written_of_minimize_if_statement};
@@ -11,7 +10,9 @@ ghost use Rattle.mini_logic.specs.MinimizeNegation.{negates, told, told_lightest
 ghost use Rattle.mini_logic.specs.MinimizeUnaryExpression.{minimized_unary, minimizes_unary};
 ghost use Rattle.mini_logic.specs.Sequences as end;
 ghost use Rattle.mini_logic.specs.UnwrapBlock.{written as written_of_unwrap_block};
+ghost use Rattle.mini_node.specs.Children.{part};
 ghost use Rattle.mini_tree.specs.Rule.{Applied};
+ghost use Rattle.std.specs.Option.{option_copied};
 ghost use Rattle.std.specs.Prelude.{IfOk, OnOk, if◌then◌else◌, is_some, unwrap_or, ◌≡◌};
 
 use crate::PeepholeOptimizations;
@@ -45,19 +46,6 @@ impl PeepholeOptimizations {
         ensures said { IfOk result (λ changed. changed ≡ is_some (written seat node.old)) }
     {
         mini_logic::minimize_negation(alloc, node, seat)
-    }
-
-    /// `!a ? b : c` becomes `a ? c : b`, and `a != b ? c : d` becomes `a == b ? d : c`. The answer says whether it did; the only
-    /// error is that memory runs out, and then the expression is fit only to be dropped.
-    pub fn minimize_conditional_expression(
-        &self,
-        alloc: Global,
-        node: &mut Node,
-    ) -> Result<bool, OutOfMemory>
-        ensures tree { OnOk result (node.new ≡ unwrap_or (written_of_minimize_conditional_expression node.old) node.old) }
-        ensures said { IfOk result (λ changed. changed ≡ is_some (written_of_minimize_conditional_expression node.old)) }
-    {
-        mini_logic::minimize_conditional_expression(alloc, node)
     }
 
     /// `if (a) b; else c;` becomes `a ? b : c;`, `if (a) b;` becomes `a && b;`, and where a ends in a `!`, alone or as the last part of a
@@ -198,5 +186,20 @@ impl PeepholeOptimizations {
         ensures left { sequence.new ≡ end.left_of sequence.old }
     {
         mini_logic::pop_expression_from_sequence(sequence)
+    }
+
+    /// The operand of a unary expression: a of `!a`.
+    pub fn unwrap_unary(&self, unary: Node) -> Node
+        ensures { result ≡ part unary 0 }
+    {
+        mini_logic::unwrap_unary(unary)
+    }
+
+    /// The last expression of a sequence, however many sequences it ends in; a trailing sequence that is empty is given itself. None exactly where it
+    /// is no sequence, or an empty one.
+    pub fn last_expression_in_sequence<'a>(&self, sequence: &'a Node) -> Option<&'a Node>
+        ensures { option_copied result ≡ end.last_expression sequence.now }
+    {
+        mini_logic::last_expression_in_sequence(sequence)
     }
 }

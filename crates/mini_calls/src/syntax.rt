@@ -1,5 +1,6 @@
 //! Rewrites of spellings, of declarations and arrow functions, of keys, and of switches.
 
+ghost use Rattle.mini_model.specs.Templates.{escaped};
 ghost use Rattle.mini_model.specs.Tree.{node};
 ghost use Rattle.mini_rows.specs.Cases as case;
 ghost use Rattle.mini_syntax.specs.CompressAssignmentTargetProperty as row_of_compress_assignment_target_property;
@@ -24,6 +25,7 @@ ghost use Rattle.mini_syntax.specs.SubstituteYieldExpression.{written as written
 ghost use Rattle.std.specs.Prelude.{IfOk, OnOk, is_some, unwrap_or, ◌≡◌};
 
 use crate::PeepholeOptimizations;
+use mini_model::Text;
 use mini_tree::{Node, OutOfMemory, Position};
 use std::alloc::Global;
 
@@ -197,15 +199,59 @@ impl PeepholeOptimizations {
         mini_syntax::substitute_key(alloc, node)
     }
 
-    /// Of a property of a pattern that is assigned to (`[{ ["x"]: a } = b]`), a method or a field of a class a key in brackets loses them where it
-    /// is a text or a whole number from 0, but where `should_keep_as_computed_property`; another key that is a text becomes the name or the
-    /// number that it writes. The answer says whether anything changed; the only error is that memory runs out. It is handed on as
-    /// `substitute_assignment_target_property_property`, `substitute_method_definition` and `substitute_property_definition`.
-    pub fn substitute_held_key(&self, alloc: Global, node: &mut Node) -> Result<bool, OutOfMemory>
+    /// Of a property of a pattern that is assigned to (`[{ ["x"]: a } = b]`) a key in brackets loses them where it is a text or a whole number from 0, but where `should_keep_as_computed_property`; another key
+    /// that is a text becomes the name or the number that it writes. The answer says whether anything changed; the only error is that memory
+    /// runs out.
+    pub fn substitute_assignment_target_property_property(
+        &self,
+        alloc: Global,
+        node: &mut Node,
+    ) -> Result<bool, OutOfMemory>
         ensures tree { OnOk result (node.new ≡ row.held_written node.old) }
         ensures said { IfOk result (λ changed. changed ≡ row.is_held_written node.old) }
     {
         mini_syntax::substitute_assignment_target_property_property(alloc, node)
+    }
+
+    /// Of a method of a class a key in brackets loses them where it is a text or a whole number from 0, but where `should_keep_as_computed_property`; another key
+    /// that is a text becomes the name or the number that it writes. The answer says whether anything changed; the only error is that memory
+    /// runs out.
+    pub fn substitute_method_definition(
+        &self,
+        alloc: Global,
+        node: &mut Node,
+    ) -> Result<bool, OutOfMemory>
+        ensures tree { OnOk result (node.new ≡ row.held_written node.old) }
+        ensures said { IfOk result (λ changed. changed ≡ row.is_held_written node.old) }
+    {
+        mini_syntax::substitute_method_definition(alloc, node)
+    }
+
+    /// Of a field of a class a key in brackets loses them where it is a text or a whole number from 0, but where `should_keep_as_computed_property`; another key
+    /// that is a text becomes the name or the number that it writes. The answer says whether anything changed; the only error is that memory
+    /// runs out.
+    pub fn substitute_property_definition(
+        &self,
+        alloc: Global,
+        node: &mut Node,
+    ) -> Result<bool, OutOfMemory>
+        ensures tree { OnOk result (node.new ≡ row.held_written node.old) }
+        ensures said { IfOk result (λ changed. changed ≡ row.is_held_written node.old) }
+    {
+        mini_syntax::substitute_property_definition(alloc, node)
+    }
+
+    /// A property that is assigned to becomes the shorthand, as `x: x` becomes `x`, or its key is spelled otherwise, as of `"x": a` and `["x"]: a`.
+    /// The answer says whether anything changed; the only error is that memory runs out, and then the property is fit only to be dropped.
+    pub fn substitute_assignment_target_property(
+        &self,
+        alloc: Global,
+        node: &mut Node,
+    ) -> Result<bool, OutOfMemory>
+        ensures tree { OnOk result (node.new ≡ row.target_written node.old) }
+        ensures said { IfOk result (λ changed. changed ≡ row.is_target_written node.old) }
+    {
+        mini_syntax::substitute_assignment_target_property(alloc, node)
     }
 
     /// Of the pattern of a declarator or a `catch` the first key in brackets that is a text or a whole number from 0 loses them. The answer
@@ -224,7 +270,7 @@ impl PeepholeOptimizations {
     /// Of what is assigned to a property whose key is the name assigned to becomes the shorthand: `x: x` is `x`, and `x: x = d` is `x = d`
     /// (ECMA-262, "Destructuring Assignment", AssignmentProperty). The answer says whether it did; the only error is that memory runs
     /// out, and then the property is fit only to be dropped.
-    pub fn compress_assignment_target_property(
+    pub fn try_compress_assignment_target_property(
         &self,
         alloc: Global,
         node: &mut Node,
@@ -232,7 +278,7 @@ impl PeepholeOptimizations {
         ensures tree { OnOk result (node.new ≡ row_of_compress_assignment_target_property.compressed node.old) }
         ensures said { IfOk result (λ changed. changed ≡ row_of_compress_assignment_target_property.is_doubled node.old) }
     {
-        mini_syntax::compress_assignment_target_property(alloc, node)
+        mini_syntax::try_compress_assignment_target_property(alloc, node)
     }
 
     /// A `switch` of one case becomes an `if`, or of `default` alone a block. The answer says whether it did; the only error is that
@@ -259,6 +305,18 @@ impl PeepholeOptimizations {
         ensures said { IfOk result (λ changed. changed ≡ is_some (written_of_drop_unreachable_switch_cases node.old)) }
     {
         mini_switch::drop_unreachable_switch_cases(alloc, node)
+    }
+
+    /// The raw text of a template that cooks to this text: `\`, a backtick and `$` with a backslash before them, and a carriage return as `\r`. The only
+    /// error is that memory runs out.
+    pub fn escape_string_for_template_literal(
+        &self,
+        alloc: Global,
+        value: &Text,
+    ) -> Result<Text, OutOfMemory>
+        ensures { IfOk result (λ raw. raw ≡ escaped value.now) }
+    {
+        mini_model::escape_string_for_template_literal(alloc, value)
     }
 
     /// Whether the statements of a case may stand in a branch or a block: it has no test, or one that writes a value out, and then nothing in it is

@@ -3,13 +3,14 @@
 ghost use Rattle.mini_model.specs.declared.place.Position.TheVariants.{Elsewhere, Expr, Stmt};
 ghost use Rattle.mini_model.specs.declared.seat.Seat.{Seat};
 ghost use Rattle.mini_model.specs.declared.seat.StmtSeat.{StmtSeat};
-ghost use Rattle.mini_model.specs.Tree.{children};
+ghost use Rattle.mini_model.specs.Tree.{children, count, shape_of};
 ghost use Rattle.mini_node.specs.Kinds.{is_listed as is_it_listed};
-ghost use Rattle.mini_unused.specs.RemoveUnusedDeclaration.{Applied, AppliedInFunction, UnusedAt, marked, open_in};
+ghost use Rattle.mini_unused.specs.Calls.{Within, is_class, is_function, should_go};
+ghost use Rattle.mini_unused.specs.RemoveUnusedDeclaration.{Applied, AppliedInFunction, UnusedAt, list_at, marked, open_in};
 ghost use Rattle.mini_unused.specs.RemoveUnusedName.{Applied as AppliedOfRemoveUnusedName, switches_of};
 ghost use Rattle.mini_unused.specs.SubstituteSingleUse.{Removed};
 ghost use Rattle.mini_unused.specs.SubstituteCatchClause.{Applied as AppliedOfSubstituteCatchClause};
-ghost use Rattle.std.specs.Prelude.{IfOk, None, true, ◌≡◌};
+ghost use Rattle.std.specs.Prelude.{IfOk, None, false, true, ◌+◌, ◌<◌, ◌≡◌, ◌^◌};
 
 use crate::PeepholeOptimizations;
 use mini_context::Scopes;
@@ -87,12 +88,56 @@ impl PeepholeOptimizations {
         mini_unused::substitute_single_uses(alloc, outside, list, scopes)
     }
 
+    /// Whether 72 would take the declarator at the second place of the declaration at the first, in a list of statements with what stands outside of
+    /// them, if it stood in a declaration of its own: of `let x = a(), y = b(); c(y);` it would take `x = a()`, which leaves `a();`.
+    pub fn should_remove_unused_declarator(
+        &self,
+        outside: &Node,
+        list: &Node,
+        at: usize,
+        which: usize,
+        scopes: &Scopes,
+    ) -> bool
+        requires statement { at < count (children list.now) }
+        requires declarator { which < count (children (list_at (children list.now) at)) }
+        requires fits { which + 1 < 2 ^ 64 }
+        requires fits_too { at + 1 < 2 ^ 64 }
+        ensures { result ≡ should_go (open_in outside.now (marked scopes.now)) outside.now list.now at which }
+    {
+        mini_unused::should_remove_unused_declarator(outside, list, at, which, scopes)
+    }
+
+    /// Of a list of statements with what stands outside of them, `let x = a(), y = x.b;` becomes `let y = a().b;`, for the first such name. The
+    /// answer says whether there was one.
+    pub fn substitute_within(&self, outside: &Node, list: &mut Node, scopes: &Scopes) -> bool
+        requires { is_it_listed list.old ≡ true }
+        ensures { Within (open_in outside.now (marked scopes.now)) outside.now list.old list.new result }
+    {
+        mini_unused::substitute_within(outside, list, scopes)
+    }
+
     /// A function or class expression loses its name where nothing in it mentions that and the options let it go. The answer says whether it
     /// did.
     pub fn remove_unused_name(&self, node: &mut Node, options: CompressOptions) -> bool
         ensures { (s : Seat) → AppliedOfRemoveUnusedName (switches_of options) (Expr s) node.old node.new result }
     {
         mini_unused::remove_unused_name(node, options)
+    }
+
+    /// The same of a function alone: `f(function g() {})` becomes `f(function () {})`. What is no function stays.
+    pub fn try_remove_name_from_functions(&self, node: &mut Node, options: CompressOptions) -> bool
+        ensures function { is_function (shape_of node.old) ≡ true → (s : Seat) → AppliedOfRemoveUnusedName (switches_of options) (Expr s) node.old node.new result }
+        ensures other { is_function (shape_of node.old) ≡ false → (node.new ≡ node.old) × (result ≡ false) }
+    {
+        mini_unused::try_remove_name_from_functions(node, options)
+    }
+
+    /// The same of a class alone: `f(class C {})` becomes `f(class {})`. What is no class stays.
+    pub fn try_remove_name_from_classes(&self, node: &mut Node, options: CompressOptions) -> bool
+        ensures class { is_class (shape_of node.old) ≡ true → (s : Seat) → AppliedOfRemoveUnusedName (switches_of options) (Expr s) node.old node.new result }
+        ensures other { is_class (shape_of node.old) ≡ false → (node.new ≡ node.old) × (result ≡ false) }
+    {
+        mini_unused::try_remove_name_from_classes(node, options)
     }
 
     /// A `catch` loses the name of what it catches, where nothing in its body mentions that. The answer says whether it did.
