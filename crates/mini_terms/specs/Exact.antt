@@ -1,5 +1,5 @@
 -- Terms that tell what an expression is, or what has to be written in its place.
-use Rattle.std.specs.Prelude.{ℕ, ℤ, pos, negsuc, nat_le, nat_lt, Bool, true, false, ◌&&◌, ◌||◌, List, [], ◌∷◌, is_some, not, codes, if◌then◌else◌}
+use Rattle.std.specs.Prelude.{ℕ, ℤ, pos, negsuc, nat_le, nat_lt, Bool, true, false, ◌&&◌, ◌||◌, List, [], ◌∷◌, is_some, not, if◌then◌else◌}
 use Rattle.mini_model.specs.declared.name.Name.{Name}
 use Rattle.mini_model.specs.declared.operator.BinaryOperator.{BinaryOperator}
 use Rattle.mini_model.specs.declared.operator.BinaryOperator.TheVariants as binary
@@ -9,10 +9,10 @@ use Rattle.mini_model.specs.declared.seat.Guard.TheVariants as guard
 use Rattle.mini_model.specs.declared.shape.Shape.{Shape}
 use Rattle.mini_model.specs.declared.shape.Shape.TheVariants as shape
 use Rattle.mini_model.specs.Tree.{Tree, Trees, node, none, ◌▸◌, leaf}
-use Rattle.mini_model.specs.Weight.{same_text}
 use Rattle.mini_node.specs.Kinds.{sequence}
 use Rattle.mini_laws.specs.Expressions.{first_kind}
 use Rattle.mini_laws.specs.Naming.{NameKind, kinds}
+use Rattle.mini_laws.specs.ScopeList.{is_eval}
 use Rattle.mini_terms.specs.Kind.{Kind, is_number, is_undefined_name, each_kind, nth_kind}
 use Rattle.mini_terms.specs.Plain.{is_zero, has_no_items}
 
@@ -76,10 +76,6 @@ is_access shape.SuperComputedMemberExpression = true
 is_access shape.ChainExpression = true
 is_access h = false
 
-abbrev pub is_eval : List Name → Bool
-is_eval [] = false
-is_eval (x ∷ xs) = same_text x.spelling (codes "eval")
-
 abbrev pub is_unresolved : List Name → Bool
 is_unresolved [] = false
 is_unresolved (x ∷ xs) = not (is_some x.symbol)
@@ -88,12 +84,13 @@ abbrev pub is_name_by : Bool → Shape → Bool
 is_name_by b shape.Identifier = b
 is_name_by b h = false
 
--- a call of a member has its object as `this`, and a call of `eval` is a direct one; `delete` deletes a member; `typeof` of a name that no
--- scope declares raises nothing (ECMA-262, "EvaluateCall", "The delete Operator", "The typeof Operator")
+-- a call of a member has its object as `this`, and a call of `eval` is a direct one; `delete` deletes a member, and of a name it is false, or no
+-- program at all in strict code, where of a value it is true; `typeof` of a name that no scope declares raises nothing (ECMA-262, "EvaluateCall",
+-- "The delete Operator", "The typeof Operator")
 abbrev pub asks_guard : Guard → Shape → List Name → Bool
 asks_guard guard.None h xs = false
 asks_guard guard.Callee h xs = is_access h || is_name_by (is_eval xs) h
-asks_guard guard.Delete h xs = is_access h
+asks_guard guard.Delete h xs = is_access h || is_name_by true h
 asks_guard guard.Typeof h xs = is_name_by (is_unresolved xs) h
 
 -- what comes in the place of what is read by its value would be read as a reference there

@@ -103,9 +103,13 @@ typeof_name = refl
 typeof_local : is_guarded guard.Typeof (local 0) ≡ false
 typeof_local = refl
 
--- `eval` under `delete`, and in a statement
-delete_eval : is_guarded guard.Delete (global (codes "eval")) ≡ false
-delete_eval = refl
+-- a name under `delete`, as in `delete (p, q)`, and what is no reference there
+delete_name : kept_by_value guard.Delete (local 0) ≡ by_value (local 0)
+delete_name = refl
 
+delete_number : is_guarded guard.Delete (number 1) ≡ false
+delete_number = refl
+
+-- `eval` in a statement
 no_guard : is_guarded guard.None (global (codes "eval")) ≡ false
 no_guard = refl

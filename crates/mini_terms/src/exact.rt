@@ -5,6 +5,7 @@ ghost use Rattle.mini_model.specs.Tree.{children, count, shape_of};
 ghost use Rattle.mini_node.specs.Children.{names};
 ghost use Rattle.mini_laws.specs.Expressions.{first_kind};
 ghost use Rattle.mini_laws.specs.Naming.{kinds};
+ghost use Rattle.mini_laws.specs.ScopeList.{is_eval as is_eval_of};
 ghost use Rattle.mini_terms.specs.Effects.{ef};
 ghost use Rattle.mini_terms.specs.Exact as term;
 ghost use Rattle.mini_terms.specs.Kind.{is_number as is_number_of};
@@ -169,7 +170,7 @@ fn is_access(shape: &Shape) -> bool
 }
 
 fn is_eval(name: &Option<Name>) -> bool
-    ensures { result ≡ term.is_eval (names name.now) }
+    ensures { result ≡ is_eval_of (names name.now) }
 {
     match name {
         Some(name) => name.spelling.as_slice() == EVAL.as_slice(),
@@ -196,7 +197,7 @@ fn is_name_by(holds: bool, shape: &Shape) -> bool
 }
 
 /// Whether an expression would be read as a reference in the place of what is read by its value: as a callee or a tag a member, a chain or the name
-/// `eval`, under `delete` a member or a chain, and under `typeof` a name that no scope declares.
+/// `eval`, under `delete` a member, a chain or a name, and under `typeof` a name that no scope declares.
 #[tactic(auto, using(crate::proofs::ExactTable::guarded_is))]
 pub fn is_guarded(node: &Node, guard: Guard) -> bool
     ensures { result ≡ term.is_guarded guard node.now }
@@ -206,7 +207,7 @@ pub fn is_guarded(node: &Node, guard: Guard) -> bool
         Guard::Callee => {
             is_access(node.shape()) || is_name_by(is_eval(node.name()), node.shape())
         }
-        Guard::Delete => is_access(node.shape()),
+        Guard::Delete => is_access(node.shape()) || is_name_by(true, node.shape()),
         Guard::Typeof => is_name_by(is_unresolved(node.name()), node.shape()),
     }
 }
