@@ -131,6 +131,7 @@ mod KeptThis
 mod ReadFirst
 pub mod MemberRuns
 mod MemberKept
+mod IdleKept
 pub mod SteadyKept
 pub mod SteadyLawful
 pub mod OwnArrowLawful

@@ -2,7 +2,7 @@
 use Rattle.std.specs.Prelude.{ℕ, ◌≡◌, ◌<◌, ◌||◌, refl, Bool, true, false, List, [], ◌++◌, None}
 use Rattle.std.proofs.Common.{ap, ◌∙◌, sym, subst, inl, arith}
 use Rattle.mini_model.specs.declared.place.Position.{Position}
-use Rattle.mini_model.specs.declared.place.Position.TheVariants.{Expr, Stmt, StatementList, Elsewhere}
+use Rattle.mini_model.specs.declared.place.Position.TheVariants.{Stmt, StatementList, Elsewhere}
 use Rattle.mini_model.specs.declared.shape.Shape.{Shape}
 use Rattle.mini_model.specs.declared.shape.Shape.TheVariants as shape
 use Rattle.mini_model.specs.Tree.{Tree, none, ◌▸◌, shape_of}
@@ -35,9 +35,7 @@ use Rattle.mini_rows.specs.OwnPrograms.{program_over, OwnProgram, OwnProgramsAre
 use Rattle.mini_rows.specs.Steady.{no_symbols, own_rows, KeepsOwn, OwnRows, OwnStep, own_first, SteadyRow, LexicalRows}
 use Rattle.mini_rows.proofs.BranchLawful.{IsKind, taken, body_slot, kept_at}
 use Rattle.mini_rows.proofs.LexicalKept.{lexical_kind, lexical_own}
-use Rattle.mini_rows.proofs.SpellShapes.{formed_slot}
-use Rattle.mini_rows.proofs.MemberKept.{keeps}
-use Rattle.mini_rows.proofs.SteadyKept.{steady_own}
+use Rattle.mini_rows.proofs.SteadyKept.{steady_kept, steady_own, steady_slot}
 use Rattle.mini_rows.proofs.SteadyLawful.{AnyRow, KeepsForm, any_form, at_start, over_off, known_begins, forget, own_bodies, own_runs_over, kept_under}
 
 -- ---- imports, exports and functions stay where they are, whatever is known
@@ -154,14 +152,6 @@ places_kept R names kept slots = record {
   listed = λ p n w e r. (kept p n w r).listed e;
   exported = λ p n w r strict e. inl ((kept p n w r).exported strict e);
 }
-
-steady_slot : (V : Assured) (p : Position) (n w : Tree) → SteadyRow V p n w → (strict : Bool) (c : Slot) → fits strict c n ≡ true → is_body_slot p c ≡ true
-steady_slot V (Expr q) n w r = formed_slot (Expr q) n w (keeps V q n w r).formed
-steady_slot V p n w r = absurd r
-
-steady_kept : (V : Assured) (p : Position) (n w : Tree) → SteadyRow V p n w → KeptAt p n w
-steady_kept V (Expr q) n w r = (keeps V q n w r).kept
-steady_kept V p n w r = absurd r
 
 pub steady_places : (V : Assured) → KeepsPlaces (SteadyRow V)
 steady_places V = places_kept (SteadyRow V) (steady_own V).names (steady_kept V) (steady_slot V)

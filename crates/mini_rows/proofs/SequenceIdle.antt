@@ -36,17 +36,17 @@ module _ (D : VariableSet) where
   quiet_then s (halt y t) f q = absurd q
   quiet_then s out f q = weak D (f s)
 
-  module _ (e : Environment) (a : Tree) (h : is_effect_free a ≡ true) where
+  module _ (e : Environment) (a : Tree) (h : (s : State) → Quiet s (means e a (As Unused) tt s)) where
     idle_first : (q : Tree) (qs : Trees) (w : Want) (s : State) → Near (in_row e a (q ▸ qs) w s) (in_row e q qs w s)
     unfolding in_row
-    idle_first q qs w s = quiet_then s (means e a (As Unused) tt s) (λ z. in_row e q qs w z) (effect_free_sound a e true (λ f. absurd (true≢false f)) h Unused s)
+    idle_first q qs w s = quiet_then s (means e a (As Unused) tt s) (λ z. in_row e q qs w z) (h s)
 
     idle_later : (p : Tree) (ps : Trees) (q : Tree) (qs : Trees) (w : Want) (s : State) → Near (in_row e p (append ps (a ▸ (q ▸ qs))) w s) (in_row e p (append ps (q ▸ qs)) w s)
     unfolding in_row
     idle_later p none q qs w s = near_either (means e p (As Unused) tt s) _ _ (λ u z. idle_first q qs w z)
     idle_later p (c ▸ ps) q qs w s = near_either (means e p (As Unused) tt s) _ _ (λ u z. idle_later c ps q qs w z)
 
-    idle_near : (before : Trees) (q : Tree) (qs : Trees) (w : Want) (s : State) → Near (means e (sequence (append before (a ▸ (q ▸ qs)))) (As w) tt s) (means e (sequence (append before (q ▸ qs))) (As w) tt s)
+    pub idle_near : (before : Trees) (q : Tree) (qs : Trees) (w : Want) (s : State) → Near (means e (sequence (append before (a ▸ (q ▸ qs)))) (As w) tt s) (means e (sequence (append before (q ▸ qs))) (As w) tt s)
     idle_near none q qs w s =
         subst (λ x. Near x (means e (sequence (q ▸ qs)) (As w) tt s)) (sym (sequence_in_row e a (q ▸ qs) w s))
         (subst (Near (in_row e a (q ▸ qs) w s)) (sym (sequence_in_row e q qs w s)) (idle_first q qs w s))
@@ -54,12 +54,16 @@ module _ (D : VariableSet) where
         subst (λ x. Near x (means e (sequence (p ▸ append ps (q ▸ qs))) (As w) tt s)) (sym (sequence_in_row e p (append ps (a ▸ (q ▸ qs))) w s))
         (subst (Near (in_row e p (append ps (a ▸ (q ▸ qs))) w s)) (sym (sequence_in_row e p (append ps (q ▸ qs)) w s)) (idle_later p ps q qs w s))
 
-    alone_near : (q : Tree) (w : Want) (s : State) → Near (means e (sequence (a ▸ (q ▸ none))) (As w) tt s) (means e q (As w) tt s)
+    pub alone_near : (q : Tree) (w : Want) (s : State) → Near (means e (sequence (a ▸ (q ▸ none))) (As w) tt s) (means e q (As w) tt s)
     unfolding in_row
     alone_near q w s = subst (λ x. Near x (means e q (As w) tt s)) (sym (sequence_in_row e a (q ▸ none) w s)) (idle_first q none w s)
 
+-- what has no effect wherever it stands
+quiet : (a : Tree) → is_effect_free a ≡ true → (e : Environment) (s : State) → Quiet s (means e a (As Unused) tt s)
+quiet a h e s = effect_free_sound a e true (λ f. absurd (true≢false f)) h Unused s
+
 pub idle_same : (before : Trees) (a q : Tree) (qs : Trees) → is_effect_free a ≡ true → SameWanted (sequence (append before (a ▸ (q ▸ qs)))) (sequence (append before (q ▸ qs)))
-idle_same before a q qs h e D X w = record { by = λ r s i. idle_near D e a h before q qs w s }
+idle_same before a q qs h e D X w = record { by = λ r s i. idle_near D e a (quiet a h e) before q qs w s }
 
 pub alone_same : (a q : Tree) → is_effect_free a ≡ true → SameWanted (sequence (a ▸ (q ▸ none))) q
-alone_same a q h e D X w = record { by = λ r s i. alone_near D e a h q w s }
+alone_same a q h e D X w = record { by = λ r s i. alone_near D e a (quiet a h e) q w s }

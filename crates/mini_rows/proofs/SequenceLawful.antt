@@ -180,13 +180,13 @@ module _ (strict : Bool) where
       sequence_fits strict (append before (a ▸ (b ▸ append ps after))) (two_at_least before a b (append ps after))
       (append_fits strict expression before (a ▸ (b ▸ append ps after)) firsts (append_fits strict expression (a ▸ (b ▸ ps)) after (parts_fit strict a (b ▸ ps) inner) lasts))
 
-  idle_fits : (before : Trees) (a q : Tree) (qs : Trees) → nat_le 2 (count (append before (q ▸ qs))) ≡ true → Fits (sequence (append before (a ▸ (q ▸ qs)))) → Fits (sequence (append before (q ▸ qs)))
+  pub idle_fits : (before : Trees) (a q : Tree) (qs : Trees) → nat_le 2 (count (append before (q ▸ qs))) ≡ true → Fits (sequence (append before (a ▸ (q ▸ qs)))) → Fits (sequence (append before (q ▸ qs)))
   idle_fits before a q qs h e =
       let (firsts, others) = both_fit strict expression before (a ▸ (q ▸ qs)) (items_fit (append before (a ▸ (q ▸ qs))) e) in
       let (idle, lasts) = first_fits strict expression a (q ▸ qs) others in
       sequence_fits strict (append before (q ▸ qs)) (leb-true 2 (count (append before (q ▸ qs))) h) (append_fits strict expression before (q ▸ qs) firsts lasts)
 
-  last_of_two : (a q : Tree) → Fits (sequence (a ▸ (q ▸ none))) → Fits q
+  pub last_of_two : (a q : Tree) → Fits (sequence (a ▸ (q ▸ none))) → Fits q
   last_of_two a q e =
       let (idle, lasts) = first_fits strict expression a (q ▸ none) (items_fit (a ▸ (q ▸ none)) e) in
       (first_fits strict expression q none lasts).0
@@ -275,7 +275,7 @@ over_asked p (Operates o b) a ts = record {
   plain = refl;
 }
 
-alone_asked : (q : Seat) (ts : Trees) (t : Tree) → stays_alone q t ≡ true → AskedAlike (Expr q) (sequence ts) t
+pub alone_asked : (q : Seat) (ts : Trees) (t : Tree) → stays_alone q t ≡ true → AskedAlike (Expr q) (sequence ts) t
 alone_asked q ts t h = record {
   absent = λ e. absurd (true≢false (sym e));
   body = λ e. absurd (true≢false (sym e));

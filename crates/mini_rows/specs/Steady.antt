@@ -1,5 +1,5 @@
 -- Rows that rest on what is known of the body in which they stand, and the node that has the body.
-use Rattle.std.specs.Prelude.{◌≡◌, ◌≤◌, ◌+◌, ◌&&◌, ◌||◌, not, nat_lt, if◌then◌else◌, ℕ, zero, suc, Bool, true, false, List, [], ◌∷◌, Option, Contains}
+use Rattle.std.specs.Prelude.{◌≡◌, ◌⊎◌, ◌≤◌, ◌+◌, ◌&&◌, ◌||◌, not, nat_lt, if◌then◌else◌, ℕ, zero, suc, Bool, true, false, List, [], ◌∷◌, Option, Contains}
 use Rattle.mini_model.specs.declared.kind.PropertyKind.{PropertyKind}
 use Rattle.mini_model.specs.declared.name.Name.{Name}
 use Rattle.mini_model.specs.declared.place.Position.{Position}
@@ -26,13 +26,15 @@ use Rattle.mini_kept.specs.Lifted.{KeepsNames}
 use Rattle.mini_kept.specs.Loosely.{LawfulUnder}
 use Rattle.mini_kept.specs.Without.{Assured, BodySets, Steadies}
 use Rattle.mini_rows.specs.Fading.{FadingFrom}
+use Rattle.mini_rows.specs.Idle.{IdleRow, IdleStatement}
 use Rattle.mini_rows.specs.Lexical.{LexicalRow}
 use Rattle.mini_rows.specs.Members.{MemberRow}
 use Rattle.mini_rows.specs.Past.{is_binding, is_symbol, binds}
 
 -- a row reads n as w at this place, in a body of which this is known
 abbrev pub SteadyRow : Assured → Position → Tree → Tree → Type 0
-SteadyRow V (Expr s) n w = MemberRow V s n w
+SteadyRow V (Expr s) n w = MemberRow V s n w ⊎ IdleRow V s n w
+SteadyRow V (Stmt q) n w = IdleStatement V n w
 SteadyRow V _ n w = ⊥
 
 -- ---- rows of the code of a body

@@ -4,6 +4,7 @@ pub mod Declaring
 pub mod Written
 pub mod LeftParts
 pub mod MemberRows
+pub mod IdleRows
 pub mod Owning
 pub mod Letting
 pub mod FunctionSteps
