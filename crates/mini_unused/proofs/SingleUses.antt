@@ -21,7 +21,7 @@ use Rattle.mini_terms.specs.Folds.{is_effect_free}
 use Rattle.mini_rows.specs.Lists.{block, declaration}
 use Rattle.mini_rows.specs.Declarations.{binding, declarator}
 use Rattle.mini_rows.specs.Unused.{resolved, declared_among, declared_left, names, any_names, is_own_key, is_short, in_full, may_hold, is_reached, leads, has_arguments, holds_list, is_childless, is_written_value, is_value_operator, is_constant, reads, is_first, leads_to, put_first, put_among, passes_branch, passes_at, is_sure, is_placed, holds_entries, entries_below, begins_bare, suits, are_passed_in, are_passed, all_passed, is_head_shape, reads_first, reads_head, evaluated, may_move, lets_go, Row71}
-use Rattle.mini_unused.specs.RemoveUnusedDeclaration.{declares_name, is_lexical_shape, declares_list, may_lose, is_free_at, list_at}
+use Rattle.mini_unused.specs.RemoveUnusedDeclaration.{declares_name, is_lexical_shape, declares_list, may_declare, may_lose, is_free_at, list_at}
 use Rattle.mini_unused.specs.SubstituteNext.{put_named}
 use Rattle.mini_unused.specs.SubstituteSingleUse.{is_own_name, written_in_full, mention_place, may_lead, all_pass, is_reached_at, may_reach, is_head, reads_here, last_place, is_declared_over, is_mentioned_around, reads_next, is_read_once, is_single_declarator, is_single, declaration_left, list_single}
 use Rattle.mini_unused.proofs.Unused.{no_outside, parts_of, there_child, there_first, and_both, Declares, declares, a_declaration, left_is}
@@ -434,12 +434,12 @@ no_declarator free W (node h xs n (t ▸ us)) o ts i j e = absurd (omega (arith,
 pub read_next : (x : Name) (r : Tree) (ts : Trees) (i : ℕ) → reads_here x r (child_or_absent ts (i + 1)) ≡ reads_next x r ts i
 read_next x r ts i = ap (λ k. reads_here x r (child_or_absent ts k)) (add-one i)
 
-pub single_by : (W : VariableSet) (o : Tree) (ts : Trees) (i : ℕ) (statement l : Tree) (n : ℕ) (free r : Bool) → statement ≡ child_or_absent ts i → declares_list statement ≡ true → l ≡ part statement 0 → n ≡ last_place (children l) → free ≡ is_lexical_shape (shape_of statement) → r ≡ is_single_declarator free W l n o ts i → r ≡ is_single W o ts i
+pub single_by : (W : VariableSet) (o : Tree) (ts : Trees) (i : ℕ) (statement l : Tree) (n : ℕ) (free r : Bool) → statement ≡ child_or_absent ts i → may_declare o statement ≡ true → l ≡ part statement 0 → n ≡ last_place (children l) → free ≡ is_lexical_shape (shape_of statement) → r ≡ is_single_declarator free W l n o ts i → r ≡ is_single W o ts i
 single_by W o ts i statement l n free r s e f g z h =
     let there : l ≡ list_at ts i = f ∙ ap (λ t. part t 0) s in
     let is_free : free ≡ is_free_at ts i = z ∙ ap (λ t. is_lexical_shape (shape_of t)) s in
     h ∙ (λ k. is_single_declarator (is_free k) W (there k) ((g ∙ ap (λ t. last_place (children t)) there) k) o ts i)
-    ∙ sym (ap (λ b. b && is_single_declarator (is_free_at ts i) W (list_at ts i) (last_place (children (list_at ts i))) o ts i) (ap declares_list (sym s) ∙ e))
+    ∙ sym (ap (λ b. b && is_single_declarator (is_free_at ts i) W (list_at ts i) (last_place (children (list_at ts i))) o ts i) (ap (may_declare o) (sym s) ∙ e))
 
 pub last_rest : (ts : Trees) → rest_children (suc (last_place ts)) ts ≡ none
 last_rest none = refl
@@ -616,6 +616,11 @@ module _ (t : Tree) (i : ℕ) (b : is_block t ≡ true) (next : suc i < count (c
     written = written_there u f;
   }
 
+  -- whether it is of a `var`
+  pub single_told : (u : Tree) (f : u ≡ block_single t i j) → not (kinds.is_lexical (row_there u f).kind) ≡ not (is_lexical_shape (shape_of statement))
+  unfolding row_there
+  single_told u f = ap (λ y. not (is_lexical_shape (shape_of y))) (sym let_there)
+
 -- ---- where nothing is written no row reads it
 
 module _ (W : VariableSet) (t w : Tree) (r : Row71 W t w) where
@@ -628,7 +633,7 @@ module _ (W : VariableSet) (t w : Tree) (r : Row71 W t w) where
   abbrev declarators : Trees
   declarators = append r.first (declared ▸ none)
 
-  abbrev stated : Tree
+  abbrev pub stated : Tree
   stated = declaration r.kind declarators
 
   abbrev statements : Trees
@@ -644,7 +649,7 @@ module _ (W : VariableSet) (t w : Tree) (r : Row71 W t w) where
       let rest_ts = ap (any_names y) (rest_there r.before stated r.head r.after) ∙ r.later in
       λ k. all (head_there k) (r.initial k) (first_ds k) (rest_ts k) (first_ts k)
 
-  single_there : is_single W no_outside (children (part t 0)) (count r.before) ≡ true
+  pub single_there : is_single W no_outside (children (part t 0)) (count r.before) ≡ true
   single_there =
       let i = count r.before in
       ap (λ v. is_single W no_outside (children (part v 0)) i) r.shape
@@ -653,7 +658,7 @@ module _ (W : VariableSet) (t w : Tree) (r : Row71 W t w) where
       ∙ ap (λ c. declares_name c && (may_lose (kinds.is_lexical r.kind) W (names_of (part c 0)) && (may_move (part c 1) && is_read_once (names_of (part c 0)) no_outside (part c 1) declarators (count r.first) statements i))) (there_child r.first declared none)
       ∙ and_both (lets_go W r.kind r.symbol) (may_move r.init && is_read_once (named ∷ []) no_outside r.init declarators (count r.first) statements i) r.goes (and_both (may_move r.init) (is_read_once (named ∷ []) no_outside r.init declarators (count r.first) statements i) r.moves once_is)
 
-  single_within : suc (count r.before) < count (children (part t 0))
+  pub single_within : suc (count r.before) < count (children (part t 0))
   single_within = subst (λ v. suc (count r.before) < count (children (part v 0))) (sym r.shape) (within_there r.before stated r.head r.after)
 
 pub none_single : (W : VariableSet) (t : Tree) → ((i : ℕ) → suc i < count (children (part t 0)) → is_single W no_outside (children (part t 0)) i ≡ false) → (w : Tree) → Row71 W t w → ⊥

@@ -14,14 +14,14 @@ use Rattle.mini_node.specs.Children.{names_of, part, with_child, with_part, with
 use Rattle.mini_node.specs.Kinds.{is_listed}
 use Rattle.mini_rows.specs.Lists.{declaration, Each, EachIn, EachOf, each_loop}
 use Rattle.mini_rows.specs.Unused.{is_short, can_be_full, in_full, may_hold, is_idle, any_names, names, begins, goes_on, may_go_on, has_branches, leads, holds_list, is_childless, is_first, leads_to, put_first, put_among, is_reached, entries_below, passes_at, is_called_by_value, suits, are_passed, are_passed_in, all_passed, is_head_shape, reads_first, reads_head, evaluated, may_move}
-use Rattle.mini_unused.specs.RemoveUnusedDeclaration.{declares_list, declares_name, may_lose, is_free_at, is_unused_declarator, list_at, statement_left, let_left}
+use Rattle.mini_unused.specs.RemoveUnusedDeclaration.{declares_list, may_declare, declares_name, may_lose, is_free_at, is_unused_declarator, list_at, statement_left, let_left}
 use Rattle.mini_rows.specs.Declarations.{declarator}
 use Rattle.mini_unused.specs.SubstituteNext.{reads_then, put_named, is_declarator, is_mentioned_beside, is_mentioned_elsewhere, is_read_then, declarators_next, NextGone}
 use Rattle.mini_unused.specs.SubstituteSingleUse.{declaration_left, last_place, reads_next, is_declared_over, is_mentioned_around, is_read_once, NameGone, ReadGone, Gone}
 use Rattle.mini_rows.proofs.ListKeptHeads.{Seat, Loop, Choice, seated}
 use Rattle.mini_rows.proofs.SingleUse.{Initial, Heads, heads, mentioned}
 use Rattle.mini_unused.proofs.NextUses.{found, next_child_left}
-use Rattle.mini_unused.proofs.Unused.{a_declaration, declarator_is, not_true}
+use Rattle.mini_unused.proofs.Unused.{a_declaration, declarator_is, declared_there, not_true}
 
 pub neither : (a b : Bool) → (a || b) ≡ false → (a ≡ false) × (b ≡ false)
 neither true b e = absurd (true≢false e)
@@ -368,7 +368,7 @@ then_put (x ∷ xs) d e o ds j ts i h f g =
 module _ (W : VariableSet) (o l m : Tree) (c : Unseen o l) where
   name_gone : NameGone W o l m → Unseen o m
   name_gone g =
-      let declares = (and_parts (declares_list (child_or_absent (children l) g.at)) (is_unused_declarator (is_free_at (children l) g.at) W (list_at (children l) g.at) g.which o (children l) g.at) g.unused.1.2).0 in
+      let declares = declared_there o (child_or_absent (children l) g.at) (and_parts (may_declare o (child_or_absent (children l) g.at)) (is_unused_declarator (is_free_at (children l) g.at) W (list_at (children l) g.at) g.which o (children l) g.at) g.unused.1.2).0 in
       subst (Unseen o) (sym g.left) (unseen_with o l g.at (statement_left (part l g.at) g.which) c (statement_without (part l g.at) g.which declares (in_list o l g.at c)))
 
   read_gone : ReadGone W o l m → Unseen o m
@@ -380,13 +380,13 @@ module _ (W : VariableSet) (o l m : Tree) (c : Unseen o l) where
       let init = part d 1 in
       let once = is_read_once (names_of (part d 0)) o init (children ds) j ts g.at in
       let lost = may_lose (is_free_at ts g.at) W (names_of (part d 0)) in
-      let (declares, p) = and_parts (declares_list (child_or_absent ts g.at)) (declares_name d && (lost && (may_move init && once))) g.single in
+      let (declared_here, p) = and_parts (may_declare o (child_or_absent ts g.at)) (declares_name d && (lost && (may_move init && once))) g.single in
       let (a, q) = and_parts (declares_name d) (lost && (may_move init && once)) p in
       let (b, r) = and_parts lost (may_move init && once) q in
       let (e, f) = and_parts (may_move init) once r in
       let there = in_list o l g.at c in
       let value : has_eval init ≡ false = part_of d 1 (part_of ds j (part_of (part l g.at) 0 there)) in
-      let left = unseen_with o l g.at (declaration_left (part l g.at) j) c (declaration_without (part l g.at) j declares there) in
+      let left = unseen_with o l g.at (declaration_left (part l g.at) j) c (declaration_without (part l g.at) j (declared_there o (child_or_absent ts g.at) declared_here) there) in
       let head = once_put (names_of (part d 0)) o init (children ds) j ts g.at f value (in_list o l (suc g.at) c) in
       subst (Unseen o) (sym g.left) (unseen_with o (with_part l g.at (declaration_left (part l g.at) j)) (suc g.at) (put_named (names_of (part d 0)) init (part l (suc g.at))) left head)
 

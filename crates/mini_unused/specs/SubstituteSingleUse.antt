@@ -14,7 +14,7 @@ use Rattle.mini_rows.specs.SpellKeys.{is_proto}
 use Rattle.mini_rows.specs.Unused.{names, any_names, leads, in_full, may_hold, is_constant, is_head_shape, may_move, passes_at, is_sure, is_placed, suits, are_passed, reads_head, evaluated}
 use Rattle.mini_unused.specs.Chains.{Several}
 use Rattle.mini_unused.specs.SubstituteNext.{put_named, NextAt, NextGone}
-use Rattle.mini_unused.specs.RemoveUnusedDeclaration.{declares_name, declares_list, may_lose, is_free_at, list_at, let_left, list_left, UnusedAt}
+use Rattle.mini_unused.specs.RemoveUnusedDeclaration.{declares_name, may_declare, may_lose, is_free_at, list_at, let_left, list_left, UnusedAt}
 
 -- the place of the first of some nodes that mentions the name, or how many they are
 abbrev pub mention_place : Name → Trees → ℕ
@@ -89,7 +89,7 @@ is_single_declarator free W l j o ts i = declares_name (part l j) && (may_lose f
 
 -- the statement at the place is a declaration, whose last declarator is such a one
 abbrev pub is_single : VariableSet → Tree → Trees → ℕ → Bool
-is_single W o ts i = declares_list (child_or_absent ts i) && is_single_declarator (is_free_at ts i) W (list_at ts i) (last_place (children (list_at ts i))) o ts i
+is_single W o ts i = may_declare o (child_or_absent ts i) && is_single_declarator (is_free_at ts i) W (list_at ts i) (last_place (children (list_at ts i))) o ts i
 
 -- the place of such a statement, or there is none
 abbrev pub SingleAt : VariableSet → Tree → Trees → Option ℕ → Type 0

@@ -14,7 +14,7 @@ ghost use Rattle.mini_node.specs.Kinds.{is_listed as is_it_listed};
 ghost use Rattle.mini_rows.specs.Unused.{is_idle as is_it_idle};
 ghost use Rattle.mini_unused.specs.Lighter.{unused_is_lighter};
 ghost use Rattle.mini_unused.specs.RemoveUnusedDeclaration as row;
-ghost use Rattle.mini_unused.specs.RemoveUnusedDeclaration.{declares_name as it_declares_name, declares_list as it_declares_list, is_lexical_shape, is_free_at, let_left, marked, open_in, case_at, with_statements, UnusedIn, UnusedOf, UnusedAt, Applied, AppliedInCase, AppliedInCases, AppliedInFunction, AppliedInHead, IdleDropped, Gives, Rests};
+ghost use Rattle.mini_unused.specs.RemoveUnusedDeclaration.{declares_name as it_declares_name, declares_list as it_declares_list, is_lexical_shape, is_var as is_it_var, may_declare as may_it_declare, is_free_at, let_left, marked, open_in, case_at, with_statements, UnusedIn, UnusedOf, UnusedAt, Applied, AppliedInCase, AppliedInCases, AppliedInFunction, AppliedInHead, IdleDropped, Gives, Rests};
 ghost use Rattle.mini_unused.specs.SubstituteSingleUse.{Removed};
 
 use crate::declares::declares_nothing;
@@ -87,6 +87,28 @@ pub fn is_lexical(shape: &Shape) -> bool
     match shape {
         Shape::VariableDeclaration(kind) => is_lexical_kind(*kind),
         _ => false,
+    }
+}
+
+/// A `var`, with its list of declarators.
+pub fn is_var(node: &Node) -> bool
+    ensures kind { result ≡ is_it_var node.now }
+    ensures list { result ≡ true → count (children node.now) ≡ 1 }
+{
+    declares_list(node) && !is_lexical(node.shape())
+}
+
+/// A declaration from which names may go: where what stands outside of the statements is a list, as that of the nodes above a list further
+/// inside a body, these are `var`s alone.
+pub fn may_declare(outside: &Node, node: &Node) -> bool
+    ensures kind { result ≡ may_it_declare outside.now node.now }
+    ensures declares { result ≡ true → it_declares_list node.now ≡ true }
+    ensures list { result ≡ true → count (children node.now) ≡ 1 }
+{
+    if matches!(outside.shape(), Shape::Listed) {
+        is_var(node)
+    } else {
+        declares_list(node)
     }
 }
 
@@ -240,7 +262,7 @@ pub fn unused_of(outside: &Node, statements: &Nodes, at: usize, scopes: &Scopes)
     ensures { UnusedOf (open_in outside.now (marked scopes.now)) outside.now statements.now at result }
 {
     let statement = statements.child(at);
-    if !declares_list(statement) {
+    if !may_declare(outside, statement) {
         return None;
     }
     let is_free = is_lexical(statement.shape());
@@ -331,7 +353,7 @@ pub fn drop_in_list(
 }
 
 // Of a list of statements, with what stands outside of them, each name goes that nothing else mentions, or that is read once, from the
-// first of them on. The answer says whether one did.
+// first of them on: where that is a list itself, the names of `var`s alone. The answer says whether one did.
 pub fn remove_in_list(
     alloc: Global,
     outside: &Node,

@@ -16,7 +16,8 @@ ghost use Rattle.mini_unused.specs.SubstituteSingleUse.{declaration_left, Single
 
 use crate::calm::is_calm;
 use crate::declarations::{
-    declares_list, declares_name, is_lexical, may_lose, put_child, take_child, take_declarator,
+    declares_list, declares_name, is_lexical, may_declare, may_lose, put_child, take_child,
+    take_declarator,
 };
 use crate::declares::is_bare_var;
 use crate::evals::{either_has_eval, is_eval_callee, is_eval_name};
@@ -891,7 +892,7 @@ fn is_single(outside: &Node, statements: &Nodes, at: usize, scopes: &Scopes) -> 
     ensures declarators { result ≡ true → 0 < count (children (list_at statements.now at)) }
 {
     let statement = statements.child(at);
-    if !declares_list(statement) {
+    if !may_declare(outside, statement) {
         return false;
     }
     let list = statement.child(0);
