@@ -97,7 +97,10 @@ pub mod CalmCommands
 pub mod ChainCalm
 pub mod ChainRuns
 pub mod ChainReferences
+pub mod ChainGuards
 pub mod ChainLinkMeaning
+mod SequenceStands
+mod FirstParts
 mod ChainHoles
 pub mod ChainLawful
 pub mod ChainLinkLawful

@@ -14,6 +14,8 @@ use Rattle.mini_terms.specs.Sound.{Quiet}
 use Rattle.mini_terms.proofs.Dropping.{weak}
 use Rattle.mini_terms.proofs.EffectsTable.{effect_free_sound}
 use Rattle.mini_rows.specs.Lists.{sequence}
+use Rattle.mini_terms.specs.Exact.{by_value as behind_zero}
+use Rattle.mini_rows.proofs.ChainGuards.{behind_wanted}
 use Rattle.mini_rows.proofs.ListParts.{in_row, sequence_in_row}
 
 module _ (D : VariableSet) where
@@ -58,6 +60,10 @@ module _ (D : VariableSet) where
     unfolding in_row
     alone_near q w s = subst (λ x. Near x (means e q (As w) tt s)) (sym (sequence_in_row e a (q ▸ none) w s)) (idle_first q none w s)
 
+    -- and as after the literal 0
+    zero_near : (q : Tree) (w : Want) (s : State) → Near (means e (sequence (a ▸ (q ▸ none))) (As w) tt s) (means e (behind_zero q) (As w) tt s)
+    zero_near q w s = subst (Near (means e (sequence (a ▸ (q ▸ none))) (As w) tt s)) (sym (behind_wanted e q w s)) (alone_near q w s)
+
 -- what has no effect wherever it stands
 quiet : (a : Tree) → is_effect_free a ≡ true → (e : Environment) (s : State) → Quiet s (means e a (As Unused) tt s)
 quiet a h e s = effect_free_sound a e true (λ f. absurd (true≢false f)) h Unused s
@@ -67,3 +73,6 @@ idle_same before a q qs h e D X w = record { by = λ r s i. idle_near D e a (qui
 
 pub alone_same : (a q : Tree) → is_effect_free a ≡ true → SameWanted (sequence (a ▸ (q ▸ none))) q
 alone_same a q h e D X w = record { by = λ r s i. alone_near D e a (quiet a h e) q w s }
+
+pub zero_same : (a q : Tree) → is_effect_free a ≡ true → SameWanted (sequence (a ▸ (q ▸ none))) (behind_zero q)
+zero_same a q h e D X w = record { by = λ r s i. zero_near D e a (quiet a h e) q w s }
