@@ -152,6 +152,7 @@ pub mod PastBlockKept
 pub mod OwnLightens
 pub mod OwnLosses
 pub mod PastBlockLawful
+pub mod PastPartLawful
 pub mod PastBlockMore
 pub mod FoldEqualities
 mod FoldBranches
@@ -184,6 +185,7 @@ pub mod ConstantLawful
 pub mod UnusedMeaning
 pub mod FoundReads
 pub mod UnusedKept
+pub mod BlockPlaces
 pub mod UnusedLawful
 pub mod UnusedWeights
 pub mod UnusedStretches
