@@ -156,6 +156,7 @@ pub mod PastBlockKept
 pub mod OwnLightens
 pub mod OwnLosses
 pub mod PastBlockLawful
+pub mod PastPartLawful
 pub mod PastBlockMore
 pub mod FoldEqualities
 mod FoldBranches
@@ -188,6 +189,7 @@ pub mod ConstantLawful
 pub mod UnusedMeaning
 pub mod FoundReads
 pub mod UnusedKept
+pub mod BlockPlaces
 pub mod UnusedLawful
 pub mod UnusedWeights
 pub mod UnusedStretches

@@ -30,7 +30,7 @@ use Rattle.mini_kept.proofs.BodyLists.{kept_itself, each_of as each_body}
 use Rattle.mini_rows.specs.PastBlocks.{PastBlocks}
 use Rattle.mini_rows.specs.Steady.{bindings, all_bindings, Symbols, no_symbols, known_in, own_rows, OwnStep, own_here, own_inside, OwnStepIn, own_first, own_later}
 use Rattle.mini_rows.proofs.OwnPartLawful.{bodiless}
-use Rattle.mini_rows.proofs.PastBlockKept.{LosesHere, Loses, some_lost, lost_means, at_statement, loses_read, loses_kind}
+use Rattle.mini_rows.proofs.PastBlockKept.{Lost, Loses, lost, at_block, loses_read, loses_kind}
 use Rattle.mini_rows.proofs.OwnLightens.{as_step}
 use Rattle.mini_rows.proofs.SteadyLawful.{at_start, known_steady, needs_still, begun_off, begun_wide}
 
@@ -39,11 +39,11 @@ use Rattle.mini_rows.proofs.SteadyLawful.{at_start, known_steady, needs_still, b
 module _ (c : Tree) (V : Assured) where
   -- in this code of a body of which this is known, by what statements before have declared
   abbrev pub LosesThere : ℕ → Symbols → Position → Tree → Tree → Type 0
-  LosesThere k L = LosesHere (known_in c V L) k
+  LosesThere k L = Lost (known_in c V L) k
 
   mutual
     pub some_step : {L : Symbols} {p : Position} {t u : Tree} → OwnStep (own_rows PastBlocks c V) L p t u → (k : ℕ) × OwnStep (LosesThere k) L p t u
-    some_step (own_here L p n w r) = let (k, l) = some_lost (known_in c V L) p n w r in (k, own_here L p n w l)
+    some_step (own_here L p n w r) = let (k, l) = lost (known_in c V L) p n w r in (k, own_here L p n w l)
     some_step (own_inside L p h xs ts us b s) = let (k, l) = some_steps s in (k, own_inside L p h xs ts us b l)
 
     some_steps : {Λ : ℕ → Symbols} {π : ℕ → Position} {ts us : Trees} → OwnStepIn (own_rows PastBlocks c V) Λ π ts us → (k : ℕ) × OwnStepIn (LosesThere k) Λ π ts us
@@ -81,7 +81,7 @@ module _ (c : Tree) (V : Assured) (k : ℕ) where
 
   mutual
     pub lost_bodies : {L : Symbols} {p : Position} {t u : Tree} → OwnStep R L p t u → (a : Around) → BodiesKept (bodies a t) (bodies a u)
-    lost_bodies (own_here L p n w r) a = at_statement k (λ p n w. BodiesKept (bodies a n) (bodies a w)) (λ X q n w r. r.bodied a) p n w (known_in c V L, r)
+    lost_bodies (own_here L p n w r) a = at_block k (λ p n w. BodiesKept (bodies a n) (bodies a w)) (λ X q n w r. r.bodied a) p n w (known_in c V L, r)
     lost_bodies (own_inside L p h xs ts us b s) a =
         subst₂ BodiesKept (sym (λ i. bodiless a h 0 (node h xs 0 ts) ts b i ++ bodies_from (below a h ts) 0 ts)) (ap (λ α. bodies_from α 0 us) (around_same a h s) ∙ sym (λ i. bodiless a h 0 (node h xs 0 us) us b i ++ bodies_from (below a h us) 0 us))
         (lost_bodies_in s (below a h ts) 0)
@@ -113,7 +113,7 @@ module _ (c : Tree) (V : Assured) (k : ℕ) where
     mutual
       lost_goes : {L : Symbols} {p : Position} {t u : Tree} → OwnStep R L p t u → ((j : ℕ) → bindings j t ≤ bindings j c) → Off (hidden t) (I L) → Avoids D u → (X : VariableSet) → Within (I L) X → (q : Demand) → Fits p q → TreesGo U X q t u
       lost_goes (own_here L p n w r) less o av X wide q f =
-          from_same D e apart X q n w av (weaker e D D (I L) X (within_refl D) wide q n w (lost_means k (known_in c V L) p n w r e z (known_steady c V L e y) q f))
+          from_same D e apart X q n w av (weaker e D D (I L) X (within_refl D) wide q n w (r.means e z (known_steady c V L e y) q))
       lost_goes (own_inside L p h xs ts us b s) less o av X wide q f =
           let inner = off_back (scope_of h (summaries ts)) (hidden_all ts) (I L) o in
           let fewer : (j : ℕ) → all_bindings j ts ≤ bindings j c = λ j. omega (arith, less j) in

@@ -4,7 +4,7 @@ use Rattle.std.specs.Prelude.{◌||◌, ◌&&◌, not, if◌then◌else◌}
 use Rattle.std.proofs.lemmas.Bool.{and_parts}
 use Rattle.mini_model.specs.declared.name.Name.{Name}
 use Rattle.mini_model.specs.declared.name.SymbolId.{SymbolId}
-use Rattle.mini_model.specs.declared.place.Position.TheVariants.{Stmt}
+use Rattle.mini_model.specs.declared.place.Position.TheVariants.{Stmt, Elsewhere}
 use Rattle.mini_model.specs.declared.operator.AssignmentOperator.{AssignmentOperator}
 use Rattle.mini_model.specs.declared.shape.Shape.{Shape}
 use Rattle.mini_model.specs.declared.shape.Shape.TheVariants as shape
@@ -17,7 +17,7 @@ use Rattle.mini_node.specs.Children.{names_of, part}
 use Rattle.mini_terms.specs.Folds.{is_effect_free}
 use Rattle.mini_node.specs.Kinds.{is_identifier}
 use Rattle.mini_rows.specs.Past.{any_bind, is_let, begun, Kept, held, leaves, is_held_symbol, is_held_name, is_held, is_this, keeps_value, passes_any, passes_any_word, passes_any_member, passes_any_target, passes_any_item, passes_any_at, is_certain, are_past, are_past_in, all_past, PastRow}
-use Rattle.mini_rows.specs.PastBlocks.{PastBlocks}
+use Rattle.mini_rows.specs.PastBlocks.{PastBlockRow, PastBlocks}
 use Rattle.mini_rows.specs.Steady.{ReadsMore}
 use Rattle.mini_rows.specs.Unused.{resolved, names, is_constant, is_plain_assignment, is_word, is_member, is_field, entries_below, evaluated}
 
@@ -168,6 +168,10 @@ module _ (V : Assured) (X : VariableSet) (holds : (x : Variable) → V.initial x
     written = r.written;
   })
 
+block_more : (V : Assured) (X : VariableSet) → ((x : Variable) → V.initial x ≡ true → X x ≡ true) → (n w : Tree) → PastBlockRow V n w → PastBlockRow (record V { initial = X }) n w
+block_more V X holds n w r = record { before = r.before; after = r.after; row = row_more V X holds (listed none) r.before r.after r.row; shape = r.shape; written = r.written }
+
 pub past_blocks_more : ReadsMore PastBlocks
-past_blocks_more V X holds (Stmt q) n w r = record { before = r.before; after = r.after; row = row_more V X holds (listed none) r.before r.after r.row; shape = r.shape; written = r.written }
+past_blocks_more V X holds (Stmt q) n w r = block_more V X holds n w r
+past_blocks_more V X holds Elsewhere n w r = block_more V X holds n w r
 past_blocks_more V X holds p n w r = absurd r

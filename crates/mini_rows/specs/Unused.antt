@@ -709,13 +709,15 @@ pub record ForRow (n w : Tree) : Type 0 where
   pub written : w ≡ for_loop (head_left kind (append first last)) test update body
 
 -- a row reads n as w at this place: a function may be a statement, an expression, the value of a method, or exported, a program stands
--- nowhere else, and a static block in a class. A block that is no body and a switch keep each
+-- nowhere else, and a static block in a class. A block is a statement, or one of the blocks of a `try`, which stand elsewhere: of
+-- `try { let x = a(); b(); } catch (e) { }` the first becomes `{ a(); b(); }`. What a `catch` takes is declared around its block (ECMA-262,
+-- "CatchClauseEvaluation"), like parameters around a body, and stays. A block that is no body and a switch keep each
 -- `var`: its name is seen around it
 abbrev pub UnusedRow : VariableSet → Position → Tree → Tree → Type 0
 UnusedRow W (Stmt q) n w = BlockRow nothing n w ⊎ (FunctionBodyRow W n w ⊎ (SwitchRow n w ⊎ ForRow n w))
 UnusedRow W (Expr s) n w = ArrowBodyRow W n w ⊎ FunctionBodyRow W n w
 UnusedRow W Method n w = FunctionBodyRow W n w
-UnusedRow W Elsewhere n w = FunctionBodyRow W n w ⊎ (ModuleRow W n w ⊎ StaticBlockRow W n w)
+UnusedRow W Elsewhere n w = FunctionBodyRow W n w ⊎ (ModuleRow W n w ⊎ (StaticBlockRow W n w ⊎ BlockRow nothing n w))
 UnusedRow W _ n w = ⊥
 
 -- what it writes, where it weighs less

@@ -53,9 +53,10 @@ pub use operands::{operands_are_lawful, operands_are_lighter, operands_mean_the_
 pub use parts::{own_parts_are_lawful, own_parts_lighten};
 pub use past::{
     past_steady_names_are_lawful, past_steady_names_are_lawful_in_arrows,
-    past_steady_names_are_lawful_in_blocks, past_steady_names_are_lawful_in_blocks_of_programs,
-    past_steady_names_are_lawful_in_modules, past_steady_names_are_lawful_in_static_blocks,
-    past_steady_names_lighten, past_steady_names_lighten_arrows, past_steady_names_lighten_blocks,
+    past_steady_names_are_lawful_in_blocks, past_steady_names_are_lawful_in_blocks_of_parts,
+    past_steady_names_are_lawful_in_blocks_of_programs, past_steady_names_are_lawful_in_modules,
+    past_steady_names_are_lawful_in_static_blocks, past_steady_names_lighten,
+    past_steady_names_lighten_arrows, past_steady_names_lighten_blocks,
     past_steady_names_lighten_modules, past_steady_names_lighten_static_blocks,
     past_steady_names_read_more_in_blocks, past_steady_names_run_alike,
 };

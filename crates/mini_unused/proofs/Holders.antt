@@ -25,7 +25,7 @@ use Rattle.mini_tree.specs.Rule as rule
 use Rattle.mini_context.specs.declared.context.TraverseCtx.{TraverseCtx}
 use Rattle.mini_context.specs.Known.{Knows}
 use Rattle.mini_laws.specs.Writable.{writable_in}
-use Rattle.mini_unused.specs.RemoveUnusedDeclaration.{declares_name, declares_list, is_var, may_declare, is_unused_declarator, is_free_at, may_lose, may_go, open_in, is_alone, list_at, is_unused, UnusedAt, is_arrow_shape, are_statements, are_no_names, has_statements, is_function_shape, is_function, is_module, is_static_block, holds_list, is_switch, is_for_shape, has_head, marked, Applied, AppliedInFunction, Gives, Rests}
+use Rattle.mini_unused.specs.RemoveUnusedDeclaration.{declares_name, declares_list, is_var, may_declare, is_unused_declarator, is_free_at, may_lose, may_go, open_in, is_alone, list_at, is_unused, UnusedAt, is_arrow_shape, are_statements, are_no_names, has_statements, is_function_shape, is_function, is_module, is_static_block, holds_list, is_switch, is_for_shape, has_head, marked, Applied, AppliedInFunction, Gives, Rests, holds_statements}
 use Rattle.mini_unused.specs.SubstituteNext.{is_declarator, reads_then, is_mentioned_beside, is_read_then, is_read_by_next, is_next, NextAt, NextGone}
 use Rattle.mini_unused.specs.SubstituteSingleUse.{last_place, is_declared_over, reads_next, is_read_once, is_single_declarator, is_single, SingleAt, NameGone, ReadGone, Gone, Removed}
 use Rattle.mini_unused.specs.Chains.{Several}
@@ -108,22 +108,27 @@ no_for t e w r = true≢false (sym (ap (λ u. is_for_shape (shape_of u)) r.shape
 pub no_switch : (t : Tree) → is_switch t ≡ false → (w : Tree) → SwitchRow t w → ⊥
 no_switch t e w r = true≢false (sym (ap is_switch r.shape) ∙ e)
 
-block_applied : (W : VariableSet) (ts : Trees) (m : Tree) (c : Bool) → Removed nothing no_outside (listed ts) m c → (q : StmtSeat) → Applied W (Stmt q) (block ts) (held m) c
-block_applied W ts m true r q = several_moves W (Stmt q) (BlockRow nothing) (λ t u b. inl b) (block ts) (held m) (several_in nothing no_outside (BlockRow nothing) held (gone_row nothing) ts m r)
-block_applied W ts m false r q = (ap held r.0, by)
-  where
-    by : (w : Tree) → UnusedRow W (Stmt q) (block ts) w → ⊥
-    by w (inl b) = rests nothing ts m r w b
-    by w (inr (inl f)) = no_function W (block ts) refl w f
-    by w (inr (inr (inl s))) = no_switch (block ts) refl w s
-    by w (inr (inr (inr v))) = no_for (block ts) refl w v
+-- where its row is one, and no other reads it
+module _ (W : VariableSet) (p : Position) (read : (t u : Tree) → BlockRow nothing t u → UnusedRow W p t u) (alone : (ts : Trees) (w : Tree) → UnusedRow W p (block ts) w → BlockRow nothing (block ts) w) where
+  block_applied : (ts : Trees) (m : Tree) (c : Bool) → Removed nothing no_outside (listed ts) m c → Applied W p (block ts) (held m) c
+  block_applied ts m true r = several_moves W p (BlockRow nothing) read (block ts) (held m) (several_in nothing no_outside (BlockRow nothing) held (gone_row nothing) ts m r)
+  block_applied ts m false r = (ap held r.0, λ w a. rests nothing ts m r w (alone ts w a))
+
+  applied_there : (t m : Tree) (c : Bool) → is_block t ≡ true → Removed (open_in (with_part t 0 absent) W) (with_part t 0 absent) (part t 0) m c → (u : Tree) → u ≡ with_part t 0 m → Applied W p t u c
+  applied_there t m c b r u f =
+      let is = block_is t b in
+      let ts = children (part t 0) in
+      let there = subst (λ v. Removed (open_in (with_part v 0 absent) W) (with_part v 0 absent) (part v 0) m c) is r in
+      subst (λ v. Applied W p v u c) (sym is) (subst (λ v. Applied W p (block ts) v c) (sym (f ∙ ap (λ v. with_part v 0 m) is)) (block_applied ts m c there))
 
 pub of_block : (W : VariableSet) (t m : Tree) (c : Bool) → is_block t ≡ true → Removed (open_in (with_part t 0 absent) W) (with_part t 0 absent) (part t 0) m c → (u : Tree) → u ≡ with_part t 0 m → (q : StmtSeat) → Applied W (Stmt q) t u c
-of_block W t m c b r u f q =
-    let is = block_is t b in
-    let ts = children (part t 0) in
-    let there = subst (λ v. Removed (open_in (with_part v 0 absent) W) (with_part v 0 absent) (part v 0) m c) is r in
-    subst (λ v. Applied W (Stmt q) v u c) (sym is) (subst (λ v. Applied W (Stmt q) (block ts) v c) (sym (f ∙ ap (λ v. with_part v 0 m) is)) (block_applied W ts m c there q))
+of_block W t m c b r u f q = applied_there W (Stmt q) (λ t u b. inl b) by t m c b r u f
+  where
+    by : (ts : Trees) (w : Tree) → UnusedRow W (Stmt q) (block ts) w → BlockRow nothing (block ts) w
+    by ts w (inl b) = b
+    by ts w (inr (inl f)) = absurd (no_function W (block ts) refl w f)
+    by ts w (inr (inr (inl s))) = absurd (no_switch (block ts) refl w s)
+    by ts w (inr (inr (inr v))) = absurd (no_for (block ts) refl w v)
 
 -- ---- a function: what its statements stand behind is read before them
 
@@ -390,7 +395,8 @@ module _ (W : VariableSet) (directives : List (List ℕ)) where
       by : (w : Tree) → UnusedRow W Elsewhere (program true directives ts) w → ⊥
       by w (inl f) = no_function W (program true directives ts) refl w f
       by w (inr (inl a)) = module_rests ts m r w a
-      by w (inr (inr a)) = no_static W (program true directives ts) refl w a
+      by w (inr (inr (inl a))) = no_static W (program true directives ts) refl w a
+      by w (inr (inr (inr b))) = no_block nothing (program true directives ts) refl w b
 
 pub module_is : (t : Tree) → is_module t ≡ true → (directives : List (List ℕ)) × (t ≡ program true directives (children (part t 0)))
 module_is (node (shape.Program true directives) [] zero (node shape.Listed [] zero ts ▸ none)) e = (directives, refl)
@@ -427,13 +433,14 @@ module _ (W : VariableSet) (number : ℕ) where
       none_behind W outside_static none ts static_mentions static_evals refl m r (listed none ▸ row.before) (λ k. listed none ▸ before k) (block (listed none ▸ row.after)) row.row
 
   static_applied : (ts : Trees) (m : Tree) (c : Bool) → Removed W outside_static (listed ts) m c → Applied W Elsewhere (static_block number ts) (static_over m) c
-  static_applied ts m true r = several_moves W Elsewhere (StaticBlockRow W) (λ t u a. inr (inr a)) (static_block number ts) (static_over m) (several_in W outside_static (StaticBlockRow W) static_over static_gone ts m r)
+  static_applied ts m true r = several_moves W Elsewhere (StaticBlockRow W) (λ t u a. inr (inr (inl a))) (static_block number ts) (static_over m) (several_in W outside_static (StaticBlockRow W) static_over static_gone ts m r)
   static_applied ts m false r = (ap static_over r.0, by)
     where
       by : (w : Tree) → UnusedRow W Elsewhere (static_block number ts) w → ⊥
       by w (inl f) = no_function W (static_block number ts) refl w f
       by w (inr (inl a)) = no_module W (static_block number ts) refl w a
-      by w (inr (inr a)) = static_rests ts m r w a
+      by w (inr (inr (inl a))) = static_rests ts m r w a
+      by w (inr (inr (inr b))) = no_block nothing (static_block number ts) refl w b
 
 pub static_is : (t : Tree) → is_static_block t ≡ true → t ≡ static_block (number_of t) (children (part t 0))
 static_is (node shape.StaticBlock [] n (node shape.Listed [] zero ts ▸ none)) e = refl
@@ -450,12 +457,29 @@ of_static W t m c h r u f =
     let there = subst (λ v. Removed (open_in (with_part v 0 absent) W) (with_part v 0 absent) (part v 0) m c) is r in
     subst (λ v. Applied W Elsewhere v u c) (sym is) (subst (λ v. Applied W Elsewhere (static_block (number_of t) ts) v c) (sym (f ∙ ap (λ v. with_part v 0 m) is)) (static_applied W (number_of t) ts m c there))
 
-pub of_holder : (W : VariableSet) (t m : Tree) (c : Bool) → holds_list t ≡ true → Removed (open_in (with_part t 0 absent) W) (with_part t 0 absent) (part t 0) m c → (u : Tree) → u ≡ with_part t 0 m → Applied W Elsewhere t u c
+of_holder : (W : VariableSet) (t m : Tree) (c : Bool) → holds_list t ≡ true → Removed (open_in (with_part t 0 absent) W) (with_part t 0 absent) (part t 0) m c → (u : Tree) → u ≡ with_part t 0 m → Applied W Elsewhere t u c
 of_holder W t m c h r u f = by (is_module t) refl
   where
     by : (b : Bool) → is_module t ≡ b → Applied W Elsewhere t u c
     by true e = of_module W t m c e r u f
     by false e = of_static W t m c (sym (ap (λ b. b || is_static_block t) e) ∙ h) r u f
+
+-- a block that is no statement
+of_try_block : (W : VariableSet) (t m : Tree) (c : Bool) → is_block t ≡ true → Removed (open_in (with_part t 0 absent) W) (with_part t 0 absent) (part t 0) m c → (u : Tree) → u ≡ with_part t 0 m → Applied W Elsewhere t u c
+of_try_block W t m c b r u f = applied_there W Elsewhere (λ t u b. inr (inr (inr b))) by t m c b r u f
+  where
+    by : (ts : Trees) (w : Tree) → UnusedRow W Elsewhere (block ts) w → BlockRow nothing (block ts) w
+    by ts w (inl f) = absurd (no_function W (block ts) refl w f)
+    by ts w (inr (inl a)) = absurd (no_module W (block ts) refl w a)
+    by ts w (inr (inr (inl a))) = absurd (no_static W (block ts) refl w a)
+    by ts w (inr (inr (inr b))) = b
+
+pub of_statements : (W : VariableSet) (t m : Tree) (c : Bool) → holds_statements t ≡ true → Removed (open_in (with_part t 0 absent) W) (with_part t 0 absent) (part t 0) m c → (u : Tree) → u ≡ with_part t 0 m → Applied W Elsewhere t u c
+of_statements W t m c h r u f = by (is_block t) refl
+  where
+    by : (b : Bool) → is_block t ≡ b → Applied W Elsewhere t u c
+    by true e = of_try_block W t m c e r u f
+    by false e = of_holder W t m c (sym (ap (λ b. b || holds_list t) e) ∙ h) r u f
 
 -- ---- what has such statements
 
@@ -547,14 +571,15 @@ pub as_method : (W : VariableSet) (t u : Tree) (c : Bool) → AppliedInFunction 
 as_method W t u true r = several_moves W Method (FunctionBodyRow W) (λ t u f. f) t u r
 as_method W t u false r = r
 
-pub as_exported : (W : VariableSet) (t u : Tree) (c : Bool) → holds_list t ≡ false → AppliedInFunction W t u c → Applied W Elsewhere t u c
+pub as_exported : (W : VariableSet) (t u : Tree) (c : Bool) → holds_statements t ≡ false → AppliedInFunction W t u c → Applied W Elsewhere t u c
 as_exported W t u true e r = several_moves W Elsewhere (FunctionBodyRow W) (λ t u f. inl f) t u r
-as_exported W t u false e r = (r.0, by)
+as_exported W t u false e r = (r.0, by (or_parts (is_block t) (holds_list t) e))
   where
-    by : (w : Tree) → UnusedRow W Elsewhere t w → ⊥
-    by w (inl f) = r.1 w f
-    by w (inr (inl a)) = no_module W t (or_parts (is_module t) (is_static_block t) e).0 w a
-    by w (inr (inr a)) = no_static W t (or_parts (is_module t) (is_static_block t) e).1 w a
+    by : (is_block t ≡ false) × (holds_list t ≡ false) → (w : Tree) → UnusedRow W Elsewhere t w → ⊥
+    by (b, l) w (inl f) = r.1 w f
+    by (b, l) w (inr (inl a)) = no_module W t (or_parts (is_module t) (is_static_block t) l).0 w a
+    by (b, l) w (inr (inr (inl a))) = no_static W t (or_parts (is_module t) (is_static_block t) l).1 w a
+    by (b, l) w (inr (inr (inr a))) = no_block nothing t b w a
 
 -- ---- the context
 

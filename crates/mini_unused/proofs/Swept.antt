@@ -9,7 +9,7 @@ use Rattle.mini_node.specs.Children.{names_of, part, is_bare}
 use Rattle.mini_node.specs.Kinds.{is_block, is_block_shape, is_listed}
 use Rattle.mini_rows.specs.Unused.{resolved, may_move}
 use Rattle.mini_unused.specs.Chains.{Chain, still, Several}
-use Rattle.mini_unused.specs.RemoveUnusedDeclaration.{declares_name, may_lose, may_go, is_alone, declares_list, may_declare, is_lexical_shape, is_free_at, is_unused_declarator, list_at, list_left, UnusedOf, UnusedAt, are_statements, are_no_names, is_body_shape, is_arrow_shape, has_statements, is_function_shape, is_function, is_module_shape, is_module, is_static_shape, is_static_block, holds_list}
+use Rattle.mini_unused.specs.RemoveUnusedDeclaration.{declares_name, may_lose, may_go, is_alone, declares_list, may_declare, is_lexical_shape, is_free_at, is_unused_declarator, list_at, list_left, UnusedOf, UnusedAt, are_statements, are_no_names, is_body_shape, is_arrow_shape, has_statements, is_function_shape, is_function, is_module_shape, is_module, is_static_shape, is_static_block, holds_list, holds_statements}
 use Rattle.mini_unused.specs.SubstituteNext.{is_declarator, is_read_then, is_read_by_next, list_next, NextOf, NextAt}
 use Rattle.mini_unused.specs.SubstituteSingleUse.{is_read_once, is_single_declarator, is_single, last_place, list_single, SingleAt, Gone}
 use Rattle.mini_unused.specs.Sweep.{may_go_at, may_move_at, Calm, Swept}
@@ -163,12 +163,19 @@ in_static t e =
     let (b, q) = and_parts (are_no_names (names_of t)) (nat_eq (count (children t)) 1 && is_listed (part t 0)) p in
     (and_parts (nat_eq (count (children t)) 1) (is_listed (part t 0)) q).1
 
-pub in_holder : (t : Tree) → holds_list t ≡ true → is_listed (part t 0) ≡ true
+in_holder : (t : Tree) → holds_list t ≡ true → is_listed (part t 0) ≡ true
 in_holder t e = by (is_module t) refl
   where
     by : (b : Bool) → is_module t ≡ b → is_listed (part t 0) ≡ true
     by true m = in_module t m
     by false m = in_static t (sym (ap (λ b. b || is_static_block t) m) ∙ e)
+
+pub in_statements : (t : Tree) → holds_statements t ≡ true → is_listed (part t 0) ≡ true
+in_statements t e = by (is_block t) refl
+  where
+    by : (b : Bool) → is_block t ≡ b → is_listed (part t 0) ≡ true
+    by true b = in_block t b
+    by false b = in_holder t (sym (ap (λ c. c || holds_list t) b) ∙ e)
 
 in_body : (t : Tree) → are_statements t ≡ true → is_listed (part t 0) ≡ true
 in_body t e =

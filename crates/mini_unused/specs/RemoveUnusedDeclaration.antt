@@ -13,7 +13,7 @@ use Rattle.mini_laws.specs.Naming.{is_lexical}
 use Rattle.mini_laws.specs.ScopeList.{has_eval}
 use Rattle.mini_laws.specs.Value.{Declared, Global, VariableSet}
 use Rattle.mini_node.specs.Children.{names_of, like, part, with_part, without, is_bare, first_children, rest_children}
-use Rattle.mini_node.specs.Kinds.{is_listed, is_listed_shape, is_named_leaf}
+use Rattle.mini_node.specs.Kinds.{is_listed, is_listed_shape, is_named_leaf, is_block}
 use Rattle.mini_rows.specs.Lists.{declares_nothing}
 use Rattle.mini_rows.specs.Unused.{names, any_names, is_idle, FunctionBodyRow, SwitchRow, ForRow, UnusedRow, UnusedContracts}
 pub use Rattle.mini_rows.specs.Unused.{is_declarator_shape, is_variables_shape, declares_list}
@@ -186,6 +186,10 @@ is_static_block t = is_static_shape (shape_of t) && (are_no_names (names_of t) &
 -- either
 abbrev pub holds_list : Tree → Bool
 holds_list t = is_module t || is_static_block t
+
+-- or a block, as one of a `try`
+abbrev pub holds_statements : Tree → Bool
+holds_statements t = is_block t || holds_list t
 
 -- a switch over a list of cases
 abbrev pub is_switch_shape : Shape → Bool

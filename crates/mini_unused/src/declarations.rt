@@ -1,6 +1,6 @@
 //! Row 72: `{ let x = a(); b(); }` becomes `{ a(); b(); }`, and `{ let x = 1, y = b(); c(y); }` becomes `{ let y = b(); c(y); }`,
-//! where nothing else in the block has x's spelling or its symbol and no direct eval stands there. So do the statements of a function,
-//! wherever it stands, of a module, and of a static block, and there each `var`, too, whose name can be written, and so do the cases of a
+//! where nothing else in the block has x's spelling or its symbol and no direct eval stands there. So do the blocks of a `try`, and the
+//! statements of a function, wherever it stands, of a module, and of a static block, and there each `var`, too, whose name can be written, and so do the cases of a
 //! switch. It is lighter in every place.
 
 ghost use Rattle.std.specs.Prelude.{◌≡◌, ◌+◌, ◌<◌, ◌^◌, true, IfOk, OnOk};
@@ -713,8 +713,16 @@ pub fn holds_list(node: &Node) -> bool
     is_module(node) || is_static_block(node)
 }
 
-/// Of a module, as `import "a"; const x = f(); g();`, in which nothing else mentions x, of a static block of a class, and of a function
-/// that is exported. The answer says whether a name went; the only error is that memory runs out.
+// Either, or a block, as one of a `try`.
+fn holds_statements(node: &Node) -> bool
+    ensures kind { result ≡ row.holds_statements node.now }
+    ensures parts { result ≡ true → count (children node.now) ≡ 1 }
+{
+    is_block(node) || holds_list(node)
+}
+
+/// Of a module, as `import "a"; const x = f(); g();`, in which nothing else mentions x, of a static block of a class, of each block of a
+/// `try`, and of a function that is exported. The answer says whether a name went; the only error is that memory runs out.
 #[tactic(auto, using(crate::proofs::Unused::same_parts, crate::proofs::Unused::part_twice))]
 pub fn remove_unused_in_module(
     alloc: Global,
@@ -723,7 +731,7 @@ pub fn remove_unused_in_module(
 ) -> Result<bool, OutOfMemory>
     ensures { IfOk result (λ changed. Applied (marked scopes.now) Elsewhere node.old node.new changed) }
 {
-    if !holds_list(node) {
+    if !holds_statements(node) {
         return remove_unused_in_function(alloc, node, scopes);
     }
     let mut list = take_child(node, 0);
@@ -732,7 +740,7 @@ pub fn remove_unused_in_module(
     changed
 }
 
-/// Rows 71 and 72 as a rule: of each block and each switch, of each function with statements, of each static block, and of a module. Its context says which names the program
+/// Rows 71 and 72 as a rule: of each block, those of a `try` among them, and each switch, of each function with statements, of each static block, and of a module. Its context says which names the program
 /// that it knows lets be written.
 pub struct RemoveUnusedDeclarations;
 
