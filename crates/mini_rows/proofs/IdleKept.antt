@@ -60,7 +60,8 @@ use Rattle.mini_rows.proofs.ForPartKept.{in_nothing, gone, init_kept, update_kep
 use Rattle.mini_rows.proofs.ForPartMeaning.{quiet_is_nothing, init_weaker, update_weaker}
 use Rattle.mini_rows.proofs.PlainRead.{plain_read}
 use Rattle.mini_rows.proofs.SequenceIdle.{idle_near, alone_near}
-use Rattle.mini_rows.proofs.SequenceLawful.{of_sequence, idle_fits, last_of_two, sequence_asked, alone_asked}
+use Rattle.mini_rows.proofs.SequenceLawful.{idle_fits, last_of_two, alone_asked}
+use Rattle.mini_rows.proofs.SequenceStands.{of_sequence, sequence_asked}
 use Rattle.mini_rows.proofs.SequenceWeights.{idle_falls, alone_falls}
 use Rattle.mini_rows.proofs.Vanishing.{vanishes, first_dropped}
 use Rattle.mini_rows.proofs.Weaker.{Weaker, weaker_goes}
