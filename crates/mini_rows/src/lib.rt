@@ -12,6 +12,7 @@ mod constants;
 mod de_morgan;
 mod declarations;
 mod foldings;
+mod gathered;
 mod inside;
 mod lets;
 mod lexical;
@@ -40,6 +41,7 @@ pub use constants::{constants_are_lawful, constants_lighten, constants_mean_the_
 pub use de_morgan::{de_morgan_is_lawful, de_morgan_lightens, de_morgan_means_the_same};
 pub use declarations::{declarations_are_lawful, declarations_lighten, declarations_same};
 pub use foldings::{foldings_are_lawful, foldings_are_lighter, foldings_mean_the_same};
+pub use gathered::Gathered;
 pub use inside::{Way, inside_is_lawful, inside_lightens};
 pub use lets::{lets_are_lawful, lets_lighten};
 pub use lexical::{

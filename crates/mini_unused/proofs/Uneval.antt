@@ -13,8 +13,9 @@ use Rattle.mini_laws.specs.Value.{VariableSet}
 use Rattle.mini_node.specs.Children.{names_of, part, with_child, with_part, without, is_bare, is_nameless}
 use Rattle.mini_node.specs.Kinds.{is_listed}
 use Rattle.mini_rows.specs.Lists.{declaration, Each, EachIn, EachOf, each_loop}
-use Rattle.mini_rows.specs.Unused.{is_short, can_be_full, in_full, may_hold, is_idle, any_names, names, begins, goes_on, may_go_on, has_branches, leads, holds_list, is_childless, is_first, leads_to, put_first, put_among, is_reached, entries_below, passes_at, is_called_by_value, suits, are_passed, are_passed_in, all_passed, is_head_shape, reads_first, reads_head, evaluated, may_move}
+use Rattle.mini_rows.specs.Unused.{is_short, can_be_full, in_full, may_hold, is_idle, any_names, names, begins, goes_on, may_go_on, has_branches, leads, holds_list, is_childless, is_first, leads_to, put_first, put_among, is_reached, passes_at, is_called_by_value, suits, are_passed, are_passed_in, all_passed, is_head_shape, reads_first, reads_head, evaluated, may_move, gathered_below}
 use Rattle.mini_unused.specs.RemoveUnusedDeclaration.{declares_list, may_declare, declares_name, may_lose, is_free_at, is_unused_declarator, list_at, statement_left, let_left}
+use Rattle.mini_rows.specs.declared.gathered.Gathered.{Gathered}
 use Rattle.mini_rows.specs.Declarations.{declarator}
 use Rattle.mini_unused.specs.SubstituteNext.{reads_then, put_named, is_declarator, is_mentioned_beside, is_mentioned_elsewhere, is_read_then, declarators_next, NextGone}
 use Rattle.mini_unused.specs.SubstituteSingleUse.{declaration_left, last_place, reads_next, is_declared_over, is_mentioned_around, is_read_once, NameGone, ReadGone, Gone}
@@ -172,17 +173,17 @@ abbrev mutual
   suits_among x r (t ▸ ts) = if names x t then suits_along x r t else suits_among x r ts
 
 mutual
-  pub passed_along : (x : Name) (m : Bool) (r t : Tree) → are_passed_in x m r t ≡ true → suits_along x r t ≡ true
+  pub passed_along : (x : Name) (m : Gathered) (r t : Tree) → are_passed_in x m r t ≡ true → suits_along x r t ≡ true
   passed_along x m r (node h ys n ts) e =
       let (a, p) = and_parts (suits x r h ts) (is_reached x m r h ts && all_passed x m r h 0 ts) e in
       let (b, q) = and_parts (is_reached x m r h ts) (all_passed x m r h 0 ts) p in
       ap (λ c. c && suits_among x r ts) a ∙ passed_among x m r h 0 ts q
 
-  passed_among : (x : Name) (m : Bool) (r : Tree) (h : Shape) (i : ℕ) (ts : Trees) → all_passed x m r h i ts ≡ true → suits_among x r ts ≡ true
+  passed_among : (x : Name) (m : Gathered) (r : Tree) (h : Shape) (i : ℕ) (ts : Trees) → all_passed x m r h i ts ≡ true → suits_among x r ts ≡ true
   passed_among x m r h i none e = refl
-  passed_among x m r h i (t ▸ ts) e = by (names x t) e (passed_along x (entries_below m h i) r t) (passed_among x m r h (suc i) ts)
+  passed_among x m r h i (t ▸ ts) e = by (names x t) e (passed_along x (gathered_below m h i) r t) (passed_among x m r h (suc i) ts)
     where
-      by : (c : Bool) → (if c then are_passed_in x (entries_below m h i) r t else (passes_at m r h i t && all_passed x m r h (suc i) ts)) ≡ true → (are_passed_in x (entries_below m h i) r t ≡ true → suits_along x r t ≡ true) → (all_passed x m r h (suc i) ts ≡ true → suits_among x r ts ≡ true) → (if c then suits_along x r t else suits_among x r ts) ≡ true
+      by : (c : Bool) → (if c then are_passed_in x (gathered_below m h i) r t else (passes_at m r h i t && all_passed x m r h (suc i) ts)) ≡ true → (are_passed_in x (gathered_below m h i) r t ≡ true → suits_along x r t ≡ true) → (all_passed x m r h (suc i) ts ≡ true → suits_among x r ts ≡ true) → (if c then suits_along x r t else suits_among x r ts) ≡ true
       by true e f g = f e
       by false e f g = g (and_parts (passes_at m r h i t) (all_passed x m r h (suc i) ts) e).1
 
