@@ -32,7 +32,8 @@ use Rattle.mini_rows.specs.Steady.{bindings, all_bindings, Symbols, no_symbols, 
 use Rattle.mini_rows.proofs.OwnPartLawful.{bodiless}
 use Rattle.mini_rows.proofs.PastBlockKept.{LosesHere, Loses, some_lost, lost_means, at_statement, loses_read, loses_kind}
 use Rattle.mini_rows.proofs.OwnLightens.{as_step}
-use Rattle.mini_rows.proofs.SteadyLawful.{at_start, known_steady, needs_still, begun_off, begun_wide}
+use Rattle.mini_rows.proofs.SteadyLawful.{at_start, known_steady, needs_still, begun_wide}
+use Rattle.mini_rows.proofs.Valued.{begun_off}
 
 -- ---- a step by a row is one by which some symbol is lost
 

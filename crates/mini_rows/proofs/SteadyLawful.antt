@@ -1,5 +1,5 @@
 -- What a row of steady names writes in the body of a function is lawful where those names are steady in that body.
-use Rattle.std.specs.Prelude.{ℕ, zero, suc, ◌≡◌, ◌<◌, ◌≤◌, ◌⊎◌, refl, Bool, true, false, List, [], ◌∷◌, ◌++◌, Option, None, not, Contains}
+use Rattle.std.specs.Prelude.{ℕ, zero, suc, ◌≡◌, ◌<◌, ◌≤◌, ◌⊎◌, refl, Bool, true, false, List, [], ◌∷◌, ◌++◌, Option, Some, None, not, Contains}
 use Rattle.std.proofs.Common.{ap, ◌∙◌, sym, subst, subst₂, length, inl, inr, arith, true≢false}
 use Rattle.std.proofs.lemmas.Bool.{and_parts}
 use Rattle.mini_model.specs.declared.kind.PropertyKind.{PropertyKind}
@@ -13,10 +13,10 @@ use Rattle.mini_model.specs.Position.{child_position}
 use Rattle.mini_model.specs.Rewriting.{Step, here, inside, StepIn, first, later, done, more}
 use Rattle.mini_model.specs.Weight.{outline, weight}
 use Rattle.mini_accept.specs.WellShaped.{a_statement, a_default_export, Slot, one, class_of, filling, is_strict_in, fits, fill}
-use Rattle.mini_laws.specs.Value.{Variable, Declared, Global, VariableSet, nothing, variables}
+use Rattle.mini_laws.specs.Value.{Variable, Declared, Global, VariableSet, choose, nothing, variables}
 use Rattle.mini_laws.specs.State.{State, Environment}
 use Rattle.mini_laws.specs.Demand.{Demand, As, Callee, OfType, Deleted, AnEntry, Stat, Declares, Binds, Request}
-use Rattle.mini_laws.specs.Naming.{Summary, summary, summary_of, summaries, facts, facts_all, naming, nth_absent, scope_of}
+use Rattle.mini_laws.specs.Naming.{AClass, Declared as What, Variables, first_facts, is_lexical, summary, summary_of, summaries, facts, facts_all, naming, nth_absent, scope_of}
 use Rattle.mini_laws.specs.Step.{step, means}
 use Rattle.mini_laws.specs.Rows.{SameAt}
 use Rattle.mini_laws.specs.Fixity.{fixed_by}
@@ -24,13 +24,13 @@ use Rattle.mini_laws.specs.Body.{BodyKind, FunctionStatements, body_demand}
 use Rattle.mini_laws.specs.Bodies.{Around, below, Body, bodies, bodies_from, body_of, arrow_kind}
 use Rattle.mini_laws.specs.Skeleton.{plus, minus, Within, Off, hidden, hidden_all, kept, lets_at, along, list_needs, after_first, after_left, needs, Rules, Sound, TreesGo}
 use Rattle.mini_laws.specs.Fits.{Fits}
-use Rattle.mini_laws.specs.Asking.{demand}
+use Rattle.mini_laws.specs.Asking.{demand, head_demand, left_demand}
 use Rattle.mini_laws.specs.Weights.{Lightens}
 use Rattle.mini_laws.proofs.Fitting.{fits_children}
 use Rattle.mini_laws.proofs.Fundamental.{PlaceGo, one_node, place_none, place_cons}
 use Rattle.mini_laws.proofs.Lighter.{any_step_lighter}
 use Rattle.mini_laws.proofs.Rows.{equal_same}
-use Rattle.mini_laws.proofs.Simulation.{goes_map, init_less, off_front, off_back, within_refl, within_trans, within_plus, within_minus}
+use Rattle.mini_laws.proofs.Simulation.{goes_map, init_less, off_front, off_back, within_refl, within_trans, within_plus, within_minus, minus_less, minus_more}
 use Rattle.mini_kept.specs.AlikeBodies.{RunsAs, BodiesKept}
 use Rattle.mini_kept.specs.Declaring.{declared}
 use Rattle.mini_kept.specs.Frames.{Frame, FramesKept, frame_of, frames, frames_from, property_below, outline as frame_outline, globals}
@@ -53,13 +53,13 @@ use Rattle.mini_kept.proofs.FrameLists.{each_of as each_frame}
 use Rattle.mini_kept.proofs.WithoutLists.{from_kept, more_under, nothing_within, each_under, itself_under}
 use Rattle.mini_rows.specs.Fading.{Fades, FadingFrom}
 use Rattle.mini_rows.specs.Past.{binds}
-use Rattle.mini_rows.specs.Steady.{SteadyRow, bindings, all_bindings, Symbols, no_symbols, passing, behind, begun_at, valued, known_in, own_rows, KeepsOwn, has_body, OwnStep, own_here, own_inside, OwnStepIn, own_first, own_later, OwnRows, LexicalRows, OwnFunctionRow, OwnFunction, SteadyFunctionsAreLawful, SteadyFunctionsLighten, LexicalFunctionsAreLawful, LexicalFunctionsLighten}
+use Rattle.mini_rows.specs.Steady.{SteadyRow, bindings, all_bindings, Symbols, no_symbols, beginning, nth_lets, lets_as, head_lets, begins_by, begins, begun_at, valued, known_in, own_rows, KeepsOwn, has_body, OwnStep, own_here, own_inside, OwnStepIn, own_first, own_later, OwnRows, LexicalRows, OwnFunctionRow, OwnFunction, SteadyFunctionsAreLawful, SteadyFunctionsLighten, LexicalFunctionsAreLawful, LexicalFunctionsLighten}
 use Rattle.mini_rows.proofs.Fading.{fading_rules, fading_sound}
 use Rattle.mini_rows.proofs.FadingSteps.{trees_fade_from, tree_itself, runs_alike}
 use Rattle.mini_rows.proofs.LexicalKept.{lexical_own}
 use Rattle.mini_rows.proofs.SteadyKept.{steady_own}
 use Rattle.mini_rows.proofs.Unbound.{unhidden}
-use Rattle.mini_rows.proofs.Valued.{behind_off, more_known}
+use Rattle.mini_rows.proofs.Valued.{begun_off, more_known}
 
 -- ---- a function is made alike, whatever its body is
 
@@ -207,43 +207,102 @@ any_form F keeps = record {
   };
 }
 
--- what is known at each child has its value there, and no scope in them hides it
+-- ---- what is known at a child is known behind it, and so is what begins there
+
+nth_is : (ts : Trees) (i : ℕ) → nth_lets (summaries ts) i ≡ lets_at ts i
+nth_is none i = refl
+nth_is (t ▸ ts) zero = refl
+nth_is (t ▸ ts) (suc i) = nth_is ts i
+
+along_first : (H : List Variable) (S : VariableSet) (ts : Trees) → S ≡ along H S ts 0
+along_first H S none = refl
+along_first H S (t ▸ ts) = refl
+
+along_next : (H : List Variable) (S : VariableSet) (ts : Trees) (i : ℕ) → Within (minus (plus (along H S ts i) (lets_at ts i)) H) (along H S ts (suc i))
+along_next H S none i = minus_less S H
+along_next H S (t ▸ ts) zero = let next = minus (plus S (summary t).lets) H in subst (Within next) (along_first H next ts) (within_refl next)
+along_next H S (t ▸ ts) (suc i) = along_next H (minus (plus S (summary t).lets) H) ts i
+
+along_on : (H : List Variable) (S : VariableSet) (ts : Trees) (i : ℕ) → Within (minus (along H S ts i) H) (along H S ts (suc i))
+along_on H S ts i = within_trans (minus (along H S ts i) H) _ _ (minus_more (along H S ts i) _ H (within_plus (along H S ts i) (lets_at ts i))) (along_next H S ts i)
+
+list_on : (q : Demand) (S : VariableSet) (ts : Trees) (i : ℕ) → Within (minus (list_needs q S ts i) (hidden_all ts)) (list_needs q S ts (suc i))
+list_on (Stat t) S ts i = along_on (hidden_all ts) S ts i
+list_on (Declares true) S ts i = along_on (hidden_all ts) S ts i
+list_on (Declares false) S ts i = minus_less S (hidden_all ts)
+list_on q S ts i = minus_less S (hidden_all ts)
+
+listed_next : (q : Demand) (S : VariableSet) (ts : Trees) → Fits StatementList q → (i : ℕ) → Within (minus (plus (list_needs q S ts i) (nth_lets (summaries ts) i)) (hidden_all ts)) (list_needs q S ts (suc i))
+listed_next (Stat t) S ts fit i = let H = hidden_all ts in subst (λ xs. Within (minus (plus (along H S ts i) xs) H) (along H S ts (suc i))) (sym (nth_is ts i)) (along_next H S ts i)
+listed_next q S ts fit i = absurd fit
+
+body_listed : (q : Demand) → Fits BodyList q → Fits StatementList q
+body_listed (Stat t) fit = tt
+body_listed q fit = absurd fit
+
+-- what begins in a head is what that leaves initialised there
+module _ (S : VariableSet) where
+  lexical_kept : (b : Bool) (xs : List Variable) → Within (plus S (choose b xs [])) (plus S (kept (Binds b) xs))
+  lexical_kept true xs = within_refl (plus S xs)
+  lexical_kept false xs = within_refl S
+
+  stated_kept : (b : Bool) (xs : List Variable) → Within (plus S (choose b xs [])) (plus S xs)
+  stated_kept true xs = within_refl (plus S xs)
+  stated_kept false xs = within_plus S xs
+
+  left_kept : (o : Option What) (xs : List Variable) → Within (plus S (lets_as o xs)) (plus S (kept (left_demand o) xs))
+  left_kept (Some (Variables v)) xs = lexical_kept (is_lexical v) xs
+  left_kept (Some AClass) xs = within_refl S
+  left_kept None xs = within_refl S
+
+  for_kept : (o : Option What) (xs : List Variable) → Within (plus S (lets_as o xs)) (plus S (kept (head_demand o) xs))
+  for_kept (Some (Variables v)) xs = stated_kept (is_lexical v) xs
+  for_kept (Some AClass) xs = within_refl S
+  for_kept None xs = within_refl S
+
+  left_begins : (ts : Trees) → Within (plus S (head_lets (summaries ts))) (plus S (kept (left_demand (first_facts (facts ts)).declared) (lets_at ts 0)))
+  left_begins none = within_refl S
+  left_begins (t ▸ ts) = left_kept (summary t).facts.declared (summary t).lets
+
+  for_begins : (ts : Trees) → Within (plus S (head_lets (summaries ts))) (plus S (kept (head_demand (first_facts (facts ts)).declared) (lets_at ts 0)))
+  for_begins none = within_refl S
+  for_begins (t ▸ ts) = for_kept (summary t).facts.declared (summary t).lets
+
+  catch_next : (p : Position) (ts : Trees) (i : ℕ) → Within (minus (plus (after_first (Binds true) S ts i) (begins_by (beginning shape.CatchClause p i) (summaries ts) i)) (hidden_all ts)) (after_first (Binds true) S ts (suc i))
+  catch_next p ts zero = subst (λ xs. Within (minus (plus S xs) (hidden_all ts)) (minus (plus S (lets_at ts 0)) (hidden_all ts))) (sym (nth_is ts 0)) (within_refl (minus (plus S (lets_at ts 0)) (hidden_all ts)))
+  catch_next p ts (suc i) = minus_less (after_first (Binds true) S ts 1) (hidden_all ts)
+
+  for_next : (p : Position) (ts : Trees) (i : ℕ) → let q = head_demand (first_facts (facts ts)).declared in Within (minus (plus (after_first q S ts i) (begins_by (beginning shape.ForStatement p i) (summaries ts) i)) (hidden_all ts)) (after_first q S ts (suc i))
+  for_next p ts zero = minus_more _ _ (hidden_all ts) (for_begins ts)
+  for_next p ts (suc i) = minus_less (after_first (head_demand (first_facts (facts ts)).declared) S ts 1) (hidden_all ts)
+
+  left_next : (p : Position) (ts : Trees) (i : ℕ) → let q = left_demand (first_facts (facts ts)).declared in Within (minus (plus (after_left q S ts i) (begins_by (beginning shape.ForOfStatement p i) (summaries ts) i)) (hidden_all ts)) (after_left q S ts (suc i))
+  left_next p ts zero = minus_less S (hidden_all ts)
+  left_next p ts (suc zero) = minus_more _ _ (hidden_all ts) (left_begins ts)
+  left_next p ts (suc (suc i)) = minus_less (after_left (left_demand (first_facts (facts ts)).declared) S ts 2) (hidden_all ts)
+
+needs_next : (h : Shape) (p : Position) (q : Demand) (S : VariableSet) (ts : Trees) → Fits p q → (i : ℕ) → Within (minus (plus (needs h q S ts i) (begins h p (summaries ts) i)) (hidden_all ts)) (needs h q S ts (suc i))
+needs_next shape.Listed StatementList q S ts fit i = listed_next q S ts fit i
+needs_next shape.Listed BodyList q S ts fit i = listed_next q S ts (body_listed q fit) i
+needs_next shape.Listed p q S ts fit i = list_on q S ts i
+needs_next shape.CatchClause p q S ts fit i = catch_next S p ts i
+needs_next shape.ForStatement p q S ts fit i = for_next S p ts i
+needs_next shape.ForInStatement p q S ts fit i = left_next S p ts i
+needs_next shape.ForOfStatement p q S ts fit i = left_next S p ts i
+needs_next h p q S ts fit i = minus_less S (hidden_all ts)
+
+-- so what is known at each child has its value there
 module _ (c : Tree) (X : VariableSet) where
   abbrev K : Symbols → VariableSet
   K L = valued c L X
 
-  abbrev Fewer : Trees → Type 0
-  Fewer ts = (k : ℕ) → all_bindings k ts ≤ bindings k c
-
-  pub begun_off : (h : Shape) (p : Position) (L : Symbols) (ts : Trees) → Off (hidden_all ts) (K L) → Fewer ts → (i : ℕ) → Off (hidden_all ts) (K (begun_at h p L (summaries ts) i))
-  begun_off shape.Listed StatementList L ts o f i = behind_off c X L ts o f i
-  begun_off shape.Listed BodyList L ts o f i = behind_off c X L ts o f i
-  begun_off h p L ts o f i = o
-
-  nothing_behind : (L : Symbols) (is : List Summary) → behind L is 0 ≡ L
-  nothing_behind L [] = refl
-  nothing_behind L (s ∷ is) = refl
-
-  behind_along : (H : List Variable) (L : Symbols) (S : VariableSet) (ts : Trees) → Within (K L) S → ((i : ℕ) → Off H (K (behind L (summaries ts) i))) → (i : ℕ) → Within (K (behind L (summaries ts) i)) (along H S ts i)
-  behind_along H L S none w o i = w
-  behind_along H L S (t ▸ ts) w o zero = w
-  behind_along H L S (t ▸ ts) w o (suc i) =
-      let next = passing L (summary t).lets in
-      let off : Off H (K next) = subst (λ M. Off H (K M)) (nothing_behind next (summaries ts)) (o 1) in
-      behind_along H next (minus (plus S (summary t).lets) H) ts (within_minus (K next) _ H off (more_known c X L t S w)) (λ j. o (suc j)) i
-
-  listed_wide : (q : Demand) (L : Symbols) (S : VariableSet) (ts : Trees) → Fits StatementList q → Within (K L) S → Off (hidden_all ts) (K L) → Fewer ts → (i : ℕ) → Within (K (behind L (summaries ts) i)) (list_needs q S ts i)
-  listed_wide (Stat t) L S ts fit w o f i = behind_along (hidden_all ts) L S ts w (behind_off c X L ts o f) i
-  listed_wide q L S ts fit w o f i = absurd fit
-
-  body_listed : (q : Demand) → Fits BodyList q → Fits StatementList q
-  body_listed (Stat t) fit = tt
-  body_listed q fit = absurd fit
-
-  pub begun_wide : (h : Shape) (p : Position) (q : Demand) (L : Symbols) (S : VariableSet) (ts : Trees) → Fits p q → Within (K L) S → Off (hidden_all ts) (K L) → Fewer ts → (i : ℕ) → Within (K (begun_at h p L (summaries ts) i)) (needs h q S ts i)
-  begun_wide shape.Listed StatementList q L S ts fit w o f i = listed_wide q L S ts fit w o f i
-  begun_wide shape.Listed BodyList q L S ts fit w o f i = listed_wide q L S ts (body_listed q fit) w o f i
-  begun_wide h p q L S ts fit w o f i = needs_still h q (K L) S ts w o i
+  pub begun_wide : (h : Shape) (p : Position) (q : Demand) (L : Symbols) (S : VariableSet) (ts : Trees) → Fits p q → Within (K L) S → Off (hidden_all ts) (K L) → ((k : ℕ) → all_bindings k ts ≤ bindings k c) → (i : ℕ) → Within (K (begun_at h p L (summaries ts) i)) (needs h q S ts i)
+  begun_wide h p q L S ts fit w o f zero = needs_still h q (K L) S ts w o 0
+  begun_wide h p q L S ts fit w o f (suc i) =
+      let before = begun_at h p L (summaries ts) i in
+      let next = begun_at h p L (summaries ts) (suc i) in
+      let there = more_known c X before (begins h p (summaries ts) i) (needs h q S ts i) (begun_wide h p q L S ts fit w o f i) in
+      within_trans (K next) _ _ (within_minus (K next) _ (hidden_all ts) (begun_off c X h p L ts o f (suc i)) there) (needs_next h p q S ts fit i)
 
 module _ (F : OwnRows) (keeps : (V : Assured) → KeepsOwn V (F V)) (c : Tree) (V : Assured) where
   abbrev R : Symbols → Position → Tree → Tree → Type 0

@@ -12,8 +12,8 @@ use Rattle.mini_laws.specs.Demand.{Demand}
 use Rattle.mini_laws.specs.Fits.{Fits}
 use Rattle.mini_laws.specs.Same.{Same}
 use Rattle.mini_laws.specs.State.{Environment}
-use Rattle.mini_laws.specs.Value.{Variable, Declared, Global, VariableSet, is_in, nothing}
-use Rattle.mini_laws.specs.Naming.{Summary, summary, summaries}
+use Rattle.mini_laws.specs.Value.{Variable, Declared, Global, VariableSet, choose, is_in, nothing}
+use Rattle.mini_laws.specs.Naming.{Summary, Declared as What, Variables, is_lexical, summary, summaries}
 use Rattle.mini_laws.specs.Fixity.{fixed_by}
 use Rattle.mini_laws.specs.Bodies.{Around, bodies, arrow_kind}
 use Rattle.mini_laws.specs.Weights.{Lightens}
@@ -69,20 +69,52 @@ no_symbols k = false
 abbrev pub passing : Symbols → List Variable → Symbols
 passing L xs k = L k || is_in (Declared k) xs
 
--- in a list of statements: at each also what those before it declare, a `let`, a `const` or a class, which has its value from there on
-abbrev pub behind : Symbols → List Summary → ℕ → Symbols
-behind L [] i = L
-behind L (s ∷ is) zero = L
-behind L (s ∷ is) (suc i) = behind (passing L s.lets) is i
+-- ---- what begins behind a child of a node, and has its value at all that follow in it
 
-abbrev pub holds_statements : Shape → Position → Bool
-holds_statements shape.Listed StatementList = true
-holds_statements shape.Listed BodyList = true
-holds_statements h p = false
+-- where it is declared: by that child, or in the head of a loop
+pub data Beginning : Type 0 where
+  OfChild : Beginning
+  OfHead : Beginning
+  OfNone : Beginning
 
--- so at each child of a node at a place
+-- behind each of a list of statements (ECMA-262, "LexicallyDeclaredNames", functions aside); behind the head of a `for` ("ForLoopEvaluation"); behind what a
+-- `for..in` or `for..of` goes over, in whose body the head has a value each turn ("ForIn/OfBodyEvaluation"); and behind the parameter of a `catch`
+-- ("CatchClauseEvaluation")
+abbrev pub beginning : Shape → Position → ℕ → Beginning
+beginning shape.Listed StatementList i = OfChild
+beginning shape.Listed BodyList i = OfChild
+beginning shape.CatchClause p zero = OfChild
+beginning shape.ForStatement p zero = OfHead
+beginning shape.ForInStatement p (suc zero) = OfHead
+beginning shape.ForOfStatement p (suc zero) = OfHead
+beginning h p i = OfNone
+
+abbrev pub nth_lets : List Summary → ℕ → List Variable
+nth_lets [] i = []
+nth_lets (s ∷ is) zero = s.lets
+nth_lets (s ∷ is) (suc i) = nth_lets is i
+
+-- what a head declares, if it is a `let` or a `const`
+abbrev pub lets_as : Option What → List Variable → List Variable
+lets_as (Some (Variables v)) xs = choose (is_lexical v) xs []
+lets_as d xs = []
+
+abbrev pub head_lets : List Summary → List Variable
+head_lets [] = []
+head_lets (s ∷ is) = lets_as s.facts.declared s.lets
+
+abbrev pub begins_by : Beginning → List Summary → ℕ → List Variable
+begins_by OfChild is i = nth_lets is i
+begins_by OfHead is i = head_lets is
+begins_by OfNone is i = []
+
+abbrev pub begins : Shape → Position → List Summary → ℕ → List Variable
+begins h p is i = begins_by (beginning h p i) is i
+
+-- what is begun at each child of a node at a place
 abbrev pub begun_at : Shape → Position → Symbols → List Summary → ℕ → Symbols
-begun_at h p L is i = if holds_statements h p then behind L is i else L
+begun_at h p L is zero = L
+begun_at h p L is (suc i) = passing (begun_at h p L is i) (begins h p is i)
 
 -- the variables that have their values in this code of a body, where statements before have declared L: those, if the code declares them only once;
 -- and of X, if they have them as it starts, those that no scope in it declares, throughout

@@ -6,6 +6,8 @@ pub mod LeftParts
 pub mod MemberRows
 pub mod Owning
 pub mod Letting
+pub mod Beginnings
+pub mod Begun
 pub mod FunctionSteps
 pub mod ArrowSteps
 pub mod ProgramSteps

@@ -1,6 +1,6 @@
 -- A walk over the own code of a body: over the children of a node, one after another, and then over the node.
 use Rattle.std.proofs.Common.{◌≡◌, ℕ, zero, suc, ◌+◌, ◌<◌, ◌≤◌, Bool, true, false, List, ◌∷◌, refl, sym, ap, ◌∙◌, subst, subst₂, arith}
-use Rattle.std.specs.Prelude.{◌||◌, ◌==◌, not, if◌then◌else◌}
+use Rattle.std.specs.Prelude.{◌||◌, ◌==◌, not}
 use Rattle.std.proofs.lemmas.Bool.{and_parts, eqb-true, false≢true}
 use borrow.Author.Count.{below_more}
 use Rattle.mini_model.specs.declared.name.Name.{Name}
@@ -9,10 +9,10 @@ use Rattle.mini_model.specs.Tree.{Tree, Trees, node, none, ◌▸◌, count, chi
 use Rattle.mini_model.specs.declared.place.Position.{Position}
 use Rattle.mini_model.specs.Position.{child_position}
 use Rattle.mini_laws.specs.Naming.{summary, summary_of, summaries}
-use Rattle.mini_laws.specs.Value.{Declared, is_in, variables}
+use Rattle.mini_laws.specs.Value.{variables}
 use Rattle.mini_node.specs.Children.{with_child, with_part, part}
 use Rattle.mini_node.specs.Lends.{with_children}
-use Rattle.mini_rows.specs.Steady.{Symbols, passing, behind, holds_statements, begun_at, has_body, OwnStep, own_here, own_inside, OwnStepIn, own_first, own_later}
+use Rattle.mini_rows.specs.Steady.{Symbols, passing, Beginning, OfChild, OfHead, OfNone, beginning, nth_lets, head_lets, begins_by, begun_at, has_body, OwnStep, own_here, own_inside, OwnStepIn, own_first, own_later}
 use Rattle.mini_tree.proofs.Edits.{count_with, others_with, with_same}
 use Rattle.mini_steady.specs.Chains.{Several, once, again}
 use Rattle.mini_steady.specs.Own.{is_open, place_in, begun_in, OwnRests, OwnWalked, OwnWalkedBelow, AppliedHere}
@@ -35,22 +35,30 @@ not_true : (b : Bool) → not b ≡ true → b ≡ false
 not_true true e = absurd (false≢true e)
 not_true false e = refl
 
--- ---- what statements before a child have declared is what they had, whatever stands at the child's place
+-- ---- what is begun at a child is begun there whatever stands at the child's place
 
-behind_there : (L : Symbols) (ts : Trees) (at : ℕ) (v : Tree) → behind L (summaries (with_child ts at v)) at ≡ behind L (summaries ts) at
-behind_there L none at v = refl
-behind_there L (t ▸ ts) zero v = refl
-behind_there L (t ▸ ts) (suc at) v = behind_there (passing L (summary t).lets) ts at v
+nth_there : (ts : Trees) (at i : ℕ) (v : Tree) → i < at → nth_lets (summaries (with_child ts at v)) i ≡ nth_lets (summaries ts) i
+nth_there none at i v k = refl
+nth_there (t ▸ ts) zero i v k = absurd (omega (arith, k))
+nth_there (t ▸ ts) (suc at) zero v k = refl
+nth_there (t ▸ ts) (suc at) (suc i) v k = nth_there ts at i v (omega (arith, k))
+
+head_there : (ts : Trees) (at i : ℕ) (v : Tree) → i < at → head_lets (summaries (with_child ts at v)) ≡ head_lets (summaries ts)
+head_there none at i v k = refl
+head_there (t ▸ ts) zero i v k = absurd (omega (arith, k))
+head_there (t ▸ ts) (suc at) i v k = refl
+
+begins_there : (b : Beginning) (ts : Trees) (at i : ℕ) (v : Tree) → i < at → begins_by b (summaries (with_child ts at v)) i ≡ begins_by b (summaries ts) i
+begins_there OfChild ts at i v k = nth_there ts at i v k
+begins_there OfHead ts at i v k = head_there ts at i v k
+begins_there OfNone ts at i v k = refl
+
+begun_before : (h : Shape) (p : Position) (L : Symbols) (ts : Trees) (at i : ℕ) (v : Tree) → i ≤ at → begun_at h p L (summaries (with_child ts at v)) i ≡ begun_at h p L (summaries ts) i
+begun_before h p L ts at zero v k = refl
+begun_before h p L ts at (suc i) v k = (λ j. passing (begun_before h p L ts at i v (omega (arith, k)) j) (begins_there (beginning h p i) ts at i v (omega (arith, k)) j))
 
 begun_there : (h : Shape) (p : Position) (L : Symbols) (ts : Trees) (at : ℕ) (v : Tree) → begun_at h p L (summaries (with_child ts at v)) at ≡ begun_at h p L (summaries ts) at
-begun_there h p L ts at v = ap (λ M. if holds_statements h p then M else L) (behind_there L ts at v)
-
--- and behind it also what it declares
-pub behind_next : (L : Symbols) (ts : Trees) (at : ℕ) → at < count ts → (k : ℕ) → behind L (summaries ts) (at + 1) k ≡ (behind L (summaries ts) at k || is_in (Declared k) (summary (child_or_absent ts at)).lets)
-behind_next L none at h k = absurd (omega (arith, h))
-behind_next L (t ▸ none) zero h k = refl
-behind_next L (t ▸ (u ▸ ts)) zero h k = refl
-behind_next L (t ▸ ts) (suc at) h k = let same : suc at + 1 ≡ suc (at + 1) = omega arith in ap (λ i. behind L (summaries (t ▸ ts)) i k) same ∙ behind_next (passing L (summary t).lets) ts at (omega (arith, h)) k
+begun_there h p L ts at v = begun_before h p L ts at at v (omega arith)
 
 summaries_with : (ts : Trees) (at : ℕ) (v : Tree) → summary v ≡ summary (child_or_absent ts at) → summaries (with_child ts at v) ≡ summaries ts
 summaries_with none at v e = refl
@@ -165,10 +173,6 @@ module _ (R : Symbols → Position → Tree → Tree → Type 0) (reads : (L : S
       let stood = subst (λ o. OwnWalked R M o x v b) stands m in
       let there = subst (λ o. OwnWalked R M (place_in p t at) o v b) (child ∙ ap (λ us. child_or_absent us at) these) stood in
       subst (λ o. OwnWalkedTo R L p (at + 1) t o (a || b)) (sym (edited u ts at v these)) (walked_next L M p at t u v a b begun (omega (arith, below, counted)) w there)
-
-  -- what is read of the child is as it was
-  pub child_read : (L M : Symbols) (p q : Position) (at : ℕ) (t u x v : Tree) (ts : Trees) (a b : Bool) → ts ≡ children u → x ≡ child_or_absent ts at → OwnWalkedTo R L p at t u a → OwnWalked R M q x v b → summary v ≡ summary (part t at)
-  child_read L M p q at t u x v ts a b these child w m = walked_read M q x v b m ∙ ap summary (child ∙ ap (λ us. child_or_absent us at) these ∙ w.rest at (omega arith))
 
   first_all : (L : Symbols) (p : Position) (t u : Tree) (a : Bool) → FirstWalked R L p (count (children t)) t u a → OwnWalkedBelow R L p t u a
   first_all L p t u true x = x

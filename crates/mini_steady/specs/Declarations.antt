@@ -6,11 +6,14 @@ use Rattle.mini_model.specs.declared.kind.VariableDeclarationKind.TheVariants.{L
 use Rattle.mini_model.specs.declared.operator.UnaryOperator.TheVariants.{LogicalNot}
 use Rattle.mini_model.specs.declared.shape.Shape.{Shape}
 use Rattle.mini_model.specs.declared.shape.Shape.TheVariants as shape
-use Rattle.mini_model.specs.Tree.{Tree, Trees, node, none, ◌▸◌}
+use Rattle.mini_model.specs.declared.place.Position.{Position}
+use Rattle.mini_model.specs.declared.place.Position.TheVariants.{StatementList, BodyList}
+use Rattle.mini_model.specs.Tree.{Tree, Trees, node, none, ◌▸◌, shape_of}
 use Rattle.mini_laws.specs.Value.{Declared, Global, VariableSet}
 use Rattle.mini_kept.specs.Without.{Assured, BodySets}
 use Rattle.mini_rows.specs.Past.{is_binding}
-use Rattle.mini_rows.specs.Steady.{Symbols}
+use Rattle.mini_rows.specs.Steady.{Symbols, Beginning, OfChild, OfHead, OfNone, beginning}
+use Rattle.mini_node.specs.Children.{part}
 use Rattle.mini_steady.specs.declared.code.BodyCode.{BodyCode}
 
 -- the symbols of some names
@@ -127,6 +130,58 @@ abbrev mutual
 -- where that is asked
 abbrev pub lets_if : Bool → Tree → List SymbolId
 lets_if b t = if b then lets_in t else []
+
+-- ---- of those that begin behind a child
+
+abbrev pub is_of_child : Beginning → Bool
+is_of_child OfChild = true
+is_of_child b = false
+
+abbrev pub is_of_head : Beginning → Bool
+is_of_head OfHead = true
+is_of_head b = false
+
+abbrev pub is_statement_list : Shape → Position → Bool
+is_statement_list shape.Listed StatementList = true
+is_statement_list shape.Listed BodyList = true
+is_statement_list h p = false
+
+abbrev pub is_catch : Shape → Bool
+is_catch shape.CatchClause = true
+is_catch h = false
+
+abbrev pub is_for : Shape → Bool
+is_for shape.ForStatement = true
+is_for h = false
+
+-- a `for..in` or a `for..of`
+abbrev pub is_for_each : Shape → Bool
+is_for_each shape.ForInStatement = true
+is_for_each shape.ForOfStatement = true
+is_for_each h = false
+
+-- a `let` or a `const`; a `!` is read as its operand
+abbrev pub is_lexical_shape : Shape → Bool
+is_lexical_shape (shape.VariableDeclaration Let) = true
+is_lexical_shape (shape.VariableDeclaration Const) = true
+is_lexical_shape h = false
+
+abbrev mutual
+  pub is_lexical : Tree → Bool
+  is_lexical (node h xs n ts) = is_lexical_shape h || (is_negation h && is_lexical_first ts)
+
+  pub is_lexical_first : Trees → Bool
+  is_lexical_first none = false
+  is_lexical_first (t ▸ ts) = is_lexical t
+
+abbrev pub begin_by : Beginning → Tree → ℕ → List SymbolId
+begin_by OfChild t i = lets_in (part t i)
+begin_by OfHead t i = lets_if (is_lexical (part t 0)) (part t 0)
+begin_by OfNone t i = []
+
+-- behind the child at an index of a node at a place
+abbrev pub begin_in : Position → Tree → ℕ → List SymbolId
+begin_in p t i = begin_by (beginning (shape_of t) p i) t i
 
 -- ---- what is known
 

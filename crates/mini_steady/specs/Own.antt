@@ -38,11 +38,11 @@ KeepsEach F = (V : Assured) → KeepsCode (F V)
 abbrev pub place_in : Position → Tree → ℕ → Position
 place_in p t = child_position (shape_of t) p (count (children t))
 
--- what a family says of a node in this code, by what statements before have declared
+-- what a family says of a node in this code, by what is begun there
 abbrev pub rows_there : OwnRows → BodySets → BodyCode → Symbols → Position → Tree → Tree → Type 0
 rows_there F S c L = F (known_there S c L)
 
--- nothing reads it, in the code of the body itself, where statements before have declared L
+-- nothing reads it, in the code of the body itself, where L is begun
 abbrev pub OwnRests : (Symbols → Position → Tree → Tree → Type 0) → Symbols → Position → Tree → Type 0
 OwnRests R L p t = (w : Tree) → OwnStep R L p t w → ⊥
 
@@ -51,7 +51,7 @@ abbrev pub OwnWalked : (Symbols → Position → Tree → Tree → Type 0) → S
 OwnWalked R L p t u true = Several (OwnStep R L p) t u
 OwnWalked R L p t u false = (u ≡ t) × OwnRests R L p t
 
--- what statements before the child at an index have declared
+-- what is begun at the child at an index
 abbrev pub begun_in : Position → Symbols → Tree → ℕ → Symbols
 begun_in p L t = begun_at (shape_of t) p L (summaries (children t))
 

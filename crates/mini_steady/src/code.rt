@@ -22,7 +22,7 @@ pub struct BodyCode {
     pub number: u32,
     /// The symbols that are declared in it.
     pub declared: Vec<SymbolId>,
-    /// Of a place in it, those that statements before have declared.
+    /// Of a place in it, those that were declared before it, and have their values there.
     pub begun: Vec<SymbolId>,
 }
 
