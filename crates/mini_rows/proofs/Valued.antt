@@ -13,7 +13,7 @@ use Rattle.mini_laws.specs.Value.{Variable, Declared, Global, VariableSet, choos
 use Rattle.mini_laws.specs.Naming.{Summary, AClass, Declared as What, Variables, summary, summaries, lets_all, lets_first, lets_of, class_lets, first_facts, facts_all, front, is_lexical, scope_of}
 use Rattle.mini_laws.specs.Skeleton.{plus, Within, Off, hidden, hidden_all}
 use Rattle.mini_rows.specs.Past.{is_binding, is_symbol, has_symbol, binds, any_bind}
-use Rattle.mini_rows.specs.Steady.{times_named, bindings, all_bindings, Symbols, passing, Beginning, OfChild, OfHead, OfNone, beginning, nth_lets, lets_as, head_lets, begins_by, begins, begun_at, valued}
+use Rattle.mini_rows.specs.Steady.{times_named, bindings, all_bindings, Symbols, passing, Begun, Beginning, OfChild, OfHead, OfNone, beginning, nth_lets, lets_as, head_lets, begins_by, begins, begun_at, valued}
 use Rattle.mini_rows.proofs.Unbound.{all_unhidden}
 
 -- ---- lists
@@ -232,13 +232,13 @@ module _ (k : ℕ) where
   begins_in OfNone is i e = absurd (true≢false (sym e))
 
   -- so what is begun there was so before, or one of the children lets it
-  pub begun_before : (h : Shape) (p : Position) (L : Symbols) (is : List Summary) (i : ℕ) → begun_at h p L is i k ≡ true → (L k ≡ true) ⊎ In (lets_all is)
+  pub begun_before : (h : Shape) (p : Position) (L : Begun) (is : List Summary) (i : ℕ) → (begun_at h p L is i).symbols k ≡ true → (L.symbols k ≡ true) ⊎ In (lets_all is)
   begun_before h p L is zero e = inl e
-  begun_before h p L is (suc i) e = by (passed (begun_at h p L is i) (begins h p is i) e)
+  begun_before h p L is (suc i) e = by (passed (begun_at h p L is i).symbols (begins L.in_lexical h p is i) e)
     where
-      by : (begun_at h p L is i k ≡ true) ⊎ In (begins h p is i) → (L k ≡ true) ⊎ In (lets_all is)
+      by : ((begun_at h p L is i).symbols k ≡ true) ⊎ In (begins L.in_lexical h p is i) → (L.symbols k ≡ true) ⊎ In (lets_all is)
       by (inl f) = begun_before h p L is i f
-      by (inr f) = inr (begins_in (beginning h p i) is i f)
+      by (inr f) = inr (begins_in (beginning L.in_lexical h p i) is i f)
 
   -- which has its value where the code declares it once
   pub data Has (t : Tree) (L : Symbols) (X : VariableSet) : Type 0 where
@@ -263,22 +263,22 @@ module _ (c : Tree) (X : VariableSet) where
   K L = valued c L X
 
   -- no scope in the children of a node hides what is begun in it, if none hides what was before
-  pub begun_off : (h : Shape) (p : Position) (L : Symbols) (ts : Trees) → Off (hidden_all ts) (K L) → ((k : ℕ) → all_bindings k ts ≤ bindings k c) → (i : ℕ) → Off (hidden_all ts) (K (begun_at h p L (summaries ts) i))
+  pub begun_off : (h : Shape) (p : Position) (L : Begun) (ts : Trees) → Off (hidden_all ts) (K L.symbols) → ((k : ℕ) → all_bindings k ts ≤ bindings k c) → (i : ℕ) → Off (hidden_all ts) (K (begun_at h p L (summaries ts) i).symbols)
   unfolding Off
   begun_off h p L ts o less i (Global s) e = absurd (true≢false (sym e))
-  begun_off h p L ts o less i (Declared k) e = by (has k c (begun_at h p L (summaries ts) i) X e)
+  begun_off h p L ts o less i (Declared k) e = by (has k c (begun_at h p L (summaries ts) i).symbols X e)
     where
       twice : In k (lets_all (summaries ts)) → not (nat_lt 1 (bindings k c)) ≡ true → (b : Bool) → is_in (Declared k) (hidden_all ts) ≡ b → b ≡ false
       twice e f false q = refl
       twice e f true q = absurd (omega (arith, all_lets_twice k ts e q, less k, once k (bindings k c) f))
 
-      of : not (nat_lt 1 (bindings k c)) ≡ true → (L k ≡ true) ⊎ In k (lets_all (summaries ts)) → is_in (Declared k) (hidden_all ts) ≡ false
-      of f (inl a) = o (Declared k) (had k c L X (let_here a f))
+      of : not (nat_lt 1 (bindings k c)) ≡ true → (L.symbols k ≡ true) ⊎ In k (lets_all (summaries ts)) → is_in (Declared k) (hidden_all ts) ≡ false
+      of f (inl a) = o (Declared k) (had k c L.symbols X (let_here a f))
       of f (inr a) = twice a f (is_in (Declared k) (hidden_all ts)) refl
 
-      by : Has k c (begun_at h p L (summaries ts) i) X → is_in (Declared k) (hidden_all ts) ≡ false
+      by : Has k c (begun_at h p L (summaries ts) i).symbols X → is_in (Declared k) (hidden_all ts) ≡ false
       by (let_here a f) = of f (begun_before k h p L (summaries ts) i a)
-      by (all_along f) = o (Declared k) (had k c L X (all_along f))
+      by (all_along f) = o (Declared k) (had k c L.symbols X (all_along f))
 
   -- and what begins behind a child has its value there
   pub more_known : (L : Symbols) (xs : List Variable) (S : VariableSet) → Within (K L) S → Within (K (passing L xs)) (plus S xs)

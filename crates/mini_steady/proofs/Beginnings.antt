@@ -2,19 +2,20 @@
 use Rattle.std.proofs.Common.{◌≡◌, ℕ, zero, suc, Bool, true, false, List, [], Option, Some, None, refl, sym, ap, ◌∙◌, arith}
 use Rattle.std.specs.Prelude.{◌&&◌, ◌||◌, ◌==◌, if◌then◌else◌}
 use Rattle.std.proofs.lemmas.Bool.{eqb-true}
+use Rattle.mini_model.specs.declared.kind.VariableDeclarationKind.{VariableDeclarationKind}
 use Rattle.mini_model.specs.declared.kind.VariableDeclarationKind.TheVariants.{Var, Let, Const}
 use Rattle.mini_model.specs.declared.name.Name.{Name}
 use Rattle.mini_model.specs.declared.name.SymbolId.{SymbolId}
 use Rattle.mini_model.specs.declared.operator.UnaryOperator.TheVariants.{LogicalNot}
 use Rattle.mini_model.specs.declared.place.Position.{Position}
-use Rattle.mini_model.specs.declared.place.Position.TheVariants.{StatementList, BodyList}
+use Rattle.mini_model.specs.declared.place.Position.TheVariants.{Expr, Stmt, StatementList, BodyList, CommaList}
 use Rattle.mini_model.specs.declared.shape.Shape.{Shape}
 use Rattle.mini_model.specs.declared.shape.Shape.TheVariants as shape
 use Rattle.mini_model.specs.Tree.{Tree, Trees, node, none, ◌▸◌, children, shape_of, child_or_absent}
 use Rattle.mini_laws.specs.Naming.{Summary, AClass, Declared as What, Variables, is_lexical as is_lexical_kind, summary, summaries, first_facts, facts_all, facts_of}
 use Rattle.mini_laws.specs.Value.{Variable, Declared, choose, is_in}
-use Rattle.mini_rows.specs.Steady.{Beginning, OfChild, OfHead, OfNone, beginning, nth_lets, lets_as, head_lets, begins_by}
-use Rattle.mini_steady.specs.Declarations.{is_listed, is_negation, is_of_child, is_of_head, is_statement_list, is_catch, is_for, is_for_each, is_lexical_shape, is_lexical, is_lexical_first, lets_in, lets_if, begin_by}
+use Rattle.mini_rows.specs.Steady.{lists_lexical, Beginning, OfChild, OfHead, OfNone, beginning, nth_lets, lets_as, head_lets, begins_by}
+use Rattle.mini_steady.specs.Declarations.{is_listed, is_negation, is_of_child, is_of_head, is_statement_list, is_comma_list, is_catch, is_for, is_for_each, is_lexical_shape, may_begin, is_lexical, is_lexical_first, lets_in, lets_if, begin_by}
 use Rattle.mini_steady.proofs.Letting.{lets_there}
 
 -- ---- where it is declared
@@ -26,47 +27,82 @@ apart_by false i k e h = refl
 apart : (i k : ℕ) → (i ≡ k → ⊥) → (i == k) ≡ false
 apart i k h = apart_by (i == k) i k refl h
 
-catch_only : (p : Position) (i : ℕ) → is_of_child (beginning shape.CatchClause p i) ≡ (i == 0)
-catch_only p zero = refl
-catch_only p (suc i) = sym (apart (suc i) 0 (λ e. omega (arith, e)))
+catch_only : (c : Bool) (p : Position) (i : ℕ) → is_of_child (beginning c shape.CatchClause p i) ≡ (i == 0)
+catch_only c p zero = refl
+catch_only c p (suc i) = sym (apart (suc i) 0 (λ e. omega (arith, e)))
 
-for_only : (p : Position) (i : ℕ) → is_of_head (beginning shape.ForStatement p i) ≡ ((i == 0) || false)
-for_only p zero = refl
-for_only p (suc i) = sym (ap (λ b. b || false) (apart (suc i) 0 (λ e. omega (arith, e))))
+for_only : (c : Bool) (p : Position) (i : ℕ) → is_of_head (beginning c shape.ForStatement p i) ≡ ((i == 0) || false)
+for_only c p zero = refl
+for_only c p (suc i) = sym (ap (λ b. b || false) (apart (suc i) 0 (λ e. omega (arith, e))))
 
-in_only : (p : Position) (i : ℕ) → is_of_head (beginning shape.ForInStatement p i) ≡ (i == 1)
-in_only p zero = refl
-in_only p (suc zero) = refl
-in_only p (suc (suc i)) = sym (apart (suc (suc i)) 1 (λ e. omega (arith, e)))
+in_only : (c : Bool) (p : Position) (i : ℕ) → is_of_head (beginning c shape.ForInStatement p i) ≡ (i == 1)
+in_only c p zero = refl
+in_only c p (suc zero) = refl
+in_only c p (suc (suc i)) = sym (apart (suc (suc i)) 1 (λ e. omega (arith, e)))
 
-of_only : (p : Position) (i : ℕ) → is_of_head (beginning shape.ForOfStatement p i) ≡ (i == 1)
-of_only p zero = refl
-of_only p (suc zero) = refl
-of_only p (suc (suc i)) = sym (apart (suc (suc i)) 1 (λ e. omega (arith, e)))
+of_only : (c : Bool) (p : Position) (i : ℕ) → is_of_head (beginning c shape.ForOfStatement p i) ≡ (i == 1)
+of_only c p zero = refl
+of_only c p (suc zero) = refl
+of_only c p (suc (suc i)) = sym (apart (suc (suc i)) 1 (λ e. omega (arith, e)))
 
-pub of_child : (h : Shape) (p : Position) (i : ℕ) → is_of_child (beginning h p i) ≡ (is_statement_list h p || (is_catch h && (i == 0)))
-of_child shape.Listed StatementList i = refl
-of_child shape.Listed BodyList i = refl
-of_child shape.CatchClause p i = catch_only p i
-of_child shape.ForStatement p zero = refl
-of_child shape.ForStatement p (suc i) = refl
-of_child shape.ForInStatement p zero = refl
-of_child shape.ForInStatement p (suc zero) = refl
-of_child shape.ForInStatement p (suc (suc i)) = refl
-of_child shape.ForOfStatement p zero = refl
-of_child shape.ForOfStatement p (suc zero) = refl
-of_child shape.ForOfStatement p (suc (suc i)) = refl
-of_child h p i = refl
+comma_only : (c : Bool) → is_of_child (if c then OfChild else OfNone) ≡ (c || false)
+comma_only true = refl
+comma_only false = refl
 
-pub of_head : (h : Shape) (p : Position) (i : ℕ) → is_of_head (beginning h p i) ≡ ((is_for h && (i == 0)) || (is_for_each h && (i == 1)))
-of_head shape.Listed StatementList i = refl
-of_head shape.Listed BodyList i = refl
-of_head shape.CatchClause p zero = refl
-of_head shape.CatchClause p (suc i) = refl
-of_head shape.ForStatement p i = for_only p i
-of_head shape.ForInStatement p i = in_only p i
-of_head shape.ForOfStatement p i = of_only p i
-of_head h p i = refl
+no_head : (c : Bool) → is_of_head (if c then OfChild else OfNone) ≡ false
+no_head true = refl
+no_head false = refl
+
+pub of_child : (c : Bool) (h : Shape) (p : Position) (i : ℕ) → is_of_child (beginning c h p i) ≡ (is_statement_list h p || ((is_comma_list h p && c) || (is_catch h && (i == 0))))
+of_child c shape.Listed CommaList i = comma_only c
+of_child c shape.Listed StatementList i = refl
+of_child c shape.Listed BodyList i = refl
+of_child c shape.CatchClause p i = catch_only c p i
+of_child c shape.ForStatement p zero = refl
+of_child c shape.ForStatement p (suc i) = refl
+of_child c shape.ForInStatement p zero = refl
+of_child c shape.ForInStatement p (suc zero) = refl
+of_child c shape.ForInStatement p (suc (suc i)) = refl
+of_child c shape.ForOfStatement p zero = refl
+of_child c shape.ForOfStatement p (suc zero) = refl
+of_child c shape.ForOfStatement p (suc (suc i)) = refl
+of_child c h p i = refl
+
+pub of_head : (c : Bool) (h : Shape) (p : Position) (i : ℕ) → is_of_head (beginning c h p i) ≡ ((is_for h && (i == 0)) || (is_for_each h && (i == 1)))
+of_head c shape.Listed CommaList i = no_head c
+of_head c shape.Listed StatementList i = refl
+of_head c shape.Listed BodyList i = refl
+of_head c shape.CatchClause p zero = refl
+of_head c shape.CatchClause p (suc i) = refl
+of_head c shape.ForStatement p i = for_only c p i
+of_head c shape.ForInStatement p i = in_only c p i
+of_head c shape.ForOfStatement p i = of_only c p i
+of_head c h p i = refl
+
+-- ---- a list of declarators
+
+lists_kind : (v : VariableDeclarationKind) → is_lexical_kind v ≡ is_lexical_shape (shape.VariableDeclaration v)
+lists_kind Var = refl
+lists_kind Let = refl
+lists_kind Const = refl
+
+and_true : (b : Bool) → b ≡ (b && true)
+and_true true = refl
+and_true false = refl
+
+and_none : (b : Bool) → false ≡ (b && false)
+and_none true = refl
+and_none false = refl
+
+and_swap : (a b : Bool) → (a && b) ≡ (b && a)
+and_swap true b = and_true b
+and_swap false b = and_none b
+
+pub lists_it : (h : Shape) (p : Position) → lists_lexical h p ≡ (is_lexical_shape h && may_begin p)
+lists_it (shape.VariableDeclaration v) (Stmt q) = lists_kind v ∙ and_true (is_lexical_shape (shape.VariableDeclaration v))
+lists_it (shape.VariableDeclaration v) (Expr s) = ap (λ b. s.unused && b) (lists_kind v) ∙ and_swap s.unused (is_lexical_shape (shape.VariableDeclaration v))
+lists_it (shape.VariableDeclaration v) p = and_none (is_lexical_shape (shape.VariableDeclaration v))
+lists_it h p = refl
 
 -- ---- a head that is a `let` or a `const`
 

@@ -3,7 +3,7 @@
 ghost use Rattle.std.specs.Prelude.{◌≡◌, ◌<◌, OnOk};
 ghost use Rattle.mini_model.specs.Tree.{children, count};
 ghost use Rattle.mini_node.specs.Children.{trees_of};
-ghost use Rattle.mini_rows.specs.Steady.{beginning};
+ghost use Rattle.mini_rows.specs.Steady.{beginning, lists_lexical as lists_it_lexical};
 ghost use Rattle.mini_steady.specs.Declarations as row;
 ghost use Rattle.mini_steady.specs.Own.{BeginsBesides};
 
@@ -17,6 +17,24 @@ fn is_statement_list(shape: &Shape, place: Position) -> bool
     ensures { result ≡ row.is_statement_list shape.now place }
 {
     matches!(shape, Shape::Listed) && matches!(place, Position::StatementList | Position::BodyList)
+}
+
+// Where a declaration is a statement or the head of a `for`.
+fn may_begin(place: Position) -> bool
+    ensures { result ≡ row.may_begin place }
+{
+    match place {
+        Position::Stmt(_) => true,
+        Position::Expr(seat) => seat.unused,
+        _ => false,
+    }
+}
+
+// A list of other parts with commas between them.
+fn is_comma_list(shape: &Shape, place: Position) -> bool
+    ensures { result ≡ row.is_comma_list shape.now place }
+{
+    matches!(shape, Shape::Listed) && matches!(place, Position::CommaList)
 }
 
 // A `catch`.
@@ -42,18 +60,28 @@ fn is_for_each(shape: &Shape) -> bool
 
 // Whether what the child declares begins behind it.
 #[tactic(auto, using(crate::proofs::Beginnings::of_child))]
-fn begins_child(shape: &Shape, place: Position, at: usize) -> bool
-    ensures { result ≡ row.is_of_child (beginning shape.now place at) }
+fn begins_child(shape: &Shape, place: Position, at: usize, in_lexical: bool) -> bool
+    ensures { result ≡ row.is_of_child (beginning in_lexical shape.now place at) }
 {
-    is_statement_list(shape, place) || is_catch(shape) && at == 0
+    is_statement_list(shape, place)
+        || is_comma_list(shape, place) && in_lexical
+        || is_catch(shape) && at == 0
 }
 
 // Whether what the head of a loop declares begins behind it.
 #[tactic(auto, using(crate::proofs::Beginnings::of_head))]
-fn begins_head(shape: &Shape, place: Position, at: usize) -> bool
-    ensures { result ≡ row.is_of_head (beginning shape.now place at) }
+fn begins_head(shape: &Shape, place: Position, at: usize, in_lexical: bool) -> bool
+    ensures { result ≡ row.is_of_head (beginning in_lexical shape.now place at) }
 {
     is_for(shape) && at == 0 || is_for_each(shape) && at == 1
+}
+
+/// Whether the children of a node are the list of a `let` or a `const`.
+#[tactic(auto, using(crate::proofs::Beginnings::lists_it))]
+pub fn lists_lexical(shape: &Shape, place: Position) -> bool
+    ensures { result ≡ lists_it_lexical shape.now place }
+{
+    is_lexical_shape(shape) && may_begin(place)
 }
 
 // A `let` or a `const`.
@@ -86,19 +114,20 @@ fn is_lexical_first(nodes: &[Node]) -> bool
     }
 }
 
-/// Adds to what is begun in this code what begins behind the child of a node at an index.
+/// Adds to what is begun in this code what begins behind the child at an index of a node, which may be the list of a `let` or a `const`.
 pub fn push_behind(
     code: &mut BodyCode,
     node: &Node,
     place: Position,
     at: usize,
+    in_lexical: bool,
 ) -> Result<(), OutOfMemory>
     requires { at < count (children node.now) }
-    ensures { OnOk result (BeginsBesides (row.begin_in place node.now at) code.old code.new) }
+    ensures { OnOk result (BeginsBesides (row.begin_in in_lexical place node.now at) code.old code.new) }
 {
-    if begins_child(node.shape(), place, at) {
+    if begins_child(node.shape(), place, at, in_lexical) {
         push_begun(code, true, node.child(at))
-    } else if begins_head(node.shape(), place, at) {
+    } else if begins_head(node.shape(), place, at, in_lexical) {
         let head = node.child(0);
         push_begun(code, is_lexical(head), head)
     } else {

@@ -5,8 +5,8 @@ ghost use Rattle.mini_rows.specs.Steady.{OwnRows, ReadsMore, has_body as has_it_
 ghost use Rattle.mini_steady.specs.Declarations.{begun_by, known_of};
 ghost use Rattle.mini_steady.specs.Own.{AppliedHere, AsBefore, KeepsEach, OwnWalked, OwnWalkedBelow, ReadsOpen, is_open as is_it_open, rows_there};
 
-use crate::beginnings::push_behind;
-use crate::code::{BodyCode, begun_count, leave_begun};
+use crate::beginnings::{lists_lexical, push_behind};
+use crate::code::{BodyCode, begun_count, enter_children, is_in_lexical, leave_children};
 use crate::steady::SteadyNames;
 use mini_model::{OutOfMemory, Position, Shape};
 use mini_node::Node;
@@ -100,14 +100,16 @@ fn minimize_parts<S: SteadyNames, W: OwnRewrites<S>>(
 {
     let count = node.children().len();
     let before = begun_count(body);
+    let was_lexical = is_in_lexical(body);
+    enter_children(body, lists_lexical(node.shape(), place));
     let mut changed = false;
     for at in 0..count {
         let stands = child_place(node.shape(), place, count, at);
         let child = node.children_mut().child_mut(at);
         let part = minimize_own_code(alloc, child, stands, body, steady, rewrites)?;
-        push_behind(body, &*node, place, at)?;
+        push_behind(body, &*node, place, at, was_lexical)?;
         changed = changed | part;
     }
-    leave_begun(body, before);
+    leave_children(body, before, was_lexical);
     Ok(changed)
 }

@@ -1,6 +1,7 @@
 use Rattle.std.proofs.Common.{ap, sym, ◌∙◌, refl, arith}
 use Rattle.mini_model.specs.Tree.{count}
 use Rattle.mini_tree.proofs.Walks.{child_smaller}
+use Rattle.mini_rows.specs.Steady.{lists_lexical}
 use Rattle.mini_steady.specs.Declarations.{begun_by, known_there}
 use Rattle.mini_steady.specs.Own.{rows_there}
 use Rattle.mini_steady.proofs.Begun.{rows_read, applied_same, walked_same, as_was, begun_first, begun_next, begun_left}
@@ -36,7 +37,10 @@ pub minimize_parts-loop-at-init : goal.minimize_parts-loop-at-init
 minimize_parts-loop-at-init g t c =
     let S = g.S.SteadyNames.sets c.args.steady.now in
     let body = c.args.body.now in
-    (walked_none (rows_there g.W.OwnRewrites.rows S body) (rows_read g.W.OwnRewrites.rows g.met.W.OwnRewrites.keeps S body) (begun_by body) c.args.place c.args.node.now c.requires, begun_first c.args.place c.args.node.now body)
+    (
+      walked_none (rows_there g.W.OwnRewrites.rows S body) (rows_read g.W.OwnRewrites.rows g.met.W.OwnRewrites.keeps S body) (begun_by body) c.args.place c.args.node.now c.requires,
+      begun_first c.args.place c.args.node.now body c.enter_children.new.code c.enter_children.ensures.number c.enter_children.ensures.declared c.enter_children.ensures.begun (c.enter_children.ensures.in_lexical ∙ c.lists_lexical.ensures ∙ ap (λ h. lists_lexical h c.args.place) c.shape.ensures),
+    )
 
 pub minimize_parts-loop-at-preserved : goal.minimize_parts-loop-at-preserved
 minimize_parts-loop-at-preserved g t c =
@@ -52,7 +56,7 @@ minimize_parts-loop-at-preserved g t c =
     let next = walked_child R reads (begun_by body) (begun_by now) _ _ _ c.len-count.result c.loop-at.at _ c.loop-at.node _ _ _ c.loop-at.changed _
         (c.child_place-stands.ensures, c.shape-in-loop-at.ensures, counted, c.children_mut.ensures.value, c.child_mut-child.ensures.value) begun.begun
         (omega (arith, c.loop-at-test.true)) c.loop-at.invariant.0 walked in
-    (next, begun_next c.args.place c.args.node.now _ c.loop-at.at body now c.minimize_own_code.new.body c.push_behind.new.code next.shape next.read begun c.in_ok-part.ensures.body c.in_ok-push_behind.ensures)
+    (next, begun_next c.args.place c.args.node.now _ c.loop-at.at c.is_in_lexical-was_lexical.result body now c.minimize_own_code.new.body c.push_behind.new.code c.is_in_lexical-was_lexical.ensures next.shape next.read begun c.in_ok-part.ensures.body c.in_ok-push_behind.ensures)
 
 pub minimize_parts-returns-clause-walked : goal.minimize_parts-returns-clause-walked
 minimize_parts-returns-clause-walked g t c =
@@ -61,4 +65,6 @@ minimize_parts-returns-clause-walked g t c =
     walked_all (rows_there g.W.OwnRewrites.rows S body) (rows_read g.W.OwnRewrites.rows g.met.W.OwnRewrites.keeps S body) (begun_by body) _ c.loop-at.at _ _ c.loop-at.changed (omega (arith, c.len-count.ensures, ap count c.children.ensures, c.loop-at-test.false, c.loop-at.auto)) c.loop-at.invariant.0
 
 pub minimize_parts-returns-clause-body : goal.minimize_parts-returns-clause-body
-minimize_parts-returns-clause-body g t c = begun_left c.args.place c.args.node.now c.loop-at.at c.begun_count-before.result c.args.body.now c.loop-at.body c.leave_begun.new.code c.begun_count-before.ensures c.loop-at.invariant.1 c.leave_begun.ensures.number c.leave_begun.ensures.declared c.leave_begun.ensures.begun
+minimize_parts-returns-clause-body g t c =
+    begun_left c.args.place c.args.node.now c.loop-at.at c.begun_count-before.result c.is_in_lexical-was_lexical.result c.args.body.now c.loop-at.body c.leave_children.new.code c.begun_count-before.ensures c.is_in_lexical-was_lexical.ensures c.loop-at.invariant.1
+    c.leave_children.ensures.number c.leave_children.ensures.declared c.leave_children.ensures.begun c.leave_children.ensures.in_lexical
