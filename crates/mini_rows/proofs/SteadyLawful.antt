@@ -217,23 +217,32 @@ nth_is none i = refl
 nth_is (t ▸ ts) zero = refl
 nth_is (t ▸ ts) (suc i) = nth_is ts i
 
+plus_none : (S : VariableSet) → Within (plus S []) S
+unfolding Within
+plus_none S x e = e
+
+less : (S : VariableSet) (H : List Variable) → Within (minus (plus S []) H) S
+less S H = within_trans _ (plus S []) _ (minus_less (plus S []) H) (plus_none S)
+
 along_first : (H : List Variable) (S : VariableSet) (ts : Trees) → S ≡ along H S ts 0
 along_first H S none = refl
 along_first H S (t ▸ ts) = refl
 
 along_next : (H : List Variable) (S : VariableSet) (ts : Trees) (i : ℕ) → Within (minus (plus (along H S ts i) (lets_at ts i)) H) (along H S ts (suc i))
-along_next H S none i = minus_less S H
+along_next H S none i = less S H
 along_next H S (t ▸ ts) zero = let next = minus (plus S (summary t).lets) H in subst (Within next) (along_first H next ts) (within_refl next)
 along_next H S (t ▸ ts) (suc i) = along_next H (minus (plus S (summary t).lets) H) ts i
 
-along_on : (H : List Variable) (S : VariableSet) (ts : Trees) (i : ℕ) → Within (minus (along H S ts i) H) (along H S ts (suc i))
-along_on H S ts i = within_trans (minus (along H S ts i) H) _ _ (minus_more (along H S ts i) _ H (within_plus (along H S ts i) (lets_at ts i))) (along_next H S ts i)
+along_on : (H : List Variable) (S : VariableSet) (ts : Trees) (i : ℕ) → Within (minus (plus (along H S ts i) []) H) (along H S ts (suc i))
+along_on H S ts i =
+    let there = along H S ts i in
+    within_trans _ _ _ (minus_more (plus there []) (plus there (lets_at ts i)) H (within_trans _ there _ (plus_none there) (within_plus there (lets_at ts i)))) (along_next H S ts i)
 
-list_on : (q : Demand) (S : VariableSet) (ts : Trees) (i : ℕ) → Within (minus (list_needs q S ts i) (hidden_all ts)) (list_needs q S ts (suc i))
+list_on : (q : Demand) (S : VariableSet) (ts : Trees) (i : ℕ) → Within (minus (plus (list_needs q S ts i) []) (hidden_all ts)) (list_needs q S ts (suc i))
 list_on (Stat t) S ts i = along_on (hidden_all ts) S ts i
 list_on (Declares true) S ts i = along_on (hidden_all ts) S ts i
-list_on (Declares false) S ts i = minus_less S (hidden_all ts)
-list_on q S ts i = minus_less S (hidden_all ts)
+list_on (Declares false) S ts i = less S (hidden_all ts)
+list_on q S ts i = less S (hidden_all ts)
 
 listed_next : (q : Demand) (S : VariableSet) (ts : Trees) → Fits StatementList q → (i : ℕ) → Within (minus (plus (list_needs q S ts i) (nth_lets (summaries ts) i)) (hidden_all ts)) (list_needs q S ts (suc i))
 listed_next (Stat t) S ts fit i = let H = hidden_all ts in subst (λ xs. Within (minus (plus (along H S ts i) xs) H) (along H S ts (suc i))) (sym (nth_is ts i)) (along_next H S ts i)
@@ -258,42 +267,42 @@ body_listed q fit = absurd fit
 module _ (S : VariableSet) where
   lexical_kept : (b : Bool) (xs : List Variable) → Within (plus S (choose b xs [])) (plus S (kept (Binds b) xs))
   lexical_kept true xs = within_refl (plus S xs)
-  lexical_kept false xs = within_refl S
+  lexical_kept false xs = within_refl (plus S [])
 
   stated_kept : (b : Bool) (xs : List Variable) → Within (plus S (choose b xs [])) (plus S xs)
   stated_kept true xs = within_refl (plus S xs)
-  stated_kept false xs = within_plus S xs
+  stated_kept false xs = within_trans _ S _ (plus_none S) (within_plus S xs)
 
   left_kept : (o : Option What) (xs : List Variable) → Within (plus S (lets_as o xs)) (plus S (kept (left_demand o) xs))
   left_kept (Some (Variables v)) xs = lexical_kept (is_lexical v) xs
-  left_kept (Some AClass) xs = within_refl S
-  left_kept None xs = within_refl S
+  left_kept (Some AClass) xs = within_refl (plus S [])
+  left_kept None xs = within_refl (plus S [])
 
   for_kept : (o : Option What) (xs : List Variable) → Within (plus S (lets_as o xs)) (plus S (kept (head_demand o) xs))
   for_kept (Some (Variables v)) xs = stated_kept (is_lexical v) xs
-  for_kept (Some AClass) xs = within_refl S
-  for_kept None xs = within_refl S
+  for_kept (Some AClass) xs = within_refl (plus S [])
+  for_kept None xs = within_refl (plus S [])
 
   left_begins : (ts : Trees) → Within (plus S (head_lets (summaries ts))) (plus S (kept (left_demand (first_facts (facts ts)).declared) (lets_at ts 0)))
-  left_begins none = within_refl S
+  left_begins none = within_refl (plus S [])
   left_begins (t ▸ ts) = left_kept (summary t).facts.declared (summary t).lets
 
   for_begins : (ts : Trees) → Within (plus S (head_lets (summaries ts))) (plus S (kept (head_demand (first_facts (facts ts)).declared) (lets_at ts 0)))
-  for_begins none = within_refl S
+  for_begins none = within_refl (plus S [])
   for_begins (t ▸ ts) = for_kept (summary t).facts.declared (summary t).lets
 
   catch_next : (b : Bool) (p : Position) (ts : Trees) (i : ℕ) → Within (minus (plus (after_first (Binds true) S ts i) (begins_by (beginning b shape.CatchClause p i) (summaries ts) i)) (hidden_all ts)) (after_first (Binds true) S ts (suc i))
   catch_next b p ts zero = subst (λ xs. Within (minus (plus S xs) (hidden_all ts)) (minus (plus S (lets_at ts 0)) (hidden_all ts))) (sym (nth_is ts 0)) (within_refl (minus (plus S (lets_at ts 0)) (hidden_all ts)))
-  catch_next b p ts (suc i) = minus_less (after_first (Binds true) S ts 1) (hidden_all ts)
+  catch_next b p ts (suc i) = less (after_first (Binds true) S ts (suc i)) (hidden_all ts)
 
   for_next : (b : Bool) (p : Position) (ts : Trees) (i : ℕ) → let q = head_demand (first_facts (facts ts)).declared in Within (minus (plus (after_first q S ts i) (begins_by (beginning b shape.ForStatement p i) (summaries ts) i)) (hidden_all ts)) (after_first q S ts (suc i))
   for_next b p ts zero = minus_more _ _ (hidden_all ts) (for_begins ts)
-  for_next b p ts (suc i) = minus_less (after_first (head_demand (first_facts (facts ts)).declared) S ts 1) (hidden_all ts)
+  for_next b p ts (suc i) = less (after_first (head_demand (first_facts (facts ts)).declared) S ts (suc i)) (hidden_all ts)
 
   left_next : (b : Bool) (p : Position) (ts : Trees) (i : ℕ) → let q = left_demand (first_facts (facts ts)).declared in Within (minus (plus (after_left q S ts i) (begins_by (beginning b shape.ForOfStatement p i) (summaries ts) i)) (hidden_all ts)) (after_left q S ts (suc i))
-  left_next b p ts zero = minus_less S (hidden_all ts)
+  left_next b p ts zero = less S (hidden_all ts)
   left_next b p ts (suc zero) = minus_more _ _ (hidden_all ts) (left_begins ts)
-  left_next b p ts (suc (suc i)) = minus_less (after_left (left_demand (first_facts (facts ts)).declared) S ts 2) (hidden_all ts)
+  left_next b p ts (suc (suc i)) = less (after_left (left_demand (first_facts (facts ts)).declared) S ts (suc (suc i))) (hidden_all ts)
 
 needs_next : (b : Bool) (h : Shape) (p : Position) (q : Demand) (S : VariableSet) (ts : Trees) → Fits p q → Lists b q → (i : ℕ) → Within (minus (plus (needs h q S ts i) (begins b h p (summaries ts) i)) (hidden_all ts)) (needs h q S ts (suc i))
 needs_next b shape.Listed StatementList q S ts fit a i = listed_next q S ts fit i
@@ -304,7 +313,7 @@ needs_next b shape.CatchClause p q S ts fit a i = catch_next S b p ts i
 needs_next b shape.ForStatement p q S ts fit a i = for_next S b p ts i
 needs_next b shape.ForInStatement p q S ts fit a i = left_next S b p ts i
 needs_next b shape.ForOfStatement p q S ts fit a i = left_next S b p ts i
-needs_next b h p q S ts fit a i = minus_less S (hidden_all ts)
+needs_next b h p q S ts fit a i = less S (hidden_all ts)
 
 -- and a child that is the list of a `let` or a `const` is asked to declare
 kind_lists : (b : Bool) → Lists b (Declares b)

@@ -234,11 +234,11 @@ module _ (k : ℕ) where
   -- so what is begun there was so before, or one of the children lets it
   pub begun_before : (h : Shape) (p : Position) (L : Begun) (is : List Summary) (i : ℕ) → (begun_at h p L is i).symbols k ≡ true → (L.symbols k ≡ true) ⊎ In (lets_all is)
   begun_before h p L is zero e = inl e
-  begun_before h p L is (suc i) e = by (passed (begun_at h p L is i).symbols (begins L.in_lexical h p is i) e)
+  begun_before h p L is (suc i) e = by (passed (begun_at h p L is i).symbols (begins L.in_lexical h p is i) e) (λ f. begun_before h p L is i f)
     where
-      by : ((begun_at h p L is i).symbols k ≡ true) ⊎ In (begins L.in_lexical h p is i) → (L.symbols k ≡ true) ⊎ In (lets_all is)
-      by (inl f) = begun_before h p L is i f
-      by (inr f) = inr (begins_in (beginning L.in_lexical h p i) is i f)
+      by : ((begun_at h p L is i).symbols k ≡ true) ⊎ In (begins L.in_lexical h p is i) → ((begun_at h p L is i).symbols k ≡ true → (L.symbols k ≡ true) ⊎ In (lets_all is)) → (L.symbols k ≡ true) ⊎ In (lets_all is)
+      by (inl f) g = g f
+      by (inr f) g = inr (begins_in (beginning L.in_lexical h p i) is i f)
 
   -- which has its value where the code declares it once
   pub data Has (t : Tree) (L : Symbols) (X : VariableSet) : Type 0 where

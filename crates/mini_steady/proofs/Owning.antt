@@ -66,6 +66,10 @@ summaries_with none at v e = refl
 summaries_with (t ▸ ts) zero v e = ap (λ s. s ∷ summaries ts) e
 summaries_with (t ▸ ts) (suc at) v e = ap (λ is. summary t ∷ is) (summaries_with ts at v e)
 
+-- a node with another child has as many
+pub edited_count : (u : Tree) (ts : Trees) (at : ℕ) (v : Tree) (k : ℕ) → ts ≡ children u → count (children u) ≡ k → count (children (with_children u (with_child ts at v))) ≡ k
+edited_count (node h xs n us) ts at v k e f = count_with ts at v ∙ ap count e ∙ f
+
 -- ---- the children, one after another
 
 module _ (R : Begun → Position → Tree → Tree → Type 0) where

@@ -64,8 +64,7 @@ fn begins_child(shape: &Shape, place: Position, at: usize, in_lexical: bool) -> 
     ensures { result ≡ row.is_of_child (beginning in_lexical shape.now place at) }
 {
     is_statement_list(shape, place)
-        || is_comma_list(shape, place) && in_lexical
-        || is_catch(shape) && at == 0
+        || (is_comma_list(shape, place) && in_lexical || is_catch(shape) && at == 0)
 }
 
 // Whether what the head of a loop declares begins behind it.

@@ -5,7 +5,7 @@ use Rattle.mini_rows.specs.Steady.{lists_lexical}
 use Rattle.mini_steady.specs.Declarations.{begun_by, known_there}
 use Rattle.mini_steady.specs.Own.{rows_there}
 use Rattle.mini_steady.proofs.Begun.{rows_read, applied_same, walked_same, as_was, begun_first, begun_next, begun_left}
-use Rattle.mini_steady.proofs.Owning.{walked_none, walked_child, walked_all, walked_both, walked_closed}
+use Rattle.mini_steady.proofs.Owning.{edited_count, walked_none, walked_child, walked_all, walked_both, walked_closed}
 use Rattle.mini_steady.proofs.own.+own.Goals as goal
 
 pub minimize_own_code-returns-then-not-is_open-clause-walked : goal.minimize_own_code-returns-then-not-is_open-clause-walked
@@ -41,6 +41,11 @@ minimize_parts-loop-at-init g t c =
       walked_none (rows_there g.W.OwnRewrites.rows S body) (rows_read g.W.OwnRewrites.rows g.met.W.OwnRewrites.keeps S body) (begun_by body) c.args.place c.args.node.now c.requires,
       begun_first c.args.place c.args.node.now body c.enter_children.new.code c.enter_children.ensures.number c.enter_children.ensures.declared c.enter_children.ensures.begun (c.enter_children.ensures.in_lexical ∙ c.lists_lexical.ensures ∙ ap (λ h. lists_lexical h c.args.place) c.shape.ensures),
     )
+
+pub minimize_parts-push_behind-requires : goal.minimize_parts-push_behind-requires
+minimize_parts-push_behind-requires g t c =
+    let same = edited_count c.loop-at.node _ c.loop-at.at c.minimize_own_code.new.node _ c.children_mut.ensures.value c.loop-at.invariant.0.counted in
+    omega (arith, c.loop-at-test.true, c.len-count.ensures, ap count c.children.ensures, same)
 
 pub minimize_parts-loop-at-preserved : goal.minimize_parts-loop-at-preserved
 minimize_parts-loop-at-preserved g t c =
