@@ -32,7 +32,7 @@ use Rattle.mini_kept.proofs.Whole.{any_reaches_keep}
 use Rattle.mini_kept.proofs.WithoutLists.{nothing_part, part_itself, each_itself, more_under, each_under}
 use Rattle.mini_rows.specs.Arranged.{KeptAt}
 use Rattle.mini_rows.specs.OwnPrograms.{program_over, OwnProgram, OwnProgramsAreLawful, OwnProgramsLighten, SteadyProgramsAreLawful, SteadyProgramsLighten, LexicalProgramsAreLawful, LexicalProgramsLighten}
-use Rattle.mini_rows.specs.Steady.{no_symbols, own_rows, KeepsOwn, OwnRows, OwnStep, own_first, SteadyRow, LexicalRows}
+use Rattle.mini_rows.specs.Steady.{nothing_begun, own_rows, KeepsOwn, OwnRows, OwnStep, own_first, SteadyRow, LexicalRows}
 use Rattle.mini_rows.proofs.BranchLawful.{IsKind, taken, body_slot, kept_at}
 use Rattle.mini_rows.proofs.LexicalKept.{lexical_kind, lexical_own}
 use Rattle.mini_rows.proofs.SteadyKept.{steady_kept, steady_own, steady_slot}
@@ -55,7 +55,7 @@ any_places F places = record {
 
 -- ---- one program
 
-module _ (F : OwnRows) (keeps : (V : Assured) → KeepsOwn V (F V)) (places : (V : Assured) → KeepsPlaces (F V)) (K : Shape → Bool) (W : VariableSet) (S : BodySets) (m : Bool) (ds : List (List ℕ)) (k : ℕ) (t u : Tree) (s : OwnStep (own_rows F t (S k)) no_symbols StatementList t u) where
+module _ (F : OwnRows) (keeps : (V : Assured) → KeepsOwn V (F V)) (places : (V : Assured) → KeepsPlaces (F V)) (K : Shape → Bool) (W : VariableSet) (S : BodySets) (m : Bool) (ds : List (List ℕ)) (k : ℕ) (t u : Tree) (s : OwnStep (own_rows F t (S k)) nothing_begun StatementList t u) where
   abbrev f : Tree
   f = program_over m ds k t
 
@@ -111,7 +111,7 @@ module _ (F : OwnRows) (keeps : (V : Assured) → KeepsOwn V (F V)) (places : (V
 
 module _ (F : OwnRows) (keeps : (V : Assured) → KeepsOwn V (F V)) (S : BodySets) where
   -- what holds of each such program holds of what a row reads and writes
-  by_row : (P : Position → Tree → Tree → Type 0) → ((m : Bool) (ds : List (List ℕ)) (k : ℕ) (t u : Tree) → OwnStep (own_rows F t (S k)) no_symbols StatementList t u → P Elsewhere (program_over m ds k t) (program_over m ds k u)) → (p : Position) (n w : Tree) → OwnProgram F S p n w → P p n w
+  by_row : (P : Position → Tree → Tree → Type 0) → ((m : Bool) (ds : List (List ℕ)) (k : ℕ) (t u : Tree) → OwnStep (own_rows F t (S k)) nothing_begun StatementList t u → P Elsewhere (program_over m ds k t) (program_over m ds k u)) → (p : Position) (n w : Tree) → OwnProgram F S p n w → P p n w
   by_row P h Elsewhere n w r = subst (λ v. P Elsewhere v w) (sym r.shape) (subst (P Elsewhere (program_over r.is_module r.directives r.number r.before)) (sym r.written) (h r.is_module r.directives r.number r.before r.after r.step))
   by_row P h p n w r = absurd r
 

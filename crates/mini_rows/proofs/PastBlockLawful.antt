@@ -51,7 +51,7 @@ use Rattle.mini_kept.proofs.WithoutLists as without
 use Rattle.mini_rows.specs.OwnArrows.{arrow_over, OwnCode}
 use Rattle.mini_rows.specs.OwnPrograms.{program_over, OwnProgram}
 use Rattle.mini_rows.specs.PastBlocks.{PastBlocks, PastBlocksAreLawful, PastBlocksAreLawfulInPrograms}
-use Rattle.mini_rows.specs.Steady.{no_symbols, own_rows, OwnStep, own_first, OwnFunctionRow}
+use Rattle.mini_rows.specs.Steady.{nothing_begun, own_rows, OwnStep, own_first, OwnFunctionRow}
 use Rattle.mini_rows.proofs.OwnArrowLawful.{body_fits, created_same as arrow_created}
 use Rattle.mini_rows.proofs.OwnLosses.{LosesThere, some_step, lost_step, lost_read, lost_kind, lost_bodies, lost_runs, lost_runs_over}
 use Rattle.mini_rows.proofs.PastBlockKept.{Loses, at_block, loses_names, loses_shapes, loses_places, loses_read}
@@ -124,8 +124,8 @@ module _ (E : VariableSet) (O : Position → Tree → Tree → Type 0) where
 
 -- one whose body takes such a step, over what S says of the body with a number
 data Owner (S : BodySets) (k : ℕ) (number : ℕ) : Position → Tree → Tree → Type 0 where
-  a_function : (p : Position) (d g : Bool) (ds : List (List ℕ)) (name ps t u : Tree) → OwnStep (LosesThere t (S number) k) no_symbols Elsewhere t u → Owner S k number p (function_over d g ds number name ps t) (function_over d g ds number name ps u)
-  an_arrow : (q : Seat) (ds : List (List ℕ)) (ps t u : Tree) → OwnStep (LosesThere t (S number) k) no_symbols (Expr argument_seat) t u → Owner S k number (Expr q) (arrow_over ds number ps t) (arrow_over ds number ps u)
+  a_function : (p : Position) (d g : Bool) (ds : List (List ℕ)) (name ps t u : Tree) → OwnStep (LosesThere t (S number) k) nothing_begun Elsewhere t u → Owner S k number p (function_over d g ds number name ps t) (function_over d g ds number name ps u)
+  an_arrow : (q : Seat) (ds : List (List ℕ)) (ps t u : Tree) → OwnStep (LosesThere t (S number) k) nothing_begun (Expr argument_seat) t u → Owner S k number (Expr q) (arrow_over ds number ps t) (arrow_over ds number ps u)
 
 module _ (S : BodySets) (k number : ℕ) where
   abbrev O : Position → Tree → Tree → Type 0
@@ -262,14 +262,14 @@ module _ (S : BodySets) where
 
   -- ---- the program itself
 
-  module _ (K : Shape → Bool) (W : VariableSet) (m : Bool) (ds : List (List ℕ)) (number : ℕ) (t u : Tree) (r : OwnStep (own_rows PastBlocks t (S number)) no_symbols StatementList t u) where
+  module _ (K : Shape → Bool) (W : VariableSet) (m : Bool) (ds : List (List ℕ)) (number : ℕ) (t u : Tree) (r : OwnStep (own_rows PastBlocks t (S number)) nothing_begun StatementList t u) where
     abbrev known : Assured
     known = S number
 
     abbrev lost_there : ℕ
     lost_there = (some_step t known r).0
 
-    abbrev own_step : OwnStep (LosesThere t known lost_there) no_symbols StatementList t u
+    abbrev own_step : OwnStep (LosesThere t known lost_there) nothing_begun StatementList t u
     own_step = (some_step t known r).1
 
     abbrev gone_there : VariableSet
@@ -295,7 +295,7 @@ module _ (S : BodySets) where
     whole_kept : IsWellShaped f → ProgramIsKeptUnder K W S f f'
     whole_kept e = program_kept lost_there K W S f f' (inside Elsewhere (shape.Program m ds) [] number (t ▸ none) (u ▸ none) (first _ t u none (lost_step t known lost_there own_step))) e refl program_bodies
 
-  of_program : (P : Tree → Tree → Type 0) → ((m : Bool) (ds : List (List ℕ)) (number : ℕ) (t u : Tree) → OwnStep (own_rows PastBlocks t (S number)) no_symbols StatementList t u → P (program_over m ds number t) (program_over m ds number u)) → (p : Position) (n w : Tree) → OwnProgram PastBlocks S p n w → P n w
+  of_program : (P : Tree → Tree → Type 0) → ((m : Bool) (ds : List (List ℕ)) (number : ℕ) (t u : Tree) → OwnStep (own_rows PastBlocks t (S number)) nothing_begun StatementList t u → P (program_over m ds number t) (program_over m ds number u)) → (p : Position) (n w : Tree) → OwnProgram PastBlocks S p n w → P n w
   of_program P h Elsewhere n w r = subst (λ v. P v w) (sym r.shape) (subst (P (program_over r.is_module r.directives r.number r.before)) (sym r.written) (h r.is_module r.directives r.number r.before r.after r.step))
   of_program P h p n w r = absurd r
 

@@ -34,7 +34,7 @@ use Rattle.mini_kept.proofs.Rooted.{step_on, step_of, bodies_rooted}
 use Rattle.mini_kept.proofs.WithoutLists.{each_under, itself_under}
 use Rattle.mini_rows.specs.OwnParts.{block_over, inner_over, OwnPart}
 use Rattle.mini_rows.specs.PastBlocks.{PastBlocks, PastBlocksAreLawfulInParts}
-use Rattle.mini_rows.specs.Steady.{no_symbols, OwnStep, own_first, has_body}
+use Rattle.mini_rows.specs.Steady.{nothing_begun, OwnStep, own_first, has_body}
 use Rattle.mini_rows.proofs.OwnLosses.{LosesThere, some_step, lost_step, lost_read, lost_bodies, lost_runs_over}
 use Rattle.mini_rows.proofs.OwnPartLawful.{bodiless, inert_bodiless, inert_piece}
 use Rattle.mini_rows.proofs.PartPlaces.{is_part, Bare, bare_here, bare_inside, BareIn, bare_first, bare_later, Innermost, innermost, step_innermost}
@@ -45,8 +45,8 @@ use Rattle.mini_rows.proofs.SteadyLawful.{at_start, over_off, known_begins}
 
 -- a part whose code takes such a step, over what S says of the body with its number
 data Owner (S : BodySets) (k : ℕ) (number : ℕ) : Position → Tree → Tree → Type 0 where
-  a_block : (p : Position) (t u : Tree) → OwnStep (LosesThere t (S number) k) no_symbols StatementList t u → Owner S k number p (block_over number t) (block_over number u)
-  an_inner : (p : Position) (t u : Tree) → OwnStep (LosesThere t (S number) k) no_symbols p t u → Owner S k number p (inner_over number t) (inner_over number u)
+  a_block : (p : Position) (t u : Tree) → OwnStep (LosesThere t (S number) k) nothing_begun StatementList t u → Owner S k number p (block_over number t) (block_over number u)
+  an_inner : (p : Position) (t u : Tree) → OwnStep (LosesThere t (S number) k) nothing_begun p t u → Owner S k number p (inner_over number t) (inner_over number u)
 
 module _ (S : BodySets) (k number : ℕ) where
   abbrev V : Assured

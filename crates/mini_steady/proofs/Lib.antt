@@ -7,6 +7,8 @@ pub mod MemberRows
 pub mod IdleRows
 pub mod Owning
 pub mod Letting
+pub mod Beginnings
+pub mod Begun
 pub mod FunctionSteps
 pub mod ArrowSteps
 pub mod ProgramSteps

@@ -3,6 +3,7 @@
 #![tactic(auto)]
 
 mod arrows;
+mod beginnings;
 mod bindings;
 mod code;
 mod functions;

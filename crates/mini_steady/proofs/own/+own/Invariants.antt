@@ -2,7 +2,7 @@ use Rattle.std.proofs.Common.{◌+◌, ◌*◌}
 use Rattle.mini_model.specs.Tree.{node_count}
 use Rattle.mini_steady.specs.Declarations.{begun_by}
 use Rattle.mini_steady.specs.Own.{rows_there}
-use Rattle.mini_steady.proofs.Letting.{BegunTo}
+use Rattle.mini_steady.proofs.Begun.{BegunTo}
 use Rattle.mini_steady.proofs.Owning.{OwnWalkedTo}
 use Rattle.mini_steady.proofs.own.+own.Given as goal
 
