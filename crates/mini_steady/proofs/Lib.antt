@@ -6,7 +6,7 @@ pub mod LeftParts
 pub mod MemberRows
 pub mod Owning
 pub mod Letting
-pub mod Beginnings
+pub mod Behind
 pub mod Begun
 pub mod FunctionSteps
 pub mod ArrowSteps
