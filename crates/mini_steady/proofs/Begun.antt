@@ -15,7 +15,7 @@ use Rattle.mini_steady.specs.Declarations.{is_listed, begin_in, unlisted, known_
 use Rattle.mini_steady.specs.Own.{KeepsEach, begun_in, rows_there, OwnWalked, AppliedHere, AsBefore, BeginsBesides}
 use Rattle.mini_steady.specs.declared.code.BodyCode.{BodyCode}
 use Rattle.mini_steady.proofs.Declaring.{either_listed}
-use Rattle.mini_steady.proofs.Beginnings.{begins_there}
+use Rattle.mini_steady.proofs.Behind.{begins_there}
 
 -- ---- what is begun at a child
 

@@ -7,7 +7,7 @@ pub mod MemberRows
 pub mod IdleRows
 pub mod Owning
 pub mod Letting
-pub mod Beginnings
+pub mod Behind
 pub mod Begun
 pub mod FunctionSteps
 pub mod ArrowSteps

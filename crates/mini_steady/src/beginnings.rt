@@ -59,7 +59,7 @@ fn is_for_each(shape: &Shape) -> bool
 }
 
 // Whether what the child declares begins behind it.
-#[tactic(auto, using(crate::proofs::Beginnings::of_child))]
+#[tactic(auto, using(crate::proofs::Behind::of_child))]
 fn begins_child(shape: &Shape, place: Position, at: usize, in_lexical: bool) -> bool
     ensures { result ≡ row.is_of_child (beginning in_lexical shape.now place at) }
 {
@@ -68,7 +68,7 @@ fn begins_child(shape: &Shape, place: Position, at: usize, in_lexical: bool) -> 
 }
 
 // Whether what the head of a loop declares begins behind it.
-#[tactic(auto, using(crate::proofs::Beginnings::of_head))]
+#[tactic(auto, using(crate::proofs::Behind::of_head))]
 fn begins_head(shape: &Shape, place: Position, at: usize, in_lexical: bool) -> bool
     ensures { result ≡ row.is_of_head (beginning in_lexical shape.now place at) }
 {
@@ -76,7 +76,7 @@ fn begins_head(shape: &Shape, place: Position, at: usize, in_lexical: bool) -> b
 }
 
 /// Whether the children of a node are the list of a `let` or a `const`.
-#[tactic(auto, using(crate::proofs::Beginnings::lists_it))]
+#[tactic(auto, using(crate::proofs::Behind::lists_it))]
 pub fn lists_lexical(shape: &Shape, place: Position) -> bool
     ensures { result ≡ lists_it_lexical shape.now place }
 {
@@ -95,7 +95,7 @@ fn is_lexical_shape(shape: &Shape) -> bool
 
 // Whether it is one.
 #[cycle(heads)]
-#[tactic(auto, using(crate::proofs::Beginnings::opened_lexical))]
+#[tactic(auto, using(crate::proofs::Behind::opened_lexical))]
 fn is_lexical(node: &Node) -> bool
     ensures { result ≡ row.is_lexical node.now }
 {

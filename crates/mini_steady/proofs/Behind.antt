@@ -1,7 +1,7 @@
 -- What begins behind a child of a node, as the code gathers it, is what does.
 use Rattle.std.proofs.Common.{◌≡◌, ℕ, zero, suc, Bool, true, false, List, [], Option, Some, None, refl, sym, ap, ◌∙◌, arith}
 use Rattle.std.specs.Prelude.{◌&&◌, ◌||◌, ◌==◌, if◌then◌else◌}
-use Rattle.std.proofs.lemmas.Bool.{eqb-true, false≢true}
+use Rattle.std.proofs.lemmas.Bool.{eqb-true}
 use Rattle.mini_model.specs.declared.kind.VariableDeclarationKind.{VariableDeclarationKind}
 use Rattle.mini_model.specs.declared.kind.VariableDeclarationKind.TheVariants.{Var, Let, Const}
 use Rattle.mini_model.specs.declared.name.Name.{Name}
@@ -14,9 +14,8 @@ use Rattle.mini_model.specs.declared.shape.Shape.TheVariants as shape
 use Rattle.mini_model.specs.Tree.{Tree, Trees, node, none, ◌▸◌, children, shape_of, child_or_absent}
 use Rattle.mini_laws.specs.Naming.{Summary, AClass, Declared as What, Variables, is_lexical as is_lexical_kind, summary, summaries, first_facts, facts_all, facts_of}
 use Rattle.mini_laws.specs.Value.{Variable, Declared, choose, is_in}
-use Rattle.mini_node.specs.Children.{part}
 use Rattle.mini_rows.specs.Steady.{lists_lexical, Beginning, OfChild, OfHead, OfNone, beginning, nth_lets, lets_as, head_lets, begins_by}
-use Rattle.mini_steady.specs.Declarations.{is_listed, is_negation, is_of_child, is_of_head, is_statement_list, is_comma_list, is_catch, is_for, is_for_each, is_lexical_shape, may_begin, is_lexical, is_lexical_first, lets_in, lets_if, begin_by, begin_in}
+use Rattle.mini_steady.specs.Declarations.{is_listed, is_negation, is_of_child, is_of_head, is_statement_list, is_comma_list, is_catch, is_for, is_for_each, is_lexical_shape, may_begin, is_lexical, is_lexical_first, lets_in, lets_if, begin_by}
 use Rattle.mini_steady.proofs.Letting.{lets_there}
 
 -- ---- where it is declared
@@ -159,32 +158,3 @@ module _ (k : ℕ) where
   begins_there OfChild (node h xs n ts) i = child_begins ts i
   begins_there OfHead (node h xs n ts) i = head_begins ts
   begins_there OfNone t i = refl
-
--- ---- as the code takes it
-
-of_child_is : (b : Beginning) (t : Tree) (i : ℕ) → is_of_child b ≡ true → lets_if true (part t i) ≡ begin_by b t i
-of_child_is OfChild t i e = refl
-of_child_is OfHead t i e = absurd (false≢true e)
-of_child_is OfNone t i e = absurd (false≢true e)
-
-of_head_is : (b : Beginning) (t : Tree) (i : ℕ) → is_of_head b ≡ true → lets_if (is_lexical (part t 0)) (part t 0) ≡ begin_by b t i
-of_head_is OfChild t i e = absurd (false≢true e)
-of_head_is OfHead t i e = refl
-of_head_is OfNone t i e = absurd (false≢true e)
-
-of_neither : (b : Beginning) (t : Tree) (i : ℕ) → is_of_child b ≡ false → is_of_head b ≡ false → [] ≡ begin_by b t i
-of_neither OfChild t i e f = absurd (false≢true (sym e))
-of_neither OfHead t i e f = absurd (false≢true (sym f))
-of_neither OfNone t i e f = refl
-
--- the child, and the shape that the code looked at
-pub by_child : (c : Bool) (h : Shape) (p : Position) (t x : Tree) (i : ℕ) (r : Bool) → h ≡ shape_of t → r ≡ is_of_child (beginning c h p i) → r ≡ true → x ≡ part t i → lets_if true x ≡ begin_in c p t i
-by_child c h p t x i r e f g there = ap (lets_if true) there ∙ of_child_is (beginning c (shape_of t) p i) t i (sym (f ∙ ap (λ h. is_of_child (beginning c h p i)) e) ∙ g)
-
-pub by_head : (c : Bool) (h : Shape) (p : Position) (t x : Tree) (i : ℕ) (r b : Bool) → h ≡ shape_of t → r ≡ is_of_head (beginning c h p i) → r ≡ true → x ≡ part t 0 → b ≡ is_lexical x → lets_if b x ≡ begin_in c p t i
-by_head c h p t x i r b e f g there is =
-    ap (λ b. lets_if b x) is ∙ ap (λ x. lets_if (is_lexical x) x) there ∙ of_head_is (beginning c (shape_of t) p i) t i (sym (f ∙ ap (λ h. is_of_head (beginning c h p i)) e) ∙ g)
-
-pub by_neither : (c : Bool) (h k : Shape) (p : Position) (t : Tree) (i : ℕ) (r s : Bool) → h ≡ shape_of t → k ≡ shape_of t → r ≡ is_of_child (beginning c h p i) → s ≡ is_of_head (beginning c k p i) → r ≡ false → s ≡ false → [] ≡ begin_in c p t i
-by_neither c h k p t i r s d e f g no none =
-    of_neither (beginning c (shape_of t) p i) t i (sym (f ∙ ap (λ h. is_of_child (beginning c h p i)) d) ∙ no) (sym (g ∙ ap (λ h. is_of_head (beginning c h p i)) e) ∙ none)
