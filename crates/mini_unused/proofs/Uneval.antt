@@ -16,6 +16,7 @@ use Rattle.mini_rows.specs.Lists.{declaration, Each, EachIn, EachOf, each_loop}
 use Rattle.mini_rows.specs.Unused.{is_short, can_be_full, in_full, may_hold, is_idle, any_names, names, begins, goes_on, may_go_on, has_branches, leads, holds_list, is_childless, is_first, leads_to, put_first, put_among, is_reached, passes_at, is_called_by_value, suits, are_passed, are_passed_in, all_passed, is_head_shape, reads_first, reads_head, evaluated, may_move, gathered_below}
 use Rattle.mini_unused.specs.RemoveUnusedDeclaration.{declares_list, may_declare, declares_name, may_lose, is_free_at, is_unused_declarator, list_at, statement_left, let_left}
 use Rattle.mini_rows.specs.declared.gathered.Gathered.{Gathered}
+use Rattle.mini_rows.specs.declared.gathered.Gathered.TheVariants.{Values as OfValues}
 use Rattle.mini_rows.specs.Declarations.{declarator}
 use Rattle.mini_unused.specs.SubstituteNext.{reads_then, put_named, is_declarator, is_mentioned_beside, is_mentioned_elsewhere, is_read_then, declarators_next, NextGone}
 use Rattle.mini_unused.specs.SubstituteSingleUse.{declaration_left, last_place, reads_next, is_declared_over, is_mentioned_around, is_read_once, NameGone, ReadGone, Gone}
@@ -308,7 +309,7 @@ put_along_head x r t f p e g = by (heads x t f)
     by (inr (inr (inl i))) = ap has_eval (i.puts r) ∙ put_outside i.seat i.value (put_first x r i.value) (put_there x false r i.value i.once (seated_along x r i.seat i.value (mentioned x false i.value i.once) (sym (ap (suits_along x r) (i.evaluates ∙ i.is)) ∙ p)) e) (sym (ap has_eval i.is) ∙ g)
 
 put_there_head : (x : Name) (r t : Tree) → reads_head x t ≡ true → are_passed x r (evaluated t) ≡ true → has_eval r ≡ false → has_eval t ≡ false → has_eval (put_first x r t) ≡ false
-put_there_head x r t f p e g = put_along_head x r t f (passed_along x false r (evaluated t) p) e g
+put_there_head x r t f p e g = put_along_head x r t f (passed_along x OfValues r (evaluated t) p) e g
 
 -- ---- a declaration whose declarator has another tree in what it reads first
 
@@ -364,7 +365,7 @@ then_put [] d e o ds j ts i h f g = absurd (true≢false (sym h))
 then_put (x ∷ xs) d e o ds j ts i h f g =
     let read = (and_parts (reads_then x (part d 1) e) (not (is_mentioned_beside x d e ds j) && (not (names x o) && not (is_mentioned_elsewhere x ts i))) h).0 in
     let (first, passed) = and_parts (is_first x false (part e 1)) (are_passed x (part d 1) (part e 1)) read in
-    put_there x false (part d 1) (part e 1) first (passed_along x false (part d 1) (part e 1) passed) f g
+    put_there x false (part d 1) (part e 1) first (passed_along x OfValues (part d 1) (part e 1) passed) f g
 
 module _ (W : VariableSet) (o l m : Tree) (c : Unseen o l) where
   name_gone : NameGone W o l m → Unseen o m
