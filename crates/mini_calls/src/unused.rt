@@ -90,6 +90,7 @@ impl PeepholeOptimizations {
 
     /// Whether 72 would take the declarator at the second place of the declaration at the first, in a list of statements with what stands outside of
     /// them, if it stood in a declaration of its own: of `let x = a(), y = b(); c(y);` it would take `x = a()`, which leaves `a();`.
+    /// Where a list stands outside of them, as that of the nodes above a list further inside a body, it takes those of `var`s alone.
     pub fn should_remove_unused_declarator(
         &self,
         outside: &Node,
@@ -107,8 +108,8 @@ impl PeepholeOptimizations {
         mini_unused::should_remove_unused_declarator(outside, list, at, which, scopes)
     }
 
-    /// Of a list of statements with what stands outside of them, `let x = a(), y = x.b;` becomes `let y = a().b;`, for the first such name. The
-    /// answer says whether there was one.
+    /// Of a list of statements with what stands outside of them, `let x = a(), y = x.b;` becomes `let y = a().b;`, for the first such name; where
+    /// a list stands outside, of a `var` alone. The answer says whether there was one.
     pub fn substitute_within(&self, outside: &Node, list: &mut Node, scopes: &Scopes) -> bool
         requires { is_it_listed list.old ≡ true }
         ensures { Within (open_in outside.now (marked scopes.now)) outside.now list.old list.new result }
