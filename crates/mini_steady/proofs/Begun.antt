@@ -16,6 +16,7 @@ use Rattle.mini_steady.specs.Own.{KeepsEach, begun_in, rows_there, OwnWalked, Ap
 use Rattle.mini_steady.specs.declared.code.BodyCode.{BodyCode}
 use Rattle.mini_steady.proofs.Declaring.{either_listed}
 use Rattle.mini_steady.proofs.Behind.{begins_there}
+use Rattle.mini_steady.proofs.Owning.{OwnWalkedTo}
 
 -- ---- what is begun at a child
 
@@ -38,7 +39,7 @@ begun_first p t c d number declared begun listed = record {
 }
 
 -- behind the child also what begins there is begun, as u, which is read as t, has it
-pub begun_next : (p : Position) (t u : Tree) (at : ℕ) (b : Bool) (c d m e : BodyCode) → b ≡ c.in_lexical → shape_of u ≡ shape_of t → summaries (children u) ≡ summaries (children t) → BegunTo p t at c d → AsBefore d m → BeginsBesides (begin_in b p u at) m e → BegunTo p t (at + 1) c e
+begun_next : (p : Position) (t u : Tree) (at : ℕ) (b : Bool) (c d m e : BodyCode) → b ≡ c.in_lexical → shape_of u ≡ shape_of t → summaries (children u) ≡ summaries (children t) → BegunTo p t at c d → AsBefore d m → BeginsBesides (begin_in b p u at) m e → BegunTo p t (at + 1) c e
 begun_next p t u at b c d m e flag shaped read before same more =
     let us = begin_in b p u at in
     let now = ap (λ ss. ss ++ us) same.begun in
@@ -53,6 +54,10 @@ begun_next p t u at b c d m e flag shaped read before same more =
       added = before.added ++ us;
       is = more.begun ∙ now ∙ ap (λ ss. ss ++ us) before.is ∙ append_assoc c.begun.items before.added us;
     }
+
+-- the same of what a walk over the children has come to
+pub begun_walked : (R : Begun → Position → Tree → Tree → Type 0) (L : Begun) (p : Position) (t u : Tree) (at : ℕ) (a b : Bool) (c d m e : BodyCode) → OwnWalkedTo R L p (at + 1) t u a → b ≡ c.in_lexical → BegunTo p t at c d → AsBefore d m → BeginsBesides (begin_in b p u at) m e → BegunTo p t (at + 1) c e
+begun_walked R L p t u at a b c d m e w flag before same more = begun_next p t u at b c d m e flag w.shape w.read before same more
 
 pub begun_left : (p : Position) (t : Tree) (at n : ℕ) (b : Bool) (c d e : BodyCode) → n ≡ length c.begun.items → b ≡ c.in_lexical → BegunTo p t at c d → e.number ≡ d.number → e.declared.items ≡ d.declared.items → e.begun.items ≡ take n d.begun.items → e.in_lexical ≡ b → AsBefore c e
 begun_left p t at n b c d e counted flag before number declared items listed = record {

@@ -4,7 +4,7 @@ use Rattle.mini_tree.proofs.Walks.{child_smaller}
 use Rattle.mini_rows.specs.Steady.{lists_lexical}
 use Rattle.mini_steady.specs.Declarations.{begun_by, known_there}
 use Rattle.mini_steady.specs.Own.{rows_there}
-use Rattle.mini_steady.proofs.Begun.{rows_read, applied_same, walked_same, as_was, begun_first, begun_next, begun_left}
+use Rattle.mini_steady.proofs.Begun.{rows_read, applied_same, walked_same, as_was, begun_first, begun_walked, begun_left}
 use Rattle.mini_steady.proofs.Owning.{edited_count, walked_none, walked_child, walked_all, walked_both, walked_closed}
 use Rattle.mini_steady.proofs.own.+own.Goals as goal
 
@@ -61,7 +61,7 @@ minimize_parts-loop-at-preserved g t c =
     let next = walked_child R reads (begun_by body) (begun_by now) _ _ _ c.len-count.result c.loop-at.at _ c.loop-at.node _ _ _ c.loop-at.changed _
         (c.child_place-stands.ensures, c.shape-in-loop-at.ensures, counted, c.children_mut.ensures.value, c.child_mut-child.ensures.value) begun.begun
         (omega (arith, c.loop-at-test.true)) c.loop-at.invariant.0 walked in
-    (next, begun_next c.args.place c.args.node.now _ c.loop-at.at c.is_in_lexical-was_lexical.result body now c.minimize_own_code.new.body c.push_behind.new.code c.is_in_lexical-was_lexical.ensures next.shape next.read begun c.in_ok-part.ensures.body c.in_ok-push_behind.ensures)
+    (next, begun_walked R (begun_by body) c.args.place c.args.node.now _ c.loop-at.at _ c.is_in_lexical-was_lexical.result body now c.minimize_own_code.new.body c.push_behind.new.code next c.is_in_lexical-was_lexical.ensures begun c.in_ok-part.ensures.body c.in_ok-push_behind.ensures)
 
 pub minimize_parts-returns-clause-walked : goal.minimize_parts-returns-clause-walked
 minimize_parts-returns-clause-walked g t c =
