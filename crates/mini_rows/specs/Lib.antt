@@ -45,6 +45,7 @@ pub mod PastBlocks
 pub mod Cases
 pub mod LoopGuards
 pub mod DeadCases
+pub mod DeadLexicals
 pub mod Lets
 pub mod Fading
 pub mod Lexical
