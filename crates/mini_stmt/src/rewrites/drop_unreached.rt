@@ -192,12 +192,7 @@ fn ends_at(list: &Nodes) -> Option<usize>
 }
 
 // What comes after the statement at a place, which ends in a jump, goes.
-fn drop_after(
-    alloc: Global,
-    going: Going,
-    list: &mut Nodes,
-    at: usize,
-) -> Result<bool, OutOfMemory>
+fn drop_after(alloc: Global, going: Going, list: &mut Nodes, at: usize) -> Result<bool, OutOfMemory>
     requires { EndsAt list.old (Some at) }
     ensures { IfOk result (λ changed. LeftBehind going list.old list.new changed) }
 {

@@ -135,11 +135,7 @@ fn initializer(alloc: Global, kind: VariableDeclarationKind) -> Node
 }
 
 // `x`, or `x = 0`
-fn declarator(
-    alloc: Global,
-    kind: VariableDeclarationKind,
-    name: Name,
-) -> Result<Node, OutOfMemory>
+fn declarator(alloc: Global, kind: VariableDeclarationKind, name: Name) -> Result<Node, OutOfMemory>
     ensures { IfOk result (λ made. made ≡ list.declarator (list.binding name) (row.initializer kind)) }
 {
     let binding = Node::with(Shape::BindingIdentifier, Some(name), 0, Nodes::new(alloc));

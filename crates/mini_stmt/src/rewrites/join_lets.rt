@@ -10,10 +10,10 @@ ghost use Rattle.mini_stmt.specs.JoinLets as row;
 ghost use Rattle.mini_stmt.specs.JoinLets.{AllJoined, Gives, Joined, JoinsLets, JoinsValues, PutJoined, Rests, WithValue, marked};
 ghost use Rattle.mini_stmt.specs.Lighter.{lets_lighter};
 
+use crate::rewrites::drop_lexicals::drop_lexicals;
 use crate::rewrites::join_assignments::{
     assigns_first, beginning_of, declares_bare, initialised, leave,
 };
-use crate::rewrites::drop_lexicals::drop_lexicals;
 use crate::rewrites::join_vars::declares;
 use crate::statements::{put_reversed, take_last};
 use mini_context::{Scopes, TraverseCtx};
@@ -234,11 +234,7 @@ pub fn join_lets(alloc: Global, node: &mut Node, scopes: &Scopes) -> Result<bool
 /// A list of statements without what either row of `let`s reads: values that are assigned go into the `let` before them, and where none
 /// does, what would initialize a class, a `let` or a `const` that never runs goes. The answer says whether the list changed; the only
 /// error is that memory runs out, and then the list is fit only to be dropped.
-pub fn minimize_lets(
-    alloc: Global,
-    node: &mut Node,
-    scopes: &Scopes,
-) -> Result<bool, OutOfMemory>
+pub fn minimize_lets(alloc: Global, node: &mut Node, scopes: &Scopes) -> Result<bool, OutOfMemory>
     ensures { IfOk result (JoinsLets (marked scopes.now) node.old node.new) }
 {
     if join_lets(alloc, node, scopes)? {
