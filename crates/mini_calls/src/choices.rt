@@ -9,6 +9,7 @@ ghost use Rattle.mini_choices.specs.JoinWithLeftAssociativeOp.{joined_left};
 ghost use Rattle.mini_choices.specs.MinimizeAssignedComparison.{written as written_of_minimize_assigned_comparison};
 ghost use Rattle.mini_choices.specs.MinimizeAssignedNullishComparison.{written as written_of_minimize_assigned_nullish_comparison};
 ghost use Rattle.mini_choices.specs.MinimizeConditionalBranches.{written as written_of_minimize_conditional_branches};
+ghost use Rattle.mini_choices.specs.MinimizeFirstPart.{written as written_of_minimize_first_part};
 ghost use Rattle.mini_choices.specs.MinimizeHeldBranches.{written as written_of_minimize_held_branches};
 ghost use Rattle.mini_choices.specs.MinimizeNormalAssignmentToCombinedAssignment.{written as written_of_minimize_normal_assignment_to_combined_assignment};
 ghost use Rattle.mini_choices.specs.MinimizeNormalAssignmentToCombinedLogicalAssignment.{marked, written as written_of_minimize_normal_assignment_to_combined_logical_assignment};
@@ -75,8 +76,8 @@ impl PeepholeOptimizations {
     }
 
     /// `x == null ? void 0 : x.m` becomes `x?.m`, and so do other members and calls over x, and `x != null ? x.m : void 0`; where a scope
-    /// declares x, and it isn't named `eval`. The answer says whether it did; the only error is that memory runs out, and then the
-    /// expression is fit only to be dropped.
+    /// declares x, and it isn't named `eval`. As a callee and under `delete` the chain stands behind a `0`, so that its value is read. The answer
+    /// says whether it did; the only error is that memory runs out, and then the expression is fit only to be dropped.
     pub fn inject_optional_chaining(
         &self,
         alloc: Global,
@@ -199,6 +200,21 @@ impl PeepholeOptimizations {
         ensures said { IfOk result (λ changed. changed ≡ is_some (written_of_evaluate_both_sides seat node.old)) }
     {
         mini_choices::evaluate_both_sides(alloc, node, seat)
+    }
+
+    /// Where a sequence is of two parts, of which the first has no effect, a literal 0 stands for it, if that is lighter: `(null, a.b)()` becomes
+    /// `(0, a.b)()`, where the last part would be read as a reference alone. The answer says whether it did; the only error is that memory runs out, and
+    /// then the expression is fit only to be dropped.
+    pub fn minimize_first_part(
+        &self,
+        alloc: Global,
+        node: &mut Node,
+        seat: Seat,
+    ) -> Result<bool, OutOfMemory>
+        ensures tree { OnOk result (node.new ≡ unwrap_or (written_of_minimize_first_part seat node.old) node.old) }
+        ensures said { IfOk result (λ changed. changed ≡ is_some (written_of_minimize_first_part seat node.old)) }
+    {
+        mini_choices::minimize_first_part(alloc, node, seat)
     }
 
     /// `(x = a) == null ? void 0 : x.m` becomes `(x = a)?.m`, and so do other members and calls over x, and `(x = a) != null ? x.m : void 0`,

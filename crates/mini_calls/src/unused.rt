@@ -58,8 +58,8 @@ impl PeepholeOptimizations {
         mini_unused::remove_unused_in_function(alloc, node, scopes)
     }
 
-    /// Of a module, as `import "a"; const x = f(); g();`, in which nothing else mentions x, of a static block of a class, and of a function
-    /// that is exported. The answer says whether a name went; the only error is that memory runs out.
+    /// Of a module, as `import "a"; const x = f(); g();`, in which nothing else mentions x, of a static block of a class, of each block of a
+    /// `try`, and of a function that is exported. The answer says whether a name went; the only error is that memory runs out.
     pub fn remove_unused_in_module(
         &self,
         alloc: Global,

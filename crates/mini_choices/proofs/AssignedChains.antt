@@ -12,7 +12,8 @@ use Rattle.mini_laws.specs.Value.{Declared, VariableSet}
 use Rattle.mini_node.specs.Children.{part, names_of}
 use Rattle.mini_node.specs.Kinds.{binary, is_conditional, is_null, binary_operator}
 use Rattle.mini_node.specs.Made.{conditional_is, null_is}
-use Rattle.mini_rows.specs.Chains.{reads_value, is_calm, spine, chain}
+use Rattle.mini_terms.specs.Exact.{kept_by_value}
+use Rattle.mini_rows.specs.Chains.{is_calm, spine, chain}
 use Rattle.mini_rows.specs.Choices.{assign}
 use Rattle.mini_rows.specs.Unused.{resolved}
 use Rattle.mini_rows.specs.Writes.{if_null, Row46AssignedChain}
@@ -48,8 +49,8 @@ asked_is W t e =
     }
 
 module _ (W : VariableSet) (s : Seat) (n : Tree) where
-  chains : (equal : Bool) (test missing read : Tree) → reads_value s.guard ≡ true → (a : Asked W test) → is_undefined missing ≡ true → is_spine (part (part test 0) 0) read ≡ true → n ≡ if_null equal (assign (resolved a.writes.spelling a.writes.symbol) (part (part test 0) 1)) missing read → Row46AssignedChain W s n (chain (optional_over (part test 0) read))
-  chains equal test missing read g a u e is =
+  chains : (equal : Bool) (test missing read : Tree) → (a : Asked W test) → is_undefined missing ≡ true → is_spine (part (part test 0) 0) read ≡ true → n ≡ if_null equal (assign (resolved a.writes.spelling a.writes.symbol) (part (part test 0) 1)) missing read → Row46AssignedChain W s n (kept_by_value s.guard (chain (optional_over (part test 0) read)))
+  chains equal test missing read a u e is =
       let x : Name = resolved a.writes.spelling a.writes.symbol in
       let sp = spine_of (identifier x) read (subst (λ y. is_spine y read ≡ true) a.writes.target e) in
       record {
@@ -65,32 +66,29 @@ module _ (W : VariableSet) (s : Seat) (n : Tree) where
         undefined = undefined_is missing u;
         calm_value = a.calm;
         calm = sp.calm;
-        valued = g;
         shape = is ∙ ap (if_null equal (assign x (part (part test 0) 1)) missing) sp.is;
-        written = ap chain (ap (λ t. optional_over t read) a.writes.is ∙ sp.over (assign x (part (part test 0) 1)));
+        written = ap (λ t. kept_by_value s.guard (chain t)) (ap (λ t. optional_over t read) a.writes.is ∙ sp.over (assign x (part (part test 0) 1)));
       }
 
-  last_row : is_assigned_last W s n ≡ true → Row46AssignedChain W s n (chained n (part n 2))
+  last_row : is_assigned_last W n ≡ true → Row46AssignedChain W s n (kept_by_value s.guard (chained n (part n 2)))
   last_row h =
       let test = part n 0 in
-      let (chooses, h1) = and_parts (is_conditional n) (reads_value s.guard && (is_equal_in (binary_operator test) && reads_assigned W test (part n 1) (part n 2))) h in
-      let (guard, h2) = and_parts (reads_value s.guard) (is_equal_in (binary_operator test) && reads_assigned W test (part n 1) (part n 2)) h1 in
+      let (chooses, h2) = and_parts (is_conditional n) (is_equal_in (binary_operator test) && reads_assigned W test (part n 1) (part n 2)) h in
       let (compares, h3) = and_parts (is_equal_in (binary_operator test)) (reads_assigned W test (part n 1) (part n 2)) h2 in
       let (asks, h4) = and_parts (asks_assigned W test) (is_undefined (part n 1) && is_spine (part (part test 0) 0) (part n 2)) h3 in
       let (undefined, spined) = and_parts (is_undefined (part n 1)) (is_spine (part (part test 0) 0) (part n 2)) h4 in
       let a = asked_is W test asks in
-      chains true test (part n 1) (part n 2) guard a undefined spined (conditional_is n chooses ∙ ap (λ t. conditional t (part n 1) (part n 2)) (equal_is test compares ∙ (λ i. binary Equality (a.writes.is i) (a.null i))))
+      chains true test (part n 1) (part n 2) a undefined spined (conditional_is n chooses ∙ ap (λ t. conditional t (part n 1) (part n 2)) (equal_is test compares ∙ (λ i. binary Equality (a.writes.is i) (a.null i))))
 
-  first_row : is_assigned_first W s n ≡ true → Row46AssignedChain W s n (chained n (part n 1))
+  first_row : is_assigned_first W n ≡ true → Row46AssignedChain W s n (kept_by_value s.guard (chained n (part n 1)))
   first_row h =
       let test = part n 0 in
-      let (chooses, h1) = and_parts (is_conditional n) (reads_value s.guard && (is_unequal_in (binary_operator test) && reads_assigned W test (part n 2) (part n 1))) h in
-      let (guard, h2) = and_parts (reads_value s.guard) (is_unequal_in (binary_operator test) && reads_assigned W test (part n 2) (part n 1)) h1 in
+      let (chooses, h2) = and_parts (is_conditional n) (is_unequal_in (binary_operator test) && reads_assigned W test (part n 2) (part n 1)) h in
       let (compares, h3) = and_parts (is_unequal_in (binary_operator test)) (reads_assigned W test (part n 2) (part n 1)) h2 in
       let (asks, h4) = and_parts (asks_assigned W test) (is_undefined (part n 2) && is_spine (part (part test 0) 0) (part n 1)) h3 in
       let (undefined, spined) = and_parts (is_undefined (part n 2)) (is_spine (part (part test 0) 0) (part n 1)) h4 in
       let a = asked_is W test asks in
-      chains false test (part n 2) (part n 1) guard a undefined spined (conditional_is n chooses ∙ ap (λ t. conditional t (part n 1) (part n 2)) (unequal_is test compares ∙ (λ i. binary Inequality (a.writes.is i) (a.null i))))
+      chains false test (part n 2) (part n 1) a undefined spined (conditional_is n chooses ∙ ap (λ t. conditional t (part n 1) (part n 2)) (unequal_is test compares ∙ (λ i. binary Inequality (a.writes.is i) (a.null i))))
 
   module _ (w : Tree) where
     tried : (b : Bool) (made : Tree) (next : Option Tree) → (b ≡ true → Row46AssignedChain W s n made) → (next ≡ Some w → Row46AssignedChain W s n w) → (if b then Some made else next) ≡ Some w → Row46AssignedChain W s n w
@@ -98,7 +96,7 @@ module _ (W : VariableSet) (s : Seat) (n : Tree) where
     tried false made next f g e = g e
 
     pub chain_row : written W s n ≡ Some w → Row46AssignedChain W s n w
-    chain_row = tried (is_assigned_last W s n) (chained n (part n 2)) (first_written W s n) last_row (tried (is_assigned_first W s n) (chained n (part n 1)) None first_row (λ e. absurd (cc e)))
+    chain_row = tried (is_assigned_last W n) (kept_by_value s.guard (chained n (part n 2))) (first_written W s n) last_row (tried (is_assigned_first W n) (kept_by_value s.guard (chained n (part n 1))) None first_row (λ e. absurd (cc e)))
 
 -- ---- and what a row reads is written
 
@@ -119,8 +117,8 @@ module _ (W : VariableSet) (s : Seat) (n w : Tree) (r : Row46AssignedChain W s n
   asks equal = if_null equal (assign x r.a) r.missing read
 
   passes_by : (equal : Bool) → is_some (written W s (asks equal)) ≡ true
-  passes_by true = first_true (is_assigned_last W s (asks true)) (chained (asks true) read) (first_written W s (asks true)) (both_true (reads_value s.guard) _ r.valued reads)
-  passes_by false = later_true (is_assigned_last W s (asks false)) (chained (asks false) r.missing) (first_written W s (asks false)) (first_true (is_assigned_first W s (asks false)) (chained (asks false) read) None (both_true (reads_value s.guard) _ r.valued reads))
+  passes_by true = first_true (is_assigned_last W (asks true)) (kept_by_value s.guard (chained (asks true) read)) (first_written W s (asks true)) reads
+  passes_by false = later_true (is_assigned_last W (asks false)) (kept_by_value s.guard (chained (asks false) r.missing)) (first_written W s (asks false)) (first_true (is_assigned_first W (asks false)) (kept_by_value s.guard (chained (asks false) read)) None reads)
 
   pub chain_passes : is_some (written W s n) ≡ true
   chain_passes = ap (λ t. is_some (written W s t)) r.shape ∙ passes_by r.equal

@@ -22,9 +22,10 @@ use Rattle.mini_node.specs.Equal.{same_tree}
 use Rattle.mini_node.specs.Kinds.{binary, assignment, computed_member, is_logical, is_conditional, is_null, logical_operator, binary_operator, assignment_operator}
 use Rattle.mini_node.specs.Made.{assignment_is, logical_is, binary_is, conditional_is, null_is}
 use Rattle.mini_node.proofs.Equality.{tree_same, tree_itself}
+use Rattle.mini_terms.specs.Exact.{kept_by_value}
 use Rattle.mini_terms.specs.Folds.{is_effect_free}
 use Rattle.mini_rows.specs.Lists.{sequence}
-use Rattle.mini_rows.specs.Choices.{argument, assign, is_grouped, joined, strictly, joining, asks_object, null_compared, ended, deciding, may_choose, Row39, Row38, Row35, Row35Member, Row45, Row45Member, Key, member_of, Row46Equal, Row46Unequal, Row44, Row13Both, Row45Indexed, LighterRow, OwnRow, ChoiceRow, ChoiceContracts}
+use Rattle.mini_rows.specs.Choices.{argument, assign, is_grouped, joined, strictly, joining, asks_object, null_compared, ended, deciding, may_choose, Row39, Row38, Row35, Row35Member, Row45, Row45Member, Key, member_of, Row46Equal, Row46Unequal, Row44, Row13Both, Row45Indexed, Row21Zero, LighterRow, OwnRow, ChoiceRow, ChoiceContracts}
 use Rattle.mini_rows.proofs.ChoiceCalls.{calls_lighter}
 use Rattle.mini_rows.proofs.ChoiceIndexed.{indexed_lighter}
 use Rattle.mini_rows.proofs.ChoiceWeights as choice_weights
@@ -40,9 +41,11 @@ use Rattle.mini_choices.specs.MinimizeHeldBranches as held
 use Rattle.mini_choices.specs.InjectOptionalChaining as chains
 use Rattle.mini_choices.specs.FoldChainExpr as folded
 use Rattle.mini_choices.specs.EvaluateBothSides as both
+use Rattle.mini_choices.specs.MinimizeFirstPart as behind
 use Rattle.mini_choices.proofs.CombinedAssignment.{one_member, member_there, combined_row, combined_passes, combined_member_passes}
 use Rattle.mini_choices.proofs.LogicalSequence.{last_row, last_passes}
 use Rattle.mini_choices.proofs.BothSides.{both_row, both_passes}
+use Rattle.mini_choices.proofs.FirstParts.{zero_row, zero_passes}
 use Rattle.mini_choices.proofs.ChainLinks.{chain_is}
 use Rattle.mini_choices.proofs.ChainEnds.{of_chain, end_passes, folded_row, folded_passes}
 use Rattle.mini_choices.proofs.OptionalChains.{chain_row, chain_passes}
@@ -290,7 +293,7 @@ called_lighter : (s : Seat) (n w : Tree) → Row44 n w → ChoiceContracts (Expr
 called_lighter s n w r = record { row = inr (inr (inr (inr (inl r)))); lighter = calls_lighter s n w r }
 
 index_lighter : (s : Seat) (n w : Tree) → Row45Indexed s n w → ChoiceContracts (Expr s) n w
-index_lighter s n w r = record { row = inr (inr (inr (inr (inr (inr (inr (inr r))))))); lighter = indexed_lighter s n w r }
+index_lighter s n w r = record { row = inr (inr (inr (inr (inr (inr (inr (inr (inl r)))))))); lighter = indexed_lighter s n w r }
 
 module _ (s : Seat) (n w : Tree) where
   assigned_lighter : Row45 s n (branches.assigned n) ⊎ Row45Member s n (branches.assigned n) → ChoiceContracts (Expr s) n (branches.assigned n)
@@ -405,6 +408,7 @@ row_of s (node shape.ConditionalExpression xs m ts) w e = any_row (either_some (
     any_row (inl e) = chain_row s _ w e
     any_row (inr e) = conditional_row (either_some (held.written s (node shape.ConditionalExpression xs m ts)) (branches.written s (node shape.ConditionalExpression xs m ts)) w e)
 row_of s (node shape.ChainExpression xs m ts) w e = folded_row s (node shape.ChainExpression xs m ts) w e
+row_of s (node shape.SequenceExpression xs m ts) w e = zero_row s (node shape.SequenceExpression xs m ts) w e
 row_of s (node h xs m ts) w e = absurd (cc e)
 
 pub written_is_row : WrittenIsRow
@@ -434,7 +438,7 @@ chain_there s n h =
     first_of_both false c d x y e = e
 
     chooses : (t : Tree) → is_some (chains.written s t) ≡ true → is_conditional t ≡ true
-    chooses t e = first_of_both (is_conditional t) _ _ (chains.chained t (part t 2)) (chains.chained t (part t 1)) e
+    chooses t e = first_of_both (is_conditional t) _ _ (kept_by_value s.guard (chains.chained t (part t 2))) (kept_by_value s.guard (chains.chained t (part t 1))) e
 
 folded_there : (s : Seat) (n : Tree) → is_some (folded.written s n) ≡ true → is_some (written s n) ≡ true
 folded_there s n h = ap (λ t. is_some (written s t)) (chain_is n (of_chain s n h)) ∙ sym (ap (λ t. is_some (folded.written s t)) (chain_is n (of_chain s n h))) ∙ h
@@ -455,6 +459,9 @@ both_there : (s : Seat) (n w : Tree) → Row13Both n w → is_some (both.written
 both_there s n w r h =
     let t : Tree = logical r.operator r.left r.right in
     ap (λ t. is_some (written s t)) r.shape ∙ first_there (both.written s t) (first_of (decide_last.written s t) (operands_written t)) (sym (ap (λ t. is_some (both.written s t)) r.shape) ∙ h)
+
+zero_there : (s : Seat) (n w : Tree) → Row21Zero n w → is_some (behind.written s n) ≡ true → is_some (written s n) ≡ true
+zero_there s n w r h = ap (λ t. is_some (written s t)) r.shape ∙ sym (ap (λ t. is_some (behind.written s t)) r.shape) ∙ h
 
 sure_passes : (s : Seat) (n w : Tree) → LighterRow s n w → is_some (written s n) ≡ true
 sure_passes s n w (inl r) =
@@ -509,7 +516,8 @@ passes s n w (inr (inr (inr (inl r)))) small less = chain_there s n (chain_passe
 passes s n w (inr (inr (inr (inr (inr (inl r)))))) small less = folded_there s n (folded_passes s n w r)
 passes s n w (inr (inr (inr (inr (inr (inr (inl r))))))) small less = folded_there s n (end_passes s n w r small less)
 passes s n w (inr (inr (inr (inr (inr (inr (inr (inl r)))))))) small less = both_there s n w r (both_passes s n w r small less)
-passes s n w (inr (inr (inr (inr (inr (inr (inr (inr r)))))))) small less =
+passes s n w (inr (inr (inr (inr (inr (inr (inr (inr (inr r))))))))) small less = zero_there s n w r (zero_passes s n w r small less)
+passes s n w (inr (inr (inr (inr (inr (inr (inr (inr (inl r))))))))) small less =
     let t : Tree = computed_member (identifier r.name) r.key in
     let u : Tree = conditional r.a (assignment Assign t r.b) (assignment Assign t r.c) in
     ap (λ t. is_some (written s t)) r.shape ∙ in_branches s u (by_indexed s u (indexed_passes s n w r))

@@ -32,7 +32,7 @@ two_is none e = absurd (false≢true e)
 two_is (t ▸ none) e = absurd (false≢true e)
 two_is (t ▸ u ▸ v ▸ ts) e = absurd (false≢true e)
 
-pair_is : (t : Tree) → held.is_pair t ≡ true → t ≡ pair (item t 0) (item t 1)
+pub pair_is : (t : Tree) → held.is_pair t ≡ true → t ≡ pair (item t 0) (item t 1)
 pair_is t e =
     let (is, two) = and_parts (is_sequence t) (has_count (children (part t 0)) 2) e in
     sequence_is t is ∙ ap sequence (two_is (children (part t 0)) two)

@@ -5,6 +5,7 @@ pub mod Spines
 pub mod LeftJoins
 pub mod HeldBranches
 pub mod BothSides
+pub mod FirstParts
 pub mod CombinedAssignment
 pub mod LogicalSequence
 pub mod Calls

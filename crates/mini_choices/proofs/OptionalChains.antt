@@ -16,7 +16,8 @@ use Rattle.mini_node.specs.Made.{static_member_is, computed_member_is, call_expr
 use Rattle.mini_node.specs.Walks.{next_child, no_rest}
 use Rattle.mini_node.proofs.Equality.{tree_same, tree_itself}
 use Rattle.mini_rows.specs.Choices.{ChoiceContracts}
-use Rattle.mini_rows.specs.Chains.{reads_value, is_closed_shape, is_open_shape, is_word_shape, is_calm, are_calm, Link, a_member, a_computed, a_call, linked, spine, is_calm_link, are_calm_links, chain, if_nullish, Row46Chain}
+use Rattle.mini_terms.specs.Exact.{kept_by_value}
+use Rattle.mini_rows.specs.Chains.{is_closed_shape, is_open_shape, is_word_shape, is_calm, are_calm, Link, a_member, a_computed, a_call, linked, spine, is_calm_link, are_calm_links, chain, if_nullish, Row46Chain}
 use Rattle.mini_rows.proofs.ChainLawful.{chain_row_lighter}
 use Rattle.mini_choices.specs.Assigning.{is_declared}
 use Rattle.mini_choices.specs.Forms.{is_undefined}
@@ -228,10 +229,10 @@ asked_is t e =
     }
 
 module _ (s : Seat) (n : Tree) where
-  chains : (equal : Bool) (test missing read : Tree) → reads_value s.guard ≡ true → (a : Asked test) → is_undefined missing ≡ true → is_spine (part test 0) read ≡ true → n ≡ if_nullish equal a.name missing read → ChoiceContracts (Expr s) n (chain (optional_over (part test 0) read))
-  chains equal test missing read g a u e is =
+  chains : (equal : Bool) (test missing read : Tree) → (a : Asked test) → is_undefined missing ≡ true → is_spine (part test 0) read ≡ true → n ≡ if_nullish equal a.name missing read → ChoiceContracts (Expr s) n (kept_by_value s.guard (chain (optional_over (part test 0) read)))
+  chains equal test missing read a u e is =
       let sp = spine_of (identifier a.name) read (subst (λ x. is_spine x read ≡ true) a.named e) in
-      let row : Row46Chain s n (chain (optional_over (part test 0) read)) = record {
+      let row : Row46Chain s n (kept_by_value s.guard (chain (optional_over (part test 0) read))) = record {
         equal = equal;
         name = a.name;
         missing = missing;
@@ -241,38 +242,35 @@ module _ (s : Seat) (n : Tree) where
         indirect = a.indirect;
         undefined = undefined_is missing u;
         calm = sp.calm;
-        valued = g;
         shape = is ∙ ap (if_nullish equal a.name missing) sp.is;
-        written = ap chain (ap (λ u. optional_over u read) a.named ∙ sp.over (identifier a.name));
+        written = ap (λ t. kept_by_value s.guard (chain t)) (ap (λ u. optional_over u read) a.named ∙ sp.over (identifier a.name));
       } in
-      record { row = inr (inr (inr (inl row))); lighter = chain_row_lighter s n (chain (optional_over (part test 0) read)) row }
+      record { row = inr (inr (inr (inl row))); lighter = chain_row_lighter s n (kept_by_value s.guard (chain (optional_over (part test 0) read))) row }
 
-  last_row : is_read_last s n ≡ true → ChoiceContracts (Expr s) n (chained n (part n 2))
+  last_row : is_read_last n ≡ true → ChoiceContracts (Expr s) n (kept_by_value s.guard (chained n (part n 2)))
   last_row h =
-      let (chooses, h1) = and_parts (is_conditional n) (reads_value s.guard && (is_equal_in (binary_operator (part n 0)) && reads_name (part n 0) (part n 1) (part n 2))) h in
-      let (guard, h2) = and_parts (reads_value s.guard) (is_equal_in (binary_operator (part n 0)) && reads_name (part n 0) (part n 1) (part n 2)) h1 in
+      let (chooses, h2) = and_parts (is_conditional n) (is_equal_in (binary_operator (part n 0)) && reads_name (part n 0) (part n 1) (part n 2)) h in
       let (compares, h3) = and_parts (is_equal_in (binary_operator (part n 0))) (reads_name (part n 0) (part n 1) (part n 2)) h2 in
       let (asks, h4) = and_parts (asks_name (part n 0)) (is_undefined (part n 1) && is_spine (part (part n 0) 0) (part n 2)) h3 in
       let (undefined, spined) = and_parts (is_undefined (part n 1)) (is_spine (part (part n 0) 0) (part n 2)) h4 in
       let a = asked_is (part n 0) asks in
       let test : part n 0 ≡ binary Equality (identifier a.name) null_literal = equal_is (part n 0) compares ∙ (λ i. binary Equality (a.named i) (a.null i)) in
-      chains true (part n 0) (part n 1) (part n 2) guard a undefined spined (conditional_is n chooses ∙ ap (λ t. conditional t (part n 1) (part n 2)) test)
+      chains true (part n 0) (part n 1) (part n 2) a undefined spined (conditional_is n chooses ∙ ap (λ t. conditional t (part n 1) (part n 2)) test)
 
-  first_row : is_read_first s n ≡ true → ChoiceContracts (Expr s) n (chained n (part n 1))
+  first_row : is_read_first n ≡ true → ChoiceContracts (Expr s) n (kept_by_value s.guard (chained n (part n 1)))
   first_row h =
-      let (chooses, h1) = and_parts (is_conditional n) (reads_value s.guard && (is_unequal_in (binary_operator (part n 0)) && reads_name (part n 0) (part n 2) (part n 1))) h in
-      let (guard, h2) = and_parts (reads_value s.guard) (is_unequal_in (binary_operator (part n 0)) && reads_name (part n 0) (part n 2) (part n 1)) h1 in
+      let (chooses, h2) = and_parts (is_conditional n) (is_unequal_in (binary_operator (part n 0)) && reads_name (part n 0) (part n 2) (part n 1)) h in
       let (compares, h3) = and_parts (is_unequal_in (binary_operator (part n 0))) (reads_name (part n 0) (part n 2) (part n 1)) h2 in
       let (asks, h4) = and_parts (asks_name (part n 0)) (is_undefined (part n 2) && is_spine (part (part n 0) 0) (part n 1)) h3 in
       let (undefined, spined) = and_parts (is_undefined (part n 2)) (is_spine (part (part n 0) 0) (part n 1)) h4 in
       let a = asked_is (part n 0) asks in
       let test : part n 0 ≡ binary Inequality (identifier a.name) null_literal = unequal_is (part n 0) compares ∙ (λ i. binary Inequality (a.named i) (a.null i)) in
-      chains false (part n 0) (part n 2) (part n 1) guard a undefined spined (conditional_is n chooses ∙ ap (λ t. conditional t (part n 1) (part n 2)) test)
+      chains false (part n 0) (part n 2) (part n 1) a undefined spined (conditional_is n chooses ∙ ap (λ t. conditional t (part n 1) (part n 2)) test)
 
 pub chain_row : (s : Seat) (n w : Tree) → written s n ≡ Some w → ChoiceContracts (Expr s) n w
 chain_row s n w e =
-    tried s n w (is_read_last s n) (chained n (part n 2)) (first_written s n) (last_row s n)
-    (tried s n w (is_read_first s n) (chained n (part n 1)) None (first_row s n) (λ e. absurd (cc e))) e
+    tried s n w (is_read_last n) (kept_by_value s.guard (chained n (part n 2))) (first_written s n) (last_row s n)
+    (tried s n w (is_read_first n) (kept_by_value s.guard (chained n (part n 1))) None (first_row s n) (λ e. absurd (cc e))) e
 
 -- ---- and what the row reads is written
 
@@ -292,10 +290,10 @@ module _ (s : Seat) (n w : Tree) (r : Row46Chain s n w) where
   passes_by : (equal : Bool) → is_some (written s (if_nullish equal r.name r.missing read)) ≡ true
   passes_by true =
       let t : Tree = if_nullish true r.name r.missing read in
-      first_true (is_read_last s t) (chained t read) (first_written s t) (both_true (reads_value s.guard) _ r.valued reads)
+      first_true (is_read_last t) (kept_by_value s.guard (chained t read)) (first_written s t) reads
   passes_by false =
       let t : Tree = if_nullish false r.name r.missing read in
-      later_true (is_read_last s t) (chained t r.missing) (first_written s t) (first_true (is_read_first s t) (chained t read) None (both_true (reads_value s.guard) _ r.valued reads))
+      later_true (is_read_last t) (kept_by_value s.guard (chained t r.missing)) (first_written s t) (first_true (is_read_first t) (kept_by_value s.guard (chained t read)) None reads)
 
   pub chain_passes : is_some (written s n) ≡ true
   chain_passes = ap (λ t. is_some (written s t)) r.shape ∙ passes_by r.equal

@@ -17,6 +17,7 @@ use Rattle.mini_choices.specs.MinimizeNormalAssignmentToCombinedAssignment as co
 use Rattle.mini_choices.specs.MinimizeConditionalBranches as branches
 use Rattle.mini_choices.specs.MinimizeHeldBranches as held
 use Rattle.mini_choices.specs.EvaluateBothSides as both
+use Rattle.mini_choices.specs.MinimizeFirstPart as behind
 use Rattle.mini_choices.specs.InjectOptionalChaining as chains
 use Rattle.mini_choices.specs.FoldChainExpr as folded
 
@@ -34,6 +35,7 @@ written_by (shape.LogicalExpression o) s t = first_of (both.written s t) (first_
 written_by (shape.AssignmentExpression o) s t = combine.written t
 written_by shape.ConditionalExpression s t = first_of (chains.written s t) (first_of (held.written s t) (branches.written s t))
 written_by shape.ChainExpression s t = folded.written s t
+written_by shape.SequenceExpression s t = behind.written s t
 written_by _ s t = None
 
 -- what is written for an expression in its seat, where a row reads it

@@ -1,12 +1,14 @@
 -- 46, `inject_optional_chaining_if_matched`, of a name that is assigned to in the test: `(x = a) == null ? void 0 : x.m` becomes `(x = a)?.m`, and so
--- do other members and calls over x, and `(x = a) != null ? x.m : void 0`; where x can be written, and isn't named `eval`.
+-- do other members and calls over x, and `(x = a) != null ? x.m : void 0`; where x can be written, and isn't named `eval`. As a callee and under
+-- `delete` it stands behind a `0`.
 use Rattle.std.specs.Prelude.{Bool, not, ◌&&◌, Option, Some, None, if◌then◌else◌}
 use Rattle.mini_model.specs.declared.seat.Seat.{Seat}
 use Rattle.mini_model.specs.Tree.{Tree}
 use Rattle.mini_laws.specs.Value.{VariableSet}
 use Rattle.mini_node.specs.Children.{part, names_of}
 use Rattle.mini_node.specs.Kinds.{is_conditional, is_null, binary_operator}
-use Rattle.mini_rows.specs.Chains.{reads_value, is_calm}
+use Rattle.mini_terms.specs.Exact.{kept_by_value}
+use Rattle.mini_rows.specs.Chains.{is_calm}
 use Rattle.mini_choices.specs.Forms.{is_undefined}
 use Rattle.mini_choices.specs.InjectOptionalChaining.{is_spine, chained, is_eval}
 use Rattle.mini_choices.specs.MinimizeConditionalBranches.{is_equal_in, is_unequal_in}
@@ -25,15 +27,15 @@ abbrev pub reads_assigned : VariableSet → Tree → Tree → Tree → Bool
 reads_assigned W test missing read = asks_assigned W test && (is_undefined missing && is_spine (part (part test 0) 0) read)
 
 -- `(x = a) == null ? void 0 : x.m`
-abbrev pub is_assigned_last : VariableSet → Seat → Tree → Bool
-is_assigned_last W s t = is_conditional t && (reads_value s.guard && (is_equal_in (binary_operator (part t 0)) && reads_assigned W (part t 0) (part t 1) (part t 2)))
+abbrev pub is_assigned_last : VariableSet → Tree → Bool
+is_assigned_last W t = is_conditional t && (is_equal_in (binary_operator (part t 0)) && reads_assigned W (part t 0) (part t 1) (part t 2))
 
 -- `(x = a) != null ? x.m : void 0`
-abbrev pub is_assigned_first : VariableSet → Seat → Tree → Bool
-is_assigned_first W s t = is_conditional t && (reads_value s.guard && (is_unequal_in (binary_operator (part t 0)) && reads_assigned W (part t 0) (part t 2) (part t 1)))
+abbrev pub is_assigned_first : VariableSet → Tree → Bool
+is_assigned_first W t = is_conditional t && (is_unequal_in (binary_operator (part t 0)) && reads_assigned W (part t 0) (part t 2) (part t 1))
 
 abbrev pub first_written : VariableSet → Seat → Tree → Option Tree
-first_written W s t = if is_assigned_first W s t then Some (chained t (part t 1)) else None
+first_written W s t = if is_assigned_first W t then Some (kept_by_value s.guard (chained t (part t 1))) else None
 
 abbrev pub written : VariableSet → Seat → Tree → Option Tree
-written W s t = if is_assigned_last W s t then Some (chained t (part t 2)) else first_written W s t
+written W s t = if is_assigned_last W t then Some (kept_by_value s.guard (chained t (part t 2))) else first_written W s t

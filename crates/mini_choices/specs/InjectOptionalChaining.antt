@@ -1,5 +1,5 @@
 -- 46, `inject_optional_chaining_if_matched`: `x == null ? void 0 : x.m` becomes `x?.m`, and so do other members and calls over x, and
--- `x != null ? x.m : void 0`; where a scope declares x, and it isn't named `eval`.
+-- `x != null ? x.m : void 0`; where a scope declares x, and it isn't named `eval`. As a callee and under `delete` it stands behind a `0`.
 use Rattle.std.specs.Prelude.{Bool, true, false, not, ◌&&◌, ◌||◌, List, [], ◌∷◌, Option, Some, None, codes, if◌then◌else◌}
 use Rattle.mini_model.specs.declared.name.Name.{Name}
 use Rattle.mini_model.specs.declared.seat.Seat.{Seat}
@@ -10,7 +10,8 @@ use Rattle.mini_model.specs.Weight.{same_text}
 use Rattle.mini_node.specs.Children.{part, names_of, without, with_inserted}
 use Rattle.mini_node.specs.Equal.{same_tree}
 use Rattle.mini_node.specs.Kinds.{is_conditional, is_identifier, is_null, is_static_member, is_computed_member, is_call_expression, binary_operator}
-use Rattle.mini_rows.specs.Chains.{reads_value, is_word_shape, is_calm, are_calm, chain}
+use Rattle.mini_terms.specs.Exact.{kept_by_value}
+use Rattle.mini_rows.specs.Chains.{is_word_shape, is_calm, are_calm, chain}
 use Rattle.mini_choices.specs.Assigning.{is_declared}
 use Rattle.mini_choices.specs.Forms.{is_undefined}
 use Rattle.mini_choices.specs.MinimizeConditionalBranches.{is_equal_in, is_unequal_in}
@@ -65,15 +66,15 @@ abbrev pub reads_name : Tree → Tree → Tree → Bool
 reads_name test missing read = asks_name test && (is_undefined missing && is_spine (part test 0) read)
 
 -- `x == null ? void 0 : x.m`
-abbrev pub is_read_last : Seat → Tree → Bool
-is_read_last s t = is_conditional t && (reads_value s.guard && (is_equal_in (binary_operator (part t 0)) && reads_name (part t 0) (part t 1) (part t 2)))
+abbrev pub is_read_last : Tree → Bool
+is_read_last t = is_conditional t && (is_equal_in (binary_operator (part t 0)) && reads_name (part t 0) (part t 1) (part t 2))
 
 -- `x != null ? x.m : void 0`
-abbrev pub is_read_first : Seat → Tree → Bool
-is_read_first s t = is_conditional t && (reads_value s.guard && (is_unequal_in (binary_operator (part t 0)) && reads_name (part t 0) (part t 2) (part t 1)))
+abbrev pub is_read_first : Tree → Bool
+is_read_first t = is_conditional t && (is_unequal_in (binary_operator (part t 0)) && reads_name (part t 0) (part t 2) (part t 1))
 
 abbrev pub first_written : Seat → Tree → Option Tree
-first_written s t = if is_read_first s t then Some (chained t (part t 1)) else None
+first_written s t = if is_read_first t then Some (kept_by_value s.guard (chained t (part t 1))) else None
 
 abbrev pub written : Seat → Tree → Option Tree
-written s t = if is_read_last s t then Some (chained t (part t 2)) else first_written s t
+written s t = if is_read_last t then Some (kept_by_value s.guard (chained t (part t 2))) else first_written s t

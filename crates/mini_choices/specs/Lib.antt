@@ -14,6 +14,7 @@ pub mod MinimizeAssignedNullishComparison
 pub mod MinimizeConditionalBranches
 pub mod MinimizeHeldBranches
 pub mod EvaluateBothSides
+pub mod MinimizeFirstPart
 pub mod InjectOptionalChaining
 pub mod InjectAssignedChaining
 pub mod ChainLinks

@@ -27,6 +27,7 @@ pub use rewrites::minimize_choices::MinimizeChoices;
 pub use rewrites::minimize_conditional_branches::{
     assigned, is_seated, minimize_conditional_branches,
 };
+pub use rewrites::minimize_first_part::minimize_first_part;
 pub use rewrites::minimize_held_branches::minimize_held_branches;
 pub use rewrites::minimize_logical_expression::{decided, deciding, minimize_logical_expression};
 pub use rewrites::minimize_logical_sequence::{

@@ -7,6 +7,7 @@ pub mod minimize_assigned_comparison;
 pub mod minimize_assigned_nullish_comparison;
 pub mod minimize_choices;
 pub mod minimize_conditional_branches;
+pub mod minimize_first_part;
 pub mod minimize_held_branches;
 pub mod minimize_logical_expression;
 pub mod minimize_logical_sequence;

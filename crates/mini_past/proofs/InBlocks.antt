@@ -2,7 +2,7 @@
 use Rattle.std.proofs.Common.{◌≡◌, Bool, true, false, [], refl, sym, ap, ◌∙◌, subst, true≢false}
 use Rattle.mini_model.specs.declared.name.Name.{Name}
 use Rattle.mini_model.specs.declared.place.Position.{Position}
-use Rattle.mini_model.specs.declared.place.Position.TheVariants.{Stmt}
+use Rattle.mini_model.specs.declared.place.Position.TheVariants.{Stmt, Elsewhere}
 use Rattle.mini_model.specs.declared.seat.StmtSeat.{StmtSeat}
 use Rattle.mini_model.specs.declared.shape.Shape.TheVariants as shape
 use Rattle.mini_model.specs.Tree.{Tree, Trees, node, none, ◌▸◌, absent, listed, children}
@@ -70,10 +70,14 @@ module _ (V : Assured) where
   pub no_block : (t : Tree) → is_block t ≡ false → AppliedPastBlock V t t false
   no_block t e = (refl, λ w r. true≢false (sym (ap is_block r.shape) ∙ e))
 
-  -- at a statement
+  -- at a statement, and elsewhere
   pub here_applied : (p : Position) (t u : Tree) (b : Bool) → AppliedPastBlock V t u b → (q : StmtSeat) → p ≡ Stmt q → AppliedHere (PastBlocks V) p t u b
   here_applied p t u true r q e = subst (λ o. AppliedHere (PastBlocks V) o t u true) (sym e) r
   here_applied p t u false r q e = subst (λ o. AppliedHere (PastBlocks V) o t u false) (sym e) r
+
+  pub elsewhere_applied : (p : Position) (t u : Tree) (b : Bool) → AppliedPastBlock V t u b → p ≡ Elsewhere → AppliedHere (PastBlocks V) p t u b
+  elsewhere_applied p t u true r e = subst (λ o. AppliedHere (PastBlocks V) o t u true) (sym e) r
+  elsewhere_applied p t u false r e = subst (λ o. AppliedHere (PastBlocks V) o t u false) (sym e) r
 
 pub in_block : (t : Tree) → is_block t ≡ true → is_listed (part t 0) ≡ true
 in_block t e = ap (λ v. is_listed (part v 0)) (block_is t e)

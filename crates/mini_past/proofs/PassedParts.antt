@@ -6,8 +6,10 @@ use Rattle.mini_model.specs.declared.shape.Shape.{Shape}
 use Rattle.mini_model.specs.Tree.{Tree, Trees, node, none, ◌▸◌, count, child_or_absent, children, shape_of}
 use Rattle.mini_node.specs.Children.{rest_children}
 use Rattle.mini_node.specs.Walks.{from_first, next_child, no_rest}
-use Rattle.mini_rows.specs.Past.{Kept, passes_any_at, is_certain, are_past_in, all_past}
-use Rattle.mini_rows.specs.Unused.{names, begins_with, entries_below}
+use Rattle.mini_rows.specs.Past.{Kept, passes_any, passes_any_item, passes_any_at, is_certain, are_past_in, all_past}
+use Rattle.mini_rows.specs.declared.gathered.Gathered.{Gathered}
+use Rattle.mini_rows.specs.declared.gathered.Gathered.TheVariants.{Values as OfValues}
+use Rattle.mini_rows.specs.Unused.{names, begins_with, gathered_below}
 
 pub or_none : (b : Bool) → b ≡ (b || false)
 or_none true = refl
@@ -21,13 +23,20 @@ pub begins_some : (x : Name) (ts : Trees) (t : Tree) → 0 < count ts → t ≡ 
 begins_some x none t h e = absurd (omega (arith, h))
 begins_some x (u ▸ ts) t h e = ap (names x) (sym e)
 
-module _ (H : Kept) (x : Name) (m : Bool) (r : Tree) where
+pub values_pass_any : (H : Kept) (r t : Tree) → passes_any_item H OfValues r t ≡ passes_any H r t
+values_pass_any H r t = by (passes_any H r t)
+  where
+    by : (b : Bool) → (b || false) ≡ b
+    by true = refl
+    by false = refl
+
+module _ (H : Kept) (x : Name) (m : Gathered) (r : Tree) where
   pub opened : (n : Tree) → are_past_in H x m r n ≡ (is_certain x m r (shape_of n) (children n) && all_past H x m r (shape_of n) 0 (children n))
   opened (node h xs k ts) = refl
 
-module _ (H : Kept) (x : Name) (m : Bool) (r : Tree) (s : Shape) where
+module _ (H : Kept) (x : Name) (m : Gathered) (r : Tree) (s : Shape) where
   abbrev one : ℕ → Tree → Trees → Bool → Bool
-  one i t ts c = if c then are_past_in H x (entries_below m s i) r t else (passes_any_at H m r s t && all_past H x m r s (suc i) ts)
+  one i t ts c = if c then are_past_in H x (gathered_below m s i) r t else (passes_any_at H m r s t && all_past H x m r s (suc i) ts)
 
   step : (ts : Trees) (i : ℕ) (t : Tree) (b : Bool) → i < count ts → t ≡ child_or_absent ts i → b ≡ names x t → all_past H x m r s i (rest_children i ts) ≡ one i t (rest_children (suc i) ts) b
   step ts i t b h e f =
@@ -38,7 +47,7 @@ module _ (H : Kept) (x : Name) (m : Bool) (r : Tree) (s : Shape) where
   pub past_first : (ts : Trees) → all_past H x m r s 0 ts ≡ all_past H x m r s 0 (rest_children 0 ts)
   past_first ts = ap (all_past H x m r s 0) (sym (from_first ts))
 
-  pub past_there : (ts : Trees) (i : ℕ) (t : Tree) (b : Bool) → i < count ts → t ≡ child_or_absent ts i → b ≡ names x t → b ≡ true → all_past H x m r s i (rest_children i ts) ≡ are_past_in H x (entries_below m s i) r t
+  pub past_there : (ts : Trees) (i : ℕ) (t : Tree) (b : Bool) → i < count ts → t ≡ child_or_absent ts i → b ≡ names x t → b ≡ true → all_past H x m r s i (rest_children i ts) ≡ are_past_in H x (gathered_below m s i) r t
   past_there ts i t b h e f g = step ts i t b h e f ∙ ap (one i t (rest_children (suc i) ts)) g
 
   -- it doesn't mention the name

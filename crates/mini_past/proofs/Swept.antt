@@ -10,7 +10,9 @@ use Rattle.mini_laws.specs.ScopeList.{has_eval}
 use Rattle.mini_laws.specs.Value.{VariableSet}
 use Rattle.mini_node.specs.Children.{names_of, part, with_part}
 use Rattle.mini_rows.specs.Past.{Kept, passes_any_at, is_certain, are_past_in, are_past, all_past}
-use Rattle.mini_rows.specs.Unused.{names, begins_with, suits, is_sure, is_placed, entries_below, is_first, reads_head, evaluated}
+use Rattle.mini_rows.specs.declared.gathered.Gathered.{Gathered}
+use Rattle.mini_rows.specs.declared.gathered.Gathered.TheVariants.{Values as OfValues}
+use Rattle.mini_rows.specs.Unused.{names, begins_with, suits, is_sure, is_placed, gathered_below, is_first, reads_head, evaluated}
 use Rattle.mini_unused.specs.Chains.{Chain, still, Several}
 use Rattle.mini_unused.specs.RemoveUnusedDeclaration.{declares_list, is_free_at, list_at}
 use Rattle.mini_unused.specs.SubstituteNext.{put_named, is_mentioned_beside, is_mentioned_elsewhere, declarators_next, list_next}
@@ -23,16 +25,16 @@ use Rattle.mini_past.specs.SubstitutePast.{held_at, may_pass_by, reads_past, rea
 -- ---- no direct eval comes about
 
 mutual
-  past_along : (H : Kept) (x : Name) (m : Bool) (r t : Tree) → are_past_in H x m r t ≡ true → suits_along x r t ≡ true
+  past_along : (H : Kept) (x : Name) (m : Gathered) (r t : Tree) → are_past_in H x m r t ≡ true → suits_along x r t ≡ true
   past_along H x m r (node h ys n ts) e =
       let (a, b) = and_parts (is_certain x m r h ts) (all_past H x m r h 0 ts) e in
       ap (λ c. c && suits_among x r ts) (and_parts (suits x r h ts) (is_placed m false h && (is_sure false h || begins_with x ts)) a).0 ∙ past_among H x m r h 0 ts b
 
-  past_among : (H : Kept) (x : Name) (m : Bool) (r : Tree) (h : Shape) (i : ℕ) (ts : Trees) → all_past H x m r h i ts ≡ true → suits_among x r ts ≡ true
+  past_among : (H : Kept) (x : Name) (m : Gathered) (r : Tree) (h : Shape) (i : ℕ) (ts : Trees) → all_past H x m r h i ts ≡ true → suits_among x r ts ≡ true
   past_among H x m r h i none e = refl
-  past_among H x m r h i (t ▸ ts) e = by (names x t) e (past_along H x (entries_below m h i) r t) (past_among H x m r h (suc i) ts)
+  past_among H x m r h i (t ▸ ts) e = by (names x t) e (past_along H x (gathered_below m h i) r t) (past_among H x m r h (suc i) ts)
     where
-      by : (c : Bool) → (if c then are_past_in H x (entries_below m h i) r t else (passes_any_at H m r h t && all_past H x m r h (suc i) ts)) ≡ true → (are_past_in H x (entries_below m h i) r t ≡ true → suits_along x r t ≡ true) → (all_past H x m r h (suc i) ts ≡ true → suits_among x r ts ≡ true) → (if c then suits_along x r t else suits_among x r ts) ≡ true
+      by : (c : Bool) → (if c then are_past_in H x (gathered_below m h i) r t else (passes_any_at H m r h t && all_past H x m r h (suc i) ts)) ≡ true → (are_past_in H x (gathered_below m h i) r t ≡ true → suits_along x r t ≡ true) → (all_past H x m r h (suc i) ts ≡ true → suits_among x r ts ≡ true) → (if c then suits_along x r t else suits_among x r ts) ≡ true
       by true e f g = f e
       by false e f g = g (and_parts (passes_any_at H m r h t) (all_past H x m r h (suc i) ts) e).1
 
@@ -44,7 +46,7 @@ once_put V (x ∷ xs) o init ds j ts i e f g =
     let (a, p) = and_parts (not (names x o)) (reads && (not (is_declared_over x init ds j) && not (is_mentioned_around x ts i))) e in
     let (read, q) = and_parts reads (not (is_declared_over x init ds j) && not (is_mentioned_around x ts i)) p in
     let (first, past) = and_parts (reads_head x head) (are_past (held_at V ts i ds j) x init (evaluated head)) read in
-    put_along_head x init head first (past_along (held_at V ts i ds j) x false init (evaluated head) past) f g
+    put_along_head x init head first (past_along (held_at V ts i ds j) x OfValues init (evaluated head) past) f g
 
 then_put : (V : Assured) (xs : List Name) (d e o : Tree) (ds : Trees) (j : ℕ) (ts : Trees) (i : ℕ) → is_read_past_then V xs d e o ds j ts i ≡ true → has_eval (part d 1) ≡ false → has_eval (part e 1) ≡ false → has_eval (put_named xs (part d 1) (part e 1)) ≡ false
 then_put V [] d e o ds j ts i h f g = absurd (true≢false (sym h))
@@ -52,7 +54,7 @@ then_put V (x ∷ xs) d e o ds j ts i h f g =
     let reads = reads_past_in (held_at V ts i ds j) x (part d 1) (part e 1) in
     let (read, q) = and_parts reads (not (is_mentioned_beside x d e ds j) && (not (names x o) && not (is_mentioned_elsewhere x ts i))) h in
     let (first, past) = and_parts (is_first x false (part e 1)) (are_past (held_at V ts i ds j) x (part d 1) (part e 1)) read in
-    put_there x false (part d 1) (part e 1) first (past_along (held_at V ts i ds j) x false (part d 1) (part e 1) past) f g
+    put_there x false (part d 1) (part e 1) first (past_along (held_at V ts i ds j) x OfValues (part d 1) (part e 1) past) f g
 
 module _ (V : Assured) (W : VariableSet) (o l m : Tree) (c : Unseen o l) where
   read_gone : ReadPast V W o l m → Unseen o m

@@ -2,7 +2,7 @@
 -- becomes `{ ; return g(a()); }`.
 use Rattle.std.specs.Prelude.{◌≡◌, Bool, true, false}
 use Rattle.std.proofs.Common.{ap}
-use Rattle.mini_model.specs.declared.place.Position.TheVariants.{Stmt}
+use Rattle.mini_model.specs.declared.place.Position.TheVariants.{Stmt, Elsewhere}
 use Rattle.mini_model.specs.Tree.{Tree}
 use Rattle.mini_kept.specs.Without.{Assured}
 use Rattle.mini_rows.specs.PastBlocks.{PastBlockRow, PastBlocks}
@@ -18,6 +18,7 @@ AppliedPastBlock V t u false = (u ≡ t) × ((w : Tree) → PastBlockRow V t w �
 -- it reads what has neither a body nor a number
 pub blocks_open : ReadsOpen PastBlocks
 blocks_open V (Stmt q) n w r = ap is_open r.shape
+blocks_open V Elsewhere n w r = ap is_open r.shape
 blocks_open V p n w r = absurd r
 
 -- and what it writes is read alike, declares no other name and no symbol more often, and is lighter

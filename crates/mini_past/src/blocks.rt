@@ -1,5 +1,5 @@
-//! Row 71 past steady names of a block further inside a body, as a row of the own code of whatever has the body: of
-//! `function f(g) { if (g) { let x = a(); return g(x); } }` the block becomes `{ ; return g(a()); }`.
+//! Row 71 past steady names of a block further inside a body, those of a `try` among them, as a row of the own code of whatever has the
+//! body: of `function f(g) { if (g) { let x = a(); return g(x); } }` the block becomes `{ ; return g(a()); }`.
 
 ghost use Rattle.std.specs.Prelude.{◌≡◌, IfOk};
 ghost use Rattle.mini_rows.specs.PastBlocks.{PastBlocks};
@@ -15,7 +15,7 @@ use mini_steady::{BodyCode, OwnRewrites, SteadyNames, is_initialised};
 use mini_unused::{put_child, take_child};
 use std::alloc::Global;
 
-// What is known in the code of a body, of whichever number it is asked; of a block no `var` goes.
+// What is known at the place of a block in the code of a body, of whichever number it is asked; of a block no `var` goes.
 #[derive(Drop)]
 struct CodeNames<'a, S: SteadyNames> {
     names: &'a S,
@@ -92,6 +92,7 @@ impl<S: SteadyNames> OwnRewrites<S> for PastNamesInBlocks {
     ) -> Result<bool, OutOfMemory> {
         match place {
             Position::Stmt(_) => Ok(substitute_past_in_block(alloc, node, body, steady)),
+            Position::Elsewhere => Ok(substitute_past_in_block(alloc, node, body, steady)),
             _ => Ok(false),
         }
     }

@@ -1,18 +1,20 @@
 //! What may be evaluated before an initializer, whatever that does: constants, names that are steady and initialised, and `this`; and what is
 //! assigned to and what stands in a list, by such parts.
 
-ghost use Rattle.std.specs.Prelude.{◌≡◌, ◌<◌};
+ghost use Rattle.std.specs.Prelude.{◌≡◌, ◌<◌, ◌&&◌};
 ghost use Rattle.mini_model.specs.Tree.{count};
 ghost use Rattle.mini_laws.specs.Value.{Declared};
-ghost use Rattle.mini_node.specs.Children.{names as names_in};
+ghost use Rattle.mini_node.specs.Children.{names as names_in, part};
 ghost use Rattle.mini_rows.specs.Past as reading;
+ghost use Rattle.mini_rows.specs.Unused.{is_field as it_is_field};
 ghost use Rattle.mini_past.specs.SubstitutePast.{held_at};
 
 use crate::lets::is_let;
 use mini_model::{AssignmentOperator, Name, Shape, SymbolId};
 use mini_node::{Node, Nodes, is_identifier};
+use mini_rows::Gathered;
 use mini_steady::{SteadyNames, any_bind, binds, is_this, writes};
-use mini_terms::is_effect_free;
+use mini_terms::{is_effect_free, is_primitive, kind_of};
 use mini_unused::{is_constant, is_field, is_member, is_plain_assignment, is_word};
 
 // The initializer neither declares nor writes it.
@@ -209,9 +211,8 @@ fn passes_any_target<S: SteadyNames>(
             || (is_identifier(node) && is_effect_free(node, true)))
 }
 
-// So may an item of a list, of which an entry is asked or isn't: of a property its value.
-fn passes_any_item<S: SteadyNames>(
-    of_entries: bool,
+// So may a property, by its value.
+fn passes_any_field<S: SteadyNames>(
     init: &Node,
     node: &Node,
     statements: &Nodes,
@@ -223,26 +224,51 @@ fn passes_any_item<S: SteadyNames>(
 ) -> bool
     requires statement { at < count statements.now }
     requires declarator { which < count declarators.now }
-    ensures { result ≡ reading.passes_any_item (held_at (S.sets steady.now body) statements.now at declarators.now which) of_entries init.now node.now }
+    ensures { result ≡ (it_is_field node.now && reading.passes_any (held_at (S.sets steady.now body) statements.now at declarators.now which) init.now (part node.now 1)) }
 {
-    passes_any(init, node, statements, at, declarators, which, body, steady)
-        || (of_entries
-            && (is_field(node)
-                && passes_any(
-                    init,
-                    node.child(1),
-                    statements,
-                    at,
-                    declarators,
-                    which,
-                    body,
-                    steady,
-                )))
+    is_field(node)
+        && passes_any(
+            init,
+            node.child(1),
+            statements,
+            at,
+            declarators,
+            which,
+            body,
+            steady,
+        )
+}
+
+// So may an item of a list, by what is gathered: where entries are, of a property its value; what is converted to a text has to be primitive.
+#[tactic(auto, using(crate::proofs::PassedParts::values_pass_any))]
+fn passes_any_item<S: SteadyNames>(
+    gathered: Gathered,
+    init: &Node,
+    node: &Node,
+    statements: &Nodes,
+    at: usize,
+    declarators: &Nodes,
+    which: usize,
+    body: u32,
+    steady: &S,
+) -> bool
+    requires statement { at < count statements.now }
+    requires declarator { which < count declarators.now }
+    ensures { result ≡ reading.passes_any_item (held_at (S.sets steady.now body) statements.now at declarators.now which) gathered init.now node.now }
+{
+    let passes = passes_any(init, node, statements, at, declarators, which, body, steady);
+    match gathered {
+        Gathered::Texts => passes && is_primitive(kind_of(node)),
+        Gathered::Values => passes,
+        Gathered::Entries => {
+            passes || passes_any_field(init, node, statements, at, declarators, which, body, steady)
+        }
+    }
 }
 
 /// So may what stands before the read, in a node of such a shape.
 pub fn passes_any_at<S: SteadyNames>(
-    of_entries: bool,
+    gathered: Gathered,
     init: &Node,
     shape: &Shape,
     node: &Node,
@@ -255,7 +281,7 @@ pub fn passes_any_at<S: SteadyNames>(
 ) -> bool
     requires statement { at < count statements.now }
     requires declarator { which < count declarators.now }
-    ensures { result ≡ reading.passes_any_at (held_at (S.sets steady.now body) statements.now at declarators.now which) of_entries init.now shape.now node.now }
+    ensures { result ≡ reading.passes_any_at (held_at (S.sets steady.now body) statements.now at declarators.now which) gathered init.now shape.now node.now }
 {
     match shape {
         Shape::AssignmentExpression(operator) => passes_any_target(
@@ -271,7 +297,7 @@ pub fn passes_any_at<S: SteadyNames>(
         ),
         Shape::ObjectProperty(_, _, _, is_computed) => !*is_computed && is_word(node.shape()),
         Shape::Listed => passes_any_item(
-            of_entries,
+            gathered,
             init,
             node,
             statements,
@@ -281,6 +307,7 @@ pub fn passes_any_at<S: SteadyNames>(
             body,
             steady,
         ),
+        Shape::TemplateLiteral => true,
         _ => passes_any(init, node, statements, at, declarators, which, body, steady),
     }
 }

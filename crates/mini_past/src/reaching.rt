@@ -9,8 +9,9 @@ ghost use Rattle.mini_past.specs.SubstitutePast.{held_at};
 use crate::passing::passes_any_at;
 use mini_model::{Name, Shape};
 use mini_node::{Node, Nodes};
+use mini_rows::Gathered;
 use mini_steady::SteadyNames;
-use mini_unused::{entries_below, is_mentioned, is_plain_assignment, suits};
+use mini_unused::{gathered_below, is_mentioned, is_plain_assignment, of_entries, suits};
 
 // The first of some parts mentions the name, or there is none.
 #[tactic(auto, using(crate::proofs::PassedParts::begins_none, crate::proofs::PassedParts::begins_some))]
@@ -25,11 +26,11 @@ fn begins_with(name: &Name, nodes: &Nodes) -> bool
 
 // A property and what is spread stand where an entry is asked.
 #[tactic(auto, using(crate::proofs::PassedParts::or_none))]
-fn is_placed(of_entries: bool, shape: &Shape) -> bool
-    ensures { result ≡ is_it_placed of_entries false shape.now }
+fn is_placed(gathered: Gathered, shape: &Shape) -> bool
+    ensures { result ≡ is_it_placed gathered false shape.now }
 {
     match shape {
-        Shape::ObjectProperty(_, _, _, _) | Shape::SpreadElement => of_entries,
+        Shape::ObjectProperty(_, _, _, _) | Shape::SpreadElement => of_entries(gathered),
         _ => true,
     }
 }
@@ -51,11 +52,11 @@ fn is_sure(shape: &Shape) -> bool
 }
 
 // What mentions the name is evaluated whatever stands before it, and the initializer may stand in its place.
-fn is_certain(name: &Name, of_entries: bool, init: &Node, node: &Node) -> bool
-    ensures { result ≡ reading.is_certain name.now of_entries init.now (shape_of node.now) (children node.now) }
+fn is_certain(name: &Name, gathered: Gathered, init: &Node, node: &Node) -> bool
+    ensures { result ≡ reading.is_certain name.now gathered init.now (shape_of node.now) (children node.now) }
 {
     suits(name, init, node)
-        && (is_placed(of_entries, node.shape())
+        && (is_placed(gathered, node.shape())
             && (is_sure(node.shape()) || begins_with(name, node.children())))
 }
 
@@ -64,7 +65,7 @@ fn is_certain(name: &Name, of_entries: bool, init: &Node, node: &Node) -> bool
 #[cycle(past)]
 fn are_past_in<S: SteadyNames>(
     name: &Name,
-    of_entries: bool,
+    gathered: Gathered,
     init: &Node,
     node: &Node,
     statements: &Nodes,
@@ -76,12 +77,12 @@ fn are_past_in<S: SteadyNames>(
 ) -> bool
     requires statement { at < count statements.now }
     requires declarator { which < count declarators.now }
-    ensures { result ≡ reading.are_past_in (held_at (S.sets steady.now body) statements.now at declarators.now which) name.now of_entries init.now node.now }
+    ensures { result ≡ reading.are_past_in (held_at (S.sets steady.now body) statements.now at declarators.now which) name.now gathered init.now node.now }
 {
-    is_certain(name, of_entries, init, node)
+    is_certain(name, gathered, init, node)
         && all_past(
             name,
-            of_entries,
+            gathered,
             init,
             node.shape(),
             node.children(),
@@ -98,7 +99,7 @@ fn are_past_in<S: SteadyNames>(
 #[cycle(past)]
 fn all_past<S: SteadyNames>(
     name: &Name,
-    of_entries: bool,
+    gathered: Gathered,
     init: &Node,
     shape: &Shape,
     nodes: &Nodes,
@@ -111,14 +112,14 @@ fn all_past<S: SteadyNames>(
 ) -> bool
     requires statement { at < count statements.now }
     requires declarator { which < count declarators.now }
-    ensures { result ≡ reading.all_past (held_at (S.sets steady.now body) statements.now at declarators.now which) name.now of_entries init.now shape.now 0 nodes.now }
+    ensures { result ≡ reading.all_past (held_at (S.sets steady.now body) statements.now at declarators.now which) name.now gathered init.now shape.now 0 nodes.now }
 {
     for place in 0..nodes.len() {
         let part = nodes.child(place);
         if is_mentioned(name, part) {
             return are_past_in(
                 name,
-                entries_below(of_entries, shape, place),
+                gathered_below(gathered, shape, place),
                 init,
                 part,
                 statements,
@@ -130,7 +131,7 @@ fn all_past<S: SteadyNames>(
             );
         }
         if !passes_any_at(
-            of_entries,
+            gathered,
             init,
             shape,
             part,
@@ -147,7 +148,7 @@ fn all_past<S: SteadyNames>(
     true
 }
 
-/// So it is, where no entry is asked.
+/// So it is, where a value is asked.
 pub fn are_past<S: SteadyNames>(
     name: &Name,
     init: &Node,
@@ -165,7 +166,7 @@ pub fn are_past<S: SteadyNames>(
 {
     are_past_in(
         name,
-        false,
+        Gathered::Values,
         init,
         node,
         statements,

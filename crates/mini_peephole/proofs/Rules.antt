@@ -36,7 +36,7 @@ use Rattle.mini_rows.proofs.OwnProgramLawful.{steady_programs_lawful, lexical_pr
 use Rattle.mini_rows.proofs.InsideLawful.{inside_loose}
 use Rattle.mini_rows.specs.Inside.{InsideContracts}
 use Rattle.mini_rows.specs.OwnArrows.{OwnCode, SteadyCode, LexicalCode}
-use Rattle.mini_rows.specs.OwnParts.{SteadyPart, LexicalPart}
+use Rattle.mini_rows.specs.OwnParts.{OwnPart, SteadyPart, LexicalPart}
 use Rattle.mini_rows.specs.OwnPrograms.{OwnProgram, SteadyProgram, LexicalProgram}
 use Rattle.mini_rows.specs.Past.{PastFunction}
 use Rattle.mini_rows.specs.PastArrows.{PastArrow}
@@ -47,11 +47,12 @@ use Rattle.mini_rows.specs.Steady.{SteadyRow, LexicalRows}
 use Rattle.mini_steady.specs.Told.{told_in}
 use Rattle.mini_past.proofs.Lawful.{past_code_lawful}
 use Rattle.mini_rows.proofs.PastBlockLawful.{past_blocks_are_lawful, past_blocks_are_lawful_in_programs}
+use Rattle.mini_rows.proofs.PastPartLawful.{past_blocks_are_lawful_in_parts}
 use Rattle.mini_rows.proofs.PastModuleLawful.{past_modules_are_lawful}
 use Rattle.mini_rows.proofs.PastStaticLawful.{past_statics_are_lawful}
 use Rattle.mini_peephole.specs.Environments.{steady_in}
 use Rattle.mini_peephole.specs.Faithful.{switches, known_of, IsRewrittenBy}
-use Rattle.mini_peephole.specs.SteadyRows.{AnyCode, PastBlockCode}
+use Rattle.mini_peephole.specs.SteadyRows.{AnyCode}
 use Rattle.mini_peephole.specs.Rules.{Gives, Rests, AllGives, AllRests, SteadyGives, SteadyRests}
 use Rattle.mini_passes.specs.Staying.{StaysTold, within_through}
 use Rattle.mini_peephole.proofs.ToldWithin.{told_within}
@@ -215,7 +216,7 @@ module _ (o : CompressOptions) (v : Tree) where
       let T = told_in q in
       let Past = Either (PastFunction T W) (PastArrow T W) in
       let Others = Either (PastModule T W) (PastStatic T W) in
-      let Blocks = PastBlockCode T in
+      let Blocks = AnyCode PastBlocks T in
       rooted_wider (SteadyGives o q) K W W T (steady_in v) (λ x h. h) (λ b. within_through (told_in q b) (told_in v b) (steady_in v b) (k b) (told_within v b))
       (rooted_join (Either (AnyCode SteadyRow T) (AnyCode LexicalRows T)) (Either (Either (Either Past Others) Blocks) (InsideContracts W)) K W T
       (rooted_join (AnyCode SteadyRow T) (AnyCode LexicalRows T) K W T
@@ -228,7 +229,9 @@ module _ (o : CompressOptions) (v : Tree) where
       (rooted_join (Either (Either Past Others) Blocks) (InsideContracts W) K W T
       (rooted_join (Either Past Others) Blocks K W T
       (rooted_join Past Others K W T (steady_is_rooted Past K W T (past_code_lawful K W T)) (rooted_join (PastModule T W) (PastStatic T W) K W T (past_modules_are_lawful K W T) (past_statics_are_lawful K W T)))
-      (rooted_join (OwnCode PastBlocks T) (OwnProgram PastBlocks T) K W T (past_blocks_are_lawful K W T) (past_blocks_are_lawful_in_programs K W T)))
+      (rooted_join (Either (OwnCode PastBlocks T) (OwnProgram PastBlocks T)) (OwnPart PastBlocks T) K W T
+      (rooted_join (OwnCode PastBlocks T) (OwnProgram PastBlocks T) K W T (past_blocks_are_lawful K W T) (past_blocks_are_lawful_in_programs K W T))
+      (past_blocks_are_lawful_in_parts K W T)))
       (steady_is_rooted (InsideContracts W) K W T (loose_is_steady (InsideContracts W) K W T (inside_loose K W)))))
 
   -- what passes make on the way to v

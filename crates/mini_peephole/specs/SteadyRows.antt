@@ -1,7 +1,7 @@
 -- Which rows rest on what is known of the bodies of a program, S, where the variables W can be written: those of the own code of functions, of
 -- arrow functions, of the program itself, of static blocks and of inner expressions, over what keeps its value and over lexical names that no event shows, those of a name of a
--- function, an arrow function, a module or a static block that is read once, or of a block in the own code of a function, an arrow function or a
--- program, and those of a `var` further inside its body, where the variables W can be written.
+-- function, an arrow function, a module or a static block that is read once, or of a block in the own code of any of them, and those of a `var`
+-- further inside its body, where the variables W can be written.
 use Rattle.mini_model.specs.declared.place.Position.{Position}
 use Rattle.mini_model.specs.declared.place.Position.TheVariants.{Elsewhere}
 use Rattle.mini_model.specs.Tree.{Tree}
@@ -33,11 +33,8 @@ abbrev pub AnyCode : OwnRows → BodySets → Position → Tree → Tree → Typ
 AnyCode F S = Either (Either (OwnCode F S) (OwnProgram F S)) (OwnPart F S)
 
 -- 71 past names that keep their value, of whatever has a body, and of a block in its own code
-abbrev pub PastBlockCode : BodySets → Position → Tree → Tree → Type 0
-PastBlockCode S = Either (OwnCode PastBlocks S) (OwnProgram PastBlocks S)
-
 abbrev pub PastCode : BodySets → VariableSet → Position → Tree → Tree → Type 0
-PastCode S W = Either (Either (Either (PastFunction S W) (PastArrow S W)) (Either (PastModule S W) (PastStatic S W))) (PastBlockCode S)
+PastCode S W = Either (Either (Either (PastFunction S W) (PastArrow S W)) (Either (PastModule S W) (PastStatic S W))) (AnyCode PastBlocks S)
 
 abbrev pub SteadyRewrites : BodySets → VariableSet → Position → Tree → Tree → Type 0
 SteadyRewrites S W = Either (Either (AnyCode SteadyRow S) (AnyCode LexicalRows S)) (Either (PastCode S W) (InsideContracts W))
@@ -48,7 +45,7 @@ CodeRests F S = Both (Both (Both (Rests F S) (ArrowRests F S)) (ProgramRests F S
 
 -- none of 71 past names
 abbrev pub PastRests : BodySets → VariableSet → Position → Tree → Type 0
-PastRests S W = Both (Both (Both (RestsPast S W) (RestsPastArrow S W)) (Both (RestsPastModule S W) (RestsPastStatic S W))) (Both (Both (Rests PastBlocks S) (ArrowRests PastBlocks S)) (ProgramRests PastBlocks S))
+PastRests S W = Both (Both (Both (RestsPast S W) (RestsPastArrow S W)) (Both (RestsPastModule S W) (RestsPastStatic S W))) (CodeRests PastBlocks S)
 
 -- none reads a node in its place
 abbrev pub IsSteadilySettled : BodySets → VariableSet → Position → Tree → Type 0

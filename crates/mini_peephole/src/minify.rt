@@ -265,14 +265,8 @@ type Past = Then<
     Then<SubstitutePastModules, SubstitutePastStatics>,
 >;
 
-// And those of blocks further inside a body.
-type InBlocks = Then<
-    Then<InFunctions<PastNamesInBlocks>, InArrows<PastNamesInBlocks>>,
-    InPrograms<PastNamesInBlocks>,
->;
-
-// Of names that are read once or not at all.
-type Once = Then<Then<Past, InBlocks>, RemoveInside>;
+// And those of blocks further inside a body. Of names that are read once or not at all.
+type Once = Then<Then<Past, AnyCode<PastNamesInBlocks>>, RemoveInside>;
 
 const PAST: Past = Then {
     first: Then {
@@ -285,16 +279,21 @@ const PAST: Past = Then {
     },
 };
 
-const IN_BLOCKS: InBlocks = Then {
+const IN_BLOCKS: AnyCode<PastNamesInBlocks> = Then {
     first: Then {
-        first: InFunctions {
-            rewrites: PastNamesInBlocks,
+        first: Then {
+            first: InFunctions {
+                rewrites: PastNamesInBlocks,
+            },
+            second: InArrows {
+                rewrites: PastNamesInBlocks,
+            },
         },
-        second: InArrows {
+        second: InPrograms {
             rewrites: PastNamesInBlocks,
         },
     },
-    second: InPrograms {
+    second: InParts {
         rewrites: PastNamesInBlocks,
     },
 };

@@ -32,7 +32,7 @@ use Rattle.mini_kept.proofs.Bools.{left}
 use Rattle.mini_kept.proofs.Expressions.{refused_here}
 use Rattle.mini_kept.proofs.Clashes.{no_more_same}
 use Rattle.mini_kept.proofs.Quiet.{is_quiet, IsQuiet, no_names, no_body_names, no_body_declarations, no_loop, same_symbols as same_symbols_of}
-use Rattle.mini_rows.specs.Sketches.{still, rearranges_expression, Head, AList, Spread, Piece, Empty, OfExpression, Throw, Return, If, Block, shape_by, Sketch, part, under, list, Sketches, Parts, filled, all_filled, AsValue, parts_of, Free, is_rearranged, is_expression_head, is_piece_head, stands_well, is_expression}
+use Rattle.mini_rows.specs.Sketches.{still, rearranges_expression, Head, AList, Spread, Interpolation, Piece, Empty, OfExpression, Throw, Return, If, Block, shape_by, Sketch, part, under, list, Sketches, Parts, filled, all_filled, AsValue, parts_of, Free, is_rearranged, is_expression_head, is_piece_head, stands_well, is_expression}
 use Rattle.mini_rows.specs.Arranged.{KeptBy, SameFixed, KeptAt, KeptLoosely, AllVanish, AreLoose, ExpressionsArranged, ExpressionsArrangedLoosely}
 use Rattle.mini_rows.proofs.Arranging.{Any, Each}
 use Rattle.mini_rows.proofs.ArrangedBodies.{quiet}
@@ -121,6 +121,7 @@ no_statement false nested h e = refl
 not_list : (h : Head) → is_expression_head h ≡ true → suits_anywhere h ≡ true
 not_list AList e = absurd (cc e)
 not_list Spread e = absurd (cc e)
+not_list Interpolation e = absurd (cc e)
 not_list h e = refl
 
 pub no_method : (strict : Bool) (h : Head) → slots_of strict a_method (shape_by h) ≡ None

@@ -9,7 +9,7 @@ use Rattle.mini_model.specs.Tree.{Tree, Trees, node, none, ◌▸◌, listed, sh
 use Rattle.mini_model.specs.Paths.{append}
 use Rattle.mini_kept.proofs.Bools.{left, right}
 use Rattle.mini_rows.specs.Lists.{is_unscoped, are_unscoped}
-use Rattle.mini_rows.specs.Sketches.{Head, AbsentPart, AList, Call, New, StaticMember, Property, Spread, Assignment, Empty, OfExpression, Throw, Return, If, Block, shape_by, Sketch, part, under, list, Sketches, end, ◌▹◌, Items, no_items, item, items, Parts, list_at, filled, all_filled, items_filled, Asked, AsWhole, AsWholeList, AsWholeItem, AsValue, AsValues, AsWord, AsHeld, AsTarget, AsUpdated, AsBranch, AsItems, AsItem, item_asked, target_asked, asked_below, Leap, leaps, Hole, Part, Stretch, Leaps, leap_holes, parts_of, parts_from, parts_in, is_same_hole, Free, is_among, settled_as, all_settled, is_operand_head, is_statement_head, is_absent_head, is_member_head, is_word_head, is_piece_head, stands_as, is_list_asked, stands_well, all_stand_well, items_stand_well, are_loose, is_declaring, is_declaring_hole, statements, are_same_holes, is_branch_hole, has_branch_twice}
+use Rattle.mini_rows.specs.Sketches.{Head, AbsentPart, AList, Call, New, StaticMember, Property, Spread, Interpolation, Assignment, Empty, OfExpression, Throw, Return, If, Block, shape_by, Sketch, part, under, list, Sketches, end, ◌▹◌, Items, no_items, item, items, Parts, list_at, filled, all_filled, items_filled, Asked, AsWhole, AsWholeList, AsWholeItem, AsValue, AsValues, AsWord, AsHeld, AsTarget, AsUpdated, AsBranch, AsItems, AsItem, item_asked, target_asked, asked_below, Leap, leaps, Hole, Part, Stretch, Leaps, leap_holes, parts_of, parts_from, parts_in, is_same_hole, Free, is_among, settled_as, all_settled, is_operand_head, is_statement_head, is_absent_head, is_member_head, is_word_head, is_piece_head, stands_as, is_list_asked, stands_well, all_stand_well, items_stand_well, are_loose, is_declaring, is_declaring_hole, statements, are_same_holes, is_branch_hole, has_branch_twice}
 use Rattle.mini_rows.specs.Arranged.{AreLoose}
 use Rattle.mini_rows.proofs.Arranging.{Any, Below, Each, first_each, second_each, same_hole}
 use Rattle.mini_rows.proofs.ArrangedValues.{is_value, is_calm, Valued}
@@ -190,6 +190,9 @@ module _ (A : Type 0) (L B H : Tree → List A) (k : Fold A L B H) where
   value_silent (Property b false) c e zero t = refl
   value_silent Spread AsValue e j t = refl
   value_silent Spread c e j t = refl
+  value_silent Interpolation c e zero t = refl
+  value_silent Interpolation AsValue e (suc j) t = refl
+  value_silent Interpolation c e (suc j) t = refl
   value_silent (Property b d) c e (suc j) t = refl
   value_silent (StaticMember b) c e (suc j) t = refl
   value_silent (Assignment o) c e zero t = of_target o t

@@ -20,7 +20,7 @@ use Rattle.mini_kept.specs.Carried.{numbers, all_numbers}
 use Rattle.mini_kept.specs.KeepsNames.{count_of}
 use Rattle.mini_kept.proofs.Below.{both_counts, empty_both, both_empty}
 use Rattle.mini_kept.proofs.Anywhere.{once_anywhere, targets_anywhere}
-use Rattle.mini_rows.specs.Sketches.{Head, AList, Call, New, StaticMember, Property, Spread, Yield, Assignment, Return, If, Block, shape_by, Asked, AsWhole, AsValue, asked_below, use_by, Leap, Returning, Yielding, leaps}
+use Rattle.mini_rows.specs.Sketches.{Head, AList, Call, New, StaticMember, Property, Spread, Interpolation, Yield, Assignment, Return, If, Block, shape_by, Asked, AsWhole, AsValue, asked_below, use_by, Leap, Returning, Yielding, leaps}
 use Rattle.mini_rows.proofs.Arranging.{Plain, Below, Leaping, Any, Local, sum_below, Summed}
 
 -- ---- scopes
@@ -49,6 +49,9 @@ used_below v (Property b true) c zero = refl
 used_below v (Property b false) c zero = refl
 used_below v Spread AsValue j = refl
 used_below v Spread c j = refl
+used_below v Interpolation c zero = refl
+used_below v Interpolation AsValue (suc j) = refl
+used_below v Interpolation c (suc j) = refl
 used_below v (Property b d) c (suc j) = refl
 used_below v (StaticMember b) c (suc j) = refl
 used_below v (Assignment Assign) c zero = refl

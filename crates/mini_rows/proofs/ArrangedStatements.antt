@@ -31,7 +31,7 @@ use Rattle.mini_kept.proofs.Expressions.{refused_here}
 use Rattle.mini_kept.proofs.InOrder.{in_order}
 use Rattle.mini_kept.proofs.Placed.{statements_slot}
 use Rattle.mini_kept.proofs.Unplaced.{as_body, body_same}
-use Rattle.mini_rows.specs.Sketches.{Head, AList, Spread, Piece, is_piece_head, shape_by, Sketch, part, under, list, Sketches, Items, no_items, item, items, Parts, list_at, filled, all_filled, items_filled, Asked, AsWhole, AsWholeList, AsWholeItem, use_by, parts_of, parts_in, Free, is_rearranged, all_settled, is_statement_head, asked_below, stands_well, all_stand_well, items_stand_well, are_loose, statements, are_same_holes, keeps_statements}
+use Rattle.mini_rows.specs.Sketches.{Head, AList, Spread, Interpolation, Piece, is_piece_head, shape_by, Sketch, part, under, list, Sketches, Items, no_items, item, items, Parts, list_at, filled, all_filled, items_filled, Asked, AsWhole, AsWholeList, AsWholeItem, use_by, parts_of, parts_in, Free, is_rearranged, all_settled, is_statement_head, asked_below, stands_well, all_stand_well, items_stand_well, are_loose, statements, are_same_holes, keeps_statements}
 use Rattle.mini_rows.specs.Arranged.{KeptAt, AllVanish, AreLoose, StatementsArranged, ListsArranged}
 use Rattle.mini_rows.proofs.Arranging.{All, Any, Each, first_each, second_each}
 use Rattle.mini_rows.proofs.ArrangedBodies.{quiet}
@@ -124,6 +124,7 @@ no_loop h ts e = refl
 pub not_list : (h : Head) → is_statement_head h ≡ true → suits_anywhere h ≡ true
 not_list AList e = absurd (cc e)
 not_list Spread e = absurd (cc e)
+not_list Interpolation e = absurd (cc e)
 not_list h e = refl
 
 statement_no_piece : (h : Head) → is_statement_head h ≡ true → is_piece_head h ≡ false

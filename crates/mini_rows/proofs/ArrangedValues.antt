@@ -7,13 +7,13 @@ use Rattle.mini_model.specs.declared.operator.AssignmentOperator.TheVariants.{As
 use Rattle.mini_model.specs.declared.shape.Shape.{Shape}
 use Rattle.mini_model.specs.declared.shape.Shape.TheVariants as shape
 use Rattle.mini_model.specs.Tree.{Tree, Trees, node, none, ◌▸◌, shape_of, child_or_absent}
-use Rattle.mini_accept.specs.WellShaped.{Depth, in_module, in_body, nested, Class, a_statement, a_word, a_key, a_private_or_key, an_inner_key, an_expression, a_link, a_chain, an_argument, an_inner_argument, an_object_property, Slot, one, one_or_absent, many, many_or_holes, many_and_rest, many_or_holes_and_rest, quasis, Tagging, untagged, tagged, is_text, none_if, statement_slots, word_slots, slots_of, Filling, refused, these, each, each_or_last, pieces, filling_by, filling, class_of, has_names, has_its_number, has_plain_fields, has_its_parts, is_whole, is_strict_in, is_last, is_quasi, are_quasis, fits, fill}
+use Rattle.mini_accept.specs.WellShaped.{Depth, in_module, in_body, nested, Class, a_statement, a_word, a_key, a_private_or_key, an_inner_key, an_expression, a_link, a_chain, an_argument, an_inner_argument, an_object_property, a_tagged_template, Slot, one, one_or_absent, many, many_or_holes, many_and_rest, many_or_holes_and_rest, quasis, Tagging, untagged, tagged, is_text, none_if, statement_slots, word_slots, slots_of, Filling, refused, these, each, each_or_last, pieces, filling_by, filling, class_of, has_names, has_its_number, has_plain_fields, has_its_parts, is_whole, is_strict_in, is_last, is_quasi, are_quasis, fits, fill}
 use Rattle.mini_model.specs.Paths.{append}
 use Rattle.mini_laws.specs.DeclaredNames.{own_names}
 use Rattle.mini_kept.proofs.Bools.{left, right}
 use Rattle.mini_kept.proofs.Expressions.{refused_here}
 use Rattle.mini_kept.proofs.Quiet.{is_quiet}
-use Rattle.mini_rows.specs.Sketches.{Head, AbsentPart, AList, Property, Spread, Number, PropertyName, Call, StaticMember, ComputedMember, Yield, Assignment, shape_by, Sketch, part, under, list, Sketches, end, ◌▹◌, Items, no_items, item, items, Parts, list_at, filled, all_filled, items_filled, Asked, AsWhole, AsWholeList, AsWholeItem, AsValue, AsValues, AsWord, AsHeld, AsTarget, AsUpdated, AsBranch, AsItems, AsItem, asked_below, item_asked, is_statement_asked, Leap, leaps, Hole, leap_holes, parts_of, parts_from, parts_in}
+use Rattle.mini_rows.specs.Sketches.{Head, AbsentPart, AList, Property, Spread, Interpolation, Number, PropertyName, Call, StaticMember, ComputedMember, Yield, Assignment, shape_by, Sketch, part, under, list, Sketches, end, ◌▹◌, Items, no_items, item, items, Parts, list_at, filled, all_filled, items_filled, Asked, AsWhole, AsWholeList, AsWholeItem, AsValue, AsValues, AsWord, AsHeld, AsTarget, AsUpdated, AsBranch, AsItems, AsItem, asked_below, item_asked, is_statement_asked, Leap, leaps, Hole, leap_holes, parts_of, parts_from, parts_in}
 use Rattle.mini_rows.proofs.Arranging.{All, Any, Each, both_each}
 
 abbrev pub is_no_inner : Shape → Bool
@@ -227,10 +227,11 @@ word_suits : (w : List ℕ) (h : Head) (c : Asked) → option_suits (asked_below
 word_suits w (PropertyName s) c = no_slots (not (is_text s w)) (asked_below (PropertyName s) c)
 word_suits w h c = refl
 
--- its parts suit any slot in which it stands; a list's and what is spread suit where it does
+-- its parts suit any slot in which it stands; a list's, what is spread and what stands between the texts of a template suit where it does
 abbrev pub suits_anywhere : Head → Bool
 suits_anywhere AList = false
 suits_anywhere Spread = false
+suits_anywhere Interpolation = false
 suits_anywhere h = true
 
 pub class_suits : (strict : Bool) (k : Class) (h : Head) (c : Asked) → (suits_anywhere h || suits c (one k)) ≡ true → option_suits (asked_below h c) (slots_of strict k (shape_by h)) ≡ true
@@ -247,6 +248,9 @@ class_suits strict an_object_property Spread AsValue e = refl
 class_suits strict an_object_property Spread c e = refl
 class_suits strict an_object_property (Property b true) c e = refl
 class_suits strict an_object_property (Property b false) c e = refl
+class_suits strict a_tagged_template Interpolation AsValue e = absurd (cc e)
+class_suits strict k Interpolation AsValue e = refl
+class_suits strict k Interpolation c e = refl
 class_suits strict k (Assignment Assign) c e = refl
 class_suits strict k (Yield true) c e = refl
 class_suits strict k (Yield false) c e = refl

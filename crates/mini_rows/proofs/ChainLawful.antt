@@ -9,8 +9,8 @@ use Rattle.mini_model.specs.declared.seat.Seat.{Seat}
 use Rattle.mini_model.specs.declared.shape.Shape.TheVariants as shape
 use Rattle.mini_model.specs.Tree.{Tree, none, ◌▸◌, listed, identifier, null_literal}
 use Rattle.mini_model.specs.Position.{branch_seat, callee_seat, object_seat, chained_seat}
-use Rattle.mini_model.specs.Weight.{same_text, outlines, weight, is_parenthesized, is_awkward}
-use Rattle.mini_accept.specs.WellShaped.{a_link, a_chain, an_argument, a_label, Slot, one, many, fits, has_optional}
+use Rattle.mini_model.specs.Weight.{same_text, weight}
+use Rattle.mini_accept.specs.WellShaped.{a_link, a_chain, an_argument, a_label, Slot, one, many, fits, has_optional, is_not_positive_number}
 use Rattle.mini_laws.specs.Expressions.{is_eval}
 use Rattle.mini_laws.specs.Naming.{EvalName, PlainName, kind_of, kind_unresolved, kind_declared, summary}
 use Rattle.mini_laws.specs.Rows.{SameAt}
@@ -21,12 +21,13 @@ use Rattle.mini_kept.proofs.Expressions.{expression, TakesExpression, expression
 use Rattle.mini_kept.proofs.FrameRows.{expression_slot}
 use Rattle.mini_terms.specs.Reading.{is_item}
 use Rattle.mini_rows.specs.Arranged.{KeptAt, Vanishes}
-use Rattle.mini_rows.specs.Sketches.{Parts, filled}
+use Rattle.mini_rows.specs.Sketches.{Parts, Sketch, filled, rearranges_expression}
 use Rattle.mini_rows.specs.Spellings.{binary}
 use Rattle.mini_rows.specs.Chains.{Link, a_member, a_computed, a_call, linked, spine, chain, if_nullish, Row46Chain}
 use Rattle.mini_rows.proofs.ArrangedExpressions.{expressions_arranged_freely}
 use Rattle.mini_rows.proofs.ChainHoles.{sketch, trees_of, lists_of, behind, themselves, Stand, filled_sketch, second_dropped, asked_before, asked_after, chained, before_rearranged, after_rearranged}
-use Rattle.mini_rows.proofs.ChainReferences.{chain_for_value}
+use Rattle.mini_terms.specs.Exact.{by_value as behind_zero, kept_by_value}
+use Rattle.mini_rows.proofs.ChainGuards.{by_guard, kept_same, kept_read, kept_number, kept_fits, kept_light, behind_sketch, behind_rearranged}
 use Rattle.mini_rows.proofs.ChainRuns.{chain_same}
 use Rattle.mini_rows.proofs.ChoiceRuns.{Tells, conditional_tells}
 use Rattle.mini_rows.proofs.SpellWeights.{falls_by}
@@ -41,9 +42,8 @@ pub chain_row_same : (s : Seat) (n w : Tree) → Row46Chain s n w → SameAt (Ex
 chain_row_same s n w r =
     let x : Tree = identifier r.name in
     let t : Tree = if_nullish r.equal r.name r.missing (spine false x r.last r.others) in
-    let u : Tree = chain (spine true x r.last r.others) in
     subst (λ t. SameAt (Expr s) t w) (sym r.shape) (subst (SameAt (Expr s) t) (sym r.written)
-    (record { by = λ e D X q f. chain_for_value e D X s r.valued t (spine true x r.last r.others) (item_there r.equal r.name r.missing (spine false x r.last r.others)) (if_tells r.equal r.name r.missing (spine false x r.last r.others)) (λ z. chain_same r.equal r.name r.missing r.last r.others (plain_name r.name r.declared r.indirect) r.undefined r.calm e z) q f }))
+    (record { by = λ e D X q f. kept_same e D X s t (spine true x r.last r.others) (item_there r.equal r.name r.missing (spine false x r.last r.others)) (if_tells r.equal r.name r.missing (spine false x r.last r.others)) (λ z. chain_same r.equal r.name r.missing r.last r.others (plain_name r.name r.declared r.indirect) r.undefined r.calm e z) q f }))
   where
     item_there : (equal : Bool) (x : Name) (a b : Tree) → is_item (if_nullish equal x a b) ≡ true
     item_there true x a b = refl
@@ -58,7 +58,7 @@ if_read true x a b u = refl
 if_read false x a b u = refl
 
 pub chain_row_read : (s : Seat) (n w : Tree) → Row46Chain s n w → summary n ≡ summary w
-chain_row_read s n w r = ap summary r.shape ∙ if_read r.equal r.name r.missing (spine false (identifier r.name) r.last r.others) (spine true (identifier r.name) r.last r.others) ∙ sym (ap summary r.written)
+chain_row_read s n w r = ap summary r.shape ∙ if_read r.equal r.name r.missing (spine false (identifier r.name) r.last r.others) (spine true (identifier r.name) r.last r.others) ∙ kept_read s.guard (spine true (identifier r.name) r.last r.others) ∙ sym (ap summary r.written)
 
 -- ---- where it stands
 
@@ -111,31 +111,31 @@ pub chain_row_fits : (q : Seat) (n w : Tree) → Row46Chain q n w → (strict : 
 chain_row_fits q n w r strict s e =
     let x : Tree = identifier r.name in
     let (takes, last) = of_asked strict s r.equal r.name r.missing (spine false x r.last r.others) (subst (λ t. fits strict s t ≡ true) r.shape e) in
-    subst (λ t. fits strict s t ≡ true) (sym r.written) (expression_taken strict s (chain (spine true x r.last r.others)) takes (chain_fits strict x r.last r.others last))
+    subst (λ t. fits strict s t ≡ true) (sym r.written) (expression_taken strict s (kept_by_value q.guard (chain (spine true x r.last r.others))) takes (kept_fits strict q.guard (spine true x r.last r.others) (chain_fits strict x r.last r.others last)))
 
 pub chain_row_slot : (q : Seat) (n w : Tree) → Row46Chain q n w → (strict : Bool) (s : Slot) → fits strict s n ≡ true → is_body_slot (Expr q) s ≡ true
 chain_row_slot q n w r strict s e = expression_slot (Expr q) s (of_asked strict s r.equal r.name r.missing (spine false (identifier r.name) r.last r.others) (subst (λ t. fits strict s t ≡ true) r.shape e)).0
 
-if_asked : (q : Seat) (equal : Bool) (x : Name) (a b u : Tree) → AskedAlike (Expr q) (if_nullish equal x a b) (chain u)
-if_asked q true x a b u = record {
+if_asked : (q : Seat) (equal : Bool) (x : Name) (a b u : Tree) → is_not_positive_number u ≡ true → AskedAlike (Expr q) (if_nullish equal x a b) u
+if_asked q true x a b u h = record {
   absent = λ e. absurd (true≢false (sym e));
   body = λ e. absurd (true≢false (sym e));
   optional = λ e. absurd (true≢false (sym e));
-  number = λ asks e. refl;
+  number = λ asks e. h;
   spelled = λ s e. absurd (cc e);
   plain = refl;
 }
-if_asked q false x a b u = record {
+if_asked q false x a b u h = record {
   absent = λ e. absurd (true≢false (sym e));
   body = λ e. absurd (true≢false (sym e));
   optional = λ e. absurd (true≢false (sym e));
-  number = λ asks e. refl;
+  number = λ asks e. h;
   spelled = λ s e. absurd (cc e);
   plain = refl;
 }
 
 pub chain_row_asked : (q : Seat) (n w : Tree) → Row46Chain q n w → AskedAlike (Expr q) n w
-chain_row_asked q n w r = subst (λ t. AskedAlike (Expr q) t w) (sym r.shape) (subst (AskedAlike (Expr q) (if_nullish r.equal r.name r.missing (spine false (identifier r.name) r.last r.others))) (sym r.written) (if_asked q r.equal r.name r.missing (spine false (identifier r.name) r.last r.others) (spine true (identifier r.name) r.last r.others)))
+chain_row_asked q n w r = subst (λ t. AskedAlike (Expr q) t w) (sym r.shape) (subst (AskedAlike (Expr q) (if_nullish r.equal r.name r.missing (spine false (identifier r.name) r.last r.others))) (sym r.written) (if_asked q r.equal r.name r.missing (spine false (identifier r.name) r.last r.others) (kept_by_value q.guard (chain (spine true (identifier r.name) r.last r.others))) (kept_number q.guard (spine true (identifier r.name) r.last r.others))))
 
 -- ---- the same parts
 
@@ -149,16 +149,27 @@ module _ (q : Seat) (n w : Tree) (r : Row46Chain q n w) (gone : Vanishes r.missi
   stand : Stand ps.trees ps.lists 2 r.last r.others
   stand = behind named none (r.missing ▸ trees_of r.last r.others) (none ∷ lists_of r.last r.others) 1 r.last r.others (behind r.missing none (trees_of r.last r.others) (lists_of r.last r.others) 0 r.last r.others (themselves r.last r.others))
 
-  made : w ≡ filled ps (chained (sketch true 2 r.last r.others))
-  made = r.written ∙ sym (ap chain (filled_sketch ps true named refl 2 r.last r.others stand))
+  abbrev holds : Tree
+  holds = chain (spine true named r.last r.others)
+
+  abbrev in_chain : Sketch
+  in_chain = chained (sketch true 2 r.last r.others)
+
+  filled_chain : holds ≡ filled ps in_chain
+  filled_chain = sym (ap chain (filled_sketch ps true named refl 2 r.last r.others stand))
+
+  -- the conditional, and a sketch of what is written for it
+  kept_as : (s t : Sketch) (u : Tree) → rearranges_expression second_dropped s t ≡ true → n ≡ filled ps s → u ≡ filled ps t → KeptAt (Expr q) n u
+  kept_as s t u h e f = expressions_arranged_freely second_dropped ps (tt, tt, (gone, tt)) s t h q n u e f
+
+  kept_from : (s : Sketch) → rearranges_expression second_dropped s in_chain ≡ true → n ≡ filled ps s → KeptAt (Expr q) n w
+  kept_from s h e =
+      subst (KeptAt (Expr q) n) (sym r.written)
+      (by_guard (KeptAt (Expr q) n) q.guard (spine true named r.last r.others) (λ v. kept_as s in_chain holds h e filled_chain) (kept_as s (behind_sketch in_chain) (behind_zero holds) (behind_rearranged second_dropped s in_chain h) e (ap behind_zero filled_chain)))
 
   kept_by : (equal : Bool) → n ≡ if_nullish equal r.name r.missing (spine false named r.last r.others) → KeptAt (Expr q) n w
-  kept_by true e =
-      expressions_arranged_freely second_dropped ps (tt, tt, (gone, tt)) (asked_before (sketch false 2 r.last r.others)) (chained (sketch true 2 r.last r.others)) (before_rearranged r.last r.others) q n w
-      (e ∙ sym (ap (λ t. if_nullish true r.name r.missing t) (filled_sketch ps false named refl 2 r.last r.others stand))) made
-  kept_by false e =
-      expressions_arranged_freely second_dropped ps (tt, tt, (gone, tt)) (asked_after (sketch false 2 r.last r.others)) (chained (sketch true 2 r.last r.others)) (after_rearranged r.last r.others) q n w
-      (e ∙ sym (ap (λ t. if_nullish false r.name r.missing t) (filled_sketch ps false named refl 2 r.last r.others stand))) made
+  kept_by true e = kept_from (asked_before (sketch false 2 r.last r.others)) (before_rearranged r.last r.others) (e ∙ sym (ap (λ t. if_nullish true r.name r.missing t) (filled_sketch ps false named refl 2 r.last r.others stand)))
+  kept_by false e = kept_from (asked_after (sketch false 2 r.last r.others)) (after_rearranged r.last r.others) (e ∙ sym (ap (λ t. if_nullish false r.name r.missing t) (filled_sketch ps false named refl 2 r.last r.others stand)))
 
   pub chain_row_kept : KeptAt (Expr q) n w
   chain_row_kept = kept_by r.equal r.shape
@@ -183,28 +194,16 @@ pub spine_moved : (s : Seat) (o : Bool) (x : Tree) (l : Link) (ls : List Link) �
 spine_moved s o x l [] = link_moved s o l x
 spine_moved s o x l (m ∷ ls) = link_moved s false l (spine o x m ls)
 
-four_at_most : (b : Bool) → (if b then 4 else 0) ≤ 4
-four_at_most true = omega arith
-four_at_most false = omega arith
-
-one_at_most : (b : Bool) → (if b then 1 else 0) ≤ 1
-one_at_most true = omega arith
-one_at_most false = omega arith
-
-pub chain_light : (s : Seat) (t : Tree) → weight (Expr s) (chain t) ≤ weight (Expr (chained_seat s)) t + 5
-chain_light s t = omega (arith, four_at_most (is_parenthesized shape.ChainExpression s), one_at_most (is_awkward s shape.ChainExpression (outlines (t ▸ none))))
-
-asked_heavy : (s : Seat) (equal : Bool) (x : Name) (a b : Tree) → weight (Expr (branch_seat s)) b + 12 ≤ weight (Expr s) (if_nullish equal x a b)
+asked_heavy : (s : Seat) (equal : Bool) (x : Name) (a b : Tree) → weight (Expr (branch_seat s)) b + 14 ≤ weight (Expr s) (if_nullish equal x a b)
 asked_heavy s true x a b = omega arith
 asked_heavy s false x a b = omega arith
 
-pub chain_row_falls : (s : Seat) (equal : Bool) (x : Name) (m : Tree) (l : Link) (ls : List Link) → weight (Expr s) (chain (spine true (identifier x) l ls)) < weight (Expr s) (if_nullish equal x m (spine false (identifier x) l ls))
+pub chain_row_falls : (s : Seat) (equal : Bool) (x : Name) (m : Tree) (l : Link) (ls : List Link) → weight (Expr s) (kept_by_value s.guard (chain (spine true (identifier x) l ls))) < weight (Expr s) (if_nullish equal x m (spine false (identifier x) l ls))
 chain_row_falls s equal x m l ls =
-    let light = chain_light s (spine true (identifier x) l ls) in
-    let moved = spine_moved s true (identifier x) l ls in
+    let light = kept_light s (spine true (identifier x) l ls) (λ r. spine_moved r true (identifier x) l ls) in
     let more = spine_light (branch_seat s) (identifier x) l ls in
     let heavy = asked_heavy s equal x m (spine false (identifier x) l ls) in
-    omega (arith, light, moved, more, heavy)
+    omega (arith, light, more, heavy)
 
 pub chain_row_lighter : (s : Seat) (n w : Tree) → Row46Chain s n w → weight (Expr s) w < weight (Expr s) n
 chain_row_lighter s n w r = falls_by (Expr s) n w _ _ r.shape r.written (chain_row_falls s r.equal r.name r.missing r.last r.others)

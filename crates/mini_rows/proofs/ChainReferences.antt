@@ -24,7 +24,7 @@ use Rattle.mini_laws.proofs.Truth.{coherent}
 use Rattle.mini_terms.specs.Reading.{by_value, is_item, stands}
 use Rattle.mini_terms.proofs.Dropping.{weak}
 use Rattle.mini_terms.proofs.Reading.{read_by_value, same_item, typed_by_value}
-use Rattle.mini_rows.specs.Chains.{Link, a_member, a_computed, a_call, call, linked, chain, is_calm_link, reads_value}
+use Rattle.mini_rows.specs.Chains.{Link, a_member, a_computed, a_call, call, linked, chain, is_calm_link}
 use Rattle.mini_rows.proofs.ChainCalm.{Calm, calm_next}
 use Rattle.mini_rows.proofs.ChainRuns.{value, called, next, ends_if, linked_value, value_is, word_calm, value_calm, link_calm}
 use Rattle.mini_rows.proofs.ChoiceRuns.{asked, Tells}
@@ -119,6 +119,12 @@ unfolding by_value
 base_typed e x h s = read_by_value x h e OfType tt s
 
 -- ---- where its value is asked, it stands for what has that value
+
+-- not as a callee or under `delete`, where it would be the reference of its last link
+abbrev pub reads_value : Guard → Bool
+reads_value guard.None = true
+reads_value guard.Typeof = true
+reads_value g = false
 
 valued_guard : (g h : Guard) → reads_value g ≡ true → g ≡ h → reads_value h ≡ false → ⊥
 valued_guard g h u e f = true≢false (sym u ∙ ap reads_value e ∙ f)

@@ -41,6 +41,7 @@ use Rattle.mini_rows.proofs.ChainEndKept.{end_kept}
 use Rattle.mini_rows.proofs.ArrangedExpressions.{expressions_arranged, expressions_arranged_freely}
 use Rattle.mini_rows.proofs.ArrangedLawful.{kept_loosely, fixed_is_lawful, kept_is_loose}
 use Rattle.mini_rows.proofs.ChainLawful.{chain_row_kept}
+use Rattle.mini_rows.proofs.FirstParts.{zero_row_kept}
 use Rattle.mini_rows.proofs.ChoiceCalls.{calls_kept}
 use Rattle.mini_rows.proofs.ChoiceIndexed.{indexed_kept}
 use Rattle.mini_rows.proofs.ChoiceSpines.{Stand, behind, themselves, filled_spine, spine, apart, first_two, spines_rearranged}
@@ -353,7 +354,8 @@ expression_kept q n w (inr (inr (inr (inr (inl r))))) = kept_loosely (Expr q) n 
 expression_kept q n w (inr (inr (inr (inr (inr (inl r)))))) = kept_loosely (Expr q) n w (chains_kept q n w r)
 expression_kept q n w (inr (inr (inr (inr (inr (inr (inl r))))))) = end_kept q n w r
 expression_kept q n w (inr (inr (inr (inr (inr (inr (inr (inl r)))))))) = kept_loosely (Expr q) n w (both_sides_kept q n w r)
-expression_kept q n w (inr (inr (inr (inr (inr (inr (inr (inr r)))))))) = kept_loosely (Expr q) n w (indexed_kept q n w r)
+expression_kept q n w (inr (inr (inr (inr (inr (inr (inr (inr (inl r))))))))) = kept_loosely (Expr q) n w (indexed_kept q n w r)
+expression_kept q n w (inr (inr (inr (inr (inr (inr (inr (inr (inr r))))))))) = kept_loosely (Expr q) n w (zero_row_kept q n w r)
 
 kept : (p : Position) (n w : Tree) → ChoiceRow p n w → KeptLoosely p n w
 kept (Expr q) n w r = expression_kept q n w r

@@ -38,6 +38,7 @@ use Rattle.mini_rows.proofs.ChainLinkMeaning.{chains_same, chains_read}
 use Rattle.mini_rows.proofs.BothSides.{both_sides_same}
 use Rattle.mini_rows.proofs.ChainEnds.{end_same, end_read}
 use Rattle.mini_rows.proofs.ChainLawful.{chain_row_same, chain_row_read}
+use Rattle.mini_rows.proofs.FirstParts.{zero_row_same, zero_row_read}
 use Rattle.mini_rows.proofs.ChainRuns.{next, no_names, no_kids}
 use Rattle.mini_rows.proofs.ChoiceCalls.{calls_same}
 use Rattle.mini_rows.proofs.ChoiceLast.{last_same}
@@ -630,7 +631,8 @@ means_same (Expr s) n w (inr (inr (inr (inr (inl r))))) = tree_same s n w (calls
 means_same (Expr s) n w (inr (inr (inr (inr (inr (inl r)))))) = chains_same s n w r
 means_same (Expr s) n w (inr (inr (inr (inr (inr (inr (inl r))))))) = end_same s n w r
 means_same (Expr s) n w (inr (inr (inr (inr (inr (inr (inr (inl r)))))))) = tree_same s n w (both_sides_same n w r)
-means_same (Expr s) n w (inr (inr (inr (inr (inr (inr (inr (inr r)))))))) = tree_same s n w (indexed_same s n w r)
+means_same (Expr s) n w (inr (inr (inr (inr (inr (inr (inr (inr (inl r))))))))) = tree_same s n w (indexed_same s n w r)
+means_same (Expr s) n w (inr (inr (inr (inr (inr (inr (inr (inr (inr r))))))))) = zero_row_same s n w r
 means_same p n w r = absurd r
 
 reads : (p : Position) (n w : Tree) → ChoiceRow p n w → summary n ≡ summary w
@@ -642,7 +644,8 @@ reads (Expr s) n w (inr (inr (inr (inr (inl r))))) = (calls_same n w r).read
 reads (Expr s) n w (inr (inr (inr (inr (inr (inl r)))))) = chains_read s n w r
 reads (Expr s) n w (inr (inr (inr (inr (inr (inr (inl r))))))) = end_read s n w r
 reads (Expr s) n w (inr (inr (inr (inr (inr (inr (inr (inl r)))))))) = (both_sides_same n w r).read
-reads (Expr s) n w (inr (inr (inr (inr (inr (inr (inr (inr r)))))))) = (indexed_same s n w r).read
+reads (Expr s) n w (inr (inr (inr (inr (inr (inr (inr (inr (inl r))))))))) = (indexed_same s n w r).read
+reads (Expr s) n w (inr (inr (inr (inr (inr (inr (inr (inr (inr r))))))))) = zero_row_read s n w r
 reads p n w r = absurd r
 
 pub choices_same : MeansSame ChoiceContracts

@@ -27,6 +27,7 @@ use Rattle.mini_rows.proofs.ChainEnds.{end_fits, end_asked, end_slot}
 use Rattle.mini_rows.proofs.ChainLawful.{chain_row_fits, chain_row_asked, chain_row_slot}
 use Rattle.mini_rows.proofs.ChoiceCalls.{calls_fit}
 use Rattle.mini_rows.proofs.ChoiceIndexed.{indexed_fit}
+use Rattle.mini_rows.proofs.FirstParts.{zero_row_fits, zero_row_asked, zero_row_slot}
 use Rattle.mini_rows.proofs.SequenceEnds.{last_fits}
 use Rattle.mini_rows.proofs.SpellShapes.{Form, a_binary, an_assignment, a_logical, a_conditional, shaped, Kind, Alone, Linked, Ending, Assigned, Nowhere, kind_of, kind_in, filled, fits_is, Formed, formed_asked, formed_slot}
 
@@ -350,7 +351,8 @@ row_fits (Expr q) n w (inr (inr (inr (inr (inl r))))) strict s e = called_fits s
 row_fits (Expr q) n w (inr (inr (inr (inr (inr (inl r)))))) strict s e = chains_fit q n w r strict s e
 row_fits (Expr q) n w (inr (inr (inr (inr (inr (inr (inl r))))))) strict s e = end_fits q n w r strict s e
 row_fits (Expr q) n w (inr (inr (inr (inr (inr (inr (inr (inl r)))))))) strict s e = both_sides_fit strict s n w r e
-row_fits (Expr q) n w (inr (inr (inr (inr (inr (inr (inr (inr r)))))))) strict s e = member_fits strict s q n w r e
+row_fits (Expr q) n w (inr (inr (inr (inr (inr (inr (inr (inr (inl r))))))))) strict s e = member_fits strict s q n w r e
+row_fits (Expr q) n w (inr (inr (inr (inr (inr (inr (inr (inr (inr r))))))))) strict s e = zero_row_fits q n w r strict s e
 row_fits p n w r strict s e = absurd r
 
 pub row_asked : (p : Position) (n w : Tree) → ChoiceRow p n w → AskedAlike p n w
@@ -362,7 +364,8 @@ row_asked (Expr q) n w (inr (inr (inr (inr (inl r))))) = choosing_asked (Expr q)
 row_asked (Expr q) n w (inr (inr (inr (inr (inr (inl r)))))) = chains_asked q n w r
 row_asked (Expr q) n w (inr (inr (inr (inr (inr (inr (inl r))))))) = end_asked q n w r
 row_asked (Expr q) n w (inr (inr (inr (inr (inr (inr (inr (inl r)))))))) = both_sides_asked (Expr q) n w r
-row_asked (Expr q) n w (inr (inr (inr (inr (inr (inr (inr (inr r)))))))) = formed_asked (Expr q) n w (member_formed q n w r)
+row_asked (Expr q) n w (inr (inr (inr (inr (inr (inr (inr (inr (inl r))))))))) = formed_asked (Expr q) n w (member_formed q n w r)
+row_asked (Expr q) n w (inr (inr (inr (inr (inr (inr (inr (inr (inr r))))))))) = zero_row_asked q n w r
 row_asked p n w r = absurd r
 
 pub row_slot : (p : Position) (n w : Tree) → ChoiceRow p n w → (strict : Bool) (s : Slot) → fits strict s n ≡ true → is_body_slot p s ≡ true
@@ -374,5 +377,6 @@ row_slot (Expr q) n w (inr (inr (inr (inr (inl r))))) = formed_slot (Expr q) n n
 row_slot (Expr q) n w (inr (inr (inr (inr (inr (inl r)))))) = chains_slot q n w r
 row_slot (Expr q) n w (inr (inr (inr (inr (inr (inr (inl r))))))) = end_slot q n w r
 row_slot (Expr q) n w (inr (inr (inr (inr (inr (inr (inr (inl r)))))))) = formed_slot (Expr q) n n (both_sides_formed n w r)
-row_slot (Expr q) n w (inr (inr (inr (inr (inr (inr (inr (inr r)))))))) = formed_slot (Expr q) n w (member_formed q n w r)
+row_slot (Expr q) n w (inr (inr (inr (inr (inr (inr (inr (inr (inl r))))))))) = formed_slot (Expr q) n w (member_formed q n w r)
+row_slot (Expr q) n w (inr (inr (inr (inr (inr (inr (inr (inr (inr r))))))))) = zero_row_slot q n w r
 row_slot p n w r = absurd r

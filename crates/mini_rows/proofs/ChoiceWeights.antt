@@ -22,6 +22,8 @@ use Rattle.mini_laws.proofs.Seats.{placed, placed_node}
 use Rattle.mini_rows.specs.Spellings.{binary, assignment}
 use Rattle.mini_rows.specs.Choices.{Key, Named, Spelled, Numbered, member_on, keeps_parentheses, asks_object, null_compared, held, ended, assign, is_same_operator, is_grouped, joined, strictly, loosely, joining, AreNullish, deciding, computing, LighterRow, OwnRow, HeldRow, ChoiceRow, ChoiceContracts, ChoicesLighter}
 use Rattle.mini_rows.specs.Chains.{spine, chain, if_nullish}
+use Rattle.mini_terms.specs.Exact.{kept_by_value}
+use Rattle.mini_rows.proofs.ChainGuards.{kept_outline}
 use Rattle.mini_rows.proofs.ChainLinkLawful.{chains_outline}
 use Rattle.mini_rows.proofs.ChainEnds.{end_outline}
 use Rattle.mini_rows.specs.Lists.{sequence}
@@ -424,10 +426,10 @@ held_outline n w (inr (inr (inr (inr (inl r))))) = ap outline r.shape ∙ sym (a
 held_outline n w (inr (inr (inr (inr (inr (inl r)))))) = ap outline r.shape ∙ sym (ap outline r.written)
 held_outline n w (inr (inr (inr (inr (inr (inr r)))))) = ap outline r.shape ∙ sym (ap outline r.written)
 
--- of the conditional, and of the chain
-chain_outline : (equal : Bool) (x : Name) (a t u n w : Tree) → n ≡ if_nullish equal x a t → w ≡ chain u → outline n ≡ outline w
-chain_outline true x a t u n w e f = ap outline e ∙ sym (ap outline f)
-chain_outline false x a t u n w e f = ap outline e ∙ sym (ap outline f)
+-- of the conditional, and of the chain, also behind a `0`
+chain_outline : (s : Seat) (equal : Bool) (x : Name) (a t u n w : Tree) → n ≡ if_nullish equal x a t → w ≡ kept_by_value s.guard (chain u) → outline n ≡ outline w
+chain_outline s true x a t u n w e f = ap outline e ∙ kept_outline s.guard u ∙ sym (ap outline f)
+chain_outline s false x a t u n w e f = ap outline e ∙ kept_outline s.guard u ∙ sym (ap outline f)
 
 outline_by_row : (p : Position) (n w : Tree) → ChoiceRow p n w → outline n ≡ outline w
 outline_by_row (Expr s) n w (inl r) = lighter_outline s n w r
@@ -437,8 +439,9 @@ outline_by_row (Expr s) n w (inr (inr (inr (inr (inl r))))) = ap outline r.shape
 outline_by_row (Expr s) n w (inr (inr (inr (inr (inr (inl r)))))) = chains_outline s n w r
 outline_by_row (Expr s) n w (inr (inr (inr (inr (inr (inr (inl r))))))) = end_outline s n w r
 outline_by_row (Expr s) n w (inr (inr (inr (inr (inr (inr (inr (inl r)))))))) = ap outline r.shape ∙ sym (ap outline r.written)
-outline_by_row (Expr s) n w (inr (inr (inr (inr (inr (inr (inr (inr r)))))))) = ap outline r.shape ∙ sym (ap outline r.written)
-outline_by_row (Expr s) n w (inr (inr (inr (inl r)))) = chain_outline r.equal r.name r.missing (spine false (identifier r.name) r.last r.others) (spine true (identifier r.name) r.last r.others) n w r.shape r.written
+outline_by_row (Expr s) n w (inr (inr (inr (inr (inr (inr (inr (inr (inl r))))))))) = ap outline r.shape ∙ sym (ap outline r.written)
+outline_by_row (Expr s) n w (inr (inr (inr (inr (inr (inr (inr (inr (inr r))))))))) = ap outline r.shape ∙ sym (ap outline r.written)
+outline_by_row (Expr s) n w (inr (inr (inr (inl r)))) = chain_outline s r.equal r.name r.missing (spine false (identifier r.name) r.last r.others) (spine true (identifier r.name) r.last r.others) n w r.shape r.written
 outline_by_row p n w r = absurd r
 
 pub lightens : Lightens ChoiceContracts

@@ -32,13 +32,13 @@ use Rattle.mini_kept.specs.Without.{Unseen}
 use Rattle.mini_terms.specs.Reading.{is_item, by_value, is_typed_by_value}
 use Rattle.mini_terms.proofs.Reading.{typed_by_value}
 use Rattle.mini_rows.specs.Sketches.{shape_by, Asked, AsValue, asked_below}
-use Rattle.mini_rows.specs.Unused.{resolved, is_constant, is_called_by_value, entries_below}
+use Rattle.mini_rows.specs.Unused.{resolved, is_constant, is_called_by_value, Gathered, OfValues, gathered_below}
 use Rattle.mini_rows.proofs.CalledReads.{called_read, name_called_read}
 use Rattle.mini_rows.proofs.ItemReads.{item_read}
 use Rattle.mini_rows.proofs.Passing.{value_there}
 use Rattle.mini_rows.proofs.Avoiding.{Without, AllWithout, without, all_without, node_without, spared_by, spares}
 use Rattle.mini_rows.proofs.SingleUse.{head_of, before, place, Step, led, is_end, end_of, Well, Spared, PassedIn, Passed, summaries_led}
-use Rattle.mini_rows.proofs.SingleMeaning.{Before, Opens, Suits, suits_below, first_goes}
+use Rattle.mini_rows.proofs.SingleMeaning.{Before, Opens, Gathers, Suits, suits_below, first_goes}
 use Rattle.mini_rows.proofs.UnusedNames.{all_avoided}
 
 there_before : (ps : Trees) (t : Tree) (ts : Trees) → Before (count ps) (length (facts_all (summaries (append ps (t ▸ ts)))))
@@ -172,7 +172,7 @@ module _ (e : Environment) (k : ℕ) (z : Unseen (alone (Declared k)) e) (v : Va
       kids_without : (s : Step) (ss : List Step) → Spared x (s ∷ ss) → AllWithout k (summaries (append (before s.lead) (led ss read ▸ s.rest)))
       kids_without s ss f = all_joined (before s.lead) (led ss read) s.rest (all_avoided x k named (before s.lead) f.0.0) (led_without ss f.1) (all_avoided x k named s.rest f.0.1)
 
-      path_goes : (m : Bool) (c : Asked) (ss : List Step) → Well c ss → Spared x ss → PassedIn m init spelling ss → (q : Demand) → Suits c q (end_of spelling init ss) → (X : VariableSet) → TreesGo rules X q (led ss read) (led ss init)
+      path_goes : (m : Gathered) (c : Asked) (ss : List Step) → Well c ss → Spared x ss → PassedIn m init spelling ss → (q : Demand) → Suits c q (end_of spelling init ss) → (X : VariableSet) → TreesGo rules X q (led ss read) (led ss init)
       unfolding TreesGo
       path_goes m AsValue [] w f p (As d) u X r l wl ol s t b = value_goes d l s t b
       path_goes m AsValue [] w f p AnEntry u X r l wl ol s t b = entry_goes l s t b
@@ -191,10 +191,10 @@ module _ (e : Environment) (k : ℕ) (z : Unseen (alone (Declared k)) e) (v : Va
           let last = all_avoided x k named s.rest f.0.1 in
           one_node rules sound h [] [] 0 0 (kids read) (kids init) X q (subst (λ js. Alive D e (naming h q [] 0 is) (naming h q [] 0 js)) same (alive_self D e h q [] 0 is tt), spared_by k h q [] 0 is refl (kids_without s ss f)) refl (ap facts_all same)
           (list_goes ps (led ss read) (led ss init) s.rest first last (needs h q X (kids read)) (demand h (facts_all is) q)
-          (path_goes (entries_below m h (place 0 ps)) (asked_below (head_of s.lead) c (place 0 ps)) ss w.1 f.1 p.1 (demand h (facts_all is) q (count ps)) below (needs h q X (kids read) (count ps)))) r l wl ol y y' b
+          (path_goes (gathered_below m h (place 0 ps)) (asked_below (head_of s.lead) c (place 0 ps)) ss w.1 f.1 p.1 (demand h (facts_all is) q (count ps)) below (needs h q X (kids read) (count ps)))) r l wl ol y y' b
 
       pub constant_goes : (c : Asked) (ss : List Step) → Well c ss → Spared x ss → Passed init spelling ss → (q : Demand) → Suits c q (end_of spelling init ss) → (r : Request q) (s t : State) → Agree D s t → s.vars (Declared k) ≡ Holds v → Goes true (λ a. Agree D) (Agree D) (Agree D) (means e (led ss read) q r s) (means e (led ss init) q r t)
-      constant_goes c ss w f p q u r s t a h = agreeing (means e (led ss read) q r s) (means e (led ss init) q r t) (plain_goes rules q (led ss read) (led ss init) (path_goes false c ss w f p q u nothing) r s t (record { agree = a; has = h }))
+      constant_goes c ss w f p q u r s t a h = agreeing (means e (led ss read) q r s) (means e (led ss init) q r t) (plain_goes rules q (led ss read) (led ss init) (path_goes OfValues c ss w f p q u nothing) r s t (record { agree = a; has = h }))
 
 -- ---- whatever the initializer is
 
@@ -206,11 +206,11 @@ module _ (e : Environment) (k : ℕ) (z : Unseen (alone (Declared k)) e) (x : Na
   agrees v s = record { vars = λ y d. ap (λ c. choose c (Holds v) (s.vars y)) d; self = refl; answers = refl; turns = refl; events = refl }
 
   -- what a tree reads may be put there
-  pub moves_there : (c : Asked) (ss : List Step) → Well c ss → Spared x ss → Passed init spelling ss → (q : Demand) → Suits c q (end_of spelling init ss) → (r : Request q) → Opens q r → (s : State) → Goes true (λ a. Agree (alone (Declared k))) (Agree (alone (Declared k))) (Agree (alone (Declared k))) (either (means e init (As Val) tt s) (λ v t. means e (led ss (identifier (resolved spelling k))) q r (after v t)) (λ y t. stop y t)) (means e (led ss init) q r s)
-  moves_there c ss w f p q u r i s = by (is_constant init) refl
+  pub moves_there : (c : Asked) (ss : List Step) → Well c ss → Spared x ss → Passed init spelling ss → (q : Demand) → Suits c q (end_of spelling init ss) → Gathers OfValues q → (r : Request q) → Opens q r → (s : State) → Goes true (λ a. Agree (alone (Declared k))) (Agree (alone (Declared k))) (Agree (alone (Declared k))) (either (means e init (As Val) tt s) (λ v t. means e (led ss (identifier (resolved spelling k))) q r (after v t)) (λ y t. stop y t)) (means e (led ss init) q r s)
+  moves_there c ss w f p q u n r i s = by (is_constant init) refl
     where
       by : (b : Bool) → is_constant init ≡ b → Goes true (λ a. Agree (alone (Declared k))) (Agree (alone (Declared k))) (Agree (alone (Declared k))) (either (means e init (As Val) tt s) (λ v t. means e (led ss (identifier (resolved spelling k))) q r (after v t)) (λ y t. stop y t)) (means e (led ss init) q r s)
-      by false o = first_goes e k z x named spelling init plain item o false c ss w f p q u tt r i s
+      by false o = first_goes e k z x named spelling init plain item o OfValues c ss w f p q u n r i s
       by true o =
           let (there, known) = value_there e init o in
           let (v, is) = known in

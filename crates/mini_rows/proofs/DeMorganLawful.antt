@@ -35,7 +35,8 @@ use Rattle.mini_rows.proofs.BranchEnds.{last_written}
 use Rattle.mini_rows.proofs.BranchLawful.{taken, as_statement, fits_there, body_slot, plain_asked}
 use Rattle.mini_rows.proofs.FoldLawful.{statement_taken, expression_slot}
 use Rattle.mini_rows.proofs.ListShapes.{AllFit, sequence_fits, append_fits, both_fit, first_fits, more_fit}
-use Rattle.mini_rows.proofs.SequenceLawful.{of_sequence, items_fit, two_at_least, sequence_asked}
+use Rattle.mini_rows.proofs.SequenceLawful.{items_fit, two_at_least}
+use Rattle.mini_rows.proofs.SequenceStands.{of_sequence, sequence_asked}
 use Rattle.mini_rows.proofs.DeMorganMeaning.{de_morgan_same}
 use Rattle.mini_rows.proofs.ForPartKept.{of_init, of_update, other_init_fits, update_fits, other_kept, init_kept, update_kept}
 use Rattle.mini_rows.proofs.NegationKept.{of_two, written_then, junction_written, both_written, lightest_written}

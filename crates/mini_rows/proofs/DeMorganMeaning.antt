@@ -84,8 +84,8 @@ module _ (x y : Tree) (alike : (e : Environment) (s : State) → means e x (As U
 
   void_alike : (v : VoidPlace) → SameAt (Stmt q) (void_of v x) (void_of v y)
   void_alike Alone = record { by = alone_alike }
-  void_alike (Begins t u c) = weaker_same q (for_loop x t u c) (for_loop y t u c) (λ e l r s. begun_weaker x y t u c (λ e z. inr (alike e z)) read e l r s other)
-  void_alike (Turns i t c) = weaker_same q (for_loop i t x c) (for_loop i t y c) (λ e l r s. update_weaker i t x y c (λ e z. inr (alike e z)) e l r s)
+  void_alike (Begins t u c) = weaker_same q (for_loop x t u c) (for_loop y t u c) (λ e l r s. begun_weaker e x y t u c (λ z. inr (alike e z)) read l r s other)
+  void_alike (Turns i t c) = weaker_same q (for_loop i t x c) (for_loop i t y c) (λ e l r s. update_weaker e i t x y c (λ z. inr (alike e z)) l r s)
 
 void_step : (q : StmtSeat) (v : VoidPlace) (x y : Tree) → Stands Place x y → Step Stands (Stmt q) (void_of v x) (void_of v y)
 void_step q Alone x y k = inside (Stmt q) shape.ExpressionStatement [] 0 (x ▸ none) (y ▸ none) (first (child_position shape.ExpressionStatement (Stmt q) 1) x y none (here Place x y k))

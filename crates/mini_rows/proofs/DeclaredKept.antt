@@ -49,7 +49,7 @@ use Rattle.mini_rows.proofs.ArrangedNames.{ScopedAs, scoped_local, symbol_times,
 use Rattle.mini_rows.proofs.ArrangedBodies.{quiet, HasBodies, bodies_local, HasFrames, frames_local, Among, Declares, declares_local, FixedBy, fixed_local, rank}
 use Rattle.mini_rows.proofs.ListKeptDeclarations.{all_both, over, is_var, body_are, names_if, declares_as, lets, scope_if, read_opens, own_fixed, own_both_fixed, fixed_down, fixed_up, either_up, either_down, names_are, declarations_are, used, scoped_down, scoped_up, symbols_are, inner_is, numbers_are, declared_are, frames_are, bodies_are, once_is, jumps_are}
 use Rattle.mini_rows.proofs.ListKeptStretch.{joined, parted, stretched, sum_joined, sum_stretched}
-use Rattle.mini_rows.proofs.SingleUse.{Lead, Not, Plus, Minus, Tilde, Typing, Emptying, Beside, Deciding, Choosing, Passing, Called, Making, Waiting, Member, Keyed, Linking, Holding, Against, Given, Filling, Keying, Following, Branching, Failing, Storing, Targeted, Changing, Gathering, Fielding, Spreading, Bracketing, Doing, Giving, Raising, Testing, head_of, before, Step, led, is_end, Stands, Well, statement, swapped, taken, swapped_sum, unnamed, found, by_front, ends_short, swapped_back}
+use Rattle.mini_rows.proofs.SingleUse.{Lead, Not, Plus, Minus, Tilde, Typing, Emptying, Beside, Deciding, Choosing, Passing, Called, Making, Waiting, Member, Keyed, Linking, Holding, Against, Given, Filling, Keying, Interpolating, Following, Branching, Failing, Storing, Targeted, Changing, Gathering, Fielding, Spreading, Bracketing, Doing, Giving, Raising, Testing, head_of, before, Step, led, is_end, Stands, Well, statement, swapped, taken, swapped_sum, unnamed, found, by_front, ends_short, swapped_back}
 use Rattle.mini_rows.proofs.UnusedKept.{LeavesThere, NamesThere, DeclaresThere, alone_stricter}
 use Rattle.mini_rows.proofs.UnusedNames.{Other, or_parts, all_unmentioned, declared_other, all_other, unmentioned}
 
@@ -502,6 +502,7 @@ value_hoists (Against o a) b w u ts = refl
 value_hoists (Given o a) b w u ts = refl
 value_hoists (Filling a) b w u ts = refl
 value_hoists (Keying o a) b w u ts = refl
+value_hoists (Interpolating a) b w u ts = refl
 value_hoists (Following o a) b w u ts = refl
 value_hoists (Branching a) b w u ts = refl
 value_hoists (Failing a d) b w u ts = refl

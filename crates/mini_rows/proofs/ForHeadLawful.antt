@@ -197,7 +197,7 @@ module _ (q : StmtSeat) (n w : Tree) (r : ForRow n w) where
       (for_same e r.spelling r.symbol u r.kind (never_written r.kind e r.symbol r.lexical) r.first r.last r.init r.idle (all_avoided x r.symbol refl r.first r.declared_earlier) (all_avoided x r.symbol refl r.last r.declared_later) (r.test ▸ (r.update ▸ (r.body ▸ none))) (all_avoided x r.symbol refl (r.test ▸ (r.update ▸ (r.body ▸ none))) r.later) t)
       (left_same e D r.kind (r.test ▸ (r.update ▸ (r.body ▸ none))) (append r.first r.last) t)
 
-  dropped : Dropped q r.symbol this that
+  dropped : Dropped (Stmt q) r.symbol this that
   dropped =
       let a = unmentioned x r.symbol refl r.test in_test.0 in
       let b = unmentioned x r.symbol refl r.update in_update.0 in
@@ -215,8 +215,8 @@ module _ (q : StmtSeat) (n w : Tree) (r : ForRow n w) where
         declared_there = for_declares x d v leaves names_there r.test r.update r.body;
       }
 
-  row_dropped : Dropped q r.symbol n w
-  row_dropped = subst (λ t. Dropped q r.symbol t w) (sym r.shape) (subst (Dropped q r.symbol this) (sym r.written) dropped)
+  row_dropped : Dropped (Stmt q) r.symbol n w
+  row_dropped = subst (λ t. Dropped (Stmt q) r.symbol t w) (sym r.shape) (subst (Dropped (Stmt q) r.symbol this) (sym r.written) dropped)
 
   in_place : (strict : Bool) (s : Slot) → fits strict s n ≡ true → (fits strict s w ≡ true) × (is_body_slot (Stmt q) s ≡ true)
   in_place strict s e =

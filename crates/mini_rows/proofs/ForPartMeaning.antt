@@ -57,44 +57,47 @@ nothing_done s (halt x z) q = absurd q
 nothing_done s out q = inl refl
 
 -- where nobody asks for its value it does what nothing does
-abbrev pub LikeNothing : Tree → Type 0
-LikeNothing t = (e : Environment) (s : State) → Weaker (means e t (As Unused) tt s) (means e absent (As Unused) tt s)
+abbrev pub LikeNothing : Environment → Tree → Type 0
+LikeNothing e t = (s : State) → Weaker (means e t (As Unused) tt s) (means e absent (As Unused) tt s)
 
-like_nothing : (t : Tree) → is_effect_free t ≡ true → LikeNothing t
-like_nothing t h e s = subst (Weaker (means e t (As Unused) tt s)) (sym (absent_unused e s)) (nothing_done s (means e t (As Unused) tt s) (effect_free_sound t e true (λ f. absurd (true≢false f)) h Unused s))
+pub quiet_is_nothing : (e : Environment) (t : Tree) → ((s : State) → Quiet s (means e t (As Unused) tt s)) → LikeNothing e t
+quiet_is_nothing e t q s = subst (Weaker (means e t (As Unused) tt s)) (sym (absent_unused e s)) (nothing_done s (means e t (As Unused) tt s) (q s))
+
+like_nothing : (t : Tree) → is_effect_free t ≡ true → (e : Environment) → LikeNothing e t
+like_nothing t h e = quiet_is_nothing e t (effect_free_sound t e true (λ f. absurd (true≢false f)) h Unused)
 
 -- ---- after each turn
 
 -- two updates of which the first leaves the model, or both do the same
-abbrev pub Alike : Tree → Tree → Type 0
-Alike u v = (e : Environment) (s : State) → Weaker (means e u (As Unused) tt s) (means e v (As Unused) tt s)
+abbrev pub Alike : Environment → Tree → Tree → Type 0
+Alike e u v = (s : State) → Weaker (means e u (As Unused) tt s) (means e v (As Unused) tt s)
 
-module _ (i t u v b : Tree) (h : Alike u v) where
-  update_kids : (e : Environment) (d : Option Declared) (j : ℕ) (r : Request (for_demand d j)) (s : State) → Weaker (meaning e (i ▸ (t ▸ (u ▸ (b ▸ none)))) j (for_demand d j) r s) (meaning e (i ▸ (t ▸ (v ▸ (b ▸ none)))) j (for_demand d j) r s)
+module _ (e : Environment) (i t u v b : Tree) (h : Alike e u v) where
+  update_kids : (d : Option Declared) (j : ℕ) (r : Request (for_demand d j)) (s : State) → Weaker (meaning e (i ▸ (t ▸ (u ▸ (b ▸ none)))) j (for_demand d j) r s) (meaning e (i ▸ (t ▸ (v ▸ (b ▸ none)))) j (for_demand d j) r s)
   unfolding meaning
-  update_kids e d zero r s = inr refl
-  update_kids e d (suc zero) r s = inr refl
-  update_kids e d (suc (suc zero)) r s = h e s
-  update_kids e d (suc (suc (suc j))) r s = inr refl
+  update_kids d zero r s = inr refl
+  update_kids d (suc zero) r s = inr refl
+  update_kids d (suc (suc zero)) r s = h s
+  update_kids d (suc (suc (suc j))) r s = inr refl
 
-  pub update_weaker : (e : Environment) (x : Option Tail) (r : LabelSet) (s : State) → Weaker (means e (for_loop i t u b) (Stat x) r s) (means e (for_loop i t v b) (Stat x) r s)
+  pub update_weaker : (x : Option Tail) (r : LabelSet) (s : State) → Weaker (means e (for_loop i t u b) (Stat x) r s) (means e (for_loop i t v b) (Stat x) r s)
   unfolding means step
-  update_weaker e x r s =
+  update_weaker x r s =
       weaker_run e (for_names (summary i).lets) {q = for_demand (summary i).facts.declared}
       (λ j r z. meaning e (i ▸ (t ▸ (u ▸ (b ▸ none)))) j (for_demand (summary i).facts.declared j) r z)
       (λ j r z. meaning e (i ▸ (t ▸ (v ▸ (b ▸ none)))) j (for_demand (summary i).facts.declared j) r z)
-      (update_kids e (summary i).facts.declared)
+      (update_kids (summary i).facts.declared)
       (statement (Stat x) r (for_step (summary i).facts.declared (summary t).facts.absent)) s
 
 -- ---- at first
 
-module _ (a o t u b : Tree) (h : Alike a o) (plain : summary a ≡ plain_summary) where
-  head_kids : (e : Environment) (j : ℕ) (r : Request (for_demand None j)) (s : State) → Weaker (meaning e (a ▸ (t ▸ (u ▸ (b ▸ none)))) j (for_demand None j) r s) (meaning e (o ▸ (t ▸ (u ▸ (b ▸ none)))) j (for_demand None j) r s)
+module _ (e : Environment) (a o t u b : Tree) (h : Alike e a o) (plain : summary a ≡ plain_summary) where
+  head_kids : (j : ℕ) (r : Request (for_demand None j)) (s : State) → Weaker (meaning e (a ▸ (t ▸ (u ▸ (b ▸ none)))) j (for_demand None j) r s) (meaning e (o ▸ (t ▸ (u ▸ (b ▸ none)))) j (for_demand None j) r s)
   unfolding meaning
-  head_kids e zero r s = h e s
-  head_kids e (suc j) r s = inr refl
+  head_kids zero r s = h s
+  head_kids (suc j) r s = inr refl
 
-  module _ (e : Environment) (x : Option Tail) (r : LabelSet) (s : State) where
+  module _ (x : Option Tail) (r : LabelSet) (s : State) where
     -- where the head is read so
     abbrev ran : Tree → Summary → Completion (Unit {0})
     ran c m = run {q = for_demand m.facts.declared} e (for_names m.lets) (λ j r z. meaning e (c ▸ (t ▸ (u ▸ (b ▸ none)))) j (for_demand m.facts.declared j) r z) (statement (Stat x) r (for_step m.facts.declared (summary t).facts.absent)) s
@@ -108,7 +111,7 @@ module _ (a o t u b : Tree) (h : Alike a o) (plain : summary a ≡ plain_summary
         weaker_run e (for_names []) {q = for_demand None}
         (λ j r z. meaning e (a ▸ (t ▸ (u ▸ (b ▸ none)))) j (for_demand None j) r z)
         (λ j r z. meaning e (o ▸ (t ▸ (u ▸ (b ▸ none)))) j (for_demand None j) r z)
-        (head_kids e)
+        head_kids
         (statement (Stat x) r (for_step None (summary t).facts.absent)) s
 
     -- of the other the loop reads no more than of a plain one
@@ -134,14 +137,14 @@ pub parts_same : (q : StmtSeat) (n w : Tree) → ForPartRow n w → SameAt (Stmt
 parts_same q n w (inl r) =
     let idle = idle_is r.init r.idle in
     subst (λ t. SameAt (Stmt q) t w) (sym r.shape) (subst (SameAt (Stmt q) (for_loop r.init r.test r.update r.body)) (sym r.written)
-    (weaker_same q (for_loop r.init r.test r.update r.body) (for_loop absent r.test r.update r.body) (λ e x l s. init_weaker r.init absent r.test r.update r.body (like_nothing r.init idle.effect_free) (plain_read r.init idle.plain) e x l s refl)))
+    (weaker_same q (for_loop r.init r.test r.update r.body) (for_loop absent r.test r.update r.body) (λ e x l s. init_weaker e r.init absent r.test r.update r.body (like_nothing r.init idle.effect_free e) (plain_read r.init idle.plain) x l s refl)))
 parts_same q n w (inr (inr r)) =
     subst (λ t. SameAt (Stmt q) t w) (sym r.shape) (subst (SameAt (Stmt q) (for_loop r.init r.test (subtracts r.operator r.name) r.body)) (sym r.written)
-    (weaker_same q (for_loop r.init r.test (subtracts r.operator r.name) r.body) (for_loop r.init r.test (steps r.operator r.name) r.body) (λ e x l s. update_weaker r.init r.test (subtracts r.operator r.name) (steps r.operator r.name) r.body (step_unused r.operator r.name) e x l s)))
+    (weaker_same q (for_loop r.init r.test (subtracts r.operator r.name) r.body) (for_loop r.init r.test (steps r.operator r.name) r.body) (λ e x l s. update_weaker e r.init r.test (subtracts r.operator r.name) (steps r.operator r.name) r.body (step_unused r.operator r.name e) x l s)))
 parts_same q n w (inr (inl r)) =
     let idle = idle_is r.update r.idle in
     subst (λ t. SameAt (Stmt q) t w) (sym r.shape) (subst (SameAt (Stmt q) (for_loop r.init r.test r.update r.body)) (sym r.written)
-    (weaker_same q (for_loop r.init r.test r.update r.body) (for_loop r.init r.test absent r.body) (λ e x l s. update_weaker r.init r.test r.update absent r.body (like_nothing r.update idle.effect_free) e x l s)))
+    (weaker_same q (for_loop r.init r.test r.update r.body) (for_loop r.init r.test absent r.body) (λ e x l s. update_weaker e r.init r.test r.update absent r.body (like_nothing r.update idle.effect_free e) x l s)))
 
 pub parts_read : (n w : Tree) → ForPartRow n w → summary n ≡ summary w
 parts_read n w (inl r) = ap summary r.shape ∙ sym (ap summary r.written)

@@ -353,7 +353,8 @@ either_holder W p n w c = by p c.row
     by Method r = inr (inr (inl (refl, function_stretch W n w r)))
     by Elsewhere (inl r) = inr (inr (inl (refl, function_stretch W n w r)))
     by Elsewhere (inr (inl r)) = inr (inr (inr (inl (module_stretch W n w r))))
-    by Elsewhere (inr (inr r)) = inr (inr (inr (inr (static_stretch W n w r))))
+    by Elsewhere (inr (inr (inl r))) = inr (inr (inr (inr (static_stretch W n w r))))
+    by Elsewhere (inr (inr (inr r))) = inl (inl r)
     by p r = absurd r
 
 -- each of them

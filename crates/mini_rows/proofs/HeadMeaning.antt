@@ -14,7 +14,7 @@ use Rattle.mini_terms.specs.Folds.{is_effect_free}
 use Rattle.mini_rows.specs.Lists.{declaration, Each, EachIn, EachOf, each_loop}
 use Rattle.mini_rows.specs.Declarations.{declarator}
 use Rattle.mini_rows.specs.Sketches.{shape_by, AsValue, AsWholeItem}
-use Rattle.mini_rows.specs.Unused.{is_constant, resolved, names, any_names, declared_among, declared_left, may_move, put_first, entries_below, are_passed, reads_first, reads_head, evaluated, Row71}
+use Rattle.mini_rows.specs.Unused.{is_constant, resolved, names, any_names, declared_among, declared_left, may_move, put_first, OfValues, gathered_below, are_passed, reads_first, reads_head, evaluated, Row71}
 use Rattle.mini_rows.proofs.FoldMeaning.{plain_read}
 use Rattle.mini_rows.proofs.NextKept.{next_unnamed}
 use Rattle.mini_rows.proofs.FoundReads.{found_same, path_as, path_same, seated_same, loop_same, goes_as}
@@ -78,10 +78,10 @@ module _ (e : Environment) (spelling : List ℕ) (k : ℕ) (z : Unseen (alone (D
       let one = λ (u : Tree). led (step ∷ []) u in
       let there : head ≡ found steps (identifier (resolved reading.spelling k)) = t.is ∙ t.along t.inner ∙ ap one (path_as x k refl AsValue t.inner t.path) in
       let put : put_first x init head ≡ led steps init = t.puts init ∙ t.along (put_first x init t.inner) ∙ ap one (t.path.puts init) in
-      let beside = subst (AllPass false init (shape_by (head_of t.lead)) 0) (sym t.front) tt in
+      let beside = subst (AllPass OfValues init (shape_by (head_of t.lead)) 0) (sym t.front) tt in
       subst₂ (λ h w. GoesWith e k init h w s) (sym there) (sym put)
       (goes_as e k init (found steps (identifier (resolved reading.spelling k))) (led steps (identifier (resolved reading.spelling k))) (found_same steps (identifier (resolved reading.spelling k))) (led steps init) s
-      (moves_there e k z x refl reading.spelling init (sym (plain_read init (movable init moves))) (plain_item init (movable init moves)) AsWholeItem steps (t.stands (is_end t.path.steps), subst (λ c. Well c t.path.steps) (sym (t.below AsWholeItem)) t.path.well) ((ap (any_names x) t.front, t.free), t.path.spared) ((beside, or_true (is_constant init) (surely false (is_effect_free init) t.lead) (t.steady (is_effect_free init)), t.allows_any (end_of reading.spelling init t.path.steps), t.whole_any init), subst (λ m. PassedIn m init reading.spelling t.path.steps) (sym (ap (λ us. entries_below false (shape_by (head_of t.lead)) (place 0 us)) t.front ∙ t.low)) (t.path.passed_in false init (t.passed init passed))) (Stat None) tt [] tt s))
+      (moves_there e k z x refl reading.spelling init (sym (plain_read init (movable init moves))) (plain_item init (movable init moves)) AsWholeItem steps (t.stands (is_end t.path.steps), subst (λ c. Well c t.path.steps) (sym (t.below AsWholeItem)) t.path.well) ((ap (any_names x) t.front, t.free), t.path.spared) ((beside, or_true (is_constant init) (surely OfValues (is_effect_free init) t.lead) (t.steady (is_effect_free init)), t.allows_any (end_of reading.spelling init t.path.steps), t.whole_any init), subst (λ m. PassedIn m init reading.spelling t.path.steps) (sym (ap (λ us. gathered_below OfValues (shape_by (head_of t.lead)) (place 0 us)) t.front ∙ t.low)) (t.path.passed_in OfValues init (t.passed init passed))) (Stat None) tt tt [] tt s))
 
   scope_goes : (t : Outside x head) → are_passed x init head ≡ true → (s : State) → GoesWith e k init head (put_first x init head) s
   scope_goes t passed s =
@@ -90,7 +90,7 @@ module _ (e : Environment) (spelling : List ℕ) (k : ℕ) (z : Unseen (alone (D
       subst₂ (λ h w. GoesWith e k init h w s) (sym t.is) (sym (t.puts init ∙ ap (seated t.seat) (p.puts init)))
       (goes_as e k init (seated t.seat t.value) (seated t.seat there) (seated_same t.seat t.value there (path_same x k refl AsValue t.value p)) (seated t.seat (led p.steps init)) s
       (outside_goes e k z x refl p.read.spelling init (sym (plain_read init (movable init moves))) p.steps p.well (λ y. Unit {0})
-      (λ v r y u. moves_there e k z x refl p.read.spelling init (sym (plain_read init (movable init moves))) (plain_item init (movable init moves)) AsValue p.steps p.well p.spared (p.passed_in false init (t.passed init passed)) (As v) tt r tt y) t.seat t.beside s tt))
+      (λ v r y u. moves_there e k z x refl p.read.spelling init (sym (plain_read init (movable init moves))) (plain_item init (movable init moves)) AsValue p.steps p.well p.spared (p.passed_in OfValues init (t.passed init passed)) (As v) tt tt r tt y) t.seat t.beside s tt))
 
   loop_goes : (t : Over x head) → are_passed x init t.value ≡ true → (s : State) → GoesWith e k init head (put_first x init head) s
   loop_goes t passed s =
@@ -100,7 +100,7 @@ module _ (e : Environment) (spelling : List ℕ) (k : ℕ) (z : Unseen (alone (D
       subst₂ (λ h w. GoesWith e k init h w s) (sym t.is) (sym (t.puts init ∙ ap loops (p.puts init)))
       (goes_as e k init (loops t.value) (loops there) (loop_same t.kind t.left t.value there t.body (path_same x k refl AsValue t.value p)) (loops (led p.steps init)) s
       (each_goes e k z x refl p.read.spelling init p.steps (λ y. Unit {0})
-      (λ y u. moves_there e k z x refl p.read.spelling init (sym (plain_read init (movable init moves))) (plain_item init (movable init moves)) AsValue p.steps p.well p.spared (p.passed_in false init passed) (As Val) tt tt tt y) t.kind t.left t.body t.plain t.other t.later s tt))
+      (λ y u. moves_there e k z x refl p.read.spelling init (sym (plain_read init (movable init moves))) (plain_item init (movable init moves)) AsValue p.steps p.well p.spared (p.passed_in OfValues init passed) (As Val) tt tt tt tt y) t.kind t.left t.body t.plain t.other t.later s tt))
 
   pub head_goes : reads_head x head ≡ true → are_passed x init (evaluated head) ≡ true → (s : State) → GoesWith e k init head (put_first x init head) s
   head_goes once passed s = by (heads x head once)

@@ -30,7 +30,7 @@ use Rattle.mini_kept.proofs.Unplaced.{as_body, all_as_body}
 use Rattle.mini_node.specs.Kinds.{is_listed_shape}
 use Rattle.mini_rows.specs.Declarations.{binding, declarator}
 use Rattle.mini_rows.specs.declared.inside.Way.TheVariants as way
-use Rattle.mini_rows.specs.Inside.{has_lexical, HeadEnd}
+use Rattle.mini_rows.specs.Inside.{declares_var, HeadEnd}
 use Rattle.mini_rows.specs.Lists.{block, declaration, is_unscoped}
 use Rattle.mini_rows.specs.Unused.{resolved, any_names, declared_one, declared_among, declared_left, head_left, put_first, BlockRow}
 use Rattle.mini_rows.proofs.ArrangedTrees.{both_same, itself}
@@ -38,7 +38,7 @@ use Rattle.mini_rows.proofs.BranchInside.{no_lexical, same_symbols, same_scoped}
 use Rattle.mini_rows.proofs.DeclaredKept.{none_after, idle_leaves, idle_declares}
 use Rattle.mini_rows.proofs.ForHeadLawful.{left_leaves, head_fits}
 use Rattle.mini_rows.proofs.InsideKept.{Keeping, statement_slot}
-use Rattle.mini_rows.proofs.InsideNames.{VarThere, no_var, idle_vars, declares_var, row_plain, row_vars}
+use Rattle.mini_rows.proofs.InsideNames.{VarThere, no_var, idle_vars, row_vars}
 use Rattle.mini_rows.proofs.UnusedKept.{LeavesThere}
 use Rattle.mini_rows.proofs.UnusedLawful.{idle_vanishes}
 use Rattle.mini_rows.proofs.UnusedMeaning.{left_avoids}
@@ -214,11 +214,10 @@ pub record HeldRow (W : VariableSet) (s w : Tree) : Type 0 where
   pub simple : is_simple s ≡ true
   pub simple_left : is_simple w ≡ true
 
-pub held_row : (W : VariableSet) (q s w : Tree) (e : is_listed_shape (shape_of q) ≡ true) (r : BlockRow W (block (q ▸ (s ▸ none))) (block (q ▸ (w ▸ none)))) → has_lexical (s ▸ none) ≡ false → (h : HeldRow W s w) × (let t = row_stretch W q (s ▸ none) (w ▸ none) e r in (h.spelling ≡ t.spelling) × (h.symbol ≡ t.symbol))
-held_row W q s w e r plain =
+pub held_row : (W : VariableSet) (q s w : Tree) (e : is_listed_shape (shape_of q) ≡ true) (r : BlockRow W (block (q ▸ (s ▸ none))) (block (q ▸ (w ▸ none)))) → declares_var r ≡ true → (h : HeldRow W s w) × (let t = row_stretch W q (s ▸ none) (w ▸ none) e r in (h.spelling ≡ t.spelling) × (h.symbol ≡ t.symbol))
+held_row W q s w e r is_var =
     let t = row_stretch W q (s ▸ none) (w ▸ none) e r in
     let x = resolved t.spelling t.symbol in
-    let is_var = row_plain W q (s ▸ none) (w ▸ none) e r plain in
     let v = row_vars W q (s ▸ none) (w ▸ none) e r is_var in
     let simple = row_simple W q (s ▸ none) (w ▸ none) e r is_var in
     let o = only t.before t.d t.after s (some_there x t.d t.w v) t.read_is in
@@ -243,11 +242,11 @@ row_left W p a b e (inr (inl r)) c = (_, refl)
 row_left W p a b e (inr (inr (inl r))) c = absurd (omega (arith, c))
 row_left W p a b e (inr (inr (inr r))) c = (_, refl)
 
-pub single_left : (W : VariableSet) (q s : Tree) (us : Trees) (e : is_listed_shape (shape_of q) ≡ true) (r : BlockRow W (block (q ▸ (s ▸ none))) (block (q ▸ us))) → has_lexical (s ▸ none) ≡ false → (v : Tree) × (us ≡ v ▸ none)
-single_left W q s us e r plain =
+pub single_left : (W : VariableSet) (q s : Tree) (us : Trees) (e : is_listed_shape (shape_of q) ≡ true) (r : BlockRow W (block (q ▸ (s ▸ none))) (block (q ▸ us))) → declares_var r ≡ true → (v : Tree) × (us ≡ v ▸ none)
+single_left W q s us e r is_var =
     let t = row_stretch W q (s ▸ none) us e r in
     let x = resolved t.spelling t.symbol in
-    let v = row_vars W q (s ▸ none) us e r (row_plain W q (s ▸ none) us e r plain) in
+    let v = row_vars W q (s ▸ none) us e r is_var in
     let o = only t.before t.d t.after s (some_there x t.d t.w v) t.read_is in
     let (left_there, is) = row_left W q (s ▸ none) us e r (ap count o.these) in
     (left_there, t.written_is ∙ (λ i. append (o.nothing_before i) (append (is i) (o.nothing_after i))))

@@ -36,7 +36,7 @@ use Rattle.mini_rows.specs.Unused.{resolved, names, any_names, declared_among, h
 use Rattle.mini_rows.proofs.ForHeadLawful.{left_same}
 use Rattle.mini_rows.proofs.InsideEnds.{is_simple, unscoped, HeldRow, held_row, held_keeps, head_keeps, head_avoided}
 use Rattle.mini_rows.proofs.InsideLoses.{joined_unnamed, no_way, ways_same, Runs, Asked, plug_avoids, listed_same, there_same, loses}
-use Rattle.mini_rows.proofs.InsideNames.{row_vars, row_plain, list_keeps}
+use Rattle.mini_rows.proofs.InsideNames.{row_vars, list_keeps}
 use Rattle.mini_rows.proofs.InsideStages.{Stage, Braces, Then, Else, While, Doing, For, ForIn, ForOf, Labeled, Tried, Caught, Finally, Switched, Items, Cases, Case, Handler, Heading, from, to, head, before, over, plainly, view}
 use Rattle.mini_rows.proofs.ListHeads.{for_names}
 use Rattle.mini_rows.proofs.ListStatements.{one_unscoped, block_is}
@@ -309,7 +309,7 @@ list_loses W o a b r =
     let t = row_stretch W (listed o) r.list r.left refl r.row in
     let D = alone (Declared t.symbol) in
     let x = resolved t.spelling t.symbol in
-    let v = row_vars W (listed o) r.list r.left refl r.row (row_plain W (listed o) r.list r.left refl r.row r.plain) in
+    let v = row_vars W (listed o) r.list r.left refl r.row r.var in
     let keeps = list_keeps W (listed o) r.list r.left t v in
     let list_before = append t.before (append t.d t.after) in
     let list_after = append t.before (append t.w t.after) in
@@ -330,7 +330,7 @@ list_loses W o a b r =
 held_loses : (W : VariableSet) (o : Trees) (a b : Tree) → HeldEnd W o a b → EndLoses W way.Held o a b
 held_loses W o a b r =
     let t = row_stretch W (listed o) (a ▸ none) (b ▸ none) refl r.row in
-    let (h, (same_spelling, same_symbol)) = held_row W (listed o) a b refl r.row r.plain in
+    let (h, (same_spelling, same_symbol)) = held_row W (listed o) a b refl r.row r.var in
     let D = alone (Declared h.symbol) in
     let keeps = held_keeps W h.spelling h.symbol a b h.loses h.vars h.simple h.simple_left in
     record {

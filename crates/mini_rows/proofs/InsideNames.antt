@@ -27,7 +27,7 @@ use Rattle.mini_model.specs.Weight.{same_text}
 use Rattle.mini_node.specs.Kinds.{is_listed_shape}
 use Rattle.mini_rows.specs.Declarations.{binding, declarator}
 use Rattle.mini_rows.specs.declared.inside.Way.TheVariants as way
-use Rattle.mini_rows.specs.Inside.{is_lexical_shape, has_lexical}
+use Rattle.mini_rows.specs.Inside.{declares_var}
 use Rattle.mini_rows.specs.Lists.{block, declaration, Each, EachIn, EachOf, each_loop}
 use Rattle.mini_rows.specs.Unused.{resolved, names, any_names, declared_one, declared_among, declared_left, put_first, reads_head, BlockRow}
 use Rattle.mini_rows.proofs.Arranging.{Any}
@@ -142,92 +142,6 @@ head_vars x first init head put f o h =
       others_first = all_other x declared.Bound first f;
       others_last = subst (Other x) (sym (append-nil (names_of declared.Hoisted put))) o;
     }
-
--- ---- what goes is a `var`, where no `let` and no `const` stands in the list
-
-abbrev pub declares_var : {W : VariableSet} {n w : Tree} → BlockRow W n w → Bool
-declares_var (inl r) = not (is_lexical r.kind)
-declares_var (inr (inl r)) = not (is_lexical r.kind)
-declares_var (inr (inr (inl r))) = not (is_lexical r.kind)
-declares_var (inr (inr (inr r))) = not (is_lexical r.kind)
-
-among_plain : (before rest : Trees) (K : VariableDeclarationKind) (ds : Trees) → has_lexical (append before (declaration K ds ▸ rest)) ≡ false → not (is_lexical K) ≡ true
-among_plain none rest K ds e = ap not (or_parts (is_lexical K) (has_lexical rest) e).0
-among_plain (t ▸ before) rest K ds e = among_plain before rest K ds (or_parts (is_lexical_shape (shape_of t)) (has_lexical (append before (declaration K ds ▸ rest))) e).1
-
-pub row_plain : (W : VariableSet) (p : Tree) (a b : Trees) (e : is_listed_shape (shape_of p) ≡ true) (r : BlockRow W (block (p ▸ a)) (block (p ▸ b))) → has_lexical a ≡ false → declares_var r ≡ true
-unfolding row_stretch stretch
-row_plain W p a b e (inl r) f =
-    let t = row_stretch W p a b e (inl r) in
-    among_plain t.before r.after r.kind (declarator (binding (resolved r.spelling r.symbol)) r.init ▸ none) (sym (ap has_lexical t.read_is) ∙ f)
-row_plain W p a b e (inr (inl r)) f =
-    let t = row_stretch W p a b e (inr (inl r)) in
-    among_plain t.before r.after r.kind (append r.first (declarator (binding (resolved r.spelling r.symbol)) r.init ▸ r.last)) (sym (ap has_lexical t.read_is) ∙ f)
-row_plain W p a b e (inr (inr (inl r))) f =
-    let t = row_stretch W p a b e (inr (inr (inl r))) in
-    among_plain t.before (r.head ▸ r.after) r.kind (append r.first (declarator (binding (resolved r.spelling r.symbol)) r.init ▸ none)) (sym (ap has_lexical t.read_is) ∙ f)
-row_plain W p a b e (inr (inr (inr r))) f =
-    let t = row_stretch W p a b e (inr (inr (inr r))) in
-    among_plain t.before r.after r.kind (append r.first (declarator (binding (resolved r.spelling r.symbol)) r.init ▸ (declarator r.binds r.value ▸ r.last))) (sym (ap has_lexical t.read_is) ∙ f)
-
--- and none stands in what is left
-
-plain_append : (ts us : Trees) → has_lexical ts ≡ false → has_lexical us ≡ false → has_lexical (append ts us) ≡ false
-plain_append none us f g = g
-plain_append (t ▸ ts) us f g =
-    let (a, b) = or_parts (is_lexical_shape (shape_of t)) (has_lexical ts) f in
-    ap (λ c. c || has_lexical (append ts us)) a ∙ plain_append ts us b g
-
-plain_parts : (ts us : Trees) → has_lexical (append ts us) ≡ false → (has_lexical ts ≡ false) × (has_lexical us ≡ false)
-plain_parts none us f = (refl, f)
-plain_parts (t ▸ ts) us f =
-    let (a, b) = or_parts (is_lexical_shape (shape_of t)) (has_lexical (append ts us)) f in
-    let (c, d) = plain_parts ts us b in
-    (ap (λ e. e || has_lexical ts) a ∙ c, d)
-
-plain_left : (K : VariableDeclarationKind) (ds : Trees) → is_lexical K ≡ false → is_lexical_shape (shape_of (declared_left K ds)) ≡ false
-plain_left K none e = refl
-plain_left K (d ▸ ds) e = e
-
--- a head is of the shape that it was
-same_shape : (x : Name) (head : Tree) → reads_head x head ≡ true → (init : Tree) → shape_of (put_first x init head) ≡ shape_of head
-same_shape x head once init = by (heads x head once)
-  where
-    by : Heads x head → shape_of (put_first x init head) ≡ shape_of head
-    by (inl (f, p)) = let t = statement x head f in ap shape_of (t.puts init) ∙ sym (ap shape_of t.is)
-    by (inr (inl t)) = ap shape_of (t.puts init) ∙ sym (ap shape_of t.is)
-    by (inr (inr (inl t))) = ap shape_of (t.puts init) ∙ seats t.seat ∙ sym (ap shape_of t.is)
-      where
-        seats : (c : Seat) → shape_of (seated c (put_first x init t.value)) ≡ shape_of (seated c t.value)
-        seats (Choice cases) = refl
-        seats (Loop u v w) = refl
-    by (inr (inr (inr t))) = ap shape_of (t.puts init) ∙ loops t.kind ∙ sym (ap shape_of t.is)
-      where
-        loops : (c : Each) → shape_of (each_loop c t.left (put_first x init t.value) t.body) ≡ shape_of (each_loop c t.left t.value t.body)
-        loops EachIn = refl
-        loops EachOf = refl
-
-lexical_by : (K : VariableDeclarationKind) → not (is_lexical K) ≡ true → is_lexical K ≡ false
-lexical_by Var e = refl
-lexical_by Let e = absurd (true≢false (sym e))
-lexical_by Const e = absurd (true≢false (sym e))
-
-written_plain : (W : VariableSet) (p : Tree) (a b : Trees) (e : is_listed_shape (shape_of p) ≡ true) (r : BlockRow W (block (p ▸ a)) (block (p ▸ b))) → has_lexical a ≡ false → let t = row_stretch W p a b e r in has_lexical t.d ≡ false → has_lexical t.w ≡ false
-unfolding row_stretch stretch
-written_plain W p a b e (inl r) f g = refl
-written_plain W p a b e (inr (inl r)) f g = ap (λ c. c || false) (plain_left r.kind (append r.first r.last) (lexical_by r.kind (row_plain W p a b e (inr (inl r)) f)))
-written_plain W p a b e (inr (inr (inl r))) f g =
-    let x = resolved r.spelling r.symbol in
-    let (declared_there, rest) = or_parts (is_lexical r.kind) (is_lexical_shape (shape_of r.head) || false) g in
-    ap (λ c. c || (is_lexical_shape (shape_of (put_first x r.init r.head)) || false)) (plain_left r.kind r.first declared_there) ∙ ap (λ h. is_lexical_shape h || false) (same_shape x r.head r.once r.init) ∙ rest
-written_plain W p a b e (inr (inr (inr r))) f g = ap (λ c. c || false) (lexical_by r.kind (row_plain W p a b e (inr (inr (inr r))) f))
-
-pub still_plain : (W : VariableSet) (p : Tree) (a b : Trees) (e : is_listed_shape (shape_of p) ≡ true) (r : BlockRow W (block (p ▸ a)) (block (p ▸ b))) → has_lexical a ≡ false → has_lexical b ≡ false
-still_plain W p a b e r f =
-    let t = row_stretch W p a b e r in
-    let (before, rest) = plain_parts t.before (append t.d t.after) (sym (ap has_lexical t.read_is) ∙ f) in
-    let (these, after) = plain_parts t.d t.after rest in
-    ap has_lexical t.written_is ∙ plain_append t.before (append t.w t.after) before (plain_append t.w t.after (written_plain W p a b e r f these) after)
 
 -- ---- of a row
 

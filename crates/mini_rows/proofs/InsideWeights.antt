@@ -146,7 +146,7 @@ list_falls W o a b r k e =
 
 held_falls : (W : VariableSet) (o : Trees) (a b : Tree) → HeldEnd W o a b → (k : Path) → is_way_to way.Held (Some way.Statement) k ≡ true → weight at_item (plug k b) + 1 ≤ weight at_item (plug k a)
 held_falls W o a b r k e =
-    let h = (held_row W (listed o) a b refl r.row r.plain).0 in
+    let h = (held_row W (listed o) a b refl r.row r.var).0 in
     let whole = replacement k a b at_item in
     let above = own_kept k a b at_item (simple_outline a h.simple ∙ sym (simple_outline b h.simple_left)) in
     let (q, there) = end_placed way.Held way.Statement k at_item e tt in

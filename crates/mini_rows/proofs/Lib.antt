@@ -97,7 +97,10 @@ pub mod CalmCommands
 pub mod ChainCalm
 pub mod ChainRuns
 pub mod ChainReferences
+pub mod ChainGuards
 pub mod ChainLinkMeaning
+mod SequenceStands
+mod FirstParts
 mod ChainHoles
 pub mod ChainLawful
 pub mod ChainLinkLawful
@@ -131,6 +134,7 @@ mod KeptThis
 mod ReadFirst
 pub mod MemberRuns
 mod MemberKept
+mod IdleKept
 pub mod SteadyKept
 pub mod SteadyLawful
 pub mod OwnArrowLawful
@@ -152,6 +156,7 @@ pub mod PastBlockKept
 pub mod OwnLightens
 pub mod OwnLosses
 pub mod PastBlockLawful
+pub mod PastPartLawful
 pub mod PastBlockMore
 pub mod FoldEqualities
 mod FoldBranches
@@ -184,6 +189,7 @@ pub mod ConstantLawful
 pub mod UnusedMeaning
 pub mod FoundReads
 pub mod UnusedKept
+pub mod BlockPlaces
 pub mod UnusedLawful
 pub mod UnusedWeights
 pub mod UnusedStretches

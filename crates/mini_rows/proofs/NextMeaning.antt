@@ -25,7 +25,7 @@ use Rattle.mini_kept.specs.Without.{Unseen}
 use Rattle.mini_rows.specs.Lists.{declaration}
 use Rattle.mini_rows.specs.Declarations.{binding, declarator}
 use Rattle.mini_rows.specs.Sketches.{shape_by, AsValue}
-use Rattle.mini_rows.specs.Unused.{resolved, names, any_names, declared_among, may_move, is_first, put_first, are_passed, Row71Next}
+use Rattle.mini_rows.specs.Unused.{resolved, names, any_names, declared_among, may_move, OfValues, is_first, put_first, are_passed, Row71Next}
 use Rattle.mini_rows.proofs.FoldMeaning.{plain_read}
 use Rattle.mini_rows.proofs.FoundReads.{path_same, read_there}
 use Rattle.mini_rows.proofs.ListStretches.{lets_append}
@@ -111,7 +111,7 @@ module _ (e : Environment) (spelling : List ℕ) (k : ℕ) (z : Unseen (alone (D
   value_goes : (s : State) → Go (either (means e init (As Val) tt s) (λ v t. means e value (As Val) tt (after v t)) (λ y t. stop y t)) (means e (put_first x init value) (As Val) tt s)
   value_goes s =
       subst₂ Go (read_there e k init value there same_there (As Val) tt s) (ap (λ w. means e w (As Val) tt s) (sym put_is))
-      (moves_there e k z x refl reading.read.spelling init plain (plain_item init (movable init moves)) AsValue reading.steps reading.well reading.spared (reading.passed_in false init passed) (As Val) tt tt tt s)
+      (moves_there e k z x refl reading.read.spelling init plain (plain_item init (movable init moves)) AsValue reading.steps reading.well reading.spared (reading.passed_in OfValues init passed) (As Val) tt tt tt tt s)
 
   value_there : (summary value).facts.absent ≡ false
   value_there = ap (λ i. i.facts.absent) same_there.read ∙ led_there reading.steps (identifier (resolved reading.read.spelling k)) refl

@@ -34,7 +34,7 @@ use Rattle.mini_rows.proofs.ArrangedBodies.{quiet, HasBodies, bodies_local, HasF
 use Rattle.mini_rows.proofs.ArrangedValues.{is_value}
 use Rattle.mini_rows.proofs.DeclaredKept.{Named, unmentioned_left, scoped_both, symbols_both, numbers_both, inner_both, once_both, targets_both, frames_both, bodies_both, declares_both, fixed_both, inner_back, fixed_back, named_names, named_declares}
 use Rattle.mini_rows.proofs.ListKeptHeads.{Seat, Loop, Choice, seated, rest, inner_down, inner_up, fixed_down, fixed_up, declares_down, declares_up, frames_beside, frames_down, frames_up, bodies_down, bodies_up, numbers_beside, jumps_beside, aimed_down, aimed_up, declared_beside, names_beside, value_unlexical, once_down, once_up, ScopedBeside, scoped_down, scoped_up, symbols_beside, seated_symbols, seated_hoists, seated_body, seated_as_body}
-use Rattle.mini_rows.proofs.SingleUse.{Lead, Not, Plus, Minus, Tilde, Typing, Emptying, Beside, Deciding, Choosing, Passing, Called, Making, Waiting, Member, Keyed, Linking, Holding, Against, Given, Filling, Keying, Following, Branching, Failing, Storing, Targeted, Changing, Gathering, Fielding, Spreading, Bracketing, head_of, Stands, Step, led, is_end, Well, Spared, swapped, taken, swapped_sum, unnamed, found, by_front, swapped_back, ends_short}
+use Rattle.mini_rows.proofs.SingleUse.{Lead, Not, Plus, Minus, Tilde, Typing, Emptying, Beside, Deciding, Choosing, Passing, Called, Making, Waiting, Member, Keyed, Linking, Holding, Against, Given, Filling, Keying, Interpolating, Following, Branching, Failing, Storing, Targeted, Changing, Gathering, Fielding, Spreading, Bracketing, head_of, Stands, Step, led, is_end, Well, Spared, swapped, taken, swapped_sum, unnamed, found, by_front, swapped_back, ends_short}
 use Rattle.mini_rows.proofs.UnusedKept.{LeavesThere, NamesThere, DeclaresThere}
 use Rattle.mini_rows.proofs.UnusedNames.{unmentioned}
 
@@ -112,6 +112,7 @@ led_value (s ∷ ss) w t e = by s.lead (is_end ss) w.0
     by (Given o a) b s = refl
     by (Filling a) b s = refl
     by (Keying o a) b s = refl
+    by (Interpolating a) b s = refl
     by (Following o a) b s = refl
     by (Branching a) b s = refl
     by (Failing a d) b s = refl

@@ -24,7 +24,7 @@ use Rattle.mini_rows.specs.Sketches.{shape_by, AsValue, asked_below}
 use Rattle.mini_rows.specs.Unused.{any_names, resolved}
 use Rattle.mini_rows.proofs.ListHeads.{Nothing, for_rest, for_is, for_absent_is}
 use Rattle.mini_rows.proofs.ListKeptHeads.{Seat, Loop, Choice, seated, rest}
-use Rattle.mini_rows.proofs.SingleUse.{Lead, Not, Plus, Minus, Tilde, Typing, Emptying, Beside, Deciding, Choosing, Passing, Called, Making, Waiting, Member, Keyed, Linking, Holding, Against, Given, Filling, Keying, Following, Branching, Failing, Storing, Targeted, Changing, Gathering, Fielding, Spreading, Bracketing, head_of, before, place, Step, led, is_end, Stands, Well, summary_led}
+use Rattle.mini_rows.proofs.SingleUse.{Lead, Not, Plus, Minus, Tilde, Typing, Emptying, Beside, Deciding, Choosing, Passing, Called, Making, Waiting, Member, Keyed, Linking, Holding, Against, Given, Filling, Keying, Interpolating, Following, Branching, Failing, Storing, Targeted, Changing, Gathering, Fielding, Spreading, Bracketing, head_of, before, place, Step, led, is_end, Stands, Well, summary_led}
 use Rattle.mini_rows.proofs.PastRuns.{reach_goes}
 use Rattle.mini_rows.proofs.SingleMeaning.{Before, Later, later_bind, later_attempt, Reaches, reach_statement, one, next, by_summaries, node_is, stopped}
 use Rattle.mini_rows.proofs.UnusedNames.{all_avoided}
@@ -50,9 +50,9 @@ switch_later fs v = (
   λ y. tt,
 )
 
-switch_reaches : (d : Bool) (fs : List Facts) → Reaches false d 0 0 (step shape.SwitchStatement [] fs (Stat None) [])
+switch_reaches : (d : Bool) (fs : List Facts) → Reaches false false d 0 0 (step shape.SwitchStatement [] fs (Stat None) [])
 unfolding step
-switch_reaches d fs = reach_statement false d 0 0 (switch_step fs) (one false d 0 0 (first_demand (As Val) Cases) (Unit {0}) tt tt _ (λ v. switch_later (function_facts fs) v))
+switch_reaches d fs = reach_statement false false d 0 0 (switch_step fs) (one false false d 0 0 (first_demand (As Val) Cases) (Unit {0}) tt tt _ (λ v. switch_later (function_facts fs) v))
 
 -- nothing stands before
 none_before : (j : ℕ) → Before j 0 → ⊥
@@ -90,6 +90,7 @@ nothing_led (s ∷ ss) w t n = by s.lead w.0 (λ q. nothing_led ss (subst (λ c.
     by (Given o a) s m = record { lets = refl; functions = refl; facts = refl; declared = refl }
     by (Filling a) s m = record { lets = refl; functions = refl; facts = refl; declared = refl }
     by (Keying o a) s m = record { lets = refl; functions = refl; facts = refl; declared = refl }
+    by (Interpolating a) s m = record { lets = refl; functions = refl; facts = refl; declared = refl }
     by (Following o a) s m = record { lets = refl; functions = refl; facts = refl; declared = refl }
     by (Branching a) s m = record { lets = refl; functions = refl; facts = refl; declared = refl }
     by (Failing a d) s m = record { lets = refl; functions = refl; facts = refl; declared = refl }
@@ -142,7 +143,7 @@ module _ (e : Environment) (k : ℕ) (z : Unseen (alone (Declared k)) e) (x : Na
         let put_is : means e (switch put cases) (Stat None) [] t ≡ by_summaries e k z h (Stat None) [] is (put ▸ ts) t =
         node_is e k z h (Stat None) [] (put ▸ ts) t ∙ ap (λ i. by_summaries e k z h (Stat None) [] (i ∷ summaries ts) (put ▸ ts) t) (sym (summary_led ss (identifier (resolved spelling k)) init plain)) in
         subst₂ Go (sym (either_cong (means e init (As Val) tt t) _ _ _ _ (λ v y. there (after v y)) (λ y p. refl))) (sym put_is)
-        (reach_goes e k z init t h (Stat None) is σ none value put ts tt (all_avoided x k named ts g) (λ j b. absurd (none_before j b)) (λ r h. absurd h) (λ r o. moves Val r t ready) (step h [] (facts_all is) (Stat None) []) (switch_reaches (is_calm init) (facts_all is)))
+        (reach_goes e k z init t h (Stat None) is σ none value put ts tt (all_avoided x k named ts g) 0 (λ j b. b) (λ j b. absurd (none_before j b)) false (λ j b r a y v g. tt) (λ r h. absurd h) (λ r o. moves Val r t ready) (step h [] (facts_all is) (Stat None) []) (switch_reaches (is_calm init) (facts_all is)))
 
     module _ (test update body : Tree) (g : any_names x (test ▸ (update ▸ (body ▸ none))) ≡ false) where
       abbrev turns : State → Completion (Unit {0})

@@ -47,7 +47,7 @@ use Rattle.mini_kept.proofs.Stepping.{step_keeps}
 use Rattle.mini_kept.proofs.Steps.{any_step_fits}
 use Rattle.mini_kept.proofs.WithoutLists.{each_under, itself_under}
 use Rattle.mini_kept.proofs.FrameLists.{each_of as each_frame}
-use Rattle.mini_rows.specs.Steady.{Symbols, no_symbols, known_in, own_rows, KeepsOwn, OwnRows, OwnStep, own_here, own_inside, OwnFunction, SteadyRow, LexicalRows}
+use Rattle.mini_rows.specs.Steady.{Begun, nothing_begun, known_in, own_rows, KeepsOwn, OwnRows, OwnStep, own_here, own_inside, OwnFunction, SteadyRow, LexicalRows}
 use Rattle.mini_rows.specs.OwnArrows.{arrow_over, OwnArrow, OwnCodeIsLawful, OwnCodeLightens, SteadyCodeIsLawful, SteadyCodeLightens, LexicalCodeIsLawful, LexicalCodeLightens}
 use Rattle.mini_rows.proofs.LexicalKept.{lexical_own}
 use Rattle.mini_rows.proofs.SteadyKept.{steady_own}
@@ -103,13 +103,13 @@ pub body_fits : (h : Shape) → Fits (Expr argument_seat) (body_demand (arrow_ki
 body_fits shape.FunctionBody = refl
 body_fits h = (λ t. absurd (true≢false (sym t)), λ t. absurd (true≢false (sym t)))
 
-own_kind : (F : OwnRows) → ((V : Assured) → KeepsOwn V (F V)) → (c : Tree) (V : Assured) {L : Symbols} {p : Position} {t u : Tree} → OwnStep (own_rows F c V) L p t u → arrow_kind (shape_of t) ≡ arrow_kind (shape_of u)
+own_kind : (F : OwnRows) → ((V : Assured) → KeepsOwn V (F V)) → (c : Tree) (V : Assured) {L : Begun} {p : Position} {t u : Tree} → OwnStep (own_rows F c V) L p t u → arrow_kind (shape_of t) ≡ arrow_kind (shape_of u)
 own_kind F keeps c V (own_here L p n w r) = (any_form F keeps).kind p n w (known_in c V L, r)
 own_kind F keeps c V (own_inside L p h xs ts us b s) = refl
 
 -- ---- an instance
 
-module _ (F : OwnRows) (keeps : (V : Assured) → KeepsOwn V (F V)) (S : BodySets) (W : VariableSet) (q : Seat) (ds : List (List ℕ)) (k : ℕ) (ps t u : Tree) (s : OwnStep (own_rows F t (S k)) no_symbols (Expr argument_seat) t u) where
+module _ (F : OwnRows) (keeps : (V : Assured) → KeepsOwn V (F V)) (S : BodySets) (W : VariableSet) (q : Seat) (ds : List (List ℕ)) (k : ℕ) (ps t u : Tree) (s : OwnStep (own_rows F t (S k)) nothing_begun (Expr argument_seat) t u) where
   abbrev p : Position
   p = Expr q
 
@@ -180,7 +180,7 @@ module _ (F : OwnRows) (keeps : (V : Assured) → KeepsOwn V (F V)) (S : BodySet
 
 module _ (F : OwnRows) (keeps : (V : Assured) → KeepsOwn V (F V)) (S : BodySets) where
   -- what holds of each such arrow function holds of what a row reads and writes
-  by_row : (P : Position → Tree → Tree → Type 0) → ((q : Seat) (ds : List (List ℕ)) (k : ℕ) (ps t u : Tree) → OwnStep (own_rows F t (S k)) no_symbols (Expr argument_seat) t u → P (Expr q) (arrow_over ds k ps t) (arrow_over ds k ps u)) → (p : Position) (n w : Tree) → OwnArrow F S p n w → P p n w
+  by_row : (P : Position → Tree → Tree → Type 0) → ((q : Seat) (ds : List (List ℕ)) (k : ℕ) (ps t u : Tree) → OwnStep (own_rows F t (S k)) nothing_begun (Expr argument_seat) t u → P (Expr q) (arrow_over ds k ps t) (arrow_over ds k ps u)) → (p : Position) (n w : Tree) → OwnArrow F S p n w → P p n w
   by_row P h (Expr q) n w r = subst (λ v. P (Expr q) v w) (sym r.shape) (subst (P (Expr q) (arrow_over r.directives r.number r.parameters r.before)) (sym r.written) (h q r.directives r.number r.parameters r.before r.after r.step))
   by_row P h p n w r = absurd r
 

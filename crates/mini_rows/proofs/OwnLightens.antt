@@ -14,22 +14,22 @@ use Rattle.mini_kept.specs.Without.{Assured, BodySets}
 use Rattle.mini_rows.specs.OwnArrows.{OwnArrow}
 use Rattle.mini_rows.specs.OwnParts.{OwnPart}
 use Rattle.mini_rows.specs.OwnPrograms.{OwnProgram}
-use Rattle.mini_rows.specs.Steady.{Symbols, known_in, own_rows, OwnRows, OwnStep, own_here, own_inside, OwnStepIn, own_first, own_later, OwnFunctionRow, OwnFunction}
+use Rattle.mini_rows.specs.Steady.{Begun, known_in, own_rows, OwnRows, OwnStep, own_here, own_inside, OwnStepIn, own_first, own_later, OwnFunctionRow, OwnFunction}
 use Rattle.mini_rows.proofs.SteadyLawful.{AnyRow}
 
 -- a step in the code of a body itself is one, by what each of its rows is
-module _ (R : Symbols → Position → Tree → Tree → Type 0) (Q : Position → Tree → Tree → Type 0) (of : (L : Symbols) (p : Position) (n w : Tree) → R L p n w → Q p n w) where
+module _ (R : Begun → Position → Tree → Tree → Type 0) (Q : Position → Tree → Tree → Type 0) (of : (L : Begun) (p : Position) (n w : Tree) → R L p n w → Q p n w) where
   mutual
-    pub as_step : {L : Symbols} {p : Position} {t u : Tree} → OwnStep R L p t u → Step Q p t u
+    pub as_step : {L : Begun} {p : Position} {t u : Tree} → OwnStep R L p t u → Step Q p t u
     as_step (own_here L p n w r) = here p n w (of L p n w r)
     as_step (own_inside L p h xs ts us b s) = inside p h xs 0 ts us (as_steps s)
 
-    as_steps : {Λ : ℕ → Symbols} {π : ℕ → Position} {ts us : Trees} → OwnStepIn R Λ π ts us → StepIn Q π ts us
+    as_steps : {Λ : ℕ → Begun} {π : ℕ → Position} {ts us : Trees} → OwnStepIn R Λ π ts us → StepIn Q π ts us
     as_steps (own_first Λ π t u ts s) = first π t u ts (as_step s)
     as_steps (own_later Λ π t ts us s) = later π t ts us (as_steps s)
 
 -- by rows of a family it is one by some row of it
-pub some_row : (F : OwnRows) (c : Tree) (V : Assured) {L : Symbols} {p : Position} {t u : Tree} → OwnStep (own_rows F c V) L p t u → Step (AnyRow F) p t u
+pub some_row : (F : OwnRows) (c : Tree) (V : Assured) {L : Begun} {p : Position} {t u : Tree} → OwnStep (own_rows F c V) L p t u → Step (AnyRow F) p t u
 some_row F c V = as_step (own_rows F c V) (AnyRow F) (λ L p n w r. (known_in c V L, r))
 
 pub any_lightens : (F : OwnRows) → ((V : Assured) → Lightens (F V)) → Lightens (AnyRow F)

@@ -44,7 +44,7 @@ use Rattle.mini_kept.proofs.ShownFrames.{all_frames_more, none_less, given_seldo
 use Rattle.mini_kept.proofs.Whole.{any_reaches_keep}
 use Rattle.mini_kept.proofs.WithoutLists.{nothing_part, part_itself, each_itself, more_under, each_under, itself_under}
 use Rattle.mini_rows.specs.OwnParts.{block_over, inner_over, OwnPart, OwnPartsAreLawful, OwnPartsLighten, SteadyPartsAreLawful, SteadyPartsLighten, LexicalPartsAreLawful, LexicalPartsLighten}
-use Rattle.mini_rows.specs.Steady.{bindings, no_symbols, own_rows, KeepsOwn, OwnRows, OwnStep, own_first, has_body, SteadyRow, LexicalRows}
+use Rattle.mini_rows.specs.Steady.{bindings, nothing_begun, own_rows, KeepsOwn, OwnRows, OwnStep, own_first, has_body, SteadyRow, LexicalRows}
 use Rattle.mini_rows.proofs.LexicalKept.{lexical_own}
 use Rattle.mini_rows.proofs.OwnProgramLawful.{any_places, steady_places, lexical_places}
 use Rattle.mini_rows.proofs.PartPlaces.{is_part, is_inert, Bare, bare_here, bare_inside, BareIn, bare_first, bare_later, Innermost, innermost, step_innermost}
@@ -56,15 +56,15 @@ use Rattle.mini_rows.proofs.SteadyLawful.{AnyRow, KeepsForm, any_form, at_start,
 
 module _ (F : OwnRows) (S : BodySets) where
   -- what holds of each such block, and of each such inner expression, holds of what a row reads and writes
-  by_row : (P : Position → Tree → Tree → Type 0) → ((p : Position) (k : ℕ) (t u : Tree) → OwnStep (own_rows F t (S k)) no_symbols StatementList t u → P p (block_over k t) (block_over k u)) → ((p : Position) (k : ℕ) (t u : Tree) → OwnStep (own_rows F t (S k)) no_symbols p t u → P p (inner_over k t) (inner_over k u)) → (p : Position) (n w : Tree) → OwnPart F S p n w → P p n w
+  by_row : (P : Position → Tree → Tree → Type 0) → ((p : Position) (k : ℕ) (t u : Tree) → OwnStep (own_rows F t (S k)) nothing_begun StatementList t u → P p (block_over k t) (block_over k u)) → ((p : Position) (k : ℕ) (t u : Tree) → OwnStep (own_rows F t (S k)) nothing_begun p t u → P p (inner_over k t) (inner_over k u)) → (p : Position) (n w : Tree) → OwnPart F S p n w → P p n w
   by_row P b i p n w (inl r) = subst (λ v. P p v w) (sym r.shape) (subst (P p (block_over r.number r.before)) (sym r.written) (b p r.number r.before r.after r.step))
   by_row P b i p n w (inr r) = subst (λ v. P p v w) (sym r.shape) (subst (P p (inner_over r.number r.before)) (sym r.written) (i p r.number r.before r.after r.step))
 
 -- a part with a number, of whose code c this is known, which takes a step by a row, and in which no scope hides the variables that have values as it
 -- starts
 data Part (F : OwnRows) (c : Tree) (V : Assured) (k : ℕ) : Position → Tree → Tree → Type 0 where
-  a_block : (p : Position) (t u : Tree) → OwnStep (own_rows F c V) no_symbols StatementList t u → ((j : ℕ) → bindings j t ≤ bindings j c) → Off (hidden (block_over k t)) (at_start c V).initial → Part F c V k p (block_over k t) (block_over k u)
-  an_inner : (p : Position) (t u : Tree) → OwnStep (own_rows F c V) no_symbols p t u → ((j : ℕ) → bindings j t ≤ bindings j c) → Off (hidden (inner_over k t)) (at_start c V).initial → Part F c V k p (inner_over k t) (inner_over k u)
+  a_block : (p : Position) (t u : Tree) → OwnStep (own_rows F c V) nothing_begun StatementList t u → ((j : ℕ) → bindings j t ≤ bindings j c) → Off (hidden (block_over k t)) (at_start c V).initial → Part F c V k p (block_over k t) (block_over k u)
+  an_inner : (p : Position) (t u : Tree) → OwnStep (own_rows F c V) nothing_begun p t u → ((j : ℕ) → bindings j t ≤ bindings j c) → Off (hidden (inner_over k t)) (at_start c V).initial → Part F c V k p (inner_over k t) (inner_over k u)
 
 -- the number of a body, and its code
 record Place (S : BodySets) : Type 0 where

@@ -2,7 +2,7 @@
 use Rattle.std.specs.Prelude.{ℕ, ◌≡◌, ◌<◌, ◌||◌, refl, Bool, true, false, List, [], ◌++◌, None}
 use Rattle.std.proofs.Common.{ap, ◌∙◌, sym, subst, inl, arith}
 use Rattle.mini_model.specs.declared.place.Position.{Position}
-use Rattle.mini_model.specs.declared.place.Position.TheVariants.{Expr, Stmt, StatementList, Elsewhere}
+use Rattle.mini_model.specs.declared.place.Position.TheVariants.{Stmt, StatementList, Elsewhere}
 use Rattle.mini_model.specs.declared.shape.Shape.{Shape}
 use Rattle.mini_model.specs.declared.shape.Shape.TheVariants as shape
 use Rattle.mini_model.specs.Tree.{Tree, none, ◌▸◌, shape_of}
@@ -32,12 +32,10 @@ use Rattle.mini_kept.proofs.Whole.{any_reaches_keep}
 use Rattle.mini_kept.proofs.WithoutLists.{nothing_part, part_itself, each_itself, more_under, each_under}
 use Rattle.mini_rows.specs.Arranged.{KeptAt}
 use Rattle.mini_rows.specs.OwnPrograms.{program_over, OwnProgram, OwnProgramsAreLawful, OwnProgramsLighten, SteadyProgramsAreLawful, SteadyProgramsLighten, LexicalProgramsAreLawful, LexicalProgramsLighten}
-use Rattle.mini_rows.specs.Steady.{no_symbols, own_rows, KeepsOwn, OwnRows, OwnStep, own_first, SteadyRow, LexicalRows}
+use Rattle.mini_rows.specs.Steady.{nothing_begun, own_rows, KeepsOwn, OwnRows, OwnStep, own_first, SteadyRow, LexicalRows}
 use Rattle.mini_rows.proofs.BranchLawful.{IsKind, taken, body_slot, kept_at}
 use Rattle.mini_rows.proofs.LexicalKept.{lexical_kind, lexical_own}
-use Rattle.mini_rows.proofs.SpellShapes.{formed_slot}
-use Rattle.mini_rows.proofs.MemberKept.{keeps}
-use Rattle.mini_rows.proofs.SteadyKept.{steady_own}
+use Rattle.mini_rows.proofs.SteadyKept.{steady_kept, steady_own, steady_slot}
 use Rattle.mini_rows.proofs.SteadyLawful.{AnyRow, KeepsForm, any_form, at_start, over_off, known_begins, forget, own_bodies, own_runs_over, kept_under}
 
 -- ---- imports, exports and functions stay where they are, whatever is known
@@ -57,7 +55,7 @@ any_places F places = record {
 
 -- ---- one program
 
-module _ (F : OwnRows) (keeps : (V : Assured) → KeepsOwn V (F V)) (places : (V : Assured) → KeepsPlaces (F V)) (K : Shape → Bool) (W : VariableSet) (S : BodySets) (m : Bool) (ds : List (List ℕ)) (k : ℕ) (t u : Tree) (s : OwnStep (own_rows F t (S k)) no_symbols StatementList t u) where
+module _ (F : OwnRows) (keeps : (V : Assured) → KeepsOwn V (F V)) (places : (V : Assured) → KeepsPlaces (F V)) (K : Shape → Bool) (W : VariableSet) (S : BodySets) (m : Bool) (ds : List (List ℕ)) (k : ℕ) (t u : Tree) (s : OwnStep (own_rows F t (S k)) nothing_begun StatementList t u) where
   abbrev f : Tree
   f = program_over m ds k t
 
@@ -113,7 +111,7 @@ module _ (F : OwnRows) (keeps : (V : Assured) → KeepsOwn V (F V)) (places : (V
 
 module _ (F : OwnRows) (keeps : (V : Assured) → KeepsOwn V (F V)) (S : BodySets) where
   -- what holds of each such program holds of what a row reads and writes
-  by_row : (P : Position → Tree → Tree → Type 0) → ((m : Bool) (ds : List (List ℕ)) (k : ℕ) (t u : Tree) → OwnStep (own_rows F t (S k)) no_symbols StatementList t u → P Elsewhere (program_over m ds k t) (program_over m ds k u)) → (p : Position) (n w : Tree) → OwnProgram F S p n w → P p n w
+  by_row : (P : Position → Tree → Tree → Type 0) → ((m : Bool) (ds : List (List ℕ)) (k : ℕ) (t u : Tree) → OwnStep (own_rows F t (S k)) nothing_begun StatementList t u → P Elsewhere (program_over m ds k t) (program_over m ds k u)) → (p : Position) (n w : Tree) → OwnProgram F S p n w → P p n w
   by_row P h Elsewhere n w r = subst (λ v. P Elsewhere v w) (sym r.shape) (subst (P Elsewhere (program_over r.is_module r.directives r.number r.before)) (sym r.written) (h r.is_module r.directives r.number r.before r.after r.step))
   by_row P h p n w r = absurd r
 
@@ -154,14 +152,6 @@ places_kept R names kept slots = record {
   listed = λ p n w e r. (kept p n w r).listed e;
   exported = λ p n w r strict e. inl ((kept p n w r).exported strict e);
 }
-
-steady_slot : (V : Assured) (p : Position) (n w : Tree) → SteadyRow V p n w → (strict : Bool) (c : Slot) → fits strict c n ≡ true → is_body_slot p c ≡ true
-steady_slot V (Expr q) n w r = formed_slot (Expr q) n w (keeps V q n w r).formed
-steady_slot V p n w r = absurd r
-
-steady_kept : (V : Assured) (p : Position) (n w : Tree) → SteadyRow V p n w → KeptAt p n w
-steady_kept V (Expr q) n w r = (keeps V q n w r).kept
-steady_kept V p n w r = absurd r
 
 pub steady_places : (V : Assured) → KeepsPlaces (SteadyRow V)
 steady_places V = places_kept (SteadyRow V) (steady_own V).names (steady_kept V) (steady_slot V)

@@ -3,8 +3,9 @@ use Rattle.std.specs.Prelude.{ℕ, ◌+◌, ◌<◌, ◌≤◌, ◌≡◌, ◌�
 use Rattle.std.proofs.Common.{ap, ◌∙◌, sym, subst, subst₂, arith, inl, inr}
 use Rattle.mini_model.specs.declared.name.Name.{Name}
 use Rattle.mini_model.specs.declared.place.Position.{Position}
-use Rattle.mini_model.specs.declared.place.Position.TheVariants.{Stmt}
+use Rattle.mini_model.specs.declared.place.Position.TheVariants.{Stmt, Elsewhere}
 use Rattle.mini_model.specs.declared.seat.StmtSeat.{StmtSeat}
+use Rattle.mini_model.specs.declared.seat.StmtSeat.TheVariants as stmt_seat
 use Rattle.mini_model.specs.declared.kind.PropertyKind.TheVariants.{Init}
 use Rattle.mini_model.specs.declared.kind.VariableDeclarationKind.{VariableDeclarationKind}
 use Rattle.mini_model.specs.declared.shape.Shape.{Shape}
@@ -20,7 +21,6 @@ use Rattle.mini_laws.specs.Symbols.{declared as declared_in, times}
 use Rattle.mini_laws.specs.Value.{Variable, Declared, VariableSet, nothing, is_in}
 use Rattle.mini_laws.specs.State.{Environment}
 use Rattle.mini_laws.specs.Demand.{Demand, Tail, Stat}
-use Rattle.mini_laws.specs.Fits.{Fits}
 use Rattle.mini_laws.specs.Same.{Same}
 use Rattle.mini_laws.specs.Skeleton.{hidden}
 use Rattle.mini_laws.specs.Path.{here, inside}
@@ -43,13 +43,13 @@ use Rattle.mini_kept.specs.Lifted.{is_piece, KeepsRoot, KeepsNames}
 use Rattle.mini_kept.specs.Loosely.{symbol}
 use Rattle.mini_kept.specs.Placed.{fits_place, is_statement_list}
 use Rattle.mini_kept.specs.Without.{Assured, Steadies, Permits}
-use Rattle.mini_kept.proofs.InOrder.{in_order}
 use Rattle.mini_rows.specs.Lists.{block, declaration}
 use Rattle.mini_rows.specs.Declarations.{binding, declarator}
 use Rattle.mini_rows.specs.Past.{is_binding, any_bind, begun, PastRow}
 use Rattle.mini_rows.specs.PastBlocks.{PastBlockRow, PastBlocks, PastBlocksLighten}
 use Rattle.mini_rows.specs.Steady.{times_named, bindings, all_bindings}
 use Rattle.mini_rows.specs.Unused.{resolved, names, is_short, declared_among, declared_left, put_first, put_among}
+use Rattle.mini_rows.proofs.BlockPlaces.{holds_block, no_list, block_placed, block_asked, elsewhere_weighs}
 use Rattle.mini_rows.proofs.HeadKept.{head_names}
 use Rattle.mini_rows.proofs.NextKept.{next_names}
 use Rattle.mini_rows.proofs.PastLawful.{list_fits}
@@ -57,10 +57,10 @@ use Rattle.mini_rows.proofs.PastMeaning.{held_begins, held_off}
 use Rattle.mini_rows.proofs.PastStretches.{Behind, behind, of_head, of_next}
 use Rattle.mini_rows.proofs.SingleWeights.{single_falls, next_falls}
 use Rattle.mini_rows.proofs.Unbound.{unhidden}
-use Rattle.mini_rows.proofs.UnusedKept.{NamesThere, block_kept, block_less, block_keeps}
-use Rattle.mini_rows.proofs.UnusedLawful.{item, gone, in_slot, block_bodies, block_frames, block_fixed, block_declares, blocks_asked}
+use Rattle.mini_rows.proofs.UnusedKept.{NamesThere, block_kept, block_less}
+use Rattle.mini_rows.proofs.UnusedLawful.{item, in_slot, block_bodies, block_frames, block_fixed, block_declares, block_keeps_there, blocks_asked}
 use Rattle.mini_rows.proofs.UnusedMeaning.{movable, lexical_alone, all_join, list_read}
-use Rattle.mini_rows.proofs.UnusedNames.{all_avoided, all_unmentioned, all_other}
+use Rattle.mini_rows.proofs.UnusedNames.{all_avoided, all_other}
 use Rattle.mini_rows.proofs.UnusedWeights.{block_falls}
 
 -- ---- it means the same where nobody else sees the name
@@ -90,26 +90,26 @@ module _ (e : Environment) (V : Assured) (W : VariableSet) (a b : Trees) (t : Be
       congruent_same e D u.unseen.shared (inside shape.BlockStatement [] 0 none here none) (listed ts) (listed us) (tt, tt, tt, tt) (tt, all_join D t.before (append t.w t.after) (all_avoided x t.symbol refl t.before t.earlier) (all_join D t.w t.after t.avoids (all_avoided x t.symbol refl t.after t.later)))
       (list_read e t.spelling t.symbol u.unseen t.before t.after t.d t.w t.read) H (Stat tail) (held_off V ts (hidden (block ts)) unhidden_there) (in_each_tail e D H (listed ts) (listed us) list_same tail)
 
-  at_demand : (q : StmtSeat) (d : Demand) → Fits (Stmt q) d → Same e D V.initial d (block ts) (block us)
-  at_demand q (Stat tail) f = weaker e D D H V.initial (within_refl D) (held_begins V ts V.initial (λ x h. h)) (Stat tail) (block ts) (block us) (in_tail tail)
-  at_demand q d f = elim f [ ]
+  at_demand : (d : Demand) → Same e D V.initial d (block ts) (block us)
+  at_demand = block_asked e D V.initial ts us (λ tail. weaker e D D H V.initial (within_refl D) (held_begins V ts V.initial (λ x h. h)) (Stat tail) (block ts) (block us) (in_tail tail))
 
 -- ---- a block that loses the name with a symbol
 
-pub record Lost (V : Assured) (k : ℕ) (q : StmtSeat) (n w : Tree) : Type 0 where
+pub record Lost (V : Assured) (k : ℕ) (p : Position) (n w : Tree) : Type 0 where
+  pub placed : holds_block p ≡ true
   pub first : Trees
   pub second : Trees
   pub before : n ≡ block first
   pub after : w ≡ block second
   pub fitting : (strict : Bool) → fill strict (each item) first ≡ true → fill strict (each item) second ≡ true
-  pub keeps : KeepsLoosely (Stmt q) n w
+  pub keeps : KeepsLoosely p n w
   pub kept : Kept n w
   pub less : (v : Use) → times (symbol k) (declared_in v w) + 1 ≤ times (symbol k) (declared_in v n)
   pub fixed : (y : Variable) → alone (Declared k) y ≡ false → fixed_by n y ≡ fixed_by w y
   pub declares : (y : Name) → Contains (declared w) y → Contains (declared n) y
   pub framed : FramesKept (frames None n) (frames None w)
   pub bodied : (a : Around) → BodiesKept (bodies a n) (bodies a w)
-  pub means : (e : Environment) → Permits nothing (alone (Declared k)) e → Steadies V e → (d : Demand) → Fits (Stmt q) d → Same e (alone (Declared k)) V.initial d n w
+  pub means : (e : Environment) → Permits nothing (alone (Declared k)) e → Steadies V e → (d : Demand) → Same e (alone (Declared k)) V.initial d n w
 
 -- what is declared there is a lexical name
 names_there : (V : Assured) (o : Tree) (a b : Trees) (r : PastRow V nothing o a b) → let t = behind V nothing o a b r in NamesThere (resolved t.spelling t.symbol) t.d t.w
@@ -117,7 +117,7 @@ unfolding behind of_head of_next
 names_there V o a b (inl r) = head_names r.kind (resolved r.spelling r.symbol) r.symbol refl r.first r.init r.head (movable r.init r.moves) r.once r.initial r.declared_earlier (lexical_alone r.kind r.goes)
 names_there V o a b (inr r) = next_names r.kind (resolved r.spelling r.symbol) r.symbol refl r.first r.init r.binds r.value r.last r.once r.declared_earlier r.initial r.other r.declared_later (lexical_alone r.kind r.goes)
 
-module _ (V : Assured) (q : StmtSeat) (a b : Trees) (t : Behind V nothing (listed none) a b) (n : NamesThere (resolved t.spelling t.symbol) t.d t.w) where
+module _ (V : Assured) (p : Position) (there : holds_block p ≡ true) (a b : Trees) (t : Behind V nothing (listed none) a b) (n : NamesThere (resolved t.spelling t.symbol) t.d t.w) where
   abbrev x : Name
   x = resolved t.spelling t.symbol
 
@@ -130,97 +130,85 @@ module _ (V : Assured) (q : StmtSeat) (a b : Trees) (t : Behind V nothing (liste
   these_fit : (strict : Bool) → fill strict (each item) A ≡ true → fill strict (each item) B ≡ true
   these_fit strict e = sym (ap (fill strict (each item)) t.written_is) ∙ list_fits V nothing (listed none) a b t nested strict (ap (fill strict (each item)) t.read_is ∙ e)
 
-  lost_there : Lost V t.symbol q (block A) (block B)
+  lost_there : Lost V t.symbol p (block A) (block B)
   lost_there =
-      let o = all_other x Lexical t.before t.earlier in
-      let p = all_other x Lexical t.after t.later in
-      let m = gone (record { name = x; hoists = false }) t.before t.after t.w (all_unmentioned x t.symbol refl t.before t.earlier) t.leaves.unmentioned (all_unmentioned x t.symbol refl t.after t.later) in
+      let f = all_other x Lexical t.before t.earlier in
+      let g = all_other x Lexical t.after t.later in
       record {
+        placed = there;
         first = A;
         second = B;
         before = refl;
         after = refl;
         fitting = these_fit;
-        keeps = in_order (Stmt q) (block A) (block B) (block_keeps x t.before t.after t.d t.w t.leaves n o p m q);
-        kept = block_kept x t.before t.after t.d t.w t.leaves n o p;
-        less = block_less x t.before t.after t.d t.w t.leaves n o p t.symbol refl;
-        fixed = block_fixed q t.spelling t.symbol t.before t.after t.d t.w t.leaves n t.earlier t.later;
-        declares = block_declares q t.spelling t.symbol t.before t.after t.d t.w t.leaves n t.earlier t.later;
-        framed = block_frames q t.spelling t.symbol t.before t.after t.d t.w t.leaves n t.earlier t.later;
-        bodied = block_bodies q t.spelling t.symbol t.before t.after t.d t.w t.leaves n t.earlier t.later;
-        means = λ e u s d f. at_demand e V nothing a b t u s q d f;
+        keeps = block_keeps_there t.spelling t.symbol t.before t.after t.d t.w t.leaves n t.earlier t.later t.declares p there;
+        kept = block_kept x t.before t.after t.d t.w t.leaves n f g;
+        less = block_less x t.before t.after t.d t.w t.leaves n f g t.symbol refl;
+        fixed = block_fixed t.spelling t.symbol t.before t.after t.d t.w t.leaves n t.earlier t.later;
+        declares = block_declares t.spelling t.symbol t.before t.after t.d t.w t.leaves n t.earlier t.later;
+        framed = block_frames t.spelling t.symbol t.before t.after t.d t.w t.leaves n t.earlier t.later;
+        bodied = block_bodies t.spelling t.symbol t.before t.after t.d t.w t.leaves n t.earlier t.later;
+        means = λ e u s d. at_demand e V nothing a b t u s d;
       }
 
-pub lost : (V : Assured) (q : StmtSeat) (n w : Tree) → PastBlockRow V n w → (k : ℕ) × Lost V k q n w
-lost V q n w r =
+lost_at : (V : Assured) (p : Position) → holds_block p ≡ true → (n w : Tree) → PastBlockRow V n w → (k : ℕ) × Lost V k p n w
+lost_at V p h n w r =
     let t = behind V nothing (listed none) r.before r.after r.row in
-    let there = lost_there V q r.before r.after t (names_there V (listed none) r.before r.after r.row) in
-    (t.symbol, subst₂ (Lost V t.symbol q) (sym (r.shape ∙ ap block t.read_is)) (sym (r.written ∙ ap block t.written_is)) there)
-
--- ---- those of a symbol
-
-abbrev pub LosesHere : Assured → ℕ → Position → Tree → Tree → Type 0
-LosesHere V k (Stmt q) n w = Lost V k q n w
-LosesHere V k p n w = ⊥
+    let there = lost_there V p h r.before r.after t (names_there V (listed none) r.before r.after r.row) in
+    (t.symbol, subst₂ (Lost V t.symbol p) (sym (r.shape ∙ ap block t.read_is)) (sym (r.written ∙ ap block t.written_is)) there)
 
 -- whatever is known
 abbrev pub Loses : ℕ → Position → Tree → Tree → Type 0
-Loses k p n w = (V : Assured) × LosesHere V k p n w
+Loses k p n w = (V : Assured) × Lost V k p n w
 
-pub some_lost : (V : Assured) (p : Position) (n w : Tree) → PastBlocks V p n w → (k : ℕ) × LosesHere V k p n w
-some_lost V (Stmt q) n w r = lost V q n w r
-some_lost V p n w r = absurd r
+pub lost : (V : Assured) (p : Position) (n w : Tree) → PastBlocks V p n w → (k : ℕ) × Lost V k p n w
+lost V (Stmt q) n w r = lost_at V (Stmt q) refl n w r
+lost V Elsewhere n w r = lost_at V Elsewhere refl n w r
+lost V p n w r = absurd r
+
+-- ---- those of a symbol
 
 module _ (k : ℕ) where
-  here_lost : (V : Assured) (P : Position → Tree → Tree → Type 0) → ((q : StmtSeat) (n w : Tree) → Lost V k q n w → P (Stmt q) n w) → (p : Position) (n w : Tree) → LosesHere V k p n w → P p n w
-  here_lost V P f (Stmt q) n w r = f q n w r
-  here_lost V P f p n w r = absurd r
-
-  -- what holds of each statement
-  pub at_statement : (P : Position → Tree → Tree → Type 0) → ((V : Assured) (q : StmtSeat) (n w : Tree) → Lost V k q n w → P (Stmt q) n w) → (p : Position) (n w : Tree) → Loses k p n w → P p n w
-  at_statement P f p n w (V, r) = here_lost V P (f V) p n w r
-
-  -- it means the same where that is so which is known, but for a name that nobody else sees
-  pub lost_means : (V : Assured) (p : Position) (n w : Tree) → LosesHere V k p n w → (e : Environment) → Permits nothing (alone (Declared k)) e → Steadies V e → (d : Demand) → Fits p d → Same e (alone (Declared k)) V.initial d n w
-  lost_means V (Stmt q) n w r e z y d f = r.means e z y d f
-  lost_means V p n w r e z y d f = absurd r
+  -- what holds of each block
+  pub at_block : (P : Position → Tree → Tree → Type 0) → ((V : Assured) (p : Position) (n w : Tree) → Lost V k p n w → P p n w) → (p : Position) (n w : Tree) → Loses k p n w → P p n w
+  at_block P f p n w (V, r) = f V p n w r
 
   -- what is told by the shape
-  shaped : (P : Tree → Tree → Type 0) → ((ts us : Trees) → P (block ts) (block us)) → (V : Assured) (q : StmtSeat) (n w : Tree) → Lost V k q n w → P n w
-  shaped P f V q n w r = subst₂ P (sym r.before) (sym r.after) (f r.first r.second)
+  shaped : (P : Tree → Tree → Type 0) → ((ts us : Trees) → P (block ts) (block us)) → (V : Assured) (p : Position) (n w : Tree) → Lost V k p n w → P n w
+  shaped P f V p n w r = subst₂ P (sym r.before) (sym r.after) (f r.first r.second)
 
-  in_place : (V : Assured) (q : StmtSeat) (n w : Tree) → Lost V k q n w → (strict : Bool) (s : Slot) → fits strict s n ≡ true → (fits strict s w ≡ true) × (is_body_slot (Stmt q) s ≡ true)
-  in_place V q n w r strict s e =
-      let (f, g) = in_slot r.first r.second r.fitting strict (Stmt q) s (sym (ap (fits strict s) r.before) ∙ e) in
+  in_place : (V : Assured) (p : Position) (n w : Tree) → Lost V k p n w → (strict : Bool) (s : Slot) → fits strict s n ≡ true → (fits strict s w ≡ true) × (is_body_slot p s ≡ true)
+  in_place V p n w r strict s e =
+      let (f, g) = in_slot r.first r.second r.fitting strict p s (sym (ap (fits strict s) r.before) ∙ e) in
       (ap (fits strict s) r.after ∙ f, g)
 
   pub loses_names : KeepsNames (Loses k)
   loses_names = record {
-    places = at_statement (λ p n w. (is_rewritten_place p ≡ true) ⊎ KeepsRoot p n w) (λ V q n w r. inl refl);
-    pieces = at_statement (λ p n w. is_piece (shape_of n) ≡ false) (λ V q n w r. ap (λ t. is_piece (shape_of t)) r.before);
-    keeps = at_statement (λ p n w. (strict : Bool) (s : Slot) → fits_place p s ≡ true → fits strict s n ≡ true → KeepsLoosely p n w) (λ V q n w r strict s z e. r.keeps);
+    places = at_block (λ p n w. (is_rewritten_place p ≡ true) ⊎ KeepsRoot p n w) (λ V q n w r. shaped (λ n w. (is_rewritten_place q ≡ true) ⊎ KeepsRoot q n w) (block_placed q r.placed) V q n w r);
+    pieces = at_block (λ p n w. is_piece (shape_of n) ≡ false) (λ V q n w r. ap (λ t. is_piece (shape_of t)) r.before);
+    keeps = at_block (λ p n w. (strict : Bool) (s : Slot) → fits_place p s ≡ true → fits strict s n ≡ true → KeepsLoosely p n w) (λ V q n w r strict s z e. r.keeps);
   }
 
   pub loses_shapes : KeepsShapes (Loses k)
   loses_shapes = record {
-    fitting = at_statement (λ p n w. (strict : Bool) (s : Slot) → fits_place p s ≡ true → fits strict s n ≡ true → fits strict s w ≡ true) (λ V q n w r strict s z e. (in_place V q n w r strict s e).0);
-    asked = at_statement AskedAlike (λ V q n w r. shaped (AskedAlike (Stmt q)) (blocks_asked (Stmt q)) V q n w r);
+    fitting = at_block (λ p n w. (strict : Bool) (s : Slot) → fits_place p s ≡ true → fits strict s n ≡ true → fits strict s w ≡ true) (λ V q n w r strict s z e. (in_place V q n w r strict s e).0);
+    asked = at_block AskedAlike (λ V q n w r. shaped (AskedAlike q) (blocks_asked q) V q n w r);
   }
 
   pub loses_places : KeepsPlaces (Loses k)
   loses_places = record {
     names = loses_names;
-    slots = at_statement (λ p n w. (strict : Bool) (s : Slot) → fits_place p s ≡ true → fits strict s n ≡ true → ((is_body_slot p s ≡ true) ⊎ IsShownAlike s n w) ⊎ KeepsHolder n w) (λ V q n w r strict s z e. inl (inl (in_place V q n w r strict s e).1));
-    ports = at_statement (λ p n w. (strict : Bool) (d : Depth) → fits strict (one (a_statement d)) n ≡ true → (m : Bool) → NoPort m n w ⊎ KeepsFunction n w) (λ V q n w r strict d e m. inl (shaped (NoPort m) (λ ts us. (refl, refl)) V q n w r));
-    listed = λ p n w e r. absurd (at_statement (λ p n w. is_statement_list p ≡ true → ⊥) (λ V q n w r e. cc e) p n w r e);
-    exported = at_statement (λ p n w. (strict : Bool) → fits strict (one a_default_export) n ≡ true → NoDeclaration n w ⊎ KeepsFunction n w) (λ V q n w r strict e. inl (shaped NoDeclaration (λ ts us. (refl, refl)) V q n w r));
+    slots = at_block (λ p n w. (strict : Bool) (s : Slot) → fits_place p s ≡ true → fits strict s n ≡ true → ((is_body_slot p s ≡ true) ⊎ IsShownAlike s n w) ⊎ KeepsHolder n w) (λ V q n w r strict s z e. inl (inl (in_place V q n w r strict s e).1));
+    ports = at_block (λ p n w. (strict : Bool) (d : Depth) → fits strict (one (a_statement d)) n ≡ true → (m : Bool) → NoPort m n w ⊎ KeepsFunction n w) (λ V q n w r strict d e m. inl (shaped (NoPort m) (λ ts us. (refl, refl)) V q n w r));
+    listed = λ p n w e r. absurd (at_block (λ p n w. is_statement_list p ≡ true → ⊥) (λ V q n w r e. no_list q r.placed e) p n w r e);
+    exported = at_block (λ p n w. (strict : Bool) → fits strict (one a_default_export) n ≡ true → NoDeclaration n w ⊎ KeepsFunction n w) (λ V q n w r strict e. inl (shaped NoDeclaration (λ ts us. (refl, refl)) V q n w r));
   }
 
   pub loses_read : (p : Position) (n w : Tree) → Loses k p n w → summary n ≡ summary w
-  loses_read = at_statement (λ p n w. summary n ≡ summary w) (shaped (λ n w. summary n ≡ summary w) (λ ts us. refl))
+  loses_read = at_block (λ p n w. summary n ≡ summary w) (shaped (λ n w. summary n ≡ summary w) (λ ts us. refl))
 
   pub loses_kind : (p : Position) (n w : Tree) → Loses k p n w → arrow_kind (shape_of n) ≡ arrow_kind (shape_of w)
-  loses_kind = at_statement (λ p n w. arrow_kind (shape_of n) ≡ arrow_kind (shape_of w)) (shaped (λ n w. arrow_kind (shape_of n) ≡ arrow_kind (shape_of w)) (λ ts us. refl))
+  loses_kind = at_block (λ p n w. arrow_kind (shape_of n) ≡ arrow_kind (shape_of w)) (shaped (λ n w. arrow_kind (shape_of n) ≡ arrow_kind (shape_of w)) (λ ts us. refl))
 
 -- ---- lighter
 
@@ -234,15 +222,18 @@ falls V q ts us (inr r) =
     omega (arith, less, ap (λ l. weight (Stmt q) (block l)) r.shape, ap (λ l. weight (Stmt q) (block l)) r.written)
 
 module _ (V : Assured) where
-  of_block : (P : Position → Tree → Tree → Type 0) → ((q : StmtSeat) (n w : Tree) → PastBlockRow V n w → P (Stmt q) n w) → (p : Position) (n w : Tree) → PastBlocks V p n w → P p n w
-  of_block P f (Stmt q) n w r = f q n w r
+  of_block : (P : Position → Tree → Tree → Type 0) → ((p : Position) → holds_block p ≡ true → (n w : Tree) → PastBlockRow V n w → P p n w) → (p : Position) (n w : Tree) → PastBlocks V p n w → P p n w
+  of_block P f (Stmt q) n w r = f (Stmt q) refl n w r
+  of_block P f Elsewhere n w r = f Elsewhere refl n w r
   of_block P f p n w r = absurd r
 
-  block_lighter : (q : StmtSeat) (n w : Tree) → PastBlockRow V n w → weight (Stmt q) w < weight (Stmt q) n
-  block_lighter q n w r = let less = falls V q r.before r.after r.row in omega (arith, less, ap (weight (Stmt q)) r.shape, ap (weight (Stmt q)) r.written)
+  block_lighter : (p : Position) → holds_block p ≡ true → (n w : Tree) → PastBlockRow V n w → weight p w < weight p n
+  block_lighter (Stmt q) h n w r = omega (arith, falls V q r.before r.after r.row, ap (weight (Stmt q)) r.shape, ap (weight (Stmt q)) r.written)
+  block_lighter Elsewhere h n w r = omega (arith, falls V stmt_seat.Body r.before r.after r.row, elsewhere_weighs r.before, elsewhere_weighs r.after, ap (weight Elsewhere) r.shape, ap (weight Elsewhere) r.written)
+  block_lighter p h n w r = absurd (cc h)
 
   block_outline : (p : Position) (n w : Tree) → PastBlocks V p n w → outline n ≡ outline w
-  block_outline = of_block (λ p n w. outline n ≡ outline w) (λ q n w r. ap outline r.shape ∙ sym (ap outline r.written))
+  block_outline = of_block (λ p n w. outline n ≡ outline w) (λ p h n w r. ap outline r.shape ∙ sym (ap outline r.written))
 
   pub blocks_lighten : Lightens (PastBlocks V)
   blocks_lighten = record {
@@ -255,7 +246,7 @@ module _ (V : Assured) where
 
 -- a parent reads it alike
 pub blocks_read : (V : Assured) (p : Position) (n w : Tree) → PastBlocks V p n w → summary n ≡ summary w
-blocks_read V p n w r = let (k, l) = some_lost V p n w r in loses_read k p n w (V, l)
+blocks_read V p n w r = let (k, l) = lost V p n w r in loses_read k p n w (V, l)
 
 -- it declares no symbol more often
 
@@ -312,13 +303,11 @@ rows_bound V ts us (inr r) k =
     )
 
 pub blocks_bound : (V : Assured) (p : Position) (n w : Tree) → PastBlocks V p n w → (k : ℕ) → bindings k w ≤ bindings k n
-blocks_bound V (Stmt q) n w r k = omega (arith, rows_bound V r.before r.after r.row k, ap (bindings k) r.shape, ap (bindings k) r.written)
-blocks_bound V p n w r k = absurd r
+blocks_bound V p n w r k = of_block V (λ p n w. bindings k w ≤ bindings k n) (λ p h n w r. omega (arith, rows_bound V r.before r.after r.row k, ap (bindings k) r.shape, ap (bindings k) r.written)) p n w r
 
 -- and no other name
 pub blocks_declare : (V : Assured) (p : Position) (n w : Tree) → PastBlocks V p n w → (y : Name) → Contains (declared w) y → Contains (declared n) y
-blocks_declare V (Stmt q) n w r = (lost V q n w r).1.declares
-blocks_declare V p n w r = absurd r
+blocks_declare V p n w r = (lost V p n w r).1.declares
 
 pub past_blocks_are_lighter : PastBlocksLighten
 past_blocks_are_lighter = blocks_lighten

@@ -51,18 +51,18 @@ use Rattle.mini_kept.proofs.WithoutLists as without
 use Rattle.mini_rows.specs.OwnArrows.{arrow_over, OwnCode}
 use Rattle.mini_rows.specs.OwnPrograms.{program_over, OwnProgram}
 use Rattle.mini_rows.specs.PastBlocks.{PastBlocks, PastBlocksAreLawful, PastBlocksAreLawfulInPrograms}
-use Rattle.mini_rows.specs.Steady.{no_symbols, own_rows, OwnStep, own_first, OwnFunctionRow}
+use Rattle.mini_rows.specs.Steady.{nothing_begun, own_rows, OwnStep, own_first, OwnFunctionRow}
 use Rattle.mini_rows.proofs.OwnArrowLawful.{body_fits, created_same as arrow_created}
 use Rattle.mini_rows.proofs.OwnLosses.{LosesThere, some_step, lost_step, lost_read, lost_kind, lost_bodies, lost_runs, lost_runs_over}
-use Rattle.mini_rows.proofs.PastBlockKept.{Loses, at_statement, loses_names, loses_shapes, loses_places, loses_read}
+use Rattle.mini_rows.proofs.PastBlockKept.{Loses, at_block, loses_names, loses_shapes, loses_places, loses_read}
 use Rattle.mini_rows.proofs.PastModuleLawful.{undeclared_there, still_declared}
 use Rattle.mini_rows.proofs.SteadyLawful.{at_start, created_same, known_off, over_off, known_begins}
 
 -- bodies that are there stand for themselves, whatever is gone
-bodies_there : (W : VariableSet) (S : BodySets) (D : VariableSet) (bs cs : List Body) → BodiesKept bs cs → BodiesUnder W S D bs cs
+pub bodies_there : (W : VariableSet) (S : BodySets) (D : VariableSet) (bs cs : List Body) → BodiesKept bs cs → BodiesUnder W S D bs cs
 bodies_there W S D bs cs h = without.more_under nothing W none_steady S D D (without.nothing_part W) (without.none_part S) (without.part_itself D) bs cs (without.from_kept D bs cs h)
 
-permitted : (W D : VariableSet) (e : Environment) → Permits W D e → Permits nothing D e
+pub permitted : (W D : VariableSet) (e : Environment) → Permits W D e → Permits nothing D e
 permitted W D e z = record { unseen = z.unseen; writable = λ x h. absurd (true≢false (sym h)) }
 
 -- ---- a program in which a block loses the name with a symbol
@@ -83,34 +83,49 @@ module _ (k : ℕ) (K : Shape → Bool) (W : VariableSet) (S : BodySets) (t u : 
   -- its symbol was declared once, and is declared no more
   gone : Distinct (declared_symbols t) → times (symbol k) (declared_symbols u) ≡ 0
   gone d =
-      let less = step_less R (symbol k) (at_statement k (λ p n w. Kept n w) (λ V q n w r. r.kept)) (at_statement k (λ p n w. (v : Use) → times (symbol k) (declared_in v w) + 1 ≤ times (symbol k) (declared_in v n)) (λ V q n w r. r.less)) s Read in
+      let less = step_less R (symbol k) (at_block k (λ p n w. Kept n w) (λ V q n w r. r.kept)) (at_block k (λ p n w. (v : Use) → times (symbol k) (declared_in v w) + 1 ≤ times (symbol k) (declared_in v n)) (λ V q n w r. r.less)) s Read in
       let once : times (symbol k) (declared_symbols t) ≤ 1 = d (symbol k) in
       omega (arith, less, once)
 
   keeps_frames : KeepsFramesBut (gone_from K D) R
   keeps_frames = record {
     places = loses_places k;
-    frames = at_statement k (λ p n w. (strict : Bool) (c : Slot) → fits_place p c ≡ true → fits strict c n ≡ true → (a : Around) → FramesShown (gone_from K D) (KeyGiven nothing (bodies a n)) (frames None n) (frames None w)) (λ V q n w r strict c z e a. kept_shown (gone_from K D) (KeyGiven nothing (bodies a n)) (frames None n) (frames None w) r.framed);
+    frames = at_block k (λ p n w. (strict : Bool) (c : Slot) → fits_place p c ≡ true → fits strict c n ≡ true → (a : Around) → FramesShown (gone_from K D) (KeyGiven nothing (bodies a n)) (frames None n) (frames None w)) (λ V q n w r strict c z e a. kept_shown (gone_from K D) (KeyGiven nothing (bodies a n)) (frames None n) (frames None w) r.framed);
   }
 
-  program_kept : ProgramIsKeptUnder K W S t u
+  pub program_kept : ProgramIsKeptUnder K W S t u
   program_kept = record {
     names = names;
     bodies = λ v d. without.more_under W W S S D (undeclared u) (without.part_itself W) (without.each_itself S) (undeclared_there k u (gone d)) (bodies_in t) (bodies_in u) (bodied (avoids k Read [] u (names.scoped e v) refl (gone d)));
     frames = λ v d.
         all_frames_more (gone_from K D) (gone_from K (undeclared u)) (KeyGiven nothing (bodies_in t)) (KeyGivenUnder W S (undeclared u) (bodies_in t)) (gone_more K D (undeclared u) (undeclared_there k u (gone d))) (given_seldom W S (undeclared u) (bodies_in t)) (frames_in t) (frames_in u)
         (step_frames_but (gone_from K D) R keeps_frames t u s e);
-    fixities = λ v d strict y h. ap (written_in strict) (step_fixed D R (record { reads = loses_read k; fixed = at_statement k (λ p n w. (y : Variable) → D y ≡ false → fixed_by n y ≡ fixed_by w y) (λ V q n w r. r.fixed) }) s y (still_declared k u (gone d) y h));
-    declared = reaches_declared R (at_statement k (λ p n w. (y : Name) → Contains (declared w) y → Contains (declared n) y) (λ V q n w r. r.declares)) reached;
+    fixities = λ v d strict y h. ap (written_in strict) (step_fixed D R (record { reads = loses_read k; fixed = at_block k (λ p n w. (y : Variable) → D y ≡ false → fixed_by n y ≡ fixed_by w y) (λ V q n w r. r.fixed) }) s y (still_declared k u (gone d) y h));
+    declared = reaches_declared R (at_block k (λ p n w. (y : Name) → Contains (declared w) y → Contains (declared n) y) (λ V q n w r. r.declares)) reached;
     root = rooted;
   }
+
+-- ---- where the whole mentions a name nowhere, so does what a step writes
+
+module _ (E : VariableSet) (O : Position → Tree → Tree → Type 0) where
+  abbrev pub Unnamed : Position → Tree → Tree → Type 0
+  Unnamed p n w = O p n w × Avoids E w
+
+  mutual
+    pub unnamed_step : {p : Position} {t u : Tree} → Step O p t u → Avoids E u → Step Unnamed p t u
+    unnamed_step (here p n w r) a = here p n w (r, a)
+    unnamed_step (inside p h xs n ts us s) a = inside p h xs n ts us (unnamed_steps s a.1)
+
+    unnamed_steps : {π : ℕ → Position} {ts us : Trees} → StepIn O π ts us → AllAvoid E us → StepIn Unnamed π ts us
+    unnamed_steps (first π t u ts s) a = first π t u ts (unnamed_step s a.0)
+    unnamed_steps (later π t ts us s) a = later π t ts us (unnamed_steps s a.1)
 
 -- ---- functions and arrow functions
 
 -- one whose body takes such a step, over what S says of the body with a number
 data Owner (S : BodySets) (k : ℕ) (number : ℕ) : Position → Tree → Tree → Type 0 where
-  a_function : (p : Position) (d g : Bool) (ds : List (List ℕ)) (name ps t u : Tree) → OwnStep (LosesThere t (S number) k) no_symbols Elsewhere t u → Owner S k number p (function_over d g ds number name ps t) (function_over d g ds number name ps u)
-  an_arrow : (q : Seat) (ds : List (List ℕ)) (ps t u : Tree) → OwnStep (LosesThere t (S number) k) no_symbols (Expr argument_seat) t u → Owner S k number (Expr q) (arrow_over ds number ps t) (arrow_over ds number ps u)
+  a_function : (p : Position) (d g : Bool) (ds : List (List ℕ)) (name ps t u : Tree) → OwnStep (LosesThere t (S number) k) nothing_begun Elsewhere t u → Owner S k number p (function_over d g ds number name ps t) (function_over d g ds number name ps u)
+  an_arrow : (q : Seat) (ds : List (List ℕ)) (ps t u : Tree) → OwnStep (LosesThere t (S number) k) nothing_begun (Expr argument_seat) t u → Owner S k number (Expr q) (arrow_over ds number ps t) (arrow_over ds number ps u)
 
 module _ (S : BodySets) (k number : ℕ) where
   abbrev O : Position → Tree → Tree → Type 0
@@ -136,18 +151,8 @@ module _ (S : BodySets) (k number : ℕ) where
     flat_in (first π t u ts s) = first π t u ts (flat s)
     flat_in (later π t ts us s) = later π t ts us (flat_in s)
 
-  -- and where the whole mentions the name nowhere, so does it
   abbrev Quiet : Position → Tree → Tree → Type 0
-  Quiet p n w = O p n w × Avoids E w
-
-  mutual
-    quiet_step : {p : Position} {t u : Tree} → Step O p t u → Avoids E u → Step Quiet p t u
-    quiet_step (here p n w r) a = here p n w (r, a)
-    quiet_step (inside p h xs n ts us s) a = inside p h xs n ts us (quiet_steps s a.1)
-
-    quiet_steps : {π : ℕ → Position} {ts us : Trees} → StepIn O π ts us → AllAvoid E us → StepIn Quiet π ts us
-    quiet_steps (first π t u ts s) a = first π t u ts (quiet_step s a.0)
-    quiet_steps (later π t ts us s) a = later π t ts us (quiet_steps s a.1)
+  Quiet = Unnamed E O
 
   rooted_there : {p : Position} {t u : Tree} → Step O p t u → u ≡ over t (children u)
   rooted_there (here _ _ _ (a_function p d g ds name ps t u s)) = refl
@@ -205,7 +210,7 @@ module _ (S : BodySets) (k number : ℕ) where
     }
 
     owner_kept : (K : Shape → Bool) (t u : Tree) → Step O Elsewhere t u → IsWellShaped t → ProgramIsKeptUnder K W S t u
-    owner_kept K t u s e = program_kept k K W S t u (flat s) e (rooted_there s) (λ v. step_under Quiet W S E keeps_bodies Elsewhere t u (quiet_step s v) v false (one a_program) refl e outermost whole_stands)
+    owner_kept K t u s e = program_kept k K W S t u (flat s) e (rooted_there s) (λ v. step_under Quiet W S E keeps_bodies Elsewhere t u (unnamed_step E O s v) v false (one a_program) refl e outermost whole_stands)
 
 -- ---- all of them
 
@@ -257,14 +262,14 @@ module _ (S : BodySets) where
 
   -- ---- the program itself
 
-  module _ (K : Shape → Bool) (W : VariableSet) (m : Bool) (ds : List (List ℕ)) (number : ℕ) (t u : Tree) (r : OwnStep (own_rows PastBlocks t (S number)) no_symbols StatementList t u) where
+  module _ (K : Shape → Bool) (W : VariableSet) (m : Bool) (ds : List (List ℕ)) (number : ℕ) (t u : Tree) (r : OwnStep (own_rows PastBlocks t (S number)) nothing_begun StatementList t u) where
     abbrev known : Assured
     known = S number
 
     abbrev lost_there : ℕ
     lost_there = (some_step t known r).0
 
-    abbrev own_step : OwnStep (LosesThere t known lost_there) no_symbols StatementList t u
+    abbrev own_step : OwnStep (LosesThere t known lost_there) nothing_begun StatementList t u
     own_step = (some_step t known r).1
 
     abbrev gone_there : VariableSet
@@ -290,7 +295,7 @@ module _ (S : BodySets) where
     whole_kept : IsWellShaped f → ProgramIsKeptUnder K W S f f'
     whole_kept e = program_kept lost_there K W S f f' (inside Elsewhere (shape.Program m ds) [] number (t ▸ none) (u ▸ none) (first _ t u none (lost_step t known lost_there own_step))) e refl program_bodies
 
-  of_program : (P : Tree → Tree → Type 0) → ((m : Bool) (ds : List (List ℕ)) (number : ℕ) (t u : Tree) → OwnStep (own_rows PastBlocks t (S number)) no_symbols StatementList t u → P (program_over m ds number t) (program_over m ds number u)) → (p : Position) (n w : Tree) → OwnProgram PastBlocks S p n w → P n w
+  of_program : (P : Tree → Tree → Type 0) → ((m : Bool) (ds : List (List ℕ)) (number : ℕ) (t u : Tree) → OwnStep (own_rows PastBlocks t (S number)) nothing_begun StatementList t u → P (program_over m ds number t) (program_over m ds number u)) → (p : Position) (n w : Tree) → OwnProgram PastBlocks S p n w → P n w
   of_program P h Elsewhere n w r = subst (λ v. P v w) (sym r.shape) (subst (P (program_over r.is_module r.directives r.number r.before)) (sym r.written) (h r.is_module r.directives r.number r.before r.after r.step))
   of_program P h p n w r = absurd r
 

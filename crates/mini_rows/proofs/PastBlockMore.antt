@@ -4,7 +4,7 @@ use Rattle.std.specs.Prelude.{◌||◌, ◌&&◌, not, if◌then◌else◌}
 use Rattle.std.proofs.lemmas.Bool.{and_parts}
 use Rattle.mini_model.specs.declared.name.Name.{Name}
 use Rattle.mini_model.specs.declared.name.SymbolId.{SymbolId}
-use Rattle.mini_model.specs.declared.place.Position.TheVariants.{Stmt}
+use Rattle.mini_model.specs.declared.place.Position.TheVariants.{Stmt, Elsewhere}
 use Rattle.mini_model.specs.declared.operator.AssignmentOperator.{AssignmentOperator}
 use Rattle.mini_model.specs.declared.shape.Shape.{Shape}
 use Rattle.mini_model.specs.declared.shape.Shape.TheVariants as shape
@@ -16,10 +16,11 @@ use Rattle.mini_kept.proofs.Bools.{both}
 use Rattle.mini_node.specs.Children.{names_of, part}
 use Rattle.mini_terms.specs.Folds.{is_effect_free}
 use Rattle.mini_node.specs.Kinds.{is_identifier}
+use Rattle.mini_terms.specs.Kind.{is_primitive, kind as kind_of}
 use Rattle.mini_rows.specs.Past.{any_bind, is_let, begun, Kept, held, leaves, is_held_symbol, is_held_name, is_held, is_this, keeps_value, passes_any, passes_any_word, passes_any_member, passes_any_target, passes_any_item, passes_any_at, is_certain, are_past, are_past_in, all_past, PastRow}
-use Rattle.mini_rows.specs.PastBlocks.{PastBlocks}
+use Rattle.mini_rows.specs.PastBlocks.{PastBlockRow, PastBlocks}
 use Rattle.mini_rows.specs.Steady.{ReadsMore}
-use Rattle.mini_rows.specs.Unused.{resolved, names, is_constant, is_plain_assignment, is_word, is_member, is_field, entries_below, evaluated}
+use Rattle.mini_rows.specs.Unused.{resolved, names, is_constant, is_plain_assignment, is_word, is_member, is_field, Gathered, OfValues, OfEntries, OfTexts, gathered_below, evaluated}
 
 either_more : (a b c : Bool) → (a ≡ true → b ≡ true) → (a || c) ≡ true → (b || c) ≡ true
 either_more true b c f e = ap (λ d. d || c) (f refl)
@@ -74,30 +75,33 @@ module _ (H G : Kept) (more : (x : Variable) → H.variables x ≡ true → G.va
       both_more (is_plain_assignment o) (passes_any_member H r t || (is_identifier t && is_effect_free t)) (is_plain_assignment o) (passes_any_member G r t || (is_identifier t && is_effect_free t)) (λ e. e)
       (either_more (passes_any_member H r t) (passes_any_member G r t) (is_identifier t && is_effect_free t) (member_more r t))
 
-  item_more : (m : Bool) (r t : Tree) → passes_any_item H m r t ≡ true → passes_any_item G m r t ≡ true
-  item_more m r t =
-      some_more (passes_any H r t) (m && (is_field t && passes_any H r (part t 1))) (passes_any G r t) (m && (is_field t && passes_any G r (part t 1))) (passes_more r t)
-      (both_more m (is_field t && passes_any H r (part t 1)) m (is_field t && passes_any G r (part t 1)) (λ e. e) (both_more (is_field t) (passes_any H r (part t 1)) (is_field t) (passes_any G r (part t 1)) (λ e. e) (passes_more r (part t 1))))
+  item_more : (m : Gathered) (r t : Tree) → passes_any_item H m r t ≡ true → passes_any_item G m r t ≡ true
+  item_more OfTexts r t = both_more (passes_any H r t) (is_primitive (kind_of t)) (passes_any G r t) (is_primitive (kind_of t)) (passes_more r t) (λ e. e)
+  item_more OfEntries r t =
+      some_more (passes_any H r t) (is_field t && passes_any H r (part t 1)) (passes_any G r t) (is_field t && passes_any G r (part t 1)) (passes_more r t)
+      (both_more (is_field t) (passes_any H r (part t 1)) (is_field t) (passes_any G r (part t 1)) (λ e. e) (passes_more r (part t 1)))
+  item_more OfValues r t = some_more (passes_any H r t) false (passes_any G r t) false (passes_more r t) (λ e. e)
 
-  at_more : (m : Bool) (r : Tree) (h : Shape) (t : Tree) → passes_any_at H m r h t ≡ true → passes_any_at G m r h t ≡ true
+  at_more : (m : Gathered) (r : Tree) (h : Shape) (t : Tree) → passes_any_at H m r h t ≡ true → passes_any_at G m r h t ≡ true
   at_more m r (shape.AssignmentExpression o) t e = target_more r o t e
   at_more m r (shape.ObjectProperty k is_method is_shorthand is_computed) t e = e
   at_more m r shape.Listed t e = item_more m r t e
+  at_more m r shape.TemplateLiteral t e = e
   at_more m r h t e = passes_more r t e
 
   mutual
-    past_in_more : (x : Name) (m : Bool) (r t : Tree) → are_past_in H x m r t ≡ true → are_past_in G x m r t ≡ true
+    past_in_more : (x : Name) (m : Gathered) (r t : Tree) → are_past_in H x m r t ≡ true → are_past_in G x m r t ≡ true
     past_in_more x m r (node h ys n ts) =
         both_more (is_certain x m r h ts) (all_past H x m r h 0 ts) (is_certain x m r h ts) (all_past G x m r h 0 ts) (λ e. e) (all_more x m r h 0 ts)
 
-    all_more : (x : Name) (m : Bool) (r : Tree) (h : Shape) (i : ℕ) (ts : Trees) → all_past H x m r h i ts ≡ true → all_past G x m r h i ts ≡ true
+    all_more : (x : Name) (m : Gathered) (r : Tree) (h : Shape) (i : ℕ) (ts : Trees) → all_past H x m r h i ts ≡ true → all_past G x m r h i ts ≡ true
     all_more x m r h i none e = refl
     all_more x m r h i (t ▸ ts) e =
-        branch_more (names x t) (are_past_in H x (entries_below m h i) r t) (are_past_in G x (entries_below m h i) r t) (passes_any_at H m r h t && all_past H x m r h (suc i) ts) (passes_any_at G m r h t && all_past G x m r h (suc i) ts) (past_in_more x (entries_below m h i) r t)
+        branch_more (names x t) (are_past_in H x (gathered_below m h i) r t) (are_past_in G x (gathered_below m h i) r t) (passes_any_at H m r h t && all_past H x m r h (suc i) ts) (passes_any_at G m r h t && all_past G x m r h (suc i) ts) (past_in_more x (gathered_below m h i) r t)
         (both_more (passes_any_at H m r h t) (all_past H x m r h (suc i) ts) (passes_any_at G m r h t) (all_past G x m r h (suc i) ts) (at_more m r h t) (all_more x m r h (suc i) ts)) e
 
   past_more : (x : Name) (r t : Tree) → are_past H x r t ≡ true → are_past G x r t ≡ true
-  past_more x r t = past_in_more x false r t
+  past_more x r t = past_in_more x OfValues r t
 
 -- ---- what is held
 
@@ -168,6 +172,10 @@ module _ (V : Assured) (X : VariableSet) (holds : (x : Variable) → V.initial x
     written = r.written;
   })
 
+block_more : (V : Assured) (X : VariableSet) → ((x : Variable) → V.initial x ≡ true → X x ≡ true) → (n w : Tree) → PastBlockRow V n w → PastBlockRow (record V { initial = X }) n w
+block_more V X holds n w r = record { before = r.before; after = r.after; row = row_more V X holds (listed none) r.before r.after r.row; shape = r.shape; written = r.written }
+
 pub past_blocks_more : ReadsMore PastBlocks
-past_blocks_more V X holds (Stmt q) n w r = record { before = r.before; after = r.after; row = row_more V X holds (listed none) r.before r.after r.row; shape = r.shape; written = r.written }
+past_blocks_more V X holds (Stmt q) n w r = block_more V X holds n w r
+past_blocks_more V X holds Elsewhere n w r = block_more V X holds n w r
 past_blocks_more V X holds p n w r = absurd r

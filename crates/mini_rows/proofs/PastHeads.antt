@@ -16,7 +16,7 @@ use Rattle.mini_kept.specs.Without.{Unseen}
 use Rattle.mini_rows.specs.Lists.{each_loop}
 use Rattle.mini_rows.specs.Past.{Kept, passes_any, is_certain, are_past, all_past}
 use Rattle.mini_rows.specs.Sketches.{AsValue}
-use Rattle.mini_rows.specs.Unused.{resolved, names, any_names, may_move, is_first, put_first, reads_head, evaluated}
+use Rattle.mini_rows.specs.Unused.{resolved, names, any_names, may_move, is_first, OfValues, put_first, reads_head, evaluated}
 use Rattle.mini_rows.proofs.FoldMeaning.{plain_read}
 use Rattle.mini_rows.proofs.ItemReads.{plain_item}
 use Rattle.mini_rows.proofs.ListKeptHeads.{Seat, Loop, Choice, seated, rest}
@@ -57,8 +57,8 @@ module _ (e : Environment) (spelling : List ℕ) (k : ℕ) (z : Unseen (alone (D
 
     value_goes : (v : Want) (r : Request (As v)) (s : State) → Initialised H.variables s → Go (either (means e init (As Val) tt s) (λ p t. means e (led reading.steps (identifier (resolved reading.read.spelling k))) (As v) r (after p t)) (λ y t. stop y t)) (means e (led reading.steps init) (As v) r s)
     value_goes v r s ready =
-        past_goes e k z init s x refl reading.read.spelling (sym (plain_read init (movable init moves))) (plain_item init (movable init moves)) false AsValue reading.steps reading.well reading.spared
-        (path_held e k z init s H still ready x refl false reading.steps (resolved reading.read.spelling k) (read_named spelling k reading.read.spelling) (subst (λ y. Indirect (identifier (record { spelling = reading.read.spelling; symbol = y })) reading.steps) (same_symbol k reading.read.symbol reading.same) reading.direct) reading.spared (sym (ap (are_past H x init) (path_as x k refl AsValue value reading)) ∙ passed)) (As v) tt tt r tt
+        past_goes e k z init s x refl reading.read.spelling (sym (plain_read init (movable init moves))) (plain_item init (movable init moves)) OfValues AsValue reading.steps reading.well reading.spared
+        (path_held e k z init s H still ready x refl OfValues reading.steps (resolved reading.read.spelling k) (read_named spelling k reading.read.spelling) (subst (λ y. Indirect (identifier (record { spelling = reading.read.spelling; symbol = y })) reading.steps) (same_symbol k reading.read.symbol reading.same) reading.direct) reading.spared (sym (ap (are_past H x init) (path_as x k refl AsValue value reading)) ∙ passed)) (As v) tt tt r tt
 
     scope_goes : (c : Seat) → any_names x (rest c) ≡ false → (s : State) → Initialised H.variables s → GoesWith e k init (seated c value) (seated c (put_first x init value)) s
     scope_goes c beside s ready =
@@ -77,10 +77,10 @@ module _ (e : Environment) (spelling : List ℕ) (k : ℕ) (z : Unseen (alone (D
   seated_past : (c : Seat) (value : Tree) → names x value ≡ true → are_past H x init (seated c value) ≡ true → are_past H x init value ≡ true
   seated_past (Choice cases) value n p =
       let ts : Trees = value ▸ (cases ▸ none) in
-      sym (ap (λ b. if b then are_past H x init value else (passes_any H init value && all_past H x false init shape.SwitchStatement 1 (cases ▸ none))) n) ∙ (and_parts (is_certain x false init shape.SwitchStatement ts) (all_past H x false init shape.SwitchStatement 0 ts) p).1
+      sym (ap (λ b. if b then are_past H x init value else (passes_any H init value && all_past H x OfValues init shape.SwitchStatement 1 (cases ▸ none))) n) ∙ (and_parts (is_certain x OfValues init shape.SwitchStatement ts) (all_past H x OfValues init shape.SwitchStatement 0 ts) p).1
   seated_past (Loop u v w) value n p =
       let ts : Trees = value ▸ (u ▸ (v ▸ (w ▸ none))) in
-      sym (ap (λ b. if b then are_past H x init value else (passes_any H init value && all_past H x false init shape.ForStatement 1 (u ▸ (v ▸ (w ▸ none))))) n) ∙ (and_parts (is_certain x false init shape.ForStatement ts) (all_past H x false init shape.ForStatement 0 ts) p).1
+      sym (ap (λ b. if b then are_past H x init value else (passes_any H init value && all_past H x OfValues init shape.ForStatement 1 (u ▸ (v ▸ (w ▸ none))))) n) ∙ (and_parts (is_certain x OfValues init shape.ForStatement ts) (all_past H x OfValues init shape.ForStatement 0 ts) p).1
 
   pub head_goes : reads_head x head ≡ true → are_past H x init (evaluated head) ≡ true → (s : State) → Initialised H.variables s → GoesWith e k init head (put_first x init head) s
   head_goes once passed s ready = by (heads x head once)

@@ -20,7 +20,7 @@ use Rattle.mini_rows.specs.Lists.{declaration}
 use Rattle.mini_rows.specs.Declarations.{binding, declarator}
 use Rattle.mini_rows.specs.Past.{Kept, are_past}
 use Rattle.mini_rows.specs.Sketches.{AsValue}
-use Rattle.mini_rows.specs.Unused.{resolved, may_move, is_first, put_first}
+use Rattle.mini_rows.specs.Unused.{resolved, may_move, is_first, OfValues, put_first}
 use Rattle.mini_rows.proofs.FoldMeaning.{plain_read}
 use Rattle.mini_rows.proofs.ItemReads.{plain_item}
 use Rattle.mini_rows.proofs.ListStretches.{exec_one, listed_is}
@@ -62,8 +62,8 @@ module _ (e : Environment) (spelling : List ℕ) (k : ℕ) (z : Unseen (alone (D
   value_goes : (s : State) → Initialised H.variables s → Go (either (means e init (As Val) tt s) (λ v t. means e value (As Val) tt (after v t)) (λ y t. stop y t)) (means e (put_first x init value) (As Val) tt s)
   value_goes s ready =
       subst₂ Go (read_there e k init value there same_there (As Val) tt s) (ap (λ w. means e w (As Val) tt s) (sym (reading.puts init)))
-      (past_goes e k z init s x refl reading.read.spelling plain (plain_item init (movable init moves)) false AsValue reading.steps reading.well reading.spared
-      (path_held e k z init s H still ready x refl false reading.steps (resolved reading.read.spelling k) (read_named spelling k reading.read.spelling) (subst (λ y. Indirect (identifier (record { spelling = reading.read.spelling; symbol = y })) reading.steps) (same_symbol k reading.read.symbol reading.same) reading.direct) reading.spared (sym (ap (are_past H x init) (path_as x k refl AsValue value reading)) ∙ passed)) (As Val) tt tt tt tt)
+      (past_goes e k z init s x refl reading.read.spelling plain (plain_item init (movable init moves)) OfValues AsValue reading.steps reading.well reading.spared
+      (path_held e k z init s H still ready x refl OfValues reading.steps (resolved reading.read.spelling k) (read_named spelling k reading.read.spelling) (subst (λ y. Indirect (identifier (record { spelling = reading.read.spelling; symbol = y })) reading.steps) (same_symbol k reading.read.symbol reading.same) reading.direct) reading.spared (sym (ap (are_past H x init) (path_as x k refl AsValue value reading)) ∙ passed)) (As Val) tt tt tt tt)
 
   value_there : (summary value).facts.absent ≡ false
   value_there = ap (λ i. i.facts.absent) same_there.read ∙ led_there reading.steps (identifier (resolved reading.read.spelling k)) refl

@@ -7,15 +7,15 @@ use Rattle.mini_model.specs.declared.name.SymbolId.{SymbolId}
 use Rattle.mini_model.specs.declared.operator.AssignmentOperator.{AssignmentOperator}
 use Rattle.mini_model.specs.declared.shape.Shape.{Shape}
 use Rattle.mini_model.specs.declared.shape.Shape.TheVariants as shape
-use Rattle.mini_model.specs.Tree.{Tree, Trees, node, none, ◌▸◌, identifier, shape_of}
+use Rattle.mini_model.specs.Tree.{Tree, Trees, node, none, ◌▸◌, count, identifier, shape_of}
 use Rattle.mini_model.specs.Paths.{append}
 use Rattle.mini_laws.specs.Value.{Value, Undefined, Declared, Slot, Holds, Missing, Uninitialised, choose, variable_eq}
 use Rattle.mini_laws.specs.State.{Item, State, Completion, ok, stop, either, Environment, with_vars}
-use Rattle.mini_laws.specs.Demand.{Val, Demand, As, Callee, Target, AnEntry, Items, Stat, AMember, Prepare, Fetch, Put, Called, Request, Reply, says}
+use Rattle.mini_laws.specs.Demand.{Val, Demand, As, Callee, Target, AnEntry, Items, Texts, Stat, AMember, Prepare, Fetch, Put, Called, Request, Reply, says}
 use Rattle.mini_laws.specs.Asking.{demand, first_demand}
 use Rattle.mini_laws.specs.Command.{set_var, ret, run, read_slot}
 use Rattle.mini_laws.specs.Conversion.{key_value}
-use Rattle.mini_laws.specs.Naming.{NameKind, kind_of, naming}
+use Rattle.mini_laws.specs.Naming.{Facts, NameKind, kind_of, naming}
 use Rattle.mini_laws.specs.Expressions.{get_identifier, is_eval}
 use Rattle.mini_laws.specs.Same.{Filled, Initialised}
 use Rattle.mini_laws.specs.Steady.{Spares, KeepsSlot}
@@ -31,21 +31,22 @@ use Rattle.mini_kept.specs.Without.{Unseen}
 use Rattle.mini_node.specs.Children.{part, is_bare}
 use Rattle.mini_node.specs.Kinds.{is_identifier}
 use Rattle.mini_terms.specs.Folds.{is_effect_free}
+use Rattle.mini_terms.specs.Kind.{is_primitive, kind}
 use Rattle.mini_terms.specs.Reading.{by_value, is_typed_by_value}
 use Rattle.mini_terms.proofs.Reading.{read_by_value}
 use Rattle.mini_rows.specs.Sketches.{Property, shape_by}
 use Rattle.mini_rows.specs.Members.{this}
 use Rattle.mini_rows.specs.Past.{binds, writes, leaves, Kept, is_held_symbol, is_held, is_this, keeps_value, passes_any, passes_any_word, passes_any_member, passes_any_target, passes_any_item, passes_any_at, is_certain, are_past_in, all_past}
 use Rattle.mini_rows.specs.Chains.{is_calm}
-use Rattle.mini_rows.specs.Unused.{is_like_one, is_childless, names, any_names, begins_with, is_constant, is_plain_assignment, is_word, is_member_shape, is_member, is_field_shape, is_field, is_number_shape, is_called_by_value, is_sure, is_placed, entries_below, suits, resolved}
+use Rattle.mini_rows.specs.Unused.{is_like_one, is_childless, names, any_names, begins_with, is_constant, is_plain_assignment, is_word, is_member_shape, is_member, is_field_shape, is_field, is_number_shape, is_called_by_value, is_sure, is_placed, Gathered, OfValues, OfEntries, OfTexts, of_entries, gathered_below, suits, resolved}
 use Rattle.mini_rows.proofs.ItemReads.{item_read}
 use Rattle.mini_rows.proofs.KeptThis.{KeepsThis, this_kept}
 use Rattle.mini_rows.proofs.MemberRuns.{this_value}
 use Rattle.mini_rows.proofs.Passing.{Replies, Does, Replying, replied, constant_replies, word_replies, target_replies, member_replies, field_is}
 use Rattle.mini_rows.proofs.PastSpared.{left_alone}
 use Rattle.mini_rows.proofs.PastRuns.{Held, AllHeld, HeldBefore, HeldPath}
-use Rattle.mini_rows.proofs.SingleMeaning.{AllReply}
-use Rattle.mini_rows.proofs.SingleUse.{Lead, Minus, Typing, Called as CalledLead, Against, Given, Filling, Keying, Linking, Following, Branching, Failing, Storing, Fielding, Listing, Spreading, Bracketing, head_of, before, place, surely, Step, is_end, suited, whole, allows, Indirect, Spared, found, found_head, by_front, ends_short}
+use Rattle.mini_rows.proofs.SingleMeaning.{AllReply, AllFine, Gathers, textual_part, texts_in, earlier, valued_before}
+use Rattle.mini_rows.proofs.SingleUse.{Lead, Minus, Typing, Called as CalledLead, Against, Given, Filling, Keying, Interpolating, Linking, Following, Branching, Failing, Storing, Fielding, Listing, Spreading, Bracketing, head_of, before, place, surely, Step, is_end, suited, whole, allows, Indirect, Spared, found, found_head, by_front, ends_short}
 use Rattle.mini_rows.proofs.UnusedNames.{or_parts}
 use Rattle.mini_rows.proofs.WriteMeaning.{read_value}
 
@@ -197,7 +198,7 @@ module _ (e : Environment) (k : ℕ) (z : Unseen (alone (Declared k)) e) (init :
             member_held t a (part_held (part t 0) c g (As Val) tt tt) (word_held (part t 1) d h)
         by false m q = replying_held Target (means e t Target) Prepare (target_replies e t (and_parts (is_identifier t) (is_effect_free t) q).0)
 
-    item_held : (t : Tree) → passes_any_item H true init t ≡ true → names x t ≡ false → Held e k z init s AnEntry (means e t AnEntry) tt
+    item_held : (t : Tree) → passes_any_item H OfEntries init t ≡ true → names x t ≡ false → Held e k z init s AnEntry (means e t AnEntry) tt
     item_held t p f = by (passes_any H init t) refl p
       where
         by : (b : Bool) → passes_any H init t ≡ b → (b || (is_field t && passes_any H init (part t 1))) ≡ true → Held e k z init s AnEntry (means e t AnEntry) tt
@@ -210,7 +211,7 @@ module _ (e : Environment) (k : ℕ) (z : Unseen (alone (Declared k)) e) (init :
     -- ---- what stands before the read
 
     -- each part of such a node passes, and doesn't mention the name
-    abbrev AllAny : Bool → Shape → Trees → Type 0
+    abbrev AllAny : Gathered → Shape → Trees → Type 0
     AllAny m h none = Unit {0}
     AllAny m h (t ▸ ts) = ((passes_any_at H m init h t ≡ true) × (names x t ≡ false)) × AllAny m h ts
 
@@ -218,23 +219,23 @@ module _ (e : Environment) (k : ℕ) (z : Unseen (alone (Declared k)) e) (init :
     first_or true e = refl
     first_or false e = e
 
-    none_held : (σ : ℕ → Demand) → AllHeld e k z init s none σ
-    none_held σ zero b r m = absurd b
-    none_held σ (suc j) b r m = absurd b
+    none_held : (ps : Trees) (σ : ℕ → Demand) → AllHeld e k z init s 0 ps σ
+    none_held ps σ zero b r m = absurd b
+    none_held ps σ (suc j) b r m = absurd b
 
-    one_held : (t : Tree) → passes_any H init t ≡ true → names x t ≡ false → (σ : ℕ → Demand) → Replies (σ 0) → AllHeld e k z init s (t ▸ none) σ
+    one_held : (t : Tree) → passes_any H init t ≡ true → names x t ≡ false → (σ : ℕ → Demand) → Replies (σ 0) → AllHeld e k z init s 1 (t ▸ none) σ
     unfolding meaning
     one_held t p f σ u zero b r m = part_held t p f (σ 0) u r
     one_held t p f σ u (suc zero) b r m = absurd b
     one_held t p f σ u (suc (suc j)) b r m = absurd b
 
-    key_held : (t : Tree) → is_word (shape_of t) ≡ true → AllHeld e k z init s (t ▸ none) (λ i. As Val)
+    key_held : (t : Tree) → is_word (shape_of t) ≡ true → AllHeld e k z init s 1 (t ▸ none) (λ i. As Val)
     unfolding meaning
     key_held t p zero b r m = replying_held (As Val) (means e t (As Val)) tt (word_replies e t p)
     key_held t p (suc zero) b r m = absurd b
     key_held t p (suc (suc j)) b r m = absurd b
 
-    assigned_held : (o : AssignmentOperator) (t : Tree) → passes_any_target H init o t ≡ true → names x t ≡ false → AllHeld e k z init s (t ▸ none) AssignDemand
+    assigned_held : (o : AssignmentOperator) (t : Tree) → passes_any_target H init o t ≡ true → names x t ≡ false → AllHeld e k z init s 1 (t ▸ none) AssignDemand
     unfolding meaning
     assigned_held o t p f zero b Prepare m = target_held o t p f
     assigned_held o t p f zero b (Fetch reference) m = absurd (true≢false (sym m))
@@ -242,14 +243,14 @@ module _ (e : Environment) (k : ℕ) (z : Unseen (alone (Declared k)) e) (init :
     assigned_held o t p f (suc zero) b r m = absurd b
     assigned_held o t p f (suc (suc j)) b r m = absurd b
 
-    list_held : (ps : Trees) → AllAny false shape.Listed ps → (σ : ℕ → Demand) → AllReply σ ps → AllHeld e k z init s ps σ
+    list_held : (ps : Trees) → AllAny OfValues shape.Listed ps → (σ : ℕ → Demand) → AllReply σ ps → AllHeld e k z init s (count ps) ps σ
     unfolding meaning
     list_held none p σ u zero b r m = absurd b
     list_held none p σ u (suc j) b r m = absurd b
     list_held (t ▸ ps) p σ u zero b r m = part_held t (first_or (passes_any H init t) p.0.0) p.0.1 (σ 0) u.0 r
     list_held (t ▸ ps) p σ u (suc j) b r m = list_held ps p.1 (λ i. σ (suc i)) u.1 j b r m
 
-    items_held : (ps : Trees) → AllAny true shape.Listed ps → AllHeld e k z init s ps (λ i. AnEntry)
+    items_held : (ps : Trees) → AllAny OfEntries shape.Listed ps → AllHeld e k z init s (count ps) ps (λ i. AnEntry)
     unfolding meaning
     items_held none p zero b r m = absurd b
     items_held none p (suc j) b r m = absurd b
@@ -257,36 +258,65 @@ module _ (e : Environment) (k : ℕ) (z : Unseen (alone (Declared k)) e) (init :
     items_held (t ▸ ps) p (suc j) b r m = items_held ps p.1 j b r m
 
     -- what is asked for nothing
-    unasked_held : (ps : Trees) (σ : ℕ → Demand) → (Replies (σ 0) → ⊥) → AllReply σ ps → AllHeld e k z init s ps σ
+    unasked_held : (ps : Trees) (σ : ℕ → Demand) → (Replies (σ 0) → ⊥) → AllReply σ ps → AllHeld e k z init s (count ps) ps σ
     unasked_held none σ n u zero b r m = absurd b
     unasked_held none σ n u (suc j) b r m = absurd b
     unasked_held (t ▸ ps) σ n u j b r m = absurd (n u.0)
 
-    before_held : (m : Bool) (l : Lead) → surely m false l ≡ true → AllAny m (shape_by (head_of l)) (before l) → HeldBefore e k z init s m l
-    before_held m (Against o t) e p fs q n u = one_held t p.0.0 p.0.1 (λ i. As Val) u.0
-    before_held m (Given o t) e p fs q n u = one_held t p.0.0 p.0.1 (first_demand Callee Items) u.0
-    before_held m (Filling t) e p fs q n u = one_held t p.0.0 p.0.1 (first_demand (As Val) Items) u.0
-    before_held m (Keying o t) e p fs q n u = one_held t p.0.0 p.0.1 (λ i. As Val) u.0
-    before_held m (Following o t) e p fs q n u = absurd (true≢false (sym e))
-    before_held m (Branching t) e p fs q n u = absurd (true≢false (sym e))
-    before_held m (Failing t d) e p fs q n u = absurd (true≢false (sym e))
-    before_held m (Storing o t) e p fs q n u = assigned_held o t p.0.0 p.0.1
-    before_held m (Fielding false t) e p fs q n u = key_held t p.0.0
-    before_held m (Fielding true t) e p fs q n u = absurd (true≢false (sym e))
-    before_held false (Listing ts) e p fs q n u = list_held ts p (demand shape.Listed fs q) u
-    before_held true (Listing ts) e p fs Items n u = items_held ts p
-    before_held true (Listing ts) e p fs AnEntry n u = unasked_held ts (demand shape.Listed fs AnEntry) (λ r. r) u
-    before_held true (Listing ts) e p fs q n u = absurd n
-    before_held m l e p fs q n u = none_held (demand (shape_by (head_of l)) fs q)
+    -- what is converted to a text
+    texts_held : (ps : Trees) → AllAny OfTexts shape.Listed ps → AllHeld e k z init s (count ps) ps (λ i. As Val)
+    unfolding meaning
+    texts_held none p zero b r m = absurd b
+    texts_held none p (suc j) b r m = absurd b
+    texts_held (t ▸ ps) p zero b r m = part_held t (and_parts (passes_any H init t) (is_primitive (kind t)) p.0.0).0 p.0.1 (As Val) tt r
+    texts_held (t ▸ ps) p (suc j) b r m = texts_held ps p.1 j b r m
+
+    texts_fine : (ps : Trees) → AllAny OfTexts shape.Listed ps → AllFine e true (count ps) ps (λ i. As Val)
+    unfolding meaning
+    texts_fine none p zero b r v y t g = absurd b
+    texts_fine none p (suc j) b r v y t g = absurd b
+    texts_fine (u ▸ ps) p zero b r v y t g = textual_part e u (and_parts (passes_any H init u) (is_primitive (kind u)) p.0.0).1 v y t g
+    texts_fine (u ▸ ps) p (suc j) b r v y t g = texts_fine ps p.1 j b r v y t g
+
+    before_fine : (m : Gathered) (l : Lead) → AllAny m (shape_by (head_of l)) (before l) → (fs : List Facts) (q : Demand) → Gathers m q → AllFine e (texts_in m l) (count (earlier l)) (before l) (demand (shape_by (head_of l)) fs q)
+    before_fine OfTexts (Listing ts) p fs Texts n = texts_fine ts p
+    before_fine OfTexts (Listing ts) p fs (As w) n = λ j b r a y t g. tt
+    before_fine OfTexts (Listing ts) p fs q n = absurd n
+    before_fine OfValues (Listing ts) p fs q n = λ j b r a y t g. tt
+    before_fine OfEntries (Listing ts) p fs q n = λ j b r a y t g. tt
+    before_fine m l p fs q n = λ j b r a y t g. tt
+
+    parts_before : (m : Gathered) (l : Lead) → surely m false l ≡ true → AllAny m (shape_by (head_of l)) (before l) → (fs : List Facts) (q : Demand) → Gathers m q → AllReply (demand (shape_by (head_of l)) fs q) (valued_before l) → AllHeld e k z init s (count (earlier l)) (before l) (demand (shape_by (head_of l)) fs q)
+    parts_before m (Against o t) e p fs q n u = one_held t p.0.0 p.0.1 (λ i. As Val) u.0
+    parts_before m (Given o t) e p fs q n u = one_held t p.0.0 p.0.1 (first_demand Callee Items) u.0
+    parts_before m (Filling t) e p fs q n u = one_held t p.0.0 p.0.1 (first_demand (As Val) Items) u.0
+    parts_before m (Keying o t) e p fs q n u = one_held t p.0.0 p.0.1 (λ i. As Val) u.0
+    parts_before m (Following o t) e p fs q n u = absurd (true≢false (sym e))
+    parts_before m (Branching t) e p fs q n u = absurd (true≢false (sym e))
+    parts_before m (Failing t d) e p fs q n u = absurd (true≢false (sym e))
+    parts_before m (Storing o t) e p fs q n u = assigned_held o t p.0.0 p.0.1
+    parts_before m (Fielding false t) e p fs q n u = key_held t p.0.0
+    parts_before m (Fielding true t) e p fs q n u = absurd (true≢false (sym e))
+    parts_before OfValues (Listing ts) e p fs q n u = list_held ts p (demand shape.Listed fs q) u
+    parts_before OfEntries (Listing ts) e p fs Items n u = items_held ts p
+    parts_before OfEntries (Listing ts) e p fs AnEntry n u = unasked_held ts (demand shape.Listed fs AnEntry) (λ r. r) u
+    parts_before OfEntries (Listing ts) e p fs q n u = absurd n
+    parts_before OfTexts (Listing ts) e p fs Texts n u = texts_held ts p
+    parts_before OfTexts (Listing ts) e p fs (As w) n u = unasked_held ts (demand shape.Listed fs (As w)) (λ r. r) u
+    parts_before OfTexts (Listing ts) e p fs q n u = absurd n
+    parts_before m l e p fs q n u = none_held (before l) (demand (shape_by (head_of l)) fs q)
+
+    before_held : (m : Gathered) (l : Lead) → surely m false l ≡ true → AllAny m (shape_by (head_of l)) (before l) → HeldBefore e k z init s m l
+    before_held m l e p fs q n u = (parts_before m l e p fs q n u, before_fine m l p fs q n)
 
     -- ---- along a path
 
     -- those that stand before, and the one that mentions the name
-    parts_held : (m : Bool) (h : Shape) (i : ℕ) (ps : Trees) (t : Tree) (ts : Trees) → any_names x ps ≡ false → names x t ≡ true → all_past H x m init h i (append ps (t ▸ ts)) ≡ true → AllAny m h ps × (are_past_in H x (entries_below m h (place i ps)) init t ≡ true)
-    parts_held m h i none t ts f n p = (tt, sym (ap (λ c. if c then are_past_in H x (entries_below m h i) init t else (passes_any_at H m init h t && all_past H x m init h (suc i) ts)) n) ∙ p)
+    parts_held : (m : Gathered) (h : Shape) (i : ℕ) (ps : Trees) (t : Tree) (ts : Trees) → any_names x ps ≡ false → names x t ≡ true → all_past H x m init h i (append ps (t ▸ ts)) ≡ true → AllAny m h ps × (are_past_in H x (gathered_below m h (place i ps)) init t ≡ true)
+    parts_held m h i none t ts f n p = (tt, sym (ap (λ c. if c then are_past_in H x (gathered_below m h i) init t else (passes_any_at H m init h t && all_past H x m init h (suc i) ts)) n) ∙ p)
     parts_held m h i (v ▸ ps) t ts f n p =
         let (one, others) = or_parts (names x v) (any_names x ps) f in
-        let (a, b) = and_parts (passes_any_at H m init h v) (all_past H x m init h (suc i) (append ps (t ▸ ts))) (sym (ap (λ c. if c then are_past_in H x (entries_below m h i) init v else (passes_any_at H m init h v && all_past H x m init h (suc i) (append ps (t ▸ ts)))) one) ∙ p) in
+        let (a, b) = and_parts (passes_any_at H m init h v) (all_past H x m init h (suc i) (append ps (t ▸ ts))) (sym (ap (λ c. if c then are_past_in H x (gathered_below m h i) init v else (passes_any_at H m init h v && all_past H x m init h (suc i) (append ps (t ▸ ts)))) one) ∙ p) in
         let (c, d) = parts_held m h (suc i) ps t ts others n b in
         (((a, one), c), d)
 
@@ -301,14 +331,14 @@ module _ (e : Environment) (k : ℕ) (z : Unseen (alone (Declared k)) e) (init :
     both_sure : (b c : Bool) → b ≡ true → c ≡ true → (b && c) ≡ true
     both_sure b c e f = (λ k. e k && f k)
 
-    sure_by : (m : Bool) (l : Lead) → any_names x (before l) ≡ false → (u : Tree) (ts : Trees) → is_placed m false (shape_by (head_of l)) ≡ true → (is_sure false (shape_by (head_of l)) || begins_with x (append (before l) (u ▸ ts))) ≡ true → surely m false l ≡ true
+    sure_by : (m : Gathered) (l : Lead) → any_names x (before l) ≡ false → (u : Tree) (ts : Trees) → is_placed m false (shape_by (head_of l)) ≡ true → (is_sure false (shape_by (head_of l)) || begins_with x (append (before l) (u ▸ ts))) ≡ true → surely m false l ≡ true
     sure_by m (Following o a) f u ts g e = absurd (begun_there a none f e)
     sure_by m (Branching a) f u ts g e = absurd (begun_there a none f e)
     sure_by m (Failing a b) f u ts g e = absurd (begun_there a (b ▸ none) f e)
     sure_by m (Storing o a) f u ts g e = sure_there (is_plain_assignment o || false) (names x a) (begun_there a none f) e
     sure_by m (Given o a) f u ts g e = sure_there (not o || false) (names x a) (begun_there a none f) e
     sure_by m (Keying o a) f u ts g e = sure_there (not o || false) (names x a) (begun_there a none f) e
-    sure_by m (Fielding c a) f u ts g e = both_sure (not c) (m || false) (sure_there (not c) (names x a) (begun_there a none f) e) g
+    sure_by m (Fielding c a) f u ts g e = both_sure (not c) (of_entries m || false) (sure_there (not c) (names x a) (begun_there a none f) e) g
     sure_by m Spreading f u ts g e = g
     sure_by m Bracketing f u ts g e = g
     sure_by m l f u ts g e = refl
@@ -356,16 +386,16 @@ module _ (e : Environment) (k : ℕ) (z : Unseen (alone (Declared k)) e) (init :
     found_there (l ∷ ss) u n = any_there (before l.lead) (found ss u) l.rest (found_there ss u n)
 
     -- a property is passed the same, shorthand and in full
-    all_in_full : (m : Bool) (i : ℕ) (ts : Trees) → all_past H x m init (shape_by (Property false false)) i ts ≡ all_past H x m init (shape_by (Property true false)) i ts
+    all_in_full : (m : Gathered) (i : ℕ) (ts : Trees) → all_past H x m init (shape_by (Property false false)) i ts ≡ all_past H x m init (shape_by (Property true false)) i ts
     all_in_full m i none = refl
-    all_in_full m i (t ▸ ts) = ap (λ b. if names x t then are_past_in H x (entries_below m (shape_by (Property false false)) i) init t else (passes_any_at H m init (shape_by (Property false false)) t && b)) (all_in_full m (suc i) ts)
+    all_in_full m i (t ▸ ts) = ap (λ b. if names x t then are_past_in H x (gathered_below m (shape_by (Property false false)) i) init t else (passes_any_at H m init (shape_by (Property false false)) t && b)) (all_in_full m (suc i) ts)
 
-    past_in_full : (m : Bool) (ts : Trees) (b : Bool) (l : Lead) → is_certain x m init (shape_by (found_head b l)) ts && all_past H x m init (shape_by (found_head b l)) 0 ts ≡ true → is_certain x m init (shape_by (head_of l)) ts && all_past H x m init (shape_by (head_of l)) 0 ts ≡ true
+    past_in_full : (m : Gathered) (ts : Trees) (b : Bool) (l : Lead) → is_certain x m init (shape_by (found_head b l)) ts && all_past H x m init (shape_by (found_head b l)) 0 ts ≡ true → is_certain x m init (shape_by (head_of l)) ts && all_past H x m init (shape_by (head_of l)) 0 ts ≡ true
     past_in_full m ts =
         by_front (λ l h. is_certain x m init (shape_by h) ts && all_past H x m init (shape_by h) 0 ts ≡ true → is_certain x m init (shape_by (head_of l)) ts && all_past H x m init (shape_by (head_of l)) 0 ts ≡ true)
         (λ l e. e) (λ a o e. ap (λ b. is_certain x m init (shape_by (Property false false)) ts && b) (all_in_full m 0 ts) ∙ e)
 
-    pub path_held : (m : Bool) (ss : List Step) (y : Name) → names x (identifier y) ≡ true → Indirect (identifier y) ss → Spared x ss → are_past_in H x m init (found ss (identifier y)) ≡ true → HeldPath e k z init s m y.spelling ss
+    pub path_held : (m : Gathered) (ss : List Step) (y : Name) → names x (identifier y) ≡ true → Indirect (identifier y) ss → Spared x ss → are_past_in H x m init (found ss (identifier y)) ≡ true → HeldPath e k z init s m y.spelling ss
     path_held m [] y n o f p = tt
     path_held m (l ∷ ss) y n o f p =
         let h = shape_by (head_of l.lead) in
@@ -376,4 +406,4 @@ module _ (e : Environment) (k : ℕ) (z : Unseen (alone (Declared k)) e) (init :
         let (placed, a) = and_parts (is_placed m false h) (is_sure false h || begins_with x ts) q in
         let (c, d) = parts_held m h 0 (before l.lead) u l.rest f.0.0 (found_there ss (identifier y) n) b in
         let sure = sure_by m l.lead f.0.0 u l.rest placed a in
-        ((before_held m l.lead sure c, sure, allows y init l.lead ss (suited_by l.lead ss y l.rest n suit) o.0, whole_by l.lead u l.rest suit), path_held (entries_below m h (place 0 (before l.lead))) ss y n o.1 f.1 d)
+        ((before_held m l.lead sure c, sure, allows y init l.lead ss (suited_by l.lead ss y l.rest n suit) o.0, whole_by l.lead u l.rest suit), path_held (gathered_below m h (place 0 (before l.lead))) ss y n o.1 f.1 d)

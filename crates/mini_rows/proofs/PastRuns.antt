@@ -20,10 +20,10 @@ use Rattle.mini_kept.specs.Without.{Unseen}
 use Rattle.mini_terms.specs.Reading.{is_item}
 use Rattle.mini_rows.specs.Sketches.{shape_by, Asked, AsValue, asked_below}
 use Rattle.mini_rows.specs.Chains.{is_calm}
-use Rattle.mini_rows.specs.Unused.{resolved, entries_below}
+use Rattle.mini_rows.specs.Unused.{resolved, Gathered, gathered_below}
 use Rattle.mini_rows.proofs.Passing.{Does, Mild}
-use Rattle.mini_rows.proofs.SingleMeaning.{Before, Later, Opens, Alike, settled_goes, Entries, Reaches, Suits, earlier, valued_before, AllReply, asks, entries_there, next, May, joined, init_ends, whole_chains, later_goes, by_summaries, node_is, front_is, there_is, read_goes, entry_goes, callee_goes, type_goes, all_spared, there_before}
-use Rattle.mini_rows.proofs.SingleUse.{Lead, Failing, head_of, before, place, surely, Step, led, is_end, end_of, whole, Allows, Well, Spared, summaries_led}
+use Rattle.mini_rows.proofs.SingleMeaning.{Before, Later, Opens, Alike, settled_goes, Gathers, AllFine, Reaches, Suits, texts_in, earlier, earlier_within, valued_before, AllReply, asks, gathered_there, next, May, joined, init_ends, whole_chains, later_goes, by_summaries, node_is, front_is, there_is, read_goes, entry_goes, callee_goes, type_goes, all_spared, there_before}
+use Rattle.mini_rows.proofs.SingleUse.{Lead, head_of, before, place, surely, Step, led, is_end, end_of, whole, Allows, Well, Spared, summaries_led}
 
 -- what goes on after a reply may rest on it
 pub by_reply : {A B : Type 0} (x : Completion A) (f g : A → State → Completion B) → ((v : A) (t : State) → x ≡ ok v t → f v t ≡ g v t) → next x f ≡ next x g
@@ -32,11 +32,6 @@ by_reply (ok v t) f g h = h v t refl
 by_reply (stop y t) f g h = refl
 by_reply (halt y t) f g h = refl
 by_reply out f g h = refl
-
--- what is evaluated whatever stands before is evaluated after all of that
-sure_earlier : (m : Bool) (l : Lead) → surely m false l ≡ true → earlier l ≡ before l
-sure_earlier m (Failing a b) e = absurd (true≢false (sym e))
-sure_earlier m l e = refl
 
 module _ (e : Environment) (k : ℕ) (z : Unseen (alone (Declared k)) e) (init : Tree) (s : State) where
   abbrev D : VariableSet
@@ -59,26 +54,26 @@ module _ (e : Environment) (k : ℕ) (z : Unseen (alone (Declared k)) e) (init :
   abbrev pub front : Trees → (σ : ℕ → Demand) → (j : ℕ) → Does (σ j)
   front ps σ j r t = meaning e ps j (σ j) r t
 
-  -- so does each of some parts, where it is asked no more than the way to the read asks
-  abbrev pub AllHeld : Trees → (ℕ → Demand) → Type 0
-  AllHeld ps σ = (j : ℕ) → Before j (count ps) → (r : Request (σ j)) → Mild false (σ j) r → Held (σ j) (front ps σ j) r
+  -- so does each of the first of some parts, where it is asked no more than the way to the read asks
+  abbrev pub AllHeld : ℕ → Trees → (ℕ → Demand) → Type 0
+  AllHeld n ps σ = (j : ℕ) → Before j n → (r : Request (σ j)) → Mild false (σ j) r → Held (σ j) (front ps σ j) r
 
-  -- the parts before the read, where an entry is asked or isn't
-  abbrev pub HeldBefore : Bool → Lead → Type 0
-  HeldBefore m l = (fs : List Facts) (q : Demand) → Entries m q → AllReply (demand (shape_by (head_of l)) fs q) (valued_before l) → AllHeld (before l) (demand (shape_by (head_of l)) fs q)
+  -- the parts before the read, by what is gathered there
+  abbrev pub HeldBefore : Gathered → Lead → Type 0
+  HeldBefore m l = (fs : List Facts) (q : Demand) → Gathers m q → AllReply (demand (shape_by (head_of l)) fs q) (valued_before l) → AllHeld (count (earlier l)) (before l) (demand (shape_by (head_of l)) fs q) × AllFine e (texts_in m l) (count (earlier l)) (before l) (demand (shape_by (head_of l)) fs q)
 
-  abbrev pub HeldPath : Bool → List ℕ → List Step → Type 0
+  abbrev pub HeldPath : Gathered → List ℕ → List Step → Type 0
   HeldPath m spelling [] = Unit {0}
-  HeldPath m spelling (s ∷ ss) = (HeldBefore m s.lead × (surely m false s.lead ≡ true) × Allows s.lead (end_of spelling init ss) × (whole init s.lead ≡ true)) × HeldPath (entries_below m (shape_by (head_of s.lead)) (place 0 (before s.lead))) spelling ss
+  HeldPath m spelling (s ∷ ss) = (HeldBefore m s.lead × (surely m false s.lead ≡ true) × Allows s.lead (end_of spelling init ss) × (whole init s.lead ≡ true)) × HeldPath (gathered_below m (shape_by (head_of s.lead)) (place 0 (before s.lead))) spelling ss
 
-  passed_goes : {A : Type 0} (q : Demand) (m : Does q) (r : Request q) → Held q m r → (F G : Reply q r → State → Completion A) (f g : Stop → State → Completion A) → ((a : Reply q r) → Go (Started (λ v t. F a t)) (G a s)) → Go (Started (λ v t. either (m r t) F f)) (either (m r s) G g)
+  passed_goes : {A : Type 0} (q : Demand) (m : Does q) (r : Request q) → Held q m r → (F G : Reply q r → State → Completion A) (f g : Stop → State → Completion A) → ((a : Reply q r) → m r s ≡ ok a s → Go (Started (λ v t. F a t)) (G a s)) → Go (Started (λ v t. either (m r t) F f)) (either (m r s) G g)
   passed_goes q m r c F G f g h =
       let (a, now, later) = c in
-      subst₂ Go (by_reply (means e init (As Val) tt s) (λ v t. F a (after v t)) (λ v t. either (m r (after v t)) F f) (λ v t is. sym (ap (λ x. either x F f) (later v t is) ∙ either_ok a (after v t) F f))) (sym (ap (λ x. either x G g) now ∙ either_ok a s G g)) (h a)
+      subst₂ Go (by_reply (means e init (As Val) tt s) (λ v t. F a (after v t)) (λ v t. either (m r (after v t)) F f) (λ v t is. sym (ap (λ x. either x F f) (later v t is) ∙ either_ok a (after v t) F f))) (sym (ap (λ x. either x G g) now ∙ either_ok a s G g)) (h a now)
 
   -- ---- a node, with the expression in the place of the read
 
-  module _ (h : Shape) (q : Demand) (is : List Summary) (σ : ℕ → Demand) (ps : Trees) (t u : Tree) (ts : Trees) (first : AllAvoid D ps) (last : AllAvoid D ts) (held : AllHeld ps σ)
+  module _ (h : Shape) (q : Demand) (is : List Summary) (σ : ℕ → Demand) (ps : Trees) (t u : Tree) (ts : Trees) (first : AllAvoid D ps) (last : AllAvoid D ts) (m : ℕ) (within : (j : ℕ) → Before j m → Before j (count ps)) (held : AllHeld m ps σ) (text : Bool) (fine : AllFine e text m ps σ)
       (alike : Alike e k z (σ (count ps)) t u) (inner : (r : Request (σ (count ps))) → Opens (σ (count ps)) r → Go (Started (λ v y. means e t (σ (count ps)) r y)) (means e u (σ (count ps)) r s)) where
     abbrev runs : {A : Type 0} → Tree → Command σ A → State → Completion A
     runs w c y = run e (naming h q [] 0 is) (λ i r z. meaning e (append ps (w ▸ ts)) i (σ i) r z) c y
@@ -112,14 +107,14 @@ module _ (e : Environment) (k : ℕ) (z : Unseen (alone (Declared k)) e) (init :
     hit_there : {A : Type 0} (j : ℕ) → j ≡ count ps → (r : Request (σ j)) → Opens (σ j) r → (c : Ends (Reply (σ j) r) → Command σ A) → Ends_with j r c → Reached (kid j r c)
     hit_there {A} j p = subst (λ j. (r : Request (σ j)) → Opens (σ j) r → (c : Ends (Reply (σ j) r) → Command σ A) → Ends_with j r c → Reached (kid j r c)) (sym p) (λ r o c known. hit_here r o c known)
 
-    pub reach_goes : {A : Type 0} (c : Command σ A) → Reaches false (is_calm init) (count ps) (count ps) c → Reached c
+    pub reach_goes : {A : Type 0} (c : Command σ A) → Reaches text false (is_calm init) m (count ps) c → Reached c
     reach_goes {A} (kid j r c) (inl l) =
         let F = λ (a : Reply (σ j) r) (y : State). runs t (c (done a)) y in
         let G = λ (a : Reply (σ j) r) (y : State). runs u (c (done a)) y in
         let f = λ (x : Stop) (y : State). runs t (c (ended x)) y in
         let g = λ (x : Stop) (y : State). runs u (c (ended x)) y in
-        subst₂ Go (either_cong (means e init (As Val) tt s) _ _ _ _ (λ v y. ap (λ x. either x F f) (sym (front_is e k z ps t ts j l.0.0 (σ j) r (after v y)))) (λ x y. refl)) (ap (λ x. either x G g) (sym (front_is e k z ps u ts j l.0.0 (σ j) r s)))
-        (passed_goes (σ j) (front ps σ j) r (held j l.0.0 r l.0.1) F G f g (λ a. reach_goes (c (done a)) (l.1 a)))
+        subst₂ Go (either_cong (means e init (As Val) tt s) _ _ _ _ (λ v y. ap (λ x. either x F f) (sym (front_is e k z ps t ts j (within j l.0.0) (σ j) r (after v y)))) (λ x y. refl)) (ap (λ x. either x G g) (sym (front_is e k z ps u ts j (within j l.0.0) (σ j) r s)))
+        (passed_goes (σ j) (front ps σ j) r (held j l.0.0 r l.0.1) F G f g (λ a y. reach_goes (c (done a)) (l.1 a (fine j l.0.0 r a s s y))))
     reach_goes (kid j r c) (inr (inl l)) = hit_there j l.here r l.opens c (l.stops, l.stopped_later, l.later)
     reach_goes (kid j r c) (inr (inr l)) = absurd (true≢false (sym l.0))
     reach_goes (ret a) l = absurd (true≢false (sym l.0))
@@ -133,7 +128,7 @@ module _ (e : Environment) (k : ℕ) (z : Unseen (alone (Declared k)) e) (init :
     abbrev read : Tree
     read = identifier (resolved spelling k)
 
-    pub past_goes : (m : Bool) (c : Asked) (ss : List Step) → Well c ss → Spared x ss → HeldPath m spelling ss → (q : Demand) → Suits c q (end_of spelling init ss) → Entries m q → (r : Request q) → Opens q r → Go (Started (λ v t. means e (led ss read) q r t)) (means e (led ss init) q r s)
+    pub past_goes : (m : Gathered) (c : Asked) (ss : List Step) → Well c ss → Spared x ss → HeldPath m spelling ss → (q : Demand) → Suits c q (end_of spelling init ss) → Gathers m q → (r : Request q) → Opens q r → Go (Started (λ v t. means e (led ss read) q r t)) (means e (led ss init) q r s)
     past_goes m AsValue [] w f p (As v) u n r o = read_goes e k z spelling init v s
     past_goes m AsValue [] w f p AnEntry u n r o = entry_goes e k z spelling init item s
     past_goes m AsValue [] w f p Callee u n r o = callee_goes e k z spelling init u s
@@ -148,10 +143,11 @@ module _ (e : Environment) (k : ℕ) (z : Unseen (alone (Declared k)) e) (init :
         let is = summaries (kids read) in
         let σ = demand h (facts_all is) q in
         let a = asks false (is_calm init) m c l (is_end ss) w.0 (end_of spelling init ss) p.0.2 (whole_chains init l p.0.3) (facts_all is) (there_before e k z ps (led ss read) step_there.rest) q u n r o in
+        let held = p.0.0 (facts_all is) q n a.first in
         let first = all_spared e k z x named ps f.0.0 in
         let last = all_spared e k z x named step_there.rest f.0.1 in
         let there = λ (y : State). node_is e k z h q r (kids read) y in
         let put : means e (led (step_there ∷ ss) init) q r s ≡ by_summaries e k z h q r is (kids init) s = node_is e k z h q r (kids init) s ∙ ap (λ i. by_summaries e k z h q r i (kids init) s) (sym (summaries_led step_there ss read init plain)) in
         subst₂ Go (sym (either_cong (means e init (As Val) tt s) _ _ _ _ (λ v y. there (after v y)) (λ y p. refl))) (sym put)
-        (reach_goes h q is σ ps (led ss read) (led ss init) step_there.rest first last (p.0.0 (facts_all is) q n a.first) (settled_goes e k z x named spelling init plain (asked_below (head_of l) c (place 0 ps)) ss w.1 f.1 (σ (count ps)) (end_of spelling init ss) a.below)
-        (λ r' o'. past_goes (entries_below m h (place 0 ps)) (asked_below (head_of l) c (place 0 ps)) ss w.1 f.1 p.1 (σ (count ps)) a.below (entries_there m c l (is_end ss) w.0 (facts_all is) q u n) r' o') (step h [] (facts_all is) q r) (subst (λ us. Reaches false (is_calm init) (count us) (count ps) (step h [] (facts_all is) q r)) (sure_earlier m l p.0.1) (a.reaches p.0.1)))
+        (reach_goes h q is σ ps (led ss read) (led ss init) step_there.rest first last (count (earlier l)) (earlier_within l) held.0 (texts_in m l) held.1 (settled_goes e k z x named spelling init plain (asked_below (head_of l) c (place 0 ps)) ss w.1 f.1 (σ (count ps)) (end_of spelling init ss) a.below)
+        (λ r' o'. past_goes (gathered_below m h (place 0 ps)) (asked_below (head_of l) c (place 0 ps)) ss w.1 f.1 p.1 (σ (count ps)) a.below (gathered_there m c l (is_end ss) w.0 (facts_all is) q u n (end_of spelling init ss) a.below) r' o') (step h [] (facts_all is) q r) (a.reaches p.0.1))

@@ -14,6 +14,8 @@ use Rattle.mini_terms.specs.Sound.{Quiet}
 use Rattle.mini_terms.proofs.Dropping.{weak}
 use Rattle.mini_terms.proofs.EffectsTable.{effect_free_sound}
 use Rattle.mini_rows.specs.Lists.{sequence}
+use Rattle.mini_terms.specs.Exact.{by_value as behind_zero}
+use Rattle.mini_rows.proofs.ChainGuards.{behind_wanted}
 use Rattle.mini_rows.proofs.ListParts.{in_row, sequence_in_row}
 
 module _ (D : VariableSet) where
@@ -36,17 +38,17 @@ module _ (D : VariableSet) where
   quiet_then s (halt y t) f q = absurd q
   quiet_then s out f q = weak D (f s)
 
-  module _ (e : Environment) (a : Tree) (h : is_effect_free a ≡ true) where
+  module _ (e : Environment) (a : Tree) (h : (s : State) → Quiet s (means e a (As Unused) tt s)) where
     idle_first : (q : Tree) (qs : Trees) (w : Want) (s : State) → Near (in_row e a (q ▸ qs) w s) (in_row e q qs w s)
     unfolding in_row
-    idle_first q qs w s = quiet_then s (means e a (As Unused) tt s) (λ z. in_row e q qs w z) (effect_free_sound a e true (λ f. absurd (true≢false f)) h Unused s)
+    idle_first q qs w s = quiet_then s (means e a (As Unused) tt s) (λ z. in_row e q qs w z) (h s)
 
     idle_later : (p : Tree) (ps : Trees) (q : Tree) (qs : Trees) (w : Want) (s : State) → Near (in_row e p (append ps (a ▸ (q ▸ qs))) w s) (in_row e p (append ps (q ▸ qs)) w s)
     unfolding in_row
     idle_later p none q qs w s = near_either (means e p (As Unused) tt s) _ _ (λ u z. idle_first q qs w z)
     idle_later p (c ▸ ps) q qs w s = near_either (means e p (As Unused) tt s) _ _ (λ u z. idle_later c ps q qs w z)
 
-    idle_near : (before : Trees) (q : Tree) (qs : Trees) (w : Want) (s : State) → Near (means e (sequence (append before (a ▸ (q ▸ qs)))) (As w) tt s) (means e (sequence (append before (q ▸ qs))) (As w) tt s)
+    pub idle_near : (before : Trees) (q : Tree) (qs : Trees) (w : Want) (s : State) → Near (means e (sequence (append before (a ▸ (q ▸ qs)))) (As w) tt s) (means e (sequence (append before (q ▸ qs))) (As w) tt s)
     idle_near none q qs w s =
         subst (λ x. Near x (means e (sequence (q ▸ qs)) (As w) tt s)) (sym (sequence_in_row e a (q ▸ qs) w s))
         (subst (Near (in_row e a (q ▸ qs) w s)) (sym (sequence_in_row e q qs w s)) (idle_first q qs w s))
@@ -54,12 +56,23 @@ module _ (D : VariableSet) where
         subst (λ x. Near x (means e (sequence (p ▸ append ps (q ▸ qs))) (As w) tt s)) (sym (sequence_in_row e p (append ps (a ▸ (q ▸ qs))) w s))
         (subst (Near (in_row e p (append ps (a ▸ (q ▸ qs))) w s)) (sym (sequence_in_row e p (append ps (q ▸ qs)) w s)) (idle_later p ps q qs w s))
 
-    alone_near : (q : Tree) (w : Want) (s : State) → Near (means e (sequence (a ▸ (q ▸ none))) (As w) tt s) (means e q (As w) tt s)
+    pub alone_near : (q : Tree) (w : Want) (s : State) → Near (means e (sequence (a ▸ (q ▸ none))) (As w) tt s) (means e q (As w) tt s)
     unfolding in_row
     alone_near q w s = subst (λ x. Near x (means e q (As w) tt s)) (sym (sequence_in_row e a (q ▸ none) w s)) (idle_first q none w s)
 
+    -- and as after the literal 0
+    zero_near : (q : Tree) (w : Want) (s : State) → Near (means e (sequence (a ▸ (q ▸ none))) (As w) tt s) (means e (behind_zero q) (As w) tt s)
+    zero_near q w s = subst (Near (means e (sequence (a ▸ (q ▸ none))) (As w) tt s)) (sym (behind_wanted e q w s)) (alone_near q w s)
+
+-- what has no effect wherever it stands
+quiet : (a : Tree) → is_effect_free a ≡ true → (e : Environment) (s : State) → Quiet s (means e a (As Unused) tt s)
+quiet a h e s = effect_free_sound a e true (λ f. absurd (true≢false f)) h Unused s
+
 pub idle_same : (before : Trees) (a q : Tree) (qs : Trees) → is_effect_free a ≡ true → SameWanted (sequence (append before (a ▸ (q ▸ qs)))) (sequence (append before (q ▸ qs)))
-idle_same before a q qs h e D X w = record { by = λ r s i. idle_near D e a h before q qs w s }
+idle_same before a q qs h e D X w = record { by = λ r s i. idle_near D e a (quiet a h e) before q qs w s }
 
 pub alone_same : (a q : Tree) → is_effect_free a ≡ true → SameWanted (sequence (a ▸ (q ▸ none))) q
-alone_same a q h e D X w = record { by = λ r s i. alone_near D e a h q w s }
+alone_same a q h e D X w = record { by = λ r s i. alone_near D e a (quiet a h e) q w s }
+
+pub zero_same : (a q : Tree) → is_effect_free a ≡ true → SameWanted (sequence (a ▸ (q ▸ none))) (behind_zero q)
+zero_same a q h e D X w = record { by = λ r s i. zero_near D e a (quiet a h e) q w s }

@@ -30,6 +30,7 @@ use Rattle.mini_rows.proofs.SequenceCalls.{left_number}
 use Rattle.mini_rows.proofs.SequencePaths.{in_order, path, parts_along, path_rearranged, nested_filled, flat_filled}
 use Rattle.mini_rows.proofs.SequenceYields.{yield_at, yielded_fits}
 use Rattle.mini_rows.proofs.SequenceEnds.{last_fits}
+use Rattle.mini_rows.proofs.SequenceStands.{of_sequence, sequence_asked}
 use Rattle.mini_rows.proofs.SequenceMeaning.{sequences_same}
 
 -- ---- the same parts
@@ -75,36 +76,6 @@ places (Expr q) n w r = refl
 places p n w r = absurd r
 
 -- ---- where they stand
-
-sequence_nowhere : (strict : Bool) (d : Depth) → statement_slots strict d shape.SequenceExpression ≡ None
-sequence_nowhere true in_module = refl
-sequence_nowhere true in_body = refl
-sequence_nowhere true nested = refl
-sequence_nowhere false in_module = refl
-sequence_nowhere false in_body = refl
-sequence_nowhere false nested = refl
-
-abbrev Stood : Bool → Class → Trees → Type 0
-Stood strict k ts = TakesExpressionIn k × (fits strict expression (sequence ts) ≡ true)
-
-sequence_in : (strict : Bool) (k : Class) (ts : Trees) → fits strict (one k) (sequence ts) ≡ true → Stood strict k ts
-sequence_in strict an_expression ts e = (tt, e)
-sequence_in strict a_link ts e = (tt, e)
-sequence_in strict an_argument ts e = (tt, e)
-sequence_in strict an_init ts e = (tt, e)
-sequence_in strict (a_key true) ts e = (tt, e)
-sequence_in strict (a_key false) ts e = absurd (refused_here strict (one (a_key false)) shape.SequenceExpression [] 0 (listed ts ▸ none) refl e)
-sequence_in strict an_arrow_body ts e = (tt, e)
-sequence_in strict a_default_export ts e = (tt, e)
-sequence_in strict (a_statement d) ts e = absurd (refused_here strict (one (a_statement d)) shape.SequenceExpression [] 0 (listed ts ▸ none) (ap filling_by (sequence_nowhere strict d)) e)
-sequence_in strict (a_private_or_key true) ts e = absurd (refused_here strict (one (a_private_or_key true)) shape.SequenceExpression [] 0 (listed ts ▸ none) refl e)
-sequence_in strict (an_inner_key true) ts e = absurd (refused_here strict (one (an_inner_key true)) shape.SequenceExpression [] 0 (listed ts ▸ none) refl e)
-sequence_in strict k ts e = absurd (refused_here strict (one k) shape.SequenceExpression [] 0 (listed ts ▸ none) refl e)
-
-pub of_sequence : (strict : Bool) (s : Slot) (ts : Trees) → fits strict s (sequence ts) ≡ true → TakesExpression s × (fits strict expression (sequence ts) ≡ true)
-of_sequence strict (one k) ts e = sequence_in strict k ts e
-of_sequence strict (one_or_absent k) ts e = sequence_in strict k ts e
-of_sequence strict s ts e = absurd (refused_here strict s shape.SequenceExpression [] 0 (listed ts ▸ none) refl e)
 
 pub two_at_least : (before : Trees) (a b : Tree) (ts : Trees) → 2 ≤ count (append before (a ▸ (b ▸ ts)))
 two_at_least none a b ts = omega arith
@@ -180,13 +151,13 @@ module _ (strict : Bool) where
       sequence_fits strict (append before (a ▸ (b ▸ append ps after))) (two_at_least before a b (append ps after))
       (append_fits strict expression before (a ▸ (b ▸ append ps after)) firsts (append_fits strict expression (a ▸ (b ▸ ps)) after (parts_fit strict a (b ▸ ps) inner) lasts))
 
-  idle_fits : (before : Trees) (a q : Tree) (qs : Trees) → nat_le 2 (count (append before (q ▸ qs))) ≡ true → Fits (sequence (append before (a ▸ (q ▸ qs)))) → Fits (sequence (append before (q ▸ qs)))
+  pub idle_fits : (before : Trees) (a q : Tree) (qs : Trees) → nat_le 2 (count (append before (q ▸ qs))) ≡ true → Fits (sequence (append before (a ▸ (q ▸ qs)))) → Fits (sequence (append before (q ▸ qs)))
   idle_fits before a q qs h e =
       let (firsts, others) = both_fit strict expression before (a ▸ (q ▸ qs)) (items_fit (append before (a ▸ (q ▸ qs))) e) in
       let (idle, lasts) = first_fits strict expression a (q ▸ qs) others in
       sequence_fits strict (append before (q ▸ qs)) (leb-true 2 (count (append before (q ▸ qs))) h) (append_fits strict expression before (q ▸ qs) firsts lasts)
 
-  last_of_two : (a q : Tree) → Fits (sequence (a ▸ (q ▸ none))) → Fits q
+  pub last_of_two : (a q : Tree) → Fits (sequence (a ▸ (q ▸ none))) → Fits q
   last_of_two a q e =
       let (idle, lasts) = first_fits strict expression a (q ▸ none) (items_fit (a ▸ (q ▸ none)) e) in
       (first_fits strict expression q none lasts).0
@@ -214,16 +185,6 @@ row_slot (Expr q) n w (inr (inr (inr r))) strict s e = expression_slot (Expr q) 
 row_slot p n w r strict s e = absurd r
 
 -- ---- what a parent asks of them
-
-pub sequence_asked : (p : Position) (ts us : Trees) → AskedAlike p (sequence ts) (sequence us)
-sequence_asked p ts us = record {
-  absent = λ e. absurd (true≢false (sym e));
-  body = λ e. absurd (true≢false (sym e));
-  optional = λ e. absurd (true≢false (sym e));
-  number = λ asks e. refl;
-  spelled = λ s e. absurd (cc e);
-  plain = refl;
-}
 
 over_asked : (p : Position) (r : Operation) (a : Tree) (ts : Trees) → AskedAlike p (over r a) (sequence ts)
 over_asked p (Decides o b) a ts = record {
@@ -275,7 +236,7 @@ over_asked p (Operates o b) a ts = record {
   plain = refl;
 }
 
-alone_asked : (q : Seat) (ts : Trees) (t : Tree) → stays_alone q t ≡ true → AskedAlike (Expr q) (sequence ts) t
+pub alone_asked : (q : Seat) (ts : Trees) (t : Tree) → stays_alone q t ≡ true → AskedAlike (Expr q) (sequence ts) t
 alone_asked q ts t h = record {
   absent = λ e. absurd (true≢false (sym e));
   body = λ e. absurd (true≢false (sym e));

@@ -359,7 +359,7 @@ end_within s before x =
 
 -- ---- 21, of parts without effect: a comma goes, and the part
 
-idle_falls : (s : Seat) (before : Trees) (a q : Tree) (qs : Trees) → weight (Expr s) (sequence (append before (q ▸ qs))) < weight (Expr s) (sequence (append before (a ▸ (q ▸ qs))))
+pub idle_falls : (s : Seat) (before : Trees) (a q : Tree) (qs : Trees) → weight (Expr s) (sequence (append before (q ▸ qs))) < weight (Expr s) (sequence (append before (a ▸ (q ▸ qs))))
 idle_falls s before a q qs =
     let whole = list_weighs s before a (q ▸ qs) in
     let rest = list_weighs s before q qs in
@@ -417,7 +417,7 @@ module _ (s : Seat) (t : takes_alone s ≡ true) where
   alone_moved : (q : Tree) → is_plain_part q ≡ true → (os : List Outline) → weight (Expr s) q ≤ weight (Expr passed_part_seat) q + (place_weight (Expr s) shape.SequenceExpression os + 1)
   alone_moved (node h xs n ts) e os = placed_node (place_weight (Expr s) shape.SequenceExpression os + 1) s passed_part_seat h (no_inner h (first_of (are_plain_parts ts)) e) xs n ts (alone_marks h (outlines ts))
 
-  alone_falls : (a q : Tree) → weighs a ≡ true → is_plain_part q ≡ true → weight (Expr s) q + 2 ≤ weight (Expr s) (sequence (a ▸ (q ▸ none)))
+  pub alone_falls : (a q : Tree) → weighs a ≡ true → is_plain_part q ≡ true → weight (Expr s) q + 2 ≤ weight (Expr s) (sequence (a ▸ (q ▸ none)))
   alone_falls a q h e =
       let whole = sequence_weighs s a (q ▸ none) in
       let heavy = two passed_part_seat a h in

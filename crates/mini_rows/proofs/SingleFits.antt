@@ -1,5 +1,5 @@
 -- Where a tree that reads a variable may stand, there it may with an expression in the place of that.
-use Rattle.std.specs.Prelude.{ℕ, ◌≡◌, ◌⊎◌, refl, not, ◌&&◌, ◌||◌, suc, Bool, true, false, List, [], ◌∷◌, nat_le}
+use Rattle.std.specs.Prelude.{ℕ, ◌≡◌, ◌⊎◌, refl, not, ◌&&◌, ◌||◌, suc, Bool, true, false, List, [], ◌∷◌, nat_le, nat_eq}
 use Rattle.std.proofs.Common.{ap, ◌∙◌, sym, subst₂, true≢false, inl, inr}
 use Rattle.std.proofs.lemmas.Bool.{and_parts}
 use Rattle.mini_model.specs.declared.name.Name.{Name}
@@ -8,12 +8,12 @@ use Rattle.mini_model.specs.declared.operator.AssignmentOperator.TheVariants.{As
 use Rattle.mini_model.specs.declared.shape.Shape.TheVariants as shape
 use Rattle.mini_model.specs.Tree.{Tree, Trees, node, none, ◌▸◌, count, children, identifier, shape_of}
 use Rattle.mini_model.specs.Paths.{append}
-use Rattle.mini_accept.specs.WellShaped.{nested, a_statement, an_init, an_expression, a_link, a_chain, has_optional, an_argument, an_object_property, a_key, a_target, a_simple_target, Slot, one, one_or_absent, many, many_or_holes, these, each, fits, fill, is_not_positive_number, repeats_key}
+use Rattle.mini_accept.specs.WellShaped.{nested, a_statement, an_init, an_expression, a_link, a_chain, has_optional, an_argument, an_object_property, a_key, a_target, a_simple_target, Slot, one, one_or_absent, many, many_or_holes, quasis, untagged, these, each, fits, fill, is_not_positive_number, repeats_key}
 use Rattle.mini_kept.proofs.Bools.{both}
 use Rattle.mini_kept.proofs.Expressions.{refused_here, expression_taken}
 use Rattle.mini_rows.specs.Sketches.{shape_by, Asked, AsWholeItem, AsValue, AsValues, AsTarget, AsUpdated, asked_below}
-use Rattle.mini_rows.specs.Unused.{is_number_shape, is_constant, is_first, put_first, are_passed, reads_first}
-use Rattle.mini_rows.proofs.SingleUse.{Lead, Not, Plus, Minus, Tilde, Typing, Emptying, Beside, Deciding, Choosing, Passing, Called, Making, Waiting, Member, Keyed, Linking, Holding, Against, Given, Filling, Keying, Following, Branching, Failing, Storing, Gathering, Fielding, Spreading, Bracketing, Targeted, Changing, Listing, Doing, Giving, Raising, Testing, target_stands, head_of, before, place, Step, led, is_end, Stands, Well, suited, Suited, Path, path, statement, found, found_head, by_front, ends_short}
+use Rattle.mini_rows.specs.Unused.{is_number_shape, OfValues, is_constant, is_first, put_first, are_passed, reads_first}
+use Rattle.mini_rows.proofs.SingleUse.{Lead, Not, Plus, Minus, Tilde, Typing, Emptying, Beside, Deciding, Choosing, Passing, Called, Making, Waiting, Member, Keyed, Linking, Holding, Against, Given, Filling, Keying, Interpolating, Following, Branching, Failing, Storing, Gathering, Fielding, Spreading, Bracketing, Targeted, Changing, Listing, Doing, Giving, Raising, Testing, target_stands, head_of, before, place, Step, led, is_end, Stands, Well, suited, Suited, Path, path, statement, found, found_head, by_front, ends_short}
 
 -- r is no number that stands right under a minus
 abbrev unsigned : Tree → Lead → Bool → Bool
@@ -273,6 +273,10 @@ module _ (strict : Bool) where
   value_step (Filling a) b s t u ts c n p f e = second_of (fits strict (one an_expression) a) (fits strict (many an_argument) t) (fits strict (many an_argument) u) _ (f (many an_argument) tt) e
   value_step (Keying true a) b s t u ts c n p f e = absurd (refused_here strict (one an_expression) (shape.ComputedMemberExpression true) [] 0 (a ▸ (t ▸ ts)) refl e)
   value_step (Keying false a) b s t u ts c n p f e = second_of (fits strict (one an_expression) a) (fits strict (one an_expression) t) (fits strict (one an_expression) u) _ (f (one an_expression) tt) e
+  value_step (Interpolating a) b s t u ts c n p f e =
+      let (x, y) = and_parts (nat_eq (count (children a)) (suc (count (children t)))) (fits strict (quasis untagged) a && (fits strict (many an_expression) t && fill strict (these []) ts)) e in
+      both (nat_eq (count (children a)) (suc (count (children u)))) (fits strict (quasis untagged) a && (fits strict (many an_expression) u && fill strict (these []) ts)) (ap (λ i. nat_eq (count (children a)) (suc i)) (sym (c refl)) ∙ x)
+      (second_of (fits strict (quasis untagged) a) (fits strict (many an_expression) t) (fits strict (many an_expression) u) (fill strict (these []) ts) (f (many an_expression) tt) y)
   value_step (Following o a) b s t u ts c n p f e = second_of (fits strict (one an_expression) a) (fits strict (one an_expression) t) (fits strict (one an_expression) u) _ (f (one an_expression) tt) e
   value_step (Branching a) b s t u ts c n p f e = second_of (fits strict (one an_expression) a) (fits strict (one an_expression) t) (fits strict (one an_expression) u) _ (f (one an_expression) tt) e
   value_step (Failing a d) b s t u ts c n p f e = third_of (fits strict (one an_expression) a) (fits strict (one an_expression) d) (fits strict (one an_expression) t) (fits strict (one an_expression) u) _ (f (one an_expression) tt) e
@@ -328,6 +332,7 @@ module _ (strict : Bool) where
   below_value Spreading b s e = cc e
   below_value Bracketing b s e = cc e
   below_value (Against o a) b s e = cc e
+  below_value (Interpolating a) b s e = cc e
   below_value (Given o a) b s e = cc e
   below_value (Filling a) b s e = cc e
   below_value (Keying o a) b s e = cc e
@@ -459,7 +464,7 @@ suited_all r (s ∷ ss) e = (suited_lead r s.lead (is_end ss) e.0, suited_all r 
 
 stands_there : (x : Name) (c : Asked) (t : Tree) (p : Path x c t) (r : Tree) → MayStand x r t → Unsigned r p.steps
 stands_there x c t p r (inl n) = unsigned_all r n p.steps
-stands_there x c t p r (inr e) = suited_all r p.steps (p.suit_in false r e)
+stands_there x c t p r (inr e) = suited_all r p.steps (p.suit_in OfValues r e)
 
 number_constant : (t : Tree) → is_number_shape (shape_of t) ≡ true → is_constant t ≡ true
 number_constant (node (shape.NumericLiteral n) xs k none) e = refl
@@ -549,6 +554,7 @@ begun_there strict (s ∷ ss) w y e =
     by (Given o a) s ts e = e
     by (Filling a) s ts e = e
     by (Keying o a) s ts e = e
+    by (Interpolating a) s ts e = e
     by (Following o a) s ts e = e
     by (Branching a) s ts e = e
     by (Failing a d) s ts e = e

@@ -1,6 +1,7 @@
 -- What a tree reads may be put there: a variable that holds a value, or the expression that gives the value, where the parts that are
 -- evaluated before pass it.
 use Rattle.std.specs.Prelude.{◌&&◌, ◌||◌, not, Bool, Option, length, codes, if◌then◌else◌, ◌⊎◌}
+use Rattle.std.specs.Fmt.{signed_decimal}
 use Rattle.std.proofs.lemmas.Bool.{and_parts, eq-eqb}
 use Rattle.std.proofs.Common.{◌≡◌, ℕ, zero, suc, true, false, List, [], ◌∷◌, None, Some, refl, sym, ap, ◌∙◌, subst, subst₂, true≢false, inl, inr}
 use Rattle.mini_model.specs.declared.name.Name.{Name}
@@ -19,17 +20,17 @@ use Rattle.mini_model.specs.declared.shape.Shape.TheVariants as shape
 use Rattle.mini_model.specs.Tree.{Tree, Trees, node, none, ◌▸◌, count, identifier, shape_of}
 use Rattle.mini_model.specs.Paths.{append}
 use Rattle.mini_model.specs.Weight.{same_text}
-use Rattle.mini_laws.specs.Value.{Value, Boolean, Declared, VariableSet, Slot, Holds, choose, truth, is_nullish, variable_eq}
-use Rattle.mini_laws.specs.Conversion.{Made, makes, raises, outside, to_number, key_value, known_member}
+use Rattle.mini_laws.specs.Value.{Value, Undefined, Null, Boolean, Number, String, Declared, VariableSet, Slot, Holds, choose, truth, is_nullish, variable_eq}
+use Rattle.mini_laws.specs.Conversion.{Made, makes, raises, outside, text_of_boolean, to_number, to_text, key_value, known_member}
 use Rattle.mini_laws.specs.Operators.{safe_number, of_number, strictly_equal, loosely_equal, of_numbers, of_primitives}
 use Rattle.mini_laws.specs.State.{Hint, ForDefault, ForNumber, ForString, GetOf, CallOf, DirectEval, Coerce, Entry, Item, Converted, Stop, Short, State, Completion, ok, stop, halt, out, Ends, done, ended, either, Environment, with_vars}
-use Rattle.mini_laws.specs.Demand.{Want, Val, Test, Unused, Demand, As, Callee, OfType, Target, AnEntry, Parts, Items, Stat, Reference, AMember, AFetched, TargetRequest, Prepare, Fetch, Put, Called, Request, Reply, Says, says}
+use Rattle.mini_laws.specs.Demand.{Want, Val, Test, Unused, Demand, As, Callee, OfType, Target, AnEntry, Parts, Items, Texts, Stat, Reference, AMember, AFetched, TargetRequest, Prepare, Fetch, Put, Called, Request, Reply, Says, says}
 use Rattle.mini_laws.specs.Command.{set_var, Command, ret, fails, stuck, op, kid, then, attempt, bind, shift, emit, act, Gets, run, read_slot, at_variable, is_object}
-use Rattle.mini_laws.specs.Naming.{EvalName, PlainName, Facts, Summary, summary, summaries, facts_all, naming}
+use Rattle.mini_laws.specs.Naming.{EvalName, PlainName, Facts, Summary, summary, summaries, facts_all, texts_all, naming}
 use Rattle.mini_laws.specs.Asking.{pass, demand, first_demand, parts_demand, logical_demand, chained}
 use Rattle.mini_laws.specs.Replies.{reply, valued, passed, passing, merged, raise, of_made, of_option, primitive, hint_of, numeric, is_of_primitives, operate, loosely, or_event, get_member, put_member}
-use Rattle.mini_laws.specs.Expressions.{get_identifier, operate_by, binary_step, and_step, or_step, logical_step, conditional_step, sequence_step, not_step, typeof_step, property_key, property_step, number_step, void_step, call_event, call_step, new_step, array_step, object_step, yield_step, chain_end, chain_value, chain_step, member_step, got, called_member}
-use Rattle.mini_laws.specs.Lists.{entries, parts, spread_step}
+use Rattle.mini_laws.specs.Expressions.{get_identifier, operate_by, binary_step, and_step, or_step, logical_step, conditional_step, sequence_step, not_step, typeof_step, property_key, property_step, number_step, void_step, call_event, call_step, new_step, array_step, object_step, yield_step, chain_end, chain_value, chain_step, member_step, got, called_member, template_step}
+use Rattle.mini_laws.specs.Lists.{entries, parts, spread_step, template_texts}
 use Rattle.mini_laws.specs.Targets.{fetched, stored, changed, update_step, as_member, AssignmentKind, Plainly, Computing, Deciding as DecidingKind, assignment_kind, assigns, AssignDemand, put_target, after_read, assign_by, assignment_step}
 use Rattle.mini_laws.specs.Statements.{if_step, return_step, throw_step}
 use Rattle.mini_laws.specs.Step.{entry, step, means, meaning}
@@ -46,18 +47,22 @@ use Rattle.mini_kept.specs.Without.{Unseen}
 use Rattle.mini_node.specs.Children.{part}
 use Rattle.mini_node.specs.Kinds.{is_identifier}
 use Rattle.mini_terms.specs.Folds.{is_effect_free}
+use Rattle.mini_terms.specs.declared.kinds.Kind.{Kind}
+use Rattle.mini_terms.specs.declared.kinds.Kind.TheVariants.{Undefined as IsUndefined, Null as IsNull, Boolean as IsBoolean, Number as IsNumber, String as IsString}
+use Rattle.mini_terms.specs.Kind.{OfKind, is_primitive, kind}
 use Rattle.mini_terms.specs.Reading.{is_item, by_value, is_typed_by_value}
-use Rattle.mini_terms.specs.Sound.{Quiet}
+use Rattle.mini_terms.specs.Sound.{Quiet, Gives}
 use Rattle.mini_terms.proofs.Dropping.{weak}
+use Rattle.mini_terms.proofs.KindTable.{kind_sound}
 use Rattle.mini_terms.proofs.Reading.{typed_by_value}
 use Rattle.mini_rows.specs.Sketches.{shape_by, Asked, AsWholeItem, AsValue, AsValues, AsTarget, AsUpdated, target_asked, asked_below}
-use Rattle.mini_rows.specs.Unused.{any_names, resolved, is_constant, is_plain_assignment, is_word, is_member, is_field, passes, passes_word, passes_member, passes_target, passes_item, entries_below, is_called_by_value}
+use Rattle.mini_rows.specs.Unused.{any_names, resolved, is_constant, is_plain_assignment, is_word, is_member, is_field, passes, passes_word, passes_member, passes_target, passes_item, Gathered, OfValues, OfEntries, OfTexts, of_entries, of_texts, gathered_below, is_called_by_value}
 use Rattle.mini_rows.specs.Chains.{is_calm}
 use Rattle.mini_rows.proofs.CalledReads.{called_read, name_called_read}
 use Rattle.mini_rows.proofs.ChainCalm.{Calm as Calmly, tree_calm}
 use Rattle.mini_rows.proofs.ItemReads.{item_read}
 use Rattle.mini_rows.proofs.Passing.{Replies, Does, Mild, Replying, Quietly, constant_replies, word_replies, target_replies, member_replies, quiet_replying, member_quietly, field_replies, field_quietly, quiet_there, quietly, fetched_quietly, passes_by}
-use Rattle.mini_rows.proofs.SingleUse.{target_stands, Lead, Not, Plus, Minus, Tilde, Typing, Emptying, Beside, Deciding, Choosing, Passing, Called as CalledLead, Making, Waiting, Member, Keyed, Linking, Holding, Against, Given as GivenLead, Filling, Keying, Following, Branching, Failing, Storing, Gathering, Fielding, Spreading, Bracketing, Targeted, Changing, Listing, Doing, Giving, Raising, Testing, head_of, before, place, Step, led, is_end, surely, Stands, Well, Spared, AllPass, whole, End, free, end_of, Allows, PassedIn, summaries_led}
+use Rattle.mini_rows.proofs.SingleUse.{target_stands, Lead, Not, Plus, Minus, Tilde, Typing, Emptying, Beside, Deciding, Choosing, Passing, Called as CalledLead, Making, Waiting, Member, Keyed, Linking, Holding, Against, Given as GivenLead, Filling, Keying, Interpolating, Following, Branching, Failing, Storing, Gathering, Fielding, Spreading, Bracketing, Targeted, Changing, Listing, Doing, Giving, Raising, Testing, head_of, before, place, Step, led, is_end, surely, Stands, Well, Spared, AllPass, whole, End, free, end_of, Allows, PassedIn, summaries_led}
 use Rattle.mini_rows.proofs.UnusedNames.{all_avoided}
 
 -- ---- a command that doesn't ask a child any more
@@ -213,48 +218,59 @@ pub record Hits (d : Bool) (i : ℕ) (σ : ℕ → Demand) (A : Type 0) (j : ℕ
   pub stopped_later : (y : Stop) → Later i (k (ended y))
   pub later : (a : Reply (σ j) r) → Later i (k (done a))
 
--- so many of those before may be asked; where nothing is lost, it may end without asking the one at the place
-abbrev pub Reaches : Bool → Bool → ℕ → ℕ → {σ : ℕ → Demand} {A : Type 0} → Command σ A → Type 0
-Reaches f d m i {σ} {A} (kid j r k) = ((Before j m × Mild f (σ j) r) × ((a : Reply (σ j) r) → Reaches f d m i (k (done a)))) ⊎ (Hits d i σ A j r k ⊎ ((f ≡ true) × Later i {σ = σ} (kid j r k)))
-Reaches f d m i {σ} {A} c = (f ≡ true) × Later i {σ = σ} c
+-- a value that is converted to a text without an effect
+pub record Textual (v : Value) : Type 0 where
+  pub primitive_value : is_object v ≡ false
+  pub text : List ℕ
+  pub converted : to_text v ≡ makes text
 
-missed : (f d : Bool) (m i : ℕ) {σ : ℕ → Demand} {A : Type 0} (c : Command σ A) → f ≡ true → Later i c → Reaches f d m i c
-missed f d m i (kid j r k) e l = inr (inr (e, l))
-missed f d m i (ret a) e l = (e, l)
-missed f d m i (fails y) e l = (e, l)
-missed f d m i stuck e l = (e, l)
-missed f d m i (op o k) e l = (e, l)
+-- so is each value that is replied, where texts are gathered
+abbrev pub Fine : Bool → (q : Demand) (r : Request q) → Reply q r → Type 0
+Fine true (As Val) r v = Textual v
+Fine text q r a = Unit {0}
 
-reach_choose : (f d : Bool) (m i : ℕ) {σ : ℕ → Demand} {A : Type 0} (b : Bool) (x y : Command σ A) → Reaches f d m i x → Reaches f d m i y → Reaches f d m i (choose b x y)
-reach_choose f d m i true x y t u = t
-reach_choose f d m i false x y t u = u
+-- so many of those before may be asked, with such replies; where nothing is lost, it may end without asking the one at the place
+abbrev pub Reaches : Bool → Bool → Bool → ℕ → ℕ → {σ : ℕ → Demand} {A : Type 0} → Command σ A → Type 0
+Reaches text f d m i {σ} {A} (kid j r k) = ((Before j m × Mild f (σ j) r) × ((a : Reply (σ j) r) → Fine text (σ j) r a → Reaches text f d m i (k (done a)))) ⊎ (Hits d i σ A j r k ⊎ ((f ≡ true) × Later i {σ = σ} (kid j r k)))
+Reaches text f d m i {σ} {A} c = (f ≡ true) × Later i {σ = σ} c
 
-reach_bind : (f d : Bool) (m i : ℕ) {σ : ℕ → Demand} {A B : Type 0} (c : Command σ A) (g : A → Command σ B) → Reaches f d m i c → ((a : A) → Later i (g a)) → Reaches f d m i (bind c g)
-reach_bind f d m i (kid j r k) g (inl t) h = inl (t.0, λ a. reach_bind f d m i (k (done a)) g (t.1 a) h)
-reach_bind f d m i (kid j r k) g (inr (inl t)) h = inr (inl (record { here = t.here; opens = t.opens; stops = λ y n. ap (λ d. bind d g) (t.stops y n); stopped_later = λ y. later_bind i (k (ended y)) g (t.stopped_later y) h; later = λ a. later_bind i (k (done a)) g (t.later a) h }))
-reach_bind f d m i (kid j r k) g (inr (inr t)) h = inr (inr (t.0, later_bind i (kid j r k) g t.1 h))
-reach_bind f d m i (ret a) g t h = missed f d m i (g a) t.0 (h a)
-reach_bind f d m i (fails y) g t h = (t.0, tt)
-reach_bind f d m i stuck g t h = (t.0, tt)
-reach_bind f d m i (op o k) g t h = (t.0, later_bind i (op o k) g t.1 h)
+missed : (text f d : Bool) (m i : ℕ) {σ : ℕ → Demand} {A : Type 0} (c : Command σ A) → f ≡ true → Later i c → Reaches text f d m i c
+missed text f d m i (kid j r k) e l = inr (inr (e, l))
+missed text f d m i (ret a) e l = (e, l)
+missed text f d m i (fails y) e l = (e, l)
+missed text f d m i stuck e l = (e, l)
+missed text f d m i (op o k) e l = (e, l)
 
-pub reach_statement : (f d : Bool) (m i : ℕ) {σ : ℕ → Demand} (c : Command σ (Unit {0})) → Reaches f d m i c → Reaches f d m i (attempt c (merged None))
-reach_statement f d m i (kid j r k) (inl t) = inl (t.0, λ a. reach_statement f d m i (k (done a)) (t.1 a))
-reach_statement f d m i (kid j r k) (inr (inl t)) = inr (inl (record { here = t.here; opens = t.opens; stops = λ y n. ap (λ d. attempt d (merged None)) (t.stops y n); stopped_later = λ y. later_attempt i (k (ended y)) (merged None) (t.stopped_later y) (λ u. tt) (λ y. tt); later = λ a. later_attempt i (k (done a)) (merged None) (t.later a) (λ u. tt) (λ y. tt) }))
-reach_statement f d m i (kid j r k) (inr (inr t)) = inr (inr (t.0, later_attempt i (kid j r k) (merged None) t.1 (λ u. tt) (λ y. tt)))
-reach_statement f d m i (ret a) t = (t.0, tt)
-reach_statement f d m i (fails y) t = (t.0, tt)
-reach_statement f d m i stuck t = (t.0, tt)
-reach_statement f d m i (op o k) t = (t.0, later_attempt i (op o k) (merged None) t.1 (λ u. tt) (λ y. tt))
+reach_choose : (text f d : Bool) (m i : ℕ) {σ : ℕ → Demand} {A : Type 0} (b : Bool) (x y : Command σ A) → Reaches text f d m i x → Reaches text f d m i y → Reaches text f d m i (choose b x y)
+reach_choose text f d m i true x y t u = t
+reach_choose text f d m i false x y t u = u
 
-reach_shift : (f d : Bool) (m i : ℕ) (q : ℕ → Demand) {A : Type 0} (c : Command (λ i. q (suc i)) A) → Reaches f d m i c → Reaches f d (suc m) (suc i) (shift {q = q} c)
-reach_shift f d m i q (kid j r k) (inl t) = inl (t.0, λ a. reach_shift f d m i q (k (done a)) (t.1 a))
-reach_shift f d m i q (kid j r k) (inr (inl t)) = inr (inl (record { here = ap suc t.here; opens = t.opens; stops = λ y n. ap (shift {q = q}) (t.stops y n); stopped_later = λ y. later_shifted i q (k (ended y)) (t.stopped_later y); later = λ a. later_shifted i q (k (done a)) (t.later a) }))
-reach_shift f d m i q (kid j r k) (inr (inr t)) = inr (inr (t.0, later_shifted i q (kid j r k) t.1))
-reach_shift f d m i q (ret a) t = (t.0, tt)
-reach_shift f d m i q (fails y) t = (t.0, tt)
-reach_shift f d m i q stuck t = (t.0, tt)
-reach_shift f d m i q (op o k) t = (t.0, later_shifted i q (op o k) t.1)
+reach_bind : (text f d : Bool) (m i : ℕ) {σ : ℕ → Demand} {A B : Type 0} (c : Command σ A) (g : A → Command σ B) → Reaches text f d m i c → ((a : A) → Later i (g a)) → Reaches text f d m i (bind c g)
+reach_bind text f d m i (kid j r k) g (inl t) h = inl (t.0, λ a p. reach_bind text f d m i (k (done a)) g (t.1 a p) h)
+reach_bind text f d m i (kid j r k) g (inr (inl t)) h = inr (inl (record { here = t.here; opens = t.opens; stops = λ y n. ap (λ d. bind d g) (t.stops y n); stopped_later = λ y. later_bind i (k (ended y)) g (t.stopped_later y) h; later = λ a. later_bind i (k (done a)) g (t.later a) h }))
+reach_bind text f d m i (kid j r k) g (inr (inr t)) h = inr (inr (t.0, later_bind i (kid j r k) g t.1 h))
+reach_bind text f d m i (ret a) g t h = missed text f d m i (g a) t.0 (h a)
+reach_bind text f d m i (fails y) g t h = (t.0, tt)
+reach_bind text f d m i stuck g t h = (t.0, tt)
+reach_bind text f d m i (op o k) g t h = (t.0, later_bind i (op o k) g t.1 h)
+
+pub reach_statement : (text f d : Bool) (m i : ℕ) {σ : ℕ → Demand} (c : Command σ (Unit {0})) → Reaches text f d m i c → Reaches text f d m i (attempt c (merged None))
+reach_statement text f d m i (kid j r k) (inl t) = inl (t.0, λ a p. reach_statement text f d m i (k (done a)) (t.1 a p))
+reach_statement text f d m i (kid j r k) (inr (inl t)) = inr (inl (record { here = t.here; opens = t.opens; stops = λ y n. ap (λ d. attempt d (merged None)) (t.stops y n); stopped_later = λ y. later_attempt i (k (ended y)) (merged None) (t.stopped_later y) (λ u. tt) (λ y. tt); later = λ a. later_attempt i (k (done a)) (merged None) (t.later a) (λ u. tt) (λ y. tt) }))
+reach_statement text f d m i (kid j r k) (inr (inr t)) = inr (inr (t.0, later_attempt i (kid j r k) (merged None) t.1 (λ u. tt) (λ y. tt)))
+reach_statement text f d m i (ret a) t = (t.0, tt)
+reach_statement text f d m i (fails y) t = (t.0, tt)
+reach_statement text f d m i stuck t = (t.0, tt)
+reach_statement text f d m i (op o k) t = (t.0, later_attempt i (op o k) (merged None) t.1 (λ u. tt) (λ y. tt))
+
+reach_shift : (text f d : Bool) (m i : ℕ) (q : ℕ → Demand) {A : Type 0} (c : Command (λ i. q (suc i)) A) → Reaches text f d m i c → Reaches text f d (suc m) (suc i) (shift {q = q} c)
+reach_shift text f d m i q (kid j r k) (inl t) = inl (t.0, λ a p. reach_shift text f d m i q (k (done a)) (t.1 a p))
+reach_shift text f d m i q (kid j r k) (inr (inl t)) = inr (inl (record { here = ap suc t.here; opens = t.opens; stops = λ y n. ap (shift {q = q}) (t.stops y n); stopped_later = λ y. later_shifted i q (k (ended y)) (t.stopped_later y); later = λ a. later_shifted i q (k (done a)) (t.later a) }))
+reach_shift text f d m i q (kid j r k) (inr (inr t)) = inr (inr (t.0, later_shifted i q (kid j r k) t.1))
+reach_shift text f d m i q (ret a) t = (t.0, tt)
+reach_shift text f d m i q (fails y) t = (t.0, tt)
+reach_shift text f d m i q stuck t = (t.0, tt)
+reach_shift text f d m i q (op o k) t = (t.0, later_shifted i q (op o k) t.1)
 
 -- an expression is asked for what it gives
 abbrev pub Valued : Demand → Type 0
@@ -264,133 +280,160 @@ Valued OfType = Unit {0}
 Valued AnEntry = Unit {0}
 Valued q = ⊥
 
-reach_valued : (f d : Bool) (m i : ℕ) (σ : ℕ → Demand) (q : Demand) → Valued q → (r : Request q) (c : Command σ Value) → Reaches f d m i c → Reaches f d m i (valued q r c)
-reach_valued f d m i σ (As w) u r c b = reach_bind f d m i c (reply (As w) r) b (λ v. tt)
-reach_valued f d m i σ Callee u r c b = reach_bind f d m i c (reply Callee r) b (λ v. tt)
-reach_valued f d m i σ OfType u r c b = reach_bind f d m i c (reply OfType r) b (λ v. tt)
-reach_valued f d m i σ AnEntry u r c b = reach_bind f d m i c (reply AnEntry r) b (λ v. tt)
-reach_valued f d m i σ q u r c b = absurd u
+reach_valued : (text f d : Bool) (m i : ℕ) (σ : ℕ → Demand) (q : Demand) → Valued q → (r : Request q) (c : Command σ Value) → Reaches text f d m i c → Reaches text f d m i (valued q r c)
+reach_valued text f d m i σ (As w) u r c b = reach_bind text f d m i c (reply (As w) r) b (λ v. tt)
+reach_valued text f d m i σ Callee u r c b = reach_bind text f d m i c (reply Callee r) b (λ v. tt)
+reach_valued text f d m i σ OfType u r c b = reach_bind text f d m i c (reply OfType r) b (λ v. tt)
+reach_valued text f d m i σ AnEntry u r c b = reach_bind text f d m i c (reply AnEntry r) b (λ v. tt)
+reach_valued text f d m i σ q u r c b = absurd u
 
-reach_passing : (f d : Bool) (m i : ℕ) (σ : ℕ → Demand) (q : Demand) → Valued q → (r : Request q) (c : Command σ (Says (pass q))) → Reaches f d m i c → Reaches f d m i (passing q r c)
-reach_passing f d m i σ (As w) u r c b = reach_bind f d m i c (passed (As w) r) b (λ v. tt)
-reach_passing f d m i σ Callee u r c b = reach_bind f d m i c (passed Callee r) b (λ v. tt)
-reach_passing f d m i σ OfType u r c b = reach_bind f d m i c (passed OfType r) b (λ v. tt)
-reach_passing f d m i σ AnEntry u r c b = reach_bind f d m i c (passed AnEntry r) b (λ v. tt)
-reach_passing f d m i σ q u r c b = absurd u
+reach_passing : (text f d : Bool) (m i : ℕ) (σ : ℕ → Demand) (q : Demand) → Valued q → (r : Request q) (c : Command σ (Says (pass q))) → Reaches text f d m i c → Reaches text f d m i (passing q r c)
+reach_passing text f d m i σ (As w) u r c b = reach_bind text f d m i c (passed (As w) r) b (λ v. tt)
+reach_passing text f d m i σ Callee u r c b = reach_bind text f d m i c (passed Callee r) b (λ v. tt)
+reach_passing text f d m i σ OfType u r c b = reach_bind text f d m i c (passed OfType r) b (λ v. tt)
+reach_passing text f d m i σ AnEntry u r c b = reach_bind text f d m i c (passed AnEntry r) b (λ v. tt)
+reach_passing text f d m i σ q u r c b = absurd u
 
 -- ---- each shape
 
 -- a command that goes on with nothing else of a child
-pub one : (f d : Bool) (m i : ℕ) (σ : ℕ → Demand) (A : Type 0) (r : Request (σ i)) → Opens (σ i) r → (g : Reply (σ i) r → Command σ A) → ((a : Reply (σ i) r) → Later i (g a)) → Reaches f d m i {σ = σ} (kid i r ((then) g))
-one f d m i σ A r o g h = inr (inl (record { here = refl; opens = o; stops = λ y n. refl; stopped_later = λ y. tt; later = h }))
+pub one : (text f d : Bool) (m i : ℕ) (σ : ℕ → Demand) (A : Type 0) (r : Request (σ i)) → Opens (σ i) r → (g : Reply (σ i) r → Command σ A) → ((a : Reply (σ i) r) → Later i (g a)) → Reaches text f d m i {σ = σ} (kid i r ((then) g))
+one text f d m i σ A r o g h = inr (inl (record { here = refl; opens = o; stops = λ y n. refl; stopped_later = λ y. tt; later = h }))
 
--- an entry, or a list of entries
-abbrev pub Entries : Bool → Demand → Type 0
-Entries false q = Unit {0}
-Entries true Items = Unit {0}
-Entries true AnEntry = Unit {0}
-Entries true q = ⊥
+-- an entry, or a list of entries; a text, or a list of texts; or anything but a list of texts
+abbrev pub Gathers : Gathered → Demand → Type 0
+Gathers OfValues Texts = ⊥
+Gathers OfValues q = Unit {0}
+Gathers OfEntries Items = Unit {0}
+Gathers OfEntries AnEntry = Unit {0}
+Gathers OfEntries q = ⊥
+Gathers OfTexts Texts = Unit {0}
+Gathers OfTexts (As w) = Unit {0}
+Gathers OfTexts q = ⊥
 
-module _ (f d : Bool) where
-  number_begins : (o : UnaryOperator) → Reaches f d 0 0 (number_step o)
-  number_begins o = one f d 0 0 (λ i. As Val) Value tt tt _ (λ v. later_bind 0 (numeric v) (λ n. of_made (of_number o n)) (numeric_later 0 (λ i. As Val) v) (λ n. made_later 0 (λ i. As Val) (of_number o n)))
+-- of texts each value is converted before the next part is asked
+abbrev as_primitive : Value → Bool → Command (λ i. As Val) Value
+as_primitive v b = choose b (emit (Coerce ForString) (Item v ∷ [])) (ret v)
 
-  binary_begins : (o : BinaryOperator) → Reaches f d 0 0 (binary_step o)
-  binary_begins o = one f d 0 0 (λ i. As Val) Value tt tt _ (λ v. (tt, (λ w. by_later 0 (λ i. As Val) o v w, λ y. tt)))
+abbrev with_text : ℕ → Made (List ℕ) → Command (λ i. As Val) (List (List ℕ))
+with_text n m = bind (of_made m) (λ s. bind (shift {q = λ i. As Val} (template_texts n)) (λ ss. ret (s ∷ ss)))
 
-  binary_goes_on : (o : BinaryOperator) → Reaches f d 1 1 (binary_step o)
-  binary_goes_on o = inl ((tt, tt), λ v. one f d 1 1 (λ i. As Val) Value tt tt _ (λ w. by_later 1 (λ i. As Val) o v w))
+abbrev with_primitive : ℕ → Command (λ i. As Val) Value → Command (λ i. As Val) (List (List ℕ))
+with_primitive n c = bind c (λ x. with_text n (to_text x))
 
-  logical_begins : (o : LogicalOperator) (w : Want) → Reaches f d 0 0 (logical_step o w)
-  logical_begins And Val = one f d 0 0 (λ i. As Val) Value tt tt _ (λ v. later_choose 0 (truth v) (kid 1 tt ((then) ret)) (ret v) (tt, (λ v. tt, λ y. tt)) tt)
-  logical_begins And Test = one f d 0 0 (λ i. As Test) Bool tt tt _ (λ c. later_choose 0 c (kid 1 tt ((then) ret)) (ret false) (tt, (λ v. tt, λ y. tt)) tt)
-  logical_begins And Unused = one f d 0 0 (logical_demand And Unused) (Unit {0}) tt tt _ (λ c. later_choose 0 {σ = logical_demand And Unused} c (kid 1 tt ((then) ret)) (ret tt) (tt, (λ v. tt, λ y. tt)) tt)
-  logical_begins Or Val = one f d 0 0 (λ i. As Val) Value tt tt _ (λ v. later_choose 0 (truth v) (ret v) (kid 1 tt ((then) ret)) tt (tt, (λ v. tt, λ y. tt)))
-  logical_begins Or Test = one f d 0 0 (λ i. As Test) Bool tt tt _ (λ c. later_choose 0 c (ret true) (kid 1 tt ((then) ret)) tt (tt, (λ v. tt, λ y. tt)))
-  logical_begins Or Unused = one f d 0 0 (logical_demand Or Unused) (Unit {0}) tt tt _ (λ c. later_choose 0 {σ = logical_demand Or Unused} c (ret tt) (kid 1 tt ((then) ret)) tt (tt, (λ v. tt, λ y. tt)))
-  logical_begins Coalesce w = one f d 0 0 (λ i. As Val) (Says w) tt tt _ (λ v. later_choose 0 (is_nullish v) _ _ (tt, (λ v. tt, λ y. tt)) tt)
+abbrev converted : ℕ → Value → Command (λ i. As Val) (List (List ℕ))
+converted n v = with_primitive n (primitive ForString v)
 
-  conditional_begins : (w : Want) → Reaches f d 0 0 (conditional_step w)
-  conditional_begins w = one f d 0 0 (first_demand (As Test) (As w)) (Says w) tt tt _ (λ c. later_choose 0 {σ = first_demand (As Test) (As w)} c (kid 1 tt ((then) ret)) (kid 2 tt ((then) ret)) (tt, (λ v. tt, λ y. tt)) (tt, (λ v. tt, λ y. tt)))
+converted_later : (n : ℕ) (v : Value) → Later 0 (converted n v)
+converted_later n v =
+    later_bind 0 (primitive ForString v) (λ x. with_text n (to_text x)) (primitive_later 0 (λ i. As Val) ForString v)
+    (λ x. later_bind 0 (of_made (to_text x)) (λ s. bind (shift {q = λ i. As Val} (template_texts n)) (λ ss. ret (s ∷ ss))) (made_later 0 (λ i. As Val) (to_text x))
+    (λ s. later_bind 0 (shift {q = λ i. As Val} (template_texts n)) (λ ss. ret (s ∷ ss)) (later_shift (λ i. As Val) (template_texts n)) (λ ss. tt)))
 
-  member_begins : (o : Bool) → Reaches f d 0 0 (member_step o)
-  member_begins o = one f d 0 0 (λ i. As Val) Reference tt tt _ (λ v. later_choose 0 (o && is_nullish v) (fails Short) _ tt (tt, (λ u. tt, λ y. tt)))
+-- which does nothing where it is textual
+text_goes_on : (n : ℕ) (v : Value) (t : Textual v) → converted n v ≡ with_text n (makes t.text)
+text_goes_on n v t = ap (λ b. with_primitive n (as_primitive v b)) t.primitive_value ∙ ap (with_text n) t.converted
+
+module _ (text f d : Bool) where
+  number_begins : (o : UnaryOperator) → Reaches text f d 0 0 (number_step o)
+  number_begins o = one text f d 0 0 (λ i. As Val) Value tt tt _ (λ v. later_bind 0 (numeric v) (λ n. of_made (of_number o n)) (numeric_later 0 (λ i. As Val) v) (λ n. made_later 0 (λ i. As Val) (of_number o n)))
+
+  binary_begins : (o : BinaryOperator) → Reaches text f d 0 0 (binary_step o)
+  binary_begins o = one text f d 0 0 (λ i. As Val) Value tt tt _ (λ v. (tt, (λ w. by_later 0 (λ i. As Val) o v w, λ y. tt)))
+
+  binary_goes_on : (o : BinaryOperator) → Reaches text f d 1 1 (binary_step o)
+  binary_goes_on o = inl ((tt, tt), λ v p. one text f d 1 1 (λ i. As Val) Value tt tt _ (λ w. by_later 1 (λ i. As Val) o v w))
+
+  logical_begins : (o : LogicalOperator) (w : Want) → Reaches text f d 0 0 (logical_step o w)
+  logical_begins And Val = one text f d 0 0 (λ i. As Val) Value tt tt _ (λ v. later_choose 0 (truth v) (kid 1 tt ((then) ret)) (ret v) (tt, (λ v. tt, λ y. tt)) tt)
+  logical_begins And Test = one text f d 0 0 (λ i. As Test) Bool tt tt _ (λ c. later_choose 0 c (kid 1 tt ((then) ret)) (ret false) (tt, (λ v. tt, λ y. tt)) tt)
+  logical_begins And Unused = one text f d 0 0 (logical_demand And Unused) (Unit {0}) tt tt _ (λ c. later_choose 0 {σ = logical_demand And Unused} c (kid 1 tt ((then) ret)) (ret tt) (tt, (λ v. tt, λ y. tt)) tt)
+  logical_begins Or Val = one text f d 0 0 (λ i. As Val) Value tt tt _ (λ v. later_choose 0 (truth v) (ret v) (kid 1 tt ((then) ret)) tt (tt, (λ v. tt, λ y. tt)))
+  logical_begins Or Test = one text f d 0 0 (λ i. As Test) Bool tt tt _ (λ c. later_choose 0 c (ret true) (kid 1 tt ((then) ret)) tt (tt, (λ v. tt, λ y. tt)))
+  logical_begins Or Unused = one text f d 0 0 (logical_demand Or Unused) (Unit {0}) tt tt _ (λ c. later_choose 0 {σ = logical_demand Or Unused} c (ret tt) (kid 1 tt ((then) ret)) tt (tt, (λ v. tt, λ y. tt)))
+  logical_begins Coalesce w = one text f d 0 0 (λ i. As Val) (Says w) tt tt _ (λ v. later_choose 0 (is_nullish v) _ _ (tt, (λ v. tt, λ y. tt)) tt)
+
+  conditional_begins : (w : Want) → Reaches text f d 0 0 (conditional_step w)
+  conditional_begins w = one text f d 0 0 (first_demand (As Test) (As w)) (Says w) tt tt _ (λ c. later_choose 0 {σ = first_demand (As Test) (As w)} c (kid 1 tt ((then) ret)) (kid 2 tt ((then) ret)) (tt, (λ v. tt, λ y. tt)) (tt, (λ v. tt, λ y. tt)))
+
+  member_begins : (o : Bool) → Reaches text f d 0 0 (member_step o)
+  member_begins o = one text f d 0 0 (λ i. As Val) Reference tt tt _ (λ v. later_choose 0 (o && is_nullish v) (fails Short) _ tt (tt, (λ u. tt, λ y. tt)))
 
   -- behind `?.` it may be left out
-  member_goes_on : (o : Bool) → (not o || f) ≡ true → Reaches f d 1 1 (member_step o)
-  member_goes_on false e = inl ((tt, tt), λ v. one f d 1 1 (λ i. As Val) Reference tt tt _ (λ u. tt))
-  member_goes_on true e = inl ((tt, tt), λ v. reach_choose f d 1 1 (is_nullish v) (fails Short) _ (e, tt) (one f d 1 1 (λ i. As Val) Reference tt tt _ (λ u. tt)))
+  member_goes_on : (o : Bool) → (not o || f) ≡ true → Reaches text f d 1 1 (member_step o)
+  member_goes_on false e = inl ((tt, tt), λ v p. one text f d 1 1 (λ i. As Val) Reference tt tt _ (λ u. tt))
+  member_goes_on true e = inl ((tt, tt), λ v p. reach_choose text f d 1 1 (is_nullish v) (fails Short) _ (e, tt) (one text f d 1 1 (λ i. As Val) Reference tt tt _ (λ u. tt)))
 
-  as_member_reaches : (o : Bool) (i : ℕ) → Reaches f d i i (member_step o) → (q : Demand) → Valued q → (r : Request q) → Reaches f d i i (as_member (member_step o) q r)
-  as_member_reaches o i m (As w) u r = reach_valued f d i i (λ i. As Val) (As w) tt r (bind (member_step o) got) (reach_bind f d i i (member_step o) got m (got_later i (λ i. As Val)))
-  as_member_reaches o i m AnEntry u r = reach_valued f d i i (λ i. As Val) AnEntry tt r (bind (member_step o) got) (reach_bind f d i i (member_step o) got m (got_later i (λ i. As Val)))
-  as_member_reaches o i m OfType u r = reach_valued f d i i (λ i. As Val) OfType tt r (bind (member_step o) got) (reach_bind f d i i (member_step o) got m (got_later i (λ i. As Val)))
-  as_member_reaches o i m Callee u r = reach_bind f d i i (member_step o) called_member m (called_later i (λ i. As Val))
+  as_member_reaches : (o : Bool) (i : ℕ) → Reaches text f d i i (member_step o) → (q : Demand) → Valued q → (r : Request q) → Reaches text f d i i (as_member (member_step o) q r)
+  as_member_reaches o i m (As w) u r = reach_valued text f d i i (λ i. As Val) (As w) tt r (bind (member_step o) got) (reach_bind text f d i i (member_step o) got m (got_later i (λ i. As Val)))
+  as_member_reaches o i m AnEntry u r = reach_valued text f d i i (λ i. As Val) AnEntry tt r (bind (member_step o) got) (reach_bind text f d i i (member_step o) got m (got_later i (λ i. As Val)))
+  as_member_reaches o i m OfType u r = reach_valued text f d i i (λ i. As Val) OfType tt r (bind (member_step o) got) (reach_bind text f d i i (member_step o) got m (got_later i (λ i. As Val)))
+  as_member_reaches o i m Callee u r = reach_bind text f d i i (member_step o) called_member m (called_later i (λ i. As Val))
   as_member_reaches o i m q u r = absurd u
 
-  call_begins : (o : Bool) → Reaches f d 0 0 (call_step o)
-  call_begins o = one f d 0 0 (first_demand Callee Items) Value tt tt _ (λ g. later_choose 0 {σ = first_demand Callee Items} (o && is_nullish g.value) (fails Short) _ tt (tt, (λ vs. call_later 0 (first_demand Callee Items) o g vs, λ y. tt)))
+  call_begins : (o : Bool) → Reaches text f d 0 0 (call_step o)
+  call_begins o = one text f d 0 0 (first_demand Callee Items) Value tt tt _ (λ g. later_choose 0 {σ = first_demand Callee Items} (o && is_nullish g.value) (fails Short) _ tt (tt, (λ vs. call_later 0 (first_demand Callee Items) o g vs, λ y. tt)))
 
-  call_goes_on : (o : Bool) → (not o || f) ≡ true → Reaches f d 1 1 (call_step o)
-  call_goes_on false e = inl ((tt, tt), λ g. one f d 1 1 (first_demand Callee Items) Value tt tt _ (λ vs. call_later 1 (first_demand Callee Items) false g vs))
-  call_goes_on true e = inl ((tt, tt), λ g. reach_choose f d 1 1 {σ = first_demand Callee Items} (is_nullish g.value) (fails Short) _ (e, tt) (one f d 1 1 (first_demand Callee Items) Value tt tt _ (λ vs. call_later 1 (first_demand Callee Items) true g vs)))
+  call_goes_on : (o : Bool) → (not o || f) ≡ true → Reaches text f d 1 1 (call_step o)
+  call_goes_on false e = inl ((tt, tt), λ g p. one text f d 1 1 (first_demand Callee Items) Value tt tt _ (λ vs. call_later 1 (first_demand Callee Items) false g vs))
+  call_goes_on true e = inl ((tt, tt), λ g p. reach_choose text f d 1 1 {σ = first_demand Callee Items} (is_nullish g.value) (fails Short) _ (e, tt) (one text f d 1 1 (first_demand Callee Items) Value tt tt _ (λ vs. call_later 1 (first_demand Callee Items) true g vs)))
 
-  new_goes_on : Reaches f d 1 1 new_step
-  new_goes_on = inl ((tt, tt), λ g. one f d 1 1 (first_demand (As Val) Items) Value tt tt _ (λ vs. (λ v. tt, λ y. tt)))
+  new_goes_on : Reaches text f d 1 1 new_step
+  new_goes_on = inl ((tt, tt), λ g p. one text f d 1 1 (first_demand (As Val) Items) Value tt tt _ (λ vs. (λ v. tt, λ y. tt)))
 
-  parts_reach : (i n : ℕ) (w : Want) → Before i (suc n) → Reaches f d i i (parts n w)
-  parts_reach zero zero w h = one f d 0 0 (parts_demand zero w) (Says w) tt tt _ (λ a. tt)
-  parts_reach zero (suc n) w h = one f d 0 0 (parts_demand (suc n) w) (Says w) tt tt _ (λ a. later_shift (parts_demand (suc n) w) (parts n w))
+  parts_reach : (i n : ℕ) (w : Want) → Before i (suc n) → Reaches text f d i i (parts n w)
+  parts_reach zero zero w h = one text f d 0 0 (parts_demand zero w) (Says w) tt tt _ (λ a. tt)
+  parts_reach zero (suc n) w h = one text f d 0 0 (parts_demand (suc n) w) (Says w) tt tt _ (λ a. later_shift (parts_demand (suc n) w) (parts n w))
   parts_reach (suc i) zero w h = absurd (no_less i h)
     where
       no_less : (i : ℕ) → Before i 0 → ⊥
       no_less zero h = h
       no_less (suc i) h = h
-  parts_reach (suc i) (suc n) w h = inl ((tt, tt), λ u. reach_shift f d i i (parts_demand (suc n) w) (parts n w) (parts_reach i n w h))
+  parts_reach (suc i) (suc n) w h = inl ((tt, tt), λ u p. reach_shift text f d i i (parts_demand (suc n) w) (parts n w) (parts_reach i n w h))
 
-  entries_reach : (i n : ℕ) → Before i n → Reaches f d i i (entries n)
+  entries_reach : (i n : ℕ) → Before i n → Reaches text f d i i (entries n)
   entries_reach zero zero h = absurd h
   entries_reach (suc i) zero h = absurd h
-  entries_reach zero (suc n) h = one f d 0 0 (λ i. AnEntry) (List Entry) tt tt _ (λ e. later_bind 0 (shift {q = λ i. AnEntry} (entries n)) (λ es. ret (e ∷ es)) (later_shift (λ i. AnEntry) (entries n)) (λ es. tt))
-  entries_reach (suc i) (suc n) h = inl ((tt, tt), λ e. reach_bind f d (suc i) (suc i) (shift {q = λ i. AnEntry} (entries n)) (λ es. ret (e ∷ es)) (reach_shift f d i i (λ i. AnEntry) (entries n) (entries_reach i n h)) (λ es. tt))
+  entries_reach zero (suc n) h = one text f d 0 0 (λ i. AnEntry) (List Entry) tt tt _ (λ e. later_bind 0 (shift {q = λ i. AnEntry} (entries n)) (λ es. ret (e ∷ es)) (later_shift (λ i. AnEntry) (entries n)) (λ es. tt))
+  entries_reach (suc i) (suc n) h = inl ((tt, tt), λ e p. reach_bind text f d (suc i) (suc i) (shift {q = λ i. AnEntry} (entries n)) (λ es. ret (e ∷ es)) (reach_shift text f d i i (λ i. AnEntry) (entries n) (entries_reach i n h)) (λ es. tt))
 
   -- one that may be left out
-  and_follows : (w : Want) → f ≡ true → Reaches f d 1 1 (and_step w)
-  and_follows Val e = inl ((tt, tt), λ v. reach_choose f d 1 1 (truth v) (kid 1 tt ((then) ret)) (ret v) (one f d 1 1 (λ i. As Val) Value tt tt ret (λ v. tt)) (e, tt))
-  and_follows Test e = inl ((tt, tt), λ c. reach_choose f d 1 1 c (kid 1 tt ((then) ret)) (ret false) (one f d 1 1 (λ i. As Test) Bool tt tt ret (λ v. tt)) (e, tt))
-  and_follows Unused e = inl ((tt, tt), λ c. reach_choose f d 1 1 {σ = logical_demand And Unused} c (kid 1 tt ((then) ret)) (ret tt) (one f d 1 1 (logical_demand And Unused) (Unit {0}) tt tt ret (λ v. tt)) (e, tt))
+  and_follows : (w : Want) → f ≡ true → Reaches text f d 1 1 (and_step w)
+  and_follows Val e = inl ((tt, tt), λ v p. reach_choose text f d 1 1 (truth v) (kid 1 tt ((then) ret)) (ret v) (one text f d 1 1 (λ i. As Val) Value tt tt ret (λ v. tt)) (e, tt))
+  and_follows Test e = inl ((tt, tt), λ c p. reach_choose text f d 1 1 c (kid 1 tt ((then) ret)) (ret false) (one text f d 1 1 (λ i. As Test) Bool tt tt ret (λ v. tt)) (e, tt))
+  and_follows Unused e = inl ((tt, tt), λ c p. reach_choose text f d 1 1 {σ = logical_demand And Unused} c (kid 1 tt ((then) ret)) (ret tt) (one text f d 1 1 (logical_demand And Unused) (Unit {0}) tt tt ret (λ v. tt)) (e, tt))
 
-  or_follows : (w : Want) → f ≡ true → Reaches f d 1 1 (or_step w)
-  or_follows Val e = inl ((tt, tt), λ v. reach_choose f d 1 1 (truth v) (ret v) (kid 1 tt ((then) ret)) (e, tt) (one f d 1 1 (λ i. As Val) Value tt tt ret (λ v. tt)))
-  or_follows Test e = inl ((tt, tt), λ c. reach_choose f d 1 1 c (ret true) (kid 1 tt ((then) ret)) (e, tt) (one f d 1 1 (λ i. As Test) Bool tt tt ret (λ v. tt)))
-  or_follows Unused e = inl ((tt, tt), λ c. reach_choose f d 1 1 {σ = logical_demand Or Unused} c (ret tt) (kid 1 tt ((then) ret)) (e, tt) (one f d 1 1 (logical_demand Or Unused) (Unit {0}) tt tt ret (λ v. tt)))
+  or_follows : (w : Want) → f ≡ true → Reaches text f d 1 1 (or_step w)
+  or_follows Val e = inl ((tt, tt), λ v p. reach_choose text f d 1 1 (truth v) (ret v) (kid 1 tt ((then) ret)) (e, tt) (one text f d 1 1 (λ i. As Val) Value tt tt ret (λ v. tt)))
+  or_follows Test e = inl ((tt, tt), λ c p. reach_choose text f d 1 1 c (ret true) (kid 1 tt ((then) ret)) (e, tt) (one text f d 1 1 (λ i. As Test) Bool tt tt ret (λ v. tt)))
+  or_follows Unused e = inl ((tt, tt), λ c p. reach_choose text f d 1 1 {σ = logical_demand Or Unused} c (ret tt) (kid 1 tt ((then) ret)) (e, tt) (one text f d 1 1 (logical_demand Or Unused) (Unit {0}) tt tt ret (λ v. tt)))
 
-  logical_follows : (o : LogicalOperator) (w : Want) → f ≡ true → Reaches f d 1 1 (logical_step o w)
+  logical_follows : (o : LogicalOperator) (w : Want) → f ≡ true → Reaches text f d 1 1 (logical_step o w)
   logical_follows And w e = and_follows w e
   logical_follows Or w e = or_follows w e
-  logical_follows Coalesce w e = inl ((tt, tt), λ v. reach_choose f d 1 1 (is_nullish v) _ (ret (says w v)) (one f d 1 1 (λ i. As Val) (Says w) tt tt _ (λ u. tt)) (e, tt))
+  logical_follows Coalesce w e = inl ((tt, tt), λ v p. reach_choose text f d 1 1 (is_nullish v) _ (ret (says w v)) (one text f d 1 1 (λ i. As Val) (Says w) tt tt _ (λ u. tt)) (e, tt))
 
-  branch_follows : (w : Want) → f ≡ true → Reaches f d 1 1 (conditional_step w)
-  branch_follows w e = inl ((tt, tt), λ c. reach_choose f d 1 1 {σ = first_demand (As Test) (As w)} c (kid 1 tt ((then) ret)) (kid 2 tt ((then) ret)) (one f d 1 1 (first_demand (As Test) (As w)) (Says w) tt tt ret (λ v. tt)) (inr (inr (e, (tt, (λ v. tt, λ y. tt))))))
+  branch_follows : (w : Want) → f ≡ true → Reaches text f d 1 1 (conditional_step w)
+  branch_follows w e = inl ((tt, tt), λ c p. reach_choose text f d 1 1 {σ = first_demand (As Test) (As w)} c (kid 1 tt ((then) ret)) (kid 2 tt ((then) ret)) (one text f d 1 1 (first_demand (As Test) (As w)) (Says w) tt tt ret (λ v. tt)) (inr (inr (e, (tt, (λ v. tt, λ y. tt))))))
 
-  other_follows : (w : Want) → f ≡ true → Reaches f d 1 2 (conditional_step w)
-  other_follows w e = inl ((tt, tt), λ c. reach_choose f d 1 2 {σ = first_demand (As Test) (As w)} c (kid 1 tt ((then) ret)) (kid 2 tt ((then) ret)) (inr (inr (e, (tt, (λ v. tt, λ y. tt))))) (one f d 1 2 (first_demand (As Test) (As w)) (Says w) tt tt ret (λ v. tt)))
+  other_follows : (w : Want) → f ≡ true → Reaches text f d 1 2 (conditional_step w)
+  other_follows w e = inl ((tt, tt), λ c p. reach_choose text f d 1 2 {σ = first_demand (As Test) (As w)} c (kid 1 tt ((then) ret)) (kid 2 tt ((then) ret)) (inr (inr (e, (tt, (λ v. tt, λ y. tt))))) (one text f d 1 2 (first_demand (As Test) (As w)) (Says w) tt tt ret (λ v. tt)))
 
   -- the right side of an assignment, behind what is assigned to
   put_later : (reference : Reference) (v : Value) → Later 1 (put_target reference v)
   put_later reference v = (tt, (λ u. tt, λ y. tt))
 
-  stored_plainly : (reference : Reference) → Reaches f d 1 1 (assign_by Plainly reference)
-  stored_plainly reference = one f d 1 1 AssignDemand Value tt tt (put_target reference) (put_later reference)
+  stored_plainly : (reference : Reference) → Reaches text f d 1 1 (assign_by Plainly reference)
+  stored_plainly reference = one text f d 1 1 AssignDemand Value tt tt (put_target reference) (put_later reference)
 
-  stored_by : (k : AssignmentKind) → f ≡ true → (reference : Reference) → Reaches f d 1 1 (assign_by k reference)
+  stored_by : (k : AssignmentKind) → f ≡ true → (reference : Reference) → Reaches text f d 1 1 (assign_by k reference)
   stored_by Plainly e reference = stored_plainly reference
-  stored_by (Computing o) e reference = inl ((tt, e), λ a. one f d 1 1 AssignDemand Value tt tt _ (λ b. later_bind 1 {σ = AssignDemand} (operate o a b) (put_target (after_read reference)) (operate_later 1 AssignDemand o a b) (put_later (after_read reference))))
-  stored_by (DecidingKind o) e reference = inl ((tt, e), λ a. reach_choose f d 1 1 {σ = AssignDemand} (assigns o a) (kid 1 tt ((then) (put_target (after_read reference)))) (ret a) (one f d 1 1 AssignDemand Value tt tt (put_target (after_read reference)) (put_later (after_read reference))) (e, tt))
+  stored_by (Computing o) e reference = inl ((tt, e), λ a p. one text f d 1 1 AssignDemand Value tt tt _ (λ b. later_bind 1 {σ = AssignDemand} (operate o a b) (put_target (after_read reference)) (operate_later 1 AssignDemand o a b) (put_later (after_read reference))))
+  stored_by (DecidingKind o) e reference = inl ((tt, e), λ a p. reach_choose text f d 1 1 {σ = AssignDemand} (assigns o a) (kid 1 tt ((then) (put_target (after_read reference)))) (ret a) (one text f d 1 1 AssignDemand Value tt tt (put_target (after_read reference)) (put_later (after_read reference))) (e, tt))
 
-  stores : (o : AssignmentOperator) → (is_plain_assignment o || f) ≡ true → Reaches f d 1 1 (assignment_step o)
-  stores Assign e = inl ((tt, tt), stored_plainly)
-  stores o e = inl ((tt, tt), stored_by (assignment_kind o) e)
+  stores : (o : AssignmentOperator) → (is_plain_assignment o || f) ≡ true → Reaches text f d 1 1 (assignment_step o)
+  stores Assign e = inl ((tt, tt), λ reference p. stored_plainly reference)
+  stores o e = inl ((tt, tt), λ reference p. stored_by (assignment_kind o) e reference)
 
   -- what is assigned to, which is read and written besides
   assigned_later : (k : AssignmentKind) (reference : Reference) → Later 0 (assign_by k reference)
@@ -398,23 +441,26 @@ module _ (f d : Bool) where
   assigned_later (Computing o) reference = (tt, (λ a. (tt, (λ b. later_bind 0 {σ = AssignDemand} (operate o a b) (put_target (after_read reference)) (operate_later 0 AssignDemand o a b) (λ v. (tt, (λ u. tt, λ y. tt))), λ y. tt)), λ y. tt))
   assigned_later (DecidingKind o) reference = (tt, (λ a. later_choose 0 {σ = AssignDemand} (assigns o a) (kid 1 tt ((then) (put_target (after_read reference)))) (ret a) (tt, (λ v. (tt, (λ u. tt, λ y. tt)), λ y. tt)) tt, λ y. tt))
 
-  assigning_begins : (o : AssignmentOperator) → Reaches f d 0 0 (assignment_step o)
-  assigning_begins o = one f d 0 0 AssignDemand Value Prepare tt (assign_by (assignment_kind o)) (assigned_later (assignment_kind o))
+  assigning_begins : (o : AssignmentOperator) → Reaches text f d 0 0 (assignment_step o)
+  assigning_begins o = one text f d 0 0 AssignDemand Value Prepare tt (assign_by (assignment_kind o)) (assigned_later (assignment_kind o))
 
-  updating_begins : (o : UpdateOperator) (p : Bool) → Reaches f d 0 0 (update_step o p)
+  updating_begins : (o : UpdateOperator) (p : Bool) → Reaches text f d 0 0 (update_step o p)
   updating_begins o p =
-      one f d 0 0 (λ i. Target) Value Prepare tt _
+      one text f d 0 0 (λ i. Target) Value Prepare tt _
       (λ reference. (tt, (λ a. later_bind 0 {σ = λ i. Target} (numeric a) _ (numeric_later 0 (λ i. Target) a) (λ n. later_bind 0 {σ = λ i. Target} (of_made (safe_number (changed o n))) _ (made_later 0 (λ i. Target) (safe_number (changed o n))) (λ v. (tt, (λ u. tt, λ y. tt)))), λ y. tt)))
 
   -- the value of a property, behind a key that is written out
-  fields : (m : Bool) (q : Demand) → Valued q → Entries m q → (r : Request q) → (m || f) ≡ true → Reaches f d 1 1 (entry q r (property_step Init false false false))
-  fields m AnEntry u n r e = reach_bind f d 1 1 {σ = λ i. As Val} (property_step Init false false false) ret (inl ((tt, tt), λ key. one f d 1 1 (λ i. As Val) Entry tt tt _ (λ v. tt))) (λ v. tt)
-  fields false (As w) u n r e = (e, tt)
-  fields false Callee u n r e = (e, tt)
-  fields false OfType u n r e = (e, tt)
-  fields false q u n r e = absurd u
-  fields true Items u n r e = absurd u
-  fields true q u n r e = absurd n
+  fields : (m : Gathered) (q : Demand) → Valued q → Gathers m q → (r : Request q) → (of_entries m || f) ≡ true → Reaches text f d 1 1 (entry q r (property_step Init false false false))
+  fields m AnEntry u n r e = reach_bind text f d 1 1 {σ = λ i. As Val} (property_step Init false false false) ret (inl ((tt, tt), λ key p. one text f d 1 1 (λ i. As Val) Entry tt tt _ (λ v. tt))) (λ v. tt)
+  fields OfValues (As w) u n r e = (e, tt)
+  fields OfValues Callee u n r e = (e, tt)
+  fields OfValues OfType u n r e = (e, tt)
+  fields OfValues q u n r e = absurd u
+  fields OfTexts (As w) u n r e = (e, tt)
+  fields OfTexts Texts u n r e = absurd u
+  fields OfTexts q u n r e = absurd n
+  fields OfEntries Items u n r e = absurd u
+  fields OfEntries q u n r e = absurd n
 
   -- a chain
   end_later : (σ : ℕ → Demand) (q : Demand) → Valued q → (r : Request q) (y : Stop) → Later 0 {σ = σ} (chain_end q r (ended y))
@@ -440,38 +486,51 @@ module _ (f d : Bool) where
   whole_value σ Short n = absurd n
   whole_value σ y n = refl
 
-  chain_read : d ≡ true → Reaches f d 0 0 {σ = λ i. As Val} (kid 0 tt chain_value)
+  chain_read : d ≡ true → Reaches text f d 0 0 {σ = λ i. As Val} (kid 0 tt chain_value)
   chain_read e = inr (inl (record { here = refl; opens = tt; stops = λ y n. whole_value (λ i. As Val) y (subst (λ d. May d y) e n); stopped_later = value_later (λ i. As Val); later = λ a. tt }))
 
-  chains : d ≡ true → (q : Demand) → Valued q → (r : Request q) → Reaches f d 0 0 (chain_step q r)
+  chains : d ≡ true → (q : Demand) → Valued q → (r : Request q) → Reaches text f d 0 0 (chain_step q r)
   chains e (As w) u r = inr (inl (record { here = refl; opens = tt; stops = λ y n. whole_end (λ i. As w) (As w) r y (subst (λ d. May d y) e n); stopped_later = end_later (λ i. As w) (As w) tt r; later = λ a. tt }))
   chains e Callee u r = inr (inl (record { here = refl; opens = tt; stops = λ y n. whole_end (λ i. Callee) Callee r y (subst (λ d. May d y) e n); stopped_later = end_later (λ i. Callee) Callee tt r; later = λ a. tt }))
-  chains e OfType u r = reach_bind f d 0 0 {σ = λ i. As Val} (kid 0 tt chain_value) (reply OfType r) (chain_read e) (λ v. tt)
-  chains e AnEntry u r = reach_bind f d 0 0 {σ = λ i. As Val} (kid 0 tt chain_value) (reply AnEntry r) (chain_read e) (λ v. tt)
+  chains e OfType u r = reach_bind text f d 0 0 {σ = λ i. As Val} (kid 0 tt chain_value) (reply OfType r) (chain_read e) (λ v. tt)
+  chains e AnEntry u r = reach_bind text f d 0 0 {σ = λ i. As Val} (kid 0 tt chain_value) (reply AnEntry r) (chain_read e) (λ v. tt)
   chains e q u r = absurd u
 
   -- the key in brackets of one
   key_later : (v : Value) → Later 0 {σ = λ i. As Val} (property_key true v)
   key_later v = later_bind 0 (primitive ForString v) (λ key. ret (key_value key)) (primitive_later 0 (λ i. As Val) ForString v) (λ x. tt)
 
-  brackets : (m : Bool) (q : Demand) → Valued q → Entries m q → (r : Request q) → (m || f) ≡ true → Reaches f d 0 0 (entry q r (property_step Init false false true))
-  brackets m AnEntry u n r e = reach_bind f d 0 0 {σ = λ i. As Val} (property_step Init false false true) ret (one f d 0 0 (λ i. As Val) Entry tt tt _ (λ v. later_bind 0 (property_key true v) _ (key_later v) (λ key. (tt, (λ w. tt, λ y. tt))))) (λ v. tt)
-  brackets false (As w) u n r e = (e, tt)
-  brackets false Callee u n r e = (e, tt)
-  brackets false OfType u n r e = (e, tt)
-  brackets false q u n r e = absurd u
-  brackets true Items u n r e = absurd u
-  brackets true q u n r e = absurd n
+  brackets : (m : Gathered) (q : Demand) → Valued q → Gathers m q → (r : Request q) → (of_entries m || f) ≡ true → Reaches text f d 0 0 (entry q r (property_step Init false false true))
+  brackets m AnEntry u n r e = reach_bind text f d 0 0 {σ = λ i. As Val} (property_step Init false false true) ret (one text f d 0 0 (λ i. As Val) Entry tt tt _ (λ v. later_bind 0 (property_key true v) _ (key_later v) (λ key. (tt, (λ w. tt, λ y. tt))))) (λ v. tt)
+  brackets OfValues (As w) u n r e = (e, tt)
+  brackets OfValues Callee u n r e = (e, tt)
+  brackets OfValues OfType u n r e = (e, tt)
+  brackets OfValues q u n r e = absurd u
+  brackets OfTexts (As w) u n r e = (e, tt)
+  brackets OfTexts Texts u n r e = absurd u
+  brackets OfTexts q u n r e = absurd n
+  brackets OfEntries Items u n r e = absurd u
+  brackets OfEntries q u n r e = absurd n
 
   -- what is spread
-  spreads : (m : Bool) (q : Demand) → Valued q → Entries m q → (r : Request q) → (m || f) ≡ true → Reaches f d 0 0 (entry q r spread_step)
-  spreads m AnEntry u n r e = reach_bind f d 0 0 {σ = λ i. As Val} spread_step ret (one f d 0 0 (λ i. As Val) Entry tt tt _ (λ v. (λ w. tt, λ y. tt))) (λ v. tt)
-  spreads false (As w) u n r e = (e, tt)
-  spreads false Callee u n r e = (e, tt)
-  spreads false OfType u n r e = (e, tt)
-  spreads false q u n r e = absurd u
-  spreads true Items u n r e = absurd u
-  spreads true q u n r e = absurd n
+  spreads : (m : Gathered) (q : Demand) → Valued q → Gathers m q → (r : Request q) → (of_entries m || f) ≡ true → Reaches text f d 0 0 (entry q r spread_step)
+  spreads m AnEntry u n r e = reach_bind text f d 0 0 {σ = λ i. As Val} spread_step ret (one text f d 0 0 (λ i. As Val) Entry tt tt _ (λ v. (λ w. tt, λ y. tt))) (λ v. tt)
+  spreads OfValues (As w) u n r e = (e, tt)
+  spreads OfValues Callee u n r e = (e, tt)
+  spreads OfValues OfType u n r e = (e, tt)
+  spreads OfValues q u n r e = absurd u
+  spreads OfTexts (As w) u n r e = (e, tt)
+  spreads OfTexts Texts u n r e = absurd u
+  spreads OfTexts q u n r e = absurd n
+  spreads OfEntries Items u n r e = absurd u
+  spreads OfEntries q u n r e = absurd n
+
+texts_reach : (f d : Bool) (i n : ℕ) → Before i n → Reaches true f d i i (template_texts n)
+texts_reach f d zero zero h = absurd h
+texts_reach f d (suc i) zero h = absurd h
+texts_reach f d zero (suc n) h = one true f d 0 0 (λ i. As Val) (List (List ℕ)) tt tt _ (λ v. converted_later n v)
+texts_reach f d (suc i) (suc n) h =
+    inl ((tt, tt), λ v p. subst (λ c. Reaches true f d (suc i) (suc i) {σ = λ i. As Val} c) (sym (text_goes_on n v p)) (reach_bind true f d (suc i) (suc i) (shift {q = λ i. As Val} (template_texts n)) (λ ss. ret (p.text ∷ ss)) (reach_shift true f d i i (λ i. As Val) (template_texts n) (texts_reach f d i n h)) (λ ss. tt)))
 
 -- what is asked where a step stands, of what allows so much
 abbrev pub Suits : Asked → Demand → End → Type 0
@@ -484,6 +543,7 @@ Suits AsTarget Target b = Unit {0}
 Suits AsUpdated Target b = Unit {0}
 Suits AsValues (Parts w) b = Unit {0}
 Suits AsValues Items b = Unit {0}
+Suits AsValues Texts b = Unit {0}
 Suits c q b = ⊥
 
 values : (q : Demand) (b : End) → Suits AsValue q b → Valued q
@@ -496,6 +556,7 @@ values q b u = absurd u
 -- the parts before that are evaluated before the one there
 abbrev pub earlier : Lead → Trees
 earlier (Failing a b) = a ▸ none
+earlier (Interpolating a) = none
 earlier l = before l
 
 -- those of them that are asked for values
@@ -520,8 +581,13 @@ always_chains : (l : Lead) → Chains true l
 always_chains Linking = refl
 always_chains l = tt
 
-pub record Asks (f d m : Bool) (c : Asked) (l : Lead) (fs : List Facts) (q : Demand) (r : Request q) (b : End) : Type 0 where
-  pub reaches : surely m f l ≡ true → Reaches f d (count (earlier l)) (count (before l)) (step (shape_by (head_of l)) [] fs q r)
+-- texts are gathered from what stands in a list
+abbrev pub texts_in : Gathered → Lead → Bool
+texts_in m (Listing ts) = of_texts m
+texts_in m l = false
+
+pub record Asks (f d : Bool) (m : Gathered) (c : Asked) (l : Lead) (fs : List Facts) (q : Demand) (r : Request q) (b : End) : Type 0 where
+  pub reaches : surely m f l ≡ true → Reaches (texts_in m l) f d (count (earlier l)) (count (before l)) (step (shape_by (head_of l)) [] fs q r)
   pub below : Suits (asked_below (head_of l) c (place 0 (before l))) (demand (shape_by (head_of l)) fs q (count (before l))) b
   pub first : AllReply (demand (shape_by (head_of l)) fs q) (valued_before l)
 
@@ -529,16 +595,16 @@ target_suits : (o : AssignmentOperator) (b : End) → Suits (target_asked o) Tar
 target_suits Assign b = tt
 target_suits o b = tt
 
-value_asks : (f d m : Bool) (l : Lead) (o : Bool) → Stands AsValue l o → (b : End) → Allows l b → Chains d l → (fs : List Facts) (q : Demand) → Valued q → Entries m q → (r : Request q) → Asks f d m AsValue l fs q r b
+value_asks : (f d : Bool) (m : Gathered) (l : Lead) (o : Bool) → Stands AsValue l o → (b : End) → Allows l b → Chains d l → (fs : List Facts) (q : Demand) → Valued q → Gathers m q → (r : Request q) → Asks f d m AsValue l fs q r b
 unfolding step
-value_asks f d m Not v s b g w fs q u n r = record { reaches = λ y. reach_valued f d 0 0 (λ i. As Test) q u r not_step (one f d 0 0 (λ i. As Test) Value tt tt _ (λ v. tt)); below = tt; first = tt }
-value_asks f d m Plus v s b g w fs q u n r = record { reaches = λ y. reach_valued f d 0 0 (λ i. As Val) q u r (number_step UnaryPlus) (number_begins f d UnaryPlus); below = tt; first = tt }
-value_asks f d m Minus v s b g w fs q u n r = record { reaches = λ y. reach_valued f d 0 0 (λ i. As Val) q u r (number_step UnaryNegation) (number_begins f d UnaryNegation); below = tt; first = tt }
-value_asks f d m Tilde v s b g w fs q u n r = record { reaches = λ y. reach_valued f d 0 0 (λ i. As Val) q u r (number_step BitwiseNot) (number_begins f d BitwiseNot); below = tt; first = tt }
-value_asks f d m Typing v s b g w fs q u n r = record { reaches = λ y. reach_valued f d 0 0 (λ i. OfType) q u r typeof_step (one f d 0 0 (λ i. OfType) Value tt tt _ (λ v. tt)); below = g; first = tt }
-value_asks f d m Emptying v s b g w fs q u n r = record { reaches = λ y. reach_valued f d 0 0 (λ i. As Val) q u r void_step (one f d 0 0 (λ i. As Val) Value tt tt _ (λ v. tt)); below = tt; first = tt }
-value_asks f d m (Beside o) v s b g w fs q u n r = record { reaches = λ y. reach_valued f d 0 0 (λ i. As Val) q u r (binary_step o) (binary_begins f d o); below = tt; first = tt }
-value_asks f d m (Deciding o) v s b g w fs q u n r = record { reaches = λ y. reach_passing f d 0 0 (logical_demand o (pass q)) q u r (logical_step o (pass q)) (logical_begins f d o (pass q)); below = left o (pass q); first = tt }
+value_asks f d m Not v s b g w fs q u n r = record { reaches = λ y. reach_valued false f d 0 0 (λ i. As Test) q u r not_step (one false f d 0 0 (λ i. As Test) Value tt tt _ (λ v. tt)); below = tt; first = tt }
+value_asks f d m Plus v s b g w fs q u n r = record { reaches = λ y. reach_valued false f d 0 0 (λ i. As Val) q u r (number_step UnaryPlus) (number_begins false f d UnaryPlus); below = tt; first = tt }
+value_asks f d m Minus v s b g w fs q u n r = record { reaches = λ y. reach_valued false f d 0 0 (λ i. As Val) q u r (number_step UnaryNegation) (number_begins false f d UnaryNegation); below = tt; first = tt }
+value_asks f d m Tilde v s b g w fs q u n r = record { reaches = λ y. reach_valued false f d 0 0 (λ i. As Val) q u r (number_step BitwiseNot) (number_begins false f d BitwiseNot); below = tt; first = tt }
+value_asks f d m Typing v s b g w fs q u n r = record { reaches = λ y. reach_valued false f d 0 0 (λ i. OfType) q u r typeof_step (one false f d 0 0 (λ i. OfType) Value tt tt _ (λ v. tt)); below = g; first = tt }
+value_asks f d m Emptying v s b g w fs q u n r = record { reaches = λ y. reach_valued false f d 0 0 (λ i. As Val) q u r void_step (one false f d 0 0 (λ i. As Val) Value tt tt _ (λ v. tt)); below = tt; first = tt }
+value_asks f d m (Beside o) v s b g w fs q u n r = record { reaches = λ y. reach_valued false f d 0 0 (λ i. As Val) q u r (binary_step o) (binary_begins false f d o); below = tt; first = tt }
+value_asks f d m (Deciding o) v s b g w fs q u n r = record { reaches = λ y. reach_passing false f d 0 0 (logical_demand o (pass q)) q u r (logical_step o (pass q)) (logical_begins false f d o (pass q)); below = left o (pass q); first = tt }
   where
     left : (o : LogicalOperator) (w : Want) → Suits AsValue (logical_demand o w 0) b
     left And Val = tt
@@ -548,20 +614,21 @@ value_asks f d m (Deciding o) v s b g w fs q u n r = record { reaches = λ y. re
     left Or Test = tt
     left Or Unused = tt
     left Coalesce w = tt
-value_asks f d m Choosing v s b g w fs q u n r = record { reaches = λ y. reach_passing f d 0 0 (first_demand (As Test) (As (pass q))) q u r (conditional_step (pass q)) (conditional_begins f d (pass q)); below = tt; first = tt }
-value_asks f d m Passing v s b g w fs q u n r = record { reaches = λ y. reach_passing f d 0 0 (λ i. Parts (pass q)) q u r (sequence_step (pass q)) (one f d 0 0 (λ i. Parts (pass q)) (Says (pass q)) tt tt _ (λ v. tt)); below = tt; first = tt }
-value_asks f d m (CalledLead o) v s b g w fs q u n r = record { reaches = λ y. reach_valued f d 0 0 (first_demand Callee Items) q u r (call_step o) (call_begins f d o); below = g; first = tt }
-value_asks f d m Making v s b g w fs q u n r = record { reaches = λ y. reach_valued f d 0 0 (first_demand (As Val) Items) q u r new_step (one f d 0 0 (first_demand (As Val) Items) Value tt tt _ (λ f. (tt, (λ vs. (λ v. tt, λ y. tt), λ y. tt)))); below = tt; first = tt }
-value_asks f d m (Waiting i) v s b g w fs q u n r = record { reaches = λ y. reach_valued f d 0 0 (λ i. As Val) q u r (yield_step i) (one f d 0 0 (λ i. As Val) Value tt tt _ (λ v. (λ a. tt, λ y. tt))); below = tt; first = tt }
-value_asks f d m (Member o) v s b g w fs q u n r = record { reaches = λ y. as_member_reaches f d o 0 (member_begins f d o) q u r; below = tt; first = tt }
-value_asks f d m (Keyed o) v s b g w fs q u n r = record { reaches = λ y. as_member_reaches f d o 0 (member_begins f d o) q u r; below = tt; first = tt }
-value_asks f d m Holding v s b g w fs q u n r = record { reaches = λ y. reach_valued f d 0 0 (λ i. Items) q u r array_step (one f d 0 0 (λ i. Items) Value tt tt _ (λ vs. (λ v. tt, λ y. tt))); below = tt; first = tt }
-value_asks f d m Gathering v s b g w fs q u n r = record { reaches = λ y. reach_valued f d 0 0 (λ i. Items) q u r object_step (one f d 0 0 (λ i. Items) Value tt tt _ (λ vs. (λ v. tt, λ y. tt))); below = tt; first = tt }
-value_asks f d m (Against o a) v s b g w fs q u n r = record { reaches = λ y. reach_valued f d 1 1 (λ i. As Val) q u r (binary_step o) (binary_goes_on f d o); below = tt; first = (tt, tt) }
-value_asks f d m (GivenLead o a) v s b g w fs q u n r = record { reaches = λ y. reach_valued f d 1 1 (first_demand Callee Items) q u r (call_step o) (call_goes_on f d o y); below = tt; first = (tt, tt) }
-value_asks f d m (Filling a) v s b g w fs q u n r = record { reaches = λ y. reach_valued f d 1 1 (first_demand (As Val) Items) q u r new_step (new_goes_on f d); below = tt; first = (tt, tt) }
-value_asks f d m (Keying o a) v s b g w fs q u n r = record { reaches = λ y. as_member_reaches f d o 1 (member_goes_on f d o y) q u r; below = tt; first = (tt, tt) }
-value_asks f d m (Following o a) v s b g w fs q u n r = record { reaches = λ y. reach_passing f d 1 1 (logical_demand o (pass q)) q u r (logical_step o (pass q)) (logical_follows f d o (pass q) y); below = behind o (pass q); first = (ahead o (pass q), tt) }
+value_asks f d m Choosing v s b g w fs q u n r = record { reaches = λ y. reach_passing false f d 0 0 (first_demand (As Test) (As (pass q))) q u r (conditional_step (pass q)) (conditional_begins false f d (pass q)); below = tt; first = tt }
+value_asks f d m Passing v s b g w fs q u n r = record { reaches = λ y. reach_passing false f d 0 0 (λ i. Parts (pass q)) q u r (sequence_step (pass q)) (one false f d 0 0 (λ i. Parts (pass q)) (Says (pass q)) tt tt _ (λ v. tt)); below = tt; first = tt }
+value_asks f d m (CalledLead o) v s b g w fs q u n r = record { reaches = λ y. reach_valued false f d 0 0 (first_demand Callee Items) q u r (call_step o) (call_begins false f d o); below = g; first = tt }
+value_asks f d m Making v s b g w fs q u n r = record { reaches = λ y. reach_valued false f d 0 0 (first_demand (As Val) Items) q u r new_step (one false f d 0 0 (first_demand (As Val) Items) Value tt tt _ (λ f. (tt, (λ vs. (λ v. tt, λ y. tt), λ y. tt)))); below = tt; first = tt }
+value_asks f d m (Waiting i) v s b g w fs q u n r = record { reaches = λ y. reach_valued false f d 0 0 (λ i. As Val) q u r (yield_step i) (one false f d 0 0 (λ i. As Val) Value tt tt _ (λ v. (λ a. tt, λ y. tt))); below = tt; first = tt }
+value_asks f d m (Member o) v s b g w fs q u n r = record { reaches = λ y. as_member_reaches false f d o 0 (member_begins false f d o) q u r; below = tt; first = tt }
+value_asks f d m (Keyed o) v s b g w fs q u n r = record { reaches = λ y. as_member_reaches false f d o 0 (member_begins false f d o) q u r; below = tt; first = tt }
+value_asks f d m Holding v s b g w fs q u n r = record { reaches = λ y. reach_valued false f d 0 0 (λ i. Items) q u r array_step (one false f d 0 0 (λ i. Items) Value tt tt _ (λ vs. (λ v. tt, λ y. tt))); below = tt; first = tt }
+value_asks f d m Gathering v s b g w fs q u n r = record { reaches = λ y. reach_valued false f d 0 0 (λ i. Items) q u r object_step (one false f d 0 0 (λ i. Items) Value tt tt _ (λ vs. (λ v. tt, λ y. tt))); below = tt; first = tt }
+value_asks f d m (Against o a) v s b g w fs q u n r = record { reaches = λ y. reach_valued false f d 1 1 (λ i. As Val) q u r (binary_step o) (binary_goes_on false f d o); below = tt; first = (tt, tt) }
+value_asks f d m (GivenLead o a) v s b g w fs q u n r = record { reaches = λ y. reach_valued false f d 1 1 (first_demand Callee Items) q u r (call_step o) (call_goes_on false f d o y); below = tt; first = (tt, tt) }
+value_asks f d m (Filling a) v s b g w fs q u n r = record { reaches = λ y. reach_valued false f d 1 1 (first_demand (As Val) Items) q u r new_step (new_goes_on false f d); below = tt; first = (tt, tt) }
+value_asks f d m (Keying o a) v s b g w fs q u n r = record { reaches = λ y. as_member_reaches false f d o 1 (member_goes_on false f d o y) q u r; below = tt; first = (tt, tt) }
+value_asks f d m (Interpolating a) v s b g w fs q u n r = record { reaches = λ y. reach_valued false f d 0 1 (λ i. Texts) q u r (template_step (texts_all fs)) (one false f d 0 1 (λ i. Texts) Value tt tt _ (λ parts. tt)); below = tt; first = tt }
+value_asks f d m (Following o a) v s b g w fs q u n r = record { reaches = λ y. reach_passing false f d 1 1 (logical_demand o (pass q)) q u r (logical_step o (pass q)) (logical_follows false f d o (pass q) y); below = behind o (pass q); first = (ahead o (pass q), tt) }
   where
     behind : (o : LogicalOperator) (w : Want) → Suits AsValue (logical_demand o w 1) b
     behind And Val = tt
@@ -580,16 +647,16 @@ value_asks f d m (Following o a) v s b g w fs q u n r = record { reaches = λ y.
     ahead Or Test = tt
     ahead Or Unused = tt
     ahead Coalesce w = tt
-value_asks f d m (Branching a) v s b g w fs q u n r = record { reaches = λ y. reach_passing f d 1 1 (first_demand (As Test) (As (pass q))) q u r (conditional_step (pass q)) (branch_follows f d (pass q) y); below = tt; first = (tt, tt) }
-value_asks f d m (Failing a t) v s b g w fs q u n r = record { reaches = λ y. reach_passing f d 1 2 (first_demand (As Test) (As (pass q))) q u r (conditional_step (pass q)) (other_follows f d (pass q) y); below = tt; first = (tt, tt) }
-value_asks f d m (Storing o a) v s b g w fs q u n r = record { reaches = λ y. reach_valued f d 1 1 AssignDemand q u r (assignment_step o) (stores f d o y); below = tt; first = tt }
-value_asks f d m (Fielding false a) v s b g w fs q u n r = record { reaches = λ y. fields f d m q u n r y; below = tt; first = (tt, tt) }
+value_asks f d m (Branching a) v s b g w fs q u n r = record { reaches = λ y. reach_passing false f d 1 1 (first_demand (As Test) (As (pass q))) q u r (conditional_step (pass q)) (branch_follows false f d (pass q) y); below = tt; first = (tt, tt) }
+value_asks f d m (Failing a t) v s b g w fs q u n r = record { reaches = λ y. reach_passing false f d 1 2 (first_demand (As Test) (As (pass q))) q u r (conditional_step (pass q)) (other_follows false f d (pass q) y); below = tt; first = (tt, tt) }
+value_asks f d m (Storing o a) v s b g w fs q u n r = record { reaches = λ y. reach_valued false f d 1 1 AssignDemand q u r (assignment_step o) (stores false f d o y); below = tt; first = tt }
+value_asks f d m (Fielding false a) v s b g w fs q u n r = record { reaches = λ y. fields false f d m q u n r y; below = tt; first = (tt, tt) }
 value_asks f d m (Fielding true a) v s b g w fs q u n r = record { reaches = λ y. absurd (true≢false (sym y)); below = tt; first = (tt, tt) }
-value_asks f d m Bracketing v s b g w fs q u n r = record { reaches = λ y. brackets f d m q u n r y; below = tt; first = tt }
-value_asks f d m (Targeted o) v s b g w fs q u n r = record { reaches = λ y. reach_valued f d 0 0 AssignDemand q u r (assignment_step o) (assigning_begins f d o); below = target_suits o b; first = tt }
-value_asks f d m (Changing o p) v s b g w fs q u n r = record { reaches = λ y. reach_valued f d 0 0 (λ i. Target) q u r (update_step o p) (updating_begins f d o p); below = tt; first = tt }
-value_asks f d m Spreading v s b g w fs q u n r = record { reaches = λ y. spreads f d m q u n r y; below = tt; first = tt }
-value_asks f d m Linking v s b g w fs q u n r = record { reaches = λ y. chains f d w q u r; below = held q u g; first = tt }
+value_asks f d m Bracketing v s b g w fs q u n r = record { reaches = λ y. brackets false f d m q u n r y; below = tt; first = tt }
+value_asks f d m (Targeted o) v s b g w fs q u n r = record { reaches = λ y. reach_valued false f d 0 0 AssignDemand q u r (assignment_step o) (assigning_begins false f d o); below = target_suits o b; first = tt }
+value_asks f d m (Changing o p) v s b g w fs q u n r = record { reaches = λ y. reach_valued false f d 0 0 (λ i. Target) q u r (update_step o p) (updating_begins false f d o p); below = tt; first = tt }
+value_asks f d m Spreading v s b g w fs q u n r = record { reaches = λ y. spreads false f d m q u n r y; below = tt; first = tt }
+value_asks f d m Linking v s b g w fs q u n r = record { reaches = λ y. chains false f d w q u r; below = held q u g; first = tt }
   where
     held : (q : Demand) → Valued q → b.called ≡ true → Suits AsValue (chained q) b
     held (As w) u g = tt
@@ -600,19 +667,19 @@ value_asks f d m Linking v s b g w fs q u n r = record { reaches = λ y. chains 
 value_asks f d m l v s b g w fs q u n r = absurd s
 
 -- a member that is assigned to
-target_asks : (f d m : Bool) (l : Lead) (o : Bool) → Stands AsTarget l o → (b : End) → (fs : List Facts) → Asks f d m AsTarget l fs Target Prepare b × Asks f d m AsUpdated l fs Target Prepare b
+target_asks : (f d : Bool) (m : Gathered) (l : Lead) (o : Bool) → Stands AsTarget l o → (b : End) → (fs : List Facts) → Asks f d m AsTarget l fs Target Prepare b × Asks f d m AsUpdated l fs Target Prepare b
 unfolding step
-target_asks f d m (Member false) v s b fs = (record { reaches = λ y. member_begins f d false; below = tt; first = tt }, record { reaches = λ y. member_begins f d false; below = tt; first = tt })
-target_asks f d m (Keyed false) v s b fs = (record { reaches = λ y. member_begins f d false; below = tt; first = tt }, record { reaches = λ y. member_begins f d false; below = tt; first = tt })
-target_asks f d m (Keying false a) v s b fs = (record { reaches = λ y. member_goes_on f d false refl; below = tt; first = (tt, tt) }, record { reaches = λ y. member_goes_on f d false refl; below = tt; first = (tt, tt) })
+target_asks f d m (Member false) v s b fs = (record { reaches = λ y. member_begins false f d false; below = tt; first = tt }, record { reaches = λ y. member_begins false f d false; below = tt; first = tt })
+target_asks f d m (Keyed false) v s b fs = (record { reaches = λ y. member_begins false f d false; below = tt; first = tt }, record { reaches = λ y. member_begins false f d false; below = tt; first = tt })
+target_asks f d m (Keying false a) v s b fs = (record { reaches = λ y. member_goes_on false f d false refl; below = tt; first = (tt, tt) }, record { reaches = λ y. member_goes_on false f d false refl; below = tt; first = (tt, tt) })
 target_asks f d m l v s b fs = absurd s
 
-statement_asks : (f d m : Bool) (l : Lead) (o : Bool) → Stands AsWholeItem l o → (b : End) → (fs : List Facts) (r : Request (Stat None)) → Asks f d m AsWholeItem l fs (Stat None) r b
+statement_asks : (f d : Bool) (m : Gathered) (l : Lead) (o : Bool) → Stands AsWholeItem l o → (b : End) → (fs : List Facts) (r : Request (Stat None)) → Asks f d m AsWholeItem l fs (Stat None) r b
 unfolding step
-statement_asks f d m Doing v s b fs r = record { reaches = λ y. reach_statement f d 0 0 {σ = λ i. As Unused} (kid 0 tt ((then) ret)) (one f d 0 0 (λ i. As Unused) (Unit {0}) tt tt ret (λ v. tt)); below = tt; first = tt }
-statement_asks f d m Giving v s b fs r = record { reaches = λ y. reach_statement f d 0 0 return_step (one f d 0 0 (λ i. As Val) (Unit {0}) tt tt _ (λ v. tt)); below = tt; first = tt }
-statement_asks f d m Raising v s b fs r = record { reaches = λ y. reach_statement f d 0 0 throw_step (one f d 0 0 (λ i. As Val) (Unit {0}) tt tt _ (λ v. tt)); below = tt; first = tt }
-statement_asks f d m Testing v s b fs r = record { reaches = λ y. reach_statement f d 0 0 (if_step None) (one f d 0 0 (first_demand (As Test) (Stat None)) (Unit {0}) tt tt _ (λ c. later_choose 0 {σ = first_demand (As Test) (Stat None)} c (kid 1 [] ((then) ret)) (kid 2 [] ((then) ret)) (tt, (λ u. tt, λ y. tt)) (tt, (λ u. tt, λ y. tt)))); below = tt; first = tt }
+statement_asks f d m Doing v s b fs r = record { reaches = λ y. reach_statement false f d 0 0 {σ = λ i. As Unused} (kid 0 tt ((then) ret)) (one false f d 0 0 (λ i. As Unused) (Unit {0}) tt tt ret (λ v. tt)); below = tt; first = tt }
+statement_asks f d m Giving v s b fs r = record { reaches = λ y. reach_statement false f d 0 0 return_step (one false f d 0 0 (λ i. As Val) (Unit {0}) tt tt _ (λ v. tt)); below = tt; first = tt }
+statement_asks f d m Raising v s b fs r = record { reaches = λ y. reach_statement false f d 0 0 throw_step (one false f d 0 0 (λ i. As Val) (Unit {0}) tt tt _ (λ v. tt)); below = tt; first = tt }
+statement_asks f d m Testing v s b fs r = record { reaches = λ y. reach_statement false f d 0 0 (if_step None) (one false f d 0 0 (first_demand (As Test) (Stat None)) (Unit {0}) tt tt _ (λ c. later_choose 0 {σ = first_demand (As Test) (Stat None)} c (kid 1 [] ((then) ret)) (kid 2 [] ((then) ret)) (tt, (λ u. tt, λ y. tt)) (tt, (λ u. tt, λ y. tt)))); below = tt; first = tt }
 statement_asks f d m l v s b fs r = absurd s
 
 -- the parts of a sequence are asked nothing but the last, and items each for the item
@@ -635,22 +702,29 @@ entries_reply : (ts : Trees) → AllReply (λ i. AnEntry) ts
 entries_reply none = tt
 entries_reply (t ▸ ts) = (tt, entries_reply ts)
 
-list_asks : (f d m : Bool) (l : Lead) (o : Bool) → Stands AsValues l o → (b : End) → (fs : List Facts) → Before (count (before l)) (length fs) → (q : Demand) → Suits AsValues q free → (r : Request q) → Asks f d m AsValues l fs q r b
+values_reply : (ts : Trees) → AllReply (λ i. As Val) ts
+values_reply none = tt
+values_reply (t ▸ ts) = (tt, values_reply ts)
+
+list_asks : (f d : Bool) (m : Gathered) (l : Lead) (o : Bool) → Stands AsValues l o → (b : End) → (fs : List Facts) → Before (count (before l)) (length fs) → (q : Demand) → Suits AsValues q free → Gathers m q → (r : Request q) → Asks f d m AsValues l fs q r b
 unfolding step
-list_asks f d m (Listing ts) v s b [] h q u r = absurd (none_less (count ts) h)
+list_asks f d m (Listing ts) v s b [] h q u n r = absurd (none_less (count ts) h)
   where
     none_less : (i : ℕ) → Before i 0 → ⊥
     none_less zero h = h
     none_less (suc i) h = h
-list_asks f d m (Listing ts) v s b (g ∷ fs) h (Parts w) u r = record { reaches = λ y. parts_reach f d (count ts) (length fs) w h; below = parts_asked (count ts) (length fs) w b h; first = parts_reply (length fs) w ts }
-list_asks f d m (Listing ts) v s b (g ∷ fs) h Items u r = record { reaches = λ y. entries_reach f d (count ts) (suc (length fs)) h; below = tt; first = entries_reply ts }
-list_asks f d m (Listing ts) v s b (g ∷ fs) h q u r = absurd u
-list_asks f d m l v s b fs h q u r = absurd s
+list_asks f d m (Listing ts) v s b (g ∷ fs) h (Parts w) u n r = record { reaches = λ y. parts_reach (of_texts m) f d (count ts) (length fs) w h; below = parts_asked (count ts) (length fs) w b h; first = parts_reply (length fs) w ts }
+list_asks f d m (Listing ts) v s b (g ∷ fs) h Items u n r = record { reaches = λ y. entries_reach (of_texts m) f d (count ts) (suc (length fs)) h; below = tt; first = entries_reply ts }
+list_asks f d OfTexts (Listing ts) v s b (g ∷ fs) h Texts u n r = record { reaches = λ y. texts_reach f d (count ts) (suc (length fs)) h; below = tt; first = values_reply ts }
+list_asks f d OfValues (Listing ts) v s b (g ∷ fs) h Texts u n r = absurd n
+list_asks f d OfEntries (Listing ts) v s b (g ∷ fs) h Texts u n r = absurd n
+list_asks f d m (Listing ts) v s b (g ∷ fs) h q u n r = absurd u
+list_asks f d m l v s b fs h q u n r = absurd s
 
-pub asks : (f d m : Bool) (c : Asked) (l : Lead) (o : Bool) → Stands c l o → (b : End) → Allows l b → Chains d l → (fs : List Facts) → Before (count (before l)) (length fs) → (q : Demand) → Suits c q free → Entries m q → (r : Request q) → Opens q r → Asks f d m c l fs q r b
+pub asks : (f d : Bool) (m : Gathered) (c : Asked) (l : Lead) (o : Bool) → Stands c l o → (b : End) → Allows l b → Chains d l → (fs : List Facts) → Before (count (before l)) (length fs) → (q : Demand) → Suits c q free → Gathers m q → (r : Request q) → Opens q r → Asks f d m c l fs q r b
 asks f d m AsWholeItem l v s b g w fs h (Stat None) u n r o = statement_asks f d m l v s b fs r
 asks f d m AsValue l v s b g w fs h q u n r o = value_asks f d m l v s b g w fs q (values q free u) n r
-asks f d m AsValues l v s b g w fs h q u n r o = list_asks f d m l v s b fs h q u r
+asks f d m AsValues l v s b g w fs h q u n r o = list_asks f d m l v s b fs h q u n r
 asks f d m AsTarget l v s b g w fs h Target u n Prepare o = (target_asks f d m l v s b fs).0
 asks f d m AsTarget l v s b g w fs h Target u n (Fetch reference) o = absurd o
 asks f d m AsTarget l v s b g w fs h Target u n (Put reference a) o = absurd o
@@ -661,15 +735,16 @@ asks f d m c l v s b g w fs h q u n r o = absurd u
 
 -- what is asked of the part there
 pub suits_below : (c : Asked) (l : Lead) (o : Bool) → Stands c l o → (b : End) → Allows l b → (fs : List Facts) → Before (count (before l)) (length fs) → (q : Demand) → Suits c q free → (r : Request q) → Suits (asked_below (head_of l) c (place 0 (before l))) (demand (shape_by (head_of l)) fs q (count (before l))) b
-suits_below AsTarget l v s b g fs h Target u r = (asks true true false AsTarget l v s b g (always_chains l) fs h Target u tt Prepare tt).below
-suits_below AsUpdated l v s b g fs h Target u r = (asks true true false AsUpdated l v s b g (always_chains l) fs h Target u tt Prepare tt).below
-suits_below AsWholeItem l v s b g fs h (Stat None) u r = (asks true true false AsWholeItem l v s b g (always_chains l) fs h (Stat None) u tt r tt).below
-suits_below AsValue l v s b g fs h (As w) u r = (asks true true false AsValue l v s b g (always_chains l) fs h (As w) u tt r tt).below
-suits_below AsValue l v s b g fs h AnEntry u r = (asks true true false AsValue l v s b g (always_chains l) fs h AnEntry u tt r tt).below
-suits_below AsValue l v s b g fs h Callee u r = (asks true true false AsValue l v s b g (always_chains l) fs h Callee u tt r tt).below
-suits_below AsValue l v s b g fs h OfType u r = (asks true true false AsValue l v s b g (always_chains l) fs h OfType u tt r tt).below
-suits_below AsValues l v s b g fs h (Parts w) u r = (asks true true false AsValues l v s b g (always_chains l) fs h (Parts w) u tt r tt).below
-suits_below AsValues l v s b g fs h Items u r = (asks true true false AsValues l v s b g (always_chains l) fs h Items u tt r tt).below
+suits_below AsTarget l v s b g fs h Target u r = (asks true true OfValues AsTarget l v s b g (always_chains l) fs h Target u tt Prepare tt).below
+suits_below AsUpdated l v s b g fs h Target u r = (asks true true OfValues AsUpdated l v s b g (always_chains l) fs h Target u tt Prepare tt).below
+suits_below AsWholeItem l v s b g fs h (Stat None) u r = (asks true true OfValues AsWholeItem l v s b g (always_chains l) fs h (Stat None) u tt r tt).below
+suits_below AsValue l v s b g fs h (As w) u r = (asks true true OfValues AsValue l v s b g (always_chains l) fs h (As w) u tt r tt).below
+suits_below AsValue l v s b g fs h AnEntry u r = (asks true true OfValues AsValue l v s b g (always_chains l) fs h AnEntry u tt r tt).below
+suits_below AsValue l v s b g fs h Callee u r = (asks true true OfValues AsValue l v s b g (always_chains l) fs h Callee u tt r tt).below
+suits_below AsValue l v s b g fs h OfType u r = (asks true true OfValues AsValue l v s b g (always_chains l) fs h OfType u tt r tt).below
+suits_below AsValues l v s b g fs h (Parts w) u r = (asks true true OfValues AsValues l v s b g (always_chains l) fs h (Parts w) u tt r tt).below
+suits_below AsValues l v s b g fs h Items u r = (asks true true OfValues AsValues l v s b g (always_chains l) fs h Items u tt r tt).below
+suits_below AsValues l v s b g fs h Texts u r = (asks true true OfTexts AsValues l v s b g (always_chains l) fs h Texts u tt r tt).below
 suits_below c l v s b g fs h q u r = absurd u
 
 -- what is evaluated before stands before
@@ -677,27 +752,38 @@ pub earlier_within : (l : Lead) (j : ℕ) → Before j (count (earlier l)) → B
 earlier_within (Failing t d) zero b = tt
 earlier_within (Failing t d) (suc zero) b = absurd b
 earlier_within (Failing t d) (suc (suc j)) b = absurd b
+earlier_within (Interpolating t) zero b = absurd b
+earlier_within (Interpolating t) (suc j) b = absurd b
 earlier_within l j b = b
 
--- what is asked below for entries
-pub entries_there : (m : Bool) (c : Asked) (l : Lead) (o : Bool) → Stands c l o → (fs : List Facts) (q : Demand) → Suits c q free → Entries m q → Entries (entries_below m (shape_by (head_of l)) (place 0 (before l))) (demand (shape_by (head_of l)) fs q (count (before l)))
-entries_there m c Holding v s fs q u n = tt
-entries_there m c Gathering v s fs q u n = tt
-entries_there m c (GivenLead o a) v s fs q u n = tt
-entries_there m c (Filling a) v s fs q u n = tt
-entries_there true AsValues (Listing ts) v s fs Items u n = tt
-entries_there true AsValues (Listing ts) v s fs AnEntry u n = absurd u
-entries_there true AsValues (Listing ts) v s fs q u n = absurd n
-entries_there true c (Listing ts) v s fs q u n = absurd s
-entries_there true c l v s fs q u n = tt
-entries_there false c l v s fs q u n = tt
+-- what is gathered below
+value_gathers : (q : Demand) (b : End) → Suits AsValue q b → Gathers OfValues q
+value_gathers (As w) b u = tt
+value_gathers AnEntry b u = tt
+value_gathers Callee b u = tt
+value_gathers OfType b u = tt
+value_gathers q b u = absurd u
+
+pub gathered_there : (m : Gathered) (c : Asked) (l : Lead) (o : Bool) → Stands c l o → (fs : List Facts) (q : Demand) → Suits c q free → Gathers m q → (b : End) → Suits (asked_below (head_of l) c (place 0 (before l))) (demand (shape_by (head_of l)) fs q (count (before l))) b → Gathers (gathered_below m (shape_by (head_of l)) (place 0 (before l))) (demand (shape_by (head_of l)) fs q (count (before l)))
+gathered_there OfValues AsValues (Listing ts) v s fs q u n b w = value_gathers (demand shape.Listed fs q (count ts)) b w
+gathered_there OfEntries AsValues (Listing ts) v s fs Items u n b w = tt
+gathered_there OfEntries AsValues (Listing ts) v s fs AnEntry u n b w = absurd u
+gathered_there OfEntries AsValues (Listing ts) v s fs q u n b w = absurd n
+gathered_there OfTexts AsValues (Listing ts) v s fs Texts u n b w = tt
+gathered_there OfTexts AsValues (Listing ts) v s fs (As x) u n b w = absurd u
+gathered_there OfTexts AsValues (Listing ts) v s fs q u n b w = absurd n
+gathered_there m c (Listing ts) v s fs q u n b w = absurd s
+gathered_there m c (Deciding o) v s fs q u n b w = value_gathers (demand (shape.LogicalExpression o) fs q 0) b w
+gathered_there m c (Following o a) v s fs q u n b w = value_gathers (demand (shape.LogicalExpression o) fs q 1) b w
+gathered_there m c Linking v s fs q u n b w = value_gathers (chained q) b w
+gathered_there m c l v s fs q u n b w = tt
 
 -- what `=` assigns to is never read
 abbrev pub fetching : Lead → Bool → Bool
 fetching (Storing o a) f = not (is_plain_assignment o) && f
 fetching l f = f
 
-fetching_sure : (m f : Bool) (l : Lead) → surely m f l ≡ true → surely m (fetching l f) l ≡ true
+fetching_sure : (m : Gathered) (f : Bool) (l : Lead) → surely m f l ≡ true → surely m (fetching l f) l ≡ true
 fetching_sure m f (Storing o a) e = by (is_plain_assignment o) e
   where
     by : (b : Bool) → (b || f) ≡ true → (b || (not b && f)) ≡ true
@@ -745,6 +831,28 @@ joined d out n B F G h = refl
 
 abbrev pub next : {A B : Type 0} → Completion A → (A → State → Completion B) → Completion B
 next x f = either x f (λ y z. stop y z)
+
+-- each value of a primitive Kind is textual
+textual : (k : Kind) (v : Value) → is_primitive k ≡ true → OfKind k v → Textual v
+textual IsUndefined Undefined p o = record { primitive_value = refl; text = codes "undefined"; converted = refl }
+textual IsNull Null p o = record { primitive_value = refl; text = codes "null"; converted = refl }
+textual IsBoolean (Boolean b) p o = record { primitive_value = refl; text = text_of_boolean b; converted = refl }
+textual IsNumber (Number n) p o = record { primitive_value = refl; text = signed_decimal n; converted = refl }
+textual IsString (String s) p o = record { primitive_value = refl; text = s; converted = refl }
+textual IsUndefined v p o = absurd o
+textual IsNull v p o = absurd o
+textual IsBoolean v p o = absurd o
+textual IsNumber v p o = absurd o
+textual IsString v p o = absurd o
+textual k v p o = absurd (true≢false (sym p))
+
+pub textual_part : (e : Environment) (t : Tree) → is_primitive (kind t) ≡ true → (v : Value) (s y : State) → means e t (As Val) tt s ≡ ok v y → Textual v
+unfolding Gives
+textual_part e t p v s y g = textual (kind t) v p (subst (λ x. Gives (OfKind (kind t)) x) g (kind_sound t e s))
+
+-- of some parts each of so many replies what is textual, where texts are gathered
+abbrev pub AllFine : Environment → Bool → ℕ → Trees → (ℕ → Demand) → Type 0
+AllFine e text m ps σ = (j : ℕ) → Before j m → (r : Request (σ j)) (a : Reply (σ j) r) (s t : State) → meaning e ps j (σ j) r s ≡ ok a t → Fine text (σ j) r a
 
 module _ (e : Environment) (k : ℕ) (z : Unseen (alone (Declared k)) e) where
   abbrev D : VariableSet
@@ -912,7 +1020,7 @@ module _ (e : Environment) (k : ℕ) (z : Unseen (alone (Declared k)) e) where
     first_or true e = refl
     first_or false e = e
 
-    calm_list : (i : ℕ) (ps : Trees) → AllPass false init shape.Listed i ps → AllAvoid D ps → (σ : ℕ → Demand) → AllReply σ ps → AllCalm f init (count ps) ps σ
+    calm_list : (i : ℕ) (ps : Trees) → AllPass OfValues init shape.Listed i ps → AllAvoid D ps → (σ : ℕ → Demand) → AllReply σ ps → AllCalm f init (count ps) ps σ
     unfolding meaning
     calm_list i none p a σ u zero b r m = absurd b
     calm_list i none p a σ u (suc j) b r m = absurd b
@@ -927,14 +1035,14 @@ module _ (e : Environment) (k : ℕ) (z : Unseen (alone (Declared k)) e) where
         by (inl c) = inl (field_replies e t f (constant_replies e (part t 1) c (As Val) tt tt))
         by (inr (g, h, i)) = inr (g, field_quietly e D z.shared t a f (λ s. quiet_there e (part t 1) h s))
 
-    calm_item : (t : Tree) → passes_item true init t ≡ true → Avoids D t → Calm init AnEntry (means e t AnEntry) tt
+    calm_item : (t : Tree) → passes_item OfEntries init t ≡ true → Avoids D t → Calm init AnEntry (means e t AnEntry) tt
     calm_item t p a = by (passes init t) refl p
       where
         by : (b : Bool) → passes init t ≡ b → (b || (is_field t && passes init (part t 1))) ≡ true → Calm init AnEntry (means e t AnEntry) tt
         by true c p = calm_part t c a AnEntry tt tt
         by false c p = let (f, g) = and_parts (is_field t) (passes init (part t 1)) p in calm_field t f g a
 
-    calm_items : (i : ℕ) (ps : Trees) → AllPass true init shape.Listed i ps → AllAvoid D ps → AllCalm f init (count ps) ps (λ i. AnEntry)
+    calm_items : (i : ℕ) (ps : Trees) → AllPass OfEntries init shape.Listed i ps → AllAvoid D ps → AllCalm f init (count ps) ps (λ i. AnEntry)
     unfolding meaning
     calm_items i none p a zero b r m = absurd b
     calm_items i none p a (suc j) b r m = absurd b
@@ -1027,16 +1135,24 @@ module _ (e : Environment) (k : ℕ) (z : Unseen (alone (Declared k)) e) where
     calm_key t p (suc zero) b r m = absurd b
     calm_key t p (suc (suc j)) b r m = absurd b
 
-    none_calm : (σ : ℕ → Demand) → AllCalm f init 0 none σ
-    none_calm σ zero b r m = absurd b
-    none_calm σ (suc j) b r m = absurd b
+    none_calm : (ps : Trees) (σ : ℕ → Demand) → AllCalm f init 0 ps σ
+    none_calm ps σ zero b r m = absurd b
+    none_calm ps σ (suc j) b r m = absurd b
+
+    -- what is converted to a text
+    calm_texts : (i : ℕ) (ps : Trees) → AllPass OfTexts init shape.Listed i ps → AllAvoid D ps → AllCalm f init (count ps) ps (λ i. As Val)
+    unfolding meaning
+    calm_texts i none p a zero b r m = absurd b
+    calm_texts i none p a (suc j) b r m = absurd b
+    calm_texts i (t ▸ ps) p a (suc j) b r m = calm_texts (suc i) ps p.1 a.1 j b r m
+    calm_texts i (t ▸ ps) p a zero b r m = calm_part t (and_parts (passes init t) (is_primitive (kind t)) (varied (passes init t && is_primitive (kind t)) p.0)).0 a.0 (As Val) tt r
 
     -- what is assigned to is asked for its value by another operator than `=` alone
     abbrev Fetches : Lead → Type 0
     Fetches (Storing o a) = f ≡ true → (is_plain_assignment o ≡ false) × (is_effect_free init ≡ true)
     Fetches l = Unit {0}
 
-    calm_before : (m : Bool) (l : Lead) → Fetches l → AllPass m init (shape_by (head_of l)) 0 (before l) → AllAvoid D (before l) → (fs : List Facts) (q : Demand) → Entries m q → AllReply (demand (shape_by (head_of l)) fs q) (valued_before l) → AllCalm f init (count (earlier l)) (before l) (demand (shape_by (head_of l)) fs q)
+    calm_before : (m : Gathered) (l : Lead) → Fetches l → AllPass m init (shape_by (head_of l)) 0 (before l) → AllAvoid D (before l) → (fs : List Facts) (q : Demand) → Gathers m q → AllReply (demand (shape_by (head_of l)) fs q) (valued_before l) → AllCalm f init (count (earlier l)) (before l) (demand (shape_by (head_of l)) fs q)
     calm_before m (Against o t) w p a fs q n u = calm_one t none p.0 a.0 (λ i. As Val) u.0
     calm_before m (GivenLead o t) w p a fs q n u = calm_one t none p.0 a.0 (first_demand Callee Items) u.0
     calm_before m (Filling t) w p a fs q n u = calm_one t none p.0 a.0 (first_demand (As Val) Items) u.0
@@ -1047,11 +1163,30 @@ module _ (e : Environment) (k : ℕ) (z : Unseen (alone (Declared k)) e) where
     calm_before m (Storing o t) w p a fs q n u = calm_assigned o t w p.0 a.0
     calm_before m (Fielding false t) w p a fs q n u = calm_key t (varied (is_word (shape_of t)) p.0)
     calm_before m (Fielding true t) w p a fs q n u = absurd (true≢false (sym (varied false p.0)))
-    calm_before false (Listing ts) w p a fs q n u = calm_list 0 ts p a (demand shape.Listed fs q) u
-    calm_before true (Listing ts) w p a fs Items n u = calm_items 0 ts p a
-    calm_before true (Listing ts) w p a fs AnEntry n u = calm_unasked ts (demand shape.Listed fs AnEntry) (λ r. r) u
-    calm_before true (Listing ts) w p a fs q n u = absurd n
-    calm_before m l w p a fs q n u = none_calm (demand (shape_by (head_of l)) fs q)
+    calm_before OfValues (Listing ts) w p a fs q n u = calm_list 0 ts p a (demand shape.Listed fs q) u
+    calm_before OfEntries (Listing ts) w p a fs Items n u = calm_items 0 ts p a
+    calm_before OfEntries (Listing ts) w p a fs AnEntry n u = calm_unasked ts (demand shape.Listed fs AnEntry) (λ r. r) u
+    calm_before OfEntries (Listing ts) w p a fs q n u = absurd n
+    calm_before OfTexts (Listing ts) w p a fs Texts n u = calm_texts 0 ts p a
+    calm_before OfTexts (Listing ts) w p a fs (As v) n u = calm_unasked ts (demand shape.Listed fs (As v)) (λ r. r) u
+    calm_before OfTexts (Listing ts) w p a fs q n u = absurd n
+    calm_before m l w p a fs q n u = none_calm (before l) (demand (shape_by (head_of l)) fs q)
+
+    -- what is replied where texts are gathered is textual
+    fine_texts : (i : ℕ) (ps : Trees) → AllPass OfTexts init shape.Listed i ps → AllFine e true (count ps) ps (λ i. As Val)
+    unfolding meaning
+    fine_texts i none p zero b r v s t g = absurd b
+    fine_texts i none p (suc j) b r v s t g = absurd b
+    fine_texts i (u ▸ ps) p (suc j) b r v s t g = fine_texts (suc i) ps p.1 j b r v s t g
+    fine_texts i (u ▸ ps) p zero b r v s t g = textual_part e u (and_parts (passes init u) (is_primitive (kind u)) (varied (passes init u && is_primitive (kind u)) p.0)).1 v s t g
+
+    fine_before : (m : Gathered) (l : Lead) → AllPass m init (shape_by (head_of l)) 0 (before l) → (fs : List Facts) (q : Demand) → Gathers m q → AllFine e (texts_in m l) (count (earlier l)) (before l) (demand (shape_by (head_of l)) fs q)
+    fine_before OfTexts (Listing ts) p fs Texts n = fine_texts 0 ts p
+    fine_before OfTexts (Listing ts) p fs (As w) n = λ j b r a s t g. tt
+    fine_before OfTexts (Listing ts) p fs q n = absurd n
+    fine_before OfValues (Listing ts) p fs q n = λ j b r a s t g. tt
+    fine_before OfEntries (Listing ts) p fs q n = λ j b r a s t g. tt
+    fine_before m l p fs q n = λ j b r a s t g. tt
 
   module _ {A : Type 0} (init : Tree) (s : State) where
     abbrev Started : (Value → State → Completion A) → Completion A
@@ -1066,9 +1201,9 @@ module _ (e : Environment) (k : ℕ) (z : Unseen (alone (Declared k)) e) where
     with_value out h f y g = weak D y
 
     -- two that do nothing but reply
-    quiet_both : {R : Type 0} (z : State) (x y : Completion R) → Quiet z x → Quiet s y → Go x y → (F G : R → State → Completion A) (f g : Stop → State → Completion A) → ((a : R) → Go (F a z) (G a s)) → Go (either x F f) (either y G g)
+    quiet_both : {R : Type 0} (z : State) (x y : Completion R) → Quiet z x → Quiet s y → Go x y → (F G : R → State → Completion A) (f g : Stop → State → Completion A) → ((a : R) → x ≡ ok a z → Go (F a z) (G a s)) → Go (either x F f) (either y G g)
     unfolding Quiet either Goes
-    quiet_both z (ok a v) (ok b w) m n o F G f g h = subst₂ Go (λ i. F a (sym m i)) (λ i. G (o.0 i) (sym n i)) (h a)
+    quiet_both z (ok a v) (ok b w) m n o F G f g h = subst₂ Go (λ i. F a (sym m i)) (λ i. G (o.0 i) (sym n i)) (h a (ap (ok a) m))
     quiet_both z (ok a v) (stop b w) m n o F G f g h = absurd n
     quiet_both z (ok a v) (halt b w) m n o F G f g h = absurd n
     quiet_both z (ok a v) out m n o F G f g h = absurd o
@@ -1076,18 +1211,18 @@ module _ (e : Environment) (k : ℕ) (z : Unseen (alone (Declared k)) e) where
     quiet_both z (halt a v) y m n o F G f g h = absurd m
     quiet_both z out y m n o F G f g h = weak D (either y G g)
 
-    passed_goes : (q : Demand) (m : Does q) (r : Request q) → Calm init q m r → (F G : Reply q r → State → Completion A) (f g : Stop → State → Completion A) → ((a : Reply q r) → Go (Started (λ v t. F a t)) (G a s)) → Go (Started (λ v t. either (m r t) F f)) (either (m r s) G g)
+    passed_goes : (q : Demand) (m : Does q) (r : Request q) → Calm init q m r → (F G : Reply q r → State → Completion A) (f g : Stop → State → Completion A) → ((a : Reply q r) (z : State) → m r z ≡ ok a z → Go (Started (λ v t. F a t)) (G a s)) → Go (Started (λ v t. either (m r t) F f)) (either (m r s) G g)
     passed_goes q m r (inl c) F G f g h =
         let (a, is) = c in
-        subst₂ Go (either_cong (means e init (As Val) tt s) _ _ _ _ (λ v t. sym (ap (λ x. either x F f) (is (after v t)) ∙ either_ok a (after v t) F f)) (λ y t. refl)) (sym (ap (λ x. either x G g) (is s) ∙ either_ok a s G g)) (h a)
+        subst₂ Go (either_cong (means e init (As Val) tt s) _ _ _ _ (λ v t. sym (ap (λ x. either x F f) (is (after v t)) ∙ either_ok a (after v t) F f)) (λ y t. refl)) (sym (ap (λ x. either x G g) (is s) ∙ either_ok a s G g)) (h a s (is s))
     passed_goes q m r (inr (free, n)) F G f g h =
         with_value (means e init (As Val) tt s) (quiet_there e init free s) (λ v t. either (m r t) F f) (either (m r s) G g)
         (λ v is. quiet_both (after v s) (m r (after v s)) (m r s) (n.quiet (after v s)) (n.quiet s) (n.same (after v s) s (agrees v s)) F G f g
-        (λ a. subst (λ c. Go c (G a s)) (ap (λ x. next x (λ v t. F a (after v t))) is ∙ either_ok v s (λ v t. F a (after v t)) (λ y z. stop y z)) (h a)))
+        (λ a g. subst (λ c. Go c (G a s)) (ap (λ x. next x (λ v t. F a (after v t))) is ∙ either_ok v s (λ v t. F a (after v t)) (λ y z. stop y z)) (h a (after v s) g)))
 
   -- ---- a node, with the expression in the place of the read
 
-  module _ (h : Shape) (q : Demand) (is : List Summary) (σ : ℕ → Demand) (ps : Trees) (t u : Tree) (ts : Trees) (init : Tree) (first : AllAvoid D ps) (last : AllAvoid D ts) (f : Bool) (idle : f ≡ true → is_effect_free init ≡ true) (m : ℕ) (within : (j : ℕ) → Before j m → Before j (count ps)) (calm : AllCalm f init m ps σ)
+  module _ (h : Shape) (q : Demand) (is : List Summary) (σ : ℕ → Demand) (ps : Trees) (t u : Tree) (ts : Trees) (init : Tree) (first : AllAvoid D ps) (last : AllAvoid D ts) (f : Bool) (idle : f ≡ true → is_effect_free init ≡ true) (m : ℕ) (within : (j : ℕ) → Before j m → Before j (count ps)) (calm : AllCalm f init m ps σ) (text : Bool) (fine : AllFine e text m ps σ)
       (d : Bool) (ends : (s : State) → Ending d (means e init (As Val) tt s)) (alike : Alike (σ (count ps)) t u) (inner : (r : Request (σ (count ps))) → Opens (σ (count ps)) r → (s : State) → Go (next (means e init (As Val) tt s) (λ v z. means e t (σ (count ps)) r (after v z))) (means e u (σ (count ps)) r s)) where
     abbrev runs : {A : Type 0} → Tree → Command σ A → State → Completion A
     runs w c y = run e (naming h q [] 0 is) (λ i r z. meaning e (append ps (w ▸ ts)) i (σ i) r z) c y
@@ -1124,7 +1259,7 @@ module _ (e : Environment) (k : ℕ) (z : Unseen (alone (Declared k)) e) where
     gone : {A : Type 0} (c : Command σ A) → is_effect_free init ≡ true → Later (count ps) c → Reached c
     gone c free l s = with_value init s (means e init (As Val) tt s) (quiet_there e init free s) (λ v y. runs t c y) (runs u c s) (λ v known. later_goes h q is ps t u ts first last alike c l (after v s) s (agrees v s))
 
-    pub reach_goes : {A : Type 0} (c : Command σ A) → Reaches f d m (count ps) c → Reached c
+    pub reach_goes : {A : Type 0} (c : Command σ A) → Reaches text f d m (count ps) c → Reached c
     reach_goes {A} (kid j r c) (inl l) s =
         let F = λ (a : Reply (σ j) r) (y : State). runs t (c (done a)) y in
         let G = λ (a : Reply (σ j) r) (y : State). runs u (c (done a)) y in
@@ -1132,7 +1267,7 @@ module _ (e : Environment) (k : ℕ) (z : Unseen (alone (Declared k)) e) where
         let others_stopped = λ (x : Stop) (y : State). runs u (c (ended x)) y in
         let b = within j l.0.0 in
         subst₂ Go (either_cong (means e init (As Val) tt s) _ _ _ _ (λ v y. ap (λ x. either x F stopped) (sym (front_is ps t ts j b (σ j) r (after v y)))) (λ x y. refl)) (ap (λ x. either x G others_stopped) (sym (front_is ps u ts j b (σ j) r s)))
-        (passed_goes init s (σ j) (front ps σ j) r (calm j l.0.0 r l.0.1) F G stopped others_stopped (λ a. reach_goes (c (done a)) (l.1 a) s))
+        (passed_goes init s (σ j) (front ps σ j) r (calm j l.0.0 r l.0.1) F G stopped others_stopped (λ a y g. reach_goes (c (done a)) (l.1 a (fine j l.0.0 r a y y g)) s))
     reach_goes (kid j r c) (inr (inl l)) s = hit_there j l.here r l.opens c l.stops l.stopped_later l.later s
     reach_goes (kid j r c) (inr (inr l)) s = gone (kid j r c) (idle l.0) l.1 s
     reach_goes (ret a) l s = gone (ret a) (idle l.0) l.1 s
@@ -1192,6 +1327,7 @@ module _ (e : Environment) (k : ℕ) (z : Unseen (alone (Declared k)) e) where
     settled_goes AsValue ss w f OfType b u = λ r h s y g. absurd h
     settled_goes AsValues ss w f (Parts v) b u = λ r h s y g. absurd h
     settled_goes AsValues ss w f Items b u = λ r h s y g. absurd h
+    settled_goes AsValues ss w f Texts b u = λ r h s y g. absurd h
     settled_goes AsWholeItem ss w f (Stat None) b u = λ r h s y g. absurd h
     settled_goes c ss w f q b u = absurd u
 
@@ -1207,7 +1343,7 @@ module _ (e : Environment) (k : ℕ) (z : Unseen (alone (Declared k)) e) where
     fetches (Storing o a) = λ m. fetches_by (is_plain_assignment o) (is_effect_free init) m
     fetches l = tt
 
-    pub first_goes : (m : Bool) (c : Asked) (ss : List Step) → Well c ss → Spared x ss → PassedIn m init spelling ss → (q : Demand) → Suits c q (end_of spelling init ss) → Entries m q → (r : Request q) → Opens q r → (s : State) → Go (next (means e init (As Val) tt s) (λ v t. means e (led ss read) q r (after v t))) (means e (led ss init) q r s)
+    pub first_goes : (m : Gathered) (c : Asked) (ss : List Step) → Well c ss → Spared x ss → PassedIn m init spelling ss → (q : Demand) → Suits c q (end_of spelling init ss) → Gathers m q → (r : Request q) → Opens q r → (s : State) → Go (next (means e init (As Val) tt s) (λ v t. means e (led ss read) q r (after v t))) (means e (led ss init) q r s)
     first_goes m AsValue [] w f p (As v) u n r o s = read_goes spelling init v s
     first_goes m AsValue [] w f p AnEntry u n r o s = entry_goes spelling init item s
     first_goes m AsValue [] w f p Callee u n r o s = callee_goes spelling init u s
@@ -1228,5 +1364,5 @@ module _ (e : Environment) (k : ℕ) (z : Unseen (alone (Declared k)) e) where
         let there = λ (y : State). node_is h q r (kids read) y in
         let put : means e (led (s ∷ ss) init) q r z ≡ by_summaries h q r is (kids init) z = node_is h q r (kids init) z ∙ ap (λ i. by_summaries h q r i (kids init) z) (sym (summaries_led s ss read init plain)) in
         subst₂ Go (sym (either_cong (means e init (As Val) tt z) _ _ _ _ (λ v y. there (after v y)) (λ y p. refl))) (sym put)
-        (reach_goes h q is σ ps (led ss read) (led ss init) s.rest init first last g (fetching_free (is_effect_free init) s.lead) (count (earlier s.lead)) (earlier_within s.lead) (calm_before g init varies m s.lead (fetches s.lead) p.0.0 first (facts_all is) q n a.first) (is_calm init) (λ s'. init_ends e init s') (settled_goes x named spelling init plain (asked_below (head_of s.lead) c (place 0 ps)) ss w.1 f.1 (σ (count ps)) (end_of spelling init ss) a.below)
-        (λ r' o' s'. first_goes (entries_below m h (place 0 ps)) (asked_below (head_of s.lead) c (place 0 ps)) ss w.1 f.1 p.1 (σ (count ps)) a.below (entries_there m c s.lead (is_end ss) w.0 (facts_all is) q u n) r' o' s') (step h [] (facts_all is) q r) (a.reaches (fetching_sure m (is_effect_free init) s.lead sure)) z)
+        (reach_goes h q is σ ps (led ss read) (led ss init) s.rest init first last g (fetching_free (is_effect_free init) s.lead) (count (earlier s.lead)) (earlier_within s.lead) (calm_before g init varies m s.lead (fetches s.lead) p.0.0 first (facts_all is) q n a.first) (texts_in m s.lead) (fine_before g init varies m s.lead p.0.0 (facts_all is) q n) (is_calm init) (λ s'. init_ends e init s') (settled_goes x named spelling init plain (asked_below (head_of s.lead) c (place 0 ps)) ss w.1 f.1 (σ (count ps)) (end_of spelling init ss) a.below)
+        (λ r' o' s'. first_goes (gathered_below m h (place 0 ps)) (asked_below (head_of s.lead) c (place 0 ps)) ss w.1 f.1 p.1 (σ (count ps)) a.below (gathered_there m c s.lead (is_end ss) w.0 (facts_all is) q u n (end_of spelling init ss) a.below) r' o' s') (step h [] (facts_all is) q r) (a.reaches (fetching_sure m (is_effect_free init) s.lead sure)) z)

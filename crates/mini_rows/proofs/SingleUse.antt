@@ -23,11 +23,11 @@ use Rattle.mini_node.specs.Children.{part, is_bare, rest_children}
 use Rattle.mini_node.specs.Kinds.{is_identifier}
 use Rattle.mini_terms.specs.Folds.{is_effect_free}
 use Rattle.mini_terms.specs.Reading.{is_typed_by_value}
-use Rattle.mini_rows.specs.Sketches.{Head, AList, Update, target_asked, AsTarget, AsUpdated, Array, Unary, Binary, Logical, Conditional, Sequence, Call, New, StaticMember, ComputedMember, Chain, Yield, Object, Property, Spread, Assignment, OfExpression, Throw, Return, If, shape_by, Asked, AsWholeItem, AsValue, AsValues, asked_below, Leap}
+use Rattle.mini_rows.specs.Sketches.{Head, AList, Update, target_asked, AsTarget, AsUpdated, Array, Unary, Binary, Logical, Conditional, Sequence, Call, New, StaticMember, ComputedMember, Chain, Yield, Object, Property, Spread, Interpolation, Assignment, OfExpression, Throw, Return, If, shape_by, Asked, AsWholeItem, AsValue, AsValues, asked_below, Leap}
 use Rattle.mini_rows.specs.Lists.{declaration, Each, EachIn, EachOf, each_loop}
 use Rattle.mini_rows.specs.Declarations.{declarator}
 use Rattle.mini_rows.specs.Chains.{is_calm}
-use Rattle.mini_rows.specs.Unused.{is_like_one, is_member_shape, is_member, names, any_names, begins, goes_on, may_go_on, has_branches, leads, holds_list, is_childless, is_own_key, can_be_full, in_full, may_hold, reads, is_first, leads_to, put_first, put_among, is_constant, passes_at, is_plain_assignment, is_sure, is_placed, entries_below, begins_with, is_reached, is_number_shape, is_called_by_value, suits, are_passed_in, are_passed, all_passed, reads_first, is_declarator, declares_list, reads_declarator, reads_declarators, reads_initially, reads_outside, is_open_left, reads_over, reads_head, evaluated}
+use Rattle.mini_rows.specs.Unused.{is_like_one, is_member_shape, is_member, names, any_names, begins, goes_on, may_go_on, has_branches, leads, has_arguments, holds_list, is_childless, is_own_key, can_be_full, in_full, may_hold, reads, is_first, leads_to, put_first, put_among, is_constant, passes_at, is_plain_assignment, is_sure, is_placed, Gathered, OfValues, of_entries, gathered_below, begins_with, is_reached, is_number_shape, is_called_by_value, suits, are_passed_in, are_passed, all_passed, reads_first, is_declarator, declares_list, reads_declarator, reads_declarators, reads_initially, reads_outside, is_open_left, reads_over, reads_head, evaluated}
 use Rattle.mini_rows.proofs.Arranging.{Plain, Below, sum_below, Local, Summed}
 use Rattle.mini_rows.proofs.ListKeptHeads.{Seat, Loop, Choice, seated, rest}
 
@@ -62,6 +62,8 @@ pub data Lead : Type 0 where
   Given : Bool → Tree → Lead
   Filling : Tree → Lead
   Keying : Bool → Tree → Lead
+  -- after the texts of a template, which aren't evaluated
+  Interpolating : Tree → Lead
   -- after the parts before, or not at all
   Following : LogicalOperator → Tree → Lead
   Branching : Tree → Lead
@@ -105,6 +107,7 @@ head_of (Against o a) = Binary o
 head_of (Given o a) = Call o
 head_of (Filling a) = New
 head_of (Keying o a) = ComputedMember o
+head_of (Interpolating a) = Interpolation
 head_of (Following o a) = Logical o
 head_of (Branching a) = Conditional
 head_of (Failing a b) = Conditional
@@ -122,6 +125,7 @@ before (Against o a) = a ▸ none
 before (Given o a) = a ▸ none
 before (Filling a) = a ▸ none
 before (Keying o a) = a ▸ none
+before (Interpolating a) = a ▸ none
 before (Following o a) = a ▸ none
 before (Branching a) = a ▸ none
 before (Failing a b) = a ▸ (b ▸ none)
@@ -131,14 +135,14 @@ before (Listing ts) = ts
 before l = none
 
 -- it is evaluated whatever the parts before are; where nothing is lost by it, it may be left out
-abbrev pub surely : Bool → Bool → Lead → Bool
+abbrev pub surely : Gathered → Bool → Lead → Bool
 surely m is_free (Following o a) = is_free
 surely m is_free (Branching a) = is_free
 surely m is_free (Failing a b) = is_free
 surely m is_free (Storing o a) = is_plain_assignment o || is_free
-surely m is_free (Fielding c a) = not c && (m || is_free)
-surely m is_free Spreading = m || is_free
-surely m is_free Bracketing = m || is_free
+surely m is_free (Fielding c a) = not c && (of_entries m || is_free)
+surely m is_free Spreading = of_entries m || is_free
+surely m is_free Bracketing = of_entries m || is_free
 surely m is_free (Given o a) = not o || is_free
 surely m is_free (Keying o a) = not o || is_free
 surely m is_free l = true
@@ -224,6 +228,7 @@ Stands AsValue (Against o a) at_end = Unit {0}
 Stands AsValue (Given o a) at_end = Unit {0}
 Stands AsValue (Filling a) at_end = Unit {0}
 Stands AsValue (Keying o a) at_end = Unit {0}
+Stands AsValue (Interpolating a) at_end = at_end ≡ false
 Stands AsValue (Following o a) at_end = Unit {0}
 Stands AsValue (Branching a) at_end = Unit {0}
 Stands AsValue (Failing a b) at_end = Unit {0}
@@ -248,12 +253,12 @@ Spared x [] = Unit {0}
 Spared x (s ∷ ss) = ((any_names x (before s.lead) ≡ false) × (any_names x s.rest ≡ false)) × Spared x ss
 
 -- each of these, from a place on, may be evaluated before r
-abbrev pub AllPass : Bool → Tree → Shape → ℕ → Trees → Type 0
+abbrev pub AllPass : Gathered → Tree → Shape → ℕ → Trees → Type 0
 AllPass m r h i none = Unit {0}
 AllPass m r h i (t ▸ ts) = (passes_at m r h i t ≡ true) × AllPass m r h (suc i) ts
 
 -- it is evaluated whatever they are, or nothing is lost
-abbrev pub Sure : Bool → Tree → Lead → Type 0
+abbrev pub Sure : Gathered → Tree → Lead → Type 0
 Sure m r l = (is_constant r || surely m (is_effect_free r) l) ≡ true
 
 -- r may stand there
@@ -327,12 +332,12 @@ allows y r l [] e f = allows_end y r l e f
 allows y r l (s ∷ ss) e f = allows_free l
 
 -- what is evaluated before the read of a name with this spelling may be evaluated before r, which may stand there
-abbrev pub PassedIn : Bool → Tree → List ℕ → List Step → Type 0
+abbrev pub PassedIn : Gathered → Tree → List ℕ → List Step → Type 0
 PassedIn m r spelling [] = Unit {0}
-PassedIn m r spelling (s ∷ ss) = (AllPass m r (shape_by (head_of s.lead)) 0 (before s.lead) × Sure m r s.lead × Allows s.lead (end_of spelling r ss) × (whole r s.lead ≡ true)) × PassedIn (entries_below m (shape_by (head_of s.lead)) (place 0 (before s.lead))) r spelling ss
+PassedIn m r spelling (s ∷ ss) = (AllPass m r (shape_by (head_of s.lead)) 0 (before s.lead) × Sure m r s.lead × Allows s.lead (end_of spelling r ss) × (whole r s.lead ≡ true)) × PassedIn (gathered_below m (shape_by (head_of s.lead)) (place 0 (before s.lead))) r spelling ss
 
 abbrev pub Passed : Tree → List ℕ → List Step → Type 0
-Passed = PassedIn false
+Passed = PassedIn OfValues
 
 -- ---- a tree as such a path
 
@@ -346,8 +351,8 @@ pub record Path (x : Name) (c : Asked) (t : Tree) : Type 0 where
   pub is : t ≡ found steps (identifier read)
   pub puts : (r : Tree) → put_first x r t ≡ led steps r
   pub ends : is_end steps ≡ is_childless t
-  pub passed_in : (m : Bool) (r : Tree) → are_passed_in x m r t ≡ true → PassedIn m r read.spelling steps
-  pub suit_in : (m : Bool) (r : Tree) → are_passed_in x m r t ≡ true → Suited r steps
+  pub passed_in : (m : Gathered) (r : Tree) → are_passed_in x m r t ≡ true → PassedIn m r read.spelling steps
+  pub suit_in : (m : Gathered) (r : Tree) → are_passed_in x m r t ≡ true → Suited r steps
 
 abbrev asked : Bool → Asked
 asked true = AsValues
@@ -387,7 +392,7 @@ record Leads (b : Bool) (t : Tree) (h : Shape) (ts : Trees) : Type 0 where
   stands : Stands (asked b) lead (is_childless t)
   below : Reads t (asked_below (head_of lead) (asked b) (place 0 (before lead))) (holds_list h (place 0 ts))
   direct : indirect lead t ≡ true
-  sure : (m f : Bool) → (is_placed m f h && (is_sure f h || is_empty ts)) ≡ true → surely m f lead ≡ true
+  sure : (m : Gathered) (f : Bool) → (is_placed m f h && (is_sure f h || is_empty ts)) ≡ true → surely m f lead ≡ true
   suit : (x : Name) (r : Tree) (us : Trees) → names x t ≡ true → suits x r h (append ts (t ▸ us)) ≡ true → suited r lead (is_childless t) ≡ true
 
 sure_there : (a : Bool) → (a || false) ≡ true → a ≡ true
@@ -432,8 +437,8 @@ begun_by t (shape.CallExpression o) e = record { lead = Called o; is_short = fal
 begun_by t shape.NewExpression e = record { lead = Making; is_short = false; is = refl; full = refl; front = refl; stands = tt; below = inl refl; direct = refl; sure = λ m f q. refl; suit = λ x r us n e. refl }
 begun_by t shape.ArrayExpression e = record { lead = Holding; is_short = false; is = refl; full = refl; front = refl; stands = tt; below = inl refl; direct = refl; sure = λ m f q. refl; suit = λ x r us n e. refl }
 begun_by t shape.ObjectExpression e = record { lead = Gathering; is_short = false; is = refl; full = refl; front = refl; stands = tt; below = inl refl; direct = refl; sure = λ m f q. refl; suit = λ x r us n e. refl }
-begun_by t shape.SpreadElement e = record { lead = Spreading; is_short = false; is = refl; full = refl; front = refl; stands = tt; below = inl refl; direct = refl; sure = λ m f q. placed_there (m || f) true q; suit = λ x r us n e. refl }
-begun_by t (shape.ObjectProperty Init false false true) e = record { lead = Bracketing; is_short = false; is = refl; full = refl; front = refl; stands = tt; below = inl refl; direct = refl; sure = λ m f q. placed_there (m || f) true q; suit = λ x r us n e. refl }
+begun_by t shape.SpreadElement e = record { lead = Spreading; is_short = false; is = refl; full = refl; front = refl; stands = tt; below = inl refl; direct = refl; sure = λ m f q. placed_there (of_entries m || f) true q; suit = λ x r us n e. refl }
+begun_by t (shape.ObjectProperty Init false false true) e = record { lead = Bracketing; is_short = false; is = refl; full = refl; front = refl; stands = tt; below = inl refl; direct = refl; sure = λ m f q. placed_there (of_entries m || f) true q; suit = λ x r us n e. refl }
 begun_by t (shape.YieldExpression d) e = record { lead = Waiting d; is_short = false; is = refl; full = refl; front = refl; stands = tt; below = inl refl; direct = refl; sure = λ m f q. refl; suit = λ x r us n e. refl }
 begun_by t (shape.StaticMemberExpression o) e = record { lead = Member o; is_short = false; is = refl; full = refl; front = refl; stands = tt; below = inl refl; direct = refl; sure = λ m f q. refl; suit = λ x r us n e. refl }
 begun_by t shape.ChainExpression e = record { lead = Linking; is_short = false; is = refl; full = refl; front = refl; stands = not_leaf (is_childless t) e; below = inl refl; direct = e; sure = λ m f q. refl; suit = λ x r us n e. (and_parts (not (is_childless t && names x t) || true) (is_calm r) e).1 }
@@ -442,16 +447,17 @@ begun_by t (shape.AssignmentExpression o) e = record { lead = Targeted o; is_sho
 begun_by t (shape.UpdateExpression o p) e = record { lead = Changing o p; is_short = false; is = refl; full = refl; front = refl; stands = no_leaf t e; below = inr (e, refl, inr refl); direct = refl; sure = λ m f q. refl; suit = λ x r us n e. refl }
 begun_by t h e = absurd (true≢false (sym e))
 
-gone_on_by : (t : Tree) (h : Shape) (a : Tree) (us : Trees) → can_be_full (node h [] 0 (a ▸ (t ▸ us))) ≡ true → (goes_on h || may_go_on h) ≡ true → Leads false t h (a ▸ none)
-gone_on_by t (shape.BinaryExpression o) a us k e = record { lead = Against o a; is_short = false; is = refl; full = refl; front = refl; stands = tt; below = inl refl; direct = refl; sure = λ m f q. refl; suit = λ x r us n e. refl }
-gone_on_by t (shape.CallExpression o) a us k e = record { lead = Given o a; is_short = false; is = refl; full = refl; front = refl; stands = tt; below = inl refl; direct = refl; sure = λ m f q. optional_there o f q; suit = λ x r us n e. refl }
-gone_on_by t shape.NewExpression a us k e = record { lead = Filling a; is_short = false; is = refl; full = refl; front = refl; stands = tt; below = inl refl; direct = refl; sure = λ m f q. refl; suit = λ x r us n e. refl }
-gone_on_by t (shape.ComputedMemberExpression o) a us k e = record { lead = Keying o a; is_short = false; is = refl; full = refl; front = refl; stands = tt; below = inl refl; direct = refl; sure = λ m f q. optional_there o f q; suit = λ x r us n e. refl }
-gone_on_by t (shape.LogicalExpression o) a us k e = record { lead = Following o a; is_short = false; is = refl; full = refl; front = refl; stands = tt; below = inl refl; direct = refl; sure = λ m f q. sure_there f q; suit = λ x r us n e. refl }
-gone_on_by t shape.ConditionalExpression a us k e = record { lead = Branching a; is_short = false; is = refl; full = refl; front = refl; stands = tt; below = inl refl; direct = refl; sure = λ m f q. sure_there f q; suit = λ x r us n e. refl }
-gone_on_by t (shape.AssignmentExpression o) a us k e = record { lead = Storing o a; is_short = false; is = refl; full = refl; front = refl; stands = tt; below = inl refl; direct = refl; sure = λ m f q. sure_there (is_plain_assignment o || f) q; suit = λ x r us n e. refl }
-gone_on_by t (shape.ObjectProperty Init false false d) a us k e = record { lead = Fielding d a; is_short = false; is = refl; full = refl; front = refl; stands = tt; below = inl refl; direct = refl; sure = λ m f q. placed_further (m || f) (not d) q; suit = λ x r us n e. refl }
-gone_on_by t (shape.ObjectProperty Init false true false) a us k e =
+gone_on_by : (t : Tree) (h : Shape) (a : Tree) (us : Trees) → (has_arguments h ≡ true → is_childless t ≡ false) → can_be_full (node h [] 0 (a ▸ (t ▸ us))) ≡ true → (goes_on h || may_go_on h) ≡ true → Leads false t h (a ▸ none)
+gone_on_by t (shape.BinaryExpression o) a us w k e = record { lead = Against o a; is_short = false; is = refl; full = refl; front = refl; stands = tt; below = inl refl; direct = refl; sure = λ m f q. refl; suit = λ x r us n e. refl }
+gone_on_by t (shape.CallExpression o) a us w k e = record { lead = Given o a; is_short = false; is = refl; full = refl; front = refl; stands = tt; below = inl refl; direct = refl; sure = λ m f q. optional_there o f q; suit = λ x r us n e. refl }
+gone_on_by t shape.NewExpression a us w k e = record { lead = Filling a; is_short = false; is = refl; full = refl; front = refl; stands = tt; below = inl refl; direct = refl; sure = λ m f q. refl; suit = λ x r us n e. refl }
+gone_on_by t (shape.ComputedMemberExpression o) a us w k e = record { lead = Keying o a; is_short = false; is = refl; full = refl; front = refl; stands = tt; below = inl refl; direct = refl; sure = λ m f q. optional_there o f q; suit = λ x r us n e. refl }
+gone_on_by t shape.TemplateLiteral a us w k e = record { lead = Interpolating a; is_short = false; is = refl; full = refl; front = refl; stands = w refl; below = inl refl; direct = refl; sure = λ m f q. refl; suit = λ x r us n e. refl }
+gone_on_by t (shape.LogicalExpression o) a us w k e = record { lead = Following o a; is_short = false; is = refl; full = refl; front = refl; stands = tt; below = inl refl; direct = refl; sure = λ m f q. sure_there f q; suit = λ x r us n e. refl }
+gone_on_by t shape.ConditionalExpression a us w k e = record { lead = Branching a; is_short = false; is = refl; full = refl; front = refl; stands = tt; below = inl refl; direct = refl; sure = λ m f q. sure_there f q; suit = λ x r us n e. refl }
+gone_on_by t (shape.AssignmentExpression o) a us w k e = record { lead = Storing o a; is_short = false; is = refl; full = refl; front = refl; stands = tt; below = inl refl; direct = refl; sure = λ m f q. sure_there (is_plain_assignment o || f) q; suit = λ x r us n e. refl }
+gone_on_by t (shape.ObjectProperty Init false false d) a us w k e = record { lead = Fielding d a; is_short = false; is = refl; full = refl; front = refl; stands = tt; below = inl refl; direct = refl; sure = λ m f q. placed_further (of_entries m || f) (not d) q; suit = λ x r us n e. refl }
+gone_on_by t (shape.ObjectProperty Init false true false) a us w k e =
     let (own, bare) = and_parts (is_own_key a) (is_childless t) (and_parts (is_bare (node (shape.ObjectProperty Init false true false) [] 0 (a ▸ (t ▸ us))) 2) (is_own_key a && is_childless t) k).1 in
     record {
       lead = Fielding false a;
@@ -462,10 +468,10 @@ gone_on_by t (shape.ObjectProperty Init false true false) a us k e =
       stands = tt;
       below = inl refl;
       direct = refl;
-      sure = λ m f q. placed_further (m || f) true q;
+      sure = λ m f q. placed_further (of_entries m || f) true q;
       suit = λ x r us n e. refl;
     }
-gone_on_by t h a us k e = absurd (true≢false (sym e))
+gone_on_by t h a us w k e = absurd (true≢false (sym e))
 
 branched_by : (t : Tree) (h : Shape) (a b : Tree) → has_branches h ≡ true → Leads false t h (a ▸ (b ▸ none))
 branched_by t shape.ConditionalExpression a b e = record { lead = Failing a b; is_short = false; is = refl; full = refl; front = refl; stands = tt; below = inl refl; direct = refl; sure = λ m f q. sure_there f q; suit = λ x r us n e. refl }
@@ -482,13 +488,13 @@ no_list_of : (i : ℕ) → holds_list shape.Listed i ≡ false
 no_list_of zero = refl
 no_list_of (suc i) = refl
 
-lead_by : (b : Bool) (t : Tree) (h : Shape) (ts us : Trees) → can_be_full (node h [] 0 (append ts (t ▸ us))) ≡ true → leads b h (place 0 ts) t ≡ true → Leads b t h ts
-lead_by true t shape.Listed ts us k e = record { lead = Listing ts; is_short = false; is = refl; full = refl; front = refl; stands = tt; below = inl (ap asked (sym (no_list_of (place 0 ts)))); direct = refl; sure = λ m f q. refl; suit = λ x r us n e. refl }
-lead_by true t h ts us k e = absurd (true≢false (sym e))
-lead_by false t h none us k e = begun_by t h e
-lead_by false t h (a ▸ none) us k e = gone_on_by t h a us k e
-lead_by false t h (a ▸ (b ▸ none)) us k e = branched_by t h a b e
-lead_by false t h (a ▸ (b ▸ (d ▸ ts))) us k e = absurd (no_later h t (place 0 ts) (sym (ap (λ i. leads false h i t) (place_next 2 ts ∙ ap suc (place_next 1 ts ∙ ap suc (place_next 0 ts)))) ∙ e))
+lead_by : (b : Bool) (t : Tree) (h : Shape) (ts us : Trees) → (holds_list h (place 0 ts) ≡ true → is_childless t ≡ false) → can_be_full (node h [] 0 (append ts (t ▸ us))) ≡ true → leads b h (place 0 ts) t ≡ true → Leads b t h ts
+lead_by true t shape.Listed ts us w k e = record { lead = Listing ts; is_short = false; is = refl; full = refl; front = refl; stands = tt; below = inl (ap asked (sym (no_list_of (place 0 ts)))); direct = refl; sure = λ m f q. refl; suit = λ x r us n e. refl }
+lead_by true t h ts us w k e = absurd (true≢false (sym e))
+lead_by false t h none us w k e = begun_by t h e
+lead_by false t h (a ▸ none) us w k e = gone_on_by t h a us w k e
+lead_by false t h (a ▸ (b ▸ none)) us w k e = branched_by t h a b e
+lead_by false t h (a ▸ (b ▸ (d ▸ ts))) us w k e = absurd (no_later h t (place 0 ts) (sym (ap (λ i. leads false h i t) (place_next 2 ts ∙ ap suc (place_next 1 ts ∙ ap suc (place_next 0 ts)))) ∙ e))
 
 not_true : (b : Bool) → not b ≡ true → b ≡ false
 not_true true e = absurd (true≢false (sym e))
@@ -510,7 +516,7 @@ record Among (x : Name) (b : Bool) (h : Shape) (i : ℕ) (ts : Trees) : Type 0 w
   mentions : names x one ≡ true
   path : Path x (asked (holds_list h (place i first))) one
   puts : (r : Tree) → put_among x r ts ≡ append first (put_first x r one ▸ rest)
-  passed : (m : Bool) (r : Tree) → all_passed x m r h i ts ≡ true → AllPass m r h i first × (are_passed_in x (entries_below m h (place i first)) r one ≡ true)
+  passed : (m : Gathered) (r : Tree) → all_passed x m r h i ts ≡ true → AllPass m r h i first × (are_passed_in x (gathered_below m h (place i first)) r one ≡ true)
 
 this_one : (x : Name) (b : Bool) (h : Shape) (i : ℕ) (t : Tree) (ts : Trees) → names x t ≡ true → leads b h i t ≡ true → Path x (asked (holds_list h i)) t → any_names x ts ≡ false → Among x b h i (t ▸ ts)
 this_one x b h i t ts n l p f = record {
@@ -524,7 +530,7 @@ this_one x b h i t ts n l p f = record {
   mentions = n;
   path = p;
   puts = λ r. ap (λ c. if c then put_first x r t ▸ ts else t ▸ put_among x r ts) n;
-  passed = λ m r e. (tt, sym (ap (λ c. if c then are_passed_in x (entries_below m h i) r t else (passes_at m r h i t && all_passed x m r h (suc i) ts)) n) ∙ e);
+  passed = λ m r e. (tt, sym (ap (λ c. if c then are_passed_in x (gathered_below m h i) r t else (passes_at m r h i t && all_passed x m r h (suc i) ts)) n) ∙ e);
 }
 
 later_one : (x : Name) (b : Bool) (h : Shape) (i : ℕ) (t : Tree) (ts : Trees) → names x t ≡ false → Among x b h (suc i) ts → Among x b h i (t ▸ ts)
@@ -540,7 +546,7 @@ later_one x b h i t ts n a = record {
   path = a.path;
   puts = λ r. ap (λ c. if c then put_first x r t ▸ ts else t ▸ put_among x r ts) n ∙ ap (λ us. t ▸ us) (a.puts r);
   passed = λ m r e.
-      let (p, q) = and_parts (passes_at m r h i t) (all_passed x m r h (suc i) ts) (sym (ap (λ c. if c then are_passed_in x (entries_below m h i) r t else (passes_at m r h i t && all_passed x m r h (suc i) ts)) n) ∙ e) in
+      let (p, q) = and_parts (passes_at m r h i t) (all_passed x m r h (suc i) ts) (sym (ap (λ c. if c then are_passed_in x (gathered_below m h i) r t else (passes_at m r h i t && all_passed x m r h (suc i) ts)) n) ∙ e) in
       let (f, g) = a.passed m r q in
       ((p, f), g);
 }
@@ -559,7 +565,7 @@ at_front x true first one rest n e = refl
 at_front x false none one rest n e = refl
 at_front x false (p ▸ ps) one rest n e = absurd (true≢false (sym (first_true (names x p) (any_names x ps) e) ∙ n))
 
-sure_by : (x : Name) (m : Bool) (r : Tree) (h : Shape) (first : Trees) (one : Tree) (rest : Trees) (s : Bool) → any_names x first ≡ false → ((is_placed m (is_effect_free r) h && (is_sure (is_effect_free r) h || is_empty first)) ≡ true → s ≡ true) → is_reached x m r h (append first (one ▸ rest)) ≡ true → (is_constant r || s) ≡ true
+sure_by : (x : Name) (m : Gathered) (r : Tree) (h : Shape) (first : Trees) (one : Tree) (rest : Trees) (s : Bool) → any_names x first ≡ false → ((is_placed m (is_effect_free r) h && (is_sure (is_effect_free r) h || is_empty first)) ≡ true → s ≡ true) → is_reached x m r h (append first (one ▸ rest)) ≡ true → (is_constant r || s) ≡ true
 sure_by x m r h first one rest s n f e = by (is_constant r) e
   where
     by : (c : Bool) → (c || (is_placed m (is_effect_free r) h && (is_sure (is_effect_free r) h || begins_with x (append first (one ▸ rest))))) ≡ true → (c || s) ≡ true
@@ -569,12 +575,12 @@ sure_by x m r h first one rest s n f e = by (is_constant r) e
         f ((λ k. p k && (is_sure (is_effect_free r) h || is_empty first)) ∙ at_front x (is_sure (is_effect_free r) h) first one rest n q)
 
 -- what is asked of the parts of a node
-record Parted (x : Name) (m : Bool) (r : Tree) (h : Shape) (ts : Trees) : Type 0 where
+record Parted (x : Name) (m : Gathered) (r : Tree) (h : Shape) (ts : Trees) : Type 0 where
   suit : suits x r h ts ≡ true
   reached : is_reached x m r h ts ≡ true
   all : all_passed x m r h 0 ts ≡ true
 
-parted : (x : Name) (m : Bool) (r : Tree) (h : Shape) (ts : Trees) → suits x r h ts && (is_reached x m r h ts && all_passed x m r h 0 ts) ≡ true → Parted x m r h ts
+parted : (x : Name) (m : Gathered) (r : Tree) (h : Shape) (ts : Trees) → suits x r h ts && (is_reached x m r h ts && all_passed x m r h 0 ts) ≡ true → Parted x m r h ts
 parted x m r h ts e =
     let (p, q) = and_parts (suits x r h ts) (is_reached x m r h ts && all_passed x m r h 0 ts) e in
     let (a, b) = and_parts (is_reached x m r h ts) (all_passed x m r h 0 ts) q in
@@ -606,21 +612,29 @@ well_below x b t c p (inl e) = subst (λ d. Well d p.steps) (sym e) p.well
 well_below x b t c p (inr r) = member_well p.steps p.read c r.2 (ap is_member (sym p.is) ∙ r.0) (subst (λ d. Well (asked d) p.steps) r.1 p.well)
 
 -- in full it is asked and passed the same
-full_passes : (m : Bool) (r : Tree) (h : Shape) (i : ℕ) (t : Tree) → passes_at m r (in_full h) i t ≡ passes_at m r h i t
+full_passes : (m : Gathered) (r : Tree) (h : Shape) (i : ℕ) (t : Tree) → passes_at m r (in_full h) i t ≡ passes_at m r h i t
 full_passes m r (shape.ObjectProperty Init false true false) i t = refl
 full_passes m r h i t = refl
 
-all_pass_full : (m : Bool) (r : Tree) (h : Shape) (i : ℕ) (ts : Trees) → AllPass m r h i ts → AllPass m r (in_full h) i ts
+all_pass_full : (m : Gathered) (r : Tree) (h : Shape) (i : ℕ) (ts : Trees) → AllPass m r h i ts → AllPass m r (in_full h) i ts
 all_pass_full m r h i none a = tt
 all_pass_full m r h i (t ▸ ts) a = (full_passes m r h i t ∙ a.0, all_pass_full m r h (suc i) ts a.1)
 
-full_entries : (m : Bool) (h : Shape) (i : ℕ) → entries_below m h i ≡ entries_below m (in_full h) i
+full_entries : (m : Gathered) (h : Shape) (i : ℕ) → gathered_below m h i ≡ gathered_below m (in_full h) i
 full_entries m (shape.ObjectProperty Init false true false) i = refl
 full_entries m h i = refl
 
+-- a list is no read
+no_end : (x : Name) (b : Bool) (t : Tree) → Path x (asked b) t → b ≡ true → is_childless t ≡ false
+no_end x b t p e = by p.steps (subst (λ c. Well (asked c) p.steps) e p.well) p.ends
+  where
+    by : (ss : List Step) → Well AsValues ss → is_end ss ≡ is_childless t → is_childless t ≡ false
+    by [] w e = absurd w
+    by (s ∷ ss) w e = sym e
+
 one_step : (x : Name) (b : Bool) (h : Shape) (t : Tree) (ts : Trees) → can_be_full (node h [] 0 (t ▸ ts)) ≡ true → Among x b h 0 (t ▸ ts) → Path x (asked b) (node h [] 0 (t ▸ ts))
 one_step x b h t ts full a =
-    let l = lead_by b a.one h a.first a.rest (sym (ap (λ us. can_be_full (node h [] 0 us)) a.is) ∙ full) a.leads in
+    let l = lead_by b a.one h a.first a.rest (λ q. no_end x (holds_list h (place 0 a.first)) a.one a.path q) (sym (ap (λ us. can_be_full (node h [] 0 us)) a.is) ∙ full) a.leads in
     let p = a.path in
     let step : Step = record { lead = l.lead; rest = a.rest; is_short = l.is_short } in
     let direct : indirect l.lead (found p.steps (identifier p.read)) ≡ true = ap (indirect l.lead) (sym p.is) ∙ l.direct in
@@ -644,12 +658,12 @@ one_step x b h t ts full a =
           let sure = sure_by x m r h a.first a.one a.rest (surely m (is_effect_free r) l.lead) a.earlier (l.sure m (is_effect_free r)) (subst (λ us. is_reached x m r h us ≡ true) a.is d.reached) in
           let there = allows p.read r l.lead p.steps (suit r (subst (λ us. suits x r h us ≡ true) a.is d.suit)) direct in
           let passing = subst₂ (λ k us. AllPass m r k 0 us) l.full (sym l.front) (all_pass_full m r h 0 a.first f) in
-          let further = subst (λ n. PassedIn n r p.read.spelling p.steps) (full_entries m h (place 0 a.first)) (p.passed_in (entries_below m h (place 0 a.first)) r g) in
-          ((passing, sure, there, suited_whole r l.lead (is_end p.steps) (suit r (subst (λ us. suits x r h us ≡ true) a.is d.suit))), subst₂ (λ k us. PassedIn (entries_below m k (place 0 us)) r p.read.spelling p.steps) l.full (sym l.front) further);
+          let further = subst (λ n. PassedIn n r p.read.spelling p.steps) (full_entries m h (place 0 a.first)) (p.passed_in (gathered_below m h (place 0 a.first)) r g) in
+          ((passing, sure, there, suited_whole r l.lead (is_end p.steps) (suit r (subst (λ us. suits x r h us ≡ true) a.is d.suit))), subst₂ (λ k us. PassedIn (gathered_below m k (place 0 us)) r p.read.spelling p.steps) l.full (sym l.front) further);
       suit_in = λ m r e.
           let d = parted x m r h (t ▸ ts) e in
           let (f, g) = a.passed m r d.all in
-          (suit r (subst (λ us. suits x r h us ≡ true) a.is d.suit), p.suit_in (entries_below m h (place 0 a.first)) r g);
+          (suit r (subst (λ us. suits x r h us ≡ true) a.is d.suit), p.suit_in (gathered_below m h (place 0 a.first)) r g);
     }
 
 mutual
@@ -698,8 +712,8 @@ pub record Statement (x : Name) (t : Tree) : Type 0 where
   pub allows_any : (b : End) → Allows lead b
   pub whole_any : (r : Tree) → whole r lead ≡ true
   pub direct : (u : Tree) → indirect lead u ≡ true
-  pub steady : (f : Bool) → surely false f lead ≡ true
-  pub low : entries_below false (shape_by (head_of lead)) 0 ≡ false
+  pub steady : (f : Bool) → surely OfValues f lead ≡ true
+  pub low : gathered_below OfValues (shape_by (head_of lead)) 0 ≡ OfValues
   pub below : (c : Asked) → asked_below (head_of lead) c (place 0 (before lead)) ≡ AsValue
   pub inner : Tree
   pub rest : Trees
@@ -716,7 +730,7 @@ full_head (Fielding c a) = refl
 full_head l = refl
 
 -- of this lead
-stated : (x : Name) (l : Lead) (t : Tree) (ts : Trees) → ((b : Bool) → Stands AsWholeItem l b) → before l ≡ none → ((b : End) → Allows l b) → ((r : Tree) → whole r l ≡ true) → ((u : Tree) → indirect l u ≡ true) → ((f : Bool) → surely false f l ≡ true) → entries_below false (shape_by (head_of l)) 0 ≡ false → ((c : Asked) → asked_below (head_of l) c (place 0 (before l)) ≡ AsValue) → is_first x false t && not (any_names x ts) ≡ true → Statement x (node (shape_by (head_of l)) [] 0 (t ▸ ts))
+stated : (x : Name) (l : Lead) (t : Tree) (ts : Trees) → ((b : Bool) → Stands AsWholeItem l b) → before l ≡ none → ((b : End) → Allows l b) → ((r : Tree) → whole r l ≡ true) → ((u : Tree) → indirect l u ≡ true) → ((f : Bool) → surely OfValues f l ≡ true) → gathered_below OfValues (shape_by (head_of l)) 0 ≡ OfValues → ((c : Asked) → asked_below (head_of l) c (place 0 (before l)) ≡ AsValue) → is_first x false t && not (any_names x ts) ≡ true → Statement x (node (shape_by (head_of l)) [] 0 (t ▸ ts))
 stated x l t ts s o g w i d k b e =
     let (q, f) = and_parts (is_first x false t) (not (any_names x ts)) e in
     let n = mentioned x false t q in
@@ -737,7 +751,7 @@ stated x l t ts s o g w i d k b e =
       is = refl;
       puts = λ r. ap (λ h. node h [] 0 (put_among x r (t ▸ ts))) (full_head l) ∙ ap (λ c. node (shape_by (head_of l)) [] 0 (if c then put_first x r t ▸ ts else t ▸ put_among x r ts)) n;
       along = λ u. ap (λ us. node (shape_by (head_of l)) [] 0 (append us (u ▸ ts))) (sym o);
-      passed = λ r e. let h = shape_by (head_of l) in sym (ap (λ m. are_passed_in x m r t) k) ∙ sym (ap (λ c. if c then are_passed_in x (entries_below false h 0) r t else (passes_at false r h 0 t && all_passed x false r h 1 ts)) n) ∙ (parted x false r h (t ▸ ts) e).all;
+      passed = λ r e. let h = shape_by (head_of l) in sym (ap (λ m. are_passed_in x m r t) k) ∙ sym (ap (λ c. if c then are_passed_in x (gathered_below OfValues h 0) r t else (passes_at OfValues r h 0 t && all_passed x OfValues r h 1 ts)) n) ∙ (parted x OfValues r h (t ▸ ts) e).all;
     }
 
 pub statement : (x : Name) (t : Tree) → reads_first x t ≡ true → Statement x t
@@ -826,7 +840,7 @@ pub record Outside (x : Name) (t : Tree) : Type 0 where
   pub evaluates : evaluated t ≡ t
   pub passed : (r : Tree) → are_passed x r t ≡ true → are_passed x r value ≡ true
 
-outside_of : (x : Name) (s : Seat) (h : Shape) (value : Tree) (ts : Trees) → in_full h ≡ h → ((u : Tree) → seated s u ≡ node h [] 0 (u ▸ ts)) → rest s ≡ ts → evaluated (seated s value) ≡ seated s value → entries_below false h 0 ≡ false → is_first x false value && not (any_names x (rest_children 0 ts)) ≡ true → Outside x (seated s value)
+outside_of : (x : Name) (s : Seat) (h : Shape) (value : Tree) (ts : Trees) → in_full h ≡ h → ((u : Tree) → seated s u ≡ node h [] 0 (u ▸ ts)) → rest s ≡ ts → evaluated (seated s value) ≡ seated s value → gathered_below OfValues h 0 ≡ OfValues → is_first x false value && not (any_names x (rest_children 0 ts)) ≡ true → Outside x (seated s value)
 outside_of x s h value ts full there same evaluates low e =
     let (a, b) = and_parts (is_first x false value) (not (any_names x (rest_children 0 ts))) e in
     let n = mentioned x false value a in
@@ -838,7 +852,7 @@ outside_of x s h value ts full there same evaluates low e =
       is = refl;
       puts = λ r. ap (put_first x r) (there value) ∙ ap (λ h. node h [] 0 (put_among x r (value ▸ ts))) full ∙ ap (λ c. node h [] 0 (if c then put_first x r value ▸ ts else value ▸ put_among x r ts)) n ∙ sym (there (put_first x r value));
       evaluates = evaluates;
-      passed = λ r e. sym (ap (λ m. are_passed_in x m r value) low) ∙ sym (ap (λ c. if c then are_passed_in x (entries_below false h 0) r value else (passes_at false r h 0 value && all_passed x false r h 1 ts)) n) ∙ (parted x false r h (value ▸ ts) (sym (ap (are_passed x r) (there value)) ∙ e)).all;
+      passed = λ r e. sym (ap (λ m. are_passed_in x m r value) low) ∙ sym (ap (λ c. if c then are_passed_in x (gathered_below OfValues h 0) r value else (passes_at OfValues r h 0 value && all_passed x OfValues r h 1 ts)) n) ∙ (parted x OfValues r h (value ▸ ts) (sym (ap (are_passed x r) (there value)) ∙ e)).all;
     }
 
 outside : (x : Name) (t : Tree) → reads_outside x t ≡ true → Outside x t

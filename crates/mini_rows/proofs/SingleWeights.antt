@@ -1,6 +1,6 @@
 -- What a tree weighs with another in the place of what it reads.
 use Rattle.std.proofs.Common.{◌≡◌, inl, inr, ℕ, suc, ◌+◌, ◌≤◌, Bool, true, false, [], ◌∷◌, List, Option, Some, None, refl, sym, ap, ◌∙◌, subst, true≢false, arith}
-use Rattle.std.specs.Prelude.{is_none, if◌then◌else◌, pos, zero, ◌&&◌}
+use Rattle.std.specs.Prelude.{is_none, length, if◌then◌else◌, pos, zero, ◌&&◌}
 use Rattle.mini_model.specs.declared.kind.VariableDeclarationKind.{VariableDeclarationKind}
 use Rattle.mini_model.specs.declared.kind.VariableDeclarationKind.TheVariants.{Var, Let, Const}
 use Rattle.mini_model.specs.declared.name.Name.{Name}
@@ -9,7 +9,7 @@ use Rattle.mini_model.specs.declared.kind.PropertyKind.TheVariants.{Init}
 use Rattle.mini_model.specs.declared.operator.AssignmentOperator.TheVariants.{Assign}
 use Rattle.mini_model.specs.declared.operator.UnaryOperator.TheVariants.{Void}
 use Rattle.mini_model.specs.declared.place.Position.{Position}
-use Rattle.mini_model.specs.declared.place.Position.TheVariants.{Expr, Stmt, Target, ArgumentList, SequenceList, CommaList, Elsewhere}
+use Rattle.mini_model.specs.declared.place.Position.TheVariants.{Expr, Stmt, Target, ArgumentList, SequenceList, TemplateList, CommaList, Elsewhere}
 use Rattle.mini_model.specs.declared.seat.Seat.{Seat}
 use Rattle.mini_model.specs.declared.seat.StmtSeat.{StmtSeat}
 use Rattle.mini_model.specs.declared.seat.StmtSeat.TheVariants as stmt_seat
@@ -28,7 +28,7 @@ use Rattle.mini_rows.proofs.BooleanWeights.{moved}
 use Rattle.mini_rows.proofs.ListWeights.{total, in_list, comma_list, declarators_append}
 use Rattle.mini_rows.proofs.ListKeptHeads as opening
 use Rattle.mini_rows.proofs.ListKeptHeads.{Loop, Choice, seated}
-use Rattle.mini_rows.proofs.SingleUse.{Lead, Not, Plus, Minus, Tilde, Typing, Emptying, Beside, Deciding, Choosing, Passing, Called, Making, Waiting, Member, Keyed, Linking, Holding, Against, Given, Filling, Keying, Following, Branching, Failing, Storing, Gathering, Fielding, Spreading, Bracketing, Targeted, Changing, Listing, Doing, Giving, Raising, Testing, target_stands, head_of, before, place, Step, led, is_end, Stands, Well, Initial, heads, path, statement, Outside, Over, Heads, Path, found, found_head, by_front, ends_short}
+use Rattle.mini_rows.proofs.SingleUse.{Lead, Not, Plus, Minus, Tilde, Typing, Emptying, Beside, Deciding, Choosing, Passing, Called, Making, Waiting, Member, Keyed, Linking, Holding, Against, Given, Filling, Keying, Interpolating, Following, Branching, Failing, Storing, Gathering, Fielding, Spreading, Bracketing, Targeted, Changing, Listing, Doing, Giving, Raising, Testing, target_stands, head_of, before, place, Step, led, is_end, Stands, Well, Initial, heads, path, statement, Outside, Over, Heads, Path, found, found_head, by_front, ends_short}
 
 -- ---- where the steps stand
 
@@ -41,6 +41,7 @@ Placed AsUpdated Target = Unit {0}
 Placed AsValues (SequenceList s) = Unit {0}
 Placed AsValues ArgumentList = Unit {0}
 Placed AsValues CommaList = Unit {0}
+Placed AsValues TemplateList = Unit {0}
 Placed c p = ⊥
 
 -- at its place below a step
@@ -79,6 +80,7 @@ placed_value (Against o a) b s p n = tt
 placed_value (Given o a) b s p n = tt
 placed_value (Filling a) b s p n = tt
 placed_value (Keying o a) b s p n = tt
+placed_value (Interpolating a) b s p n = tt
 placed_value (Following o a) b s p n = tt
 placed_value (Branching a) b s p n = tt
 placed_value (Failing a d) b s p n = tt
@@ -99,6 +101,7 @@ placed_part : (l : Lead) (b : Bool) → Stands AsValues l b → (p : Position) �
 placed_part (Listing ts) b s (SequenceList t) q n = tt
 placed_part (Listing ts) b s ArgumentList q n = tt
 placed_part (Listing ts) b s CommaList q n = tt
+placed_part (Listing ts) b s TemplateList q n = tt
 placed_part (Listing ts) b s p q n = absurd q
 placed_part l b s p q n = absurd s
 
@@ -123,14 +126,17 @@ same_statement Raising b s q t u ts = refl
 same_statement Testing b s q t u ts = refl
 same_statement l b s q t u ts = absurd s
 
--- under `void` both are a zero, or neither is
+-- under `void` both are a zero, or neither is; between the texts of a template as many items are
 abbrev SameZero : Lead → Tree → Tree → Type 0
 SameZero Emptying t u = (outline t).is_zero ≡ (outline u).is_zero
+SameZero (Interpolating a) t u = (outline t).items ≡ (outline u).items
 SameZero l t u = Unit {0}
 
-zeros : (l : Lead) (t u : Tree) → (outline t).is_zero ≡ (outline u).is_zero → SameZero l t u
-zeros Emptying t u e = e
-zeros l t u e = tt
+zeros : (c : Asked) (l : Lead) (b : Bool) → Stands c l b → (t u : Tree) → (outline t).is_zero ≡ (outline u).is_zero → (b ≡ false → (outline t).items ≡ (outline u).items) → SameZero l t u
+zeros c Emptying b s t u e f = e
+zeros AsValue (Interpolating a) b s t u e f = f s
+zeros c (Interpolating a) b s t u e f = absurd s
+zeros c l b s t u e f = tt
 
 same_value : (l : Lead) (b : Bool) → Stands AsValue l b → (q : Seat) (t u : Tree) (ts : Trees) → SameZero l t u → SameOwn (Expr q) l t u ts
 same_value Not b s q t u ts z = refl
@@ -157,6 +163,7 @@ same_value (Against o a) b s q t u ts z = refl
 same_value (Given o a) b s q t u ts z = refl
 same_value (Filling a) b s q t u ts z = refl
 same_value (Keying o a) b s q t u ts z = refl
+same_value (Interpolating a) b s q t u ts z = ap (λ i. own_weight (Expr q) shape.TemplateLiteral [] (outline a ∷ (record (outline t) { items = i } ∷ outlines ts))) z
 same_value (Following o a) b s q t u ts z = refl
 same_value (Branching a) b s q t u ts z = refl
 same_value (Failing a d) b s q t u ts z = refl
@@ -191,6 +198,7 @@ same_there (Against o a) b s t u ts z = refl
 same_there (Given o a) b s t u ts z = refl
 same_there (Filling a) b s t u ts z = refl
 same_there (Keying o a) b s t u ts z = refl
+same_there (Interpolating a) b s t u ts z = ap (λ i. own_weight Elsewhere shape.TemplateLiteral [] (outline a ∷ (record (outline t) { items = i } ∷ outlines ts))) z
 same_there (Following o a) b s t u ts z = refl
 same_there (Branching a) b s t u ts z = refl
 same_there (Failing a d) b s t u ts z = refl
@@ -224,6 +232,10 @@ same_fields : (l : Lead) (b : Bool) → Stands AsValues l b → (t u : Tree) (ts
 same_fields (Listing ps) b s t u ts = ap (λ k. k + 0) (commas_put ps t u ts)
 same_fields l b s t u ts = absurd s
 
+same_texts : (l : Lead) (b : Bool) → Stands AsValues l b → (t u : Tree) (ts : Trees) → SameOwn TemplateList l t u ts
+same_texts (Listing ps) b s t u ts = refl
+same_texts l b s t u ts = absurd s
+
 same_own : (c : Asked) (l : Lead) (b : Bool) → Stands c l b → (p : Position) → Placed c p → (t u : Tree) (ts : Trees) → SameZero l t u → SameOwn p l t u ts
 same_own AsWholeItem l b s (Stmt q) a t u ts z = same_statement l b s q t u ts
 same_own AsValue l b s (Expr q) a t u ts z = same_value l b s q t u ts z
@@ -233,6 +245,7 @@ same_own AsUpdated l b s Target a t u ts z = same_target l b (target_stands l b 
 same_own AsValues l b s (SequenceList q) a t u ts z = same_parts l b s q t u ts
 same_own AsValues l b s ArgumentList a t u ts z = same_items l b s t u ts
 same_own AsValues l b s CommaList a t u ts z = same_fields l b s t u ts
+same_own AsValues l b s TemplateList a t u ts z = same_texts l b s t u ts
 same_own c l b s p a t u ts z = absurd a
 
 -- among neighbours
@@ -269,6 +282,20 @@ found_no_zero ts = by_front (λ l h. (outline (node (shape_by h) [] 0 ts)).is_ze
 
 same_zero : (s : Step) (ss : List Step) (t u : Tree) → (outline (found (s ∷ ss) t)).is_zero ≡ (outline (led (s ∷ ss) u)).is_zero
 same_zero s ss t u = found_no_zero (append (before s.lead) (found ss t ▸ s.rest)) (ends_short s ss) s.lead ∙ sym (no_zero s.lead (append (before s.lead) (led ss u ▸ s.rest)))
+
+-- as many items
+length_put : (ps : Trees) (t u : Tree) (ts : Trees) → length (outlines (append ps (t ▸ ts))) ≡ length (outlines (append ps (u ▸ ts)))
+length_put none t u ts = refl
+length_put (p ▸ ps) t u ts = ap suc (length_put ps t u ts)
+
+items_put : (ps : Trees) (t u : Tree) (ts : Trees) (l : Lead) → (outline (node (shape_by (head_of l)) [] 0 (append ps (t ▸ ts)))).items ≡ (outline (node (shape_by (head_of l)) [] 0 (append ps (u ▸ ts)))).items
+items_put ps t u ts (Listing us) = length_put ps t u ts
+items_put ps t u ts l = refl
+
+same_items_at : (s : Step) (ss : List Step) (t u : Tree) → (outline (found (s ∷ ss) t)).items ≡ (outline (led (s ∷ ss) u)).items
+same_items_at s ss t u =
+    by_front (λ l h. (outline (node (shape_by h) [] 0 (append (before s.lead) (found ss t ▸ s.rest)))).items ≡ (outline (node (shape_by (head_of l)) [] 0 (append (before s.lead) (led ss u ▸ s.rest)))).items)
+    (λ l. items_put (before s.lead) (found ss t) (led ss u) s.rest l) (λ a e. refl) (ends_short s ss) s.lead
 
 -- where no expression stands there are no parentheses
 no_marks : (a b w : ℕ) → (a + 0) + w ≤ (a + b) + w
@@ -317,6 +344,8 @@ module _ (r : Tree) (y : Name) (ts : Trees) where
 
   zero_falls : (l : Lead) (c : Asked) → Stands c l true → (p : Position) → Placed c p → (outline r).is_zero ≡ true → FallsBelow l p → Falls c l p
   zero_falls Emptying c s p a z h = emptying_falls c s p a z
+  zero_falls (Interpolating t) AsValue s p a z h = absurd (true≢false s)
+  zero_falls (Interpolating t) c s p a z h = absurd s
   zero_falls l c s p a z h = node_falls p l (identifier y) r ts (weight (Expr argument_seat) r + 3) (same_own c l true s p a (identifier y) r ts tt) h
 
   end_falls : (l : Lead) (c : Asked) → Stands c l true → (p : Position) → Placed c p → FallsBelow l p → Falls c l p
@@ -324,7 +353,7 @@ module _ (r : Tree) (y : Name) (ts : Trees) where
     where
       by : (b : Bool) → (outline r).is_zero ≡ b → Falls c l p
       by true z = zero_falls l c s p a z h
-      by false z = node_falls p l (identifier y) r ts (weight (Expr argument_seat) r + 3) (same_own c l true s p a (identifier y) r ts (zeros l (identifier y) r (sym z))) h
+      by false z = node_falls p l (identifier y) r ts (weight (Expr argument_seat) r + 3) (same_own c l true s p a (identifier y) r ts (zeros c l true s (identifier y) r (sym z) (λ e. absurd (true≢false e)))) h
 
 -- a shorthand property in full: its key and a colon more, and no parentheses
 key_weighs : (a : Tree) → is_own_key a ≡ true → weight Elsewhere a ≤ 2
@@ -367,7 +396,7 @@ led_falls c (s ∷ []) w p a r f y e =
     (λ l v u. end_falls r y s.rest l c v p a (λ n. read_falls (asked_below (head_of l) c (place 0 (before l))) u (child_position (shape_by (head_of l)) p n (count (before l))) (placed_below c l true v p a n) r f y e)) (ends_short s []) s.lead w.0 w.1
 led_falls c (s ∷ (q ∷ ss)) w p a r f y e =
     subst (λ b. weight p (led (s ∷ (q ∷ ss)) r) ≤ weight p (node (shape_by (found_head b s.lead)) [] 0 (append (before s.lead) (found (q ∷ ss) (identifier y) ▸ s.rest))) + (weight (Expr argument_seat) r + 3)) (sym (never_short s q ss))
-    (node_falls p s.lead (found (q ∷ ss) (identifier y)) (led (q ∷ ss) r) s.rest (weight (Expr argument_seat) r + 3) (same_own c s.lead false w.0 p a (found (q ∷ ss) (identifier y)) (led (q ∷ ss) r) s.rest (zeros s.lead (found (q ∷ ss) (identifier y)) (led (q ∷ ss) r) (same_zero q ss (identifier y) r)))
+    (node_falls p s.lead (found (q ∷ ss) (identifier y)) (led (q ∷ ss) r) s.rest (weight (Expr argument_seat) r + 3) (same_own c s.lead false w.0 p a (found (q ∷ ss) (identifier y)) (led (q ∷ ss) r) s.rest (zeros c s.lead false w.0 (found (q ∷ ss) (identifier y)) (led (q ∷ ss) r) (same_zero q ss (identifier y) r) (λ e. same_items_at q ss (identifier y) r)))
     (λ n. led_falls (asked_below (head_of s.lead) c (place 0 (before s.lead))) (q ∷ ss) w.1 (child_position (shape_by (head_of s.lead)) p n (count (before s.lead))) (placed_below c s.lead false w.0 p a n) r f y e))
 
 some_symbol : (k : ℕ) (y : Option SymbolId) → is_same (Some (record { 0 = k })) y ≡ true → is_none y ≡ false

@@ -1,11 +1,14 @@
 -- What a row of steady names writes in the body of a function is lawful where those names are steady in that body.
-use Rattle.std.specs.Prelude.{ℕ, zero, suc, ◌≡◌, ◌<◌, ◌≤◌, ◌⊎◌, refl, Bool, true, false, List, [], ◌∷◌, ◌++◌, Option, None, not, Contains}
+use Rattle.std.specs.Prelude.{ℕ, zero, suc, ◌≡◌, ◌<◌, ◌≤◌, ◌⊎◌, refl, Bool, true, false, List, [], ◌∷◌, ◌++◌, Option, Some, None, not, ◌&&◌, if◌then◌else◌, Contains}
 use Rattle.std.proofs.Common.{ap, ◌∙◌, sym, subst, subst₂, length, inl, inr, arith, true≢false}
 use Rattle.std.proofs.lemmas.Bool.{and_parts}
 use Rattle.mini_model.specs.declared.kind.PropertyKind.{PropertyKind}
+use Rattle.mini_model.specs.declared.kind.VariableDeclarationKind.{VariableDeclarationKind}
 use Rattle.mini_model.specs.declared.name.Name.{Name}
 use Rattle.mini_model.specs.declared.place.Position.{Position}
-use Rattle.mini_model.specs.declared.place.Position.TheVariants.{Expr, Stmt, Method, Elsewhere, StatementList, BodyList}
+use Rattle.mini_model.specs.declared.place.Position.TheVariants.{Expr, Stmt, Method, Elsewhere, StatementList, BodyList, CommaList}
+use Rattle.mini_model.specs.declared.seat.Seat.{Seat}
+use Rattle.mini_model.specs.declared.seat.StmtSeat.{StmtSeat}
 use Rattle.mini_model.specs.declared.shape.Shape.{Shape}
 use Rattle.mini_model.specs.declared.shape.Shape.TheVariants as shape
 use Rattle.mini_model.specs.Tree.{Tree, Trees, node, none, ◌▸◌, count, shape_of}
@@ -13,10 +16,10 @@ use Rattle.mini_model.specs.Position.{child_position}
 use Rattle.mini_model.specs.Rewriting.{Step, here, inside, StepIn, first, later, done, more}
 use Rattle.mini_model.specs.Weight.{outline, weight}
 use Rattle.mini_accept.specs.WellShaped.{a_statement, a_default_export, Slot, one, class_of, filling, is_strict_in, fits, fill}
-use Rattle.mini_laws.specs.Value.{Variable, Declared, Global, VariableSet, nothing, variables}
+use Rattle.mini_laws.specs.Value.{Variable, Declared, Global, VariableSet, choose, nothing, variables}
 use Rattle.mini_laws.specs.State.{State, Environment}
 use Rattle.mini_laws.specs.Demand.{Demand, As, Callee, OfType, Deleted, AnEntry, Stat, Declares, Binds, Request}
-use Rattle.mini_laws.specs.Naming.{Summary, summary, summary_of, summaries, facts, facts_all, naming, nth_absent, scope_of}
+use Rattle.mini_laws.specs.Naming.{Facts, Summary, AClass, Declared as What, Variables, first_facts, is_lexical, summary, summary_of, summaries, facts, facts_all, naming, nth_absent, scope_of}
 use Rattle.mini_laws.specs.Step.{step, means}
 use Rattle.mini_laws.specs.Rows.{SameAt}
 use Rattle.mini_laws.specs.Fixity.{fixed_by}
@@ -24,13 +27,13 @@ use Rattle.mini_laws.specs.Body.{BodyKind, FunctionStatements, body_demand}
 use Rattle.mini_laws.specs.Bodies.{Around, below, Body, bodies, bodies_from, body_of, arrow_kind}
 use Rattle.mini_laws.specs.Skeleton.{plus, minus, Within, Off, hidden, hidden_all, kept, lets_at, along, list_needs, after_first, after_left, needs, Rules, Sound, TreesGo}
 use Rattle.mini_laws.specs.Fits.{Fits}
-use Rattle.mini_laws.specs.Asking.{demand}
+use Rattle.mini_laws.specs.Asking.{demand, declaration_demand, head_demand, left_demand}
 use Rattle.mini_laws.specs.Weights.{Lightens}
 use Rattle.mini_laws.proofs.Fitting.{fits_children}
 use Rattle.mini_laws.proofs.Fundamental.{PlaceGo, one_node, place_none, place_cons}
 use Rattle.mini_laws.proofs.Lighter.{any_step_lighter}
 use Rattle.mini_laws.proofs.Rows.{equal_same}
-use Rattle.mini_laws.proofs.Simulation.{goes_map, init_less, off_front, off_back, within_refl, within_trans, within_plus, within_minus}
+use Rattle.mini_laws.proofs.Simulation.{goes_map, init_less, off_front, off_back, within_refl, within_trans, within_plus, within_minus, minus_less, minus_more}
 use Rattle.mini_kept.specs.AlikeBodies.{RunsAs, BodiesKept}
 use Rattle.mini_kept.specs.Declaring.{declared}
 use Rattle.mini_kept.specs.Frames.{Frame, FramesKept, frame_of, frames, frames_from, property_below, outline as frame_outline, globals}
@@ -53,13 +56,13 @@ use Rattle.mini_kept.proofs.FrameLists.{each_of as each_frame}
 use Rattle.mini_kept.proofs.WithoutLists.{from_kept, more_under, nothing_within, each_under, itself_under}
 use Rattle.mini_rows.specs.Fading.{Fades, FadingFrom}
 use Rattle.mini_rows.specs.Past.{binds}
-use Rattle.mini_rows.specs.Steady.{SteadyRow, bindings, all_bindings, Symbols, no_symbols, passing, behind, begun_at, valued, known_in, own_rows, KeepsOwn, has_body, OwnStep, own_here, own_inside, OwnStepIn, own_first, own_later, OwnRows, LexicalRows, OwnFunctionRow, OwnFunction, SteadyFunctionsAreLawful, SteadyFunctionsLighten, LexicalFunctionsAreLawful, LexicalFunctionsLighten}
+use Rattle.mini_rows.specs.Steady.{SteadyRow, bindings, all_bindings, Begun, nothing_begun, lists_lexical, OfChild, OfNone, beginning, nth_lets, lets_as, head_lets, begins_by, begins, begun_at, valued, known_in, own_rows, KeepsOwn, has_body, OwnStep, own_here, own_inside, OwnStepIn, own_first, own_later, OwnRows, LexicalRows, OwnFunctionRow, OwnFunction, SteadyFunctionsAreLawful, SteadyFunctionsLighten, LexicalFunctionsAreLawful, LexicalFunctionsLighten}
 use Rattle.mini_rows.proofs.Fading.{fading_rules, fading_sound}
 use Rattle.mini_rows.proofs.FadingSteps.{trees_fade_from, tree_itself, runs_alike}
 use Rattle.mini_rows.proofs.LexicalKept.{lexical_own}
 use Rattle.mini_rows.proofs.SteadyKept.{steady_own}
 use Rattle.mini_rows.proofs.Unbound.{unhidden}
-use Rattle.mini_rows.proofs.Valued.{behind_off, more_known}
+use Rattle.mini_rows.proofs.Valued.{begun_off, more_known}
 
 -- ---- a function is made alike, whatever its body is
 
@@ -97,7 +100,7 @@ not_true false e = refl
 
 -- of a body of which this is known, what is known as its code starts
 abbrev pub at_start : Tree → Assured → Assured
-at_start t V = known_in t V no_symbols
+at_start t V = known_in t V nothing_begun
 
 -- no scope in the code hides it
 pub known_off : (t : Tree) (V : Assured) → Off (hidden t) (at_start t V).initial
@@ -117,7 +120,7 @@ unfolding Within
 known_begins t V X b (Declared k) h = b (Declared k) (and_parts (V.initial (Declared k)) (not (binds k t)) h).0
 known_begins t V X b (Global s) h = absurd (true≢false (sym h))
 
-pub known_steady : (t : Tree) (V : Assured) (L : Symbols) (e : Environment) → Steadies V e → Steadies (known_in t V L) e
+pub known_steady : (t : Tree) (V : Assured) (L : Begun) (e : Environment) → Steadies V e → Steadies (known_in t V L) e
 known_steady t V L e z = record { steady = z.steady; unshared = z.unshared; has_this = z.has_this }
 
 -- and wherever a child is evaluated
@@ -207,93 +210,206 @@ any_form F keeps = record {
   };
 }
 
--- what is known at each child has its value there, and no scope in them hides it
+-- ---- what is known at a child is known behind it, and so is what begins there
+
+nth_is : (ts : Trees) (i : ℕ) → nth_lets (summaries ts) i ≡ lets_at ts i
+nth_is none i = refl
+nth_is (t ▸ ts) zero = refl
+nth_is (t ▸ ts) (suc i) = nth_is ts i
+
+plus_none : (S : VariableSet) → Within (plus S []) S
+unfolding Within
+plus_none S x e = e
+
+less : (S : VariableSet) (H : List Variable) → Within (minus (plus S []) H) S
+less S H = within_trans _ (plus S []) _ (minus_less (plus S []) H) (plus_none S)
+
+along_first : (H : List Variable) (S : VariableSet) (ts : Trees) → S ≡ along H S ts 0
+along_first H S none = refl
+along_first H S (t ▸ ts) = refl
+
+along_next : (H : List Variable) (S : VariableSet) (ts : Trees) (i : ℕ) → Within (minus (plus (along H S ts i) (lets_at ts i)) H) (along H S ts (suc i))
+along_next H S none i = less S H
+along_next H S (t ▸ ts) zero = let next = minus (plus S (summary t).lets) H in subst (Within next) (along_first H next ts) (within_refl next)
+along_next H S (t ▸ ts) (suc i) = along_next H (minus (plus S (summary t).lets) H) ts i
+
+along_on : (H : List Variable) (S : VariableSet) (ts : Trees) (i : ℕ) → Within (minus (plus (along H S ts i) []) H) (along H S ts (suc i))
+along_on H S ts i =
+    let there = along H S ts i in
+    within_trans _ _ _ (minus_more (plus there []) (plus there (lets_at ts i)) H (within_trans _ there _ (plus_none there) (within_plus there (lets_at ts i)))) (along_next H S ts i)
+
+list_on : (q : Demand) (S : VariableSet) (ts : Trees) (i : ℕ) → Within (minus (plus (list_needs q S ts i) []) (hidden_all ts)) (list_needs q S ts (suc i))
+list_on (Stat t) S ts i = along_on (hidden_all ts) S ts i
+list_on (Declares true) S ts i = along_on (hidden_all ts) S ts i
+list_on (Declares false) S ts i = less S (hidden_all ts)
+list_on q S ts i = less S (hidden_all ts)
+
+listed_next : (q : Demand) (S : VariableSet) (ts : Trees) → Fits StatementList q → (i : ℕ) → Within (minus (plus (list_needs q S ts i) (nth_lets (summaries ts) i)) (hidden_all ts)) (list_needs q S ts (suc i))
+listed_next (Stat t) S ts fit i = let H = hidden_all ts in subst (λ xs. Within (minus (plus (along H S ts i) xs) H) (along H S ts (suc i))) (sym (nth_is ts i)) (along_next H S ts i)
+listed_next q S ts fit i = absurd fit
+
+-- what is asked of a node that is the list of a `let` or a `const`
+abbrev pub Lists : Bool → Demand → Type 0
+Lists true (Declares true) = Unit {0}
+Lists true q = ⊥
+Lists false q = Unit {0}
+
+lexical_next : (b : Bool) (q : Demand) (S : VariableSet) (ts : Trees) → Lists b q → (i : ℕ) → Within (minus (plus (list_needs q S ts i) (begins_by (if b then OfChild else OfNone) (summaries ts) i)) (hidden_all ts)) (list_needs q S ts (suc i))
+lexical_next true (Declares true) S ts a i = let H = hidden_all ts in subst (λ xs. Within (minus (plus (along H S ts i) xs) H) (along H S ts (suc i))) (sym (nth_is ts i)) (along_next H S ts i)
+lexical_next true q S ts a i = absurd a
+lexical_next false q S ts a i = list_on q S ts i
+
+body_listed : (q : Demand) → Fits BodyList q → Fits StatementList q
+body_listed (Stat t) fit = tt
+body_listed q fit = absurd fit
+
+-- what begins in a head is what that leaves initialised there
+module _ (S : VariableSet) where
+  lexical_kept : (b : Bool) (xs : List Variable) → Within (plus S (choose b xs [])) (plus S (kept (Binds b) xs))
+  lexical_kept true xs = within_refl (plus S xs)
+  lexical_kept false xs = within_refl (plus S [])
+
+  stated_kept : (b : Bool) (xs : List Variable) → Within (plus S (choose b xs [])) (plus S xs)
+  stated_kept true xs = within_refl (plus S xs)
+  stated_kept false xs = within_trans _ S _ (plus_none S) (within_plus S xs)
+
+  left_kept : (o : Option What) (xs : List Variable) → Within (plus S (lets_as o xs)) (plus S (kept (left_demand o) xs))
+  left_kept (Some (Variables v)) xs = lexical_kept (is_lexical v) xs
+  left_kept (Some AClass) xs = within_refl (plus S [])
+  left_kept None xs = within_refl (plus S [])
+
+  for_kept : (o : Option What) (xs : List Variable) → Within (plus S (lets_as o xs)) (plus S (kept (head_demand o) xs))
+  for_kept (Some (Variables v)) xs = stated_kept (is_lexical v) xs
+  for_kept (Some AClass) xs = within_refl (plus S [])
+  for_kept None xs = within_refl (plus S [])
+
+  left_begins : (ts : Trees) → Within (plus S (head_lets (summaries ts))) (plus S (kept (left_demand (first_facts (facts ts)).declared) (lets_at ts 0)))
+  left_begins none = within_refl (plus S [])
+  left_begins (t ▸ ts) = left_kept (summary t).facts.declared (summary t).lets
+
+  for_begins : (ts : Trees) → Within (plus S (head_lets (summaries ts))) (plus S (kept (head_demand (first_facts (facts ts)).declared) (lets_at ts 0)))
+  for_begins none = within_refl (plus S [])
+  for_begins (t ▸ ts) = for_kept (summary t).facts.declared (summary t).lets
+
+  catch_next : (b : Bool) (p : Position) (ts : Trees) (i : ℕ) → Within (minus (plus (after_first (Binds true) S ts i) (begins_by (beginning b shape.CatchClause p i) (summaries ts) i)) (hidden_all ts)) (after_first (Binds true) S ts (suc i))
+  catch_next b p ts zero = subst (λ xs. Within (minus (plus S xs) (hidden_all ts)) (minus (plus S (lets_at ts 0)) (hidden_all ts))) (sym (nth_is ts 0)) (within_refl (minus (plus S (lets_at ts 0)) (hidden_all ts)))
+  catch_next b p ts (suc i) = less (after_first (Binds true) S ts (suc i)) (hidden_all ts)
+
+  for_next : (b : Bool) (p : Position) (ts : Trees) (i : ℕ) → let q = head_demand (first_facts (facts ts)).declared in Within (minus (plus (after_first q S ts i) (begins_by (beginning b shape.ForStatement p i) (summaries ts) i)) (hidden_all ts)) (after_first q S ts (suc i))
+  for_next b p ts zero = minus_more _ _ (hidden_all ts) (for_begins ts)
+  for_next b p ts (suc i) = less (after_first (head_demand (first_facts (facts ts)).declared) S ts (suc i)) (hidden_all ts)
+
+  left_next : (b : Bool) (p : Position) (ts : Trees) (i : ℕ) → let q = left_demand (first_facts (facts ts)).declared in Within (minus (plus (after_left q S ts i) (begins_by (beginning b shape.ForOfStatement p i) (summaries ts) i)) (hidden_all ts)) (after_left q S ts (suc i))
+  left_next b p ts zero = less S (hidden_all ts)
+  left_next b p ts (suc zero) = minus_more _ _ (hidden_all ts) (left_begins ts)
+  left_next b p ts (suc (suc i)) = less (after_left (left_demand (first_facts (facts ts)).declared) S ts (suc (suc i))) (hidden_all ts)
+
+needs_next : (b : Bool) (h : Shape) (p : Position) (q : Demand) (S : VariableSet) (ts : Trees) → Fits p q → Lists b q → (i : ℕ) → Within (minus (plus (needs h q S ts i) (begins b h p (summaries ts) i)) (hidden_all ts)) (needs h q S ts (suc i))
+needs_next b shape.Listed StatementList q S ts fit a i = listed_next q S ts fit i
+needs_next b shape.Listed BodyList q S ts fit a i = listed_next q S ts (body_listed q fit) i
+needs_next b shape.Listed CommaList q S ts fit a i = lexical_next b q S ts a i
+needs_next b shape.Listed p q S ts fit a i = list_on q S ts i
+needs_next b shape.CatchClause p q S ts fit a i = catch_next S b p ts i
+needs_next b shape.ForStatement p q S ts fit a i = for_next S b p ts i
+needs_next b shape.ForInStatement p q S ts fit a i = left_next S b p ts i
+needs_next b shape.ForOfStatement p q S ts fit a i = left_next S b p ts i
+needs_next b h p q S ts fit a i = less S (hidden_all ts)
+
+-- and a child that is the list of a `let` or a `const` is asked to declare
+kind_lists : (b : Bool) → Lists b (Declares b)
+kind_lists true = tt
+kind_lists false = tt
+
+both_list : (u b : Bool) → Lists (u && b) (Declares b)
+both_list true b = kind_lists b
+both_list false b = tt
+
+none_list : (u b l : Bool) → u ≡ false → Lists (u && b) (Binds l)
+none_list true b l e = absurd (true≢false e)
+none_list false b l e = tt
+
+statement_lists : (v : VariableDeclarationKind) (k : StmtSeat) (q : Demand) → Fits (Stmt k) q → Lists (is_lexical v) (declaration_demand v q)
+statement_lists v k (Stat t) fit = kind_lists (is_lexical v)
+statement_lists v k q fit = absurd fit
+
+head_lists : (v : VariableDeclarationKind) (s : Seat) (q : Demand) → Fits (Expr s) q → Lists (s.unused && is_lexical v) (declaration_demand v q)
+head_lists v s (Binds l) fit = none_list s.unused (is_lexical v) l fit.1
+head_lists v s q fit = both_list s.unused (is_lexical v)
+
+child_lists : (h : Shape) (p : Position) (q : Demand) (fs : List Facts) → Fits p q → (i : ℕ) → Lists (lists_lexical h p) (demand h fs q i)
+child_lists (shape.VariableDeclaration v) (Stmt k) q fs fit i = statement_lists v k q fit
+child_lists (shape.VariableDeclaration v) (Expr s) q fs fit i = head_lists v s q fit
+child_lists h p q fs fit i = tt
+
+listed_there : (h : Shape) (p : Position) (L : Begun) (is : List Summary) (i : ℕ) → lists_lexical h p ≡ (begun_at h p L is i).in_lexical
+listed_there h p L is zero = refl
+listed_there h p L is (suc i) = listed_there h p L is i
+
+pub children_list : (h : Shape) (p : Position) (q : Demand) (L : Begun) (ts : Trees) → Fits p q → (i : ℕ) → Lists (begun_at h p L (summaries ts) i).in_lexical (demand h (facts ts) q i)
+children_list h p q L ts fit i = subst (λ b. Lists b (demand h (facts ts) q i)) (listed_there h p L (summaries ts) i) (child_lists h p q (facts ts) fit i)
+
+-- so what is known at each child has its value there
 module _ (c : Tree) (X : VariableSet) where
-  abbrev K : Symbols → VariableSet
-  K L = valued c L X
+  abbrev K : Begun → VariableSet
+  K L = valued c L.symbols X
 
-  abbrev Fewer : Trees → Type 0
-  Fewer ts = (k : ℕ) → all_bindings k ts ≤ bindings k c
-
-  pub begun_off : (h : Shape) (p : Position) (L : Symbols) (ts : Trees) → Off (hidden_all ts) (K L) → Fewer ts → (i : ℕ) → Off (hidden_all ts) (K (begun_at h p L (summaries ts) i))
-  begun_off shape.Listed StatementList L ts o f i = behind_off c X L ts o f i
-  begun_off shape.Listed BodyList L ts o f i = behind_off c X L ts o f i
-  begun_off h p L ts o f i = o
-
-  nothing_behind : (L : Symbols) (is : List Summary) → behind L is 0 ≡ L
-  nothing_behind L [] = refl
-  nothing_behind L (s ∷ is) = refl
-
-  behind_along : (H : List Variable) (L : Symbols) (S : VariableSet) (ts : Trees) → Within (K L) S → ((i : ℕ) → Off H (K (behind L (summaries ts) i))) → (i : ℕ) → Within (K (behind L (summaries ts) i)) (along H S ts i)
-  behind_along H L S none w o i = w
-  behind_along H L S (t ▸ ts) w o zero = w
-  behind_along H L S (t ▸ ts) w o (suc i) =
-      let next = passing L (summary t).lets in
-      let off : Off H (K next) = subst (λ M. Off H (K M)) (nothing_behind next (summaries ts)) (o 1) in
-      behind_along H next (minus (plus S (summary t).lets) H) ts (within_minus (K next) _ H off (more_known c X L t S w)) (λ j. o (suc j)) i
-
-  listed_wide : (q : Demand) (L : Symbols) (S : VariableSet) (ts : Trees) → Fits StatementList q → Within (K L) S → Off (hidden_all ts) (K L) → Fewer ts → (i : ℕ) → Within (K (behind L (summaries ts) i)) (list_needs q S ts i)
-  listed_wide (Stat t) L S ts fit w o f i = behind_along (hidden_all ts) L S ts w (behind_off c X L ts o f) i
-  listed_wide q L S ts fit w o f i = absurd fit
-
-  body_listed : (q : Demand) → Fits BodyList q → Fits StatementList q
-  body_listed (Stat t) fit = tt
-  body_listed q fit = absurd fit
-
-  pub begun_wide : (h : Shape) (p : Position) (q : Demand) (L : Symbols) (S : VariableSet) (ts : Trees) → Fits p q → Within (K L) S → Off (hidden_all ts) (K L) → Fewer ts → (i : ℕ) → Within (K (begun_at h p L (summaries ts) i)) (needs h q S ts i)
-  begun_wide shape.Listed StatementList q L S ts fit w o f i = listed_wide q L S ts fit w o f i
-  begun_wide shape.Listed BodyList q L S ts fit w o f i = listed_wide q L S ts (body_listed q fit) w o f i
-  begun_wide h p q L S ts fit w o f i = needs_still h q (K L) S ts w o i
+  pub begun_wide : (h : Shape) (p : Position) (q : Demand) (L : Begun) (S : VariableSet) (ts : Trees) → Fits p q → Lists L.in_lexical q → Within (K L) S → Off (hidden_all ts) (K L) → ((k : ℕ) → all_bindings k ts ≤ bindings k c) → (i : ℕ) → Within (K (begun_at h p L (summaries ts) i)) (needs h q S ts i)
+  begun_wide h p q L S ts fit a w o f zero = needs_still h q (K L) S ts w o 0
+  begun_wide h p q L S ts fit a w o f (suc i) =
+      let before = begun_at h p L (summaries ts) i in
+      let next = begun_at h p L (summaries ts) (suc i) in
+      let there = more_known c X before.symbols (begins L.in_lexical h p (summaries ts) i) (needs h q S ts i) (begun_wide h p q L S ts fit a w o f i) in
+      within_trans (K next) _ _ (within_minus (K next) _ (hidden_all ts) (begun_off c X h p L ts o f (suc i)) there) (needs_next L.in_lexical h p q S ts fit a i)
 
 module _ (F : OwnRows) (keeps : (V : Assured) → KeepsOwn V (F V)) (c : Tree) (V : Assured) where
-  abbrev R : Symbols → Position → Tree → Tree → Type 0
+  abbrev R : Begun → Position → Tree → Tree → Type 0
   R = own_rows F c V
 
   form : KeepsForm (AnyRow F)
   form = any_form F keeps
 
   mutual
-    pub forget : {L : Symbols} {p : Position} {t u : Tree} → OwnStep R L p t u → Step (AnyRow F) p t u
+    pub forget : {L : Begun} {p : Position} {t u : Tree} → OwnStep R L p t u → Step (AnyRow F) p t u
     forget (own_here L p n w r) = here p n w (known_in c V L, r)
     forget (own_inside L p h xs ts us b s) = inside p h xs 0 ts us (forget_in s)
 
-    forget_in : {Λ : ℕ → Symbols} {π : ℕ → Position} {ts us : Trees} → OwnStepIn R Λ π ts us → StepIn (AnyRow F) π ts us
+    forget_in : {Λ : ℕ → Begun} {π : ℕ → Position} {ts us : Trees} → OwnStepIn R Λ π ts us → StepIn (AnyRow F) π ts us
     forget_in (own_first Λ π t u ts s) = first π t u ts (forget s)
     forget_in (own_later Λ π t ts us s) = later π t ts us (forget_in s)
 
   mutual
-    pub own_read : {L : Symbols} {p : Position} {t u : Tree} → OwnStep R L p t u → summary t ≡ summary u
+    pub own_read : {L : Begun} {p : Position} {t u : Tree} → OwnStep R L p t u → summary t ≡ summary u
     own_read (own_here L p n w r) = (keeps (known_in c V L)).reads p n w r
     own_read (own_inside L p h xs ts us b s) = ap (λ is. summary_of h (variables xs) 0 is) (own_reads s)
 
-    own_reads : {Λ : ℕ → Symbols} {π : ℕ → Position} {ts us : Trees} → OwnStepIn R Λ π ts us → summaries ts ≡ summaries us
+    own_reads : {Λ : ℕ → Begun} {π : ℕ → Position} {ts us : Trees} → OwnStepIn R Λ π ts us → summaries ts ≡ summaries us
     own_reads (own_first Λ π t u ts s) = ap (λ i. i ∷ summaries ts) (own_read s)
     own_reads (own_later Λ π t ts us s) = ap (λ is. summary t ∷ is) (own_reads s)
 
-  around_same : (a : Around) (h : Shape) {Λ : ℕ → Symbols} {π : ℕ → Position} {ts us : Trees} → OwnStepIn R Λ π ts us → below a h ts ≡ below a h us
+  around_same : (a : Around) (h : Shape) {Λ : ℕ → Begun} {π : ℕ → Position} {ts us : Trees} → OwnStepIn R Λ π ts us → below a h ts ≡ below a h us
   around_same a (shape.Class c) {ts = ts} {us = us} s = (λ j i. record (below a (shape.Class c) ts i) { extends = not (nth_absent (facts_all (own_reads s j)) 1) })
   around_same a h s = refl
 
   -- the bodies and frames in it are among those that were there
   mutual
-    pub own_bodies : {L : Symbols} {p : Position} {t u : Tree} → OwnStep R L p t u → (a : Around) → BodiesKept (bodies a t) (bodies a u)
+    pub own_bodies : {L : Begun} {p : Position} {t u : Tree} → OwnStep R L p t u → (a : Around) → BodiesKept (bodies a t) (bodies a u)
     own_bodies (own_here L p n w r) a = (keeps (known_in c V L)).bodies p n w r a
     own_bodies (own_inside L p h xs ts us b s) a =
         subst₂ BodiesKept (sym (λ i. no_body a h (node h xs 0 ts) ts b i ++ bodies_from (below a h ts) 0 ts)) (ap (λ α. bodies_from α 0 us) (around_same a h s) ∙ sym (λ i. no_body a h (node h xs 0 us) us b i ++ bodies_from (below a h us) 0 us))
         (own_bodies_in s (below a h ts) 0)
 
-    own_bodies_in : {Λ : ℕ → Symbols} {π : ℕ → Position} {ts us : Trees} → OwnStepIn R Λ π ts us → (α : ℕ → Around) (i : ℕ) → BodiesKept (bodies_from α i ts) (bodies_from α i us)
+    own_bodies_in : {Λ : ℕ → Begun} {π : ℕ → Position} {ts us : Trees} → OwnStepIn R Λ π ts us → (α : ℕ → Around) (i : ℕ) → BodiesKept (bodies_from α i ts) (bodies_from α i us)
     own_bodies_in (own_first Λ π t u ts s) α i = each_body (bodies (α i) t) (bodies_from α (suc i) ts) (bodies (α i) u) (bodies_from α (suc i) ts) (own_bodies s (α i)) (kept_itself (bodies_from α (suc i) ts))
     own_bodies_in (own_later Λ π t ts us s) α i = each_body (bodies (α i) t) (bodies_from α (suc i) ts) (bodies (α i) t) (bodies_from α (suc i) us) (kept_itself (bodies (α i) t)) (own_bodies_in s α (suc i))
 
   mutual
-    pub own_frames : {L : Symbols} {p : Position} {t u : Tree} → OwnStep R L p t u → (κ : Option PropertyKind) → FramesKept (frames κ t) (frames κ u)
+    pub own_frames : {L : Begun} {p : Position} {t u : Tree} → OwnStep R L p t u → (κ : Option PropertyKind) → FramesKept (frames κ t) (frames κ u)
     own_frames (own_here L p n w r) κ = (keeps (known_in c V L)).frames p n w r κ
     own_frames (own_inside L p h xs ts us b s) κ =
         subst₂ FramesKept (sym (λ i. no_frame κ h (frame_outline h xs 0 ts) (globals h ts) b i ++ frames_from (property_below h) 0 ts)) (sym (λ i. no_frame κ h (frame_outline h xs 0 us) (globals h us) b i ++ frames_from (property_below h) 0 us))
         (own_frames_in s (property_below h) 0)
 
-    own_frames_in : {Λ : ℕ → Symbols} {π : ℕ → Position} {ts us : Trees} → OwnStepIn R Λ π ts us → (κ : ℕ → Option PropertyKind) (i : ℕ) → FramesKept (frames_from κ i ts) (frames_from κ i us)
+    own_frames_in : {Λ : ℕ → Begun} {π : ℕ → Position} {ts us : Trees} → OwnStepIn R Λ π ts us → (κ : ℕ → Option PropertyKind) (i : ℕ) → FramesKept (frames_from κ i ts) (frames_from κ i us)
     own_frames_in (own_first Λ π t u ts s) κ i = each_frame (frames (κ i) t) (frames_from κ (suc i) ts) (frames (κ i) u) (frames_from κ (suc i) ts) (own_frames s (κ i)) (λ f m. m)
     own_frames_in (own_later Λ π t ts us s) κ i = each_frame (frames (κ i) t) (frames_from κ (suc i) ts) (frames (κ i) t) (frames_from κ (suc i) us) (λ f m. m) (own_frames_in s κ (suc i))
 
@@ -314,21 +430,21 @@ module _ (F : OwnRows) (keeps : (V : Assured) → KeepsOwn V (F V)) (c : Tree) (
     facts_count (t ▸ ts) = ap suc (facts_count ts)
 
     -- the variables that have values wherever it is evaluated, behind what has declared L
-    abbrev I : Symbols → VariableSet
+    abbrev I : Begun → VariableSet
     I L = (known_in c V L).initial
 
     mutual
-      own_goes : {L : Symbols} {p : Position} {t u : Tree} → OwnStep R L p t u → ((k : ℕ) → bindings k t ≤ bindings k c) → (X : VariableSet) → Within (I L) X → Off (hidden t) (I L) → (q : Demand) → Fits p q → TreesGo U X q t u
-      own_goes (own_here L p n w r) less X wide o q f = trees_fade_from V.unshared e z.unshared (I L) X wide q n w ((keeps (known_in c V L)).means e (known_steady c V L e z) p n w r q f)
-      own_goes (own_inside L p h xs ts us b s) less X wide o q f =
+      own_goes : {L : Begun} {p : Position} {t u : Tree} → OwnStep R L p t u → ((k : ℕ) → bindings k t ≤ bindings k c) → (X : VariableSet) → Within (I L) X → Off (hidden t) (I L) → (q : Demand) → Fits p q → Lists L.in_lexical q → TreesGo U X q t u
+      own_goes (own_here L p n w r) less X wide o q f a = trees_fade_from V.unshared e z.unshared (I L) X wide q n w ((keeps (known_in c V L)).means e (known_steady c V L e z) p n w r q f)
+      own_goes (own_inside L p h xs ts us b s) less X wide o q f a =
           let inner = off_back (scope_of h (summaries ts)) (hidden_all ts) (I L) o in
           let fewer : (k : ℕ) → all_bindings k ts ≤ bindings k c = λ k. omega (arith, less k) in
           one_node U sound h xs xs 0 0 ts us X q (ap (naming h q (variables xs) 0) (own_reads s)) refl (ap facts_all (own_reads s))
-          (own_goes_in s fewer (needs h q X ts) (begun_wide c V.initial h p q L X ts f wide inner fewer) (begun_off c V.initial h p L ts inner fewer) (demand h (facts ts) q) (λ i. subst (λ m. Fits (child_position h p m i) (demand h (facts ts) q i)) (facts_count ts) (fits_children h (facts ts) p q f i)))
+          (own_goes_in s fewer (needs h q X ts) (begun_wide c V.initial h p q L X ts f a wide inner fewer) (begun_off c V.initial h p L ts inner fewer) (demand h (facts ts) q) (λ i. subst (λ m. Fits (child_position h p m i) (demand h (facts ts) q i)) (facts_count ts) (fits_children h (facts ts) p q f i)) (children_list h p q L ts f))
 
-      own_goes_in : {Λ : ℕ → Symbols} {π : ℕ → Position} {ts us : Trees} → OwnStepIn R Λ π ts us → ((k : ℕ) → all_bindings k ts ≤ bindings k c) → (X : ℕ → VariableSet) → ((i : ℕ) → Within (I (Λ i)) (X i)) → ((i : ℕ) → Off (hidden_all ts) (I (Λ i))) → (σ : ℕ → Demand) → ((i : ℕ) → Fits (π i) (σ i)) → PlaceGo U sound X σ (hidden_all ts) ts us
-      own_goes_in (own_first Λ π t u ts s) less X wide o σ f = place_cons U sound t u ts ts X σ (own_goes s (λ k. omega (arith, less k)) (X 0) (wide 0) (off_front (hidden t) (hidden_all ts) (I (Λ 0)) (o 0)) (σ 0) (f 0)) (kids_itself ts (λ i. X (suc i)) (λ i. σ (suc i)))
-      own_goes_in (own_later Λ π t ts us s) less X wide o σ f = place_cons U sound t t ts us X σ (tree_itself V.unshared e z.unshared (X 0) (σ 0) t) (own_goes_in s (λ k. omega (arith, less k)) (λ i. X (suc i)) (λ i. wide (suc i)) (λ i. off_back (hidden t) (hidden_all ts) (I (Λ (suc i))) (o (suc i))) (λ i. σ (suc i)) (λ i. f (suc i)))
+      own_goes_in : {Λ : ℕ → Begun} {π : ℕ → Position} {ts us : Trees} → OwnStepIn R Λ π ts us → ((k : ℕ) → all_bindings k ts ≤ bindings k c) → (X : ℕ → VariableSet) → ((i : ℕ) → Within (I (Λ i)) (X i)) → ((i : ℕ) → Off (hidden_all ts) (I (Λ i))) → (σ : ℕ → Demand) → ((i : ℕ) → Fits (π i) (σ i)) → ((i : ℕ) → Lists (Λ i).in_lexical (σ i)) → PlaceGo U sound X σ (hidden_all ts) ts us
+      own_goes_in (own_first Λ π t u ts s) less X wide o σ f a = place_cons U sound t u ts ts X σ (own_goes s (λ k. omega (arith, less k)) (X 0) (wide 0) (off_front (hidden t) (hidden_all ts) (I (Λ 0)) (o 0)) (σ 0) (f 0) (a 0)) (kids_itself ts (λ i. X (suc i)) (λ i. σ (suc i)))
+      own_goes_in (own_later Λ π t ts us s) less X wide o σ f a = place_cons U sound t t ts us X σ (tree_itself V.unshared e z.unshared (X 0) (σ 0) t) (own_goes_in s (λ k. omega (arith, less k)) (λ i. X (suc i)) (λ i. wide (suc i)) (λ i. off_back (hidden t) (hidden_all ts) (I (Λ (suc i))) (o (suc i))) (λ i. σ (suc i)) (λ i. f (suc i)) (λ i. a (suc i)))
 
     abbrev J : VariableSet
     J = (at_start c V).initial
@@ -338,11 +454,11 @@ module _ (F : OwnRows) (keeps : (V : Assured) → KeepsOwn V (F V)) (c : Tree) (
     unfolding TreesGo
     from_start q n w o g X wide r x y f i = goes_map true _ (λ a. Fades V.unshared) _ (Fades V.unshared) (Fades V.unshared) _ _ (λ a s t b. b.0) (λ s t b. b.0) (g r J (within_refl J) o x y (f, init_less J X x wide i))
 
-    pub own_runs : {p : Position} {t u : Tree} → OwnStep R no_symbols p t u → ((k : ℕ) → bindings k t ≤ bindings k c) → Off (hidden t) J → (b : BodyKind) → Fits p (body_demand b) → (X : VariableSet) → Within J X → RunsAs e b b X t u
-    own_runs {t = t} {u = u} s less o b fit X wide = runs_alike V.unshared e z.unshared b t u X (from_start (body_demand b) t u o (own_goes s less J (within_refl J) o (body_demand b) fit) X wide)
+    pub own_runs : {p : Position} {t u : Tree} → OwnStep R nothing_begun p t u → ((k : ℕ) → bindings k t ≤ bindings k c) → Off (hidden t) J → (b : BodyKind) → Fits p (body_demand b) → (X : VariableSet) → Within J X → RunsAs e b b X t u
+    own_runs {t = t} {u = u} s less o b fit X wide = runs_alike V.unshared e z.unshared b t u X (from_start (body_demand b) t u o (own_goes s less J (within_refl J) o (body_demand b) fit tt) X wide)
 
     -- and so does a node over it that is its own body
-    pub own_runs_over : (h : Shape) (n : ℕ) (p : Position) {ts us : Trees} → OwnStepIn R (λ i. no_symbols) (child_position h p (count ts)) ts us → ((k : ℕ) → all_bindings k ts ≤ bindings k c) → Off (hidden (node h [] n ts)) J → (b : BodyKind) → Fits p (body_demand b) → (X : VariableSet) → Within J X → RunsAs e b b X (node h [] n ts) (node h [] n us)
+    pub own_runs_over : (h : Shape) (n : ℕ) (p : Position) {ts us : Trees} → OwnStepIn R (λ i. nothing_begun) (child_position h p (count ts)) ts us → ((k : ℕ) → all_bindings k ts ≤ bindings k c) → Off (hidden (node h [] n ts)) J → (b : BodyKind) → Fits p (body_demand b) → (X : VariableSet) → Within J X → RunsAs e b b X (node h [] n ts) (node h [] n us)
     own_runs_over h n p {ts = ts} {us = us} s less o b fit X wide = runs_alike V.unshared e z.unshared b (node h [] n ts) (node h [] n us) X (from_start (body_demand b) (node h [] n ts) (node h [] n us) o (goes (body_demand b) fit) X wide)
       where
         inner : Off (hidden_all ts) J
@@ -351,7 +467,7 @@ module _ (F : OwnRows) (keeps : (V : Assured) → KeepsOwn V (F V)) (c : Tree) (
         goes : (q : Demand) → Fits p q → TreesGo U J q (node h [] n ts) (node h [] n us)
         goes q f =
             one_node U sound h [] [] n n ts us J q (ap (naming h q [] n) (own_reads s)) refl (ap facts_all (own_reads s))
-            (own_goes_in s less (needs h q J ts) (needs_still h q J J ts (within_refl J) inner) (λ i. inner) (demand h (facts ts) q) (λ i. subst (λ m. Fits (child_position h p m i) (demand h (facts ts) q i)) (facts_count ts) (fits_children h (facts ts) p q f i)))
+            (own_goes_in s less (needs h q J ts) (needs_still h q J J ts (within_refl J) inner) (λ i. inner) (demand h (facts ts) q) (λ i. subst (λ m. Fits (child_position h p m i) (demand h (facts ts) q i)) (facts_count ts) (fits_children h (facts ts) p q f i)) (λ i. tt))
 
 -- bodies that are there stand for themselves
 pub kept_under : (S : BodySets) (W : VariableSet) (bs cs : List Body) → BodiesKept bs cs → BodiesUnder W S nothing bs cs
@@ -359,7 +475,7 @@ kept_under S W bs cs h = more_under nothing W none_steady S nothing nothing (λ 
 
 -- ---- an instance
 
-module _ (F : OwnRows) (keeps : (V : Assured) → KeepsOwn V (F V)) (S : BodySets) (W : VariableSet) (d g : Bool) (ds : List (List ℕ)) (k : ℕ) (name ps t u : Tree) (s : OwnStep (own_rows F t (S k)) no_symbols Elsewhere t u) (p : Position) where
+module _ (F : OwnRows) (keeps : (V : Assured) → KeepsOwn V (F V)) (S : BodySets) (W : VariableSet) (d g : Bool) (ds : List (List ℕ)) (k : ℕ) (name ps t u : Tree) (s : OwnStep (own_rows F t (S k)) nothing_begun Elsewhere t u) (p : Position) where
   abbrev f : Tree
   f = function_over d g ds k name ps t
 
@@ -476,7 +592,7 @@ no_list p z e = cc e
 
 module _ (F : OwnRows) (keeps : (V : Assured) → KeepsOwn V (F V)) (S : BodySets) where
   -- what holds of each such function holds of what a row reads and writes
-  by_row : (P : Position → Tree → Tree → Type 0) → ((p : Position) (d g : Bool) (ds : List (List ℕ)) (k : ℕ) (name ps t u : Tree) → is_function_place p ≡ true → OwnStep (own_rows F t (S k)) no_symbols Elsewhere t u → P p (function_over d g ds k name ps t) (function_over d g ds k name ps u)) → (p : Position) (n w : Tree) → OwnFunction F S p n w → P p n w
+  by_row : (P : Position → Tree → Tree → Type 0) → ((p : Position) (d g : Bool) (ds : List (List ℕ)) (k : ℕ) (name ps t u : Tree) → is_function_place p ≡ true → OwnStep (own_rows F t (S k)) nothing_begun Elsewhere t u → P p (function_over d g ds k name ps t) (function_over d g ds k name ps u)) → (p : Position) (n w : Tree) → OwnFunction F S p n w → P p n w
   by_row P h p n w c =
       let (z, r) = placed_row F S p n w c in
       subst (λ v. P p v w) (sym r.shape) (subst (P p (function_over r.is_declaration r.is_generator r.directives r.number r.name r.parameters r.before)) (sym r.written) (h p r.is_declaration r.is_generator r.directives r.number r.name r.parameters r.before r.after z r.step))

@@ -173,7 +173,7 @@ module _ (q : StmtSeat) (n w : Tree) (r : SwitchRow n w) where
       switch_same e there.spelling k u there.before there.after there.d there.w there.loses.read (all_avoided x k refl there.before there.earlier) there.loses.avoids (all_avoided x k refl there.after there.later)
       (there.loses.same e (record { unseen = u; writable = λ y f. absurd (true≢false (sym f)) })) r.discriminant (avoided x k refl r.discriminant unread.asked) r.first (all_avoided x k refl r.first unread.earlier) r.test (avoided x k refl r.test unread.tested) r.last (all_avoided x k refl r.last unread.later) t
 
-  dropped : Dropped q k this that
+  dropped : Dropped (Stmt q) k this that
   dropped =
       let o = all_other x Lexical r.first unread.earlier in
       let p = all_other x Lexical r.last unread.later in
@@ -193,10 +193,10 @@ module _ (q : StmtSeat) (n w : Tree) (r : SwitchRow n w) where
         declared_there = switch_declares x r.discriminant r.first r.last d v leaves names_there o p;
       }
 
-  row_dropped : Dropped q k n w
+  row_dropped : Dropped (Stmt q) k n w
   row_dropped =
       let over = λ (ts : Trees). switch r.discriminant (listed (cases_of ts)) in
-      subst (λ t. Dropped q k t w) (sym (r.shape ∙ ap over there.read_is)) (subst (Dropped q k this) (sym (r.written ∙ ap over there.written_is)) dropped)
+      subst (λ t. Dropped (Stmt q) k t w) (sym (r.shape ∙ ap over there.read_is)) (subst (Dropped (Stmt q) k this) (sym (r.written ∙ ap over there.written_is)) dropped)
 
   in_place : (strict : Bool) (s : Slot) → fits strict s n ≡ true → (fits strict s w ≡ true) × (is_body_slot (Stmt q) s ≡ true)
   in_place strict s e =

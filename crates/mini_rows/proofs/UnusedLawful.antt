@@ -6,7 +6,7 @@ use Rattle.std.proofs.lemmas.List.{append-nil}
 use Rattle.mini_model.specs.declared.kind.VariableDeclarationKind.{VariableDeclarationKind}
 use Rattle.mini_model.specs.declared.name.Name.{Name}
 use Rattle.mini_model.specs.declared.place.Position.{Position}
-use Rattle.mini_model.specs.declared.place.Position.TheVariants.{Stmt}
+use Rattle.mini_model.specs.declared.place.Position.TheVariants.{Stmt, Elsewhere}
 use Rattle.mini_model.specs.declared.seat.StmtSeat.{StmtSeat}
 use Rattle.mini_model.specs.declared.shape.Shape.{Shape}
 use Rattle.mini_model.specs.declared.shape.Shape.TheVariants as shape
@@ -15,7 +15,7 @@ use Rattle.mini_model.specs.Paths.{append}
 use Rattle.mini_accept.specs.WellShaped as well
 use Rattle.mini_accept.specs.WellShaped.{Depth, in_module, in_body, nested, Class, a_statement, a_block, a_key, a_private_or_key, an_inner_key, a_declarator, a_pattern, an_init, an_expression, a_loop_left, a_default_export, Slot, one, one_or_absent, many, many_or_holes, many_and_rest, many_or_holes_and_rest, quasis, each, filling, fits, fill}
 use Rattle.mini_laws.specs.declared.names.Binding.{Binding}
-use Rattle.mini_laws.specs.DeclaredNames.{has_inner}
+use Rattle.mini_laws.specs.DeclaredNames.{all_names, has_inner}
 use Rattle.mini_laws.specs.declared.names.Declared.TheVariants.{Lexical}
 use Rattle.mini_laws.specs.Scoped.{Unmentioned, AllUnmentioned}
 use Rattle.mini_laws.specs.Value.{Variable, Declared, nothing}
@@ -55,19 +55,21 @@ use Rattle.mini_rows.specs.Lists.{block, declares_nothing, declaration, Each, Ea
 use Rattle.mini_rows.specs.Declarations.{binding, declarator}
 use Rattle.mini_rows.specs.Unused.{resolved, declared_one, any_names, is_idle, may_move, is_first, reads_head, evaluated, BlockRow, declared_among, declared_left, put_first}
 use Rattle.mini_rows.proofs.ArrangedBodies.{quiet}
+use Rattle.mini_rows.proofs.BlockPlaces.{holds_block, no_list, block_placed, block_there, block_asked}
 use Rattle.mini_rows.proofs.FoldLawful.{vanishes}
 use Rattle.mini_rows.proofs.ListShapes.{declaration_anywhere, append_fits, both_fit, first_fits, more_fit}
-use Rattle.mini_rows.proofs.UnusedKept.{LeavesThere, NamesThere, list_fixed, list_frames, list_bodies, list_declares, block_kept, block_less, block_keeps}
-use Rattle.mini_rows.proofs.DeclaredKept.{value_leaves, value_names, idle_leaves, idle_names}
-use Rattle.mini_rows.proofs.HeadKept.{head_leaves, head_names}
+use Rattle.mini_rows.proofs.UnusedKept.{LeavesThere, NamesThere, DeclaresThere, list_fixed, list_frames, list_bodies, list_declares, block_kept, block_less, block_keeps}
+use Rattle.mini_rows.proofs.DeclaredKept.{value_leaves, value_names, value_declares, idle_leaves, idle_names, idle_declares}
+use Rattle.mini_rows.proofs.HeadKept.{head_leaves, head_names, head_declares}
 use Rattle.mini_rows.proofs.HeadMeaning.{row_71}
+use Rattle.mini_rows.proofs.ModuleKept.{fewer}
 use Rattle.mini_rows.proofs.ListKeptHeads.{Seat, Loop, Choice, seated}
 use Rattle.mini_rows.proofs.SingleUse.{Initial, Outside, Over, Heads, heads}
 use Rattle.mini_rows.proofs.SingleFits.{MayStand, first_of, second_of, put_fits, put_initial, put_asked, put_begun}
 use Rattle.mini_rows.proofs.UnusedMeaning.{movable, lexical_alone, row_72, row_72_idle}
-use Rattle.mini_rows.proofs.NextKept.{next_leaves, next_names}
+use Rattle.mini_rows.proofs.NextKept.{next_leaves, next_names, next_declares}
 use Rattle.mini_rows.proofs.NextMeaning.{row_71_next}
-use Rattle.mini_rows.proofs.UnusedNames.{all_unmentioned, all_other}
+use Rattle.mini_rows.proofs.UnusedNames.{Other, all_unmentioned, all_other}
 
 -- ---- where a block may stand
 
@@ -261,12 +263,12 @@ pub gone : (b : Binding) (ts us ws : Trees) → AllUnmentioned b ts → AllUnmen
 unfolding Unmentioned
 gone b ts us ws p q r = (tt, all_join b ts (append ws us) p (all_join b ws us q r))
 
-pub record Dropped (q : StmtSeat) (k : ℕ) (n w : Tree) : Type 0 where
-  pub keeps : KeepsLoosely (Stmt q) n w
-  pub drops : (K : Shape → Bool) → Drops K k (Stmt q) n w
+pub record Dropped (p : Position) (k : ℕ) (n w : Tree) : Type 0 where
+  pub keeps : KeepsLoosely p n w
+  pub drops : (K : Shape → Bool) → Drops K k p n w
   pub declared_there : (x : Name) → Contains (declared w) x → Contains (declared n) x
 
-module _ (q : StmtSeat) (s : List ℕ) (k : ℕ) (before after d w : Trees) (l : LeavesThere (resolved s k) d w) (n : NamesThere (resolved s k) d w) (earlier : any_names (resolved s k) before ≡ false) (later : any_names (resolved s k) after ≡ false) where
+module _ (s : List ℕ) (k : ℕ) (before after d w : Trees) (l : LeavesThere (resolved s k) d w) (n : NamesThere (resolved s k) d w) (earlier : any_names (resolved s k) before ≡ false) (later : any_names (resolved s k) after ≡ false) where
   abbrev x : Name
   x = resolved s k
 
@@ -292,23 +294,31 @@ module _ (q : StmtSeat) (s : List ℕ) (k : ℕ) (before after d w : Trees) (l :
   pub block_declares : (y : Name) → Contains (declared (block second_list)) y → Contains (declared (block first_list)) y
   block_declares y c = subst (λ ys. Contains ys y) (sym (append-nil (declared (listed first_list)))) (list_declares x before after d w l y (subst (λ ys. Contains ys y) (append-nil (declared (listed second_list))) c))
 
-  dropped : ((e : Environment) → Unseen (alone (Declared k)) e → (d : Demand) → Fits (Stmt q) d → Same e (alone (Declared k)) nothing d (block first_list) (block second_list)) → Dropped q k (block first_list) (block second_list)
-  dropped same =
-      let o = all_other x Lexical before earlier in
-      let p = all_other x Lexical after later in
-      let m = gone (record { name = x; hoists = false }) before after w (all_unmentioned x k refl before earlier) l.unmentioned (all_unmentioned x k refl after later) in
-      record {
-        keeps = in_order (Stmt q) (block first_list) (block second_list) (block_keeps x before after d w l n o p m q);
-        drops = λ K. record {
-          kept = block_kept x before after d w l n o p;
-          less = block_less x before after d w l n o p k refl;
-          same = λ e u. same e u.unseen;
-          fixed = block_fixed;
-          frames = λ strict c g f. kept_shown (gone_from K (alone (Declared k))) no_key (frames None (block first_list)) (frames None (block second_list)) block_frames;
-          bodies = λ strict c g f a z. from_kept (alone (Declared k)) (bodies a (block first_list)) (bodies a (block second_list)) (block_bodies a);
-        };
-        declared_there = block_declares;
-      }
+  module _ (m : DeclaresThere (resolved s k) d w) (p : Position) (placed : holds_block p ≡ true) where
+    abbrev lexical_before : Other x (all_names Lexical before)
+    lexical_before = all_other x Lexical before earlier
+
+    abbrev lexical_after : Other x (all_names Lexical after)
+    lexical_after = all_other x Lexical after later
+
+    pub block_keeps_there : KeepsLoosely p (block first_list) (block second_list)
+    block_keeps_there =
+        let u = gone (record { name = x; hoists = false }) before after w (all_unmentioned x k refl before earlier) l.unmentioned (all_unmentioned x k refl after later) in
+        block_there p placed first_list second_list (λ q. in_order (Stmt q) (block first_list) (block second_list) (block_keeps x before after d w l n lexical_before lexical_after u q)) (fewer x before after d w l m earlier later [])
+
+    dropped : ((e : Environment) → Unseen (alone (Declared k)) e → (t : Option Tail) → Same e (alone (Declared k)) nothing (Stat t) (block first_list) (block second_list)) → Dropped p k (block first_list) (block second_list)
+    dropped same = record {
+      keeps = block_keeps_there;
+      drops = λ K. record {
+        kept = block_kept x before after d w l n lexical_before lexical_after;
+        less = block_less x before after d w l n lexical_before lexical_after k refl;
+        same = λ e u q f. block_asked e (alone (Declared k)) nothing first_list second_list (same e u.unseen) q;
+        fixed = block_fixed;
+        frames = λ strict c g f. kept_shown (gone_from K (alone (Declared k))) no_key (frames None (block first_list)) (frames None (block second_list)) block_frames;
+        bodies = λ strict c g f a z. from_kept (alone (Declared k)) (bodies a (block first_list)) (bodies a (block second_list)) (block_bodies a);
+      };
+      declared_there = block_declares;
+    }
 
 -- ---- the rows
 
@@ -316,8 +326,8 @@ pub in_tails : (e : Environment) (q : StmtSeat) (D : Variable → Bool) (n w : T
 in_tails e q D n w h (Stat t) f = h t
 in_tails e q D n w h d f = elim f [ ]
 
-moved : (q : StmtSeat) (k : ℕ) (n w n' w' : Tree) → n ≡ n' → w ≡ w' → Dropped q k n' w' → Dropped q k n w
-moved q k n w n' w' e f d = subst (λ t. Dropped q k t w) (sym e) (subst (Dropped q k n') (sym f) d)
+moved : (p : Position) (k : ℕ) (n w n' w' : Tree) → n ≡ n' → w ≡ w' → Dropped p k n' w' → Dropped p k n w
+moved p k n w n' w' e f d = subst (λ t. Dropped p k t w) (sym e) (subst (Dropped p k n') (sym f) d)
 
 nothing_vanishes : Vanishes absent
 unfolding has_inner
@@ -333,32 +343,32 @@ idle_vanishes init h = by (is_absent_part init) refl
         let quiet = (and_parts (declares_nothing init) (is_effect_free init && leaves_nothing init) (sym (ap (λ b. b || (declares_nothing init && (is_effect_free init && leaves_nothing init))) a) ∙ h)).1 in
         vanishes init (and_parts (is_effect_free init) (leaves_nothing init) quiet).1
 
-row_dropped : (q : StmtSeat) (n w : Tree) → BlockRow nothing n w → (k : ℕ) × Dropped q k n w
-row_dropped q n w (inl r) =
+row_dropped : (p : Position) → holds_block p ≡ true → (n w : Tree) → BlockRow nothing n w → (k : ℕ) × Dropped p k n w
+row_dropped p h n w (inl r) =
     let x = resolved r.spelling r.symbol in (
       r.symbol,
-      moved q r.symbol n w _ _ r.shape r.written (dropped q r.spelling r.symbol r.before r.after (declared_one r.kind x r.init ▸ none) (expression_statement r.init ▸ none) (value_leaves r.kind x r.symbol refl r.init r.unused.initial) (value_names r.kind x r.symbol refl r.init r.unused.initial (lexical_alone r.kind r.goes)) r.unused.earlier r.unused.later
-          (λ e z. in_tails e q (alone (Declared r.symbol)) _ _ (row_72 e r.symbol z _ _ (record { before = r.before; kind = r.kind; spelling = r.spelling; symbol = r.symbol; init = r.init; after = r.after; goes = r.goes; present = r.present; unused = r.unused; shape = refl; written = refl }) refl))),
+      moved p r.symbol n w _ _ r.shape r.written (dropped r.spelling r.symbol r.before r.after (declared_one r.kind x r.init ▸ none) (expression_statement r.init ▸ none) (value_leaves r.kind x r.symbol refl r.init r.unused.initial) (value_names r.kind x r.symbol refl r.init r.unused.initial (lexical_alone r.kind r.goes)) r.unused.earlier r.unused.later (value_declares r.kind x r.symbol refl r.init r.unused.initial) p h
+          (λ e z. row_72 e r.symbol z _ _ (record { before = r.before; kind = r.kind; spelling = r.spelling; symbol = r.symbol; init = r.init; after = r.after; goes = r.goes; present = r.present; unused = r.unused; shape = refl; written = refl }) refl)),
     )
-row_dropped q n w (inr (inl r)) =
+row_dropped p h n w (inr (inl r)) =
     let x = resolved r.spelling r.symbol in
     let v = idle_vanishes r.init r.idle in (
       r.symbol,
-      moved q r.symbol n w _ _ r.shape r.written (dropped q r.spelling r.symbol r.before r.after (declared_among r.kind x r.first r.init r.last ▸ none) (declared_left r.kind (append r.first r.last) ▸ none) (idle_leaves r.kind x r.symbol refl r.first r.init r.last v r.unused.declared_earlier r.unused.declared_later) (idle_names r.kind x r.symbol refl r.first r.init r.last v r.unused.declared_earlier r.unused.declared_later (lexical_alone r.kind r.goes)) r.unused.earlier r.unused.later
-          (λ e z. in_tails e q (alone (Declared r.symbol)) _ _ (row_72_idle e r.symbol z _ _ (record { before = r.before; kind = r.kind; first = r.first; spelling = r.spelling; symbol = r.symbol; init = r.init; last = r.last; after = r.after; goes = r.goes; idle = r.idle; unused = r.unused; shape = refl; written = refl }) refl))),
+      moved p r.symbol n w _ _ r.shape r.written (dropped r.spelling r.symbol r.before r.after (declared_among r.kind x r.first r.init r.last ▸ none) (declared_left r.kind (append r.first r.last) ▸ none) (idle_leaves r.kind x r.symbol refl r.first r.init r.last v r.unused.declared_earlier r.unused.declared_later) (idle_names r.kind x r.symbol refl r.first r.init r.last v r.unused.declared_earlier r.unused.declared_later (lexical_alone r.kind r.goes)) r.unused.earlier r.unused.later (idle_declares r.kind x r.symbol refl r.first r.init r.last v r.unused.declared_earlier r.unused.declared_later) p h
+          (λ e z. row_72_idle e r.symbol z _ _ (record { before = r.before; kind = r.kind; first = r.first; spelling = r.spelling; symbol = r.symbol; init = r.init; last = r.last; after = r.after; goes = r.goes; idle = r.idle; unused = r.unused; shape = refl; written = refl }) refl)),
     )
-row_dropped q n w (inr (inr (inl r))) =
+row_dropped p h n w (inr (inr (inl r))) =
     let x = resolved r.spelling r.symbol in
     let plain = movable r.init r.moves in (
       r.symbol,
-      moved q r.symbol n w _ _ r.shape r.written (dropped q r.spelling r.symbol r.before r.after (declared_among r.kind x r.first r.init none ▸ (r.head ▸ none)) (declared_left r.kind r.first ▸ (put_first x r.init r.head ▸ none)) (head_leaves r.kind x r.symbol refl r.first r.init r.head plain r.once r.initial r.declared_earlier) (head_names r.kind x r.symbol refl r.first r.init r.head plain r.once r.initial r.declared_earlier (lexical_alone r.kind r.goes)) r.earlier r.later
-          (λ e z. in_tails e q (alone (Declared r.symbol)) _ _ (row_71 e r.symbol z _ _ (record { before = r.before; kind = r.kind; first = r.first; spelling = r.spelling; symbol = r.symbol; init = r.init; head = r.head; after = r.after; goes = r.goes; moves = r.moves; once = r.once; passed = r.passed; earlier = r.earlier; declared_earlier = r.declared_earlier; initial = r.initial; later = r.later; unseen = r.unseen; shape = refl; written = refl }) refl))),
+      moved p r.symbol n w _ _ r.shape r.written (dropped r.spelling r.symbol r.before r.after (declared_among r.kind x r.first r.init none ▸ (r.head ▸ none)) (declared_left r.kind r.first ▸ (put_first x r.init r.head ▸ none)) (head_leaves r.kind x r.symbol refl r.first r.init r.head plain r.once r.initial r.declared_earlier) (head_names r.kind x r.symbol refl r.first r.init r.head plain r.once r.initial r.declared_earlier (lexical_alone r.kind r.goes)) r.earlier r.later (head_declares r.kind x r.symbol refl r.first r.init r.head plain r.once r.initial r.declared_earlier) p h
+          (λ e z. row_71 e r.symbol z _ _ (record { before = r.before; kind = r.kind; first = r.first; spelling = r.spelling; symbol = r.symbol; init = r.init; head = r.head; after = r.after; goes = r.goes; moves = r.moves; once = r.once; passed = r.passed; earlier = r.earlier; declared_earlier = r.declared_earlier; initial = r.initial; later = r.later; unseen = r.unseen; shape = refl; written = refl }) refl)),
     )
-row_dropped q n w (inr (inr (inr r))) =
+row_dropped p h n w (inr (inr (inr r))) =
     let x = resolved r.spelling r.symbol in (
       r.symbol,
-      moved q r.symbol n w _ _ r.shape r.written (dropped q r.spelling r.symbol r.before r.after (declared_among r.kind x r.first r.init (declarator r.binds r.value ▸ r.last) ▸ none) (declaration r.kind (append r.first (declarator r.binds (put_first x r.init r.value) ▸ r.last)) ▸ none) (next_leaves r.kind x r.symbol refl r.first r.init r.binds r.value r.last r.once r.declared_earlier r.initial r.other r.declared_later) (next_names r.kind x r.symbol refl r.first r.init r.binds r.value r.last r.once r.declared_earlier r.initial r.other r.declared_later (lexical_alone r.kind r.goes)) r.earlier r.later
-          (λ e z. in_tails e q (alone (Declared r.symbol)) _ _ (row_71_next e r.symbol z _ _ (record { before = r.before; kind = r.kind; first = r.first; spelling = r.spelling; symbol = r.symbol; init = r.init; binds = r.binds; value = r.value; last = r.last; after = r.after; goes = r.goes; moves = r.moves; once = r.once; passed = r.passed; other = r.other; earlier = r.earlier; declared_earlier = r.declared_earlier; initial = r.initial; declared_later = r.declared_later; later = r.later; unseen = r.unseen; shape = refl; written = refl }) refl))),
+      moved p r.symbol n w _ _ r.shape r.written (dropped r.spelling r.symbol r.before r.after (declared_among r.kind x r.first r.init (declarator r.binds r.value ▸ r.last) ▸ none) (declaration r.kind (append r.first (declarator r.binds (put_first x r.init r.value) ▸ r.last)) ▸ none) (next_leaves r.kind x r.symbol refl r.first r.init r.binds r.value r.last r.once r.declared_earlier r.initial r.other r.declared_later) (next_names r.kind x r.symbol refl r.first r.init r.binds r.value r.last r.once r.declared_earlier r.initial r.other r.declared_later (lexical_alone r.kind r.goes)) r.earlier r.later (next_declares r.kind x r.symbol refl r.first r.init r.binds r.value r.last r.once r.declared_earlier r.initial r.other r.declared_later) p h
+          (λ e z. row_71_next e r.symbol z _ _ (record { before = r.before; kind = r.kind; first = r.first; spelling = r.spelling; symbol = r.symbol; init = r.init; binds = r.binds; value = r.value; last = r.last; after = r.after; goes = r.goes; moves = r.moves; once = r.once; passed = r.passed; other = r.other; earlier = r.earlier; declared_earlier = r.declared_earlier; initial = r.initial; declared_later = r.declared_later; later = r.later; unseen = r.unseen; shape = refl; written = refl }) refl)),
     )
 
 record Blocks (n w : Tree) : Type 0 where
@@ -368,16 +378,16 @@ record Blocks (n w : Tree) : Type 0 where
   after : w ≡ block second
   fitting : (strict : Bool) → fill strict (each item) first ≡ true → fill strict (each item) second ≡ true
 
-row_blocks : (q : StmtSeat) (n w : Tree) → BlockRow nothing n w → Blocks n w
-row_blocks q n w (inl r) =
+row_blocks : (n w : Tree) → BlockRow nothing n w → Blocks n w
+row_blocks n w (inl r) =
     let d = declared_one r.kind (resolved r.spelling r.symbol) r.init in
     record { first = append r.before (d ▸ r.after); second = append r.before (expression_statement r.init ▸ r.after); before = r.shape; after = r.written; fitting = λ strict. one_item strict r.before r.after d (expression_statement r.init) (value_fits strict r.kind (resolved r.spelling r.symbol) r.init r.present) }
-row_blocks q n w (inr (inl r)) =
+row_blocks n w (inr (inl r)) =
     let x = resolved r.spelling r.symbol in
     let d = declared_among r.kind x r.first r.init r.last in
     let left = declared_left r.kind (append r.first r.last) in
     record { first = append r.before (d ▸ r.after); second = append r.before (left ▸ r.after); before = r.shape; after = r.written; fitting = λ strict. one_item strict r.before r.after d left (left_fits strict r.kind x r.first r.init r.last) }
-row_blocks q n w (inr (inr (inl r))) =
+row_blocks n w (inr (inr (inl r))) =
     let x = resolved r.spelling r.symbol in
     let d = declared_among r.kind x r.first r.init none in
     let left = declared_left r.kind r.first in
@@ -388,7 +398,7 @@ row_blocks q n w (inr (inr (inl r))) =
       after = r.written;
       fitting = λ strict. two_items strict r.before r.after d r.head left (put_first x r.init r.head) (λ f g. single_fits strict r.kind x r.first r.init r.head r.moves r.once (inr r.passed) f g);
     }
-row_blocks q n w (inr (inr (inr r))) =
+row_blocks n w (inr (inr (inr r))) =
     let x = resolved r.spelling r.symbol in
     let d = declared_among r.kind x r.first r.init (declarator r.binds r.value ▸ r.last) in
     let left = declaration r.kind (append r.first (declarator r.binds (put_first x r.init r.value) ▸ r.last)) in
@@ -401,41 +411,43 @@ shaped n w P f b = subst (λ t. P t w) (sym b.before) (subst (P (block b.first))
 pub blocks_asked : (p : Position) (first_list second_list : Trees) → AskedAlike p (block first_list) (block second_list)
 blocks_asked p first_list second_list = record { absent = λ g. absurd (true≢false (sym g)); body = λ g. absurd (true≢false (sym g)); optional = λ g. absurd (true≢false (sym g)); number = λ g h. refl; spelled = λ r g. absurd (cc g); plain = refl }
 
-in_place : (q : StmtSeat) (n w : Tree) → BlockRow nothing n w → (strict : Bool) (s : Slot) → fits strict s n ≡ true → (fits strict s w ≡ true) × (is_body_slot (Stmt q) s ≡ true)
-in_place q n w r strict s e =
-    let b = row_blocks q n w r in
-    let (f, g) = in_slot b.first b.second b.fitting strict (Stmt q) s (sym (ap (fits strict s) b.before) ∙ e) in
+in_place : (p : Position) (n w : Tree) → BlockRow nothing n w → (strict : Bool) (s : Slot) → fits strict s n ≡ true → (fits strict s w ≡ true) × (is_body_slot p s ≡ true)
+in_place p n w r strict s e =
+    let b = row_blocks n w r in
+    let (f, g) = in_slot b.first b.second b.fitting strict p s (sym (ap (fits strict s) b.before) ∙ e) in
     (ap (fits strict s) b.after ∙ f, g)
 
--- of a statement
+-- of a statement, or of a block of a `try`
 abbrev pub OfBlock : Position → Tree → Tree → Type 0
 OfBlock (Stmt q) n w = BlockRow nothing n w
+OfBlock Elsewhere n w = BlockRow nothing n w
 OfBlock p n w = ⊥
 
 -- whichever place it is
-at_statement : (P : Position → Tree → Tree → Type 0) → ((q : StmtSeat) (n w : Tree) → BlockRow nothing n w → P (Stmt q) n w) → (p : Position) (n w : Tree) → OfBlock p n w → P p n w
-at_statement P f (Stmt q) n w c = f q n w c
-at_statement P f p n w c = absurd c
+at_block : (P : Position → Tree → Tree → Type 0) → ((p : Position) → holds_block p ≡ true → (n w : Tree) → BlockRow nothing n w → P p n w) → (p : Position) (n w : Tree) → OfBlock p n w → P p n w
+at_block P f (Stmt q) n w c = f (Stmt q) refl n w c
+at_block P f Elsewhere n w c = f Elsewhere refl n w c
+at_block P f p n w c = absurd c
 
 pub blocks_loose : (K : Shape → Bool) → LawfulLoosely K OfBlock
 blocks_loose K = record {
   shapes = record {
-    fitting = at_statement (λ p n w. (strict : Bool) (s : Slot) → fits_place p s ≡ true → fits strict s n ≡ true → fits strict s w ≡ true) (λ q n w r strict s o e. (in_place q n w r strict s e).0);
-    asked = at_statement AskedAlike (λ q n w r. shaped n w (AskedAlike (Stmt q)) (blocks_asked (Stmt q)) (row_blocks q n w r));
+    fitting = at_block (λ p n w. (strict : Bool) (s : Slot) → fits_place p s ≡ true → fits strict s n ≡ true → fits strict s w ≡ true) (λ p h n w r strict s o e. (in_place p n w r strict s e).0);
+    asked = at_block AskedAlike (λ p h n w r. shaped n w (AskedAlike p) (blocks_asked p) (row_blocks n w r));
   };
   places = record {
     names = record {
-      places = at_statement (λ p n w. (is_rewritten_place p ≡ true) ⊎ KeepsRoot p n w) (λ q n w r. inl refl);
-      pieces = at_statement (λ p n w. is_piece (shape_of n) ≡ false) (λ q n w r. ap (λ t. is_piece (shape_of t)) (row_blocks q n w r).before);
-      keeps = at_statement (λ p n w. (strict : Bool) (s : Slot) → fits_place p s ≡ true → fits strict s n ≡ true → KeepsLoosely p n w) (λ q n w r strict s o e. (row_dropped q n w r).1.keeps);
+      places = at_block (λ p n w. (is_rewritten_place p ≡ true) ⊎ KeepsRoot p n w) (λ p h n w r. shaped n w (λ n w. (is_rewritten_place p ≡ true) ⊎ KeepsRoot p n w) (block_placed p h) (row_blocks n w r));
+      pieces = at_block (λ p n w. is_piece (shape_of n) ≡ false) (λ p h n w r. ap (λ t. is_piece (shape_of t)) (row_blocks n w r).before);
+      keeps = at_block (λ p n w. (strict : Bool) (s : Slot) → fits_place p s ≡ true → fits strict s n ≡ true → KeepsLoosely p n w) (λ p h n w r strict s o e. (row_dropped p h n w r).1.keeps);
     };
-    slots = at_statement (λ p n w. (strict : Bool) (s : Slot) → fits_place p s ≡ true → fits strict s n ≡ true → ((is_body_slot p s ≡ true) ⊎ IsShownAlike s n w) ⊎ KeepsHolder n w) (λ q n w r strict s o e. inl (inl (in_place q n w r strict s e).1));
-    ports = at_statement (λ p n w. (strict : Bool) (d : Depth) → fits strict (one (a_statement d)) n ≡ true → (m : Bool) → NoPort m n w ⊎ KeepsFunction n w) (λ q n w r strict d e m. inl (shaped n w (NoPort m) (λ first_list second_list. (refl, refl)) (row_blocks q n w r)));
-    listed = λ p n w e c. absurd (at_statement (λ p n w. is_statement_list p ≡ true → ⊥) (λ q n w r e. cc e) p n w c e);
-    exported = at_statement (λ p n w. (strict : Bool) → fits strict (one a_default_export) n ≡ true → NoDeclaration n w ⊎ KeepsFunction n w) (λ q n w r strict e. inl (shaped n w NoDeclaration (λ first_list second_list. (refl, refl)) (row_blocks q n w r)));
+    slots = at_block (λ p n w. (strict : Bool) (s : Slot) → fits_place p s ≡ true → fits strict s n ≡ true → ((is_body_slot p s ≡ true) ⊎ IsShownAlike s n w) ⊎ KeepsHolder n w) (λ p h n w r strict s o e. inl (inl (in_place p n w r strict s e).1));
+    ports = at_block (λ p n w. (strict : Bool) (d : Depth) → fits strict (one (a_statement d)) n ≡ true → (m : Bool) → NoPort m n w ⊎ KeepsFunction n w) (λ p h n w r strict d e m. inl (shaped n w (NoPort m) (λ first_list second_list. (refl, refl)) (row_blocks n w r)));
+    listed = λ p n w e c. absurd (at_block (λ p n w. is_statement_list p ≡ true → ⊥) (λ p h n w r e. no_list p h e) p n w c e);
+    exported = at_block (λ p n w. (strict : Bool) → fits strict (one a_default_export) n ≡ true → NoDeclaration n w ⊎ KeepsFunction n w) (λ p h n w r strict e. inl (shaped n w NoDeclaration (λ first_list second_list. (refl, refl)) (row_blocks n w r)));
   };
-  reads = at_statement (λ p n w. summary n ≡ summary w) (λ q n w r. shaped n w (λ t v. summary t ≡ summary v) (λ first_list second_list. refl) (row_blocks q n w r));
-  kind = at_statement (λ p n w. (strict : Bool) (s : Slot) → fits strict s n ≡ true → arrow_kind (shape_of n) ≡ arrow_kind (shape_of w)) (λ q n w r strict s e. shaped n w (λ t v. arrow_kind (shape_of t) ≡ arrow_kind (shape_of v)) (λ first_list second_list. refl) (row_blocks q n w r));
-  declared = at_statement (λ p n w. (y : Name) → Contains (declared w) y → Contains (declared n) y) (λ q n w r. (row_dropped q n w r).1.declared_there);
-  instances = at_statement (λ p n w. Stays p n w ⊎ ((k : ℕ) × Drops K k p n w)) (λ q n w r. let d = row_dropped q n w r in inr (d.0, d.1.drops K));
+  reads = at_block (λ p n w. summary n ≡ summary w) (λ p h n w r. shaped n w (λ t v. summary t ≡ summary v) (λ first_list second_list. refl) (row_blocks n w r));
+  kind = at_block (λ p n w. (strict : Bool) (s : Slot) → fits strict s n ≡ true → arrow_kind (shape_of n) ≡ arrow_kind (shape_of w)) (λ p h n w r strict s e. shaped n w (λ t v. arrow_kind (shape_of t) ≡ arrow_kind (shape_of v)) (λ first_list second_list. refl) (row_blocks n w r));
+  declared = at_block (λ p n w. (y : Name) → Contains (declared w) y → Contains (declared n) y) (λ p h n w r. (row_dropped p h n w r).1.declared_there);
+  instances = at_block (λ p n w. Stays p n w ⊎ ((k : ℕ) × Drops K k p n w)) (λ p h n w r. let d = row_dropped p h n w r in inr (d.0, d.1.drops K));
 }

@@ -23,6 +23,7 @@ use Rattle.mini_rows.specs.Cases.{switch_case}
 use Rattle.mini_rows.specs.Lists.{block, switch, declaration}
 use Rattle.mini_rows.specs.Unused.{resolved, declared_among, declared_one, declared_left, head_left, put_first, takes_name, BlockRow, ArrowBodyRow, FunctionBodyRow, ModuleRow, StaticBlockRow, switch_around, SwitchRow, ForRow, UnusedRow, UnusedLighten, UnusedLighter}
 use Rattle.mini_terms.specs.Reading.{is_plain_part}
+use Rattle.mini_rows.proofs.BlockPlaces.{elsewhere_weighs}
 use Rattle.mini_rows.proofs.SingleWeights.{single_falls, next_falls}
 use Rattle.mini_rows.proofs.ListWeights.{total, list_is, body_is, in_list, comma_list, declarators_append}
 
@@ -88,6 +89,19 @@ block_lighter q n w (inr (inr (inr r))) =
     let plain = (and_parts (is_plain_part r.init) (not (takes_name (shape_of r.init) (part r.init 0))) r.moves).0 in
     let falls = block_falls q r.before r.after (declared_among r.kind x r.first r.init (declarator r.binds r.value ▸ r.last)) (declaration r.kind (append r.first (declarator r.binds (put_first x r.init r.value) ▸ r.last))) refl (next_falls r.kind r.spelling r.symbol r.first r.init r.binds r.value r.last plain r.once) in
     omega (arith, falls, ap (weight (Stmt q)) r.shape, ap (weight (Stmt q)) r.written)
+
+-- a block of a `try` weighs what it weighs as a body
+weighs_there : (n : Tree) (ts : Trees) → n ≡ block ts → weight Elsewhere n ≡ weight (Stmt stmt_seat.Body) n
+weighs_there n ts e = ap (weight Elsewhere) e ∙ elsewhere_weighs ts ∙ sym (ap (weight (Stmt stmt_seat.Body)) e)
+
+both_weigh : {W : VariableSet} (n w : Tree) → BlockRow W n w → (weight Elsewhere n ≡ weight (Stmt stmt_seat.Body) n) × (weight Elsewhere w ≡ weight (Stmt stmt_seat.Body) w)
+both_weigh n w (inl r) = (weighs_there n _ r.shape, weighs_there w _ r.written)
+both_weigh n w (inr (inl r)) = (weighs_there n _ r.shape, weighs_there w _ r.written)
+both_weigh n w (inr (inr (inl r))) = (weighs_there n _ r.shape, weighs_there w _ r.written)
+both_weigh n w (inr (inr (inr r))) = (weighs_there n _ r.shape, weighs_there w _ r.written)
+
+try_lighter : {W : VariableSet} (n w : Tree) → BlockRow W n w → weight Elsewhere w < weight Elsewhere n
+try_lighter n w r = let (a, b) = both_weigh n w r in omega (arith, a, b, block_lighter stmt_seat.Body n w r)
 
 -- a function's body by the block that what stands before it and its statements would be
 arrow_lighter : {W : VariableSet} (s : Seat) (n w : Tree) → ArrowBodyRow W n w → weight (Expr s) w < weight (Expr s) n
@@ -203,7 +217,8 @@ unused_lighter W (Expr s) n w (inr r) = function_lighter (Expr s) n w r
 unused_lighter W Method n w r = function_lighter Method n w r
 unused_lighter W Elsewhere n w (inl r) = function_lighter Elsewhere n w r
 unused_lighter W Elsewhere n w (inr (inl r)) = module_lighter n w r
-unused_lighter W Elsewhere n w (inr (inr r)) = static_lighter n w r
+unused_lighter W Elsewhere n w (inr (inr (inl r))) = static_lighter n w r
+unused_lighter W Elsewhere n w (inr (inr (inr r))) = try_lighter n w r
 unused_lighter W p n w r = absurd r
 
 -- ---- what a parent reads of them
@@ -211,11 +226,14 @@ unused_lighter W p n w r = absurd r
 function_outline : {W : VariableSet} (n w : Tree) → FunctionBodyRow W n w → outline n ≡ outline w
 function_outline n w r = ap outline r.shape ∙ sym (ap outline r.written)
 
+block_outline : {W : VariableSet} (n w : Tree) → BlockRow W n w → outline n ≡ outline w
+block_outline n w (inl r) = ap outline r.shape ∙ sym (ap outline r.written)
+block_outline n w (inr (inl r)) = ap outline r.shape ∙ sym (ap outline r.written)
+block_outline n w (inr (inr (inl r))) = ap outline r.shape ∙ sym (ap outline r.written)
+block_outline n w (inr (inr (inr r))) = ap outline r.shape ∙ sym (ap outline r.written)
+
 same_outline : (W : VariableSet) (p : Position) (n w : Tree) → UnusedRow W p n w → outline n ≡ outline w
-same_outline W (Stmt q) n w (inl (inl r)) = ap outline r.shape ∙ sym (ap outline r.written)
-same_outline W (Stmt q) n w (inl (inr (inl r))) = ap outline r.shape ∙ sym (ap outline r.written)
-same_outline W (Stmt q) n w (inl (inr (inr (inl r)))) = ap outline r.shape ∙ sym (ap outline r.written)
-same_outline W (Stmt q) n w (inl (inr (inr (inr r)))) = ap outline r.shape ∙ sym (ap outline r.written)
+same_outline W (Stmt q) n w (inl r) = block_outline n w r
 same_outline W (Stmt q) n w (inr (inl r)) = function_outline n w r
 same_outline W (Stmt q) n w (inr (inr (inl r))) = ap outline r.shape ∙ sym (ap outline r.written)
 same_outline W (Stmt q) n w (inr (inr (inr r))) = ap outline r.shape ∙ sym (ap outline r.written)
@@ -224,7 +242,8 @@ same_outline W (Expr s) n w (inr r) = function_outline n w r
 same_outline W Method n w r = function_outline n w r
 same_outline W Elsewhere n w (inl r) = function_outline n w r
 same_outline W Elsewhere n w (inr (inl r)) = ap outline r.shape ∙ sym (ap outline r.written)
-same_outline W Elsewhere n w (inr (inr r)) = ap outline r.shape ∙ sym (ap outline r.written)
+same_outline W Elsewhere n w (inr (inr (inl r))) = ap outline r.shape ∙ sym (ap outline r.written)
+same_outline W Elsewhere n w (inr (inr (inr r))) = block_outline n w r
 same_outline W p n w r = absurd r
 
 pub unused_lighten : UnusedLighten

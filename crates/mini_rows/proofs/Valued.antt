@@ -1,10 +1,11 @@
--- What statements before have declared has its value there, and no scope in the list hides it, where the code declares it only once.
+-- What is begun at a child has its value there, and no scope in the children hides it, where the code declares it only once.
 use Rattle.std.specs.Prelude.{ℕ, zero, suc, ◌≡◌, ◌≤◌, ◌+◌, ◌⊎◌, ◌&&◌, ◌||◌, not, nat_lt, Bool, true, false, List, [], ◌∷◌, ◌++◌, Option, Some, None, if◌then◌else◌}
 use Rattle.std.proofs.Common.{ap, ◌∙◌, sym, subst, refl, inl, inr, arith, true≢false}
 use Rattle.std.proofs.lemmas.Bool.{and_parts, lt-ltb}
 use Rattle.mini_model.specs.declared.name.Name.{Name}
 use Rattle.mini_model.specs.declared.name.SymbolId.{SymbolId}
 use Rattle.mini_model.specs.declared.operator.UnaryOperator.TheVariants.{LogicalNot}
+use Rattle.mini_model.specs.declared.place.Position.{Position}
 use Rattle.mini_model.specs.declared.shape.Shape.{Shape}
 use Rattle.mini_model.specs.declared.shape.Shape.TheVariants as shape
 use Rattle.mini_model.specs.Tree.{Tree, Trees, node, none, ◌▸◌}
@@ -12,7 +13,7 @@ use Rattle.mini_laws.specs.Value.{Variable, Declared, Global, VariableSet, choos
 use Rattle.mini_laws.specs.Naming.{Summary, AClass, Declared as What, Variables, summary, summaries, lets_all, lets_first, lets_of, class_lets, first_facts, facts_all, front, is_lexical, scope_of}
 use Rattle.mini_laws.specs.Skeleton.{plus, Within, Off, hidden, hidden_all}
 use Rattle.mini_rows.specs.Past.{is_binding, is_symbol, has_symbol, binds, any_bind}
-use Rattle.mini_rows.specs.Steady.{times_named, bindings, all_bindings, Symbols, passing, behind, valued}
+use Rattle.mini_rows.specs.Steady.{times_named, bindings, all_bindings, Symbols, passing, Begun, Beginning, OfChild, OfHead, OfNone, beginning, nth_lets, lets_as, head_lets, begins_by, begins, begun_at, valued}
 use Rattle.mini_rows.proofs.Unbound.{all_unhidden}
 
 -- ---- lists
@@ -184,7 +185,7 @@ module _ (k : ℕ) where
     all_lets_twice (t ▸ ts) e f =
         first_and_later (bindings k t) (all_bindings k ts) (λ e f. lets_twice t e f) (lets_once t) (one_hidden t) (λ e f. all_lets_twice ts e f) (all_lets_once ts) (hidden_once ts) (in_either (summary t).lets (lets_all (summaries ts)) e) (in_either (hidden t) (hidden_all ts) f)
 
-  -- ---- what is known at a statement
+  -- ---- what is known at a child
 
   pub once : (m : ℕ) → not (nat_lt 1 m) ≡ true → m ≤ 1
   once zero e = omega arith
@@ -210,19 +211,34 @@ module _ (k : ℕ) where
   pub passed : (L : Symbols) (xs : List Variable) → passing L xs k ≡ true → (L k ≡ true) ⊎ In xs
   passed L xs e = or_either (L k) (is_in (Declared k) xs) e
 
-  -- what is begun there was so before, or a statement of the list lets it
-  pub begun_before : (L : Symbols) (is : List Summary) (i : ℕ) → behind L is i k ≡ true → (L k ≡ true) ⊎ In (lets_all is)
-  begun_before L [] i e = inl e
-  begun_before L (s ∷ is) zero e = inl e
-  begun_before L (s ∷ is) (suc i) e = by (begun_before (passing L s.lets) is i e)
-    where
-      next : (L k ≡ true) ⊎ In s.lets → (L k ≡ true) ⊎ In (s.lets ++ lets_all is)
-      next (inl h) = inl h
-      next (inr h) = inr (in_left s.lets (lets_all is) h)
+  -- what begins behind a child one of the children lets
+  nth_in : (is : List Summary) (i : ℕ) → In (nth_lets is i) → In (lets_all is)
+  nth_in [] i e = e
+  nth_in (s ∷ is) zero e = in_left s.lets (lets_all is) e
+  nth_in (s ∷ is) (suc i) e = in_right s.lets (lets_all is) (nth_in is i e)
 
-      by : (passing L s.lets k ≡ true) ⊎ In (lets_all is) → (L k ≡ true) ⊎ In (s.lets ++ lets_all is)
-      by (inl h) = next (passed L s.lets h)
-      by (inr h) = inr (in_right s.lets (lets_all is) h)
+  as_lets : (o : Option What) (xs : List Variable) → In (lets_as o xs) → In xs
+  as_lets (Some (Variables v)) xs e = of_lexical (is_lexical v) xs e
+  as_lets (Some AClass) xs e = absurd (true≢false (sym e))
+  as_lets None xs e = absurd (true≢false (sym e))
+
+  head_in : (is : List Summary) → In (head_lets is) → In (lets_all is)
+  head_in [] e = e
+  head_in (s ∷ is) e = in_left s.lets (lets_all is) (as_lets s.facts.declared s.lets e)
+
+  begins_in : (b : Beginning) (is : List Summary) (i : ℕ) → In (begins_by b is i) → In (lets_all is)
+  begins_in OfChild is i e = nth_in is i e
+  begins_in OfHead is i e = head_in is e
+  begins_in OfNone is i e = absurd (true≢false (sym e))
+
+  -- so what is begun there was so before, or one of the children lets it
+  pub begun_before : (h : Shape) (p : Position) (L : Begun) (is : List Summary) (i : ℕ) → (begun_at h p L is i).symbols k ≡ true → (L.symbols k ≡ true) ⊎ In (lets_all is)
+  begun_before h p L is zero e = inl e
+  begun_before h p L is (suc i) e = by (passed (begun_at h p L is i).symbols (begins L.in_lexical h p is i) e) (λ f. begun_before h p L is i f)
+    where
+      by : ((begun_at h p L is i).symbols k ≡ true) ⊎ In (begins L.in_lexical h p is i) → ((begun_at h p L is i).symbols k ≡ true → (L.symbols k ≡ true) ⊎ In (lets_all is)) → (L.symbols k ≡ true) ⊎ In (lets_all is)
+      by (inl f) g = g f
+      by (inr f) g = inr (begins_in (beginning L.in_lexical h p i) is i f)
 
   -- which has its value where the code declares it once
   pub data Has (t : Tree) (L : Symbols) (X : VariableSet) : Type 0 where
@@ -246,29 +262,29 @@ module _ (c : Tree) (X : VariableSet) where
   abbrev K : Symbols → VariableSet
   K L = valued c L X
 
-  -- no scope in a list of statements hides what is begun in it, if none hides what was before
-  pub behind_off : (L : Symbols) (ts : Trees) → Off (hidden_all ts) (K L) → ((k : ℕ) → all_bindings k ts ≤ bindings k c) → (i : ℕ) → Off (hidden_all ts) (K (behind L (summaries ts) i))
+  -- no scope in the children of a node hides what is begun in it, if none hides what was before
+  pub begun_off : (h : Shape) (p : Position) (L : Begun) (ts : Trees) → Off (hidden_all ts) (K L.symbols) → ((k : ℕ) → all_bindings k ts ≤ bindings k c) → (i : ℕ) → Off (hidden_all ts) (K (begun_at h p L (summaries ts) i).symbols)
   unfolding Off
-  behind_off L ts o less i (Global s) h = absurd (true≢false (sym h))
-  behind_off L ts o less i (Declared k) h = by (has k c (behind L (summaries ts) i) X h)
+  begun_off h p L ts o less i (Global s) e = absurd (true≢false (sym e))
+  begun_off h p L ts o less i (Declared k) e = by (has k c (begun_at h p L (summaries ts) i).symbols X e)
     where
       twice : In k (lets_all (summaries ts)) → not (nat_lt 1 (bindings k c)) ≡ true → (b : Bool) → is_in (Declared k) (hidden_all ts) ≡ b → b ≡ false
       twice e f false q = refl
       twice e f true q = absurd (omega (arith, all_lets_twice k ts e q, less k, once k (bindings k c) f))
 
-      of : not (nat_lt 1 (bindings k c)) ≡ true → (L k ≡ true) ⊎ In k (lets_all (summaries ts)) → is_in (Declared k) (hidden_all ts) ≡ false
-      of f (inl a) = o (Declared k) (had k c L X (let_here a f))
+      of : not (nat_lt 1 (bindings k c)) ≡ true → (L.symbols k ≡ true) ⊎ In k (lets_all (summaries ts)) → is_in (Declared k) (hidden_all ts) ≡ false
+      of f (inl a) = o (Declared k) (had k c L.symbols X (let_here a f))
       of f (inr a) = twice a f (is_in (Declared k) (hidden_all ts)) refl
 
-      by : Has k c (behind L (summaries ts) i) X → is_in (Declared k) (hidden_all ts) ≡ false
-      by (let_here a f) = of f (begun_before k L (summaries ts) i a)
-      by (all_along f) = o (Declared k) (had k c L X (all_along f))
+      by : Has k c (begun_at h p L (summaries ts) i).symbols X → is_in (Declared k) (hidden_all ts) ≡ false
+      by (let_here a f) = of f (begun_before k h p L (summaries ts) i a)
+      by (all_along f) = o (Declared k) (had k c L.symbols X (all_along f))
 
-  -- and it has its value there
-  pub more_known : (L : Symbols) (t : Tree) (S : VariableSet) → Within (K L) S → Within (K (passing L (summary t).lets)) (plus S (summary t).lets)
+  -- and what begins behind a child has its value there
+  pub more_known : (L : Symbols) (xs : List Variable) (S : VariableSet) → Within (K L) S → Within (K (passing L xs)) (plus S xs)
   unfolding Within
-  more_known L t S w (Global s) h = absurd (true≢false (sym h))
-  more_known L t S w (Declared k) h = by (has k c (passing L (summary t).lets) X h)
+  more_known L xs S w (Global s) e = absurd (true≢false (sym e))
+  more_known L xs S w (Declared k) e = by (has k c (passing L xs) X e)
     where
       here : (b : Bool) → b ≡ true → choose b true (S (Declared k)) ≡ true
       here true e = refl
@@ -278,10 +294,10 @@ module _ (c : Tree) (X : VariableSet) where
       before true e = refl
       before false e = e
 
-      of : not (nat_lt 1 (bindings k c)) ≡ true → (L k ≡ true) ⊎ In k (summary t).lets → plus S (summary t).lets (Declared k) ≡ true
-      of f (inl a) = before (is_in (Declared k) (summary t).lets) (w (Declared k) (had k c L X (let_here a f)))
-      of f (inr a) = here (is_in (Declared k) (summary t).lets) a
+      of : not (nat_lt 1 (bindings k c)) ≡ true → (L k ≡ true) ⊎ In k xs → plus S xs (Declared k) ≡ true
+      of f (inl a) = before (is_in (Declared k) xs) (w (Declared k) (had k c L X (let_here a f)))
+      of f (inr a) = here (is_in (Declared k) xs) a
 
-      by : Has k c (passing L (summary t).lets) X → plus S (summary t).lets (Declared k) ≡ true
-      by (let_here a f) = of f (passed k L (summary t).lets a)
-      by (all_along f) = before (is_in (Declared k) (summary t).lets) (w (Declared k) (had k c L X (all_along f)))
+      by : Has k c (passing L xs) X → plus S xs (Declared k) ≡ true
+      by (let_here a f) = of f (passed k L xs a)
+      by (all_along f) = before (is_in (Declared k) xs) (w (Declared k) (had k c L X (all_along f)))

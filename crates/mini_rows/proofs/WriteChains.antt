@@ -12,7 +12,7 @@ use Rattle.mini_model.specs.declared.seat.Seat.{Seat}
 use Rattle.mini_model.specs.Tree.{Tree, none, ◌▸◌, identifier, null_literal}
 use Rattle.mini_model.specs.Position.{branch_seat, callee_seat, object_seat}
 use Rattle.mini_model.specs.Weight.{outline, weight}
-use Rattle.mini_accept.specs.WellShaped.{a_link, a_chain, Slot, one, fits, has_optional}
+use Rattle.mini_accept.specs.WellShaped.{a_link, a_chain, Slot, one, fits, has_optional, is_not_positive_number}
 use Rattle.mini_laws.specs.Value.{Value, Undefined, Variable, VariableSet, Declared, Holds, choose, is_nullish, truth, nothing}
 use Rattle.mini_laws.specs.State.{State, Stop, Halt, Short, Completion, ok, stop, halt, out, either, Environment, Writable}
 use Rattle.mini_laws.specs.Demand.{Demand, Called, plain_call}
@@ -25,6 +25,7 @@ use Rattle.mini_kept.specs.KeepsShapes.{AskedAlike}
 use Rattle.mini_kept.proofs.Bools.{both}
 use Rattle.mini_kept.proofs.Expressions.{expression, TakesExpression, expression_taken, of_conditional}
 use Rattle.mini_kept.proofs.FrameRows.{expression_slot}
+use Rattle.mini_terms.specs.Exact.{by_value as behind_zero, kept_by_value}
 use Rattle.mini_terms.specs.Reading.{is_item}
 use Rattle.mini_terms.proofs.Dropping.{after_cong}
 use Rattle.mini_terms.proofs.Frame.{gives_any}
@@ -39,9 +40,9 @@ use Rattle.mini_rows.proofs.ArrangedExpressions.{expressions_arranged_freely}
 use Rattle.mini_rows.proofs.Arranging.{often_each}
 use Rattle.mini_rows.proofs.ChainCalm.{Calm}
 use Rattle.mini_rows.proofs.ChainHoles.{sketch_of, sketch, trees_of, lists_of, behind, themselves, Stand, filled_of, filled_sketch, holes, link_holes, sketch_holes, often_itself, skipped, often_more, apart_from, dropping, staying_each, staying_more, rearranged_as, stands_of, chained}
-use Rattle.mini_rows.proofs.ChainLawful.{plain_name, link_fits, spine_ends, spine_optional, chain_light, spine_moved}
+use Rattle.mini_rows.proofs.ChainLawful.{plain_name, link_fits, spine_ends, spine_optional, spine_moved}
 use Rattle.mini_rows.proofs.ChainLinkMeaning.{base_called, plainly_called}
-use Rattle.mini_rows.proofs.ChainReferences.{chain_for_value}
+use Rattle.mini_rows.proofs.ChainGuards.{by_guard, kept_same, kept_read, kept_outline, kept_number, kept_fits, kept_light, behind_sketch, behind_rearranged}
 use Rattle.mini_rows.proofs.ChainRuns.{called, next, value, linked_value, linked_called, chain_of, value_is, called_is, chain_value, chain_calm, chain_short, link_calm, value_calm, same_first, short_first, name_called, after_boolean, turned}
 use Rattle.mini_rows.proofs.ChoiceLawful.{name_vanishes, undefined_vanishes, assigns_part}
 use Rattle.mini_rows.proofs.ChoiceRuns.{assign_value, conditional_value, undefined_value}
@@ -218,7 +219,7 @@ chained_same W s n w r e z q f =
     let x : Name = resolved r.spelling r.symbol in
     subst (λ t. Same e nothing nothing q t w) (sym r.shape)
     (subst (Same e nothing nothing q (asks W s n w r)) (sym r.written)
-    (chain_for_value e nothing nothing s r.valued (asks W s n w r) (held W s n w r) (if_item r.equal (assign x r.a) r.missing (spine false (identifier x) r.last r.others)) (if_null_tells r.equal (assign x r.a) r.missing (spine false (identifier x) r.last r.others))
+    (kept_same e nothing nothing s (asks W s n w r) (held W s n w r) (if_item r.equal (assign x r.a) r.missing (spine false (identifier x) r.last r.others)) (if_null_tells r.equal (assign x r.a) r.missing (spine false (identifier x) r.last r.others))
     (chained_value e r.spelling r.symbol (z (Declared r.symbol) r.writable) (plain_name x refl r.indirect) r.equal r.a r.missing r.last r.others r.undefined r.calm_value r.calm) q f))
 
 if_read : (equal : Bool) (t a b u : Tree) → summary (if_null equal t a b) ≡ summary (chain u)
@@ -226,7 +227,7 @@ if_read true t a b u = refl
 if_read false t a b u = refl
 
 pub chained_read : (W : VariableSet) (s : Seat) (n w : Tree) → Row46AssignedChain W s n w → summary n ≡ summary w
-chained_read W s n w r = let x : Name = resolved r.spelling r.symbol in ap summary r.shape ∙ if_read r.equal (assign x r.a) r.missing (spine false (identifier x) r.last r.others) (held W s n w r) ∙ sym (ap summary r.written)
+chained_read W s n w r = let x : Name = resolved r.spelling r.symbol in ap summary r.shape ∙ if_read r.equal (assign x r.a) r.missing (spine false (identifier x) r.last r.others) (held W s n w r) ∙ kept_read s.guard (held W s n w r) ∙ sym (ap summary r.written)
 
 -- ---- where it stands
 
@@ -259,31 +260,31 @@ module _ (W : VariableSet) (q : Seat) (n w : Tree) (r : Row46AssignedChain W q n
   pub chained_fits : (strict : Bool) (s : Slot) → fits strict s n ≡ true → fits strict s w ≡ true
   chained_fits strict s e =
       let (takes, (first, last)) = of_asked strict s r.equal target r.missing last_read (subst (λ t. fits strict s t ≡ true) r.shape e) in
-      subst (λ t. fits strict s t ≡ true) (sym r.written) (expression_taken strict s (chain (held W q n w r)) takes (chain_fits strict (identifier name) target r.last r.others first last))
+      subst (λ t. fits strict s t ≡ true) (sym r.written) (expression_taken strict s (kept_by_value q.guard (chain (held W q n w r))) takes (kept_fits strict q.guard (held W q n w r) (chain_fits strict (identifier name) target r.last r.others first last)))
 
   pub chained_slot : (strict : Bool) (s : Slot) → fits strict s n ≡ true → is_body_slot (Expr q) s ≡ true
   chained_slot strict s e = expression_slot (Expr q) s (of_asked strict s r.equal target r.missing last_read (subst (λ t. fits strict s t ≡ true) r.shape e)).0
 
-  asked_by : (equal : Bool) (t a b u : Tree) → AskedAlike (Expr q) (if_null equal t a b) (chain u)
-  asked_by true t a b u = record {
+  asked_by : (equal : Bool) (t a b u : Tree) → is_not_positive_number u ≡ true → AskedAlike (Expr q) (if_null equal t a b) u
+  asked_by true t a b u h = record {
     absent = λ e. absurd (true≢false (sym e));
     body = λ e. absurd (true≢false (sym e));
     optional = λ e. absurd (true≢false (sym e));
-    number = λ asks e. refl;
+    number = λ asks e. h;
     spelled = λ s e. absurd (cc e);
     plain = refl;
   }
-  asked_by false t a b u = record {
+  asked_by false t a b u h = record {
     absent = λ e. absurd (true≢false (sym e));
     body = λ e. absurd (true≢false (sym e));
     optional = λ e. absurd (true≢false (sym e));
-    number = λ asks e. refl;
+    number = λ asks e. h;
     spelled = λ s e. absurd (cc e);
     plain = refl;
   }
 
   pub chained_asked : AskedAlike (Expr q) n w
-  chained_asked = subst (λ t. AskedAlike (Expr q) t w) (sym r.shape) (subst (AskedAlike (Expr q) (asks W q n w r)) (sym r.written) (asked_by r.equal target r.missing last_read (held W q n w r)))
+  chained_asked = subst (λ t. AskedAlike (Expr q) t w) (sym r.shape) (subst (AskedAlike (Expr q) (asks W q n w r)) (sym r.written) (asked_by r.equal target r.missing last_read (kept_by_value q.guard (chain (held W q n w r))) (kept_number q.guard (held W q n w r))))
 
 -- ---- the same parts: the name, what is assigned, what is missing, and those of the links
 
@@ -374,16 +375,27 @@ module _ (W : VariableSet) (q : Seat) (n w : Tree) (r : Row46AssignedChain W q n
       (behind r.a none (r.missing ▸ trees_of r.last r.others) (none ∷ lists_of r.last r.others) 1 r.last r.others
       (behind r.missing none (trees_of r.last r.others) (lists_of r.last r.others) 0 r.last r.others (themselves r.last r.others)))
 
-  made : w ≡ filled ps (chained (over_assigned r.last r.others))
-  made = r.written ∙ sym (ap chain (filled_of ps assigned true (assign (resolved r.spelling r.symbol) r.a) refl 3 r.last r.others stand))
+  abbrev holds : Tree
+  holds = chain (held W q n w r)
+
+  abbrev in_chain : Sketch
+  in_chain = chained (over_assigned r.last r.others)
+
+  filled_chain : holds ≡ filled ps in_chain
+  filled_chain = sym (ap chain (filled_of ps assigned true (assign (resolved r.spelling r.symbol) r.a) refl 3 r.last r.others stand))
+
+  -- the conditional, and a sketch of what is written for it
+  kept_as : (s t : Sketch) (u : Tree) → rearranges_expression (dropping gone) s t ≡ true → n ≡ filled ps s → u ≡ filled ps t → KeptAt (Expr q) n u
+  kept_as s t u h e f = expressions_arranged_freely (dropping gone) ps (tt, tt, (name_vanishes (resolved r.spelling r.symbol), (undefined_vanishes r.missing r.undefined, tt))) s t h q n u e f
+
+  kept_from : (s : Sketch) → rearranges_expression (dropping gone) s in_chain ≡ true → n ≡ filled ps s → KeptAt (Expr q) n w
+  kept_from s h e =
+      subst (KeptAt (Expr q) n) (sym r.written)
+      (by_guard (KeptAt (Expr q) n) q.guard (held W q n w r) (λ v. kept_as s in_chain holds h e filled_chain) (kept_as s (behind_sketch in_chain) (behind_zero holds) (behind_rearranged (dropping gone) s in_chain h) e (ap behind_zero filled_chain)))
 
   kept_by : (equal : Bool) → n ≡ if_null equal (assign (resolved r.spelling r.symbol) r.a) r.missing (spine false named r.last r.others) → KeptAt (Expr q) n w
-  kept_by true e =
-      expressions_arranged_freely (dropping gone) ps (tt, tt, (name_vanishes (resolved r.spelling r.symbol), (undefined_vanishes r.missing r.undefined, tt))) (asked_before (plain r.last r.others)) (chained (over_assigned r.last r.others)) (before_arranged r.last r.others) q n w
-      (e ∙ sym (ap (λ t. if_null true (assign (resolved r.spelling r.symbol) r.a) r.missing t) (filled_sketch ps false named refl 3 r.last r.others stand))) made
-  kept_by false e =
-      expressions_arranged_freely (dropping gone) ps (tt, tt, (name_vanishes (resolved r.spelling r.symbol), (undefined_vanishes r.missing r.undefined, tt))) (asked_after (plain r.last r.others)) (chained (over_assigned r.last r.others)) (after_arranged r.last r.others) q n w
-      (e ∙ sym (ap (λ t. if_null false (assign (resolved r.spelling r.symbol) r.a) r.missing t) (filled_sketch ps false named refl 3 r.last r.others stand))) made
+  kept_by true e = kept_from (asked_before (plain r.last r.others)) (before_arranged r.last r.others) (e ∙ sym (ap (λ t. if_null true (assign (resolved r.spelling r.symbol) r.a) r.missing t) (filled_sketch ps false named refl 3 r.last r.others stand)))
+  kept_by false e = kept_from (asked_after (plain r.last r.others)) (after_arranged r.last r.others) (e ∙ sym (ap (λ t. if_null false (assign (resolved r.spelling r.symbol) r.a) r.missing t) (filled_sketch ps false named refl 3 r.last r.others stand)))
 
   pub chained_kept : KeptAt (Expr q) n w
   chained_kept = kept_by r.equal r.shape
@@ -402,21 +414,20 @@ module _ (x : Name) (a : Tree) where
   spine_light q (a_computed k) (m ∷ ls) = let below = spine_light object_seat m ls in omega (arith, below)
   spine_light q (a_call ts) (m ∷ ls) = let below = spine_light callee_seat m ls in omega (arith, below)
 
-  asked_heavy : (s : Seat) (equal : Bool) (m b : Tree) → weight (Expr (branch_seat s)) b + heavy + 12 ≤ weight (Expr s) (if_null equal (assign x a) m b)
+  asked_heavy : (s : Seat) (equal : Bool) (m b : Tree) → weight (Expr (branch_seat s)) b + heavy + 14 ≤ weight (Expr s) (if_null equal (assign x a) m b)
   asked_heavy s true m b = omega arith
   asked_heavy s false m b = omega arith
 
-  pub chained_falls : (s : Seat) (equal : Bool) (m : Tree) (l : Link) (ls : List Link) → weight (Expr s) (chain (spine true (assign x a) l ls)) < weight (Expr s) (if_null equal (assign x a) m (spine false (identifier x) l ls))
+  pub chained_falls : (s : Seat) (equal : Bool) (m : Tree) (l : Link) (ls : List Link) → weight (Expr s) (kept_by_value s.guard (chain (spine true (assign x a) l ls))) < weight (Expr s) (if_null equal (assign x a) m (spine false (identifier x) l ls))
   chained_falls s equal m l ls =
-      let light = chain_light s (spine true (assign x a) l ls) in
-      let moved = spine_moved s true (assign x a) l ls in
+      let light = kept_light s (spine true (assign x a) l ls) (λ r. spine_moved r true (assign x a) l ls) in
       let more = spine_light (branch_seat s) l ls in
       let more_there = asked_heavy s equal m (spine false (identifier x) l ls) in
-      omega (arith, light, moved, more, more_there)
+      omega (arith, light, more, more_there)
 
 if_outline : (equal : Bool) (t a b u : Tree) → outline (if_null equal t a b) ≡ outline (chain u)
 if_outline true t a b u = refl
 if_outline false t a b u = refl
 
 pub chained_outline : (W : VariableSet) (s : Seat) (n w : Tree) → Row46AssignedChain W s n w → outline n ≡ outline w
-chained_outline W s n w r = let x : Name = resolved r.spelling r.symbol in ap outline r.shape ∙ if_outline r.equal (assign x r.a) r.missing (spine false (identifier x) r.last r.others) (held W s n w r) ∙ sym (ap outline r.written)
+chained_outline W s n w r = let x : Name = resolved r.spelling r.symbol in ap outline r.shape ∙ if_outline r.equal (assign x r.a) r.missing (spine false (identifier x) r.last r.others) (held W s n w r) ∙ kept_outline s.guard (held W s n w r) ∙ sym (ap outline r.written)

@@ -3,13 +3,12 @@
 use Rattle.std.specs.Prelude.{◌≡◌, Bool, true, false, not, ◌&&◌, ◌||◌, List, [], ◌∷◌, is_none, codes}
 use Rattle.mini_model.specs.declared.name.Name.{Name}
 use Rattle.mini_model.specs.declared.operator.BinaryOperator.TheVariants as binary_operator
-use Rattle.mini_model.specs.declared.seat.Guard.{Guard}
-use Rattle.mini_model.specs.declared.seat.Guard.TheVariants as guard
 use Rattle.mini_model.specs.declared.seat.Seat.{Seat}
 use Rattle.mini_model.specs.declared.shape.Shape.{Shape}
 use Rattle.mini_model.specs.declared.shape.Shape.TheVariants as shape
 use Rattle.mini_model.specs.Tree.{Tree, Trees, node, none, ◌▸◌, listed, shape_of, identifier, conditional, null_literal}
 use Rattle.mini_model.specs.Weight.{same_text}
+use Rattle.mini_terms.specs.Exact.{kept_by_value}
 use Rattle.mini_rows.specs.Spellings.{IsUndefined, binary, static_member, computed_member}
 
 -- ---- what never ends a chain that it stands in
@@ -123,14 +122,9 @@ abbrev pub if_nullish : Bool → Name → Tree → Tree → Tree
 if_nullish true x a b = conditional (binary binary_operator.Equality (identifier x) null_literal) a b
 if_nullish false x a b = conditional (binary binary_operator.Inequality (identifier x) null_literal) b a
 
--- where a chain is asked for its value: not as a callee or under `delete`, where it would be the reference of its last link
-abbrev pub reads_value : Guard → Bool
-reads_value guard.None = true
-reads_value guard.Typeof = true
-reads_value g = false
-
 -- 46: `x == null ? void 0 : x.m` becomes `x?.m`, where a scope declares x, and it isn't named `eval` (`eval(a)` is a direct call); and so do
--- `x.m(a)` and what else is of members and calls over x, and `x != null ? x.m : void 0`
+-- `x.m(a)` and what else is of members and calls over x, and `x != null ? x.m : void 0`. As a callee and under `delete` the chain would be the
+-- reference of its last link, and stands behind a `0`: `(x == null ? void 0 : x.m)()` becomes `(0, x?.m)()`
 pub record Row46Chain (s : Seat) (n w : Tree) : Type 0 where
   pub equal : Bool
   pub name : Name
@@ -141,6 +135,5 @@ pub record Row46Chain (s : Seat) (n w : Tree) : Type 0 where
   pub indirect : same_text name.spelling (codes "eval") ≡ false
   pub undefined : IsUndefined missing
   pub calm : are_calm_links last others ≡ true
-  pub valued : reads_value s.guard ≡ true
   pub shape : n ≡ if_nullish equal name missing (spine false (identifier name) last others)
-  pub written : w ≡ chain (spine true (identifier name) last others)
+  pub written : w ≡ kept_by_value s.guard (chain (spine true (identifier name) last others))

@@ -19,7 +19,9 @@ use Rattle.mini_model.specs.Position.{conditional_level}
 use Rattle.mini_model.specs.Paths.{append}
 use Rattle.mini_model.specs.Weight.{is_parenthesized, weight}
 use Rattle.mini_node.specs.Kinds.{static_member, computed_member}
+use Rattle.mini_terms.specs.Exact.{by_value}
 use Rattle.mini_terms.specs.Folds.{is_effect_free, goes_on}
+use Rattle.mini_terms.specs.Parts.{leaves_nothing}
 use Rattle.mini_terms.specs.Reading.{is_item, is_plain_part}
 use Rattle.mini_kept.specs.Lawful.{Lawful}
 use Rattle.mini_kept.specs.Loosely.{LawfulLoosely}
@@ -408,6 +410,16 @@ pub record Row45Indexed (s : Seat) (n w : Tree) : Type 0 where
   pub shape : n ≡ conditional a (assignment assigning.Assign (computed_member (identifier name) key) b) (assignment assigning.Assign (computed_member (identifier name) key) c)
   pub written : w ≡ assignment assigning.Assign (computed_member (identifier name) key) (conditional a b c)
 
+-- 21: `(null, a.b)()` becomes `(0, a.b)()`, as does what 13, 15 and 49 leave of `(null ?? a.b)()`. The first part has no effect, and where the last
+-- one may not stand alone is there that it is read by its value, for which the shortest does
+pub record Row21Zero (n w : Tree) : Type 0 where
+  pub idle : Tree
+  pub last : Tree
+  pub effect_free : is_effect_free idle ≡ true
+  pub dropped : leaves_nothing idle ≡ true
+  pub shape : n ≡ pair idle last
+  pub written : w ≡ by_value last
+
 -- rows of what is lighter in every seat
 abbrev pub LighterRow : Seat → Tree → Tree → Type 0
 LighterRow s n w = Row39 n w ⊎ (Row38 n w ⊎ (Row35 n w ⊎ (Row46Equal n w ⊎ (Row46Unequal n w ⊎ (Row45 s n w ⊎ (Row37 n w ⊎ (Row37After n w ⊎ (Row57 n w ⊎ (Row57Null n w ⊎ (Row35Member n w ⊎ (Row45Member s n w ⊎ Row38Last s n w)))))))))))
@@ -422,7 +434,7 @@ HeldRow n w = Row42And n w ⊎ (Row42Or n w ⊎ (Row43Or n w ⊎ (Row43And n w �
 
 -- a row of choices reads n as w at this place
 abbrev pub ChoiceRow : Position → Tree → Tree → Type 0
-ChoiceRow (Expr s) n w = LighterRow s n w ⊎ (OwnRow n w ⊎ (HeldRow n w ⊎ (Row46Chain s n w ⊎ (Row44 n w ⊎ (ChainRow s n w ⊎ (EndRow n w ⊎ (Row13Both n w ⊎ Row45Indexed s n w)))))))
+ChoiceRow (Expr s) n w = LighterRow s n w ⊎ (OwnRow n w ⊎ (HeldRow n w ⊎ (Row46Chain s n w ⊎ (Row44 n w ⊎ (ChainRow s n w ⊎ (EndRow n w ⊎ (Row13Both n w ⊎ (Row45Indexed s n w ⊎ Row21Zero n w))))))))
 ChoiceRow _ n w = ⊥
 
 -- what it writes, where it weighs less

@@ -1,5 +1,6 @@
 -- Rows 71 and 72 of a `var` that stands further inside the body that it belongs to, with the JavaScript before and after.
-use Rattle.std.specs.Prelude.{◌≡◌, ◌<◌, ◌||◌, ℕ, zero, suc, Bool, true, false, List, [], Option, Some, None, if◌then◌else◌}
+use Rattle.std.proofs.Common.{inl, inr}
+use Rattle.std.specs.Prelude.{◌≡◌, ◌<◌, not, ℕ, zero, suc, Bool, true, false, List, [], Option, Some, None, if◌then◌else◌}
 use Rattle.mini_model.specs.declared.kind.VariableDeclarationKind.TheVariants.{Var}
 use Rattle.mini_model.specs.declared.place.Position.{Position}
 use Rattle.mini_model.specs.declared.place.Position.TheVariants.{Expr, Stmt, Method, Elsewhere}
@@ -134,22 +135,26 @@ stands_at o p = false
 
 -- ---- the rows
 
--- a `let` or a `const` stands in a list
+-- a `let` or a `const`
 abbrev pub is_lexical_shape : Shape → Bool
 is_lexical_shape (shape.VariableDeclaration k) = is_lexical k
 is_lexical_shape h = false
 
-abbrev pub has_lexical : Trees → Bool
-has_lexical none = false
-has_lexical (t ▸ ts) = is_lexical_shape (shape_of t) || has_lexical ts
+-- what goes is a `var`
+abbrev pub declares_var : {W : VariableSet} {n w : Tree} → BlockRow W n w → Bool
+declares_var (inl r) = not (is_lexical r.kind)
+declares_var (inr (inl r)) = not (is_lexical r.kind)
+declares_var (inr (inr (inl r))) = not (is_lexical r.kind)
+declares_var (inr (inr (inr r))) = not (is_lexical r.kind)
 
--- `{ var x = b(); return x.c; }` becomes `{ ; return b().c; }`, and `{ var x = a(); b(); }` becomes `{ a(); b(); }`: a list of statements in
--- which no `let` and no `const` stands, so that what goes is a `var`, with what stands outside of it
+-- `{ var x = b(); return x.c; }` becomes `{ ; return b().c; }`, `{ var x = a(); b(); }` becomes `{ a(); b(); }`, and
+-- `{ const y = b(); var x = c(); return x.d + y; }` becomes `{ const y = b(); ; return c().d + y; }`: a list of statements, from which a `var`
+-- goes, with what stands outside of it
 pub record ListEnd (W : VariableSet) (o : Trees) (n w : Tree) : Type 0 where
   pub list : Trees
   pub left : Trees
   pub row : BlockRow W (block (listed o ▸ list)) (block (listed o ▸ left))
-  pub plain : has_lexical list ≡ false
+  pub var : declares_var row ≡ true
   pub shape : n ≡ listed list
   pub written : w ≡ listed left
 
@@ -157,7 +162,7 @@ pub record ListEnd (W : VariableSet) (o : Trees) (n w : Tree) : Type 0 where
 -- is read like a list of this one statement
 pub record HeldEnd (W : VariableSet) (o : Trees) (n w : Tree) : Type 0 where
   pub row : BlockRow W (block (listed o ▸ (n ▸ none))) (block (listed o ▸ (w ▸ none)))
-  pub plain : has_lexical (n ▸ none) ≡ false
+  pub var : declares_var row ≡ true
 
 -- `for (var x = 1, y = 2; a; b) c(y);` becomes `for (var y = 2; a; b) c(y);`, and `for (var x; a; b) c();` becomes `for (; a; b) c();`: what a `for`
 -- begins with, where nothing misses the initializer

@@ -33,6 +33,7 @@ pub mod Names
 pub mod Catches
 pub mod Writes
 pub mod Members
+pub mod Idle
 pub mod Steady
 pub mod OwnArrows
 pub mod OwnPrograms

@@ -10,7 +10,7 @@ use Rattle.mini_laws.specs.Value.{VariableSet}
 use Rattle.mini_laws.specs.Weights.{Lightens}
 use Rattle.mini_kept.specs.Loosely.{LawfulUnder}
 use Rattle.mini_kept.specs.Without.{Assured, BodySets}
-use Rattle.mini_rows.specs.Steady.{no_symbols, own_rows, KeepsOwn, OwnRows, OwnStep, OwnFunction, SteadyRow, LexicalRows}
+use Rattle.mini_rows.specs.Steady.{nothing_begun, own_rows, KeepsOwn, OwnRows, OwnStep, OwnFunction, SteadyRow, LexicalRows}
 
 -- an arrow function with its parameters and its body
 abbrev pub arrow_over : List (List ℕ) → ℕ → Tree → Tree → Tree
@@ -23,7 +23,7 @@ pub record OwnArrowRow (F : OwnRows) (S : BodySets) (n w : Tree) : Type 0 where
   pub parameters : Tree
   pub before : Tree
   pub after : Tree
-  pub step : OwnStep (own_rows F before (S number)) no_symbols (Expr argument_seat) before after
+  pub step : OwnStep (own_rows F before (S number)) nothing_begun (Expr argument_seat) before after
   pub shape : n ≡ arrow_over directives number parameters before
   pub written : w ≡ arrow_over directives number parameters after
 

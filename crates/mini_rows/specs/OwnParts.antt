@@ -12,7 +12,7 @@ use Rattle.mini_laws.specs.Weights.{Lightens}
 use Rattle.mini_kept.specs.KeepsFrames.{KeepsPlaces}
 use Rattle.mini_kept.specs.Rooted.{LawfulRooted}
 use Rattle.mini_kept.specs.Without.{Assured, BodySets}
-use Rattle.mini_rows.specs.Steady.{no_symbols, own_rows, KeepsOwn, OwnRows, OwnStep, SteadyRow, LexicalRows}
+use Rattle.mini_rows.specs.Steady.{nothing_begun, own_rows, KeepsOwn, OwnRows, OwnStep, SteadyRow, LexicalRows}
 
 -- a static block over its list of statements
 abbrev pub block_over : ℕ → Tree → Tree
@@ -24,7 +24,7 @@ pub record OwnBlockRow (F : OwnRows) (S : BodySets) (n w : Tree) : Type 0 where
   pub number : ℕ
   pub before : Tree
   pub after : Tree
-  pub step : OwnStep (own_rows F before (S number)) no_symbols StatementList before after
+  pub step : OwnStep (own_rows F before (S number)) nothing_begun StatementList before after
   pub shape : n ≡ block_over number before
   pub written : w ≡ block_over number after
 
@@ -37,7 +37,7 @@ pub record OwnInnerRow (F : OwnRows) (S : BodySets) (p : Position) (n w : Tree) 
   pub number : ℕ
   pub before : Tree
   pub after : Tree
-  pub step : OwnStep (own_rows F before (S number)) no_symbols p before after
+  pub step : OwnStep (own_rows F before (S number)) nothing_begun p before after
   pub shape : n ≡ inner_over number before
   pub written : w ≡ inner_over number after
 

@@ -11,7 +11,7 @@ use Rattle.mini_laws.specs.Weights.{Lightens}
 use Rattle.mini_kept.specs.KeepsFrames.{KeepsPlaces}
 use Rattle.mini_kept.specs.Rooted.{LawfulRooted}
 use Rattle.mini_kept.specs.Without.{Assured, BodySets}
-use Rattle.mini_rows.specs.Steady.{no_symbols, own_rows, KeepsOwn, OwnRows, OwnStep, SteadyRow, LexicalRows}
+use Rattle.mini_rows.specs.Steady.{nothing_begun, own_rows, KeepsOwn, OwnRows, OwnStep, SteadyRow, LexicalRows}
 
 -- a program over its list of statements
 abbrev pub program_over : Bool → List (List ℕ) → ℕ → Tree → Tree
@@ -24,7 +24,7 @@ pub record OwnProgramRow (F : OwnRows) (S : BodySets) (n w : Tree) : Type 0 wher
   pub number : ℕ
   pub before : Tree
   pub after : Tree
-  pub step : OwnStep (own_rows F before (S number)) no_symbols StatementList before after
+  pub step : OwnStep (own_rows F before (S number)) nothing_begun StatementList before after
   pub shape : n ≡ program_over is_module directives number before
   pub written : w ≡ program_over is_module directives number after
 

@@ -24,10 +24,11 @@ use Rattle.mini_kept.specs.Without.{Assured, BodySets, Steadies, Begins, Permits
 use Rattle.mini_node.specs.Children.{names_of, part, is_bare}
 use Rattle.mini_node.specs.Kinds.{is_identifier}
 use Rattle.mini_terms.specs.Folds.{is_effect_free}
+use Rattle.mini_terms.specs.Kind.{is_primitive, kind as kind_of}
 use Rattle.mini_rows.specs.Lists.{block, declaration}
 use Rattle.mini_rows.specs.Declarations.{declarator}
 use Rattle.mini_rows.specs.Inside.{is_lexical_shape}
-use Rattle.mini_rows.specs.Unused.{resolved, names, any_names, declared_among, declared_left, lets_go, begins_with, suits, is_sure, is_placed, is_first, put_first, is_constant, is_plain_assignment, is_word, is_member, is_field, entries_below, reads_head, evaluated, is_declarator, declares_list, is_childless, may_move, statements, function_with}
+use Rattle.mini_rows.specs.Unused.{resolved, names, any_names, declared_among, declared_left, lets_go, begins_with, suits, is_sure, is_placed, is_first, put_first, is_constant, is_plain_assignment, is_word, is_member, is_field, Gathered, OfValues, OfTexts, of_entries, gathered_below, reads_head, evaluated, is_declarator, declares_list, is_childless, may_move, statements, function_with}
 
 -- ---- what may be evaluated before the initializer
 
@@ -167,35 +168,38 @@ passes_any_member H r t = is_member t && (passes_any H r (part t 0) && passes_an
 abbrev pub passes_any_target : Kept → Tree → AssignmentOperator → Tree → Bool
 passes_any_target H r o t = is_plain_assignment o && (passes_any_member H r t || (is_identifier t && is_effect_free t))
 
--- so may an item of a list, of which an entry is asked or isn't: of a property its value
-abbrev pub passes_any_item : Kept → Bool → Tree → Tree → Bool
-passes_any_item H of_entries r t = passes_any H r t || (of_entries && (is_field t && passes_any H r (part t 1)))
+-- so may an item of a list, by what is gathered: where entries are, of a property its value; what is converted to a text has to be primitive
+abbrev pub passes_any_item : Kept → Gathered → Tree → Tree → Bool
+passes_any_item H OfTexts r t = passes_any H r t && is_primitive (kind_of t)
+passes_any_item H gathered r t = passes_any H r t || (of_entries gathered && (is_field t && passes_any H r (part t 1)))
 
--- so may what stands before the read, in a node of such a shape; a key in brackets is converted before the value
-abbrev pub passes_any_at : Kept → Bool → Tree → Shape → Tree → Bool
-passes_any_at H of_entries r (shape.AssignmentExpression o) t = passes_any_target H r o t
-passes_any_at H of_entries r (shape.ObjectProperty k is_method is_shorthand is_computed) t = not is_computed && is_word (shape_of t)
-passes_any_at H of_entries r shape.Listed t = passes_any_item H of_entries r t
-passes_any_at H of_entries r h t = passes_any H r t
+-- so may what stands before the read, in a node of such a shape; a key in brackets is converted before the value, and the
+-- texts of a template aren't evaluated
+abbrev pub passes_any_at : Kept → Gathered → Tree → Shape → Tree → Bool
+passes_any_at H gathered r (shape.AssignmentExpression o) t = passes_any_target H r o t
+passes_any_at H gathered r (shape.ObjectProperty k is_method is_shorthand is_computed) t = not is_computed && is_word (shape_of t)
+passes_any_at H gathered r shape.Listed t = passes_any_item H gathered r t
+passes_any_at H gathered r shape.TemplateLiteral t = true
+passes_any_at H gathered r h t = passes_any H r t
 
 -- the part that mentions the name is evaluated whatever those before it are, and r may stand in its place. A property and what is spread stand
 -- where an entry is asked
-abbrev pub is_certain : Name → Bool → Tree → Shape → Trees → Bool
-is_certain x of_entries r h ts = suits x r h ts && (is_placed of_entries false h && (is_sure false h || begins_with x ts))
+abbrev pub is_certain : Name → Gathered → Tree → Shape → Trees → Bool
+is_certain x gathered r h ts = suits x r h ts && (is_placed gathered false h && (is_sure false h || begins_with x ts))
 
 -- so is the read, and each part that is evaluated before it may be evaluated before r
 abbrev mutual
-  pub are_past_in : Kept → Name → Bool → Tree → Tree → Bool
-  are_past_in H x of_entries r (node h ys n ts) = is_certain x of_entries r h ts && all_past H x of_entries r h 0 ts
+  pub are_past_in : Kept → Name → Gathered → Tree → Tree → Bool
+  are_past_in H x gathered r (node h ys n ts) = is_certain x gathered r h ts && all_past H x gathered r h 0 ts
 
   -- from a place on
-  pub all_past : Kept → Name → Bool → Tree → Shape → ℕ → Trees → Bool
-  all_past H x of_entries r h i none = true
-  all_past H x of_entries r h i (t ▸ ts) = if names x t then are_past_in H x (entries_below of_entries h i) r t else (passes_any_at H of_entries r h t && all_past H x of_entries r h (suc i) ts)
+  pub all_past : Kept → Name → Gathered → Tree → Shape → ℕ → Trees → Bool
+  all_past H x gathered r h i none = true
+  all_past H x gathered r h i (t ▸ ts) = if names x t then are_past_in H x (gathered_below gathered h i) r t else (passes_any_at H gathered r h t && all_past H x gathered r h (suc i) ts)
 
--- of which no entry is asked
+-- of which a value is asked
 abbrev pub are_past : Kept → Name → Tree → Tree → Bool
-are_past H x = are_past_in H x false
+are_past H x = are_past_in H x OfValues
 
 -- ---- in the statements of a body
 

@@ -42,6 +42,8 @@ pub data Head : Type 0 where
   Spread : Head
   Yield : Bool → Head
   Template : Head
+  -- one with no tag, whose parts are read as expressions
+  Interpolation : Head
   -- a piece of a template's text: whether it is the last, the raw text and the cooked one
   Piece : Bool → List ℕ → List ℕ → Head
   Assignment : AssignmentOperator → Head
@@ -79,6 +81,7 @@ shape_by (Property is_shorthand is_computed) = shape.ObjectProperty Init false i
 shape_by Spread = shape.SpreadElement
 shape_by (Yield is_delegate) = shape.YieldExpression is_delegate
 shape_by Template = shape.TemplateLiteral
+shape_by Interpolation = shape.TemplateLiteral
 shape_by (Piece is_tail raw cooked) = shape.TemplateElement is_tail raw (Some cooked)
 shape_by (Assignment o) = shape.AssignmentExpression o
 shape_by (Update o is_prefix) = shape.UpdateExpression o is_prefix
@@ -165,6 +168,11 @@ abbrev pub spread_asked : Asked → Asked
 spread_asked AsValue = AsValue
 spread_asked c = AsWord
 
+-- where a template is an expression, so is each of its parts
+abbrev pub parts_asked : Asked → Asked
+parts_asked AsValue = AsValues
+parts_asked c = AsHeld
+
 -- a key that stands in brackets is an expression
 abbrev pub key_asked : Bool → Asked
 key_asked true = AsValue
@@ -181,6 +189,8 @@ asked_below (Call is_optional) c (suc i) = AsValues
 asked_below New c (suc i) = AsValues
 asked_below (StaticMember is_optional) c (suc i) = AsWord
 asked_below Template c i = AsHeld
+asked_below Interpolation c zero = AsHeld
+asked_below Interpolation c (suc i) = parts_asked c
 asked_below (Assignment o) c zero = target_asked o
 asked_below (Update o is_prefix) c i = AsUpdated
 asked_below If c (suc i) = AsBranch
@@ -333,6 +343,7 @@ is_expression_head AbsentPart = false
 is_expression_head AList = false
 is_expression_head (PropertyName s) = false
 is_expression_head Spread = false
+is_expression_head Interpolation = false
 is_expression_head (Piece is_tail raw cooked) = false
 is_expression_head Empty = false
 is_expression_head OfExpression = false

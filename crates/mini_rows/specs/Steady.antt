@@ -1,9 +1,9 @@
 -- Rows that rest on what is known of the body in which they stand, and the node that has the body.
-use Rattle.std.specs.Prelude.{◌≡◌, ◌≤◌, ◌+◌, ◌&&◌, ◌||◌, not, nat_lt, if◌then◌else◌, ℕ, zero, suc, Bool, true, false, List, [], ◌∷◌, Option, Contains}
+use Rattle.std.specs.Prelude.{◌≡◌, ◌⊎◌, ◌≤◌, ◌+◌, ◌&&◌, ◌||◌, not, nat_lt, if◌then◌else◌, ℕ, zero, suc, Bool, true, false, List, [], ◌∷◌, Option, Contains, Some}
 use Rattle.mini_model.specs.declared.kind.PropertyKind.{PropertyKind}
 use Rattle.mini_model.specs.declared.name.Name.{Name}
 use Rattle.mini_model.specs.declared.place.Position.{Position}
-use Rattle.mini_model.specs.declared.place.Position.TheVariants.{Expr, Stmt, Method, StatementList, BodyList, Elsewhere}
+use Rattle.mini_model.specs.declared.place.Position.TheVariants.{Expr, Stmt, Method, StatementList, BodyList, CommaList, Elsewhere}
 use Rattle.mini_model.specs.declared.shape.Shape.{Shape}
 use Rattle.mini_model.specs.declared.shape.Shape.TheVariants as shape
 use Rattle.mini_model.specs.Tree.{Tree, Trees, node, none, ◌▸◌, count, shape_of}
@@ -12,8 +12,8 @@ use Rattle.mini_laws.specs.Demand.{Demand}
 use Rattle.mini_laws.specs.Fits.{Fits}
 use Rattle.mini_laws.specs.Same.{Same}
 use Rattle.mini_laws.specs.State.{Environment}
-use Rattle.mini_laws.specs.Value.{Variable, Declared, Global, VariableSet, is_in, nothing}
-use Rattle.mini_laws.specs.Naming.{Summary, summary, summaries}
+use Rattle.mini_laws.specs.Value.{Variable, Declared, Global, VariableSet, choose, is_in, nothing}
+use Rattle.mini_laws.specs.Naming.{Summary, Declared as What, Variables, is_lexical, summary, summaries}
 use Rattle.mini_laws.specs.Fixity.{fixed_by}
 use Rattle.mini_laws.specs.Bodies.{Around, bodies, arrow_kind}
 use Rattle.mini_laws.specs.Weights.{Lightens}
@@ -26,13 +26,15 @@ use Rattle.mini_kept.specs.Lifted.{KeepsNames}
 use Rattle.mini_kept.specs.Loosely.{LawfulUnder}
 use Rattle.mini_kept.specs.Without.{Assured, BodySets, Steadies}
 use Rattle.mini_rows.specs.Fading.{FadingFrom}
+use Rattle.mini_rows.specs.Idle.{IdleRow, IdleStatement}
 use Rattle.mini_rows.specs.Lexical.{LexicalRow}
 use Rattle.mini_rows.specs.Members.{MemberRow}
 use Rattle.mini_rows.specs.Past.{is_binding, is_symbol, binds}
 
 -- a row reads n as w at this place, in a body of which this is known
 abbrev pub SteadyRow : Assured → Position → Tree → Tree → Type 0
-SteadyRow V (Expr s) n w = MemberRow V s n w
+SteadyRow V (Expr s) n w = MemberRow V s n w ⊎ IdleRow V s n w
+SteadyRow V (Stmt q) n w = IdleStatement V n w
 SteadyRow V _ n w = ⊥
 
 -- ---- rows of the code of a body
@@ -62,40 +64,85 @@ abbrev mutual
 abbrev pub Symbols : Type 0
 Symbols = ℕ → Bool
 
-abbrev pub no_symbols : Symbols
-no_symbols k = false
-
 -- and those of some variables besides
 abbrev pub passing : Symbols → List Variable → Symbols
 passing L xs k = L k || is_in (Declared k) xs
 
--- in a list of statements: at each also what those before it declare, a `let`, a `const` or a class, which has its value from there on
-abbrev pub behind : Symbols → List Summary → ℕ → Symbols
-behind L [] i = L
-behind L (s ∷ is) zero = L
-behind L (s ∷ is) (suc i) = behind (passing L s.lets) is i
+-- ---- what is begun at a node
 
-abbrev pub holds_statements : Shape → Position → Bool
-holds_statements shape.Listed StatementList = true
-holds_statements shape.Listed BodyList = true
-holds_statements h p = false
+-- symbols that were declared before it, and have their values there; and whether it is the list of a `let` or a `const`, in which each declarator begins
+-- what it declares
+pub record Begun : Type 0 where
+  pub symbols : Symbols
+  pub in_lexical : Bool
 
--- so at each child of a node at a place
-abbrev pub begun_at : Shape → Position → Symbols → List Summary → ℕ → Symbols
-begun_at h p L is i = if holds_statements h p then behind L is i else L
+abbrev pub nothing_begun : Begun
+nothing_begun = record { symbols = λ k. false; in_lexical = false }
 
--- the variables that have their values in this code of a body, where statements before have declared L: those, if the code declares them only once;
+-- a child is such a list: the declaration is a statement, or the head of a `for`
+abbrev pub lists_lexical : Shape → Position → Bool
+lists_lexical (shape.VariableDeclaration v) (Stmt q) = is_lexical v
+lists_lexical (shape.VariableDeclaration v) (Expr s) = s.unused && is_lexical v
+lists_lexical h p = false
+
+-- where that is declared which begins behind a child: by the child, or in the head of a loop
+pub data Beginning : Type 0 where
+  OfChild : Beginning
+  OfHead : Beginning
+  OfNone : Beginning
+
+-- behind each of a list of statements (ECMA-262, "LexicallyDeclaredNames", functions aside); behind each declarator of such a list ("let and const
+-- Declarations", Evaluation); behind the head of a `for` ("ForLoopEvaluation"); behind what a `for..in` or `for..of` goes over, in whose body the head
+-- has a value each turn ("ForIn/OfBodyEvaluation"); and behind the parameter of a `catch` ("CatchClauseEvaluation")
+abbrev pub beginning : Bool → Shape → Position → ℕ → Beginning
+beginning b shape.Listed StatementList i = OfChild
+beginning b shape.Listed BodyList i = OfChild
+beginning b shape.Listed CommaList i = if b then OfChild else OfNone
+beginning b shape.CatchClause p zero = OfChild
+beginning b shape.ForStatement p zero = OfHead
+beginning b shape.ForInStatement p (suc zero) = OfHead
+beginning b shape.ForOfStatement p (suc zero) = OfHead
+beginning b h p i = OfNone
+
+abbrev pub nth_lets : List Summary → ℕ → List Variable
+nth_lets [] i = []
+nth_lets (s ∷ is) zero = s.lets
+nth_lets (s ∷ is) (suc i) = nth_lets is i
+
+-- what a head declares, if it is a `let` or a `const`
+abbrev pub lets_as : Option What → List Variable → List Variable
+lets_as (Some (Variables v)) xs = choose (is_lexical v) xs []
+lets_as d xs = []
+
+abbrev pub head_lets : List Summary → List Variable
+head_lets [] = []
+head_lets (s ∷ is) = lets_as s.facts.declared s.lets
+
+abbrev pub begins_by : Beginning → List Summary → ℕ → List Variable
+begins_by OfChild is i = nth_lets is i
+begins_by OfHead is i = head_lets is
+begins_by OfNone is i = []
+
+abbrev pub begins : Bool → Shape → Position → List Summary → ℕ → List Variable
+begins b h p is i = begins_by (beginning b h p i) is i
+
+-- what is begun at each child of a node at a place
+abbrev pub begun_at : Shape → Position → Begun → List Summary → ℕ → Begun
+begun_at h p L is zero = record { symbols = L.symbols; in_lexical = lists_lexical h p }
+begun_at h p L is (suc i) = record (begun_at h p L is i) { symbols = passing (begun_at h p L is i).symbols (begins L.in_lexical h p is i) }
+
+-- the variables that have their values in this code of a body, where L is begun: those, if the code declares them only once;
 -- and of X, if they have them as it starts, those that no scope in it declares, throughout
 abbrev pub valued : Tree → Symbols → VariableSet → VariableSet
 valued t L X (Declared k) = (L k && not (nat_lt 1 (bindings k t))) || (X (Declared k) && not (binds k t))
 valued t L X (Global s) = false
 
 -- what is known there in the code of a body of which this is known
-abbrev pub known_in : Tree → Assured → Symbols → Assured
-known_in t V L = record V { initial = valued t L V.initial }
+abbrev pub known_in : Tree → Assured → Begun → Assured
+known_in t V L = record V { initial = valued t L.symbols V.initial }
 
 -- and the rows that rest on it
-abbrev pub own_rows : OwnRows → Tree → Assured → Symbols → Position → Tree → Tree → Type 0
+abbrev pub own_rows : OwnRows → Tree → Assured → Begun → Position → Tree → Tree → Type 0
 own_rows F t V L = F (known_in t V L)
 
 -- What a relation has to keep of a node in the code of a body of which this is known, there where the node stands: it means the same but for
@@ -126,16 +173,16 @@ has_body shape.StaticBlock = true
 has_body shape.InnerExpression = true
 has_body h = false
 
--- one step in the code of a body itself, by a row that may rest on what statements before declare: at a place around which no other body stands, and
+-- one step in the code of a body itself, by a row that may rest on what is begun there: at a place around which no other body stands, and
 -- no other node with a number, which the world evaluates
 mutual
-  pub data OwnStep (R : Symbols → Position → Tree → Tree → Type 0) : Symbols → Position → Tree → Tree → Type 0 where
-    own_here : (L : Symbols) (p : Position) (n w : Tree) → R L p n w → OwnStep R L p n w
-    own_inside : (L : Symbols) (p : Position) (h : Shape) (xs : List Name) (ts us : Trees) → has_body h ≡ false → OwnStepIn R (begun_at h p L (summaries ts)) (child_position h p (count ts)) ts us → OwnStep R L p (node h xs 0 ts) (node h xs 0 us)
+  pub data OwnStep (R : Begun → Position → Tree → Tree → Type 0) : Begun → Position → Tree → Tree → Type 0 where
+    own_here : (L : Begun) (p : Position) (n w : Tree) → R L p n w → OwnStep R L p n w
+    own_inside : (L : Begun) (p : Position) (h : Shape) (xs : List Name) (ts us : Trees) → has_body h ≡ false → OwnStepIn R (begun_at h p L (summaries ts)) (child_position h p (count ts)) ts us → OwnStep R L p (node h xs 0 ts) (node h xs 0 us)
 
-  pub data OwnStepIn (R : Symbols → Position → Tree → Tree → Type 0) : (ℕ → Symbols) → (ℕ → Position) → Trees → Trees → Type 0 where
-    own_first : (Λ : ℕ → Symbols) (π : ℕ → Position) (t u : Tree) (ts : Trees) → OwnStep R (Λ zero) (π zero) t u → OwnStepIn R Λ π (t ▸ ts) (u ▸ ts)
-    own_later : (Λ : ℕ → Symbols) (π : ℕ → Position) (t : Tree) (ts us : Trees) → OwnStepIn R (λ i. Λ (suc i)) (λ i. π (suc i)) ts us → OwnStepIn R Λ π (t ▸ ts) (t ▸ us)
+  pub data OwnStepIn (R : Begun → Position → Tree → Tree → Type 0) : (ℕ → Begun) → (ℕ → Position) → Trees → Trees → Type 0 where
+    own_first : (Λ : ℕ → Begun) (π : ℕ → Position) (t u : Tree) (ts : Trees) → OwnStep R (Λ zero) (π zero) t u → OwnStepIn R Λ π (t ▸ ts) (u ▸ ts)
+    own_later : (Λ : ℕ → Begun) (π : ℕ → Position) (t : Tree) (ts us : Trees) → OwnStepIn R (λ i. Λ (suc i)) (λ i. π (suc i)) ts us → OwnStepIn R Λ π (t ▸ ts) (t ▸ us)
 
 -- a function whose body takes such a step by a row of F, over what S says of the body with its number and what so is known in it
 pub record OwnFunctionRow (F : OwnRows) (S : BodySets) (n w : Tree) : Type 0 where
@@ -147,7 +194,7 @@ pub record OwnFunctionRow (F : OwnRows) (S : BodySets) (n w : Tree) : Type 0 whe
   pub parameters : Tree
   pub before : Tree
   pub after : Tree
-  pub step : OwnStep (own_rows F before (S number)) no_symbols Elsewhere before after
+  pub step : OwnStep (own_rows F before (S number)) nothing_begun Elsewhere before after
   pub shape : n ≡ function_over is_declaration is_generator directives number name parameters before
   pub written : w ≡ function_over is_declaration is_generator directives number name parameters after
 

@@ -23,8 +23,11 @@ use Rattle.mini_kept.specs.Loosely.{LawfulWith}
 use Rattle.mini_node.specs.Children.{names_of, part, is_bare, is_nameless, rest_children}
 use Rattle.mini_node.specs.Kinds.{is_absent_part, is_listed, is_listed_shape, is_identifier}
 use Rattle.mini_terms.specs.Folds.{is_effect_free}
+use Rattle.mini_terms.specs.Kind.{is_primitive, kind as kind_of}
 use Rattle.mini_terms.specs.Parts.{leaves_nothing}
 use Rattle.mini_terms.specs.Reading.{is_item, is_plain_part, is_typed_by_value}
+pub use Rattle.mini_rows.specs.declared.gathered.Gathered.{Gathered}
+pub use Rattle.mini_rows.specs.declared.gathered.Gathered.TheVariants.{Values as OfValues, Entries as OfEntries, Texts as OfTexts}
 use Rattle.mini_rows.specs.Cases.{switch_case}
 use Rattle.mini_rows.specs.Lists.{block, switch, for_loop, declaration, declares_nothing, is_bare_var}
 pub use Rattle.mini_rows.specs.Lists.{resolved}
@@ -153,12 +156,13 @@ begins (shape.UpdateExpression o is_prefix) t = is_member t
 begins shape.ChainExpression t = not (is_childless t)
 begins h t = false
 
--- what evaluates its first part and then this one, and asks for the value of this one alone
+-- what evaluates its first part, if that is evaluated at all, and then this one, and asks for the value of this one alone
 abbrev pub goes_on : Shape → Bool
 goes_on (shape.BinaryExpression o) = true
 goes_on (shape.CallExpression false) = true
 goes_on shape.NewExpression = true
 goes_on (shape.ComputedMemberExpression false) = true
+goes_on shape.TemplateLiteral = true
 goes_on h = false
 
 -- what evaluates its first part, or what is assigned to, or a key, and then, if at all, this one, and asks for the value of this one
@@ -197,10 +201,11 @@ begins_list shape.ArrayExpression = true
 begins_list shape.ObjectExpression = true
 begins_list h = false
 
--- its second part is a list, of arguments
+-- its second part is a list, of arguments, or of what stands between the texts of a template
 abbrev pub has_arguments : Shape → Bool
 has_arguments (shape.CallExpression is_optional) = true
 has_arguments shape.NewExpression = true
+has_arguments shape.TemplateLiteral = true
 has_arguments h = false
 
 -- so is the part at the place
@@ -325,17 +330,31 @@ is_field_shape h = false
 abbrev pub is_field : Tree → Bool
 is_field t = is_field_shape (shape_of t) && (is_bare t 2 && is_word (shape_of (part t 0)))
 
--- so may an item of a list, of which an entry is asked or isn't: of a property its value
-abbrev pub passes_item : Bool → Tree → Tree → Bool
-passes_item of_entries r t = passes r t || (of_entries && (is_field t && passes r (part t 1)))
+abbrev pub of_entries : Gathered → Bool
+of_entries OfEntries = true
+of_entries g = false
 
--- so may what stands before the read, at a place of such a shape
-abbrev pub passes_at : Bool → Tree → Shape → ℕ → Tree → Bool
-passes_at of_entries r (shape.AssignmentExpression o) i t = passes_target r o t
-passes_at of_entries r shape.ConditionalExpression i t = passes_branch r i t
-passes_at of_entries r (shape.ObjectProperty k is_method is_shorthand is_computed) i t = passes_key r is_computed t
-passes_at of_entries r shape.Listed i t = passes_item of_entries r t
-passes_at of_entries r h i t = passes r t
+abbrev pub of_texts : Gathered → Bool
+of_texts OfTexts = true
+of_texts g = false
+
+-- so may what is converted to a text: of a primitive value that runs nothing, and doesn't throw (ECMA-262, "ToString")
+abbrev pub passes_text : Tree → Tree → Bool
+passes_text r t = is_constant r || (passes r t && is_primitive (kind_of t))
+
+-- so may an item of a list, by what is gathered: where entries are, of a property its value
+abbrev pub passes_item : Gathered → Tree → Tree → Bool
+passes_item OfTexts r t = passes_text r t
+passes_item gathered r t = passes r t || (of_entries gathered && (is_field t && passes r (part t 1)))
+
+-- so may what stands before the read, at a place of such a shape; the texts of a template aren't evaluated
+abbrev pub passes_at : Gathered → Tree → Shape → ℕ → Tree → Bool
+passes_at gathered r (shape.AssignmentExpression o) i t = passes_target r o t
+passes_at gathered r shape.ConditionalExpression i t = passes_branch r i t
+passes_at gathered r (shape.ObjectProperty k is_method is_shorthand is_computed) i t = passes_key r is_computed t
+passes_at gathered r shape.Listed i t = passes_item gathered r t
+passes_at gathered r shape.TemplateLiteral i t = true
+passes_at gathered r h i t = passes r t
 
 -- what evaluates the part behind its first one whatever that gives; where r has no effect, it may be left out. A key that stands in
 -- brackets is converted before the value is evaluated
@@ -349,22 +368,24 @@ is_sure is_free (shape.ComputedMemberExpression is_optional) = not is_optional |
 is_sure is_free h = true
 
 -- a property and what is spread stand where an entry is asked, or r has no effect
-abbrev pub is_placed : Bool → Bool → Shape → Bool
-is_placed of_entries is_free (shape.ObjectProperty k is_method is_shorthand is_computed) = of_entries || is_free
-is_placed of_entries is_free shape.SpreadElement = of_entries || is_free
-is_placed of_entries is_free h = true
+abbrev pub is_placed : Gathered → Bool → Shape → Bool
+is_placed gathered is_free (shape.ObjectProperty k is_method is_shorthand is_computed) = of_entries gathered || is_free
+is_placed gathered is_free shape.SpreadElement = of_entries gathered || is_free
+is_placed gathered is_free h = true
 
--- what asks the part at the place for entries: an array and an object its elements and properties, a call and `new` their arguments; so does
--- a list of which they are asked
-abbrev pub holds_entries : Shape → ℕ → Bool
-holds_entries shape.ArrayExpression i = true
-holds_entries shape.ObjectExpression i = true
-holds_entries (shape.CallExpression is_optional) (suc i) = true
-holds_entries shape.NewExpression (suc i) = true
-holds_entries h i = false
+-- what is asked of the part at the place: an array and an object ask their elements and properties for entries, a call and `new` their arguments,
+-- and a template what stands between its texts for a text each
+abbrev pub gathered_by : Shape → ℕ → Gathered
+gathered_by shape.ArrayExpression i = OfEntries
+gathered_by shape.ObjectExpression i = OfEntries
+gathered_by (shape.CallExpression is_optional) (suc i) = OfEntries
+gathered_by shape.NewExpression (suc i) = OfEntries
+gathered_by shape.TemplateLiteral (suc i) = OfTexts
+gathered_by h i = OfValues
 
-abbrev pub entries_below : Bool → Shape → ℕ → Bool
-entries_below of_entries h i = holds_entries h i || (of_entries && is_listed_shape h)
+-- a list asks its items for what it is asked itself
+abbrev pub gathered_below : Gathered → Shape → ℕ → Gathered
+gathered_below gathered h i = if is_listed_shape h then gathered else gathered_by h i
 
 -- the first of some parts mentions the name, or there is none
 abbrev pub begins_with : Name → Trees → Bool
@@ -372,8 +393,8 @@ begins_with x none = true
 begins_with x (t ▸ ts) = names x t
 
 -- the part that mentions the name is evaluated whatever those before it are; or it needn't be, since r is a constant or has no effect
-abbrev pub is_reached : Name → Bool → Tree → Shape → Trees → Bool
-is_reached x of_entries r h ts = is_constant r || (is_placed of_entries (is_effect_free r) h && (is_sure (is_effect_free r) h || begins_with x ts))
+abbrev pub is_reached : Name → Gathered → Tree → Shape → Trees → Bool
+is_reached x gathered r h ts = is_constant r || (is_placed gathered (is_effect_free r) h && (is_sure (is_effect_free r) h || begins_with x ts))
 
 abbrev pub is_number_shape : Shape → Bool
 is_number_shape (shape.NumericLiteral n) = true
@@ -412,17 +433,17 @@ suits x r h ts = (not (begins_bare x ts) || suits_under r h) && suits_in r h
 -- each part that is evaluated before the variable is read may be evaluated before r, the read is reached whatever they are, and r may stand
 -- in its place
 abbrev mutual
-  pub are_passed_in : Name → Bool → Tree → Tree → Bool
-  are_passed_in x of_entries r (node h ys n ts) = suits x r h ts && (is_reached x of_entries r h ts && all_passed x of_entries r h 0 ts)
+  pub are_passed_in : Name → Gathered → Tree → Tree → Bool
+  are_passed_in x gathered r (node h ys n ts) = suits x r h ts && (is_reached x gathered r h ts && all_passed x gathered r h 0 ts)
 
   -- from a place on
-  pub all_passed : Name → Bool → Tree → Shape → ℕ → Trees → Bool
-  all_passed x of_entries r h i none = true
-  all_passed x of_entries r h i (t ▸ ts) = if names x t then are_passed_in x (entries_below of_entries h i) r t else (passes_at of_entries r h i t && all_passed x of_entries r h (suc i) ts)
+  pub all_passed : Name → Gathered → Tree → Shape → ℕ → Trees → Bool
+  all_passed x gathered r h i none = true
+  all_passed x gathered r h i (t ▸ ts) = if names x t then are_passed_in x (gathered_below gathered h i) r t else (passes_at gathered r h i t && all_passed x gathered r h (suc i) ts)
 
--- of which no entry is asked
+-- of which a value is asked
 abbrev pub are_passed : Name → Tree → Tree → Bool
-are_passed x = are_passed_in x false
+are_passed x = are_passed_in x OfValues
 
 abbrev pub is_head_shape : Shape → Bool
 is_head_shape shape.ExpressionStatement = true
@@ -709,13 +730,15 @@ pub record ForRow (n w : Tree) : Type 0 where
   pub written : w ≡ for_loop (head_left kind (append first last)) test update body
 
 -- a row reads n as w at this place: a function may be a statement, an expression, the value of a method, or exported, a program stands
--- nowhere else, and a static block in a class. A block that is no body and a switch keep each
+-- nowhere else, and a static block in a class. A block is a statement, or one of the blocks of a `try`, which stand elsewhere: of
+-- `try { let x = a(); b(); } catch (e) { }` the first becomes `{ a(); b(); }`. What a `catch` takes is declared around its block (ECMA-262,
+-- "CatchClauseEvaluation"), like parameters around a body, and stays. A block that is no body and a switch keep each
 -- `var`: its name is seen around it
 abbrev pub UnusedRow : VariableSet → Position → Tree → Tree → Type 0
 UnusedRow W (Stmt q) n w = BlockRow nothing n w ⊎ (FunctionBodyRow W n w ⊎ (SwitchRow n w ⊎ ForRow n w))
 UnusedRow W (Expr s) n w = ArrowBodyRow W n w ⊎ FunctionBodyRow W n w
 UnusedRow W Method n w = FunctionBodyRow W n w
-UnusedRow W Elsewhere n w = FunctionBodyRow W n w ⊎ (ModuleRow W n w ⊎ StaticBlockRow W n w)
+UnusedRow W Elsewhere n w = FunctionBodyRow W n w ⊎ (ModuleRow W n w ⊎ (StaticBlockRow W n w ⊎ BlockRow nothing n w))
 UnusedRow W _ n w = ⊥
 
 -- what it writes, where it weighs less

@@ -14,7 +14,8 @@ use Rattle.mini_model.specs.Weight.{weight, same_text}
 use Rattle.mini_laws.specs.Value.{Declared, VariableSet}
 use Rattle.mini_laws.specs.Weights.{Lightens}
 use Rattle.mini_kept.specs.Loosely.{LawfulWith}
-use Rattle.mini_rows.specs.Chains.{Link, spine, chain, is_calm, are_calm_links, reads_value}
+use Rattle.mini_terms.specs.Exact.{kept_by_value}
+use Rattle.mini_rows.specs.Chains.{Link, spine, chain, is_calm, are_calm_links}
 use Rattle.mini_rows.specs.Choices.{assign, deciding, strictly, loosely, joining, AreNullish, ended}
 use Rattle.mini_rows.specs.Spellings.{IsUndefined, assignment, binary}
 use Rattle.mini_rows.specs.Unused.{resolved}
@@ -64,7 +65,8 @@ pub record Row37Assigned (W : VariableSet) (n w : Tree) : Type 0 where
   pub written : w ≡ ended (joining equal) before (binary (loosely equal) (assign (resolved spelling symbol) a) null_literal)
 
 -- 46: `(x = a) == null ? void 0 : x.m` becomes `(x = a)?.m`, and so do `x.m(b)` and what else is of members and calls over x, and
--- `(x = a) != null ? x.m : void 0`, where x isn't named `eval` (`eval(b)` is a direct call). Nothing in a ends the chain itself
+-- `(x = a) != null ? x.m : void 0`, where x isn't named `eval` (`eval(b)` is a direct call). Nothing in a ends the chain itself. As a callee and
+-- under `delete` the chain stands behind a `0`: `((x = a) == null ? void 0 : x.m)()` becomes `(0, (x = a)?.m)()`
 pub record Row46AssignedChain (W : VariableSet) (s : Seat) (n w : Tree) : Type 0 where
   pub equal : Bool
   pub spelling : List ℕ
@@ -78,9 +80,8 @@ pub record Row46AssignedChain (W : VariableSet) (s : Seat) (n w : Tree) : Type 0
   pub undefined : IsUndefined missing
   pub calm_value : is_calm a ≡ true
   pub calm : are_calm_links last others ≡ true
-  pub valued : reads_value s.guard ≡ true
   pub shape : n ≡ if_null equal (assign (resolved spelling symbol) a) missing (spine false (identifier (resolved spelling symbol)) last others)
-  pub written : w ≡ chain (spine true (assign (resolved spelling symbol) a) last others)
+  pub written : w ≡ kept_by_value s.guard (chain (spine true (assign (resolved spelling symbol) a) last others))
 
 -- a row reads n as w at this place
 abbrev pub WriteRow : VariableSet → Position → Tree → Tree → Type 0

@@ -12,6 +12,7 @@ mod constants;
 mod de_morgan;
 mod declarations;
 mod foldings;
+mod gathered;
 mod inside;
 mod lets;
 mod lexical;
@@ -40,6 +41,7 @@ pub use constants::{constants_are_lawful, constants_lighten, constants_mean_the_
 pub use de_morgan::{de_morgan_is_lawful, de_morgan_lightens, de_morgan_means_the_same};
 pub use declarations::{declarations_are_lawful, declarations_lighten, declarations_same};
 pub use foldings::{foldings_are_lawful, foldings_are_lighter, foldings_mean_the_same};
+pub use gathered::Gathered;
 pub use inside::{Way, inside_is_lawful, inside_lightens};
 pub use lets::{lets_are_lawful, lets_lighten};
 pub use lexical::{
@@ -53,9 +55,10 @@ pub use operands::{operands_are_lawful, operands_are_lighter, operands_mean_the_
 pub use parts::{own_parts_are_lawful, own_parts_lighten};
 pub use past::{
     past_steady_names_are_lawful, past_steady_names_are_lawful_in_arrows,
-    past_steady_names_are_lawful_in_blocks, past_steady_names_are_lawful_in_blocks_of_programs,
-    past_steady_names_are_lawful_in_modules, past_steady_names_are_lawful_in_static_blocks,
-    past_steady_names_lighten, past_steady_names_lighten_arrows, past_steady_names_lighten_blocks,
+    past_steady_names_are_lawful_in_blocks, past_steady_names_are_lawful_in_blocks_of_parts,
+    past_steady_names_are_lawful_in_blocks_of_programs, past_steady_names_are_lawful_in_modules,
+    past_steady_names_are_lawful_in_static_blocks, past_steady_names_lighten,
+    past_steady_names_lighten_arrows, past_steady_names_lighten_blocks,
     past_steady_names_lighten_modules, past_steady_names_lighten_static_blocks,
     past_steady_names_read_more_in_blocks, past_steady_names_run_alike,
 };

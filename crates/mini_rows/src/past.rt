@@ -4,7 +4,7 @@ ghost use Rattle.mini_rows.specs.Past.{PastIsLawful, PastLightens, PastRunsAlike
 ghost use Rattle.mini_rows.specs.PastArrows.{PastArrowIsLawful, PastArrowLightens};
 ghost use Rattle.mini_rows.specs.PastModules.{PastModuleIsLawful, PastModuleLightens};
 ghost use Rattle.mini_rows.specs.PastStatics.{PastStaticIsLawful, PastStaticLightens};
-ghost use Rattle.mini_rows.specs.PastBlocks.{PastBlocksAreLawful, PastBlocksAreLawfulInPrograms, PastBlocksLighten, PastBlocksReadMore};
+ghost use Rattle.mini_rows.specs.PastBlocks.{PastBlocksAreLawful, PastBlocksAreLawfulInParts, PastBlocksAreLawfulInPrograms, PastBlocksLighten, PastBlocksReadMore};
 
 /// A body runs as before where the initializer goes past names that are held, from each start that initialises what is known to be
 /// initialised, in any environment in which that is so which is known, where nobody else sees the name that goes.
@@ -66,6 +66,11 @@ pub fn past_steady_names_read_more_in_blocks()
 /// And a program is kept in which a function or an arrow function has such a block, where that is so which is known of its body.
 pub fn past_steady_names_are_lawful_in_blocks()
     ensures { PastBlocksAreLawful }
+{}
+
+/// And so is one in which a static block has such a block.
+pub fn past_steady_names_are_lawful_in_blocks_of_parts()
+    ensures { PastBlocksAreLawfulInParts }
 {}
 
 /// And so is one that has such a block itself.

@@ -19,7 +19,7 @@ use Rattle.mini_kept.proofs.Counts.{first_or_other, at_first, at_other}
 use Rattle.mini_kept.proofs.Declared.{reaches_declared}
 use Rattle.mini_node.specs.Children.{names_of}
 use Rattle.mini_rows.specs.Past.{is_binding, is_symbol, has_symbol, binds, any_bind}
-use Rattle.mini_rows.specs.Steady.{times_named, bindings, all_bindings, Symbols, no_symbols, valued, known_in, own_rows, OwnRows, ReadsMore, OwnStep, own_here, own_inside, OwnStepIn, own_first, own_later}
+use Rattle.mini_rows.specs.Steady.{times_named, bindings, all_bindings, Symbols, Begun, nothing_begun, valued, known_in, own_rows, OwnRows, ReadsMore, OwnStep, own_here, own_inside, OwnStepIn, own_first, own_later}
 use Rattle.mini_steady.specs.Chains.{Several, once, again}
 use Rattle.mini_steady.specs.Own.{KeepsEach}
 use Rattle.mini_rows.proofs.OwnLightens.{some_row}
@@ -129,15 +129,15 @@ same_set t L X (Declared k) = (λ i. (L k && not (twice_there k t i)) || (X (Dec
 same_set t L X (Global s) = refl
 
 -- so what is known in the code of a body is what is known in it
-known_is : (S : BodySets) (c : BodyCode) (k : ℕ) (t : Tree) → c.number ≡ k → c.declared.items ≡ declared_in t → (L : Symbols) → known_there S c L ≡ known_in t (S k) L
-known_is S c k t e f L = (λ i. record (S (e i)) { initial = unlisted (f i) L (S (e i)).initial }) ∙ ap (λ X. record (S k) { initial = X }) (fun_ext (same_set t L (S k).initial))
+known_is : (S : BodySets) (c : BodyCode) (k : ℕ) (t : Tree) → c.number ≡ k → c.declared.items ≡ declared_in t → (L : Begun) → known_there S c L ≡ known_in t (S k) L
+known_is S c k t e f L = (λ i. record (S (e i)) { initial = unlisted (f i) L.symbols (S (e i)).initial }) ∙ ap (λ X. record (S k) { initial = X }) (fun_ext (same_set t L.symbols (S k).initial))
 
 pub all_known : (S : BodySets) (c : BodyCode) (k : ℕ) (t : Tree) → c.number ≡ k → c.declared.items ≡ declared_in t → known_there S c ≡ known_in t (S k)
 all_known S c k t e f = (λ i L. known_is S c k t e f L i)
 
 -- at its start nothing is begun
-pub none_begun : (c : BodyCode) → c.begun.items ≡ [] → begun_by c ≡ no_symbols
-none_begun c e = (λ i k. is_listed k (e i))
+pub none_begun : (c : BodyCode) → c.begun.items ≡ [] → c.in_lexical ≡ false → begun_by c ≡ nothing_begun
+none_begun c e f = (λ i. record { symbols = λ k. is_listed k (e i); in_lexical = f i })
 
 -- ---- what a tree declares
 
@@ -223,7 +223,7 @@ pub fewer_then : (t u v : Tree) → Fewer t u → Fewer u v → Fewer t v
 unfolding Fewer
 fewer_then t u v f g k e = g k (f k e)
 
-pub step_fewer : (F : OwnRows) → KeepsEach F → (c : Tree) (V : Assured) (L : Symbols) (p : Position) (t u : Tree) → OwnStep (own_rows F c V) L p t u → Fewer t u
+pub step_fewer : (F : OwnRows) → KeepsEach F → (c : Tree) (V : Assured) (L : Begun) (p : Position) (t u : Tree) → OwnStep (own_rows F c V) L p t u → Fewer t u
 unfolding Fewer
 step_fewer F keeps c V L p t u s k e = by (binds k u) refl
   where
@@ -240,11 +240,11 @@ Rarer t u = (k : ℕ) → bindings k u ≤ bindings k t
 
 module _ (F : OwnRows) (keeps : KeepsEach F) (c : Tree) (V : Assured) where
   mutual
-    step_bound : {L : Symbols} {p : Position} {t u : Tree} → OwnStep (own_rows F c V) L p t u → Rarer t u
+    step_bound : {L : Begun} {p : Position} {t u : Tree} → OwnStep (own_rows F c V) L p t u → Rarer t u
     step_bound (own_here L p n w r) k = (keeps (known_in c V L)).bound p n w r k
     step_bound (own_inside L p h xs ts us b s) k = omega (arith, steps_bound s k)
 
-    steps_bound : {Λ : ℕ → Symbols} {π : ℕ → Position} {ts us : Trees} → OwnStepIn (own_rows F c V) Λ π ts us → (k : ℕ) → all_bindings k us ≤ all_bindings k ts
+    steps_bound : {Λ : ℕ → Begun} {π : ℕ → Position} {ts us : Trees} → OwnStepIn (own_rows F c V) Λ π ts us → (k : ℕ) → all_bindings k us ≤ all_bindings k ts
     steps_bound (own_first Λ π t u ts s) k = omega (arith, step_bound s k)
     steps_bound (own_later Λ π t ts us s) k = omega (arith, steps_bound s k)
 
@@ -273,18 +273,18 @@ known_more V t u f g L (Global s) h = h
 
 -- ---- steps in a body, one after another
 
-module _ (R Q : Symbols → Position → Tree → Tree → Type 0) (same : (L : Symbols) (p : Position) (n w : Tree) → R L p n w → Q L p n w) where
+module _ (R Q : Begun → Position → Tree → Tree → Type 0) (same : (L : Begun) (p : Position) (n w : Tree) → R L p n w → Q L p n w) where
   mutual
-    step_by : {L : Symbols} {p : Position} {t u : Tree} → OwnStep R L p t u → OwnStep Q L p t u
+    step_by : {L : Begun} {p : Position} {t u : Tree} → OwnStep R L p t u → OwnStep Q L p t u
     step_by (own_here L p n w r) = own_here L p n w (same L p n w r)
     step_by (own_inside L p h xs ts us b s) = own_inside L p h xs ts us b (steps_by s)
 
-    steps_by : {Λ : ℕ → Symbols} {π : ℕ → Position} {ts us : Trees} → OwnStepIn R Λ π ts us → OwnStepIn Q Λ π ts us
+    steps_by : {Λ : ℕ → Begun} {π : ℕ → Position} {ts us : Trees} → OwnStepIn R Λ π ts us → OwnStepIn Q Λ π ts us
     steps_by (own_first Λ π t u ts s) = own_first Λ π t u ts (step_by s)
     steps_by (own_later Λ π t ts us s) = own_later Λ π t ts us (steps_by s)
 
 -- what is known as the first begins is known at each, so that each is a step over its own code
-module _ (F : OwnRows) (keeps : KeepsEach F) (wide : ReadsMore F) (V : Assured) (p : Position) (Q : Tree → Tree → Type 0) (over : Tree → Tree) (step_in : (t u : Tree) → OwnStep (own_rows F t V) no_symbols p t u → Q (over t) (over u)) where
+module _ (F : OwnRows) (keeps : KeepsEach F) (wide : ReadsMore F) (V : Assured) (p : Position) (Q : Tree → Tree → Type 0) (over : Tree → Tree) (step_in : (t u : Tree) → OwnStep (own_rows F t V) nothing_begun p t u → Q (over t) (over u)) where
   record Less (s t : Tree) : Type 0 where
     fewer : Fewer s t
     rarer : (k : ℕ) → bindings k t ≤ bindings k s
@@ -292,18 +292,18 @@ module _ (F : OwnRows) (keeps : KeepsEach F) (wide : ReadsMore F) (V : Assured) 
   known_on : (s t : Tree) → Less s t → (L : Symbols) (x : Variable) → valued s L V.initial x ≡ true → valued t L V.initial x ≡ true
   known_on s t l = known_more V s t l.fewer l.rarer
 
-  one_in : (s t u : Tree) → Less s t → OwnStep (own_rows F s V) no_symbols p t u → Q (over t) (over u) × Less s u
+  one_in : (s t u : Tree) → Less s t → OwnStep (own_rows F s V) nothing_begun p t u → Q (over t) (over u) × Less s u
   one_in s t u l r = (
-    step_in t u (step_by (own_rows F s V) (own_rows F t V) (λ L. wide (known_in s V L) (valued t L V.initial) (known_on s t l L)) r),
-    record { fewer = fewer_then s t u l.fewer (step_fewer F keeps s V no_symbols p t u r); rarer = λ k. omega (arith, l.rarer k, step_bound F keeps s V r k) },
+    step_in t u (step_by (own_rows F s V) (own_rows F t V) (λ L. wide (known_in s V L) (valued t L.symbols V.initial) (known_on s t l L.symbols)) r),
+    record { fewer = fewer_then s t u l.fewer (step_fewer F keeps s V nothing_begun p t u r); rarer = λ k. omega (arith, l.rarer k, step_bound F keeps s V r k) },
   )
 
-  several_in : (s t u : Tree) → Less s t → Several (OwnStep (own_rows F s V) no_symbols p) t u → Several Q (over t) (over u) × Less s u
+  several_in : (s t u : Tree) → Less s t → Several (OwnStep (own_rows F s V) nothing_begun p) t u → Several Q (over t) (over u) × Less s u
   several_in s _ _ l (once t u r) = let (q, g) = one_in s t u l r in (once (over t) (over u) q, g)
   several_in s _ _ l (again t u v a r) =
       let (qs, g) = several_in s t u l a in
       let (q, h) = one_in s u v g r in
       (again (over t) (over u) (over v) qs q, h)
 
-  pub several_known : (t u : Tree) → Several (OwnStep (own_rows F t V) no_symbols p) t u → Several Q (over t) (over u)
+  pub several_known : (t u : Tree) → Several (OwnStep (own_rows F t V) nothing_begun p) t u → Several Q (over t) (over u)
   several_known t u m = (several_in t t u (record { fewer = fewer_itself t; rarer = λ k. omega arith }) m).0

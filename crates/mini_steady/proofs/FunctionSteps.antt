@@ -9,7 +9,7 @@ use Rattle.mini_model.specs.Tree.{Tree, Trees, node, none, ◌▸◌, count, chi
 use Rattle.mini_kept.specs.KeepsFrames.{function_over}
 use Rattle.mini_node.specs.Children.{part, number_of, with_child}
 use Rattle.mini_node.specs.Lends.{with_children}
-use Rattle.mini_rows.specs.Steady.{Symbols, no_symbols, own_rows, OwnRows, ReadsMore, OwnStep, OwnFunctionRow, OwnFunction}
+use Rattle.mini_rows.specs.Steady.{Begun, nothing_begun, own_rows, OwnRows, ReadsMore, OwnStep, OwnFunctionRow, OwnFunction}
 use Rattle.mini_tree.specs.Rule.{Moves, Applied}
 use Rattle.mini_tree.proofs.Reaching.{moves_once, moves_trans}
 use Rattle.mini_steady.specs.Chains.{Several, once, again}
@@ -17,18 +17,18 @@ use Rattle.mini_steady.specs.Functions.{is_function, AppliedInFunction, Rests, h
 use Rattle.mini_steady.specs.Declarations.{declared_in, begun_by}
 use Rattle.mini_steady.specs.Own.{KeepsEach, rows_there, OwnWalked}
 use Rattle.mini_steady.specs.declared.code.BodyCode.{BodyCode}
-use Rattle.mini_steady.proofs.Declaring.{all_known, none_begun, several_known}
+use Rattle.mini_steady.proofs.Declaring.{all_known, several_known}
 
 abbrev body_of : Tree → Tree
 body_of t = part t 2
 
 module _ (F : OwnRows) (keeps : KeepsEach F) (wide : ReadsMore F) (S : BodySets) (d g : Bool) (ds : List (List ℕ)) (k : ℕ) (name ps : Tree) where
-  step_in : (t u : Tree) → OwnStep (own_rows F t (S k)) no_symbols Elsewhere t u → OwnFunctionRow F S (function_over d g ds k name ps t) (function_over d g ds k name ps u)
+  step_in : (t u : Tree) → OwnStep (own_rows F t (S k)) nothing_begun Elsewhere t u → OwnFunctionRow F S (function_over d g ds k name ps t) (function_over d g ds k name ps u)
   step_in t u s = record { is_declaration = d; is_generator = g; directives = ds; number = k; name = name; parameters = ps; before = t; after = u; step = s; shape = refl; written = refl }
 
-  walked_in : (t u : Tree) (b : Bool) → OwnWalked (own_rows F t (S k)) no_symbols Elsewhere t u b → AppliedInFunction F S (function_over d g ds k name ps t) (function_over d g ds k name ps u) b
+  walked_in : (t u : Tree) (b : Bool) → OwnWalked (own_rows F t (S k)) nothing_begun Elsewhere t u b → AppliedInFunction F S (function_over d g ds k name ps t) (function_over d g ds k name ps u) b
   walked_in t u true m = several_known F keeps wide (S k) Elsewhere (OwnFunctionRow F S) (function_over d g ds k name ps) step_in t u m
-  walked_in t u false (e, rests) = (ap (function_over d g ds k name ps) e, λ w r. rests r.after (subst (λ z. OwnStep (own_rows F z (S k)) no_symbols Elsewhere z r.after) (sym (ap body_of r.shape)) (subst (λ n. OwnStep (own_rows F r.before (S n)) no_symbols Elsewhere r.before r.after) (sym (ap number_of r.shape)) r.step)))
+  walked_in t u false (e, rests) = (ap (function_over d g ds k name ps) e, λ w r. rests r.after (subst (λ z. OwnStep (own_rows F z (S k)) nothing_begun Elsewhere z r.after) (sym (ap body_of r.shape)) (subst (λ n. OwnStep (own_rows F r.before (S n)) nothing_begun Elsewhere r.before r.after) (sym (ap number_of r.shape)) r.step)))
 
 -- a function has three parts
 
@@ -49,11 +49,11 @@ function_is : (t : Tree) → is_function t ≡ true → IsFunction t
 function_is (node (shape.Function d g ds) [] n ts) e = record { is_declaration = d; is_generator = g; directives = ds; is = ap (node (shape.Function d g ds) [] n) (three ts (eqb-true (count ts) 3 e)) }
 function_is t e = absurd (false≢true e)
 
-pub walked_function : (F : OwnRows) → KeepsEach F → ReadsMore F → (S : BodySets) (t u x : Tree) (c : BodyCode) (ts : Trees) (b : Bool) → is_function t ≡ true → c.number ≡ number_of t → c.declared.items ≡ declared_in (part t 2) → c.begun.items ≡ [] → ts ≡ children t → x ≡ child_or_absent ts 2 → OwnWalked (rows_there F S c) (begun_by c) Elsewhere x u b → AppliedInFunction F S t (with_children t (with_child ts 2 u)) b
+pub walked_function : (F : OwnRows) → KeepsEach F → ReadsMore F → (S : BodySets) (t u x : Tree) (c : BodyCode) (ts : Trees) (b : Bool) → is_function t ≡ true → c.number ≡ number_of t → c.declared.items ≡ declared_in (part t 2) → begun_by c ≡ nothing_begun → ts ≡ children t → x ≡ child_or_absent ts 2 → OwnWalked (rows_there F S c) (begun_by c) Elsewhere x u b → AppliedInFunction F S t (with_children t (with_child ts 2 u)) b
 walked_function F keeps wide S t u x c ts b f e d z these child m =
     let G = function_is t f in
     let there = subst (λ z. OwnWalked (rows_there F S c) (begun_by c) Elsewhere z u b) (child ∙ ap (λ vs. child_or_absent vs 2) these) m in
-    let inside = subst₂ (λ (K : Symbols → Assured) (L : Symbols). OwnWalked (λ M. F (K M)) L Elsewhere (part t 2) u b) (all_known S c (number_of t) (part t 2) e d) (none_begun c z) there in
+    let inside = subst₂ (λ (K : Begun → Assured) (L : Begun). OwnWalked (λ M. F (K M)) L Elsewhere (part t 2) u b) (all_known S c (number_of t) (part t 2) e d) z there in
     subst (λ vs. AppliedInFunction F S t (with_children t (with_child vs 2 u)) b) (sym these)
     (subst (λ z. AppliedInFunction F S z (with_children z (with_child (children z) 2 u)) b) (sym G.is)
     (walked_in F keeps wide S G.is_declaration G.is_generator G.directives (number_of t) (part t 0) (part t 1) (part t 2) u b inside))

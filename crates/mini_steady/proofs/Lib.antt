@@ -4,8 +4,11 @@ pub mod Declaring
 pub mod Written
 pub mod LeftParts
 pub mod MemberRows
+pub mod IdleRows
 pub mod Owning
 pub mod Letting
+pub mod Behind
+pub mod Begun
 pub mod FunctionSteps
 pub mod ArrowSteps
 pub mod ProgramSteps

@@ -37,8 +37,6 @@ use Rattle.mini_choices.proofs.Trials.{some_is, not_true, both_true, first_true,
 use Rattle.mini_steady.specs.Leaving.{all_leave, is_this}
 use Rattle.mini_steady.specs.Members as row
 use Rattle.mini_steady.specs.Members.{MembersAreRows, UnwrittenMembersRest}
-use Rattle.mini_steady.specs.Chains.{once}
-use Rattle.mini_steady.specs.Own.{AppliedHere}
 
 -- ---- what has members
 
@@ -411,14 +409,3 @@ module _ (V : Assured) (s : Seat) (n w : Tree) where
 
 pub unwritten_rests : UnwrittenMembersRest
 unwritten_rests V s n e w r = absurd (cc (sym (passes V s n w r) ∙ ap is_some e))
-
--- ---- at an expression in its seat
-
-pub here_applied : (V : Assured) (s : Seat) (t u : Tree) (b : Bool) → u ≡ unwrap_or (row.written V s t) t → b ≡ is_some (row.written V s t) → AppliedHere (SteadyRow V) (Expr s) t u b
-here_applied V s t u b e f =
-    subst (λ v. AppliedHere (SteadyRow V) (Expr s) t v b) (sym e)
-    (subst (AppliedHere (SteadyRow V) (Expr s) t (unwrap_or (row.written V s t) t)) (sym f) (go (row.written V s t) refl))
-  where
-    go : (o : Option Tree) → row.written V s t ≡ o → AppliedHere (SteadyRow V) (Expr s) t (unwrap_or o t) (is_some o)
-    go None h = (refl, unwritten_rests V s t h)
-    go (Some w) h = once t w (members_are_rows V s t w h)

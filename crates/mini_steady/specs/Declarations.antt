@@ -6,11 +6,14 @@ use Rattle.mini_model.specs.declared.kind.VariableDeclarationKind.TheVariants.{L
 use Rattle.mini_model.specs.declared.operator.UnaryOperator.TheVariants.{LogicalNot}
 use Rattle.mini_model.specs.declared.shape.Shape.{Shape}
 use Rattle.mini_model.specs.declared.shape.Shape.TheVariants as shape
-use Rattle.mini_model.specs.Tree.{Tree, Trees, node, none, ◌▸◌}
+use Rattle.mini_model.specs.declared.place.Position.{Position}
+use Rattle.mini_model.specs.declared.place.Position.TheVariants.{Expr, Stmt, StatementList, BodyList, CommaList}
+use Rattle.mini_model.specs.Tree.{Tree, Trees, node, none, ◌▸◌, shape_of}
 use Rattle.mini_laws.specs.Value.{Declared, Global, VariableSet}
 use Rattle.mini_kept.specs.Without.{Assured, BodySets}
 use Rattle.mini_rows.specs.Past.{is_binding}
-use Rattle.mini_rows.specs.Steady.{Symbols}
+use Rattle.mini_rows.specs.Steady.{Symbols, Begun, Beginning, OfChild, OfHead, OfNone, beginning}
+use Rattle.mini_node.specs.Children.{part}
 use Rattle.mini_steady.specs.declared.code.BodyCode.{BodyCode}
 
 -- the symbols of some names
@@ -128,6 +131,69 @@ abbrev mutual
 abbrev pub lets_if : Bool → Tree → List SymbolId
 lets_if b t = if b then lets_in t else []
 
+-- ---- of those that begin behind a child
+
+abbrev pub is_of_child : Beginning → Bool
+is_of_child OfChild = true
+is_of_child b = false
+
+abbrev pub is_of_head : Beginning → Bool
+is_of_head OfHead = true
+is_of_head b = false
+
+abbrev pub is_statement_list : Shape → Position → Bool
+is_statement_list shape.Listed StatementList = true
+is_statement_list shape.Listed BodyList = true
+is_statement_list h p = false
+
+-- a list of other parts with commas between them
+abbrev pub is_comma_list : Shape → Position → Bool
+is_comma_list shape.Listed CommaList = true
+is_comma_list h p = false
+
+abbrev pub is_catch : Shape → Bool
+is_catch shape.CatchClause = true
+is_catch h = false
+
+abbrev pub is_for : Shape → Bool
+is_for shape.ForStatement = true
+is_for h = false
+
+-- a `for..in` or a `for..of`
+abbrev pub is_for_each : Shape → Bool
+is_for_each shape.ForInStatement = true
+is_for_each shape.ForOfStatement = true
+is_for_each h = false
+
+-- a `let` or a `const`; a `!` is read as its operand
+abbrev pub is_lexical_shape : Shape → Bool
+is_lexical_shape (shape.VariableDeclaration Let) = true
+is_lexical_shape (shape.VariableDeclaration Const) = true
+is_lexical_shape h = false
+
+-- where a declaration is a statement, or the head of a `for`
+abbrev pub may_begin : Position → Bool
+may_begin (Stmt q) = true
+may_begin (Expr s) = s.unused
+may_begin p = false
+
+abbrev mutual
+  pub is_lexical : Tree → Bool
+  is_lexical (node h xs n ts) = is_lexical_shape h || (is_negation h && is_lexical_first ts)
+
+  pub is_lexical_first : Trees → Bool
+  is_lexical_first none = false
+  is_lexical_first (t ▸ ts) = is_lexical t
+
+abbrev pub begin_by : Beginning → Tree → ℕ → List SymbolId
+begin_by OfChild t i = lets_in (part t i)
+begin_by OfHead t i = lets_if (is_lexical (part t 0)) (part t 0)
+begin_by OfNone t i = []
+
+-- behind the child at an index of a node at a place, which may be the list of a `let` or a `const`
+abbrev pub begin_in : Bool → Position → Tree → ℕ → List SymbolId
+begin_in b p t i = begin_by (beginning b (shape_of t) p i) t i
+
 -- ---- what is known
 
 -- the symbols that are begun, if the code declares them once, and the variables of X that no scope there declares
@@ -135,13 +201,13 @@ abbrev pub unlisted : List SymbolId → Symbols → VariableSet → VariableSet
 unlisted ss L X (Declared k) = (L k && not (is_listed_twice k ss)) || (X (Declared k) && not (is_listed k ss))
 unlisted ss L X (Global s) = false
 
--- what is known in the body, of which S says what is known of it, where statements before have declared L
-abbrev pub known_there : BodySets → BodyCode → Symbols → Assured
-known_there S c L = record (S c.number) { initial = unlisted c.declared.items L (S c.number).initial }
+-- what is known in the body, of which S says what is known of it, where L is begun
+abbrev pub known_there : BodySets → BodyCode → Begun → Assured
+known_there S c L = record (S c.number) { initial = unlisted c.declared.items L.symbols (S c.number).initial }
 
--- those that its code has begun
-abbrev pub begun_by : BodyCode → Symbols
-begun_by c k = is_listed k c.begun.items
+-- what is begun in its code
+abbrev pub begun_by : BodyCode → Begun
+begun_by c = record { symbols = λ k. is_listed k c.begun.items; in_lexical = c.in_lexical }
 
 abbrev pub known_of : BodySets → BodyCode → Assured
 known_of S c = known_there S c (begun_by c)

@@ -4,6 +4,7 @@ pub mod Leaving
 pub mod Own
 pub mod Keeping
 pub mod Members
+pub mod Idle
 pub mod Functions
 pub mod Arrows
 pub mod Programs

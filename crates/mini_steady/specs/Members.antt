@@ -7,7 +7,7 @@ use Rattle.mini_model.specs.declared.operator.AssignmentOperator.{AssignmentOper
 use Rattle.mini_model.specs.declared.operator.AssignmentOperator.TheVariants.{Assign}
 use Rattle.mini_model.specs.declared.operator.LogicalOperator.{LogicalOperator}
 use Rattle.mini_model.specs.declared.operator.LogicalOperator.TheVariants.{Or}
-use Rattle.mini_model.specs.declared.place.Position.TheVariants.{Expr}
+use Rattle.mini_model.specs.declared.place.Position.TheVariants.{Expr, Stmt}
 use Rattle.mini_model.specs.declared.seat.Seat.{Seat}
 use Rattle.mini_model.specs.Tree.{Tree, Trees, child_or_absent}
 use Rattle.mini_laws.specs.Value.{Declared, VariableSet}
@@ -138,8 +138,13 @@ UnwrittenMembersRest = (V : Assured) (s : Seat) (n : Tree) → written V s n ≡
 -- ---- as rows of the own code of a body
 
 pub members_open : ReadsOpen SteadyRow
-members_open V (Expr s) n w (inl r) = ap is_open r.shape
+members_open V (Expr s) n w (inl (inl r)) = ap is_open r.shape
+members_open V (Expr s) n w (inl (inr (inl r))) = ap is_open r.shape
+members_open V (Expr s) n w (inl (inr (inr (inl r)))) = ap is_open r.shape
+members_open V (Expr s) n w (inl (inr (inr (inr r)))) = ap is_open r.shape
 members_open V (Expr s) n w (inr (inl r)) = ap is_open r.shape
-members_open V (Expr s) n w (inr (inr (inl r))) = ap is_open r.shape
-members_open V (Expr s) n w (inr (inr (inr r))) = ap is_open r.shape
+members_open V (Expr s) n w (inr (inr r)) = ap is_open r.shape
+members_open V (Stmt q) n w (inl r) = ap is_open r.shape
+members_open V (Stmt q) n w (inr (inl r)) = ap is_open r.shape
+members_open V (Stmt q) n w (inr (inr r)) = ap is_open r.shape
 members_open V p n w r = absurd r

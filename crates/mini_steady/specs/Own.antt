@@ -10,7 +10,7 @@ use Rattle.mini_node.specs.Children.{part, number_of}
 use Rattle.mini_laws.specs.Weights.{Lightens}
 use Rattle.mini_kept.specs.Declaring.{declared}
 use Rattle.mini_kept.specs.Without.{Assured, BodySets}
-use Rattle.mini_rows.specs.Steady.{bindings, Symbols, begun_at, has_body, OwnRows, OwnStep}
+use Rattle.mini_rows.specs.Steady.{bindings, Begun, begun_at, has_body, OwnRows, OwnStep}
 use Rattle.mini_steady.specs.Chains.{Several}
 use Rattle.mini_steady.specs.Declarations.{known_there}
 use Rattle.mini_steady.specs.declared.code.BodyCode.{BodyCode}
@@ -38,25 +38,25 @@ KeepsEach F = (V : Assured) → KeepsCode (F V)
 abbrev pub place_in : Position → Tree → ℕ → Position
 place_in p t = child_position (shape_of t) p (count (children t))
 
--- what a family says of a node in this code, by what statements before have declared
-abbrev pub rows_there : OwnRows → BodySets → BodyCode → Symbols → Position → Tree → Tree → Type 0
+-- what a family says of a node in this code, by what is begun there
+abbrev pub rows_there : OwnRows → BodySets → BodyCode → Begun → Position → Tree → Tree → Type 0
 rows_there F S c L = F (known_there S c L)
 
--- nothing reads it, in the code of the body itself, where statements before have declared L
-abbrev pub OwnRests : (Symbols → Position → Tree → Tree → Type 0) → Symbols → Position → Tree → Type 0
+-- nothing reads it, in the code of the body itself, where L is begun
+abbrev pub OwnRests : (Begun → Position → Tree → Tree → Type 0) → Begun → Position → Tree → Type 0
 OwnRests R L p t = (w : Tree) → OwnStep R L p t w → ⊥
 
 -- steps in that code; or none, and then nothing in it reads it
-abbrev pub OwnWalked : (Symbols → Position → Tree → Tree → Type 0) → Symbols → Position → Tree → Tree → Bool → Type 0
+abbrev pub OwnWalked : (Begun → Position → Tree → Tree → Type 0) → Begun → Position → Tree → Tree → Bool → Type 0
 OwnWalked R L p t u true = Several (OwnStep R L p) t u
 OwnWalked R L p t u false = (u ≡ t) × OwnRests R L p t
 
--- what statements before the child at an index have declared
-abbrev pub begun_in : Position → Symbols → Tree → ℕ → Symbols
+-- what is begun at the child at an index
+abbrev pub begun_in : Position → Begun → Tree → ℕ → Begun
 begun_in p L t = begun_at (shape_of t) p L (summaries (children t))
 
 -- the same of the children alone
-abbrev pub OwnWalkedBelow : (Symbols → Position → Tree → Tree → Type 0) → Symbols → Position → Tree → Tree → Bool → Type 0
+abbrev pub OwnWalkedBelow : (Begun → Position → Tree → Tree → Type 0) → Begun → Position → Tree → Tree → Bool → Type 0
 OwnWalkedBelow R L p t u true = Several (OwnStep R L p) t u
 OwnWalkedBelow R L p t u false = (u ≡ t) × ((i : ℕ) → i < count (children t) → OwnRests R (begun_in p L t i) (place_in p t i) (part t i))
 
@@ -70,9 +70,11 @@ pub record AsBefore (c d : BodyCode) : Type 0 where
   pub number : d.number ≡ c.number
   pub declared : d.declared.items ≡ c.declared.items
   pub begun : d.begun.items ≡ c.begun.items
+  pub in_lexical : d.in_lexical ≡ c.in_lexical
 
 -- and then these symbols are begun, too
 pub record BeginsBesides (us : List SymbolId) (c d : BodyCode) : Type 0 where
   pub number : d.number ≡ c.number
   pub declared : d.declared.items ≡ c.declared.items
   pub begun : d.begun.items ≡ c.begun.items ++ us
+  pub in_lexical : d.in_lexical ≡ c.in_lexical

@@ -2,9 +2,10 @@
 
 ghost use Rattle.std.specs.Prelude.{◌≡◌, ◌∷◌, [], ◌++◌, length, take, OnOk, IfOk};
 ghost use Rattle.mini_node.specs.Children.{names, names_of};
-ghost use Rattle.mini_steady.specs.Declarations.{declared_among, declared_in, is_listed as is_listed_in, is_listed_twice as is_listed_twice_in, known_of, lets_if, own_symbols, symbols_of};
+ghost use Rattle.mini_steady.specs.Declarations.{declared_among, declared_in, is_listed as is_listed_in, is_listed_twice as is_listed_twice_in, begun_by, known_of, lets_if, own_symbols, symbols_of};
 ghost use Rattle.mini_steady.specs.Own.{BeginsBesides};
 ghost use Rattle.mini_rows.specs.Past as reading;
+ghost use Rattle.mini_rows.specs.Steady.{nothing_begun};
 ghost use Rattle.mini_model.specs.Tree.{shape_of};
 ghost use Rattle.mini_laws.specs.Value.{Declared};
 
@@ -22,8 +23,10 @@ pub struct BodyCode {
     pub number: u32,
     /// The symbols that are declared in it.
     pub declared: Vec<SymbolId>,
-    /// Of a place in it, those that statements before have declared.
+    /// Of a place in it, those that were declared before it, and have their values there.
     pub begun: Vec<SymbolId>,
+    /// Whether the place is the list of a `let` or a `const`.
+    pub in_lexical: bool,
 }
 
 // Adds a symbol.
@@ -81,10 +84,11 @@ fn push_all(symbols: &mut Vec<SymbolId>, nodes: &Nodes) -> Result<(), OutOfMemor
 }
 
 /// The code of the body with this number, as it starts. The only error is that memory runs out.
+#[tactic(auto, using(crate::proofs::Declaring::none_begun))]
 pub fn code_of(alloc: Global, number: u32, node: &Node) -> Result<BodyCode, OutOfMemory>
     ensures number { IfOk result (λ code. code.number ≡ number) }
     ensures declared { IfOk result (λ code. code.declared.items ≡ declared_in node.now) }
-    ensures begun { IfOk result (λ code. code.begun.items ≡ []) }
+    ensures begun { IfOk result (λ code. begun_by code ≡ nothing_begun) }
 {
     let mut declared = Vec::new(alloc);
     push_declared(&mut declared, node)?;
@@ -93,6 +97,7 @@ pub fn code_of(alloc: Global, number: u32, node: &Node) -> Result<BodyCode, OutO
         number,
         declared,
         begun,
+        in_lexical: false,
     })
 }
 
@@ -114,13 +119,32 @@ pub fn begun_count(code: &BodyCode) -> usize
     code.begun.as_slice().len()
 }
 
-/// Leaves of what is begun in it so many.
-pub fn leave_begun(code: &mut BodyCode, count: usize)
+/// Whether the place is the list of a `let` or a `const`.
+pub fn is_in_lexical(code: &BodyCode) -> bool
+    ensures { result ≡ code.now.in_lexical }
+{
+    code.in_lexical
+}
+
+/// Goes to the children of a node, which may be such a list.
+pub fn enter_children(code: &mut BodyCode, in_lexical: bool)
+    ensures number { code.new.number ≡ code.old.number }
+    ensures declared { code.new.declared.items ≡ code.old.declared.items }
+    ensures begun { code.new.begun.items ≡ code.old.begun.items }
+    ensures in_lexical { code.new.in_lexical ≡ in_lexical }
+{
+    code.in_lexical = in_lexical;
+}
+
+/// Goes back to the node: of what is begun in the code so many are left.
+pub fn leave_children(code: &mut BodyCode, count: usize, in_lexical: bool)
     ensures number { code.new.number ≡ code.old.number }
     ensures declared { code.new.declared.items ≡ code.old.declared.items }
     ensures begun { code.new.begun.items ≡ take count code.old.begun.items }
+    ensures in_lexical { code.new.in_lexical ≡ in_lexical }
 {
     code.begun.truncate(count);
+    code.in_lexical = in_lexical;
 }
 
 // Whether a symbol is among these.

@@ -57,8 +57,8 @@ fn is_class_shape(shape: &Shape) -> bool
     matches!(shape, Shape::Class(true))
 }
 
-// A negation.
-fn is_negation(shape: &Shape) -> bool
+/// A negation.
+pub fn is_negation(shape: &Shape) -> bool
     ensures { result ≡ row.is_negation shape.now }
 {
     matches!(shape, Shape::UnaryExpression(UnaryOperator::LogicalNot))

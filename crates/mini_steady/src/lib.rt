@@ -3,9 +3,11 @@
 #![tactic(auto)]
 
 mod arrows;
+mod beginnings;
 mod bindings;
 mod code;
 mod functions;
+mod idle;
 mod laws;
 mod leaving;
 mod lets;
@@ -21,6 +23,7 @@ pub use arrows::minimize_in_arrow;
 pub use bindings::{any_bind, binds};
 pub use code::{BodyCode, code_of, is_initialised};
 pub use functions::minimize_in_function;
+pub use idle::{drop_idle_parts, drop_idle_statement};
 pub use laws::{members_are_rows, told_stays};
 pub use leaving::is_this;
 pub use members::{SteadyMembers, minimize_members};

@@ -12,8 +12,10 @@ ghost use Rattle.mini_rows.proofs.SteadyKept.{steady_more};
 ghost use Rattle.mini_rows.specs.Steady.{SteadyRow};
 ghost use Rattle.mini_steady.specs.Keeping.{members_keep};
 ghost use Rattle.mini_steady.specs.Members.{members_open, written};
+ghost use Rattle.mini_steady.specs.Own.{AppliedHere};
 
 use crate::code::{BodyCode, is_initialised};
+use crate::idle::{drop_idle_parts, drop_idle_statement};
 use crate::leaving::{begins_at, is_this, leave_before, leaves_object};
 use crate::own::OwnRewrites;
 use crate::steady::SteadyNames;
@@ -272,7 +274,24 @@ pub fn minimize_members<S: SteadyNames>(
     Ok(true)
 }
 
-/// Rows of members of what keeps its value: 35, 38 and 45.
+// Of an expression: a row of members, or a part of it goes.
+fn minimize_expression<S: SteadyNames>(
+    alloc: Global,
+    node: &mut Node,
+    seat: Seat,
+    body: &BodyCode,
+    steady: &S,
+) -> Result<bool, OutOfMemory>
+    ensures { IfOk result (λ changed. AppliedHere (SteadyRow (known_of (S.sets steady.now) body.now)) (Position.Expr seat) node.old node.new changed) }
+{
+    if minimize_members(alloc, node, seat, body, steady)? {
+        return Ok(true);
+    }
+    let dropped = drop_idle_parts(alloc, node, seat, body, steady)?;
+    Ok(dropped)
+}
+
+/// Rows of what keeps its value: of members 35, 38 and 45, and 21 and 22 of what has no effect where the body has its `this`.
 pub struct SteadyMembers;
 
 impl<S: SteadyNames> OwnRewrites<S> for SteadyMembers {
@@ -287,7 +306,8 @@ impl<S: SteadyNames> OwnRewrites<S> for SteadyMembers {
         steady: &S,
     ) -> Result<bool, OutOfMemory> {
         match place {
-            Position::Expr(seat) => Ok(minimize_members(alloc, node, seat, body, steady)?),
+            Position::Expr(seat) => Ok(minimize_expression(alloc, node, seat, body, steady)?),
+            Position::Stmt(_) => Ok(drop_idle_statement(alloc, node, body, steady)),
             _ => Ok(false),
         }
     }

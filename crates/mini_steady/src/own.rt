@@ -1,11 +1,12 @@
 //! Rows of the own code of a body, and a walk over that, children first, past no other body and no node with a number.
 
 ghost use Rattle.std.specs.Prelude.{◌≡◌, true, IfOk, OnOk};
-ghost use Rattle.mini_rows.specs.Steady.{OwnRows, ReadsMore, has_body as has_it_body, holds_statements as are_statements};
+ghost use Rattle.mini_rows.specs.Steady.{OwnRows, ReadsMore, has_body as has_it_body};
 ghost use Rattle.mini_steady.specs.Declarations.{begun_by, known_of};
 ghost use Rattle.mini_steady.specs.Own.{AppliedHere, AsBefore, KeepsEach, OwnWalked, OwnWalkedBelow, ReadsOpen, is_open as is_it_open, rows_there};
 
-use crate::code::{BodyCode, begun_count, leave_begun, push_begun};
+use crate::beginnings::{lists_lexical, push_behind};
+use crate::code::{BodyCode, begun_count, enter_children, is_in_lexical, leave_children};
 use crate::steady::SteadyNames;
 use mini_model::{OutOfMemory, Position, Shape};
 use mini_node::Node;
@@ -60,14 +61,7 @@ fn is_open(node: &Node) -> bool
     node.number() == 0 && !has_body(node.shape())
 }
 
-// A list of statements.
-fn holds_statements(shape: &Shape, place: Position) -> bool
-    ensures { result ≡ are_statements shape.now place }
-{
-    matches!(shape, Shape::Listed) && matches!(place, Position::StatementList | Position::BodyList)
-}
-
-/// Walks over the own code of this body, from a node in it before which statements have declared what is begun, and writes there what these rows say.
+/// Walks over the own code of this body, from a node in it where this is begun, and writes there what these rows say.
 /// The answer says whether anything changed, and where nothing did no row reads anything in it; the only error is that memory runs out, and then the
 /// node and what is begun are fit only to be dropped.
 #[cycle(own)]
@@ -105,16 +99,17 @@ fn minimize_parts<S: SteadyNames, W: OwnRewrites<S>>(
     ensures body { OnOk result (AsBefore body.old body.new) }
 {
     let count = node.children().len();
-    let are_statements = holds_statements(node.shape(), place);
     let before = begun_count(body);
+    let was_lexical = is_in_lexical(body);
+    enter_children(body, lists_lexical(node.shape(), place));
     let mut changed = false;
     for at in 0..count {
         let stands = child_place(node.shape(), place, count, at);
         let child = node.children_mut().child_mut(at);
         let part = minimize_own_code(alloc, child, stands, body, steady, rewrites)?;
-        push_begun(body, are_statements, child)?;
+        push_behind(body, &*node, place, at, was_lexical)?;
         changed = changed | part;
     }
-    leave_begun(body, before);
+    leave_children(body, before, was_lexical);
     Ok(changed)
 }

@@ -19,22 +19,22 @@ use Rattle.mini_node.specs.Walks.{with_same, append_none}
 use Rattle.mini_rows.specs.declared.inside.Way.{Way}
 use Rattle.mini_rows.specs.declared.inside.Way.TheVariants as way
 use Rattle.mini_rows.specs.Declarations.{binding, declarator}
-use Rattle.mini_rows.specs.Inside.{is_way_to, way_in, above, has_lexical, ListEnd, HeldEnd, HeadEnd, EndRow}
+use Rattle.mini_rows.specs.Inside.{is_way_to, way_in, above, declares_var, ListEnd, HeldEnd, HeadEnd, EndRow}
 use Rattle.mini_rows.specs.Lists.{block, declaration, declares_nothing}
 use Rattle.mini_rows.specs.Unused.{resolved, names, any_names, declared_among, head_left, is_idle, lets_go, BlockRow}
 use Rattle.mini_rows.proofs.InsideEnds.{single_left}
 use Rattle.mini_rows.proofs.InsideLoses.{no_way, ways_same}
-use Rattle.mini_rows.proofs.InsideNames.{still_plain}
 use Rattle.mini_unused.specs.Chains.{Several, still}
-use Rattle.mini_unused.specs.RemoveUnusedDeclaration.{open_in, declares_list, declares_name, is_lexical_shape, is_unused, is_idle_at, head_without, UnusedOf}
+use Rattle.mini_unused.specs.RemoveUnusedDeclaration.{open_in, declares_list, declares_name, is_lexical_shape, is_var, is_unused, is_idle_at, head_without, UnusedOf}
 use Rattle.mini_unused.specs.SubstituteSingleUse.{Gone, Removed}
 use Rattle.mini_unused.proofs.Chains.{chain_joined, several_over}
 use Rattle.mini_unused.proofs.Chains as chains
 use Rattle.mini_unused.proofs.Heads.{head_left_is, missed_declarator}
-use Rattle.mini_unused.proofs.Holders.{row_behind, none_behind, left_listed, put_back, unused_there}
-use Rattle.mini_unused.proofs.Unused.{no_outside, and_both, kind, first, last, init, let_there, one, goes, statement_is, unused, Read, declarator_within}
+use Rattle.mini_unused.proofs.FurtherVars.{unused_back, var_row, no_var_row}
+use Rattle.mini_unused.proofs.Holders.{left_listed, put_back, unused_goes}
+use Rattle.mini_unused.proofs.Unused.{no_outside, kind, first, last, init, let_there, one, goes, statement_is, unused, Read, declarator_within}
 use Rattle.mini_unused.proofs.Unused.{unused_there as read_there}
-use Rattle.mini_unused.specs.Further.{pushed, is_plain, is_var, InStep, BelowStep, NothingAt, Walked, HereWalked, BelowWalked, WalkedAt, ChildWalked, HeadingFound}
+use Rattle.mini_unused.specs.Further.{pushed, InStep, BelowStep, NothingAt, Walked, HereWalked, BelowWalked, WalkedAt, ChildWalked, HeadingFound}
 
 -- ---- lists of nodes
 
@@ -173,14 +173,14 @@ no_end W a s t f end read put way is row =
     let same = ways_same end s way in
     f read put is (subst (λ us. EndRow s W us read put) (append_none a) (subst (λ z. EndRow z W (append a none) read put) same row))
 
--- what stays a list without a `let` and a `const`
-abbrev IsPlain : Tree → Type 0
-IsPlain t = (t ≡ listed (children t)) × (has_lexical (children t) ≡ false)
+-- what stays a list
+abbrev IsList : Tree → Type 0
+IsList t = t ≡ listed (children t)
 
 module _ (W : VariableSet) (a : Trees) where
-  gone_here : (ts : Trees) (u : Tree) → has_lexical ts ≡ false → Gone W (listed a) (listed ts) u → InStep W a way.Statements (listed ts) u × IsPlain u
-  gone_here ts u f m =
-      let row = row_behind W (listed a) a ts (mentions a) (evals a) u m in
+  gone_here : (ts : Trees) (u : Tree) → Gone W (listed a) (listed ts) u → InStep W a way.Statements (listed ts) u × IsList u
+  gone_here ts u m =
+      let (row, var) = var_row W a ts u m in
       let is = left_listed W (listed a) ts u m in (
         record {
           place = here;
@@ -188,95 +188,94 @@ module _ (W : VariableSet) (a : Trees) where
           read = listed ts;
           put = u;
           way = refl;
-          row = subst (λ us. ListEnd W us (listed ts) u) (sym (append_none a)) (record { list = ts; left = children u; row = row; plain = f; shape = refl; written = is });
+          row = subst (λ us. ListEnd W us (listed ts) u) (sym (append_none a)) (record { list = ts; left = children u; row = row; var = var; shape = refl; written = is });
           shape = refl;
           written = refl;
           below = λ z. absurd (true≢false (sym z));
         },
-        (is, still_plain W (listed a) ts (children u) refl row f),
+        is,
       )
 
-  here_gone : (t u : Tree) → IsPlain t → Gone W (listed a) t u → InStep W a way.Statements t u × IsPlain u
-  here_gone t u (is, f) m =
-      let (step, plain) = gone_here (children t) u f (subst (λ v. Gone W (listed a) v u) is m) in
-      (subst (λ v. InStep W a way.Statements v u) (sym is) step, plain)
+  here_gone : (t u : Tree) → IsList t → Gone W (listed a) t u → InStep W a way.Statements t u × IsList u
+  here_gone t u is m =
+      let (step, list) = gone_here (children t) u (subst (λ v. Gone W (listed a) v u) is m) in
+      (subst (λ v. InStep W a way.Statements v u) (sym is) step, list)
 
   list_rests : (ts : Trees) (m : Tree) → Removed W (listed a) (listed ts) m false → (read put : Tree) → listed ts ≡ read → ListEnd W a read put → ⊥
-  list_rests ts m r read put is row = none_behind W (listed a) a ts (mentions a) (evals a) m r (listed a ▸ row.list) (ap (λ t. listed a ▸ children t) (sym (is ∙ row.shape))) (block (listed a ▸ row.left)) row.row
+  list_rests ts m r read put is row = no_var_row W a row.list m (subst (λ us. Removed W (listed a) (listed us) m false) (ap children (is ∙ row.shape)) r) (block (listed a ▸ row.left)) row.row row.var
 
-  here_removed : (ts : Trees) (m : Tree) (c : Bool) → has_lexical ts ≡ false → Removed W (listed a) (listed ts) m c → HereWalked W a way.Statements (listed ts) m c
-  here_removed ts m true f r = several_over (Gone W (listed a)) (InStep W a way.Statements) IsPlain (λ z. z) here_gone (listed ts) m (refl, f) r
-  here_removed ts m false f r = (r.0, no_end W a way.Statements (listed ts) (list_rests ts m r))
+  here_removed : (ts : Trees) (m : Tree) (c : Bool) → Removed W (listed a) (listed ts) m c → HereWalked W a way.Statements (listed ts) m c
+  here_removed ts m true r = several_over (Gone W (listed a)) (InStep W a way.Statements) IsList (λ z. z) here_gone (listed ts) m refl r
+  here_removed ts m false r = (r.0, no_end W a way.Statements (listed ts) (list_rests ts m r))
 
   -- ---- a `var` in no list
 
   -- what stays a list of one statement
   abbrev IsOne : Tree → Type 0
-  IsOne v = (v ≡ listed (part v 0 ▸ none)) × (has_lexical (part v 0 ▸ none) ≡ false)
+  IsOne v = v ≡ listed (part v 0 ▸ none)
 
-  one_gone : (t u : Tree) → has_lexical (t ▸ none) ≡ false → Gone W (listed a) (listed (t ▸ none)) u → InStep W a way.Held t (part u 0) × IsOne u
-  one_gone t u f m =
-      let row = row_behind W (listed a) a (t ▸ none) (mentions a) (evals a) u m in
+  -- the row that a `var` behind that list is lost by
+  abbrev VarRow : Trees → Trees → Type 0
+  VarRow ts us = (r : BlockRow W (block (listed a ▸ ts)) (block (listed a ▸ us))) × (declares_var r ≡ true)
+
+  one_gone : (t u : Tree) → Gone W (listed a) (listed (t ▸ none)) u → InStep W a way.Held t (part u 0) × IsOne u
+  one_gone t u m =
+      let (row, var) = var_row W a (t ▸ none) u m in
       let is = left_listed W (listed a) (t ▸ none) u m in
-      let (v, one) = single_left W (listed a) t (children u) refl row f in
+      let (v, one) = single_left W (listed a) t (children u) refl row var in
       let whole : u ≡ listed (v ▸ none) = is ∙ ap listed one in
       let first : part u 0 ≡ v = ap (λ z. part z 0) whole in
-      let this = subst (λ us. BlockRow W (block (listed a ▸ (t ▸ none))) (block (listed a ▸ us))) (one ∙ ap (λ z. z ▸ none) (sym first)) row in
-      let plain = still_plain W (listed a) (t ▸ none) (part u 0 ▸ none) refl this f in (
+      let this : VarRow (t ▸ none) (part u 0 ▸ none) = subst (VarRow (t ▸ none)) (one ∙ ap (λ z. z ▸ none) (sym first)) (row, var) in (
         record {
           place = here;
           end = way.Held;
           read = t;
           put = part u 0;
           way = refl;
-          row = subst (λ us. HeldEnd W us t (part u 0)) (sym (append_none a)) (record { row = this; plain = f });
+          row = subst (λ us. HeldEnd W us t (part u 0)) (sym (append_none a)) (record { row = this.0; var = this.1 });
           shape = refl;
           written = refl;
           below = λ z. absurd (true≢false (sym z));
         },
-        (whole ∙ ap (λ z. listed (z ▸ none)) (sym first), plain),
+        whole ∙ ap (λ z. listed (z ▸ none)) (sym first),
       )
 
   held_gone : (v u : Tree) → IsOne v → Gone W (listed a) v u → InStep W a way.Held (part v 0) (part u 0) × IsOne u
-  held_gone v u (is, f) m = one_gone (part v 0) u f (subst (λ z. Gone W (listed a) z u) is m)
+  held_gone v u is m = one_gone (part v 0) u (subst (λ z. Gone W (listed a) z u) is m)
 
   held_rests : (t m : Tree) → Removed W (listed a) (listed (t ▸ none)) m false → (read put : Tree) → t ≡ read → HeldEnd W a read put → ⊥
-  held_rests t m r read put is row = none_behind W (listed a) a (t ▸ none) (mentions a) (evals a) m r (listed a ▸ (read ▸ none)) (ap (λ z. listed a ▸ (z ▸ none)) (sym is)) (block (listed a ▸ (put ▸ none))) row.row
+  held_rests t m r read put is row = no_var_row W a (read ▸ none) m (subst (λ z. Removed W (listed a) (listed (z ▸ none)) m false) is r) (block (listed a ▸ (put ▸ none))) row.row row.var
 
-  held_removed : (t m : Tree) (c : Bool) → has_lexical (t ▸ none) ≡ false → Removed W (listed a) (listed (t ▸ none)) m c → HereWalked W a way.Held t (part m 0) c
-  held_removed t m true f r = several_over (Gone W (listed a)) (InStep W a way.Held) IsOne (λ z. part z 0) held_gone (listed (t ▸ none)) m (refl, f) r
-  held_removed t m false f r = (ap (λ z. part z 0) r.0, no_end W a way.Held t (held_rests t m r))
+  held_removed : (t m : Tree) (c : Bool) → Removed W (listed a) (listed (t ▸ none)) m c → HereWalked W a way.Held t (part m 0) c
+  held_removed t m true r = several_over (Gone W (listed a)) (InStep W a way.Held) IsOne (λ z. part z 0) held_gone (listed (t ▸ none)) m refl r
+  held_removed t m false r = (ap (λ z. part z 0) r.0, no_end W a way.Held t (held_rests t m r))
 
 not_true : (b : Bool) → not b ≡ true → b ≡ false
 not_true true e = absurd (true≢false (sym e))
 not_true false e = refl
 
 -- above it stands a list of nodes
-pub here_by : (W : VariableSet) (o t m : Tree) (c : Bool) → is_listed o ≡ true → is_plain t ≡ true → Removed (open_in o W) o t m c → HereWalked W (children o) way.Statements t m c
-here_by W o t m c e p r =
-    let (list, plain) = and_parts (is_listed t) (not (has_lexical (children t))) p in
+pub here_by : (W : VariableSet) (o t m : Tree) (c : Bool) → is_listed o ≡ true → is_listed t ≡ true → Removed (open_in o W) o t m c → HereWalked W (children o) way.Statements t m c
+here_by W o t m c e list r =
     let over = listed_is o e in
     let this = listed_is t list in
     subst (λ v. HereWalked W (children o) way.Statements v m c) (sym this)
-    (here_removed W (children o) (children t) m c (not_true (has_lexical (children t)) plain) (subst₂ (λ z v. Removed (open_in z W) z v m c) over this r))
+    (here_removed W (children o) (children t) m c (subst₂ (λ z v. Removed (open_in z W) z v m c) over this r))
 
-pub no_list_here : (W : VariableSet) (a : Trees) (t : Tree) → is_plain t ≡ false → HereWalked W a way.Statements t t false
-no_list_here W a t f = (refl, no_end W a way.Statements t (λ read put is row. true≢false (sym (ap is_plain (is ∙ row.shape) ∙ ap not row.plain) ∙ f)))
+pub no_list_here : (W : VariableSet) (a : Trees) (t : Tree) → is_listed t ≡ false → HereWalked W a way.Statements t t false
+no_list_here W a t f = (refl, no_end W a way.Statements t (λ read put is row. true≢false (sym (ap is_listed (is ∙ row.shape)) ∙ f)))
 
-var_plain : (t : Tree) → is_var t ≡ true → has_lexical (t ▸ none) ≡ false
-var_plain t e = ap (λ b. b || false) (not_true (is_lexical_shape (shape_of t)) (and_parts (declares_list t) (not (is_lexical_shape (shape_of t))) e).1)
-
-pub held_by : (W : VariableSet) (o t l m : Tree) (c : Bool) → is_listed o ≡ true → is_var t ≡ true → l ≡ listed (t ▸ none) → Removed (open_in o W) o l m c → (u : Tree) → u ≡ part m 0 → HereWalked W (children o) way.Held t u c
-held_by W o t l m c e v f r u g =
+pub held_by : (W : VariableSet) (o t l m : Tree) (c : Bool) → is_listed o ≡ true → l ≡ listed (t ▸ none) → Removed (open_in o W) o l m c → (u : Tree) → u ≡ part m 0 → HereWalked W (children o) way.Held t u c
+held_by W o t l m c e f r u g =
     subst (λ z. HereWalked W (children o) way.Held t z c) (sym g)
-    (held_removed W (children o) t m c (var_plain t v) (subst₂ (λ z y. Removed (open_in z W) z y m c) (listed_is o e) f r))
+    (held_removed W (children o) t m c (subst₂ (λ z y. Removed (open_in z W) z y m c) (listed_is o e) f r))
 
 -- what a row reads there is a `var`
 
-declares_there : (o t : Tree) (before : Trees) (k : VariableDeclarationKind) (ds after : Trees) → is_listed_shape (shape_of o) ≡ true → o ▸ (t ▸ none) ≡ append before (declaration k ds ▸ after) → declares_list t ≡ true
-declares_there o t none k ds after e f = absurd (true≢false (sym e ∙ ap (λ us. is_listed_shape (shape_of (child_or_absent us 0))) f))
-declares_there o t (b ▸ none) k ds after e f = ap (λ us. declares_list (child_or_absent us 1)) f
-declares_there o t (b ▸ (c ▸ before)) k ds after e f = let n = ap count f in let m = joined_count before (declaration k ds) after in absurd (omega (arith, n, m))
+var_there : (o t : Tree) (before : Trees) (k : VariableDeclarationKind) (ds after : Trees) → is_listed_shape (shape_of o) ≡ true → o ▸ (t ▸ none) ≡ append before (declaration k ds ▸ after) → not (kinds.is_lexical k) ≡ true → is_var t ≡ true
+var_there o t none k ds after e f v = absurd (true≢false (sym e ∙ ap (λ us. is_listed_shape (shape_of (child_or_absent us 0))) f))
+var_there o t (b ▸ none) k ds after e f v = ap (λ us. is_var (child_or_absent us 1)) f ∙ v
+var_there o t (b ▸ (c ▸ before)) k ds after e f v = let n = ap count f in let m = joined_count before (declaration k ds) after in absurd (omega (arith, n, m))
   where
     joined_count : (us : Trees) (d : Tree) (vs : Trees) → 0 < count (append us (d ▸ vs))
     joined_count none d vs = omega arith
@@ -285,11 +284,11 @@ declares_there o t (b ▸ (c ▸ before)) k ds after e f = let n = ap count f in
 abbrev statements_of : Tree → Trees
 statements_of t = children (part t 0)
 
-row_declares : (W : VariableSet) (a : Trees) (t w : Tree) → BlockRow W (block (listed a ▸ (t ▸ none))) w → declares_list t ≡ true
-row_declares W a t w (inl r) = declares_there (listed a) t r.before r.kind (declarator (binding (resolved r.spelling r.symbol)) r.init ▸ none) r.after refl (ap statements_of r.shape)
-row_declares W a t w (inr (inl r)) = declares_there (listed a) t r.before r.kind (append r.first (declarator (binding (resolved r.spelling r.symbol)) r.init ▸ r.last)) r.after refl (ap statements_of r.shape)
-row_declares W a t w (inr (inr (inl r))) = declares_there (listed a) t r.before r.kind (append r.first (declarator (binding (resolved r.spelling r.symbol)) r.init ▸ none)) (r.head ▸ r.after) refl (ap statements_of r.shape)
-row_declares W a t w (inr (inr (inr r))) = declares_there (listed a) t r.before r.kind (append r.first (declarator (binding (resolved r.spelling r.symbol)) r.init ▸ (declarator r.binds r.value ▸ r.last))) r.after refl (ap statements_of r.shape)
+row_of_var : (W : VariableSet) (a : Trees) (t w : Tree) (r : BlockRow W (block (listed a ▸ (t ▸ none))) w) → declares_var r ≡ true → is_var t ≡ true
+row_of_var W a t w (inl r) v = var_there (listed a) t r.before r.kind (declarator (binding (resolved r.spelling r.symbol)) r.init ▸ none) r.after refl (ap statements_of r.shape) v
+row_of_var W a t w (inr (inl r)) v = var_there (listed a) t r.before r.kind (append r.first (declarator (binding (resolved r.spelling r.symbol)) r.init ▸ r.last)) r.after refl (ap statements_of r.shape) v
+row_of_var W a t w (inr (inr (inl r))) v = var_there (listed a) t r.before r.kind (append r.first (declarator (binding (resolved r.spelling r.symbol)) r.init ▸ none)) (r.head ▸ r.after) refl (ap statements_of r.shape) v
+row_of_var W a t w (inr (inr (inr r))) v = var_there (listed a) t r.before r.kind (append r.first (declarator (binding (resolved r.spelling r.symbol)) r.init ▸ (declarator r.binds r.value ▸ r.last))) r.after refl (ap statements_of r.shape) v
 
 or_left : (a b : Bool) → (a || b) ≡ false → a ≡ false
 or_left true b e = absurd (true≢false e)
@@ -299,9 +298,7 @@ pub no_held_here : (W : VariableSet) (a : Trees) (t : Tree) → is_var t ≡ fal
 no_held_here W a t f = (refl, no_end W a way.Held t by)
   where
     by : (read put : Tree) → t ≡ read → HeldEnd W a read put → ⊥
-    by read put is row =
-        let declared = row_declares W a read (block (listed a ▸ (put ▸ none))) row.row in
-        true≢false (sym (and_both (declares_list read) (not (is_lexical_shape (shape_of read))) declared (ap not (or_left (is_lexical_shape (shape_of read)) false row.plain))) ∙ ap is_var (sym is) ∙ f)
+    by read put is row = true≢false (sym (row_of_var W a read (block (listed a ▸ (put ▸ none))) row.row row.var) ∙ ap is_var (sym is) ∙ f)
 
 -- ---- what a `for` begins with
 
@@ -328,7 +325,7 @@ module _ (W : VariableSet) (a : Trees) (t : Tree) (v : is_var t ≡ true) where
     second = omega arith
 
     test : is_unused W no_outside (listed a ▸ (t ▸ none)) 1 j ≡ true
-    test = sym (unused_there W (listed a) a (t ▸ none) (mentions a) (evals a) 0 j) ∙ u
+    test = unused_goes W (listed a) a (t ▸ none) (mentions a) (evals a) 0 j u
 
     quiet : has_eval as_block ≡ false
     quiet = block_sees ∙ n
@@ -397,7 +394,7 @@ module _ (W : VariableSet) (a : Trees) (t : Tree) (v : is_var t ≡ true) where
       let here_told = read_there W (block ts) read in
       let inside = declarator_within W (block ts) read in
       let moved = subst (λ z. UnusedOf W (listed a) (z ▸ none) 0 None) r.shape n in
-      true≢false (sym (unused_there W (listed a) a (declared_among Var (named r) r.first r.init r.last ▸ none) (mentions a) (evals a) 0 (count r.first) ∙ here_told) ∙ moved (count r.first) inside)
+      true≢false (sym (unused_back W a (declared_among Var (named r) r.first r.init r.last ▸ none) 0 (count r.first) refl here_told) ∙ moved (count r.first) inside)
 
   seen_here : (has_eval (listed a) || has_eval (listed (t ▸ none))) ≡ true → (w : Tree) → HeadEnd W a t w → ⊥
   seen_here e w r = true≢false (sym e ∙ sym block_sees ∙ ap (λ z. has_eval (block (listed a ▸ (z ▸ none)))) r.shape ∙ r.unseen)

@@ -1,7 +1,7 @@
 -- What holds the statements of a list: a block, or a function, which is read like a block that begins with what stands before its
 -- statements: its name and its parameters. A module and a static block are read like a function without them.
 use Rattle.std.proofs.Common.{◌≡◌, ℕ, zero, suc, ◌<◌, Bool, true, false, List, [], ◌∷◌, refl, sym, ap, ◌∙◌, subst, inl, inr, true≢false, arith}
-use Rattle.std.specs.Prelude.{not, ◌⊎◌, ◌&&◌, ◌||◌, nat_eq, nat_le, None, Result, Ok, Err, IfOk}
+use Rattle.std.specs.Prelude.{not, ◌⊎◌, ◌&&◌, ◌||◌, nat_eq, nat_le, None, Result, Ok, Err, IfOk, if◌then◌else◌}
 use Rattle.std.proofs.lemmas.Bool.{and_parts, eqb-true, le-leb, leb-true}
 use Rattle.mini_model.specs.declared.name.Name.{Name}
 use Rattle.mini_model.specs.declared.place.Position.{Position}
@@ -13,7 +13,7 @@ use Rattle.mini_model.specs.Tree.{Tree, Trees, node, none, ◌▸◌, absent, li
 use Rattle.mini_laws.specs.ScopeList.{has_eval, any_has_eval}
 use Rattle.mini_laws.specs.Value.{Variable, VariableSet, Declared, Global, nothing}
 use Rattle.mini_node.specs.Children.{names_of, number_of, part, with_part, first_children, rest_children}
-use Rattle.mini_node.specs.Kinds.{is_block, is_listed}
+use Rattle.mini_node.specs.Kinds.{is_block, is_listed, is_listed_shape}
 use Rattle.mini_node.specs.Made.{block_is, listed_is}
 use Rattle.mini_model.specs.Paths.{append}
 use Rattle.mini_laws.specs.Naming as kinds
@@ -25,30 +25,30 @@ use Rattle.mini_tree.specs.Rule as rule
 use Rattle.mini_context.specs.declared.context.TraverseCtx.{TraverseCtx}
 use Rattle.mini_context.specs.Known.{Knows}
 use Rattle.mini_laws.specs.Writable.{writable_in}
-use Rattle.mini_unused.specs.RemoveUnusedDeclaration.{declares_name, declares_list, is_free_at, may_lose, may_go, open_in, is_alone, list_at, is_unused, UnusedAt, is_arrow_shape, are_statements, are_no_names, has_statements, is_function_shape, is_function, is_module, is_static_block, holds_list, is_switch, is_for_shape, has_head, marked, Applied, AppliedInFunction, Gives, Rests}
-use Rattle.mini_unused.specs.SubstituteNext.{is_declarator, reads_then, is_mentioned_beside, is_read_then, is_next, NextAt, NextGone}
-use Rattle.mini_unused.specs.SubstituteSingleUse.{last_place, is_declared_over, reads_next, is_read_once, is_single, SingleAt, NameGone, ReadGone, Gone, Removed}
+use Rattle.mini_unused.specs.RemoveUnusedDeclaration.{declares_name, declares_list, is_var, may_declare, is_unused_declarator, is_free_at, may_lose, may_go, open_in, is_alone, list_at, is_unused, UnusedAt, is_arrow_shape, are_statements, are_no_names, has_statements, is_function_shape, is_function, is_module, is_static_block, holds_list, is_switch, is_for_shape, has_head, marked, Applied, AppliedInFunction, Gives, Rests, holds_statements}
+use Rattle.mini_unused.specs.SubstituteNext.{is_declarator, reads_then, is_mentioned_beside, is_read_then, is_read_by_next, is_next, NextAt, NextGone}
+use Rattle.mini_unused.specs.SubstituteSingleUse.{last_place, is_declared_over, reads_next, is_read_once, is_single_declarator, is_single, SingleAt, NameGone, ReadGone, Gone, Removed}
 use Rattle.mini_unused.specs.Chains.{Several}
 use Rattle.mini_unused.proofs.Chains.{several_over, several_moves}
-use Rattle.mini_unused.proofs.Unused.{no_outside, and_both, part_twice, row_at, no_row, no_block, all_used, seen_by_eval}
+use Rattle.mini_unused.proofs.Unused.{no_outside, and_both, declared_there, part_twice, row_at, no_row, no_block, all_used, seen_by_eval}
 use Rattle.mini_rows.proofs.UnusedNames.{or_parts}
 use Rattle.mini_unused.proofs.SingleUses.{row_there, none_single}
 use Rattle.mini_unused.proofs.NextUses.{next_row, none_next}
 
 -- ---- a block
 
-next_within : (i n : ℕ) → i < n → suc i < suc n
+pub next_within : (i n : ℕ) → i < n → suc i < suc n
 next_within i n h = omega (arith, h)
 
 pub or_none : (b : Bool) → (b || false) ≡ b
 or_none true = refl
 or_none false = refl
 
-block_seen : (ts : Trees) → has_eval (block ts) ≡ (has_eval no_outside || has_eval (listed ts))
+pub block_seen : (ts : Trees) → has_eval (block ts) ≡ (has_eval no_outside || has_eval (listed ts))
 unfolding has_eval
 block_seen ts = or_none (any_has_eval ts)
 
-abbrev held : Tree → Tree
+abbrev pub held : Tree → Tree
 held m = node shape.BlockStatement [] 0 (m ▸ none)
 
 gone_row : (W : VariableSet) (ts : Trees) (m : Tree) → Gone W no_outside (listed ts) m → BlockRow W (block ts) (held m)
@@ -108,22 +108,27 @@ no_for t e w r = true≢false (sym (ap (λ u. is_for_shape (shape_of u)) r.shape
 pub no_switch : (t : Tree) → is_switch t ≡ false → (w : Tree) → SwitchRow t w → ⊥
 no_switch t e w r = true≢false (sym (ap is_switch r.shape) ∙ e)
 
-block_applied : (W : VariableSet) (ts : Trees) (m : Tree) (c : Bool) → Removed nothing no_outside (listed ts) m c → (q : StmtSeat) → Applied W (Stmt q) (block ts) (held m) c
-block_applied W ts m true r q = several_moves W (Stmt q) (BlockRow nothing) (λ t u b. inl b) (block ts) (held m) (several_in nothing no_outside (BlockRow nothing) held (gone_row nothing) ts m r)
-block_applied W ts m false r q = (ap held r.0, by)
-  where
-    by : (w : Tree) → UnusedRow W (Stmt q) (block ts) w → ⊥
-    by w (inl b) = rests nothing ts m r w b
-    by w (inr (inl f)) = no_function W (block ts) refl w f
-    by w (inr (inr (inl s))) = no_switch (block ts) refl w s
-    by w (inr (inr (inr v))) = no_for (block ts) refl w v
+-- where its row is one, and no other reads it
+module _ (W : VariableSet) (p : Position) (read : (t u : Tree) → BlockRow nothing t u → UnusedRow W p t u) (alone : (ts : Trees) (w : Tree) → UnusedRow W p (block ts) w → BlockRow nothing (block ts) w) where
+  block_applied : (ts : Trees) (m : Tree) (c : Bool) → Removed nothing no_outside (listed ts) m c → Applied W p (block ts) (held m) c
+  block_applied ts m true r = several_moves W p (BlockRow nothing) read (block ts) (held m) (several_in nothing no_outside (BlockRow nothing) held (gone_row nothing) ts m r)
+  block_applied ts m false r = (ap held r.0, λ w a. rests nothing ts m r w (alone ts w a))
+
+  applied_there : (t m : Tree) (c : Bool) → is_block t ≡ true → Removed (open_in (with_part t 0 absent) W) (with_part t 0 absent) (part t 0) m c → (u : Tree) → u ≡ with_part t 0 m → Applied W p t u c
+  applied_there t m c b r u f =
+      let is = block_is t b in
+      let ts = children (part t 0) in
+      let there = subst (λ v. Removed (open_in (with_part v 0 absent) W) (with_part v 0 absent) (part v 0) m c) is r in
+      subst (λ v. Applied W p v u c) (sym is) (subst (λ v. Applied W p (block ts) v c) (sym (f ∙ ap (λ v. with_part v 0 m) is)) (block_applied ts m c there))
 
 pub of_block : (W : VariableSet) (t m : Tree) (c : Bool) → is_block t ≡ true → Removed (open_in (with_part t 0 absent) W) (with_part t 0 absent) (part t 0) m c → (u : Tree) → u ≡ with_part t 0 m → (q : StmtSeat) → Applied W (Stmt q) t u c
-of_block W t m c b r u f q =
-    let is = block_is t b in
-    let ts = children (part t 0) in
-    let there = subst (λ v. Removed (open_in (with_part v 0 absent) W) (with_part v 0 absent) (part v 0) m c) is r in
-    subst (λ v. Applied W (Stmt q) v u c) (sym is) (subst (λ v. Applied W (Stmt q) (block ts) v c) (sym (f ∙ ap (λ v. with_part v 0 m) is)) (block_applied W ts m c there q))
+of_block W t m c b r u f q = applied_there W (Stmt q) (λ t u b. inl b) by t m c b r u f
+  where
+    by : (ts : Trees) (w : Tree) → UnusedRow W (Stmt q) (block ts) w → BlockRow nothing (block ts) w
+    by ts w (inl b) = b
+    by ts w (inr (inl f)) = absurd (no_function W (block ts) refl w f)
+    by ts w (inr (inr (inl s))) = absurd (no_switch (block ts) refl w s)
+    by ts w (inr (inr (inr v))) = absurd (no_for (block ts) refl w v)
 
 -- ---- a function: what its statements stand behind is read before them
 
@@ -148,7 +153,7 @@ then_pulled true r m f c = refl
 -- what is outside of the statements, and as a list before them
 module _ (W : VariableSet) (outside : Tree) (front ts : Trees) (mentions : (x : Name) → names x outside ≡ any_names x front) (evals : has_eval outside ≡ any_has_eval front) where
   -- as a block
-  abbrev behind : Trees
+  abbrev pub behind : Trees
   behind = listed front ▸ ts
 
   alone_there : (xs : List Name) (init : Tree) (ds : Trees) (j i : ℕ) → is_alone xs outside init ds j ts i ≡ is_alone xs no_outside init ds j behind (suc i)
@@ -161,10 +166,11 @@ module _ (W : VariableSet) (outside : Tree) (front ts : Trees) (mentions : (x : 
       let f = any_names x (first_children i ts) in
       ap (λ p. not p && (not a && (not b && (not c && (not d && not f))))) (mentions x) ∙ alone_pulled (any_names x front) a b c d f
 
-  pub unused_there : (i j : ℕ) → is_unused W outside ts i j ≡ is_unused W no_outside behind (suc i) j
-  unused_there i j =
+  -- a declarator that the tests find there, and behind that list
+  pub unused_within : (i j : ℕ) → is_unused_declarator (is_free_at ts i) W (list_at ts i) j outside ts i ≡ is_unused_declarator (is_free_at ts i) W (list_at ts i) j no_outside behind (suc i)
+  unused_within i j =
       let l = list_at ts i in
-      ap (λ b. declares_list (child_or_absent ts i) && (declares_name (part l j) && (may_lose (is_free_at ts i) W (names_of (part (part l j) 0)) && (may_go (part (part l j) 1) l && b)))) (alone_there (names_of (part (part l j) 0)) (part (part l j) 1) (children l) j i)
+      ap (λ b. declares_name (part l j) && (may_lose (is_free_at ts i) W (names_of (part (part l j) 0)) && (may_go (part (part l j) 1) l && b))) (alone_there (names_of (part (part l j) 0)) (part (part l j) 1) (children l) j i)
 
   read_there : (xs : List Name) (init : Tree) (ds : Trees) (j i : ℕ) → is_read_once xs outside init ds j ts i ≡ is_read_once xs no_outside init ds j behind (suc i)
   read_there [] init ds j i = refl
@@ -175,11 +181,11 @@ module _ (W : VariableSet) (outside : Tree) (front ts : Trees) (mentions : (x : 
       let c = any_names x (rest_children (suc (suc i)) ts) in
       ap (λ p. not p && (r && (not q && not (c || f)))) (mentions x) ∙ read_pulled (any_names x front) r q f c
 
-  single_there : (i : ℕ) → is_single W outside ts i ≡ is_single W no_outside behind (suc i)
-  single_there i =
+  pub single_within : (i : ℕ) → is_single_declarator (is_free_at ts i) W (list_at ts i) (last_place (children (list_at ts i))) outside ts i ≡ is_single_declarator (is_free_at ts i) W (list_at ts i) (last_place (children (list_at ts i))) no_outside behind (suc i)
+  single_within i =
       let l = list_at ts i in
       let j = last_place (children l) in
-      ap (λ b. declares_list (child_or_absent ts i) && (declares_name (part l j) && (may_lose (is_free_at ts i) W (names_of (part (part l j) 0)) && (may_move (part (part l j) 1) && b)))) (read_there (names_of (part (part l j) 0)) (part (part l j) 1) (children l) j i)
+      ap (λ b. declares_name (part l j) && (may_lose (is_free_at ts i) W (names_of (part (part l j) 0)) && (may_move (part (part l j) 1) && b))) (read_there (names_of (part (part l j) 0)) (part (part l j) 1) (children l) j i)
 
   then_there : (xs : List Name) (d e : Tree) (ds : Trees) (j i : ℕ) → is_read_then xs d e outside ds j ts i ≡ is_read_then xs d e no_outside ds j behind (suc i)
   then_there [] d e ds j i = refl
@@ -190,53 +196,90 @@ module _ (W : VariableSet) (outside : Tree) (front ts : Trees) (mentions : (x : 
       let c = any_names x (rest_children (suc i) ts) in
       ap (λ p. r && (not m && (not p && not (f || c)))) (mentions x) ∙ then_pulled (any_names x front) r m f c
 
-  next_there : (i j : ℕ) → is_next W outside ts i j ≡ is_next W no_outside behind (suc i) j
-  next_there i j =
+  pub next_within_there : (i j : ℕ) → is_read_by_next (is_free_at ts i) W (list_at ts i) j outside ts i ≡ is_read_by_next (is_free_at ts i) W (list_at ts i) j no_outside behind (suc i)
+  next_within_there i j =
       let l = list_at ts i in
       let d = part l j in
       let e = part l (suc j) in
-      ap (λ b. declares_list (child_or_absent ts i) && (declares_name d && (is_declarator e && (may_lose (is_free_at ts i) W (names_of (part d 0)) && (may_move (part d 1) && b))))) (then_there (names_of (part d 0)) d e (children l) j i)
+      ap (λ b. declares_name d && (is_declarator e && (may_lose (is_free_at ts i) W (names_of (part d 0)) && (may_move (part d 1) && b)))) (then_there (names_of (part d 0)) d e (children l) j i)
 
-  seen_there : (has_eval no_outside || has_eval (listed behind)) ≡ (has_eval outside || has_eval (listed ts))
+  abbrev declared_at : ℕ → Tree
+  declared_at i = child_or_absent ts i
+
+  -- what is read there is read behind that list
+  pub unused_goes : (i j : ℕ) → is_unused W outside ts i j ≡ true → is_unused W no_outside behind (suc i) j ≡ true
+  unused_goes i j e =
+      let (d, r) = and_parts (may_declare outside (declared_at i)) (is_unused_declarator (is_free_at ts i) W (list_at ts i) j outside ts i) e in
+      and_both (declares_list (declared_at i)) (is_unused_declarator (is_free_at ts i) W (list_at ts i) j no_outside behind (suc i)) (declared_there outside (declared_at i) d) (sym (unused_within i j) ∙ r)
+
+  pub single_goes : (i : ℕ) → is_single W outside ts i ≡ true → is_single W no_outside behind (suc i) ≡ true
+  single_goes i e =
+      let l = list_at ts i in
+      let (d, r) = and_parts (may_declare outside (declared_at i)) (is_single_declarator (is_free_at ts i) W l (last_place (children l)) outside ts i) e in
+      and_both (declares_list (declared_at i)) (is_single_declarator (is_free_at ts i) W l (last_place (children l)) no_outside behind (suc i)) (declared_there outside (declared_at i) d) (sym (single_within i) ∙ r)
+
+  pub next_goes : (i j : ℕ) → is_next W outside ts i j ≡ true → is_next W no_outside behind (suc i) j ≡ true
+  next_goes i j e =
+      let (d, r) = and_parts (may_declare outside (declared_at i)) (is_read_by_next (is_free_at ts i) W (list_at ts i) j outside ts i) e in
+      and_both (declares_list (declared_at i)) (is_read_by_next (is_free_at ts i) W (list_at ts i) j no_outside behind (suc i)) (declared_there outside (declared_at i) d) (sym (next_within_there i j) ∙ r)
+
+  pub seen_there : (has_eval no_outside || has_eval (listed behind)) ≡ (has_eval outside || has_eval (listed ts))
   unfolding has_eval
   seen_there = ap (λ b. b || any_has_eval ts) (sym evals)
 
-  none_unused : UnusedAt W outside ts None → UnusedAt W no_outside behind None
-  none_unused u zero h = λ j g. refl
-  none_unused u (suc i) h = λ j g. sym (unused_there i j) ∙ u i (omega (arith, h)) j g
-
-  none_read : SingleAt W outside ts None → SingleAt W no_outside behind None
-  none_read u zero h = refl
-  none_read u (suc i) h = sym (single_there i) ∙ u i (omega (arith, h))
-
-  none_by_next : NextAt W outside ts None → NextAt W no_outside behind None
-  none_by_next u zero h = λ j g. refl
-  none_by_next u (suc i) h = λ j g. sym (next_there i j) ∙ u i (omega (arith, h)) j g
-
   -- the list that is left, behind what stands before it
-  abbrev left : Tree → Tree
+  abbrev pub left : Tree → Tree
   left m = listed (listed front ▸ children m)
 
   gone_there : (m : Tree) → Gone W outside (listed ts) m → Gone W no_outside (listed behind) (left m)
   gone_there m r = record { unseen = seen_there ∙ r.unseen; name = by r.name }
     where
       by : NameGone W outside (listed ts) m ⊎ (ReadGone W outside (listed ts) m ⊎ NextGone W outside (listed ts) m) → NameGone W no_outside (listed behind) (left m) ⊎ (ReadGone W no_outside (listed behind) (left m) ⊎ NextGone W no_outside (listed behind) (left m))
-      by (inl g) = inl (record { at = suc g.at; which = g.which; unused = (next_within g.at (count ts) g.unused.0, (g.unused.1.0, g.unused.1.1, sym (unused_there g.at g.which) ∙ g.unused.1.2)); left = ap left g.left })
-      by (inr (inl g)) = inr (inl (record { at = suc g.at; next = next_within (suc g.at) (count ts) g.next; declares = g.declares; single = sym (single_there g.at) ∙ g.single; left = ap left g.left }))
-      by (inr (inr g)) = inr (inr (record { at = suc g.at; which = g.which; there = (next_within g.at (count ts) g.there.0, (g.there.1.0, g.there.1.1, sym (next_there g.at g.which) ∙ g.there.1.2)); left = ap left g.left }))
-
-  stays_there : (m : Tree) → Removed W outside (listed ts) m false → Removed W no_outside (listed behind) (left m) false
-  stays_there m r = (ap left r.0, by r.1)
-    where
-      by : ((has_eval outside || has_eval (listed ts)) ≡ true) ⊎ (UnusedAt W outside ts None × SingleAt W outside ts None × NextAt W outside ts None) → ((has_eval no_outside || has_eval (listed behind)) ≡ true) ⊎ (UnusedAt W no_outside behind None × SingleAt W no_outside behind None × NextAt W no_outside behind None)
-      by (inl e) = inl (seen_there ∙ e)
-      by (inr u) = inr (none_unused u.0, none_read u.1, none_by_next u.2)
+      by (inl g) = inl (record { at = suc g.at; which = g.which; unused = (next_within g.at (count ts) g.unused.0, (g.unused.1.0, g.unused.1.1, unused_goes g.at g.which g.unused.1.2)); left = ap left g.left })
+      by (inr (inl g)) = inr (inl (record { at = suc g.at; next = next_within (suc g.at) (count ts) g.next; declares = g.declares; single = single_goes g.at g.single; left = ap left g.left }))
+      by (inr (inr g)) = inr (inr (record { at = suc g.at; which = g.which; there = (next_within g.at (count ts) g.there.0, (g.there.1.0, g.there.1.1, next_goes g.at g.which g.there.1.2)); left = ap left g.left }))
 
   pub row_behind : (m : Tree) → Gone W outside (listed ts) m → BlockRow W (block behind) (block (listed front ▸ children m))
   row_behind m r = gone_row W behind (left m) (gone_there m r)
 
-  pub none_behind : (m : Tree) → Removed W outside (listed ts) m false → (us : Trees) → us ≡ behind → (w : Tree) → BlockRow W (block us) w → ⊥
-  none_behind m r us e w row = rests W behind (left m) (stays_there m r) w (subst (λ v. BlockRow W (block v) w) e row)
+-- where that is no list, nothing else is read behind it
+module _ (W : VariableSet) (outside : Tree) (front ts : Trees) (mentions : (x : Name) → names x outside ≡ any_names x front) (evals : has_eval outside ≡ any_has_eval front) (shut : is_listed_shape (shape_of outside) ≡ false) where
+  abbrev there : Trees
+  there = behind W outside front ts mentions evals
+
+  same_declaration : (i : ℕ) → may_declare outside (child_or_absent ts i) ≡ declares_list (child_or_absent ts i)
+  same_declaration i = ap (λ b. if b then is_var (child_or_absent ts i) else declares_list (child_or_absent ts i)) shut
+
+  unused_there : (i j : ℕ) → is_unused W outside ts i j ≡ is_unused W no_outside there (suc i) j
+  unused_there i j = λ k. same_declaration i k && unused_within W outside front ts mentions evals i j k
+
+  single_there : (i : ℕ) → is_single W outside ts i ≡ is_single W no_outside there (suc i)
+  single_there i = λ k. same_declaration i k && single_within W outside front ts mentions evals i k
+
+  next_there : (i j : ℕ) → is_next W outside ts i j ≡ is_next W no_outside there (suc i) j
+  next_there i j = λ k. same_declaration i k && next_within_there W outside front ts mentions evals i j k
+
+  none_unused : UnusedAt W outside ts None → UnusedAt W no_outside there None
+  none_unused u zero h = λ j g. refl
+  none_unused u (suc i) h = λ j g. sym (unused_there i j) ∙ u i (omega (arith, h)) j g
+
+  none_read : SingleAt W outside ts None → SingleAt W no_outside there None
+  none_read u zero h = refl
+  none_read u (suc i) h = sym (single_there i) ∙ u i (omega (arith, h))
+
+  none_by_next : NextAt W outside ts None → NextAt W no_outside there None
+  none_by_next u zero h = λ j g. refl
+  none_by_next u (suc i) h = λ j g. sym (next_there i j) ∙ u i (omega (arith, h)) j g
+
+  stays_there : (m : Tree) → Removed W outside (listed ts) m false → Removed W no_outside (listed there) (left W outside front ts mentions evals m) false
+  stays_there m r = (ap (left W outside front ts mentions evals) r.0, by r.1)
+    where
+      by : ((has_eval outside || has_eval (listed ts)) ≡ true) ⊎ (UnusedAt W outside ts None × SingleAt W outside ts None × NextAt W outside ts None) → ((has_eval no_outside || has_eval (listed there)) ≡ true) ⊎ (UnusedAt W no_outside there None × SingleAt W no_outside there None × NextAt W no_outside there None)
+      by (inl e) = inl (seen_there W outside front ts mentions evals ∙ e)
+      by (inr u) = inr (none_unused u.0, none_read u.1, none_by_next u.2)
+
+  pub none_behind : (m : Tree) → Removed W outside (listed ts) m false → (us : Trees) → us ≡ there → (w : Tree) → BlockRow W (block us) w → ⊥
+  none_behind m r us e w row = rests W there (left W outside front ts mentions evals m) (stays_there m r) w (subst (λ v. BlockRow W (block v) w) e row)
 
 -- ---- an arrow function: its parameters stand before its statements
 
@@ -263,7 +306,7 @@ module _ (W : VariableSet) (directives : List (List ℕ)) (number : ℕ) (ps : T
   arrow_rests ts m r w row =
       let parameters : listed row.parameters ≡ listed ps = sym (ap (λ t. part t 0) row.shape) in
       let before : row.before ≡ ts = sym (ap (λ t. children (part (part t 1) 0)) row.shape) in
-      none_behind W outside_arrow ps ts arrow_mentions arrow_evals m r (listed row.parameters ▸ row.before) (λ k. parameters k ▸ before k) (block (listed row.parameters ▸ row.after)) row.row
+      none_behind W outside_arrow ps ts arrow_mentions arrow_evals refl m r (listed row.parameters ▸ row.before) (λ k. parameters k ▸ before k) (block (listed row.parameters ▸ row.after)) row.row
 
   arrow_applied : (ts : Trees) (m : Tree) (c : Bool) → Removed W outside_arrow (listed ts) m c → (s : Seat) → Applied W (Expr s) (arrow_with directives number ps ts) (over m) c
   arrow_applied ts m true r s = several_moves W (Expr s) (ArrowBodyRow W) (λ t u a. inl a) (arrow_with directives number ps ts) (over m) (several_in W outside_arrow (ArrowBodyRow W) over arrow_over ts m r)
@@ -309,7 +352,7 @@ module _ (W : VariableSet) (d g : Bool) (directives : List (List ℕ)) (number :
       let named : row.name ≡ name = sym (ap (λ t. part t 0) row.shape) in
       let parameters : row.parameters ≡ ps = sym (ap (λ t. children (part t 1)) row.shape) in
       let before : row.before ≡ ts = sym (ap (λ t. children (part (part t 2) 0)) row.shape) in
-      none_behind W outside_function (name ▸ ps) ts function_mentions function_evals m r (listed (row.name ▸ row.parameters) ▸ row.before) (λ k. listed (named k ▸ parameters k) ▸ before k) (block (listed (row.name ▸ row.parameters) ▸ row.after)) row.row
+      none_behind W outside_function (name ▸ ps) ts function_mentions function_evals refl m r (listed (row.name ▸ row.parameters) ▸ row.before) (λ k. listed (named k ▸ parameters k) ▸ before k) (block (listed (row.name ▸ row.parameters) ▸ row.after)) row.row
 
   function_applied : (ts : Trees) (m : Tree) (c : Bool) → Removed W outside_function (listed ts) m c → AppliedInFunction W (function_with d g directives number name ps ts) (function_with_list m) c
   function_applied ts m true r = several_in W outside_function (FunctionBodyRow W) function_with_list function_over ts m r
@@ -343,7 +386,7 @@ module _ (W : VariableSet) (directives : List (List ℕ)) where
   module_rests : (ts : Trees) (m : Tree) → Removed W outside_module (listed ts) m false → (w : Tree) → ModuleRow W (program true directives ts) w → ⊥
   module_rests ts m r w row =
       let before : row.before ≡ ts = sym (ap (λ t. children (part t 0)) row.shape) in
-      none_behind W outside_module none ts module_mentions module_evals m r (listed none ▸ row.before) (λ k. listed none ▸ before k) (block (listed none ▸ row.after)) row.row
+      none_behind W outside_module none ts module_mentions module_evals refl m r (listed none ▸ row.before) (λ k. listed none ▸ before k) (block (listed none ▸ row.after)) row.row
 
   module_applied : (ts : Trees) (m : Tree) (c : Bool) → Removed W outside_module (listed ts) m c → Applied W Elsewhere (program true directives ts) (with_list m) c
   module_applied ts m true r = several_moves W Elsewhere (ModuleRow W) (λ t u a. inr (inl a)) (program true directives ts) (with_list m) (several_in W outside_module (ModuleRow W) with_list module_over ts m r)
@@ -352,7 +395,8 @@ module _ (W : VariableSet) (directives : List (List ℕ)) where
       by : (w : Tree) → UnusedRow W Elsewhere (program true directives ts) w → ⊥
       by w (inl f) = no_function W (program true directives ts) refl w f
       by w (inr (inl a)) = module_rests ts m r w a
-      by w (inr (inr a)) = no_static W (program true directives ts) refl w a
+      by w (inr (inr (inl a))) = no_static W (program true directives ts) refl w a
+      by w (inr (inr (inr b))) = no_block nothing (program true directives ts) refl w b
 
 pub module_is : (t : Tree) → is_module t ≡ true → (directives : List (List ℕ)) × (t ≡ program true directives (children (part t 0)))
 module_is (node (shape.Program true directives) [] zero (node shape.Listed [] zero ts ▸ none)) e = (directives, refl)
@@ -386,16 +430,17 @@ module _ (W : VariableSet) (number : ℕ) where
   static_rests : (ts : Trees) (m : Tree) → Removed W outside_static (listed ts) m false → (w : Tree) → StaticBlockRow W (static_block number ts) w → ⊥
   static_rests ts m r w row =
       let before : row.before ≡ ts = sym (ap (λ t. children (part t 0)) row.shape) in
-      none_behind W outside_static none ts static_mentions static_evals m r (listed none ▸ row.before) (λ k. listed none ▸ before k) (block (listed none ▸ row.after)) row.row
+      none_behind W outside_static none ts static_mentions static_evals refl m r (listed none ▸ row.before) (λ k. listed none ▸ before k) (block (listed none ▸ row.after)) row.row
 
   static_applied : (ts : Trees) (m : Tree) (c : Bool) → Removed W outside_static (listed ts) m c → Applied W Elsewhere (static_block number ts) (static_over m) c
-  static_applied ts m true r = several_moves W Elsewhere (StaticBlockRow W) (λ t u a. inr (inr a)) (static_block number ts) (static_over m) (several_in W outside_static (StaticBlockRow W) static_over static_gone ts m r)
+  static_applied ts m true r = several_moves W Elsewhere (StaticBlockRow W) (λ t u a. inr (inr (inl a))) (static_block number ts) (static_over m) (several_in W outside_static (StaticBlockRow W) static_over static_gone ts m r)
   static_applied ts m false r = (ap static_over r.0, by)
     where
       by : (w : Tree) → UnusedRow W Elsewhere (static_block number ts) w → ⊥
       by w (inl f) = no_function W (static_block number ts) refl w f
       by w (inr (inl a)) = no_module W (static_block number ts) refl w a
-      by w (inr (inr a)) = static_rests ts m r w a
+      by w (inr (inr (inl a))) = static_rests ts m r w a
+      by w (inr (inr (inr b))) = no_block nothing (static_block number ts) refl w b
 
 pub static_is : (t : Tree) → is_static_block t ≡ true → t ≡ static_block (number_of t) (children (part t 0))
 static_is (node shape.StaticBlock [] n (node shape.Listed [] zero ts ▸ none)) e = refl
@@ -412,12 +457,29 @@ of_static W t m c h r u f =
     let there = subst (λ v. Removed (open_in (with_part v 0 absent) W) (with_part v 0 absent) (part v 0) m c) is r in
     subst (λ v. Applied W Elsewhere v u c) (sym is) (subst (λ v. Applied W Elsewhere (static_block (number_of t) ts) v c) (sym (f ∙ ap (λ v. with_part v 0 m) is)) (static_applied W (number_of t) ts m c there))
 
-pub of_holder : (W : VariableSet) (t m : Tree) (c : Bool) → holds_list t ≡ true → Removed (open_in (with_part t 0 absent) W) (with_part t 0 absent) (part t 0) m c → (u : Tree) → u ≡ with_part t 0 m → Applied W Elsewhere t u c
+of_holder : (W : VariableSet) (t m : Tree) (c : Bool) → holds_list t ≡ true → Removed (open_in (with_part t 0 absent) W) (with_part t 0 absent) (part t 0) m c → (u : Tree) → u ≡ with_part t 0 m → Applied W Elsewhere t u c
 of_holder W t m c h r u f = by (is_module t) refl
   where
     by : (b : Bool) → is_module t ≡ b → Applied W Elsewhere t u c
     by true e = of_module W t m c e r u f
     by false e = of_static W t m c (sym (ap (λ b. b || is_static_block t) e) ∙ h) r u f
+
+-- a block that is no statement
+of_try_block : (W : VariableSet) (t m : Tree) (c : Bool) → is_block t ≡ true → Removed (open_in (with_part t 0 absent) W) (with_part t 0 absent) (part t 0) m c → (u : Tree) → u ≡ with_part t 0 m → Applied W Elsewhere t u c
+of_try_block W t m c b r u f = applied_there W Elsewhere (λ t u b. inr (inr (inr b))) by t m c b r u f
+  where
+    by : (ts : Trees) (w : Tree) → UnusedRow W Elsewhere (block ts) w → BlockRow nothing (block ts) w
+    by ts w (inl f) = absurd (no_function W (block ts) refl w f)
+    by ts w (inr (inl a)) = absurd (no_module W (block ts) refl w a)
+    by ts w (inr (inr (inl a))) = absurd (no_static W (block ts) refl w a)
+    by ts w (inr (inr (inr b))) = b
+
+pub of_statements : (W : VariableSet) (t m : Tree) (c : Bool) → holds_statements t ≡ true → Removed (open_in (with_part t 0 absent) W) (with_part t 0 absent) (part t 0) m c → (u : Tree) → u ≡ with_part t 0 m → Applied W Elsewhere t u c
+of_statements W t m c h r u f = by (is_block t) refl
+  where
+    by : (b : Bool) → is_block t ≡ b → Applied W Elsewhere t u c
+    by true e = of_try_block W t m c e r u f
+    by false e = of_holder W t m c (sym (ap (λ b. b || holds_list t) e) ∙ h) r u f
 
 -- ---- what has such statements
 
@@ -509,14 +571,15 @@ pub as_method : (W : VariableSet) (t u : Tree) (c : Bool) → AppliedInFunction 
 as_method W t u true r = several_moves W Method (FunctionBodyRow W) (λ t u f. f) t u r
 as_method W t u false r = r
 
-pub as_exported : (W : VariableSet) (t u : Tree) (c : Bool) → holds_list t ≡ false → AppliedInFunction W t u c → Applied W Elsewhere t u c
+pub as_exported : (W : VariableSet) (t u : Tree) (c : Bool) → holds_statements t ≡ false → AppliedInFunction W t u c → Applied W Elsewhere t u c
 as_exported W t u true e r = several_moves W Elsewhere (FunctionBodyRow W) (λ t u f. inl f) t u r
-as_exported W t u false e r = (r.0, by)
+as_exported W t u false e r = (r.0, by (or_parts (is_block t) (holds_list t) e))
   where
-    by : (w : Tree) → UnusedRow W Elsewhere t w → ⊥
-    by w (inl f) = r.1 w f
-    by w (inr (inl a)) = no_module W t (or_parts (is_module t) (is_static_block t) e).0 w a
-    by w (inr (inr a)) = no_static W t (or_parts (is_module t) (is_static_block t) e).1 w a
+    by : (is_block t ≡ false) × (holds_list t ≡ false) → (w : Tree) → UnusedRow W Elsewhere t w → ⊥
+    by (b, l) w (inl f) = r.1 w f
+    by (b, l) w (inr (inl a)) = no_module W t (or_parts (is_module t) (is_static_block t) l).0 w a
+    by (b, l) w (inr (inr (inl a))) = no_static W t (or_parts (is_module t) (is_static_block t) l).1 w a
+    by (b, l) w (inr (inr (inr a))) = no_block nothing t b w a
 
 -- ---- the context
 

@@ -15,6 +15,7 @@ pub mod Heads
 pub mod Nameless
 pub mod Catching
 pub mod FurtherPlaces
+pub mod FurtherVars
 pub mod FurtherSteps
 pub mod FurtherWalks
 pub mod FurtherBodies

@@ -16,10 +16,10 @@ use Rattle.mini_node.specs.Walks.{next_child}
 use Rattle.mini_rows.specs.Lists.{block, declaration}
 use Rattle.mini_rows.specs.Declarations.{binding, declarator}
 use Rattle.mini_rows.specs.Unused.{resolved, declared_among, names, any_names, is_first, put_first, are_passed, may_move, lets_go, Row71Next}
-use Rattle.mini_unused.specs.RemoveUnusedDeclaration.{declares_name, is_lexical_shape, declares_list, may_lose, is_free_at, list_at}
+use Rattle.mini_unused.specs.RemoveUnusedDeclaration.{declares_name, is_lexical_shape, declares_list, may_declare, may_lose, is_free_at, list_at}
 use Rattle.mini_unused.specs.SubstituteNext.{is_declarator, reads_then, put_named, is_mentioned_beside, is_mentioned_elsewhere, is_read_then, is_read_by, is_read_by_next, is_next, NextIn, NextOf, NextAt, declarators_next, list_next}
 use Rattle.mini_unused.proofs.SingleUses.{no_first, next_there as child_there, rest_there, within_there}
-use Rattle.mini_unused.proofs.Unused.{no_outside, parts_of, with_parts, there_child, there_first, there_rest, there_within, and_both, Declares, declares, declarator_is, a_declaration}
+use Rattle.mini_unused.proofs.Unused.{no_outside, parts_of, with_parts, there_child, there_first, there_rest, there_within, and_both, Declares, declares, declarator_is, a_declaration, declared_there}
 
 -- ---- what is looked for
 
@@ -32,11 +32,11 @@ declarator_parts d e = ap (λ t. count (children t)) (declarator_is d e)
 pub next_is : (free : Bool) (W : VariableSet) (l : Tree) (j : ℕ) (o : Tree) (ts : Trees) (i : ℕ) → is_read_by free W (part l j) (part l (j + 1)) o (children l) j ts i ≡ is_read_by_next free W l j o ts i
 next_is free W l j o ts i = ap (λ k. is_read_by free W (part l j) (part l k) o (children l) j ts i) (add-one j)
 
-pub none_of : (W : VariableSet) (o : Tree) (ts : Trees) (i : ℕ) → declares_list (child_or_absent ts i) ≡ false → NextOf W o ts i None
+pub none_of : (W : VariableSet) (o : Tree) (ts : Trees) (i : ℕ) → may_declare o (child_or_absent ts i) ≡ false → NextOf W o ts i None
 none_of W o ts i e j h = ap (λ b. b && is_read_by_next (is_free_at ts i) W (list_at ts i) j o ts i) e
 
-pub of_list : (W : VariableSet) (o : Tree) (ts : Trees) (i : ℕ) (f : Option ℕ) → declares_list (child_or_absent ts i) ≡ true → 0 < count (children (child_or_absent ts i)) → NextIn (is_free_at ts i) W (list_at ts i) o ts i f → NextOf W o ts i f
-of_list W o ts i (Some j) e h u = (h, u.0, and_both (declares_list (child_or_absent ts i)) (is_read_by_next (is_free_at ts i) W (list_at ts i) j o ts i) e u.1)
+pub of_list : (W : VariableSet) (o : Tree) (ts : Trees) (i : ℕ) (f : Option ℕ) → may_declare o (child_or_absent ts i) ≡ true → 0 < count (children (child_or_absent ts i)) → NextIn (is_free_at ts i) W (list_at ts i) o ts i f → NextOf W o ts i f
+of_list W o ts i (Some j) e h u = (h, u.0, and_both (may_declare o (child_or_absent ts i)) (is_read_by_next (is_free_at ts i) W (list_at ts i) j o ts i) e u.1)
 of_list W o ts i None e h u = λ j g. ap (λ b. b && is_read_by_next (is_free_at ts i) W (list_at ts i) j o ts i) e ∙ u j g
 
 -- what it has
@@ -53,12 +53,12 @@ found W o ts i j e =
     let l = list_at ts i in
     let lost = may_lose (is_free_at ts i) W (names_of (part (part l j) 0)) in
     let read = is_read_then (names_of (part (part l j) 0)) (part l j) (part l (suc j)) o (children l) j ts i in
-    let (a, p) = and_parts (declares_list (child_or_absent ts i)) (declares_name (part l j) && (is_declarator (part l (suc j)) && (lost && (may_move (part (part l j) 1) && read)))) e in
+    let (a, p) = and_parts (may_declare o (child_or_absent ts i)) (declares_name (part l j) && (is_declarator (part l (suc j)) && (lost && (may_move (part (part l j) 1) && read)))) e in
     let (b, q) = and_parts (declares_name (part l j)) (is_declarator (part l (suc j)) && (lost && (may_move (part (part l j) 1) && read))) p in
     let (c, r) = and_parts (is_declarator (part l (suc j))) (lost && (may_move (part (part l j) 1) && read)) q in
     let (d, s) = and_parts lost (may_move (part (part l j) 1) && read) r in
     let (f, g) = and_parts (may_move (part (part l j) 1)) read s in
-    record { declared = a; one = b; next = c; lost = d; moves = f; read = g }
+    record { declared = declared_there o (child_or_absent ts i) a; one = b; next = c; lost = d; moves = f; read = g }
 
 pub declares_there : (W : VariableSet) (o : Tree) (ts : Trees) (i j : ℕ) → NextOf W o ts i (Some j) → declares_name (part (list_at ts i) j) ≡ true
 declares_there W o ts i j n = (found W o ts i j n.2).one
@@ -230,6 +230,11 @@ module _ (t : Tree) (i j : ℕ) (b : is_block t ≡ true) (h : i < count (childr
     written = written_there u f;
   }
 
+  -- whether it is of a `var`
+  pub next_told : (u : Tree) (f : u ≡ block_next t i j) → not (kinds.is_lexical (next_row u f).kind) ≡ not (is_lexical_shape (shape_of statement))
+  unfolding next_row
+  next_told u f = ap (λ y. not (is_lexical_shape (shape_of y))) (sym let_there)
+
 -- ---- where nothing is written no row reads it
 
 module _ (W : VariableSet) (t w : Tree) (r : Row71Next W t w) where
@@ -245,7 +250,7 @@ module _ (W : VariableSet) (t w : Tree) (r : Row71Next W t w) where
   abbrev declarators : Trees
   declarators = append r.first (declared ▸ (following ▸ r.last))
 
-  abbrev stated : Tree
+  abbrev pub stated : Tree
   stated = declaration r.kind declarators
 
   abbrev statements : Trees
@@ -262,7 +267,7 @@ module _ (W : VariableSet) (t w : Tree) (r : Row71Next W t w) where
       let rest_ts = ap (any_names y) (there_rest r.before stated r.after) ∙ r.later in
       λ k. all (read k) (r.initial k) (r.other k) (first_ds k) (rest_ds k) (first_ts k) (rest_ts k)
 
-  next_there : is_next W no_outside (children (part t 0)) (count r.before) (count r.first) ≡ true
+  pub next_there : is_next W no_outside (children (part t 0)) (count r.before) (count r.first) ≡ true
   next_there =
       let i = count r.before in
       let j = count r.first in
@@ -272,12 +277,12 @@ module _ (W : VariableSet) (t w : Tree) (r : Row71Next W t w) where
       ∙ (λ k. is_read_by (kinds.is_lexical r.kind) W (there_child r.first declared (following ▸ r.last) k) (child_there r.first declared following r.last k) no_outside declarators j statements i)
       ∙ and_both (lets_go W r.kind r.symbol) last r.goes (and_both (may_move r.init) (is_read_then (named ∷ []) declared following no_outside declarators j statements i) r.moves then_is)
 
-  next_within : suc (count r.first) < count (children (list_at (children (part t 0)) (count r.before)))
+  pub next_within : suc (count r.first) < count (children (list_at (children (part t 0)) (count r.before)))
   next_within =
       subst (λ v. suc (count r.first) < count (children (list_at (children (part v 0)) (count r.before)))) (sym r.shape)
       (subst (λ c. suc (count r.first) < count (children (part c 0))) (sym (there_child r.before stated r.after)) (within_there r.first declared following r.last))
 
-  statement_within : count r.before < count (children (part t 0))
+  pub statement_within : count r.before < count (children (part t 0))
   statement_within = subst (λ v. count r.before < count (children (part v 0))) (sym r.shape) (there_within r.before stated r.after)
 
 pub none_next : (W : VariableSet) (t : Tree) → NextAt W no_outside (children (part t 0)) None → (w : Tree) → Row71Next W t w → ⊥

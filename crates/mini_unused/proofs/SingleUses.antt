@@ -20,8 +20,10 @@ use Rattle.mini_node.specs.Walks.{next_child}
 use Rattle.mini_terms.specs.Folds.{is_effect_free}
 use Rattle.mini_rows.specs.Lists.{block, declaration}
 use Rattle.mini_rows.specs.Declarations.{binding, declarator}
-use Rattle.mini_rows.specs.Unused.{resolved, declared_among, declared_left, names, any_names, is_own_key, is_short, in_full, may_hold, is_reached, leads, has_arguments, holds_list, is_childless, is_written_value, is_value_operator, is_constant, reads, is_first, leads_to, put_first, put_among, passes_branch, passes_at, is_sure, is_placed, holds_entries, entries_below, begins_bare, suits, are_passed_in, are_passed, all_passed, is_head_shape, reads_first, reads_head, evaluated, may_move, lets_go, Row71}
-use Rattle.mini_unused.specs.RemoveUnusedDeclaration.{declares_name, is_lexical_shape, declares_list, may_lose, is_free_at, list_at}
+use Rattle.mini_rows.specs.Unused.{resolved, declared_among, declared_left, names, any_names, is_own_key, is_short, in_full, may_hold, is_reached, leads, has_arguments, holds_list, is_childless, is_written_value, is_value_operator, is_constant, reads, is_first, leads_to, put_first, put_among, passes_branch, passes_at, is_sure, is_placed, begins_bare, suits, are_passed_in, are_passed, all_passed, is_head_shape, reads_first, reads_head, evaluated, may_move, lets_go, Row71, passes, passes_item, gathered_by, gathered_below}
+use Rattle.mini_unused.specs.RemoveUnusedDeclaration.{declares_name, is_lexical_shape, declares_list, may_declare, may_lose, is_free_at, list_at}
+use Rattle.mini_rows.specs.declared.gathered.Gathered.{Gathered}
+use Rattle.mini_rows.specs.declared.gathered.Gathered.TheVariants.{Values as OfValues}
 use Rattle.mini_unused.specs.SubstituteNext.{put_named}
 use Rattle.mini_unused.specs.SubstituteSingleUse.{is_own_name, written_in_full, mention_place, may_lead, all_pass, is_reached_at, may_reach, is_head, reads_here, last_place, is_declared_over, is_mentioned_around, reads_next, is_read_once, is_single_declarator, is_single, declaration_left, list_single}
 use Rattle.mini_unused.proofs.Unused.{no_outside, parts_of, there_child, there_first, and_both, Declares, declares, a_declaration, left_is}
@@ -75,19 +77,27 @@ pub bare_some : (x : Name) (ts : Trees) (t : Tree) → 0 < count ts → t ≡ ch
 bare_some x none t h e = absurd (omega (arith, h))
 bare_some x (u ▸ ts) t h e = ap (λ v. is_childless v && names x v) (sym e)
 
-pub entries_further : (h : Shape) (i : ℕ) → (i ≡ 0 → ⊥) → holds_entries h i ≡ holds_entries h 1
-entries_further h zero f = absurd (f refl)
-entries_further shape.ArrayExpression (suc i) f = refl
-entries_further shape.ObjectExpression (suc i) f = refl
-entries_further (shape.CallExpression o) (suc i) f = refl
-entries_further shape.NewExpression (suc i) f = refl
-entries_further h (suc i) f = refl
+pub values_pass : (r t : Tree) → passes_item OfValues r t ≡ passes r t
+values_pass r t = by (passes r t)
+  where
+    by : (b : Bool) → (b || false) ≡ b
+    by true = refl
+    by false = refl
+
+pub gathered_further : (h : Shape) (i : ℕ) → (i ≡ 0 → ⊥) → gathered_by h i ≡ gathered_by h 1
+gathered_further h zero f = absurd (f refl)
+gathered_further shape.ArrayExpression (suc i) f = refl
+gathered_further shape.ObjectExpression (suc i) f = refl
+gathered_further (shape.CallExpression o) (suc i) f = refl
+gathered_further shape.NewExpression (suc i) f = refl
+gathered_further shape.TemplateLiteral (suc i) f = refl
+gathered_further h (suc i) f = refl
 
 pub no_name : (t : Tree) → count (children t) ≡ 0 → is_absent_part (part t 0) ≡ true
 no_name (node h ys n none) e = refl
 no_name (node h ys n (t ▸ ts)) e = absurd (omega (arith, e))
 
-pub reached_further : (m : Bool) (r : Tree) (h : Shape) (i : ℕ) → (i ≡ 0 → ⊥) → is_reached_at m r h i ≡ (is_constant r || (is_placed m (is_effect_free r) h && is_sure (is_effect_free r) h))
+pub reached_further : (m : Gathered) (r : Tree) (h : Shape) (i : ℕ) → (i ≡ 0 → ⊥) → is_reached_at m r h i ≡ (is_constant r || (is_placed m (is_effect_free r) h && is_sure (is_effect_free r) h))
 reached_further m r h zero f = absurd (f refl)
 reached_further m r h (suc i) f = refl
 
@@ -220,11 +230,11 @@ place_within x (t ▸ ts) = by (names x t) refl (place_within x ts)
 
 -- ---- the parts before it
 
-pub all_start : (m : Bool) (r : Tree) (h : Shape) (ts : Trees) → all_pass m r h 0 (first_children 0 ts) ≡ true
+pub all_start : (m : Gathered) (r : Tree) (h : Shape) (ts : Trees) → all_pass m r h 0 (first_children 0 ts) ≡ true
 all_start m r h none = refl
 all_start m r h (t ▸ ts) = refl
 
-pub all_step : (m : Bool) (r : Tree) (h : Shape) (ts : Trees) (i : ℕ) (c : Tree) → i < count ts → c ≡ child_or_absent ts i → passes_at m r h i c ≡ true → all_pass m r h 0 (first_children i ts) ≡ true → all_pass m r h 0 (first_children (i + 1) ts) ≡ true
+pub all_step : (m : Gathered) (r : Tree) (h : Shape) (ts : Trees) (i : ℕ) (c : Tree) → i < count ts → c ≡ child_or_absent ts i → passes_at m r h i c ≡ true → all_pass m r h 0 (first_children i ts) ≡ true → all_pass m r h 0 (first_children (i + 1) ts) ≡ true
 all_step m r h ts i c l e p a = ap (λ j. all_pass m r h 0 (first_children j ts)) (add-one i) ∙ go 0 ts i i (omega arith) l e p a
   where
     go : (k : ℕ) (ts : Trees) (i j : ℕ) → j ≡ k + i → i < count ts → c ≡ child_or_absent ts i → passes_at m r h j c ≡ true → all_pass m r h k (first_children i ts) ≡ true → all_pass m r h k (first_children (suc i) ts) ≡ true
@@ -241,7 +251,7 @@ all_step m r h ts i c l e p a = ap (λ j. all_pass m r h 0 (first_children j ts)
         let (x, y) = and_parts (passes_at m r h k t) (all_pass m r h (suc k) (first_children i ts)) a in
         and_both (passes_at m r h k t) (all_pass m r h (suc k) (first_children (suc i) ts)) x (go (suc k) ts i j (omega (arith, n)) (omega (arith, l)) e p y)
 
-pub all_stopped : (m : Bool) (r : Tree) (h : Shape) (ts : Trees) (i w : ℕ) (c : Tree) → i < count ts → i < w → c ≡ child_or_absent ts i → passes_at m r h i c ≡ false → all_pass m r h 0 (first_children w ts) ≡ false
+pub all_stopped : (m : Gathered) (r : Tree) (h : Shape) (ts : Trees) (i w : ℕ) (c : Tree) → i < count ts → i < w → c ≡ child_or_absent ts i → passes_at m r h i c ≡ false → all_pass m r h 0 (first_children w ts) ≡ false
 all_stopped m r h ts i w c l k e p = go 0 ts i w i (omega arith) l k e p
   where
     go : (n : ℕ) (ts : Trees) (i w j : ℕ) → j ≡ n + i → i < count ts → i < w → c ≡ child_or_absent ts i → passes_at m r h j c ≡ false → all_pass m r h n (first_children w ts) ≡ false
@@ -254,13 +264,13 @@ all_stopped m r h ts i w c l k e p = go 0 ts i w i (omega arith) l k e p
     go n (t ▸ ts) (suc i) (suc w) j o l k e p = ap (λ b. passes_at m r h n t && b) (go (suc n) ts i w j (omega (arith, o)) (omega (arith, l)) (omega (arith, k)) e p) ∙ and_false (passes_at m r h n t)
 
 -- up to a place, and there
-abbrev passed_there : Name → Bool → Tree → Shape → ℕ → ℕ → Trees → ℕ → Bool
-passed_there x m r h i j ts p = all_pass m r h i (first_children p ts) && are_passed_in x (entries_below m h j) r (child_or_absent ts p)
+abbrev passed_there : Name → Gathered → Tree → Shape → ℕ → ℕ → Trees → ℕ → Bool
+passed_there x m r h i j ts p = all_pass m r h i (first_children p ts) && are_passed_in x (gathered_below m h j) r (child_or_absent ts p)
 
-abbrev passed_one : Name → Bool → Tree → Shape → ℕ → Tree → Trees → Bool → Bool
-passed_one x m r h i t ts c = if c then are_passed_in x (entries_below m h i) r t else (passes_at m r h i t && all_passed x m r h (suc i) ts)
+abbrev passed_one : Name → Gathered → Tree → Shape → ℕ → Tree → Trees → Bool → Bool
+passed_one x m r h i t ts c = if c then are_passed_in x (gathered_below m h i) r t else (passes_at m r h i t && all_passed x m r h (suc i) ts)
 
-passed_at : (x : Name) (m : Bool) (r : Tree) (h : Shape) (i : ℕ) (ts : Trees) → mention_place x ts < count ts → all_passed x m r h i ts ≡ passed_there x m r h i (i + mention_place x ts) ts (mention_place x ts)
+passed_at : (x : Name) (m : Gathered) (r : Tree) (h : Shape) (i : ℕ) (ts : Trees) → mention_place x ts < count ts → all_passed x m r h i ts ≡ passed_there x m r h i (i + mention_place x ts) ts (mention_place x ts)
 passed_at x m r h i none l = absurd (omega (arith, l))
 passed_at x m r h i (t ▸ ts) l = by (names x t) refl l (passed_at x m r h (suc i) ts)
   where
@@ -269,10 +279,10 @@ passed_at x m r h i (t ▸ ts) l = by (names x t) refl l (passed_at x m r h (suc
     by false e l f =
         let q = mention_place x ts in
         let later = place_later x t ts e in
-        ap (passed_one x m r h i t ts) e ∙ ap (λ c. passes_at m r h i t && c) (f (omega (arith, l, later))) ∙ and_assoc (passes_at m r h i t) (all_pass m r h (suc i) (first_children q ts)) (are_passed_in x (entries_below m h (suc i + q)) r (child_or_absent ts q))
+        ap (passed_one x m r h i t ts) e ∙ ap (λ c. passes_at m r h i t && c) (f (omega (arith, l, later))) ∙ and_assoc (passes_at m r h i t) (all_pass m r h (suc i) (first_children q ts)) (are_passed_in x (gathered_below m h (suc i + q)) r (child_or_absent ts q))
         ∙ sym (ap (λ p. passed_there x m r h i (i + p) (t ▸ ts) p) later ∙ ap (λ j. passed_there x m r h i j (t ▸ ts) (suc q)) (omega arith))
 
-passed_nowhere : (x : Name) (m : Bool) (r : Tree) (h : Shape) (i : ℕ) (ts : Trees) → count ts ≤ mention_place x ts → all_passed x m r h i ts ≡ all_pass m r h i (first_children (count ts) ts)
+passed_nowhere : (x : Name) (m : Gathered) (r : Tree) (h : Shape) (i : ℕ) (ts : Trees) → count ts ≤ mention_place x ts → all_passed x m r h i ts ≡ all_pass m r h i (first_children (count ts) ts)
 passed_nowhere x m r h i none l = refl
 passed_nowhere x m r h i (t ▸ ts) l = by (names x t) refl l (passed_nowhere x m r h (suc i) ts)
   where
@@ -293,7 +303,7 @@ later_at false true true = refl
 later_at false true false = refl
 later_at false false c = refl
 
-reached_place : (x : Name) (m : Bool) (r : Tree) (h : Shape) (ts : Trees) → is_reached x m r h ts ≡ is_reached_at m r h (mention_place x ts)
+reached_place : (x : Name) (m : Gathered) (r : Tree) (h : Shape) (ts : Trees) → is_reached x m r h ts ≡ is_reached_at m r h (mention_place x ts)
 reached_place x m r h none = begun_at (is_constant r) (is_placed m (is_effect_free r) h) (is_sure (is_effect_free r) h)
 reached_place x m r h (t ▸ ts) = by (names x t) refl
   where
@@ -301,16 +311,16 @@ reached_place x m r h (t ▸ ts) = by (names x t) refl
     by true e = ap (λ c. is_constant r || (is_placed m (is_effect_free r) h && (is_sure (is_effect_free r) h || c))) e ∙ begun_at (is_constant r) (is_placed m (is_effect_free r) h) (is_sure (is_effect_free r) h) ∙ sym (ap (is_reached_at m r h) (place_here x t ts e))
     by false e = ap (λ c. is_constant r || (is_placed m (is_effect_free r) h && (is_sure (is_effect_free r) h || c))) e ∙ later_at (is_constant r) (is_placed m (is_effect_free r) h) (is_sure (is_effect_free r) h) ∙ sym (ap (is_reached_at m r h) (place_later x t ts e))
 
-reached_by : (x : Name) (m : Bool) (r : Tree) (h : Shape) (ts : Trees) (p : ℕ) → p ≡ mention_place x ts → is_reached x m r h ts ≡ is_reached_at m r h p
+reached_by : (x : Name) (m : Gathered) (r : Tree) (h : Shape) (ts : Trees) (p : ℕ) → p ≡ mention_place x ts → is_reached x m r h ts ≡ is_reached_at m r h p
 reached_by x m r h ts p e = reached_place x m r h ts ∙ sym (ap (is_reached_at m r h) e)
 
-none_passed : (x : Name) (m : Bool) (r : Tree) (h : Shape) (ts : Trees) (p : ℕ) → p ≡ mention_place x ts → all_pass m r h 0 (first_children p ts) ≡ false → all_passed x m r h 0 ts ≡ false
+none_passed : (x : Name) (m : Gathered) (r : Tree) (h : Shape) (ts : Trees) (p : ℕ) → p ≡ mention_place x ts → all_pass m r h 0 (first_children p ts) ≡ false → all_passed x m r h 0 ts ≡ false
 none_passed x m r h ts p e f = by (ltb p (count ts)) refl
   where
     by : (b : Bool) → ltb p (count ts) ≡ b → all_passed x m r h 0 ts ≡ false
     by true k =
         let less = ltb-true p (count ts) k in
-        passed_at x m r h 0 ts (omega (arith, e, less)) ∙ sym (ap (λ q. passed_there x m r h 0 (0 + q) ts q) e) ∙ ap (λ c. c && are_passed_in x (entries_below m h (0 + p)) r (child_or_absent ts p)) f
+        passed_at x m r h 0 ts (omega (arith, e, less)) ∙ sym (ap (λ q. passed_there x m r h 0 (0 + q) ts q) e) ∙ ap (λ c. c && are_passed_in x (gathered_below m h (0 + p)) r (child_or_absent ts p)) f
     by false k =
         let more = ltb-false p (count ts) k in
         let within = place_within x ts in
@@ -318,10 +328,10 @@ none_passed x m r h ts p e f = by (ltb p (count ts)) refl
         passed_nowhere x m r h 0 ts (omega (arith, e, more)) ∙ ap (λ j. all_pass m r h 0 (first_children j ts)) same ∙ f
 
 -- what is asked of a node beside that
-abbrev before_passed : Name → Bool → Tree → Shape → Trees → Bool → Bool → Bool
+abbrev before_passed : Name → Gathered → Tree → Shape → Trees → Bool → Bool → Bool
 before_passed x m r h ts a b = a && (b && all_passed x m r h 0 ts)
 
-pub passed_none : (x : Name) (m : Bool) (r t : Tree) (p : ℕ) → p ≡ mention_place x (children t) → may_reach x m r t p ≡ false → are_passed_in x m r t ≡ false
+pub passed_none : (x : Name) (m : Gathered) (r t : Tree) (p : ℕ) → p ≡ mention_place x (children t) → may_reach x m r t p ≡ false → are_passed_in x m r t ≡ false
 passed_none x m r (node h xs n ts) p e f = by (suits x r h ts) (is_reached_at m r h p) refl refl f
   where
     by : (a b : Bool) → suits x r h ts ≡ a → is_reached_at m r h p ≡ b → (a && (b && all_pass m r h 0 (first_children p ts))) ≡ false → (suits x r h ts && (is_reached x m r h ts && all_passed x m r h 0 ts)) ≡ false
@@ -330,23 +340,23 @@ passed_none x m r (node h xs n ts) p e f = by (suits x r h ts) (is_reached_at m 
     by true false j k f = λ q. before_passed x m r h ts (j q) ((reached_by x m r h ts p e ∙ k) q)
 
 -- it is as what is asked of the parts before
-reached_all : (x : Name) (m : Bool) (r : Tree) (h : Shape) (ts : Trees) (p : ℕ) → p ≡ mention_place x ts → (suits x r h ts && (is_reached_at m r h p && all_pass m r h 0 (first_children p ts))) ≡ true → ((suits x r h ts && (is_reached x m r h ts && all_passed x m r h 0 ts)) ≡ all_passed x m r h 0 ts) × (all_pass m r h 0 (first_children p ts) ≡ true)
+reached_all : (x : Name) (m : Gathered) (r : Tree) (h : Shape) (ts : Trees) (p : ℕ) → p ≡ mention_place x ts → (suits x r h ts && (is_reached_at m r h p && all_pass m r h 0 (first_children p ts))) ≡ true → ((suits x r h ts && (is_reached x m r h ts && all_passed x m r h 0 ts)) ≡ all_passed x m r h 0 ts) × (all_pass m r h 0 (first_children p ts) ≡ true)
 reached_all x m r h ts p e f =
     let (j, g) = and_parts (suits x r h ts) (is_reached_at m r h p && all_pass m r h 0 (first_children p ts)) f in
     let (k, a) = and_parts (is_reached_at m r h p) (all_pass m r h 0 (first_children p ts)) g in
     (λ q. before_passed x m r h ts (j q) ((reached_by x m r h ts p e ∙ k) q), a)
 
-pub passed_all : (x : Name) (m : Bool) (r t : Tree) (p : ℕ) → p ≡ mention_place x (children t) → count (children t) ≤ p → may_reach x m r t p ≡ true → are_passed_in x m r t ≡ true
+pub passed_all : (x : Name) (m : Gathered) (r t : Tree) (p : ℕ) → p ≡ mention_place x (children t) → count (children t) ≤ p → may_reach x m r t p ≡ true → are_passed_in x m r t ≡ true
 passed_all x m r (node h xs n ts) p e l f =
     let (k, g) = reached_all x m r h ts p e f in
     let within = place_within x ts in
     let same : count ts ≡ p = omega (arith, e, l, within) in
     k ∙ passed_nowhere x m r h 0 ts (omega (arith, e, l)) ∙ ap (λ j. all_pass m r h 0 (first_children j ts)) same ∙ g
 
-pub passed_below : (x : Name) (m : Bool) (r t : Tree) (p : ℕ) → p ≡ mention_place x (children t) → p < count (children t) → may_reach x m r t p ≡ true → are_passed_in x m r t ≡ are_passed_in x (entries_below m (shape_of t) p) r (part t p)
+pub passed_below : (x : Name) (m : Gathered) (r t : Tree) (p : ℕ) → p ≡ mention_place x (children t) → p < count (children t) → may_reach x m r t p ≡ true → are_passed_in x m r t ≡ are_passed_in x (gathered_below m (shape_of t) p) r (part t p)
 passed_below x m r (node h xs n ts) p e l f =
     let (k, g) = reached_all x m r h ts p e f in
-    k ∙ passed_at x m r h 0 ts (omega (arith, e, l)) ∙ sym (ap (λ q. passed_there x m r h 0 (0 + q) ts q) e) ∙ ap (λ c. c && are_passed_in x (entries_below m h (0 + p)) r (child_or_absent ts p)) g ∙ ap (λ j. are_passed_in x (entries_below m h j) r (child_or_absent ts p)) (omega arith)
+    k ∙ passed_at x m r h 0 ts (omega (arith, e, l)) ∙ sym (ap (λ q. passed_there x m r h 0 (0 + q) ts q) e) ∙ ap (λ c. c && are_passed_in x (gathered_below m h (0 + p)) r (child_or_absent ts p)) g ∙ ap (λ j. are_passed_in x (gathered_below m h j) r (child_or_absent ts p)) (omega arith)
 
 -- of a statement
 
@@ -434,12 +444,12 @@ no_declarator free W (node h xs n (t ▸ us)) o ts i j e = absurd (omega (arith,
 pub read_next : (x : Name) (r : Tree) (ts : Trees) (i : ℕ) → reads_here x r (child_or_absent ts (i + 1)) ≡ reads_next x r ts i
 read_next x r ts i = ap (λ k. reads_here x r (child_or_absent ts k)) (add-one i)
 
-pub single_by : (W : VariableSet) (o : Tree) (ts : Trees) (i : ℕ) (statement l : Tree) (n : ℕ) (free r : Bool) → statement ≡ child_or_absent ts i → declares_list statement ≡ true → l ≡ part statement 0 → n ≡ last_place (children l) → free ≡ is_lexical_shape (shape_of statement) → r ≡ is_single_declarator free W l n o ts i → r ≡ is_single W o ts i
+pub single_by : (W : VariableSet) (o : Tree) (ts : Trees) (i : ℕ) (statement l : Tree) (n : ℕ) (free r : Bool) → statement ≡ child_or_absent ts i → may_declare o statement ≡ true → l ≡ part statement 0 → n ≡ last_place (children l) → free ≡ is_lexical_shape (shape_of statement) → r ≡ is_single_declarator free W l n o ts i → r ≡ is_single W o ts i
 single_by W o ts i statement l n free r s e f g z h =
     let there : l ≡ list_at ts i = f ∙ ap (λ t. part t 0) s in
     let is_free : free ≡ is_free_at ts i = z ∙ ap (λ t. is_lexical_shape (shape_of t)) s in
     h ∙ (λ k. is_single_declarator (is_free k) W (there k) ((g ∙ ap (λ t. last_place (children t)) there) k) o ts i)
-    ∙ sym (ap (λ b. b && is_single_declarator (is_free_at ts i) W (list_at ts i) (last_place (children (list_at ts i))) o ts i) (ap declares_list (sym s) ∙ e))
+    ∙ sym (ap (λ b. b && is_single_declarator (is_free_at ts i) W (list_at ts i) (last_place (children (list_at ts i))) o ts i) (ap (may_declare o) (sym s) ∙ e))
 
 pub last_rest : (ts : Trees) → rest_children (suc (last_place ts)) ts ≡ none
 last_rest none = refl
@@ -616,6 +626,11 @@ module _ (t : Tree) (i : ℕ) (b : is_block t ≡ true) (next : suc i < count (c
     written = written_there u f;
   }
 
+  -- whether it is of a `var`
+  pub single_told : (u : Tree) (f : u ≡ block_single t i j) → not (kinds.is_lexical (row_there u f).kind) ≡ not (is_lexical_shape (shape_of statement))
+  unfolding row_there
+  single_told u f = ap (λ y. not (is_lexical_shape (shape_of y))) (sym let_there)
+
 -- ---- where nothing is written no row reads it
 
 module _ (W : VariableSet) (t w : Tree) (r : Row71 W t w) where
@@ -628,7 +643,7 @@ module _ (W : VariableSet) (t w : Tree) (r : Row71 W t w) where
   abbrev declarators : Trees
   declarators = append r.first (declared ▸ none)
 
-  abbrev stated : Tree
+  abbrev pub stated : Tree
   stated = declaration r.kind declarators
 
   abbrev statements : Trees
@@ -644,7 +659,7 @@ module _ (W : VariableSet) (t w : Tree) (r : Row71 W t w) where
       let rest_ts = ap (any_names y) (rest_there r.before stated r.head r.after) ∙ r.later in
       λ k. all (head_there k) (r.initial k) (first_ds k) (rest_ts k) (first_ts k)
 
-  single_there : is_single W no_outside (children (part t 0)) (count r.before) ≡ true
+  pub single_there : is_single W no_outside (children (part t 0)) (count r.before) ≡ true
   single_there =
       let i = count r.before in
       ap (λ v. is_single W no_outside (children (part v 0)) i) r.shape
@@ -653,7 +668,7 @@ module _ (W : VariableSet) (t w : Tree) (r : Row71 W t w) where
       ∙ ap (λ c. declares_name c && (may_lose (kinds.is_lexical r.kind) W (names_of (part c 0)) && (may_move (part c 1) && is_read_once (names_of (part c 0)) no_outside (part c 1) declarators (count r.first) statements i))) (there_child r.first declared none)
       ∙ and_both (lets_go W r.kind r.symbol) (may_move r.init && is_read_once (named ∷ []) no_outside r.init declarators (count r.first) statements i) r.goes (and_both (may_move r.init) (is_read_once (named ∷ []) no_outside r.init declarators (count r.first) statements i) r.moves once_is)
 
-  single_within : suc (count r.before) < count (children (part t 0))
+  pub single_within : suc (count r.before) < count (children (part t 0))
   single_within = subst (λ v. suc (count r.before) < count (children (part v 0))) (sym r.shape) (within_there r.before stated r.head r.after)
 
 pub none_single : (W : VariableSet) (t : Tree) → ((i : ℕ) → suc i < count (children (part t 0)) → is_single W no_outside (children (part t 0)) i ≡ false) → (w : Tree) → Row71 W t w → ⊥

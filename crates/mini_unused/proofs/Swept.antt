@@ -9,7 +9,7 @@ use Rattle.mini_node.specs.Children.{names_of, part, is_bare}
 use Rattle.mini_node.specs.Kinds.{is_block, is_block_shape, is_listed}
 use Rattle.mini_rows.specs.Unused.{resolved, may_move}
 use Rattle.mini_unused.specs.Chains.{Chain, still, Several}
-use Rattle.mini_unused.specs.RemoveUnusedDeclaration.{declares_name, may_lose, may_go, is_alone, declares_list, is_lexical_shape, is_free_at, is_unused_declarator, list_at, list_left, UnusedOf, UnusedAt, are_statements, are_no_names, is_body_shape, is_arrow_shape, has_statements, is_function_shape, is_function, is_module_shape, is_module, is_static_shape, is_static_block, holds_list}
+use Rattle.mini_unused.specs.RemoveUnusedDeclaration.{declares_name, may_lose, may_go, is_alone, declares_list, may_declare, is_lexical_shape, is_free_at, is_unused_declarator, list_at, list_left, UnusedOf, UnusedAt, are_statements, are_no_names, is_body_shape, is_arrow_shape, has_statements, is_function_shape, is_function, is_module_shape, is_module, is_static_shape, is_static_block, holds_list, holds_statements}
 use Rattle.mini_unused.specs.SubstituteNext.{is_declarator, is_read_then, is_read_by_next, list_next, NextOf, NextAt}
 use Rattle.mini_unused.specs.SubstituteSingleUse.{is_read_once, is_single_declarator, is_single, last_place, list_single, SingleAt, Gone}
 use Rattle.mini_unused.specs.Sweep.{may_go_at, may_move_at, Calm, Swept}
@@ -29,7 +29,7 @@ three_and_one a b c d e f =
     let (z, v) = and_parts b c y in
     and_both a (b && (c && d)) x (and_both b (c && d) z (and_both c d v f))
 
-pub unused_there : (W : VariableSet) (o : Tree) (ts : Trees) (i j : ℕ) (statement l : Tree) (free : Bool) → statement ≡ child_or_absent ts i → declares_list statement ≡ true → 0 < count (children statement) → l ≡ part statement 0 → j < count (children l) → free ≡ is_lexical_shape (shape_of statement)
+pub unused_there : (W : VariableSet) (o : Tree) (ts : Trees) (i j : ℕ) (statement l : Tree) (free : Bool) → statement ≡ child_or_absent ts i → may_declare o statement ≡ true → 0 < count (children statement) → l ≡ part statement 0 → j < count (children l) → free ≡ is_lexical_shape (shape_of statement)
     → may_go_at free W l j ≡ true → is_alone (names_of (part (part l j) 0)) o (part (part l j) 1) (children l) j ts i ≡ true → UnusedOf W o ts i (Some j)
 unused_there W o ts i j statement l free s d h f g z e t =
     let there : l ≡ list_at ts i = f ∙ ap (λ u. part u 0) s in
@@ -37,10 +37,10 @@ unused_there W o ts i j statement l free s d h f g z e t =
     let unused : is_unused_declarator free W l j o ts i ≡ true = three_and_one (declares_name (part l j)) (may_lose free W (names_of (part (part l j) 0))) (may_go (part (part l j) 1) l) (is_alone (names_of (part (part l j) 0)) o (part (part l j) 1) (children l) j ts i) e t in (
       subst (λ u. 0 < count (children u)) s h,
       subst (λ u. j < count (children u)) there g,
-      and_both (declares_list (child_or_absent ts i)) (is_unused_declarator (is_free_at ts i) W (list_at ts i) j o ts i) (sym (ap declares_list s) ∙ d) (sym (λ k. is_unused_declarator (is_free k) W (there k) j o ts i) ∙ unused),
+      and_both (may_declare o (child_or_absent ts i)) (is_unused_declarator (is_free_at ts i) W (list_at ts i) j o ts i) (sym (ap (may_declare o) s) ∙ d) (sym (λ k. is_unused_declarator (is_free k) W (there k) j o ts i) ∙ unused),
     )
 
-pub single_there : (W : VariableSet) (o : Tree) (ts : Trees) (i j : ℕ) (statement l : Tree) (free : Bool) → statement ≡ child_or_absent ts i → declares_list statement ≡ true → l ≡ part statement 0 → j + 1 ≡ count (children l) → free ≡ is_lexical_shape (shape_of statement)
+pub single_there : (W : VariableSet) (o : Tree) (ts : Trees) (i j : ℕ) (statement l : Tree) (free : Bool) → statement ≡ child_or_absent ts i → may_declare o statement ≡ true → l ≡ part statement 0 → j + 1 ≡ count (children l) → free ≡ is_lexical_shape (shape_of statement)
     → may_move_at free W l j ≡ true → is_read_once (names_of (part (part l j) 0)) o (part (part l j) 1) (children l) j ts i ≡ true → is_single W o ts i ≡ true
 single_there W o ts i j statement l free s d f g z e t =
     let single : is_single_declarator free W l j o ts i ≡ true = three_and_one (declares_name (part l j)) (may_lose free W (names_of (part (part l j) 0))) (may_move (part (part l j) 1)) (is_read_once (names_of (part (part l j) 0)) o (part (part l j) 1) (children l) j ts i) e t in
@@ -85,7 +85,7 @@ read_by_both a b c d e f g h =
     let (z, v) = and_parts c d y in
     and_both a (b && (c && (d && e))) x (and_both b (c && (d && e)) g (and_both c (d && e) z (and_both d e v h)))
 
-pub next_there : (W : VariableSet) (o : Tree) (ts : Trees) (i j : ℕ) (statement l : Tree) (free : Bool) → statement ≡ child_or_absent ts i → declares_list statement ≡ true → 0 < count (children statement) → l ≡ part statement 0 → j + 1 < count (children l) → free ≡ is_lexical_shape (shape_of statement)
+pub next_there : (W : VariableSet) (o : Tree) (ts : Trees) (i j : ℕ) (statement l : Tree) (free : Bool) → statement ≡ child_or_absent ts i → may_declare o statement ≡ true → 0 < count (children statement) → l ≡ part statement 0 → j + 1 < count (children l) → free ≡ is_lexical_shape (shape_of statement)
     → may_move_at free W l j ≡ true → is_declarator (part l (j + 1)) ≡ true → is_read_then (names_of (part (part l j) 0)) (part l j) (part l (j + 1)) o (children l) j ts i ≡ true → NextOf W o ts i (Some j)
 next_there W o ts i j statement l free s d h f g z e n t =
     let there : l ≡ list_at ts i = f ∙ ap (λ u. part u 0) s in
@@ -96,7 +96,7 @@ next_there W o ts i j statement l free s d h f g z e n t =
     (sym (ap (λ k. is_declarator (part l k)) one) ∙ n) (sym (ap (λ k. is_read_then (names_of (part (part l j) 0)) (part l j) (part l k) o (children l) j ts i) one) ∙ t) in (
       subst (λ u. 0 < count (children u)) s h,
       subst (λ u. suc j < count (children u)) there (omega (arith, g)),
-      and_both (declares_list (child_or_absent ts i)) (is_read_by_next (is_free_at ts i) W (list_at ts i) j o ts i) (sym (ap declares_list s) ∙ d) (sym (λ k. is_read_by_next (is_free k) W (there k) j o ts i) ∙ read),
+      and_both (may_declare o (child_or_absent ts i)) (is_read_by_next (is_free_at ts i) W (list_at ts i) j o ts i) (sym (ap (may_declare o) s) ∙ d) (sym (λ k. is_read_by_next (is_free k) W (there k) j o ts i) ∙ read),
     )
 
 module _ (T : Tallies) (o : Tree) (ts : Trees) (i j : ℕ) (h : i < count ts) (d : declares_list (child_or_absent ts i) ≡ true) (told : Tallied T o (listed ts)) where
@@ -163,12 +163,19 @@ in_static t e =
     let (b, q) = and_parts (are_no_names (names_of t)) (nat_eq (count (children t)) 1 && is_listed (part t 0)) p in
     (and_parts (nat_eq (count (children t)) 1) (is_listed (part t 0)) q).1
 
-pub in_holder : (t : Tree) → holds_list t ≡ true → is_listed (part t 0) ≡ true
+in_holder : (t : Tree) → holds_list t ≡ true → is_listed (part t 0) ≡ true
 in_holder t e = by (is_module t) refl
   where
     by : (b : Bool) → is_module t ≡ b → is_listed (part t 0) ≡ true
     by true m = in_module t m
     by false m = in_static t (sym (ap (λ b. b || is_static_block t) m) ∙ e)
+
+pub in_statements : (t : Tree) → holds_statements t ≡ true → is_listed (part t 0) ≡ true
+in_statements t e = by (is_block t) refl
+  where
+    by : (b : Bool) → is_block t ≡ b → is_listed (part t 0) ≡ true
+    by true b = in_block t b
+    by false b = in_holder t (sym (ap (λ c. c || holds_list t) b) ∙ e)
 
 in_body : (t : Tree) → are_statements t ≡ true → is_listed (part t 0) ≡ true
 in_body t e =

@@ -69,7 +69,7 @@ module _ (d : Tree) (first : Trees) (test : Tree) (last : Trees) where
   several ts m r = several_in nothing outside SwitchRow over gone ts m r
 
   rests : (ts : Trees) (m : Tree) → Removed nothing outside (listed ts) m false → (w : Tree) → BlockRow nothing (block (listed (outside ▸ none) ▸ ts)) w → ⊥
-  rests ts m r w b = none_behind nothing outside (outside ▸ none) ts mentions evals m r (listed (outside ▸ none) ▸ ts) refl w b
+  rests ts m r w b = none_behind nothing outside (outside ▸ none) ts mentions evals refl m r (listed (outside ▸ none) ▸ ts) refl w b
 
   -- another list in the case
   put : (l m : Tree) → with_statements (over l) (count first) m ≡ over m

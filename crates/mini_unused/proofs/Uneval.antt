@@ -13,15 +13,17 @@ use Rattle.mini_laws.specs.Value.{VariableSet}
 use Rattle.mini_node.specs.Children.{names_of, part, with_child, with_part, without, is_bare, is_nameless}
 use Rattle.mini_node.specs.Kinds.{is_listed}
 use Rattle.mini_rows.specs.Lists.{declaration, Each, EachIn, EachOf, each_loop}
-use Rattle.mini_rows.specs.Unused.{is_short, can_be_full, in_full, may_hold, is_idle, any_names, names, begins, goes_on, may_go_on, has_branches, leads, holds_list, is_childless, is_first, leads_to, put_first, put_among, is_reached, entries_below, passes_at, is_called_by_value, suits, are_passed, are_passed_in, all_passed, is_head_shape, reads_first, reads_head, evaluated, may_move}
-use Rattle.mini_unused.specs.RemoveUnusedDeclaration.{declares_list, declares_name, may_lose, is_free_at, is_unused_declarator, list_at, statement_left, let_left}
+use Rattle.mini_rows.specs.Unused.{is_short, can_be_full, in_full, may_hold, is_idle, any_names, names, begins, goes_on, may_go_on, has_branches, leads, holds_list, is_childless, is_first, leads_to, put_first, put_among, is_reached, passes_at, is_called_by_value, suits, are_passed, are_passed_in, all_passed, is_head_shape, reads_first, reads_head, evaluated, may_move, gathered_below}
+use Rattle.mini_unused.specs.RemoveUnusedDeclaration.{declares_list, may_declare, declares_name, may_lose, is_free_at, is_unused_declarator, list_at, statement_left, let_left}
+use Rattle.mini_rows.specs.declared.gathered.Gathered.{Gathered}
+use Rattle.mini_rows.specs.declared.gathered.Gathered.TheVariants.{Values as OfValues}
 use Rattle.mini_rows.specs.Declarations.{declarator}
 use Rattle.mini_unused.specs.SubstituteNext.{reads_then, put_named, is_declarator, is_mentioned_beside, is_mentioned_elsewhere, is_read_then, declarators_next, NextGone}
 use Rattle.mini_unused.specs.SubstituteSingleUse.{declaration_left, last_place, reads_next, is_declared_over, is_mentioned_around, is_read_once, NameGone, ReadGone, Gone}
 use Rattle.mini_rows.proofs.ListKeptHeads.{Seat, Loop, Choice, seated}
 use Rattle.mini_rows.proofs.SingleUse.{Initial, Heads, heads, mentioned}
 use Rattle.mini_unused.proofs.NextUses.{found, next_child_left}
-use Rattle.mini_unused.proofs.Unused.{a_declaration, declarator_is, not_true}
+use Rattle.mini_unused.proofs.Unused.{a_declaration, declarator_is, declared_there, not_true}
 
 pub neither : (a b : Bool) → (a || b) ≡ false → (a ≡ false) × (b ≡ false)
 neither true b e = absurd (true≢false e)
@@ -172,17 +174,17 @@ abbrev mutual
   suits_among x r (t ▸ ts) = if names x t then suits_along x r t else suits_among x r ts
 
 mutual
-  pub passed_along : (x : Name) (m : Bool) (r t : Tree) → are_passed_in x m r t ≡ true → suits_along x r t ≡ true
+  pub passed_along : (x : Name) (m : Gathered) (r t : Tree) → are_passed_in x m r t ≡ true → suits_along x r t ≡ true
   passed_along x m r (node h ys n ts) e =
       let (a, p) = and_parts (suits x r h ts) (is_reached x m r h ts && all_passed x m r h 0 ts) e in
       let (b, q) = and_parts (is_reached x m r h ts) (all_passed x m r h 0 ts) p in
       ap (λ c. c && suits_among x r ts) a ∙ passed_among x m r h 0 ts q
 
-  passed_among : (x : Name) (m : Bool) (r : Tree) (h : Shape) (i : ℕ) (ts : Trees) → all_passed x m r h i ts ≡ true → suits_among x r ts ≡ true
+  passed_among : (x : Name) (m : Gathered) (r : Tree) (h : Shape) (i : ℕ) (ts : Trees) → all_passed x m r h i ts ≡ true → suits_among x r ts ≡ true
   passed_among x m r h i none e = refl
-  passed_among x m r h i (t ▸ ts) e = by (names x t) e (passed_along x (entries_below m h i) r t) (passed_among x m r h (suc i) ts)
+  passed_among x m r h i (t ▸ ts) e = by (names x t) e (passed_along x (gathered_below m h i) r t) (passed_among x m r h (suc i) ts)
     where
-      by : (c : Bool) → (if c then are_passed_in x (entries_below m h i) r t else (passes_at m r h i t && all_passed x m r h (suc i) ts)) ≡ true → (are_passed_in x (entries_below m h i) r t ≡ true → suits_along x r t ≡ true) → (all_passed x m r h (suc i) ts ≡ true → suits_among x r ts ≡ true) → (if c then suits_along x r t else suits_among x r ts) ≡ true
+      by : (c : Bool) → (if c then are_passed_in x (gathered_below m h i) r t else (passes_at m r h i t && all_passed x m r h (suc i) ts)) ≡ true → (are_passed_in x (gathered_below m h i) r t ≡ true → suits_along x r t ≡ true) → (all_passed x m r h (suc i) ts ≡ true → suits_among x r ts ≡ true) → (if c then suits_along x r t else suits_among x r ts) ≡ true
       by true e f g = f e
       by false e f g = g (and_parts (passes_at m r h i t) (all_passed x m r h (suc i) ts) e).1
 
@@ -307,7 +309,7 @@ put_along_head x r t f p e g = by (heads x t f)
     by (inr (inr (inl i))) = ap has_eval (i.puts r) ∙ put_outside i.seat i.value (put_first x r i.value) (put_there x false r i.value i.once (seated_along x r i.seat i.value (mentioned x false i.value i.once) (sym (ap (suits_along x r) (i.evaluates ∙ i.is)) ∙ p)) e) (sym (ap has_eval i.is) ∙ g)
 
 put_there_head : (x : Name) (r t : Tree) → reads_head x t ≡ true → are_passed x r (evaluated t) ≡ true → has_eval r ≡ false → has_eval t ≡ false → has_eval (put_first x r t) ≡ false
-put_there_head x r t f p e g = put_along_head x r t f (passed_along x false r (evaluated t) p) e g
+put_there_head x r t f p e g = put_along_head x r t f (passed_along x OfValues r (evaluated t) p) e g
 
 -- ---- a declaration whose declarator has another tree in what it reads first
 
@@ -363,12 +365,12 @@ then_put [] d e o ds j ts i h f g = absurd (true≢false (sym h))
 then_put (x ∷ xs) d e o ds j ts i h f g =
     let read = (and_parts (reads_then x (part d 1) e) (not (is_mentioned_beside x d e ds j) && (not (names x o) && not (is_mentioned_elsewhere x ts i))) h).0 in
     let (first, passed) = and_parts (is_first x false (part e 1)) (are_passed x (part d 1) (part e 1)) read in
-    put_there x false (part d 1) (part e 1) first (passed_along x false (part d 1) (part e 1) passed) f g
+    put_there x false (part d 1) (part e 1) first (passed_along x OfValues (part d 1) (part e 1) passed) f g
 
 module _ (W : VariableSet) (o l m : Tree) (c : Unseen o l) where
   name_gone : NameGone W o l m → Unseen o m
   name_gone g =
-      let declares = (and_parts (declares_list (child_or_absent (children l) g.at)) (is_unused_declarator (is_free_at (children l) g.at) W (list_at (children l) g.at) g.which o (children l) g.at) g.unused.1.2).0 in
+      let declares = declared_there o (child_or_absent (children l) g.at) (and_parts (may_declare o (child_or_absent (children l) g.at)) (is_unused_declarator (is_free_at (children l) g.at) W (list_at (children l) g.at) g.which o (children l) g.at) g.unused.1.2).0 in
       subst (Unseen o) (sym g.left) (unseen_with o l g.at (statement_left (part l g.at) g.which) c (statement_without (part l g.at) g.which declares (in_list o l g.at c)))
 
   read_gone : ReadGone W o l m → Unseen o m
@@ -380,13 +382,13 @@ module _ (W : VariableSet) (o l m : Tree) (c : Unseen o l) where
       let init = part d 1 in
       let once = is_read_once (names_of (part d 0)) o init (children ds) j ts g.at in
       let lost = may_lose (is_free_at ts g.at) W (names_of (part d 0)) in
-      let (declares, p) = and_parts (declares_list (child_or_absent ts g.at)) (declares_name d && (lost && (may_move init && once))) g.single in
+      let (declared_here, p) = and_parts (may_declare o (child_or_absent ts g.at)) (declares_name d && (lost && (may_move init && once))) g.single in
       let (a, q) = and_parts (declares_name d) (lost && (may_move init && once)) p in
       let (b, r) = and_parts lost (may_move init && once) q in
       let (e, f) = and_parts (may_move init) once r in
       let there = in_list o l g.at c in
       let value : has_eval init ≡ false = part_of d 1 (part_of ds j (part_of (part l g.at) 0 there)) in
-      let left = unseen_with o l g.at (declaration_left (part l g.at) j) c (declaration_without (part l g.at) j declares there) in
+      let left = unseen_with o l g.at (declaration_left (part l g.at) j) c (declaration_without (part l g.at) j (declared_there o (child_or_absent ts g.at) declared_here) there) in
       let head = once_put (names_of (part d 0)) o init (children ds) j ts g.at f value (in_list o l (suc g.at) c) in
       subst (Unseen o) (sym g.left) (unseen_with o (with_part l g.at (declaration_left (part l g.at) j)) (suc g.at) (put_named (names_of (part d 0)) init (part l (suc g.at))) left head)
 

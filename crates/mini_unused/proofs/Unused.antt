@@ -16,12 +16,13 @@ use Rattle.mini_laws.specs.Naming as kinds
 use Rattle.mini_laws.specs.ScopeList.{has_eval}
 use Rattle.mini_laws.specs.Value.{VariableSet}
 use Rattle.mini_node.specs.Children.{names_of, part, with_child, with_part, without, is_bare, first_children, rest_children}
-use Rattle.mini_node.specs.Kinds.{is_block}
+use Rattle.mini_node.specs.Kinds.{is_block, is_listed_shape}
 use Rattle.mini_node.specs.Made.{block_is}
 use Rattle.mini_rows.specs.Lists.{block, declaration, declares_nothing}
 use Rattle.mini_rows.specs.Declarations.{binding, declarator}
+use Rattle.mini_rows.specs.Inside.{declares_var}
 use Rattle.mini_rows.specs.Unused.{resolved, declared_among, declared_left, names, any_names, is_idle, lets_go, Alone, Row72, Row72Idle, Row71, Row71Next, BlockRow}
-use Rattle.mini_unused.specs.RemoveUnusedDeclaration.{is_resolved_binding, is_declarator_shape, declares_name, is_lexical_shape, declares_list, shows_vars, open_in, may_write, may_write_in, may_lose, is_free_at, may_go, is_alone, is_unused_declarator, list_at, is_unused, UnusedIn, UnusedOf, UnusedAt, let_left, statement_left, list_left, Applied}
+use Rattle.mini_unused.specs.RemoveUnusedDeclaration.{is_resolved_binding, is_declarator_shape, declares_name, is_lexical_shape, declares_list, is_var, may_declare, shows_vars, open_in, may_write, may_write_in, may_lose, is_free_at, may_go, is_alone, is_unused_declarator, list_at, is_unused, UnusedIn, UnusedOf, UnusedAt, let_left, statement_left, list_left, Applied}
 
 -- ---- children
 
@@ -200,6 +201,14 @@ written t u i j b h f =
     let ts = children (part t 0) in
     f ∙ ap (λ v. block_left v i j) (block_is t b) ∙ ap block (with_parts ts i (statement_left (child_or_absent ts i) j) h)
 
+-- a declaration from which names may go is one
+pub declared_there : (o t : Tree) → may_declare o t ≡ true → declares_list t ≡ true
+declared_there o t e = by (is_listed_shape (shape_of o)) e
+  where
+    by : (b : Bool) → (if b then is_var t else declares_list t) ≡ true → declares_list t ≡ true
+    by true f = (and_parts (declares_list t) (not (is_lexical_shape (shape_of t))) f).0
+    by false f = f
+
 -- a block in which such a declarator stands
 module _ (t : Tree) (i j : ℕ) (b : is_block t ≡ true) (h : i < count (children (part t 0))) (g : j < count (children (list_at (children (part t 0)) i))) (W : VariableSet) (e : is_unused W no_outside (children (part t 0)) i j ≡ true) (v : has_eval t ≡ false) where
   abbrev ts : Trees
@@ -285,42 +294,53 @@ module _ (t : Tree) (i j : ℕ) (b : is_block t ≡ true) (h : i < count (childr
   value : is_idle init ≡ false → (is_bare (listed ds) 1 ≡ true) × (declares_nothing init ≡ true)
   value c = let (p, q) = and_parts (is_bare (part statement 0) 1) (declares_nothing init) (sym (ap (λ a. a || (is_bare (part statement 0) 1 && declares_nothing init)) c) ∙ tests.2) in (sym (ap (λ l. is_bare l 1) list_is) ∙ p, q)
 
-  pub row_at : (u : Tree) → u ≡ block_left t i j → BlockRow W t u
-  row_at u f = by (is_idle init) refl
+  kind_there : not (kinds.is_lexical kind) ≡ not (is_lexical_shape (shape_of statement))
+  kind_there = ap (λ y. not (is_lexical_shape (shape_of y))) (sym let_there)
+
+  -- the row, and whether it is of a `var`
+  pub row_told : (u : Tree) → u ≡ block_left t i j → (r : BlockRow W t u) × (declares_var r ≡ not (is_lexical_shape (shape_of statement)))
+  row_told u f = by (is_idle init) refl
     where
-      by : (a : Bool) → is_idle init ≡ a → BlockRow W t u
-      by true c =
-          inr (inl (record {
-            before = before;
-            kind = kind;
-            first = first;
-            spelling = one.spelling;
-            symbol = one.symbol;
-            init = init;
-            last = last;
-            after = after;
-            goes = goes;
-            idle = c;
-            unused = unused;
-            shape = block_there;
-            written = written t u i j b h f ∙ ap (λ y. block (append before (y ▸ after))) (left_idle c);
-          }))
+      by : (a : Bool) → is_idle init ≡ a → (r : BlockRow W t u) × (declares_var r ≡ not (is_lexical_shape (shape_of statement)))
+      by true c = (
+        inr (inl (record {
+          before = before;
+          kind = kind;
+          first = first;
+          spelling = one.spelling;
+          symbol = one.symbol;
+          init = init;
+          last = last;
+          after = after;
+          goes = goes;
+          idle = c;
+          unused = unused;
+          shape = block_there;
+          written = written t u i j b h f ∙ ap (λ y. block (append before (y ▸ after))) (left_idle c);
+        })),
+        kind_there,
+      )
       by false c =
           let (single, present) = value c in
-          let (no_first, no_last) = only_one ds j single g in
-          inl (record {
-            before = before;
-            kind = kind;
-            spelling = one.spelling;
-            symbol = one.symbol;
-            init = init;
-            after = after;
-            goes = goes;
-            present = present;
-            unused = subst (λ us. Alone kind x before us init none after) (sym no_first) (subst (λ us. Alone kind x before first init us after) (sym no_last) unused);
-            shape = block_there ∙ sym (λ k. block (append before (declared_among kind x (no_first k) init (no_last k) ▸ after)));
-            written = written t u i j b h f ∙ ap (λ y. block (append before (y ▸ after))) (left_value c);
-          })
+          let (no_first, no_last) = only_one ds j single g in (
+            inl (record {
+              before = before;
+              kind = kind;
+              spelling = one.spelling;
+              symbol = one.symbol;
+              init = init;
+              after = after;
+              goes = goes;
+              present = present;
+              unused = subst (λ us. Alone kind x before us init none after) (sym no_first) (subst (λ us. Alone kind x before first init us after) (sym no_last) unused);
+              shape = block_there ∙ sym (λ k. block (append before (declared_among kind x (no_first k) init (no_last k) ▸ after)));
+              written = written t u i j b h f ∙ ap (λ y. block (append before (y ▸ after))) (left_value c);
+            }),
+            kind_there,
+          )
+
+  pub row_at : (u : Tree) → u ≡ block_left t i j → BlockRow W t u
+  row_at u f = (row_told u f).0
 
 -- ---- where nothing is written no row reads it
 
@@ -343,10 +363,10 @@ pub or_true : (b : Bool) → (b || true) ≡ true
 or_true true = refl
 or_true false = refl
 
-dropped : (W : VariableSet) (t w : Tree) → Row72 W t w → Read W t
+unfoldable pub dropped : (W : VariableSet) (t w : Tree) → Row72 W t w → Read W t
 dropped W t w r = record { before = r.before; kind = r.kind; lost = r.goes; first = none; spelling = r.spelling; symbol = r.symbol; init = r.init; last = none; after = r.after; goes = ap (λ b. is_idle r.init || b) r.present ∙ or_true (is_idle r.init); unused = r.unused; shape = r.shape }
 
-dropped_idle : (W : VariableSet) (t w : Tree) → Row72Idle W t w → Read W t
+unfoldable pub dropped_idle : (W : VariableSet) (t w : Tree) → Row72Idle W t w → Read W t
 dropped_idle W t w r = record { before = r.before; kind = r.kind; lost = r.goes; first = r.first; spelling = r.spelling; symbol = r.symbol; init = r.init; last = r.last; after = r.after; goes = ap (λ b. b || (is_bare (listed (append r.first (declarator (binding (resolved r.spelling r.symbol)) r.init ▸ r.last))) 1 && declares_nothing r.init)) r.idle; unused = r.unused; shape = r.shape }
 
 module _ (W : VariableSet) (t : Tree) (r : Read W t) where
@@ -359,7 +379,7 @@ module _ (W : VariableSet) (t : Tree) (r : Read W t) where
   abbrev declarators_there : Trees
   declarators_there = append r.first (declarator_there ▸ r.last)
 
-  abbrev statement_there : Tree
+  abbrev pub statement_there : Tree
   statement_there = declaration r.kind declarators_there
 
   abbrev statements_there : Trees
@@ -386,7 +406,7 @@ module _ (W : VariableSet) (t : Tree) (r : Read W t) where
       ∙ ap (λ c. declares_name c && (may_lose (kinds.is_lexical r.kind) W (names_of (part c 0)) && (may_go (part c 1) (listed ds) && is_alone (names_of (part c 0)) no_outside (part c 1) ds j ts i))) (there_child r.first declarator_there r.last)
       ∙ and_both (lets_go W r.kind r.symbol) (may_go r.init (listed ds) && is_alone (named_there ∷ []) no_outside r.init ds j ts i) r.lost (and_both (may_go r.init (listed ds)) (is_alone (named_there ∷ []) no_outside r.init ds j ts i) r.goes alone_is)
 
-  statement_within : count r.before < count (children (part t 0))
+  pub statement_within : count r.before < count (children (part t 0))
   statement_within = subst (λ v. count r.before < count (children (part v 0))) (sym r.shape) (there_within r.before statement_there r.after)
 
   pub declarator_within : count r.first < count (children (list_at (children (part t 0)) (count r.before)))
@@ -440,9 +460,9 @@ module _ (P : ℕ → Type 0) where
 
 -- of one statement
 
-pub none_of : (W : VariableSet) (o : Tree) (ts : Trees) (i : ℕ) → declares_list (child_or_absent ts i) ≡ false → UnusedOf W o ts i None
+pub none_of : (W : VariableSet) (o : Tree) (ts : Trees) (i : ℕ) → may_declare o (child_or_absent ts i) ≡ false → UnusedOf W o ts i None
 none_of W o ts i e j h = ap (λ b. b && is_unused_declarator (is_free_at ts i) W (list_at ts i) j o ts i) e
 
-pub of_list : (W : VariableSet) (o : Tree) (ts : Trees) (i : ℕ) (f : Option ℕ) → declares_list (child_or_absent ts i) ≡ true → 0 < count (children (child_or_absent ts i)) → UnusedIn (is_free_at ts i) W (list_at ts i) o ts i f → UnusedOf W o ts i f
-of_list W o ts i (Some j) e h u = (h, u.0, and_both (declares_list (child_or_absent ts i)) (is_unused_declarator (is_free_at ts i) W (list_at ts i) j o ts i) e u.1)
+pub of_list : (W : VariableSet) (o : Tree) (ts : Trees) (i : ℕ) (f : Option ℕ) → may_declare o (child_or_absent ts i) ≡ true → 0 < count (children (child_or_absent ts i)) → UnusedIn (is_free_at ts i) W (list_at ts i) o ts i f → UnusedOf W o ts i f
+of_list W o ts i (Some j) e h u = (h, u.0, and_both (may_declare o (child_or_absent ts i)) (is_unused_declarator (is_free_at ts i) W (list_at ts i) j o ts i) e u.1)
 of_list W o ts i None e h u = λ j g. ap (λ b. b && is_unused_declarator (is_free_at ts i) W (list_at ts i) j o ts i) e ∙ u j g

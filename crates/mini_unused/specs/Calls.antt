@@ -8,7 +8,7 @@ use Rattle.mini_laws.specs.Value.{VariableSet}
 use Rattle.mini_node.specs.Children.{names_of, part}
 use Rattle.mini_node.specs.Kinds.{is_absent_part}
 use Rattle.mini_rows.specs.Lists.{declares_nothing}
-use Rattle.mini_unused.specs.RemoveUnusedDeclaration.{declares_list, declares_name, may_lose, is_alone, is_free_at, list_at}
+use Rattle.mini_unused.specs.RemoveUnusedDeclaration.{declares_name, may_declare, may_lose, is_alone, is_free_at, list_at}
 use Rattle.mini_unused.specs.SubstituteNext.{NextAt, NextGone}
 
 -- ---- 62, `try_remove_name_from_functions` and `try_remove_name_from_classes`
@@ -33,7 +33,7 @@ goes_alone free W l j o ts i = declares_name (part l j) && (may_lose free W (nam
 
 -- and no direct eval sees it
 abbrev pub should_go : VariableSet → Tree → Tree → ℕ → ℕ → Bool
-should_go W o l i j = (declares_list (child_or_absent (children l) i) && goes_alone (is_free_at (children l) i) W (list_at (children l) i) j o (children l) i) && not (has_eval o || has_eval l)
+should_go W o l i j = (may_declare o (child_or_absent (children l) i) && goes_alone (is_free_at (children l) i) W (list_at (children l) i) j o (children l) i) && not (has_eval o || has_eval l)
 
 -- ---- 71 in one declaration, `substitute_within`
 

@@ -1,9 +1,9 @@
 -- 71 and 72 of a `var` further inside: the walk to where one may stand, with the nodes above it, each without what the way goes into.
-use Rattle.std.specs.Prelude.{◌≡◌, ◌&&◌, ◌||◌, not, ℕ, Bool, true, false, List, Option, Some, None}
+use Rattle.std.specs.Prelude.{◌≡◌, ◌||◌, ℕ, Bool, true, false, List, Option, Some, None}
 use Rattle.mini_model.specs.declared.name.Name.{Name}
 use Rattle.mini_model.specs.declared.place.Position.{Position}
 use Rattle.mini_model.specs.declared.shape.Shape.{Shape}
-use Rattle.mini_model.specs.Tree.{Tree, Trees, node, none, ◌▸◌, absent, listed, count, children, shape_of}
+use Rattle.mini_model.specs.Tree.{Tree, Trees, node, none, ◌▸◌, absent, listed, count, children}
 use Rattle.mini_model.specs.Paths.{append}
 use Rattle.mini_laws.specs.Path.{Path, here, inside, plug}
 use Rattle.mini_laws.specs.ScopeList.{has_eval}
@@ -11,25 +11,16 @@ use Rattle.mini_laws.specs.Value.{VariableSet}
 use Rattle.mini_laws.specs.Weights.{is_here}
 use Rattle.mini_laws.specs.Writable.{writable_in}
 use Rattle.mini_node.specs.Children.{part, with_part}
-use Rattle.mini_node.specs.Kinds.{is_listed}
 use Rattle.mini_rows.specs.declared.inside.Way.{Way}
 use Rattle.mini_rows.specs.declared.inside.Way.TheVariants as way
-use Rattle.mini_rows.specs.Inside.{is_way_to, above, has_lexical, HeadEnd, EndRow, Holder, Function, stands_at, InsideRow, InsideContracts}
+use Rattle.mini_rows.specs.Inside.{is_way_to, above, HeadEnd, EndRow, Holder, Function, stands_at, InsideRow, InsideContracts}
 use Rattle.mini_tree.specs.Rule as rule
 use Rattle.mini_unused.specs.Chains.{Several}
-use Rattle.mini_unused.specs.RemoveUnusedDeclaration.{declares_list, is_lexical_shape, is_idle_at, UnusedOf}
+use Rattle.mini_unused.specs.RemoveUnusedDeclaration.{is_idle_at, UnusedOf}
 
 -- a list of nodes with another one
 abbrev pub pushed : Tree → Tree → Tree
 pushed (node h xs n ts) t = node h xs n (append ts (t ▸ none))
-
--- a list of statements in which no `let` and no `const` stands
-abbrev pub is_plain : Tree → Bool
-is_plain t = is_listed t && not (has_lexical (children t))
-
--- a `var`, with its list of declarators
-abbrev pub is_var : Tree → Bool
-is_var t = declares_list t && not (is_lexical_shape (shape_of t))
 
 -- below some nodes, what stands at the end of a way loses a name; or the node may be that end itself
 pub record Loses (W : VariableSet) (a : Trees) (s : Way) (further : Bool) (t u : Tree) : Type 0 where

@@ -13,7 +13,7 @@ use Rattle.mini_laws.specs.Naming.{is_lexical}
 use Rattle.mini_laws.specs.ScopeList.{has_eval}
 use Rattle.mini_laws.specs.Value.{Declared, Global, VariableSet}
 use Rattle.mini_node.specs.Children.{names_of, like, part, with_part, without, is_bare, first_children, rest_children}
-use Rattle.mini_node.specs.Kinds.{is_listed, is_named_leaf}
+use Rattle.mini_node.specs.Kinds.{is_listed, is_listed_shape, is_named_leaf, is_block}
 use Rattle.mini_rows.specs.Lists.{declares_nothing}
 use Rattle.mini_rows.specs.Unused.{names, any_names, is_idle, FunctionBodyRow, SwitchRow, ForRow, UnusedRow, UnusedContracts}
 pub use Rattle.mini_rows.specs.Unused.{is_declarator_shape, is_variables_shape, declares_list}
@@ -100,9 +100,18 @@ list_at ts i = part (child_or_absent ts i) 0
 abbrev pub is_free_at : Trees → ℕ → Bool
 is_free_at ts i = is_lexical_shape (shape_of (child_or_absent ts i))
 
+-- a `var`, with its list of declarators
+abbrev pub is_var : Tree → Bool
+is_var t = declares_list t && not (is_lexical_shape (shape_of t))
+
+-- a declaration from which names may go: where a list stands outside of the statements, as the nodes above a list further inside a body do,
+-- these are `var`s alone
+abbrev pub may_declare : Tree → Tree → Bool
+may_declare o t = if is_listed_shape (shape_of o) then is_var t else declares_list t
+
 -- it has such a declarator at the other place
 abbrev pub is_unused : VariableSet → Tree → Trees → ℕ → ℕ → Bool
-is_unused W o ts i j = declares_list (child_or_absent ts i) && is_unused_declarator (is_free_at ts i) W (list_at ts i) j o ts i
+is_unused W o ts i j = may_declare o (child_or_absent ts i) && is_unused_declarator (is_free_at ts i) W (list_at ts i) j o ts i
 
 -- the place of one in a list, or there is none
 abbrev pub UnusedIn : Bool → VariableSet → Tree → Tree → Trees → ℕ → Option ℕ → Type 0
@@ -177,6 +186,10 @@ is_static_block t = is_static_shape (shape_of t) && (are_no_names (names_of t) &
 -- either
 abbrev pub holds_list : Tree → Bool
 holds_list t = is_module t || is_static_block t
+
+-- or a block, as one of a `try`
+abbrev pub holds_statements : Tree → Bool
+holds_statements t = is_block t || holds_list t
 
 -- a switch over a list of cases
 abbrev pub is_switch_shape : Shape → Bool

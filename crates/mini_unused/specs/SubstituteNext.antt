@@ -7,7 +7,7 @@ use Rattle.mini_laws.specs.Value.{VariableSet}
 use Rattle.mini_node.specs.Children.{names_of, like, part, with_part, without, first_children, rest_children}
 use Rattle.mini_rows.specs.Unused.{names, any_names, is_first, may_move, put_first, are_passed}
 pub use Rattle.mini_rows.specs.Unused.{is_declarator}
-use Rattle.mini_unused.specs.RemoveUnusedDeclaration.{declares_name, declares_list, may_lose, is_free_at, list_at}
+use Rattle.mini_unused.specs.RemoveUnusedDeclaration.{declares_name, may_declare, may_lose, is_free_at, list_at}
 
 -- an expression reads it, after parts that pass the initializer r
 abbrev pub reads_in : Name → Tree → Tree → Bool
@@ -40,7 +40,7 @@ is_read_by_next free W l j o ts i = is_read_by free W (part l j) (part l (suc j)
 
 -- the statement at the place is a declaration, whose declarator at the other place is such a one
 abbrev pub is_next : VariableSet → Tree → Trees → ℕ → ℕ → Bool
-is_next W o ts i j = declares_list (child_or_absent ts i) && is_read_by_next (is_free_at ts i) W (list_at ts i) j o ts i
+is_next W o ts i j = may_declare o (child_or_absent ts i) && is_read_by_next (is_free_at ts i) W (list_at ts i) j o ts i
 
 -- the place of one in a list, or there is none
 abbrev pub NextIn : Bool → VariableSet → Tree → Tree → Trees → ℕ → Option ℕ → Type 0

@@ -11,10 +11,11 @@ use Rattle.mini_laws.specs.Value.{VariableSet}
 use Rattle.mini_node.specs.Children.{names_of, part, with_part, is_bare, is_nameless, first_children, rest_children}
 use Rattle.mini_terms.specs.Folds.{is_effect_free}
 use Rattle.mini_rows.specs.SpellKeys.{is_proto}
+use Rattle.mini_rows.specs.declared.gathered.Gathered.{Gathered}
 use Rattle.mini_rows.specs.Unused.{names, any_names, leads, in_full, may_hold, is_constant, is_head_shape, may_move, passes_at, is_sure, is_placed, suits, are_passed, reads_head, evaluated}
 use Rattle.mini_unused.specs.Chains.{Several}
 use Rattle.mini_unused.specs.SubstituteNext.{put_named, NextAt, NextGone}
-use Rattle.mini_unused.specs.RemoveUnusedDeclaration.{declares_name, declares_list, may_lose, is_free_at, list_at, let_left, list_left, UnusedAt}
+use Rattle.mini_unused.specs.RemoveUnusedDeclaration.{declares_name, may_declare, may_lose, is_free_at, list_at, let_left, list_left, UnusedAt}
 
 -- the place of the first of some nodes that mentions the name, or how many they are
 abbrev pub mention_place : Name → Trees → ℕ
@@ -35,17 +36,17 @@ abbrev pub may_lead : Bool → Tree → ℕ → Bool
 may_lead in_list t i = leads in_list (shape_of t) i (part t i) && may_hold t
 
 -- each of them, from a place of such a shape on, may be evaluated before r
-abbrev pub all_pass : Bool → Tree → Shape → ℕ → Trees → Bool
+abbrev pub all_pass : Gathered → Tree → Shape → ℕ → Trees → Bool
 all_pass m r h i none = true
 all_pass m r h i (t ▸ ts) = passes_at m r h i t && all_pass m r h (suc i) ts
 
 -- the part at the place is evaluated whatever those before it are, or r is a constant or has no effect
-abbrev pub is_reached_at : Bool → Tree → Shape → ℕ → Bool
+abbrev pub is_reached_at : Gathered → Tree → Shape → ℕ → Bool
 is_reached_at m r h zero = is_constant r || is_placed m (is_effect_free r) h
 is_reached_at m r h (suc i) = is_constant r || (is_placed m (is_effect_free r) h && is_sure (is_effect_free r) h)
 
 -- so it is, those before it may be evaluated before r, and r may stand there
-abbrev pub may_reach : Name → Bool → Tree → Tree → ℕ → Bool
+abbrev pub may_reach : Name → Gathered → Tree → Tree → ℕ → Bool
 may_reach x m r t i = suits x r (shape_of t) (children t) && (is_reached_at m r (shape_of t) i && all_pass m r (shape_of t) 0 (first_children i (children t)))
 
 -- a statement that evaluates its first part before all else
@@ -89,7 +90,7 @@ is_single_declarator free W l j o ts i = declares_name (part l j) && (may_lose f
 
 -- the statement at the place is a declaration, whose last declarator is such a one
 abbrev pub is_single : VariableSet → Tree → Trees → ℕ → Bool
-is_single W o ts i = declares_list (child_or_absent ts i) && is_single_declarator (is_free_at ts i) W (list_at ts i) (last_place (children (list_at ts i))) o ts i
+is_single W o ts i = may_declare o (child_or_absent ts i) && is_single_declarator (is_free_at ts i) W (list_at ts i) (last_place (children (list_at ts i))) o ts i
 
 -- the place of such a statement, or there is none
 abbrev pub SingleAt : VariableSet → Tree → Trees → Option ℕ → Type 0

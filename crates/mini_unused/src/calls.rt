@@ -10,7 +10,7 @@ ghost use Rattle.mini_unused.specs.Calls as row;
 ghost use Rattle.mini_unused.specs.RemoveUnusedDeclaration.{list_at, marked, open_in};
 ghost use Rattle.mini_unused.specs.RemoveUnusedName.{switches_of, Applied};
 
-use crate::declarations::{declares_list, declares_name, is_alone, is_lexical, may_lose};
+use crate::declarations::{declares_name, is_alone, is_lexical, may_declare, may_lose};
 use crate::declares::declares_nothing;
 use crate::evals::either_has_eval;
 use crate::names::remove_unused_name;
@@ -95,6 +95,7 @@ fn goes_alone(
 
 /// Whether 72 would take the declarator at the second place of the declaration at the first, in a list of statements with what stands outside of
 /// them, if it stood in a declaration of its own: of `let x = a(), y = b(); c(y);` it would take `x = a()`, which leaves `a();`.
+/// Where a list stands outside of them, as that of the nodes above a list further inside a body, it takes those of `var`s alone.
 pub fn should_remove_unused_declarator(
     outside: &Node,
     list: &Node,
@@ -109,7 +110,7 @@ pub fn should_remove_unused_declarator(
     ensures { result ≡ row.should_go (open_in outside.now (marked scopes.now)) outside.now list.now at which }
 {
     let statement = list.child(at);
-    if !declares_list(statement) {
+    if !may_declare(outside, statement) {
         return false;
     }
     let is_free = is_lexical(statement.shape());
@@ -125,8 +126,8 @@ pub fn should_remove_unused_declarator(
     ) && !either_has_eval(outside, list)
 }
 
-/// Of a list of statements with what stands outside of them, `let x = a(), y = x.b;` becomes `let y = a().b;`, for the first such name. The
-/// answer says whether there was one.
+/// Of a list of statements with what stands outside of them, `let x = a(), y = x.b;` becomes `let y = a().b;`, for the first such name; where
+/// a list stands outside, of a `var` alone. The answer says whether there was one.
 pub fn substitute_within(outside: &Node, list: &mut Node, scopes: &Scopes) -> bool
     requires { is_it_listed list.old ≡ true }
     ensures { row.Within (open_in outside.now (marked scopes.now)) outside.now list.old list.new result }

@@ -1,6 +1,6 @@
 //! Row 72: `{ let x = a(); b(); }` becomes `{ a(); b(); }`, and `{ let x = 1, y = b(); c(y); }` becomes `{ let y = b(); c(y); }`,
-//! where nothing else in the block has x's spelling or its symbol and no direct eval stands there. So do the statements of a function,
-//! wherever it stands, of a module, and of a static block, and there each `var`, too, whose name can be written, and so do the cases of a
+//! where nothing else in the block has x's spelling or its symbol and no direct eval stands there. So do the blocks of a `try`, and the
+//! statements of a function, wherever it stands, of a module, and of a static block, and there each `var`, too, whose name can be written, and so do the cases of a
 //! switch. It is lighter in every place.
 
 ghost use Rattle.std.specs.Prelude.{◌≡◌, ◌+◌, ◌<◌, ◌^◌, true, IfOk, OnOk};
@@ -14,7 +14,7 @@ ghost use Rattle.mini_node.specs.Kinds.{is_listed as is_it_listed};
 ghost use Rattle.mini_rows.specs.Unused.{is_idle as is_it_idle};
 ghost use Rattle.mini_unused.specs.Lighter.{unused_is_lighter};
 ghost use Rattle.mini_unused.specs.RemoveUnusedDeclaration as row;
-ghost use Rattle.mini_unused.specs.RemoveUnusedDeclaration.{declares_name as it_declares_name, declares_list as it_declares_list, is_lexical_shape, is_free_at, let_left, marked, open_in, case_at, with_statements, UnusedIn, UnusedOf, UnusedAt, Applied, AppliedInCase, AppliedInCases, AppliedInFunction, AppliedInHead, IdleDropped, Gives, Rests};
+ghost use Rattle.mini_unused.specs.RemoveUnusedDeclaration.{declares_name as it_declares_name, declares_list as it_declares_list, is_lexical_shape, is_var as is_it_var, may_declare as may_it_declare, is_free_at, let_left, marked, open_in, case_at, with_statements, UnusedIn, UnusedOf, UnusedAt, Applied, AppliedInCase, AppliedInCases, AppliedInFunction, AppliedInHead, IdleDropped, Gives, Rests};
 ghost use Rattle.mini_unused.specs.SubstituteSingleUse.{Removed};
 
 use crate::declares::declares_nothing;
@@ -87,6 +87,28 @@ pub fn is_lexical(shape: &Shape) -> bool
     match shape {
         Shape::VariableDeclaration(kind) => is_lexical_kind(*kind),
         _ => false,
+    }
+}
+
+/// A `var`, with its list of declarators.
+pub fn is_var(node: &Node) -> bool
+    ensures kind { result ≡ is_it_var node.now }
+    ensures list { result ≡ true → count (children node.now) ≡ 1 }
+{
+    declares_list(node) && !is_lexical(node.shape())
+}
+
+/// A declaration from which names may go: where what stands outside of the statements is a list, as that of the nodes above a list further
+/// inside a body, these are `var`s alone.
+pub fn may_declare(outside: &Node, node: &Node) -> bool
+    ensures kind { result ≡ may_it_declare outside.now node.now }
+    ensures declares { result ≡ true → it_declares_list node.now ≡ true }
+    ensures list { result ≡ true → count (children node.now) ≡ 1 }
+{
+    if matches!(outside.shape(), Shape::Listed) {
+        is_var(node)
+    } else {
+        declares_list(node)
     }
 }
 
@@ -240,7 +262,7 @@ pub fn unused_of(outside: &Node, statements: &Nodes, at: usize, scopes: &Scopes)
     ensures { UnusedOf (open_in outside.now (marked scopes.now)) outside.now statements.now at result }
 {
     let statement = statements.child(at);
-    if !declares_list(statement) {
+    if !may_declare(outside, statement) {
         return None;
     }
     let is_free = is_lexical(statement.shape());
@@ -331,7 +353,7 @@ pub fn drop_in_list(
 }
 
 // Of a list of statements, with what stands outside of them, each name goes that nothing else mentions, or that is read once, from the
-// first of them on. The answer says whether one did.
+// first of them on: where that is a list itself, the names of `var`s alone. The answer says whether one did.
 pub fn remove_in_list(
     alloc: Global,
     outside: &Node,
@@ -691,8 +713,16 @@ pub fn holds_list(node: &Node) -> bool
     is_module(node) || is_static_block(node)
 }
 
-/// Of a module, as `import "a"; const x = f(); g();`, in which nothing else mentions x, of a static block of a class, and of a function
-/// that is exported. The answer says whether a name went; the only error is that memory runs out.
+// Either, or a block, as one of a `try`.
+fn holds_statements(node: &Node) -> bool
+    ensures kind { result ≡ row.holds_statements node.now }
+    ensures parts { result ≡ true → count (children node.now) ≡ 1 }
+{
+    is_block(node) || holds_list(node)
+}
+
+/// Of a module, as `import "a"; const x = f(); g();`, in which nothing else mentions x, of a static block of a class, of each block of a
+/// `try`, and of a function that is exported. The answer says whether a name went; the only error is that memory runs out.
 #[tactic(auto, using(crate::proofs::Unused::same_parts, crate::proofs::Unused::part_twice))]
 pub fn remove_unused_in_module(
     alloc: Global,
@@ -701,7 +731,7 @@ pub fn remove_unused_in_module(
 ) -> Result<bool, OutOfMemory>
     ensures { IfOk result (λ changed. Applied (marked scopes.now) Elsewhere node.old node.new changed) }
 {
-    if !holds_list(node) {
+    if !holds_statements(node) {
         return remove_unused_in_function(alloc, node, scopes);
     }
     let mut list = take_child(node, 0);
@@ -710,7 +740,7 @@ pub fn remove_unused_in_module(
     changed
 }
 
-/// Rows 71 and 72 as a rule: of each block and each switch, of each function with statements, of each static block, and of a module. Its context says which names the program
+/// Rows 71 and 72 as a rule: of each block, those of a `try` among them, and each switch, of each function with statements, of each static block, and of a module. Its context says which names the program
 /// that it knows lets be written.
 pub struct RemoveUnusedDeclarations;
 

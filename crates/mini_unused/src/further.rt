@@ -6,16 +6,15 @@ ghost use Rattle.mini_laws.specs.ScopeList.{has_eval};
 ghost use Rattle.mini_node.specs.Children.{is_nameless, part};
 ghost use Rattle.mini_node.specs.Kinds.{is_listed as is_it_listed};
 ghost use Rattle.mini_rows.specs.declared.inside.Way.TheVariants as way;
-ghost use Rattle.mini_unused.specs.Further.{HereWalked, BelowWalked, WalkedAt, ChildWalked, Walked, HeadingFound, is_plain, is_var as is_it_var};
-ghost use Rattle.mini_unused.specs.RemoveUnusedDeclaration.{is_idle_at as is_it_idle_at, marked, open_in};
+ghost use Rattle.mini_unused.specs.Further.{HereWalked, BelowWalked, WalkedAt, ChildWalked, Walked, HeadingFound};
+ghost use Rattle.mini_unused.specs.RemoveUnusedDeclaration.{is_idle_at as is_it_idle_at, is_var as is_it_var, marked, open_in};
 
 use crate::declarations::{
-    declares_list, drop_from_head, is_idle_at, is_lexical, put_child, remove_in_list, take_child,
-    unused_of,
+    drop_from_head, is_idle_at, is_var, put_child, remove_in_list, take_child, unused_of,
 };
 use crate::evals::either_has_eval;
 use crate::stack::{pop_above, push_above};
-use crate::ways::{has_lexical, way_in};
+use crate::ways::way_in;
 use mini_context::Scopes;
 use mini_model::OutOfMemory;
 use mini_node::{Node, discard, is_listed, listed, of_one, one, taken};
@@ -23,23 +22,8 @@ use mini_rows::Way;
 use std::alloc::Global;
 use std::mem;
 
-// A list of statements in which no `let` and no `const` stands.
-fn is_plain_list(node: &Node) -> bool
-    ensures { result ≡ is_plain node.now }
-{
-    is_listed(node) && !has_lexical(node)
-}
-
-// A `var`, with its list of declarators.
-fn is_var(node: &Node) -> bool
-    ensures kind { result ≡ is_it_var node.now }
-    ensures list { result ≡ true → count (children node.now) ≡ 1 }
-{
-    declares_list(node) && !is_lexical(node.shape())
-}
-
-// In such a list.
-fn remove_in_plain_list(
+// In a list of statements.
+fn remove_in_statements(
     alloc: Global,
     above: &Node,
     node: &mut Node,
@@ -48,7 +32,7 @@ fn remove_in_plain_list(
     requires { is_it_listed above.now ≡ true }
     ensures { IfOk result (λ changed. HereWalked (marked scopes.now) (children above.now) way.Statements node.old node.new changed) }
 {
-    if !is_plain_list(node) {
+    if !is_listed(node) {
         return Ok(false);
     }
     remove_in_list(alloc, above, node, scopes)
@@ -155,7 +139,7 @@ fn remove_here(
     ensures { IfOk result (λ changed. HereWalked (marked scopes.now) (children above.now) way node.old node.new changed) }
 {
     match way {
-        Way::Statements => remove_in_plain_list(alloc, above, node, scopes),
+        Way::Statements => remove_in_statements(alloc, above, node, scopes),
         Way::Held => remove_held(alloc, above, node, scopes),
         Way::Head => remove_in_heading(alloc, above, node, scopes),
         Way::Statement | Way::Cases | Way::Case | Way::Catch => Ok(false),

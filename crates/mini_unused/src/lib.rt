@@ -36,8 +36,8 @@ pub use mentions::{is_mentioned, is_mentioned_before, is_mentioned_from};
 pub use names::{RemoveUnusedNames, remove_unused_name};
 pub use next_uses::{is_declarator, is_mentioned_beside, is_mentioned_elsewhere, substitute_next};
 pub use single_uses::{
-    entries_below, evaluated, is_childless, is_constant, is_declared_over, is_field, is_first,
+    evaluated, gathered_below, is_childless, is_constant, is_declared_over, is_field, is_first,
     is_member, is_mentioned_around, is_plain_assignment, is_word, last_declarator, may_move,
-    reads_head, substitute_in_list, substitute_single_uses, suits,
+    of_entries, reads_head, substitute_in_list, substitute_single_uses, suits,
 };
 pub use sweeping::{declarators_at, has_next};

@@ -12,7 +12,7 @@ ghost use Rattle.mini_unused.specs.SubstituteNext.{NextIn, NextOf, NextAt};
 ghost use Rattle.mini_unused.specs.SubstituteSingleUse.{Removed, SingleAt};
 
 use crate::declarations::{
-    declares_list, declares_name, is_lexical, may_lose, put_child, take_child,
+    declares_name, is_lexical, may_declare, may_lose, put_child, take_child,
 };
 use crate::evals::either_has_eval;
 use crate::mentions::{is_mentioned, is_mentioned_before, is_mentioned_from};
@@ -191,7 +191,7 @@ fn next_of(outside: &Node, statements: &Nodes, at: usize, scopes: &Scopes) -> Op
     ensures { NextOf (open_in outside.now (marked scopes.now)) outside.now statements.now at result }
 {
     let statement = statements.child(at);
-    if !declares_list(statement) {
+    if !may_declare(outside, statement) {
         return None;
     }
     let is_free = is_lexical(statement.shape());

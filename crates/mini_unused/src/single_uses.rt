@@ -16,7 +16,8 @@ ghost use Rattle.mini_unused.specs.SubstituteSingleUse.{declaration_left, Single
 
 use crate::calm::is_calm;
 use crate::declarations::{
-    declares_list, declares_name, is_lexical, may_lose, put_child, take_child, take_declarator,
+    declares_list, declares_name, is_lexical, may_declare, may_lose, put_child, take_child,
+    take_declarator,
 };
 use crate::declares::is_bare_var;
 use crate::evals::{either_has_eval, is_eval_callee, is_eval_name};
@@ -26,7 +27,10 @@ use crate::sweeping::sweep;
 use mini_context::Scopes;
 use mini_model::{AssignmentOperator, Name, OutOfMemory, PropertyKind, Shape, UnaryOperator};
 use mini_node::{Node, Nodes, discard, empty_statement, is_absent_part, is_identifier, two};
-use mini_terms::{is_effect_free, is_item, is_plain_part, is_typed_by_value, stands};
+use mini_rows::Gathered;
+use mini_terms::{
+    is_effect_free, is_item, is_plain_part, is_primitive, is_typed_by_value, kind_of, stands,
+};
 use std::alloc::Global;
 
 // The units of `__proto__`.
@@ -74,6 +78,7 @@ fn goes_on(shape: &Shape) -> bool
             | Shape::CallExpression(false)
             | Shape::NewExpression
             | Shape::ComputedMemberExpression(false)
+            | Shape::TemplateLiteral
     )
 }
 
@@ -141,7 +146,10 @@ fn begins_list(shape: &Shape) -> bool
 fn has_arguments(shape: &Shape) -> bool
     ensures { result ≡ reading.has_arguments shape.now }
 {
-    matches!(shape, Shape::CallExpression(_) | Shape::NewExpression)
+    matches!(
+        shape,
+        Shape::CallExpression(_) | Shape::NewExpression | Shape::TemplateLiteral
+    )
 }
 
 // The part at the place is one.
@@ -396,33 +404,55 @@ pub fn is_field(node: &Node) -> bool
     ) && (node.is_bare(2) && is_word(node.child(0).shape()))
 }
 
-// So may an item of a list, of which an entry is asked or isn't: of a property its value.
-fn passes_item(of_entries: bool, init: &Node, node: &Node) -> bool
-    ensures { result ≡ reading.passes_item of_entries init.now node.now }
+/// Entries are.
+pub fn of_entries(gathered: Gathered) -> bool
+    ensures { result ≡ reading.of_entries gathered }
 {
-    passes(init, node) || (of_entries && (is_field(node) && passes(init, node.child(1))))
+    matches!(gathered, Gathered::Entries)
+}
+
+// So may what is converted to a text: of a primitive value that runs nothing, and doesn't throw.
+fn passes_text(init: &Node, node: &Node) -> bool
+    ensures { result ≡ reading.passes_text init.now node.now }
+{
+    is_constant(init) || (passes(init, node) && is_primitive(kind_of(node)))
+}
+
+// So may an item of a list, by what is gathered: where entries are, of a property its value.
+#[tactic(auto, using(crate::proofs::SingleUses::values_pass))]
+fn passes_item(gathered: Gathered, init: &Node, node: &Node) -> bool
+    ensures { result ≡ reading.passes_item gathered init.now node.now }
+{
+    match gathered {
+        Gathered::Texts => passes_text(init, node),
+        Gathered::Values => passes(init, node),
+        Gathered::Entries => {
+            passes(init, node) || (is_field(node) && passes(init, node.child(1)))
+        }
+    }
 }
 
 // So may what stands before the read, at a place of such a shape.
-fn passes_at(of_entries: bool, init: &Node, shape: &Shape, at: usize, node: &Node) -> bool
-    ensures { result ≡ reading.passes_at of_entries init.now shape.now at node.now }
+fn passes_at(gathered: Gathered, init: &Node, shape: &Shape, at: usize, node: &Node) -> bool
+    ensures { result ≡ reading.passes_at gathered init.now shape.now at node.now }
 {
     match shape {
         Shape::AssignmentExpression(operator) => passes_target(init, operator, node),
         Shape::ConditionalExpression => passes_branch(init, at, node),
         Shape::ObjectProperty(_, _, _, is_computed) => passes_key(init, *is_computed, node),
-        Shape::Listed => passes_item(of_entries, init, node),
+        Shape::Listed => passes_item(gathered, init, node),
+        Shape::TemplateLiteral => true,
         _ => passes(init, node),
     }
 }
 
 // So may each of those before the place.
-fn all_pass(of_entries: bool, init: &Node, shape: &Shape, nodes: &Nodes, end: usize) -> bool
+fn all_pass(gathered: Gathered, init: &Node, shape: &Shape, nodes: &Nodes, end: usize) -> bool
     requires { end ≤ count nodes.now }
-    ensures { result ≡ row.all_pass of_entries init.now shape.now 0 (first_children end nodes.now) }
+    ensures { result ≡ row.all_pass gathered init.now shape.now 0 (first_children end nodes.now) }
 {
     for at in 0..end {
-        if !passes_at(of_entries, init, shape, at, nodes.child(at)) {
+        if !passes_at(gathered, init, shape, at, nodes.child(at)) {
             return false;
         }
     }
@@ -447,12 +477,12 @@ fn is_sure(init: &Node, shape: &Shape) -> bool
 }
 
 // A property and what is spread stand where an entry is asked, or the initializer has no effect.
-fn is_placed(of_entries: bool, init: &Node, shape: &Shape) -> bool
-    ensures { result ≡ reading.is_placed of_entries (is_it_effect_free init.now) shape.now }
+fn is_placed(gathered: Gathered, init: &Node, shape: &Shape) -> bool
+    ensures { result ≡ reading.is_placed gathered (is_it_effect_free init.now) shape.now }
 {
     match shape {
         Shape::ObjectProperty(_, _, _, _) | Shape::SpreadElement => {
-            of_entries || is_effect_free(init, true)
+            of_entries(gathered) || is_effect_free(init, true)
         }
         _ => true,
     }
@@ -460,13 +490,13 @@ fn is_placed(of_entries: bool, init: &Node, shape: &Shape) -> bool
 
 // The part at the place is evaluated whatever those before it are, or the initializer is a constant or has no effect.
 #[tactic(auto, using(crate::proofs::SingleUses::reached_further))]
-fn is_reached(of_entries: bool, init: &Node, shape: &Shape, at: usize) -> bool
-    ensures { result ≡ row.is_reached_at of_entries init.now shape.now at }
+fn is_reached(gathered: Gathered, init: &Node, shape: &Shape, at: usize) -> bool
+    ensures { result ≡ row.is_reached_at gathered init.now shape.now at }
 {
     if at == 0 {
-        return is_constant(init) || is_placed(of_entries, init, shape);
+        return is_constant(init) || is_placed(gathered, init, shape);
     }
-    is_constant(init) || (is_placed(of_entries, init, shape) && is_sure(init, shape))
+    is_constant(init) || (is_placed(gathered, init, shape) && is_sure(init, shape))
 }
 
 fn is_number(shape: &Shape) -> bool
@@ -529,47 +559,69 @@ pub fn suits(name: &Name, init: &Node, node: &Node) -> bool
 }
 
 // The part at the place is reached, those before it may be evaluated before the initializer, which may stand there.
-fn may_reach(name: &Name, of_entries: bool, init: &Node, node: &Node, at: usize) -> bool
+fn may_reach(name: &Name, gathered: Gathered, init: &Node, node: &Node, at: usize) -> bool
     requires { at ≤ count (children node.now) }
-    ensures { result ≡ row.may_reach name.now of_entries init.now node.now at }
+    ensures { result ≡ row.may_reach name.now gathered init.now node.now at }
 {
     suits(name, init, node)
-        && (is_reached(of_entries, init, node.shape(), at)
-            && all_pass(of_entries, init, node.shape(), node.children(), at))
+        && (is_reached(gathered, init, node.shape(), at)
+            && all_pass(gathered, init, node.shape(), node.children(), at))
 }
 
-// What asks the part at the place for entries: an array and an object, and a call and `new` for their arguments.
-#[tactic(auto, using(crate::proofs::SingleUses::entries_further))]
-fn holds_entries(shape: &Shape, at: usize) -> bool
-    ensures { result ≡ reading.holds_entries shape.now at }
+// What is gathered from the first part: an array and an object ask it for entries.
+fn gathered_first(shape: &Shape) -> Gathered
+    ensures { result ≡ reading.gathered_by shape.now 0 }
+{
+    match shape {
+        Shape::ArrayExpression | Shape::ObjectExpression => Gathered::Entries,
+        _ => Gathered::Values,
+    }
+}
+
+// And from the second: a call and `new` ask for entries, too, and a template for texts.
+fn gathered_second(shape: &Shape) -> Gathered
+    ensures { result ≡ reading.gathered_by shape.now 1 }
+{
+    match shape {
+        Shape::ArrayExpression
+        | Shape::ObjectExpression
+        | Shape::CallExpression(_)
+        | Shape::NewExpression => Gathered::Entries,
+        Shape::TemplateLiteral => Gathered::Texts,
+        _ => Gathered::Values,
+    }
+}
+
+// What is asked of the part at the place.
+#[tactic(auto, using(crate::proofs::SingleUses::gathered_further))]
+fn gathered_by(shape: &Shape, at: usize) -> Gathered
+    ensures { result ≡ reading.gathered_by shape.now at }
 {
     if at == 0 {
-        return matches!(shape, Shape::ArrayExpression | Shape::ObjectExpression);
+        return gathered_first(shape);
     }
-    matches!(
-        shape,
-        Shape::ArrayExpression
-            | Shape::ObjectExpression
-            | Shape::CallExpression(_)
-            | Shape::NewExpression
-    )
+    gathered_second(shape)
 }
 
-/// So does a list of which they are asked.
-pub fn entries_below(of_entries: bool, shape: &Shape, at: usize) -> bool
-    ensures { result ≡ reading.entries_below of_entries shape.now at }
+/// A list asks its items for what it is asked itself.
+pub fn gathered_below(gathered: Gathered, shape: &Shape, at: usize) -> Gathered
+    ensures { result ≡ reading.gathered_below gathered shape.now at }
 {
-    holds_entries(shape, at) || (of_entries && is_listed_shape(shape))
+    if is_listed_shape(shape) {
+        gathered
+    } else {
+        gathered_by(shape, at)
+    }
 }
 
 // Each part that is evaluated before the variable is read may be evaluated before the initializer, the read is reached whatever they
 // are, or nothing is lost where it isn't, and the initializer may stand in its place.
 #[tactic(auto, using(crate::proofs::SingleUses::smaller_at))]
-fn are_passed_in(name: &Name, of_entries: bool, init: &Node, node: &Node) -> bool
-    ensures { result ≡ reading.are_passed_in name.now of_entries init.now node.now }
+fn are_passed_in(name: &Name, gathered: Gathered, init: &Node, node: &Node) -> bool
+    ensures { result ≡ reading.are_passed_in name.now gathered init.now node.now }
 {
     let at = mention_place(name, node.children());
-    if !may_reach(name, of_entries, init, node, at) {
+    if !may_reach(name, gathered, init, node, at) {
         return false;
     }
     if at >= node.children().len() {
@@ -577,17 +629,17 @@ fn are_passed_in(name: &Name, of_entries: bool, init: &Node, node: &Node) -> boo
     }
     are_passed_in(
         name,
-        entries_below(of_entries, node.shape(), at),
+        gathered_below(gathered, node.shape(), at),
         init,
         node.child(at),
     )
 }
 
-/// Of which no entry is asked.
+/// Of which a value is asked.
 pub fn are_passed(name: &Name, init: &Node, node: &Node) -> bool
     ensures { result ≡ reading.are_passed name.now init.now node.now }
 {
-    are_passed_in(name, false, init, node)
+    are_passed_in(name, Gathered::Values, init, node)
 }
 
 /// An expression reads the variable, after parts that pass the initializer.
@@ -891,7 +943,7 @@ fn is_single(outside: &Node, statements: &Nodes, at: usize, scopes: &Scopes) -> 
     ensures declarators { result ≡ true → 0 < count (children (list_at statements.now at)) }
 {
     let statement = statements.child(at);
-    if !declares_list(statement) {
+    if !may_declare(outside, statement) {
         return false;
     }
     let list = statement.child(0);

@@ -14,7 +14,7 @@ ghost use Rattle.mini_unused.specs.Sweep.{may_go_at, may_move_at, Calm, Swept};
 ghost use Rattle.mini_unused.specs.Tallies.{Tallied};
 
 use crate::declarations::{
-    declares_list, declares_name, drop_in_list, is_alone, is_lexical, may_go, may_lose,
+    declares_list, declares_name, drop_in_list, is_alone, is_lexical, may_declare, may_go, may_lose,
 };
 use crate::next_uses::{is_declarator, is_read_then, substitute_next};
 use crate::single_uses::{is_read_once, last_declarator, may_move, reads_next, substitute_in_list};
@@ -86,7 +86,7 @@ fn is_unused_there(
     ensures { result ≡ true → UnusedOf (open_in outside.now (marked scopes.now)) outside.now statements.now at (Some which) }
 {
     let statement = statements.child(at);
-    if !declares_list(statement) {
+    if !may_declare(outside, statement) {
         return false;
     }
     let list = statement.child(0);
@@ -190,7 +190,7 @@ fn is_single_there(
     ensures list { result ≡ true → 0 < count (children (child_or_absent statements.now at)) }
 {
     let statement = statements.child(at);
-    if !declares_list(statement) {
+    if !may_declare(outside, statement) {
         return false;
     }
     let list = statement.child(0);
@@ -292,7 +292,7 @@ fn is_next_there(
     ensures { result ≡ true → NextOf (open_in outside.now (marked scopes.now)) outside.now statements.now at (Some which) }
 {
     let statement = statements.child(at);
-    if !declares_list(statement) {
+    if !may_declare(outside, statement) {
         return false;
     }
     let list = statement.child(0);

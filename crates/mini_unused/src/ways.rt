@@ -1,13 +1,10 @@
 //! What stands on the way to a `var` further inside.
 
 ghost use Rattle.std.specs.Prelude.{◌≡◌, Some, None, if◌then◌else◌};
-ghost use Rattle.mini_model.specs.Tree.{children};
-ghost use Rattle.mini_laws.specs.Naming.{is_lexical as is_it_lexical};
 ghost use Rattle.mini_node.specs.Kinds.{is_listed_shape};
 ghost use Rattle.mini_rows.specs.Inside as inside;
 
-use mini_model::{Shape, VariableDeclarationKind};
-use mini_node::Node;
+use mini_model::Shape;
 use mini_rows::Way;
 
 // One at a place.
@@ -113,35 +110,4 @@ pub fn way_in(way: Way, shape: &Shape, at: usize) -> Option<Way>
         Way::Catch => catch_way(shape, at),
         Way::Head => None,
     }
-}
-
-fn is_lexical_kind(kind: VariableDeclarationKind) -> bool
-    ensures { result ≡ is_it_lexical kind }
-{
-    match kind {
-        VariableDeclarationKind::Var => false,
-        VariableDeclarationKind::Let | VariableDeclarationKind::Const => true,
-    }
-}
-
-// A `let` or a `const`.
-fn is_lexical(shape: &Shape) -> bool
-    ensures { result ≡ inside.is_lexical_shape shape.now }
-{
-    match shape {
-        Shape::VariableDeclaration(kind) => is_lexical_kind(*kind),
-        _ => false,
-    }
-}
-
-/// Whether one stands in a list.
-pub fn has_lexical(list: &Node) -> bool
-    ensures { result ≡ inside.has_lexical (children list.now) }
-{
-    for at in 0..list.children().len() {
-        if is_lexical(list.child(at).shape()) {
-            return true;
-        }
-    }
-    false
 }

@@ -1,5 +1,5 @@
 //! Row 46, of what is read of a name that is assigned to in the test: `(x = a) == null ? void 0 : x.m` becomes `(x = a)?.m`, where x can
-//! be written. It is lighter in every seat.
+//! be written, and `0, (x = a)?.m` as a callee and under `delete`. It is lighter in every seat.
 
 ghost use Rattle.std.specs.Prelude.{◌≡◌, true, is_some, unwrap_or, OnOk, IfOk};
 ghost use Rattle.mini_model.specs.Tree.{children, count};
@@ -11,7 +11,7 @@ ghost use Rattle.mini_choices.specs.MinimizeNormalAssignmentToCombinedLogicalAss
 use crate::assigning::writes_name;
 use crate::forms::is_undefined;
 use crate::rewrites::inject_optional_chaining::{
-    chain_of_first, chain_of_last, is_calm, is_equal, is_eval, is_spine, is_unequal, reads_value,
+    chain_of_first, chain_of_last, is_calm, is_equal, is_eval, is_spine, is_unequal,
 };
 use mini_context::Scopes;
 use mini_model::{OutOfMemory, Seat};
@@ -46,28 +46,27 @@ fn reads_assigned(comparison: &Node, missing: &Node, read: &Node, scopes: &Scope
 }
 
 // `(x = a) == null ? void 0 : x.m`
-fn is_assigned_last(node: &Node, seat: Seat, scopes: &Scopes) -> bool
-    ensures { result ≡ row.is_assigned_last (marked scopes.now) seat node.now }
+fn is_assigned_last(node: &Node, scopes: &Scopes) -> bool
+    ensures { result ≡ row.is_assigned_last (marked scopes.now) node.now }
 {
     is_conditional(node)
-        && reads_value(seat)
         && is_equal(node.child(0))
         && reads_assigned(node.child(0), node.child(1), node.child(2), scopes)
 }
 
 // `(x = a) != null ? x.m : void 0`
-fn is_assigned_first(node: &Node, seat: Seat, scopes: &Scopes) -> bool
-    ensures { result ≡ row.is_assigned_first (marked scopes.now) seat node.now }
+fn is_assigned_first(node: &Node, scopes: &Scopes) -> bool
+    ensures { result ≡ row.is_assigned_first (marked scopes.now) node.now }
 {
     is_conditional(node)
-        && reads_value(seat)
         && is_unequal(node.child(0))
         && reads_assigned(node.child(0), node.child(2), node.child(1), scopes)
 }
 
 /// `(x = a) == null ? void 0 : x.m` becomes `(x = a)?.m`, and so do other members and calls over x, and `(x = a) != null ? x.m : void 0`,
-/// where the program mentions x as a name that can be written, and it isn't named `eval`. The answer says whether it did; the only error
-/// is that memory runs out, and then the expression is fit only to be dropped.
+/// where the program mentions x as a name that can be written, and it isn't named `eval`. As a callee and under `delete` the chain stands
+/// behind a `0`, so that its value is read. The answer says whether it did; the only error is that memory runs out, and then the expression
+/// is fit only to be dropped.
 pub fn inject_assigned_chaining(
     alloc: Global,
     node: &mut Node,
@@ -77,10 +76,10 @@ pub fn inject_assigned_chaining(
     ensures tree { OnOk result (node.new ≡ unwrap_or (written (marked scopes.now) seat node.old) node.old) }
     ensures said { IfOk result (λ changed. changed ≡ is_some (written (marked scopes.now) seat node.old)) }
 {
-    let made = if is_assigned_last(node, seat, scopes) {
-        chain_of_last(alloc, taken(alloc, node))?
-    } else if is_assigned_first(node, seat, scopes) {
-        chain_of_first(alloc, taken(alloc, node))?
+    let made = if is_assigned_last(node, scopes) {
+        chain_of_last(alloc, taken(alloc, node), seat.guard)?
+    } else if is_assigned_first(node, scopes) {
+        chain_of_first(alloc, taken(alloc, node), seat.guard)?
     } else {
         return Ok(false);
     };

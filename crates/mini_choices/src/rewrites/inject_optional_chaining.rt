@@ -1,11 +1,12 @@
-//! Row 46, of what is read of a name that may be null or undefined: `x == null ? void 0 : x.m` becomes `x?.m`, which is lighter in
-//! every seat.
+//! Row 46, of what is read of a name that may be null or undefined: `x == null ? void 0 : x.m` becomes `x?.m`, and `0, x?.m` as a callee and
+//! under `delete`, which is lighter in every seat.
 
 ghost use Rattle.std.specs.Prelude.{◌≡◌, true, is_some, unwrap_or, OnOk, IfOk};
 ghost use Rattle.mini_model.specs.Tree.{children, count, shape_of};
 ghost use Rattle.mini_node.specs.Children.{names, part};
 ghost use Rattle.mini_node.specs.Kinds.{binary_operator as its_operator};
-ghost use Rattle.mini_rows.specs.Chains.{reads_value as its_value_is_read, is_closed_shape, is_open_shape, is_word_shape, is_calm as is_it_calm, are_calm as are_they_calm, chain as chain_of};
+ghost use Rattle.mini_terms.specs.Exact.{kept_by_value};
+ghost use Rattle.mini_rows.specs.Chains.{is_closed_shape, is_open_shape, is_word_shape, is_calm as is_it_calm, are_calm as are_they_calm, chain as chain_of};
 ghost use Rattle.mini_choices.specs.MinimizeConditionalBranches.{is_equal_in, is_unequal_in};
 ghost use Rattle.mini_choices.specs.InjectOptionalChaining.{is_link as is_it_link, is_spine as is_it_spine, opened as opened_shape, optional_over as optional_over_it, chained, is_eval as is_it_eval, asks_name as it_asks_name, reads_name as it_reads_name, is_read_last as is_it_read_last, is_read_first as is_it_read_first, written};
 
@@ -16,6 +17,7 @@ use mini_node::{
     Node, Nodes, binary_operator, discard, is_call_expression, is_computed_member, is_conditional,
     is_identifier, is_null, is_same_tree, is_static_member, of_one, one, taken, three,
 };
+use mini_terms::preserve_indirect_access_if_needed;
 use std::alloc::Global;
 
 // The units of `eval`.
@@ -201,13 +203,6 @@ fn reads_name(comparison: &Node, missing: &Node, read: &Node) -> bool
     asks_name(comparison) && is_undefined(missing) && is_spine(comparison.child(0), read)
 }
 
-/// Whether a chain is asked for its value in the seat: not as a callee or under `delete`.
-pub fn reads_value(seat: Seat) -> bool
-    ensures { result ≡ its_value_is_read seat.guard }
-{
-    matches!(seat.guard, Guard::None | Guard::Typeof)
-}
-
 /// `a == b`
 pub fn is_equal(node: &Node) -> bool
     ensures kind { result ≡ is_equal_in (its_operator node.now) }
@@ -231,21 +226,19 @@ pub fn is_unequal(node: &Node) -> bool
 }
 
 // `x == null ? void 0 : x.m`
-fn is_read_last(node: &Node, seat: Seat) -> bool
-    ensures kind { result ≡ is_it_read_last seat node.now }
+fn is_read_last(node: &Node) -> bool
+    ensures kind { result ≡ is_it_read_last node.now }
 {
     is_conditional(node)
-        && reads_value(seat)
         && is_equal(node.child(0))
         && reads_name(node.child(0), node.child(1), node.child(2))
 }
 
 // `x != null ? x.m : void 0`
-fn is_read_first(node: &Node, seat: Seat) -> bool
-    ensures kind { result ≡ is_it_read_first seat node.now }
+fn is_read_first(node: &Node) -> bool
+    ensures kind { result ≡ is_it_read_first node.now }
 {
     is_conditional(node)
-        && reads_value(seat)
         && is_unequal(node.child(0))
         && reads_name(node.child(0), node.child(2), node.child(1))
 }
@@ -258,27 +251,35 @@ fn chain(alloc: Global, test: Node, read: Node) -> Result<Node, OutOfMemory>
     Ok(Node::new(Shape::ChainExpression, of_one(alloc, links)?))
 }
 
-/// The chain of the alternate of a conditional, over what its test compares.
-pub fn chain_of_last(alloc: Global, node: Node) -> Result<Node, OutOfMemory>
-    ensures { IfOk result (λ w. w ≡ chained node (part node 2)) }
+// That chain, behind a `0` where a reference is asked.
+fn kept_chain(alloc: Global, test: Node, read: Node, guard: Guard) -> Result<Node, OutOfMemory>
+    ensures { IfOk result (λ w. w ≡ kept_by_value guard (chain_of (optional_over_it (part test 0) read))) }
+{
+    let made = chain(alloc, test, read)?;
+    preserve_indirect_access_if_needed(alloc, made, guard)
+}
+
+/// The chain of the alternate of a conditional, over what its test compares, behind a `0` where a reference is asked.
+pub fn chain_of_last(alloc: Global, node: Node, guard: Guard) -> Result<Node, OutOfMemory>
+    ensures { IfOk result (λ w. w ≡ kept_by_value guard (chained node (part node 2))) }
 {
     let (test, missing, read) = three(node);
     discard(missing);
-    chain(alloc, test, read)
+    kept_chain(alloc, test, read, guard)
 }
 
 /// That of the consequent.
-pub fn chain_of_first(alloc: Global, node: Node) -> Result<Node, OutOfMemory>
-    ensures { IfOk result (λ w. w ≡ chained node (part node 1)) }
+pub fn chain_of_first(alloc: Global, node: Node, guard: Guard) -> Result<Node, OutOfMemory>
+    ensures { IfOk result (λ w. w ≡ kept_by_value guard (chained node (part node 1))) }
 {
     let (test, read, missing) = three(node);
     discard(missing);
-    chain(alloc, test, read)
+    kept_chain(alloc, test, read, guard)
 }
 
 /// `x == null ? void 0 : x.m` becomes `x?.m`, and so do other members and calls over x, and `x != null ? x.m : void 0`; where a scope
-/// declares x, and it isn't named `eval`. The answer says whether it did; the only error is that memory runs out, and then the
-/// expression is fit only to be dropped.
+/// declares x, and it isn't named `eval`. As a callee and under `delete` the chain stands behind a `0`, so that its value is read. The answer
+/// says whether it did; the only error is that memory runs out, and then the expression is fit only to be dropped.
 pub fn inject_optional_chaining(
     alloc: Global,
     node: &mut Node,
@@ -287,10 +288,10 @@ pub fn inject_optional_chaining(
     ensures tree { OnOk result (node.new ≡ unwrap_or (written seat node.old) node.old) }
     ensures said { IfOk result (λ changed. changed ≡ is_some (written seat node.old)) }
 {
-    let made = if is_read_last(node, seat) {
-        chain_of_last(alloc, taken(alloc, node))?
-    } else if is_read_first(node, seat) {
-        chain_of_first(alloc, taken(alloc, node))?
+    let made = if is_read_last(node) {
+        chain_of_last(alloc, taken(alloc, node), seat.guard)?
+    } else if is_read_first(node) {
+        chain_of_first(alloc, taken(alloc, node), seat.guard)?
     } else {
         return Ok(false);
     };

@@ -18,6 +18,7 @@ use crate::rewrites::evaluate_both_sides::evaluate_both_sides;
 use crate::rewrites::fold_chain_expr::fold_chain_expr;
 use crate::rewrites::inject_optional_chaining::inject_optional_chaining;
 use crate::rewrites::minimize_conditional_branches::minimize_conditional_branches;
+use crate::rewrites::minimize_first_part::minimize_first_part;
 use crate::rewrites::minimize_held_branches::minimize_held_branches;
 use crate::rewrites::minimize_logical_expression::minimize_logical_expression;
 use crate::rewrites::minimize_logical_sequence::minimize_logical_sequence;
@@ -119,6 +120,7 @@ fn minimize_choice(alloc: Global, node: &mut Node, seat: Seat) -> Result<bool, O
         }
         Shape::ConditionalExpression => minimize_conditional(alloc, node, seat),
         Shape::ChainExpression => fold_chain_expr(alloc, node, seat),
+        Shape::SequenceExpression => minimize_first_part(alloc, node, seat),
         _ => Ok(false),
     }
 }

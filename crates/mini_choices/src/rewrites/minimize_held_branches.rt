@@ -24,8 +24,8 @@ fn has_two(children: &Nodes) -> bool
     children.len() == 2
 }
 
-// `b, c`
-fn is_pair(node: &Node) -> bool
+/// `b, c`
+pub fn is_pair(node: &Node) -> bool
     ensures kind { result ≡ is_it_pair node.now }
     ensures list { result ≡ true → count (children node.now) ≡ 1 }
     ensures parts { result ≡ true → count (children (part node.now 0)) ≡ 2 }

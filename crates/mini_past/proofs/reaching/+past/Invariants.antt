@@ -14,4 +14,4 @@ decreases-all_past g l = 2 * node_counts l.nodes.now + 1
 abbrev pub invariant-all_past-loop-place : goal.invariant-all_past-loop-place
 invariant-all_past-loop-place g l =
     let H = held_at (g.S.SteadyNames.sets l.fn.steady l.fn.body) l.fn.statements l.fn.at l.fn.declarators l.fn.which in
-    all_past H l.fn.name l.fn.of_entries l.fn.init l.fn.shape 0 l.fn.nodes ≡ all_past H l.fn.name l.fn.of_entries l.fn.init l.fn.shape l.place (rest_children l.place l.fn.nodes)
+    all_past H l.fn.name l.fn.gathered l.fn.init l.fn.shape 0 l.fn.nodes ≡ all_past H l.fn.name l.fn.gathered l.fn.init l.fn.shape l.place (rest_children l.place l.fn.nodes)

@@ -1,9 +1,6 @@
 use Rattle.std.proofs.Common.{sym}
 use Rattle.mini_model.specs.Tree.{children}
-use Rattle.mini_rows.specs.declared.inside.Way.TheVariants as way
-use Rattle.mini_unused.specs.RemoveUnusedDeclaration.{marked, open_in}
-use Rattle.mini_unused.specs.SubstituteSingleUse.{Removed}
-use Rattle.mini_unused.specs.Further.{HereWalked}
+use Rattle.mini_unused.specs.RemoveUnusedDeclaration.{marked}
 use Rattle.mini_unused.proofs.FurtherSteps.{held_by, no_held_here}
 use Rattle.mini_unused.proofs.further.remove_held.Goals as goal
 
@@ -11,4 +8,4 @@ pub returns-then-not-is_var : goal.returns-then-not-is_var
 returns-then-not-is_var c = no_held_here (marked c.args.scopes.now) (children c.args.above.now) c.args.node.now (sym c.if-not-is_var.ensures.kind)
 
 pub returns : goal.returns
-returns c = held_by (marked c.args.scopes.now) c.args.above.now c.args.node.now c.in_ok-list.list c.remove_in_list.new.list c.in_ok-changed.changed c.requires (sym c.if-not-is_var.ensures.kind) c.in_ok-list.ensures c.in_ok-changed.ensures c.put_first.new.node c.put_first.ensures
+returns c = held_by (marked c.args.scopes.now) c.args.above.now c.args.node.now c.in_ok-list.list c.remove_in_list.new.list c.in_ok-changed.changed c.requires c.in_ok-list.ensures c.in_ok-changed.ensures c.put_first.new.node c.put_first.ensures

@@ -6,7 +6,7 @@ use Rattle.mini_unused.specs.Further.{HereWalked}
 use Rattle.mini_unused.proofs.further.remove_here.Goals as goal
 
 pub returns-in-Statements : goal.returns-in-Statements
-returns-in-Statements c = subst (λ w. IfOk c.remove_in_plain_list.result (λ changed. HereWalked (marked c.args.scopes.now) (children c.args.above.now) w c.args.node.now c.remove_in_plain_list.new.node changed)) (sym c.in-Statements.is) c.remove_in_plain_list.ensures
+returns-in-Statements c = subst (λ w. IfOk c.remove_in_statements.result (λ changed. HereWalked (marked c.args.scopes.now) (children c.args.above.now) w c.args.node.now c.remove_in_statements.new.node changed)) (sym c.in-Statements.is) c.remove_in_statements.ensures
 
 pub returns-in-Held : goal.returns-in-Held
 returns-in-Held c = subst (λ w. IfOk c.remove_held.result (λ changed. HereWalked (marked c.args.scopes.now) (children c.args.above.now) w c.args.node.now c.remove_held.new.node changed)) (sym c.in-Held.is) c.remove_held.ensures

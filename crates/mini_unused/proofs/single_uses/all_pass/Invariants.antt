@@ -4,4 +4,4 @@ use Rattle.mini_unused.specs.SubstituteSingleUse.{all_pass}
 use Rattle.mini_unused.proofs.single_uses.all_pass.Given as goal
 
 abbrev pub invariant-loop-at : goal.invariant-loop-at
-invariant-loop-at l = all_pass l.fn.of_entries l.fn.init l.fn.shape 0 (first_children l.at l.fn.nodes) ≡ true
+invariant-loop-at l = all_pass l.fn.gathered l.fn.init l.fn.shape 0 (first_children l.at l.fn.nodes) ≡ true

@@ -2,12 +2,17 @@ use Rattle.std.proofs.Common.{subst, sym}
 use Rattle.mini_rows.specs.Steady.{SteadyRow}
 use Rattle.mini_steady.specs.Declarations.{known_of}
 use Rattle.mini_steady.specs.Own.{AppliedHere}
-use Rattle.mini_steady.proofs.MemberRows.{here_applied}
+use Rattle.mini_steady.proofs.IdleRows.{statement_applied}
 use Rattle.mini_steady.proofs.members.SteadyMembersOwnRewrites.rewrite.Goals as goal
 
-pub returns-in_ok-minimize_members-in-Expr : goal.returns-in_ok-minimize_members-in-Expr
-returns-in_ok-minimize_members-in-Expr g c =
-    let made = c.in_ok-minimize_members-in-Expr in
+pub returns-in_ok-minimize_expression-in-Expr : goal.returns-in_ok-minimize_expression-in-Expr
+returns-in_ok-minimize_expression-in-Expr g c =
+    let made = c.in_ok-minimize_expression-in-Expr in
     let V = known_of (g.S.SteadyNames.sets c.args.steady.now) c.args.body.now in
-    subst (λ p. AppliedHere (SteadyRow V) p c.args.node.now c.minimize_members.new.node made.field-0) (sym c.in-Expr.is)
-    (here_applied V c.in-Expr.seat c.args.node.now c.minimize_members.new.node made.field-0 made.ensures.tree made.ensures.said)
+    subst (λ p. AppliedHere (SteadyRow V) p c.args.node.now c.minimize_expression.new.node made.field-0) (sym c.in-Expr.is) made.ensures
+
+pub returns-in-Stmt : goal.returns-in-Stmt
+returns-in-Stmt g c =
+    let V = known_of (g.S.SteadyNames.sets c.args.steady.now) c.args.body.now in
+    let done = c.drop_idle_statement in
+    subst (λ p. AppliedHere (SteadyRow V) p c.args.node.now done.new.node done.result) (sym c.in-Stmt.is) (statement_applied V c.in-Stmt.field-0 c.args.node.now done.new.node done.result done.ensures.tree done.ensures.said)

@@ -6,10 +6,10 @@ use Rattle.mini_unused.specs.SubstituteSingleUse.{Removed}
 use Rattle.mini_unused.specs.Further.{HereWalked}
 use Rattle.mini_unused.proofs.FurtherSteps.{here_by, no_list_here}
 use Rattle.mini_unused.proofs.Holders.{where_ok}
-use Rattle.mini_unused.proofs.further.remove_in_plain_list.Goals as goal
+use Rattle.mini_unused.proofs.further.remove_in_statements.Goals as goal
 
-pub returns-then-not-is_plain_list : goal.returns-then-not-is_plain_list
-returns-then-not-is_plain_list c = no_list_here (marked c.args.scopes.now) (children c.args.above.now) c.args.node.now (sym c.if-not-is_plain_list.ensures)
+pub returns-then-not-is_listed : goal.returns-then-not-is_listed
+returns-then-not-is_listed c = no_list_here (marked c.args.scopes.now) (children c.args.above.now) c.args.node.now (sym c.if-not-is_listed.ensures)
 
 pub returns : goal.returns
 returns c =
@@ -17,4 +17,4 @@ returns c =
     let o = c.args.above.now in
     let t = c.args.node.now in
     let u = c.remove_in_list.new.list in
-    where_ok c.remove_in_list.result (λ changed. Removed (open_in o W) o t u changed) (λ changed. HereWalked W (children o) way.Statements t u changed) (λ changed r. here_by W o t u changed c.requires (sym c.if-not-is_plain_list.ensures) r) c.remove_in_list.ensures
+    where_ok c.remove_in_list.result (λ changed. Removed (open_in o W) o t u changed) (λ changed. HereWalked W (children o) way.Statements t u changed) (λ changed r. here_by W o t u changed c.requires (sym c.if-not-is_listed.ensures) r) c.remove_in_list.ensures

@@ -1,0 +1,266 @@
+-- What goes that has no effect where a body has its `this` is what a row says, and where nothing does no row reads the node.
+use Rattle.std.proofs.Common.{◌≡◌, ℕ, zero, suc, ◌<◌, ◌≤◌, Bool, true, false, Option, Some, None, [], refl, sym, ap, subst, ◌∙◌, inl, inr, true≢false, arith}
+use Rattle.std.specs.Prelude.{◌+◌, ◌&&◌, ◌||◌, nat_eq, nat_le, is_some, unwrap_or, if◌then◌else◌}
+use Rattle.std.proofs.lemmas.Bool.{and_parts, false≢true, le-leb, leb-true, eqb-true}
+use Rattle.mini_model.specs.declared.place.Position.TheVariants.{Expr, Stmt}
+use Rattle.mini_model.specs.declared.seat.Seat.{Seat}
+use Rattle.mini_model.specs.declared.seat.StmtSeat.{StmtSeat}
+use Rattle.mini_model.specs.declared.shape.Shape.TheVariants as shape
+use Rattle.mini_model.specs.Tree.{Tree, Trees, node, none, ◌▸◌, child_or_absent, children, count, empty_statement}
+use Rattle.mini_model.specs.Paths.{append}
+use Rattle.mini_kept.specs.Without.{Assured}
+use Rattle.mini_node.specs.Children.{first_children, part, rest_children, without}
+use Rattle.mini_node.specs.Kinds.{is_expression_statement, is_sequence, sequence}
+use Rattle.mini_node.specs.Made.{expression_statement_is, sequence_is}
+use Rattle.mini_node.specs.Walks.{from_first, next_child}
+use Rattle.mini_terms.specs.Parts.{suits}
+use Rattle.mini_rows.specs.Idle.{is_still, is_still_part, is_unframed, Row22This, Row22InitThis, Row22UpdateThis, Row21This, Row21AloneThis, IdleRow, IdleStatement}
+use Rattle.mini_rows.specs.Lists.{for_loop}
+use Rattle.mini_rows.specs.Sequences.{takes_alone}
+use Rattle.mini_rows.specs.Steady.{SteadyRow}
+use Rattle.mini_steady.specs.Chains.{once}
+use Rattle.mini_steady.specs.Idle.{does_nothing, is_for, begins_still, turns_still, headless, turn_written, head_written, statement_written, written_in, still_before_last, is_left, loses_part, Loses, LosesIn}
+use Rattle.mini_steady.specs.Members as members
+use Rattle.mini_steady.specs.Own.{AppliedHere}
+use Rattle.mini_steady.proofs.MemberRows.{members_are_rows, unwritten_rests}
+
+-- ---- 22
+
+for_is : (t : Tree) → is_for t ≡ true → t ≡ for_loop (part t 0) (part t 1) (part t 2) (part t 3)
+for_is (node shape.ForStatement [] zero (a ▸ (b ▸ (c ▸ (d ▸ none))))) e = refl
+for_is t e = absurd (false≢true e)
+
+module _ (V : Assured) (has : V.has_this ≡ true) (n : Tree) where
+  statement_row : does_nothing n ≡ true → IdleStatement V n empty_statement
+  statement_row h =
+      let (is, still) = and_parts (is_expression_statement n) (is_still (part n 0)) h in
+      inl (record { expression = part n 0; kept = has; still = still; shape = expression_statement_is n is; written = refl })
+
+  init_row : begins_still n ≡ true → IdleStatement V n (headless 0 n)
+  init_row h =
+      let (kind, still) = and_parts (is_for n) (is_still_part (part n 0)) h in
+      inr (inl (record { init = part n 0; test = part n 1; update = part n 2; body = part n 3; kept = has; still = still; shape = for_is n kind; written = ap (headless 0) (for_is n kind) }))
+
+  update_row : turns_still n ≡ true → IdleStatement V n (headless 2 n)
+  update_row h =
+      let (kind, still) = and_parts (is_for n) (is_still_part (part n 2)) h in
+      inr (inr (record { init = part n 0; test = part n 1; update = part n 2; body = part n 3; kept = has; still = still; shape = for_is n kind; written = ap (headless 2) (for_is n kind) }))
+
+-- one after another
+tried : (P : Tree → Type 0) (b : Bool) (made : Tree) (next : Option Tree) (w : Tree) → (b ≡ true → P made) → (next ≡ Some w → P w) → (if b then Some made else next) ≡ Some w → P w
+tried P true made next w f g e = let is : made ≡ w = cc e in subst P is (f refl)
+tried P false made next w f g e = g e
+
+written_row : (V : Assured) (n w : Tree) → V.has_this ≡ true → statement_written n ≡ Some w → IdleStatement V n w
+written_row V n w has =
+    tried (IdleStatement V n) (does_nothing n) empty_statement (head_written n) w (statement_row V has n)
+    (tried (IdleStatement V n) (begins_still n) (headless 0 n) (turn_written n) w (init_row V has n)
+    (tried (IdleStatement V n) (turns_still n) (headless 2 n) None w (update_row V has n) (λ e. absurd (cc e))))
+
+first_true : (b : Bool) (made : Tree) (next : Option Tree) → b ≡ true → is_some (if b then Some made else next) ≡ true
+first_true true made next e = refl
+first_true false made next e = absurd (false≢true e)
+
+later_true : (b : Bool) (made : Tree) (next : Option Tree) → is_some next ≡ true → is_some (if b then Some made else next) ≡ true
+later_true true made next e = refl
+later_true false made next e = e
+
+passes : (V : Assured) (n w : Tree) → IdleStatement V n w → is_some (statement_written n) ≡ true
+passes V n w (inl r) = first_true (does_nothing n) empty_statement (head_written n) (ap does_nothing r.shape ∙ r.still)
+passes V n w (inr (inl r)) = later_true (does_nothing n) empty_statement (head_written n) (first_true (begins_still n) (headless 0 n) (turn_written n) (ap begins_still r.shape ∙ r.still))
+passes V n w (inr (inr r)) =
+    later_true (does_nothing n) empty_statement (head_written n) (later_true (begins_still n) (headless 0 n) (turn_written n) (first_true (turns_still n) (headless 2 n) None (ap turns_still r.shape ∙ r.still)))
+
+has_it : (V : Assured) (n w : Tree) → IdleStatement V n w → V.has_this ≡ true
+has_it V n w (inl r) = r.kept
+has_it V n w (inr (inl r)) = r.kept
+has_it V n w (inr (inr r)) = r.kept
+
+chosen : (b : Bool) (x : Option Tree) → b ≡ true → is_some x ≡ true → is_some (if b then x else None) ≡ true
+chosen true x e f = f
+chosen false x e f = e
+
+chosen_is : (b : Bool) (x : Option Tree) (w : Tree) → (if b then x else None) ≡ Some w → (b ≡ true) × (x ≡ Some w)
+chosen_is true x w e = (refl, e)
+chosen_is false x w e = absurd (cc e)
+
+-- at a statement
+
+pub statement_applied : (V : Assured) (q : StmtSeat) (t u : Tree) (b : Bool) → u ≡ unwrap_or (written_in V t) t → b ≡ is_some (written_in V t) → AppliedHere (SteadyRow V) (Stmt q) t u b
+statement_applied V q t u b e f =
+    subst (λ v. AppliedHere (SteadyRow V) (Stmt q) t v b) (sym e)
+    (subst (AppliedHere (SteadyRow V) (Stmt q) t (unwrap_or (written_in V t) t)) (sym f) (go (written_in V t) refl))
+  where
+    go : (o : Option Tree) → written_in V t ≡ o → AppliedHere (SteadyRow V) (Stmt q) t (unwrap_or o t) (is_some o)
+    go None h = (refl, λ w r. true≢false (sym (chosen V.has_this (statement_written t) (has_it V t w r) (passes V t w r)) ∙ ap is_some h))
+    go (Some w) h = let (has, made) = chosen_is V.has_this (statement_written t) w h in once t w (written_row V t w has made)
+
+-- ---- 21
+
+both_true : (b c : Bool) → b ≡ true → c ≡ true → b && c ≡ true
+both_true true c e f = f
+both_true false c e f = e
+
+or_true : (b c : Bool) → c ≡ true → b || c ≡ true
+or_true true c e = refl
+or_true false c e = e
+
+split : (ts : Trees) (i : ℕ) → i < count ts → ts ≡ append (first_children i ts) (rest_children i ts)
+split none i h = refl
+split (t ▸ ts) zero h = refl
+split (t ▸ ts) (suc i) h = ap (λ us. t ▸ us) (split ts i (omega (arith, h)))
+
+without_is : (ts : Trees) (i : ℕ) → i < count ts → without ts i ≡ append (first_children i ts) (rest_children (suc i) ts)
+without_is none i h = absurd (omega (arith, h))
+without_is (t ▸ ts) zero h = sym (from_first ts)
+without_is (t ▸ ts) (suc i) h = ap (λ us. t ▸ us) (without_is ts i (omega (arith, h)))
+
+count_without : (ts : Trees) (i : ℕ) → i < count ts → suc (count (without ts i)) ≡ count ts
+count_without none i h = absurd (omega (arith, h))
+count_without (t ▸ ts) zero h = refl
+count_without (t ▸ ts) (suc i) h = ap suc (count_without ts i (omega (arith, h)))
+
+pub part_loses : (s : Seat) (t : Tree) (i : ℕ) → is_sequence t ≡ true → i + 1 < count (children (part t 0)) → is_still (child_or_absent (children (part t 0)) i) ≡ true → nat_le 3 (count (children (part t 0))) ≡ true → Loses s t (sequence (without (children (part t 0)) i)) true
+part_loses s t i is h e k V has =
+    let ts : Trees = children (part t 0) in
+    let here : i < count ts = omega (arith, h) in
+    let next : rest_children (suc i) ts ≡ child_or_absent ts (suc i) ▸ rest_children (suc (suc i)) ts = next_child ts (suc i) (omega (arith, h)) in
+    let kept : without ts i ≡ append (first_children i ts) (child_or_absent ts (suc i) ▸ rest_children (suc (suc i)) ts) = without_is ts i here ∙ ap (append (first_children i ts)) next in
+    let whole : ts ≡ append (first_children i ts) (child_or_absent ts i ▸ (child_or_absent ts (suc i) ▸ rest_children (suc (suc i)) ts)) = split ts i here ∙ ap (append (first_children i ts)) (next_child ts i here ∙ ap (λ us. child_or_absent ts i ▸ us) next) in
+    inl (record {
+      before = first_children i ts;
+      idle = child_or_absent ts i;
+      next = child_or_absent ts (suc i);
+      after = rest_children (suc (suc i)) ts;
+      kept = has;
+      still = e;
+      several = ap (λ us. nat_le 2 (count us)) (sym kept) ∙ le-leb 2 (count (without ts i)) (omega (arith, count_without ts i here, leb-true 3 (count ts) k));
+      shape = sequence_is t is ∙ ap sequence whole;
+      written = ap sequence kept;
+    })
+
+pub last_loses : (s : Seat) (t : Tree) → is_sequence t ≡ true → is_left s (children (part t 0)) ≡ true → Loses s t (child_or_absent (children (part t 0)) 1) true
+last_loses s t is e V has = go (children (part t 0)) refl e
+  where
+    go : (ts : Trees) → children (part t 0) ≡ ts → is_left s ts ≡ true → IdleRow V s t (child_or_absent (children (part t 0)) 1)
+    go (a ▸ (b ▸ none)) h e =
+        let (seated, rest) = and_parts (takes_alone s) (is_still a && (suits s b && is_unframed b)) e in
+        let (still, others) = and_parts (is_still a) (suits s b && is_unframed b) rest in
+        let (stays, unframed) = and_parts (suits s b) (is_unframed b) others in
+        inr (record { idle = a; last = b; kept = has; still = still; seated = seated; stays = stays; unframed = unframed; shape = sequence_is t is ∙ ap sequence h; written = ap (λ us. child_or_absent us 1) h })
+    go none h e = absurd (true≢false (sym e))
+    go (a ▸ none) h e = absurd (true≢false (sym e))
+    go (a ▸ (b ▸ (c ▸ ts))) h e =
+        let two = eqb-true (count (a ▸ (b ▸ (c ▸ ts)))) 2 (and_parts (nat_eq (count (a ▸ (b ▸ (c ▸ ts)))) 2) (takes_alone s && (is_still a && (suits s b && is_unframed b))) e).0 in absurd (omega (arith, two))
+
+found_still : (before : Trees) (a q : Tree) (qs : Trees) → is_still a ≡ true → still_before_last (append before (a ▸ (q ▸ qs))) ≡ true
+found_still none a q qs e = ap (λ b. b || still_before_last (q ▸ qs)) e
+found_still (u ▸ none) a q qs e = or_true (is_still u) (still_before_last (a ▸ (q ▸ qs))) (found_still none a q qs e)
+found_still (u ▸ (v ▸ vs)) a q qs e = or_true (is_still u) (still_before_last (v ▸ append vs (a ▸ (q ▸ qs)))) (found_still (v ▸ vs) a q qs e)
+
+count_with : (before : Trees) (a q : Tree) (qs : Trees) → count (append before (a ▸ (q ▸ qs))) ≡ suc (count (append before (q ▸ qs)))
+count_with none a q qs = refl
+count_with (u ▸ us) a q qs = ap suc (count_with us a q qs)
+
+loses_still : (s : Seat) (before : Trees) (a q : Tree) (qs : Trees) → is_still a ≡ true → nat_le 2 (count (append before (q ▸ qs))) ≡ true → loses_part s (sequence (append before (a ▸ (q ▸ qs)))) ≡ true
+loses_still s before a q qs e h =
+    let ts : Trees = append before (a ▸ (q ▸ qs)) in
+    ap (λ b. if b then still_before_last ts else is_left s ts) (le-leb 3 (count ts) (omega (arith, count_with before a q qs, leb-true 2 (count (append before (q ▸ qs))) h)))
+    ∙ found_still before a q qs e
+
+rests : (s : Seat) (t : Tree) → loses_part s t ≡ false → (V : Assured) (w : Tree) → IdleRow V s t w → ⊥
+rests s t l V w (inl r) = true≢false (sym (loses_still s r.before r.idle r.next r.after r.still r.several) ∙ sym (ap (loses_part s) r.shape) ∙ l)
+rests s t l V w (inr r) =
+    true≢false (sym (both_true (takes_alone s) (is_still r.idle && (suits s r.last && is_unframed r.last)) r.seated
+    (both_true (is_still r.idle) (suits s r.last && is_unframed r.last) r.still (both_true (suits s r.last) (is_unframed r.last) r.stays r.unframed)))
+    ∙ sym (ap (loses_part s) r.shape) ∙ l)
+
+-- what is no sequence loses no part
+pub no_sequence : (s : Seat) (t : Tree) → is_sequence t ≡ false → Loses s t t false
+no_sequence s t e = (refl, rests s t (ap (λ b. b && (if nat_le 3 (count (children (part t 0))) then still_before_last (children (part t 0)) else is_left s (children (part t 0)))) e))
+
+pub no_still : (s : Seat) (t : Tree) → is_sequence t ≡ true → nat_le 3 (count (children (part t 0))) ≡ true → still_before_last (children (part t 0)) ≡ false → Loses s t t false
+no_still s t is k e = (
+  refl,
+  rests s t
+      (ap (λ b. b && (if nat_le 3 (count (children (part t 0))) then still_before_last (children (part t 0)) else is_left s (children (part t 0)))) is
+      ∙ ap (λ b. if b then still_before_last (children (part t 0)) else is_left s (children (part t 0))) k
+      ∙ e),
+)
+
+pub not_left : (s : Seat) (t : Tree) → is_sequence t ≡ true → nat_le 3 (count (children (part t 0))) ≡ false → is_left s (children (part t 0)) ≡ false → Loses s t t false
+not_left s t is k e = (
+  refl,
+  rests s t
+      (ap (λ b. b && (if nat_le 3 (count (children (part t 0))) then still_before_last (children (part t 0)) else is_left s (children (part t 0)))) is
+      ∙ ap (λ b. if b then still_before_last (children (part t 0)) else is_left s (children (part t 0))) k
+      ∙ e),
+)
+
+-- in a body of which this is known
+
+pub without_this : (V : Assured) (s : Seat) (t : Tree) → V.has_this ≡ false → LosesIn V s t t false
+without_this V s t h = (refl, unread)
+  where
+    unread : (w : Tree) → IdleRow V s t w → ⊥
+    unread w (inl r) = true≢false (sym r.kept ∙ h)
+    unread w (inr r) = true≢false (sym r.kept ∙ h)
+
+pub with_this : (V : Assured) (s : Seat) (t u : Tree) (b : Bool) → V.has_this ≡ true → Loses s t u b → LosesIn V s t u b
+with_this V s t u true h l = l V h
+with_this V s t u false h l = (l.0, λ w r. l.1 V w r)
+
+-- ---- a look for a part that has no effect
+
+pub still_stops : (ts : Trees) (i : ℕ) → i + 1 < count ts → is_still (child_or_absent ts i) ≡ true → still_before_last (rest_children i ts) ≡ still_before_last ts → true ≡ still_before_last ts
+still_stops ts i h e inv =
+    sym (ap (λ b. b || still_before_last (child_or_absent ts (suc i) ▸ rest_children (suc (suc i)) ts)) e)
+    ∙ sym (ap still_before_last (next_child ts i (omega (arith, h)) ∙ ap (λ us. child_or_absent ts i ▸ us) (next_child ts (suc i) (omega (arith, h)))))
+    ∙ inv
+
+pub still_goes_on : (ts : Trees) (i : ℕ) → i + 1 < count ts → is_still (child_or_absent ts i) ≡ false → still_before_last (rest_children i ts) ≡ still_before_last ts → still_before_last (rest_children (i + 1) ts) ≡ still_before_last ts
+still_goes_on ts i h e inv =
+    let next : i + 1 ≡ suc i = omega arith in
+    let second = next_child ts (suc i) (omega (arith, h)) in
+    ap (λ k. still_before_last (rest_children k ts)) next
+    ∙ ap still_before_last second
+    ∙ sym (ap (λ b. b || still_before_last (child_or_absent ts (suc i) ▸ rest_children (suc (suc i)) ts)) e)
+    ∙ sym (ap still_before_last (next_child ts i (omega (arith, h)) ∙ ap (λ us. child_or_absent ts i ▸ us) second))
+    ∙ inv
+
+pub still_ends : (ts : Trees) (i : ℕ) → count ts ≤ i + 1 → still_before_last (rest_children i ts) ≡ still_before_last ts → false ≡ still_before_last ts
+still_ends ts i h inv = sym (few (rest_children i ts) (at_most ts i h)) ∙ inv
+  where
+    few : (us : Trees) → count us ≤ 1 → still_before_last us ≡ false
+    few none k = refl
+    few (u ▸ none) k = refl
+    few (u ▸ (v ▸ vs)) k = absurd (omega (arith, k))
+
+    at_most : (ts : Trees) (i : ℕ) → count ts ≤ i + 1 → count (rest_children i ts) ≤ 1
+    at_most none i h = omega arith
+    at_most (t ▸ ts) zero h = omega (arith, h)
+    at_most (t ▸ ts) (suc i) h = at_most ts i (omega (arith, h))
+
+-- ---- at an expression in its seat
+
+pub member_applied : (V : Assured) (s : Seat) (t u : Tree) → u ≡ unwrap_or (members.written V s t) t → true ≡ is_some (members.written V s t) → AppliedHere (SteadyRow V) (Expr s) t u true
+member_applied V s t u e f = subst (λ v. AppliedHere (SteadyRow V) (Expr s) t v true) (sym e) (go (members.written V s t) refl f)
+  where
+    go : (o : Option Tree) → members.written V s t ≡ o → true ≡ is_some o → AppliedHere (SteadyRow V) (Expr s) t (unwrap_or o t) true
+    go None h f = absurd (true≢false f)
+    go (Some w) h f = once t w (inl (members_are_rows V s t w h))
+
+pub idle_applied : (V : Assured) (s : Seat) (t m u : Tree) (b : Bool) → m ≡ unwrap_or (members.written V s t) t → false ≡ is_some (members.written V s t) → LosesIn V s m u b → AppliedHere (SteadyRow V) (Expr s) t u b
+idle_applied V s t m u b e f l = go (members.written V s t) refl f (subst (λ v. LosesIn V s v u b) e l)
+  where
+    on : (b : Bool) → members.written V s t ≡ None → LosesIn V s t u b → AppliedHere (SteadyRow V) (Expr s) t u b
+    on true h l = once t u (inr l)
+    on false h l = (l.0, unread)
+      where
+        unread : (w : Tree) → SteadyRow V (Expr s) t w → ⊥
+        unread w (inl r) = unwritten_rests V s t h w r
+        unread w (inr r) = l.1 w r
+
+    go : (o : Option Tree) → members.written V s t ≡ o → false ≡ is_some o → LosesIn V s (unwrap_or o t) u b → AppliedHere (SteadyRow V) (Expr s) t u b
+    go None h f l = on b h l
+    go (Some w) h f l = absurd (true≢false (sym f))

@@ -1,0 +1,243 @@
+//! Rows 21 and 22 of what has no effect where a body has its `this`: `a(), this, b()` becomes `a(), b()`, `this, a()` `a()`, `this;` `;`, and
+//! `for (this; a; this) b` `for (; a;) b`.
+
+ghost use Rattle.std.specs.Prelude.{◌≡◌, ◌+◌, ◌<◌, ◌||◌, true, false, nat_le, is_some, unwrap_or, IfOk, IfSome};
+ghost use Rattle.mini_model.specs.Tree.{children, count, child_or_absent};
+ghost use Rattle.mini_node.specs.Children.{part, without};
+ghost use Rattle.mini_node.specs.Kinds.{sequence as sequence_of, is_sequence as is_it_sequence};
+ghost use Rattle.mini_rows.specs.Idle.{is_still as is_it_still, is_still_part as is_it_still_part, is_unframed as is_it_unframed};
+ghost use Rattle.mini_rows.specs.Sequences.{is_unmixed as is_it_unmixed, takes_alone as takes_it_alone};
+ghost use Rattle.mini_steady.specs.Declarations.{known_of};
+ghost use Rattle.mini_steady.specs.Idle as row;
+ghost use Rattle.mini_steady.specs.Idle.{Loses, LosesIn};
+
+use crate::code::BodyCode;
+use crate::steady::SteadyNames;
+use mini_model::{Mix, OutOfMemory, Seat, Shape};
+use mini_node::{
+    Node, Nodes, discard, empty_statement, is_expression_statement, is_sequence, one, sequence,
+    taken, two,
+};
+use mini_terms::{is_effect_free, is_plain_part, leaves_nothing, suits, weighs};
+use std::alloc::Global;
+
+// Whether it has no effect where the world isn't asked for `this`, and may go.
+fn is_still(node: &Node) -> bool
+    ensures { result ≡ is_it_still node.now }
+{
+    is_effect_free(node, false) && leaves_nothing(node) && weighs(node)
+}
+
+// Whether so may a part of the head of a `for`.
+fn is_still_part(node: &Node) -> bool
+    ensures { result ≡ is_it_still_part node.now }
+{
+    is_still(node) && is_plain_part(node)
+}
+
+// `this;`
+fn does_nothing(node: &Node) -> bool
+    ensures { result ≡ row.does_nothing node.now }
+{
+    is_expression_statement(node) && is_still(node.child(0))
+}
+
+// `for (this; a; b) c`
+fn begins_still(node: &Node) -> bool
+    ensures kind { result ≡ row.begins_still node.now }
+    ensures parts { result ≡ true → count (children node.now) ≡ 4 }
+{
+    matches!(node.shape(), Shape::ForStatement) && node.is_bare(4) && is_still_part(node.child(0))
+}
+
+// `for (; a; this) c`
+fn turns_still(node: &Node) -> bool
+    ensures kind { result ≡ row.turns_still node.now }
+    ensures parts { result ≡ true → count (children node.now) ≡ 4 }
+{
+    matches!(node.shape(), Shape::ForStatement) && node.is_bare(4) && is_still_part(node.child(2))
+}
+
+// Without the part of its head at a place.
+fn headless(node: Node, at: usize) -> Node
+    requires { at < count (children node) }
+    ensures { result ≡ row.headless at node }
+{
+    let mut children = node.into_children();
+    discard(children.take(at));
+    Node::new(Shape::ForStatement, children)
+}
+
+// What has no effect goes of a statement. The answer says whether something did.
+fn empty_idle(alloc: Global, node: &mut Node) -> bool
+    ensures tree { node.new ≡ unwrap_or (row.statement_written node.old) node.old }
+    ensures said { result ≡ is_some (row.statement_written node.old) }
+{
+    if does_nothing(node) {
+        *node = empty_statement(alloc);
+        return true;
+    }
+    if begins_still(node) {
+        *node = headless(taken(alloc, node), 0);
+        return true;
+    }
+    if turns_still(node) {
+        *node = headless(taken(alloc, node), 2);
+        return true;
+    }
+    false
+}
+
+// The place of the first part that has no effect, but the last.
+fn still_at(nodes: &Nodes) -> Option<usize>
+    ensures found { IfSome result (λ at. at + 1 < count nodes.now) }
+    ensures read { IfSome result (λ at. is_it_still (child_or_absent nodes.now at) ≡ true) }
+    ensures any { is_some result ≡ row.still_before_last nodes.now }
+{
+    for at in 0..nodes.len().saturating_sub(1) {
+        if is_still(nodes.child(at)) {
+            return Some(at);
+        }
+    }
+    None
+}
+
+fn without_part(alloc: Global, node: Node, at: usize) -> Result<Node, OutOfMemory>
+    requires { at < count (children (part node 0)) }
+    ensures { IfOk result (λ w. w ≡ sequence_of (without (children (part node 0)) at)) }
+{
+    let mut parts = one(node).into_children();
+    let idle = parts.remove(at);
+    discard(idle);
+    sequence(alloc, parts)
+}
+
+// `a(), b()` of `a(), this, b()`
+fn drop_part(alloc: Global, node: &mut Node, seat: Seat) -> Result<bool, OutOfMemory>
+    requires parts { count (children node.old) ≡ 1 }
+    requires kind { is_it_sequence node.old ≡ true }
+    requires several { nat_le 3 (count (children (part node.old 0))) ≡ true }
+    ensures { IfOk result (λ changed. Loses seat node.old node.new changed) }
+{
+    match still_at(node.child(0).children()) {
+        Some(at) => {
+            *node = without_part(alloc, taken(alloc, node), at)?;
+            Ok(true)
+        }
+        None => Ok(false),
+    }
+}
+
+fn is_unmixed(mix: Mix) -> bool
+    ensures { result ≡ is_it_unmixed mix }
+{
+    match mix {
+        Mix::None => true,
+        _ => false,
+    }
+}
+
+// Whether an expression has parentheses here only where a sequence has them too.
+fn takes_alone(seat: Seat) -> bool
+    ensures { result ≡ takes_it_alone seat }
+{
+    seat.level > 0 || !seat.access && !seat.new_callee && is_unmixed(seat.mix)
+}
+
+// Whether what stands around it says nothing of its body or its frame.
+fn is_unframed(node: &Node) -> bool
+    ensures { result ≡ is_it_unframed node.now }
+{
+    node.number() == 0 && !matches!(node.shape(), Shape::Function(_, _, _))
+}
+
+// Whether of two parts the last one may stand alone.
+fn is_left(seat: Seat, parts: &Nodes) -> bool
+    ensures { result ≡ row.is_left seat parts.now }
+{
+    parts.len() == 2
+        && takes_alone(seat)
+        && is_still(parts.child(0))
+        && suits(seat, parts.child(1))
+        && is_unframed(parts.child(1))
+}
+
+fn last_of_two(node: Node) -> Node
+    ensures { result ≡ child_or_absent (children (part node 0)) 1 }
+{
+    let (first, last) = two(one(node));
+    discard(first);
+    last
+}
+
+// `a()` of `this, a()`
+fn leave_last(alloc: Global, node: &mut Node, seat: Seat) -> bool
+    requires parts { count (children node.old) ≡ 1 }
+    requires kind { is_it_sequence node.old ≡ true }
+    requires few { nat_le 3 (count (children (part node.old 0))) ≡ false }
+    ensures { Loses seat node.old node.new result }
+{
+    if !is_left(seat, node.child(0).children()) {
+        return false;
+    }
+    *node = last_of_two(taken(alloc, node));
+    true
+}
+
+// A part goes that has no effect. The answer says whether one did.
+fn drop_idle(alloc: Global, node: &mut Node, seat: Seat) -> Result<bool, OutOfMemory>
+    requires parts { count (children node.old) ≡ 1 }
+    requires kind { is_it_sequence node.old ≡ true }
+    ensures { IfOk result (λ changed. Loses seat node.old node.new changed) }
+{
+    if node.child(0).children().len() >= 3 {
+        drop_part(alloc, node, seat)
+    } else {
+        Ok(leave_last(alloc, node, seat))
+    }
+}
+
+// The same of any expression.
+fn drop_from(alloc: Global, node: &mut Node, seat: Seat) -> Result<bool, OutOfMemory>
+    ensures { IfOk result (λ changed. Loses seat node.old node.new changed) }
+{
+    if !is_sequence(node) {
+        return Ok(false);
+    }
+    drop_idle(alloc, node, seat)
+}
+
+/// A part of a sequence goes that has no effect, where the body has its `this`: `a(), this, b()` becomes `a(), b()`, and `this, a()` `a()`. The
+/// answer says whether one did; the only error is that memory runs out, and then the expression is fit only to be dropped.
+pub fn drop_idle_parts<S: SteadyNames>(
+    alloc: Global,
+    node: &mut Node,
+    seat: Seat,
+    body: &BodyCode,
+    steady: &S,
+) -> Result<bool, OutOfMemory>
+    ensures { IfOk result (λ changed. LosesIn (known_of (S.sets steady.now) body.now) seat node.old node.new changed) }
+{
+    if !steady.has_this(body.number) {
+        return Ok(false);
+    }
+    let changed = drop_from(alloc, node, seat)?;
+    Ok(changed)
+}
+
+/// A statement becomes empty, or a part of the head of a `for` goes, that has no effect, where the body has its `this`: `this;` becomes `;`, and
+/// `for (this; a; this) b` `for (; a;) b`. The answer says whether something changed.
+pub fn drop_idle_statement<S: SteadyNames>(
+    alloc: Global,
+    node: &mut Node,
+    body: &BodyCode,
+    steady: &S,
+) -> bool
+    ensures tree { node.new ≡ unwrap_or (row.written_in (known_of (S.sets steady.now) body.now) node.old) node.old }
+    ensures said { result ≡ is_some (row.written_in (known_of (S.sets steady.now) body.now) node.old) }
+{
+    if !steady.has_this(body.number) {
+        return false;
+    }
+    empty_idle(alloc, node)
+}
