@@ -1,6 +1,6 @@
 -- 77: what would initialize a class, a `let` or a `const` that never runs goes.
 use Rattle.std.proofs.Common.{◌≡◌, Bool, true, false, refl, sym, ap, ◌∙◌, subst, inr, true≢false}
-use Rattle.std.specs.Prelude.{not, ◌&&◌, Result, Ok, Err, IfOk}
+use Rattle.std.specs.Prelude.{Result, Ok, Err, IfOk}
 use Rattle.std.proofs.lemmas.Bool.{and_parts}
 use Rattle.mini_model.specs.declared.memory.OutOfMemory.{OutOfMemory}
 use Rattle.mini_model.specs.declared.place.Position.{Position}
@@ -16,7 +16,7 @@ use Rattle.mini_rows.specs.DeadLexicals.{may_fade, faded, is_lighter_faded, Row7
 use Rattle.mini_rows.specs.Lists.{is_terminated, InList}
 use Rattle.mini_stmt.specs.declared.rewrites.drop_unreached.Going.TheVariants.{Lexicals}
 use Rattle.mini_stmt.specs.DropUnreached.{goes, stays_behind, LeftBehind}
-use Rattle.mini_stmt.specs.JoinLets.{is_list_place, Changes, RestsBy, ChangesBy, DropsLexicals}
+use Rattle.mini_stmt.specs.JoinLets.{Changes, RestsBy, DropsLexicals}
 use Rattle.mini_stmt.proofs.LetJoins.{changes_on, step_on}
 use Rattle.mini_stmt.proofs.Unreached.{Goes, behind_steps, behind_same, behind_stays, row_goes, and_true}
 

@@ -1,4 +1,4 @@
-use Rattle.std.proofs.Common.{◌∙◌, ap, sym, subst}
+use Rattle.std.proofs.Common.{sym, subst}
 use Rattle.std.specs.Prelude.{IfOk}
 use Rattle.mini_stmt.specs.DropUnreached.{LeftBehind}
 use Rattle.mini_stmt.specs.declared.rewrites.drop_unreached.Going.TheVariants.{Lexicals}
