@@ -1,7 +1,7 @@
 //! Rewrites of lists of statements, and what they are made with.
 
 ghost use Rattle.mini_rows.specs.Lists as list;
-ghost use Rattle.mini_stmt.specs.JoinLets.{JoinsLets, marked};
+ghost use Rattle.mini_stmt.specs.JoinLets.{DropsLexicals, JoinsLets, JoinsValues, marked};
 ghost use Rattle.mini_stmt.specs.MinimizeStatements.{MinimizesList, switches_of};
 ghost use Rattle.mini_stmt.specs.Terms as term;
 ghost use Rattle.mini_stmt.specs.TurnLoopGuards.{TurnsLoop};
@@ -36,9 +36,32 @@ impl PeepholeOptimizations {
         node: &mut Node,
         scopes: &Scopes,
     ) -> Result<bool, OutOfMemory>
-        ensures { IfOk result (JoinsLets (marked scopes.now) node.old node.new) }
+        ensures { IfOk result (JoinsValues (marked scopes.now) node.old node.new) }
     {
         mini_stmt::join_lets(alloc, node, scopes)
+    }
+
+    /// What would initialize a class, a `let` or a `const` after the first statement that ends in a jump goes, and its names stay
+    /// declared. The answer says whether there was one; the only error is that memory runs out, and then the list is fit only to be
+    /// dropped.
+    pub fn drop_lexicals(&self, alloc: Global, node: &mut Node) -> Result<bool, OutOfMemory>
+        ensures { IfOk result (DropsLexicals node.old node.new) }
+    {
+        mini_stmt::drop_lexicals(alloc, node)
+    }
+
+    /// A list of statements without what either row of `let`s reads: values that are assigned go into the `let` before them, and where
+    /// none does, what would initialize a class, a `let` or a `const` that never runs goes. The answer says whether the list changed;
+    /// the only error is that memory runs out, and then the list is fit only to be dropped.
+    pub fn minimize_lets(
+        &self,
+        alloc: Global,
+        node: &mut Node,
+        scopes: &Scopes,
+    ) -> Result<bool, OutOfMemory>
+        ensures { IfOk result (JoinsLets (marked scopes.now) node.old node.new) }
+    {
+        mini_stmt::minimize_lets(alloc, node, scopes)
     }
 
     /// The last guard in the body of a loop that goes on with the next turn takes in what follows it, where that nests no deeper than 64, or nothing where it is the body:

@@ -1,5 +1,6 @@
--- What is written for a `let` and the assignment of a value after it means the same where the name can be written.
-use Rattle.std.proofs.Common.{◌≡◌, ℕ, Bool, true, false, List, [], ◌++◌, None, refl, sym, ap, subst, ◌∙◌}
+-- What is written for a `let` and the assignment of a value after it means the same where the name can be written, and so does what is
+-- written for a lexical declaration that never runs.
+use Rattle.std.proofs.Common.{◌≡◌, ℕ, Bool, true, false, List, [], ◌++◌, None, refl, inl, inr, sym, ap, subst, ◌∙◌}
 use Rattle.std.proofs.lemmas.Bool.{eq-eqb}
 use Rattle.mini_model.specs.declared.kind.VariableDeclarationKind.TheVariants.{Let}
 use Rattle.mini_model.specs.declared.place.Position.{Position}
@@ -18,10 +19,12 @@ use Rattle.mini_laws.proofs.Rows.{by_equality}
 use Rattle.mini_laws.proofs.Runs.{either_assoc, either_cong, either_eta, either_ok, either_stop}
 use Rattle.mini_laws.proofs.Stretching.{exec}
 use Rattle.mini_kept.specs.Loosely.{SameWith}
+use Rattle.mini_kept.specs.Without.{Permits}
 use Rattle.mini_rows.specs.DeadCases.{Known, known, value_of}
 use Rattle.mini_rows.specs.Lists.{declaration, declarator, binding, resolved, assigned, begun, begun_without, InList}
-use Rattle.mini_rows.specs.Lets.{Row70Let, LetRow}
+use Rattle.mini_rows.specs.Lets.{Row70Let, LetsRow, LetRow}
 use Rattle.mini_rows.proofs.DeadCaseMeaning.{known_means, known_declares}
+use Rattle.mini_rows.proofs.DeadLexicalMeaning.{lexical_does, lexical_read}
 use Rattle.mini_rows.proofs.ListBegun.{put_is, assigned_is, initialised}
 use Rattle.mini_rows.proofs.ListMeanings.{back_same, begun_same, stretch_after}
 use Rattle.mini_rows.proofs.ListStatements.{expression_is, declare, declare_none, declare_more, declare_append, declaration_is}
@@ -153,26 +156,36 @@ module _ (W : VariableSet) (a b : Trees) (r : Row70Let W a b) where
       subst (λ ts. ReadSame ts b) (sym r.shape) (subst (ReadSame (old ▸ (whole ▸ none))) (sym r.written)
       (record { lets = apart.read.lets ∙ enters_read.lets; functions = apart.read.functions ∙ enters_read.functions; facts = apart.read.facts ∙ enters_read.facts; texts = apart.read.texts ∙ enters_read.texts }))
 
-module _ (W : VariableSet) (n w : Tree) (r : InList (Row70Let W) n w) where
-  list_does : (e : Environment) → e.fixed (Declared r.row.symbol) ≡ Writable → (q : Demand) → Fits StatementList q → Same e nothing nothing q n w
-  list_does e free (Stat t) f =
+-- either row
+
+row_means : (W : VariableSet) (a b : Trees) → LetsRow W a b → (e : Environment) → Permits W nothing e → (s : State) → exec e a None s ≡ exec e b None s
+row_means W a b (inl r) e z s = row_does W a b r e (z.writable (Declared r.symbol) r.writable) s
+row_means W a b (inr r) e z s = lexical_does a b r e s
+
+row_read : (W : VariableSet) (a b : Trees) → LetsRow W a b → ReadSame a b
+row_read W a b (inl r) = row_reads W a b r
+row_read W a b (inr r) = lexical_read a b r
+
+module _ (W : VariableSet) (n w : Tree) (r : InList (LetsRow W) n w) where
+  list_does : (e : Environment) → Permits W nothing e → (q : Demand) → Fits StatementList q → Same e nothing nothing q n w
+  list_does e z (Stat t) f =
       by_equality e nothing nothing (Stat t) n w
       (λ c s.
       ap (λ x. means e x (Stat t) c s) r.shape
-      ∙ list_does_by e _ _ (in_list_by e r.before r.read r.put r.after (row_does W r.read r.put r.row e free)) t c s
+      ∙ list_does_by e _ _ (in_list_by e r.before r.read r.put r.after (row_means W r.read r.put r.row e z)) t c s
       ∙ sym (ap (λ x. means e x (Stat t) c s) r.written))
-  list_does e free q f = elim f [ ]
+  list_does e z q f = elim f [ ]
 
   list_reads : summary n ≡ summary w
-  list_reads = ap summary r.shape ∙ read_alike _ _ (read_in_list r.before r.read r.put r.after (row_reads W r.read r.put r.row)) ∙ sym (ap summary r.written)
+  list_reads = ap summary r.shape ∙ read_alike _ _ (read_in_list r.before r.read r.put r.after (row_read W r.read r.put r.row)) ∙ sym (ap summary r.written)
 
 body_asked : (q : Demand) → Fits BodyList q → Fits StatementList q
 body_asked (Stat t) f = tt
 body_asked q f = absurd f
 
 pub lets_same : (W : VariableSet) (p : Position) (n w : Tree) → LetRow W p n w → SameWith W p n w
-lets_same W StatementList n w r = record { by = λ e z q f. list_does W n w r e (z.writable (Declared r.row.symbol) r.row.writable) q f }
-lets_same W BodyList n w r = record { by = λ e z q f. list_does W n w r e (z.writable (Declared r.row.symbol) r.row.writable) q (body_asked q f) }
+lets_same W StatementList n w r = record { by = list_does W n w r }
+lets_same W BodyList n w r = record { by = λ e z q f. list_does W n w r e z q (body_asked q f) }
 lets_same W p n w r = absurd r
 
 pub lets_read : (W : VariableSet) (p : Position) (n w : Tree) → LetRow W p n w → summary n ≡ summary w

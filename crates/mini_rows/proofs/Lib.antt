@@ -274,6 +274,9 @@ pub mod LoopGuardsKept
 pub mod LoopGuardWeights
 pub mod DeadCaseParts
 pub mod DeadCaseKept
+pub mod DeadLexicalMeaning
+pub mod DeadLexicalKept
+pub mod DeadLexicalWeights
 pub mod LetMeaning
 pub mod LetWeights
 pub mod LetLawful

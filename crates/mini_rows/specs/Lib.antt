@@ -46,6 +46,7 @@ pub mod PastBlocks
 pub mod Cases
 pub mod LoopGuards
 pub mod DeadCases
+pub mod DeadLexicals
 pub mod Lets
 pub mod Fading
 pub mod Lexical

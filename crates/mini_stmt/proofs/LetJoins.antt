@@ -1,5 +1,5 @@
 -- 70: the assignment of a value after a `let`.
-use Rattle.std.proofs.Common.{◌≡◌, ℕ, zero, suc, ◌+◌, ◌<◌, ◌≤◌, Bool, true, false, [], Option, Some, refl, sym, ap, ◌∙◌, subst, true≢false, arith}
+use Rattle.std.proofs.Common.{◌≡◌, ℕ, zero, suc, ◌+◌, ◌<◌, ◌≤◌, Bool, true, false, [], Option, Some, refl, sym, ap, ◌∙◌, subst, inl, inr, true≢false, arith}
 use Rattle.std.specs.Prelude.{ℤ, pos, not, ◌&&◌, ◌||◌, Result, Ok, Err, IfOk}
 use Rattle.std.proofs.lemmas.Bool.{and_parts, eq-eqb}
 use Rattle.mini_model.specs.declared.kind.VariableDeclarationKind.TheVariants.{Let}
@@ -20,18 +20,19 @@ use Rattle.mini_node.specs.Kinds.{is_listed, number, unary_operator}
 use Rattle.mini_node.specs.Made.{listed_is, number_is, unary_is}
 use Rattle.mini_node.specs.Walks.{from_first, next_child, no_rest, append_one}
 use Rattle.mini_tree.specs.declared.options.CompressOptions.{CompressOptions}
-use Rattle.mini_tree.specs.Rule.{Applied}
+use Rattle.mini_tree.specs.Rule.{Applied, Moves}
 use Rattle.mini_tree.proofs.Reaching.{moves_once, moves_trans}
 use Rattle.mini_context.specs.declared.context.TraverseCtx.{TraverseCtx}
 use Rattle.mini_context.specs.Known.{Knows}
 use Rattle.mini_rows.specs.DeadCases.{Known, a_number, a_text, a_truth, a_null, undefined, known}
-use Rattle.mini_rows.specs.Lets.{Row70Let, LetContracts}
+use Rattle.mini_rows.specs.DeadLexicals.{Row77Lexical}
+use Rattle.mini_rows.specs.Lets.{Row70Let, LetsRow, LetContracts}
 use Rattle.mini_rows.specs.Lists.{declaration, declarator, binding, resolved, assigned, begun, InList}
 use Rattle.mini_rows.proofs.DeadCaseMeaning.{known_declares}
 use Rattle.mini_rows.proofs.LetWeights.{lets_lighter}
 use Rattle.mini_stmt.specs.JoinAssignments.{assigns_name, declares_bare, beginning_of, holds_sequence, holds_alone, assigns_first}
 use Rattle.mini_stmt.specs.JoinGuards.{last_after}
-use Rattle.mini_stmt.specs.JoinLets.{is_zero, is_digit, is_over_digit, is_known, marked, may_write_in, writes_value, takes_last, may_join, joins_let, Joined, joins_first, are_joined, joins_last, is_list_place, Changes, PutJoined, AllJoined, Gives, RestsOver, Rests, JoinsLets}
+use Rattle.mini_stmt.specs.JoinLets.{is_zero, is_digit, is_over_digit, is_known, marked, may_write_in, writes_value, takes_last, may_join, joins_let, Joined, joins_first, are_joined, joins_last, is_list_place, Changes, PutJoined, AllJoined, Gives, RestsOver, Rests, JoinsLets, RestsBy, JoinsValues, DropsLexicals}
 use Rattle.mini_stmt.specs.JoinVars.{declares}
 use Rattle.mini_stmt.proofs.Parts.{not_true}
 use Rattle.mini_stmt.proofs.Follows.{declares_is}
@@ -185,7 +186,7 @@ module _ (W : VariableSet) where
       let is : ts ≡ append r.before (m.first ▸ (m.next ▸ r.after)) = ap children r.shape ∙ ap (λ a. append r.before (append a r.after)) m.is in
       true≢false (sym m.met ∙ join_before m.first m.next r.after r.before (sym (ap (are_joined W) is) ∙ e))
 
-  joined_rests : (ts : Trees) → are_joined W ts ≡ true → (p : Position) → is_list_place p ≡ true → RestsOver W p (listed ts)
+  joined_rests : (ts : Trees) → are_joined W ts ≡ true → (p : Position) → is_list_place p ≡ true → RestsBy (Row70Let W) p (listed ts)
   joined_rests ts e StatementList l w r = joined_rest ts e w r
   joined_rests ts e BodyList l w r = joined_rest ts e w r
   joined_rests ts e p l w r = absurd (true≢false (sym l))
@@ -234,16 +235,16 @@ module _ (W : VariableSet) where
 
   -- ---- steps
 
-  contracts : (before a b after : Trees) → Row70Let W a b → (p : Position) → is_list_place p ≡ true → LetContracts W p (listed (append before (append a after))) (listed (append before (append b after)))
+  pub contracts : (before a b after : Trees) → LetsRow W a b → (p : Position) → is_list_place p ≡ true → LetContracts W p (listed (append before (append a after))) (listed (append before (append b after)))
   contracts before a b after r StatementList l =
-      let row : InList (Row70Let W) (listed (append before (append a after))) (listed (append before (append b after))) = record { before = before; read = a; put = b; after = after; row = r; shape = refl; written = refl } in
+      let row : InList (LetsRow W) (listed (append before (append a after))) (listed (append before (append b after))) = record { before = before; read = a; put = b; after = after; row = r; shape = refl; written = refl } in
       record { row = row; lighter = lets_lighter W StatementList _ _ row }
   contracts before a b after r BodyList l =
-      let row : InList (Row70Let W) (listed (append before (append a after))) (listed (append before (append b after))) = record { before = before; read = a; put = b; after = after; row = r; shape = refl; written = refl } in
+      let row : InList (LetsRow W) (listed (append before (append a after))) (listed (append before (append b after))) = record { before = before; read = a; put = b; after = after; row = r; shape = refl; written = refl } in
       record { row = row; lighter = lets_lighter W BodyList _ _ row }
   contracts before a b after r p l = absurd (true≢false (sym l))
 
-  step_on : (before a b after : Trees) → Row70Let W a b → Changes W (append before (append a after)) (append before (append b after)) true
+  pub step_on : (before a b after : Trees) → LetsRow W a b → Changes W (append before (append a after)) (append before (append b after)) true
   step_on before a b after r p l = moves_once (LetContracts W) p _ _ (contracts before a b after r p l)
 
   pub changes_on : (t u v : Trees) (a b : Bool) → Changes W t u a → Changes W u v b → Changes W t v (a || b)
@@ -284,32 +285,61 @@ module _ (W : VariableSet) where
         changes = λ rest.
             subst (λ x. Changes W x (append after rest) true) (sym (ap (λ x. append x (t ▸ rest)) f ∙ append_one init last (t ▸ rest)))
             (subst (λ x. Changes W (append init (last ▸ (t ▸ rest))) x true) (sym (ap (λ x. append x rest) put ∙ append_assoc (append init (declared ▸ none)) left rest ∙ append_one init declared (append left rest)))
-            (step_on init (last ▸ (t ▸ none)) (declared ▸ left) rest row));
+            (step_on init (last ▸ (t ▸ none)) (declared ▸ left) rest (inl row)));
         joined = λ c. absurd (true≢false c);
       }
 
   -- ---- the node
 
-  list_joined : (ts us : Trees) (b : Bool) → AllJoined W ts us b → JoinsLets W (listed ts) (listed us) b
+  list_joined : (ts us : Trees) (b : Bool) → AllJoined W ts us b → JoinsValues W (listed ts) (listed us) b
   list_joined ts us true m p l = m.changes p l
   list_joined ts us false m p l = let same = m.changes in (ap listed same, joined_rests ts (sym (ap (are_joined W) same) ∙ m.joined refl) p l)
 
-  pub node_joined : (t : Tree) (us : Trees) (r : Result Bool OutOfMemory) → is_listed t ≡ true → IfOk r (λ b. AllJoined W (children t) us b) → IfOk r (λ b. JoinsLets W t (with_children t us) b)
+  pub node_joined : (t : Tree) (us : Trees) (r : Result Bool OutOfMemory) → is_listed t ≡ true → IfOk r (λ b. AllJoined W (children t) us b) → IfOk r (λ b. JoinsValues W t (with_children t us) b)
   node_joined t us (Err e) l m = m
   node_joined t us (Ok b) l m =
       let is = listed_is t l in
-      subst (λ x. JoinsLets W x (with_children t us) b) (sym is) (subst (λ x. JoinsLets W (listed (children t)) x b) (sym (ap (λ x. with_children x us) is)) (list_joined (children t) us b m))
+      subst (λ x. JoinsValues W x (with_children t us) b) (sym is) (subst (λ x. JoinsValues W (listed (children t)) x b) (sym (ap (λ x. with_children x us) is)) (list_joined (children t) us b m))
 
-  pub not_joined : (t : Tree) → is_listed t ≡ true → are_joined W (children t) ≡ true → JoinsLets W t t false
-  not_joined t l e p q = (refl, subst (RestsOver W p) (sym (listed_is t l)) (joined_rests (children t) e p q))
+  pub not_joined : (t : Tree) → is_listed t ≡ true → are_joined W (children t) ≡ true → JoinsValues W t t false
+  not_joined t l e p q = (refl, subst (RestsBy (Row70Let W) p) (sym (listed_is t l)) (joined_rests (children t) e p q))
 
-  other_rests : (t : Tree) → is_listed t ≡ false → (p : Position) → RestsOver W p t
+  other_rests : (t : Tree) → is_listed t ≡ false → (p : Position) → RestsBy (Row70Let W) p t
   other_rests t l StatementList w r = true≢false (sym (ap is_listed r.shape) ∙ l)
   other_rests t l BodyList w r = true≢false (sym (ap is_listed r.shape) ∙ l)
   other_rests t l p w r = absurd r
 
-  pub no_list : (t : Tree) → is_listed t ≡ false → JoinsLets W t t false
+  pub no_list : (t : Tree) → is_listed t ≡ false → JoinsValues W t t false
   no_list t l p q = (refl, other_rests t l p)
+
+-- ---- either row
+
+both_rest : (W : VariableSet) (p : Position) (t : Tree) → RestsBy (Row70Let W) p t → RestsBy Row77Lexical p t → RestsOver W p t
+both_rest W StatementList t f g w r = by r.row
+  where
+    by : LetsRow W r.read r.put → ⊥
+    by (inl m) = f w (record { before = r.before; read = r.read; put = r.put; after = r.after; row = m; shape = r.shape; written = r.written })
+    by (inr m) = g w (record { before = r.before; read = r.read; put = r.put; after = r.after; row = m; shape = r.shape; written = r.written })
+both_rest W BodyList t f g w r = by r.row
+  where
+    by : LetsRow W r.read r.put → ⊥
+    by (inl m) = f w (record { before = r.before; read = r.read; put = r.put; after = r.after; row = m; shape = r.shape; written = r.written })
+    by (inr m) = g w (record { before = r.before; read = r.read; put = r.put; after = r.after; row = m; shape = r.shape; written = r.written })
+both_rest W p t f g w r = absurd r
+
+pub values_joined : (W : VariableSet) (t u : Tree) → JoinsValues W t u true → JoinsLets W t u true
+values_joined W t u m = m
+
+then_one : (W : VariableSet) (t u v : Tree) (b : Bool) → JoinsValues W t u false → DropsLexicals u v b → JoinsLets W t v b
+then_one W t u v true m k = λ p l. subst (λ x. Moves (LetContracts W) p x v) (m p l).0 (k W p l)
+then_one W t u v false m k = λ p l.
+    let first = m p l in
+    let second = k W p l in
+    (second.0 ∙ first.0, both_rest W p t first.1 (subst (RestsBy Row77Lexical p) first.0 second.1))
+
+pub then_dropped : (W : VariableSet) (t u v : Tree) (r : Result Bool OutOfMemory) → JoinsValues W t u false → IfOk r (DropsLexicals u v) → IfOk r (JoinsLets W t v)
+then_dropped W t u v (Err e) m k = k
+then_dropped W t u v (Ok b) m k = then_one W t u v b m k
 
 -- ---- the rule
 

@@ -6,5 +6,7 @@ pub mod Unreached
 pub mod Guards
 pub mod Assignments
 pub mod LetJoins
+pub mod LexicalDrops
+pub mod Fading
 pub mod Bodies
 pub mod LoopGuards

@@ -19,8 +19,9 @@ use Rattle.mini_tree.specs.declared.options.CompressOptions.{CompressOptions}
 use Rattle.mini_tree.specs.Rule as rule
 use Rattle.mini_context.specs.Facts.{Facts}
 use Rattle.mini_context.specs.Tables.{mark_at}
-use Rattle.mini_rows.specs.Lets.{LetRow, LetContracts}
-use Rattle.mini_rows.specs.Lists.{declaration}
+use Rattle.mini_rows.specs.DeadLexicals.{Row77Lexical}
+use Rattle.mini_rows.specs.Lets.{Row70Let, LetRow, LetContracts}
+use Rattle.mini_rows.specs.Lists.{declaration, InList}
 use Rattle.mini_stmt.specs.JoinAssignments.{declares_bare, beginning_of, assigns_first, left_of}
 use Rattle.mini_stmt.specs.JoinGuards.{last_after}
 use Rattle.mini_stmt.specs.JoinVars.{declares}
@@ -142,7 +143,7 @@ pub record AllJoined (W : VariableSet) (t u : Trees) (changed : Bool) : Type 0 w
 abbrev pub Gives : CompressOptions → Tree → Position → Tree → Tree → Type 0
 Gives o q = LetContracts (writable_in q)
 
--- and rests where the row doesn't read the node
+-- and rests where no row reads the node
 abbrev pub RestsOver : VariableSet → Position → Tree → Type 0
 RestsOver W p n = (w : Tree) → LetRow W p n w → ⊥
 
@@ -152,3 +153,24 @@ Rests q = RestsOver (writable_in q)
 -- the node of a list
 abbrev pub JoinsLets : VariableSet → Tree → Tree → Bool → Type 0
 JoinsLets W t u changed = (p : Position) → is_list_place p ≡ true → rule.Applied (LetContracts W) (RestsOver W) p t u changed
+
+-- ---- by one of the rows
+
+abbrev pub InStatements : (Trees → Trees → Type 0) → Position → Tree → Tree → Type 0
+InStatements R StatementList n w = InList R n w
+InStatements R BodyList n w = InList R n w
+InStatements R _ n w = ⊥
+
+abbrev pub RestsBy : (Trees → Trees → Type 0) → Position → Tree → Type 0
+RestsBy R p n = (w : Tree) → InStatements R p n w → ⊥
+
+abbrev pub ChangesBy : VariableSet → (Trees → Trees → Type 0) → Tree → Tree → Bool → Type 0
+ChangesBy W R t u changed = (p : Position) → is_list_place p ≡ true → rule.Applied (LetContracts W) (RestsBy R) p t u changed
+
+-- the values that are assigned
+abbrev pub JoinsValues : VariableSet → Tree → Tree → Bool → Type 0
+JoinsValues W = ChangesBy W (Row70Let W)
+
+-- what never runs, whichever names can be written
+abbrev pub DropsLexicals : Tree → Tree → Bool → Type 0
+DropsLexicals t u changed = (W : VariableSet) → ChangesBy W Row77Lexical t u changed

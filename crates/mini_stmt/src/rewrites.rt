@@ -1,4 +1,6 @@
+pub mod drop_lexicals;
 pub mod drop_unreached;
+pub mod fading;
 pub mod join_assignments;
 pub mod join_expressions;
 pub mod join_guards;

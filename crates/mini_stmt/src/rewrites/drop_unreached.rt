@@ -6,8 +6,9 @@ ghost use Rattle.mini_laws.specs.declared.names.Declared.TheVariants as declared
 ghost use Rattle.mini_model.specs.Tree.{absent as nothing, children, count, shape_of};
 ghost use Rattle.mini_rows.specs.Lists as list;
 ghost use Rattle.mini_stmt.specs.DropUnreached as row;
-ghost use Rattle.mini_stmt.specs.DropUnreached.{Dropped, EndsAt, Left, PutLeft};
+ghost use Rattle.mini_stmt.specs.DropUnreached.{Dropped, EndsAt, Left, LeftBehind, PutLeft};
 
+use crate::rewrites::fading::{faded, may_fade};
 use crate::statements::put_reversed;
 use crate::terms::{is_terminated, statement_cares_about_scope};
 use mini_held::takes_names_along;
@@ -18,6 +19,15 @@ use mini_scope::push_names;
 use mini_tree::{stmt_weight, weight};
 use std::alloc::Global;
 use std::mem;
+
+/// What may go of what never runs.
+#[derive(Clone, Copy)]
+pub enum Going {
+    /// What declares nothing in its list but `var` names.
+    Statements,
+    /// Classes, `let`s and `const`s.
+    Lexicals,
+}
 
 // The `var` names of a statement.
 fn hoisted_names(alloc: Global, node: &Node) -> Result<Vec<Name>, OutOfMemory>
@@ -72,10 +82,10 @@ pub fn left_behind(alloc: Global, node: &Node) -> Result<Nodes, OutOfMemory>
     of_one(alloc, made)
 }
 
-// Whether that is lighter.
-fn is_lighter(left: &Node, node: &Node) -> bool
-    requires { left.now ≡ row.left_list node.now }
-    ensures { result ≡ list.is_lighter_left node.now }
+// Whether what is left of a statement is lighter.
+fn is_lighter(going: Going, left: &Node, node: &Node) -> bool
+    requires { left.now ≡ row.left_list going node.now }
+    ensures { result ≡ row.is_lighter going node.now }
 {
     weight(left, Position::StatementList) < stmt_weight(node, StmtSeat::List)
 }
@@ -85,25 +95,49 @@ pub fn is_left_lighter(alloc: Global, node: &Node) -> Result<bool, OutOfMemory>
     ensures { IfOk result (λ lighter. lighter ≡ list.is_lighter_left node.now) }
 {
     let left = listed(left_behind(alloc, node)?);
-    let lighter = is_lighter(&left, node);
+    let lighter = is_lighter(Going::Statements, &left, node);
     discard(left);
     Ok(lighter)
 }
 
 // Whether the statement declares nothing else in its list, and takes along each name in it that can't be written.
-fn may_go(node: &Node) -> bool
-    ensures { result ≡ row.may_go node.now }
+fn is_loose(node: &Node) -> bool
+    ensures { result ≡ row.is_loose node.now }
 {
     !statement_cares_about_scope(node) && takes_names_along(node)
 }
 
-// Puts what is left of a statement that may go after the others, if that is lighter, or else the statement.
-fn put_lighter(alloc: Global, before: &mut Nodes, statement: Node) -> Result<bool, OutOfMemory>
-    requires { row.may_go statement ≡ true }
-    ensures { IfOk result (λ went. PutLeft before.old statement before.new went) }
+fn may_go(going: Going, node: &Node) -> bool
+    ensures { result ≡ row.may_go going node.now }
 {
-    let left = listed(left_behind(alloc, &statement)?);
-    if !is_lighter(&left, &statement) {
+    match going {
+        Going::Statements => is_loose(node),
+        Going::Lexicals => may_fade(node),
+    }
+}
+
+// What is left of a statement that goes.
+fn remains(alloc: Global, going: Going, node: &Node) -> Result<Nodes, OutOfMemory>
+    ensures { IfOk result (λ left. left ≡ row.remains going node.now) }
+{
+    match going {
+        Going::Statements => left_behind(alloc, node),
+        Going::Lexicals => faded(alloc, node),
+    }
+}
+
+// Puts what is left of a statement that may go after the others, if that is lighter, or else the statement.
+fn put_lighter(
+    alloc: Global,
+    going: Going,
+    before: &mut Nodes,
+    statement: Node,
+) -> Result<bool, OutOfMemory>
+    requires { row.may_go going statement ≡ true }
+    ensures { IfOk result (λ went. PutLeft going before.old statement before.new went) }
+{
+    let left = listed(remains(alloc, going, &statement)?);
+    if !is_lighter(going, &left, &statement) {
         discard(left);
         before.push(statement)?;
         return Ok(false);
@@ -115,26 +149,31 @@ fn put_lighter(alloc: Global, before: &mut Nodes, statement: Node) -> Result<boo
 }
 
 // Puts what is left of a statement after the others. The answer says whether it goes.
-fn put_left(alloc: Global, before: &mut Nodes, statement: Node) -> Result<bool, OutOfMemory>
-    ensures { IfOk result (λ went. PutLeft before.old statement before.new went) }
+fn put_left(
+    alloc: Global,
+    going: Going,
+    before: &mut Nodes,
+    statement: Node,
+) -> Result<bool, OutOfMemory>
+    ensures { IfOk result (λ went. PutLeft going before.old statement before.new went) }
 {
-    if !may_go(&statement) {
+    if !may_go(going, &statement) {
         before.push(statement)?;
         return Ok(false);
     }
-    put_lighter(alloc, before, statement)
+    put_lighter(alloc, going, before, statement)
 }
 
 // Does all statements, from the first to the last.
-fn leave_all(alloc: Global, list: &mut Nodes) -> Result<bool, OutOfMemory>
-    ensures { IfOk result (λ changed. Left list.old list.new changed) }
+fn leave_all(alloc: Global, going: Going, list: &mut Nodes) -> Result<bool, OutOfMemory>
+    ensures { IfOk result (λ changed. Left going list.old list.new changed) }
 {
     let whole = mem::replace(list, Nodes::new(alloc));
     let mut rest = Nodes::new(alloc);
     put_reversed(&mut rest, whole)?;
     let mut changed = false;
     'statements: while let Some(statement) = rest.pop() {
-        let went = put_left(alloc, list, statement)?;
+        let went = put_left(alloc, going, list, statement)?;
         changed = changed | went;
     }
     Ok(changed)
@@ -153,15 +192,26 @@ fn ends_at(list: &Nodes) -> Option<usize>
 }
 
 // What comes after the statement at a place, which ends in a jump, goes.
-fn drop_after(alloc: Global, list: &mut Nodes, at: usize) -> Result<bool, OutOfMemory>
+fn drop_after(alloc: Global, going: Going, list: &mut Nodes, at: usize) -> Result<bool, OutOfMemory>
     requires { EndsAt list.old (Some at) }
-    ensures { IfOk result (λ changed. Dropped list.old list.new changed) }
+    ensures { IfOk result (λ changed. LeftBehind going list.old list.new changed) }
 {
     let mut rest = list.split_off(at)?;
     list.push(rest.remove(0))?;
-    let changed = leave_all(alloc, &mut rest)?;
+    let changed = leave_all(alloc, going, &mut rest)?;
     list.append(&mut rest)?;
     Ok(changed)
+}
+
+/// What comes after the first statement that ends in a jump goes, as far as it may, but for what is left of it. The answer says whether
+/// anything does; the only error is that memory runs out, and then the list is fit only to be dropped.
+pub fn drop_behind(alloc: Global, going: Going, list: &mut Nodes) -> Result<bool, OutOfMemory>
+    ensures { IfOk result (λ changed. LeftBehind going list.old list.new changed) }
+{
+    match ends_at(list) {
+        Some(at) => drop_after(alloc, going, list, at),
+        None => Ok(false),
+    }
 }
 
 /// What comes after the first statement that ends in a jump goes, but for what it declares. The answer says whether anything
@@ -169,8 +219,5 @@ fn drop_after(alloc: Global, list: &mut Nodes, at: usize) -> Result<bool, OutOfM
 pub fn drop_unreached(alloc: Global, list: &mut Nodes) -> Result<bool, OutOfMemory>
     ensures { IfOk result (λ changed. Dropped list.old list.new changed) }
 {
-    match ends_at(list) {
-        Some(at) => drop_after(alloc, list, at),
-        None => Ok(false),
-    }
+    drop_behind(alloc, Going::Statements, list)
 }

@@ -7,9 +7,10 @@ ghost use Rattle.mini_node.specs.Kinds.{number as number_in, unary_operator as o
 ghost use Rattle.mini_stmt.specs.JoinAssignments.{beginning_of as begins};
 ghost use Rattle.mini_stmt.specs.JoinGuards.{last_after};
 ghost use Rattle.mini_stmt.specs.JoinLets as row;
-ghost use Rattle.mini_stmt.specs.JoinLets.{AllJoined, Gives, Joined, JoinsLets, PutJoined, Rests, WithValue, marked};
+ghost use Rattle.mini_stmt.specs.JoinLets.{AllJoined, Gives, Joined, JoinsLets, JoinsValues, PutJoined, Rests, WithValue, marked};
 ghost use Rattle.mini_stmt.specs.Lighter.{lets_lighter};
 
+use crate::rewrites::drop_lexicals::drop_lexicals;
 use crate::rewrites::join_assignments::{
     assigns_first, beginning_of, declares_bare, initialised, leave,
 };
@@ -222,12 +223,24 @@ fn join_all(alloc: Global, list: &mut Nodes, scopes: &Scopes) -> Result<bool, Ou
 /// lets the name be written. The answer says whether there was one; the only error is that memory runs out, and then the list is fit
 /// only to be dropped.
 pub fn join_lets(alloc: Global, node: &mut Node, scopes: &Scopes) -> Result<bool, OutOfMemory>
-    ensures { IfOk result (JoinsLets (marked scopes.now) node.old node.new) }
+    ensures { IfOk result (JoinsValues (marked scopes.now) node.old node.new) }
 {
     if !is_listed(node) || are_joined(node.children(), scopes) {
         return Ok(false);
     }
     join_all(alloc, node.children_mut(), scopes)
+}
+
+/// A list of statements without what either row of `let`s reads: values that are assigned go into the `let` before them, and where none
+/// does, what would initialize a class, a `let` or a `const` that never runs goes. The answer says whether the list changed; the only
+/// error is that memory runs out, and then the list is fit only to be dropped.
+pub fn minimize_lets(alloc: Global, node: &mut Node, scopes: &Scopes) -> Result<bool, OutOfMemory>
+    ensures { IfOk result (JoinsLets (marked scopes.now) node.old node.new) }
+{
+    if join_lets(alloc, node, scopes)? {
+        return Ok(true);
+    }
+    drop_lexicals(alloc, node)
 }
 
 // Whether a list of statements stands there.
@@ -237,7 +250,7 @@ fn is_list_place(place: Position) -> bool
     matches!(place, Position::StatementList | Position::BodyList)
 }
 
-/// The row of a `let` and an assignment after it as a rule: of each list of statements. Its context says which names the program that
+/// The rows of a `let` and an assignment after it, and of lexical declarations that never run, as a rule: of each list of statements. Its context says which names the program that
 /// it knows lets be written.
 pub struct JoinLets;
 
@@ -258,6 +271,6 @@ impl Rule<TraverseCtx> for JoinLets {
         if !is_list_place(place) {
             return Ok(false);
         }
-        Ok(join_lets(alloc, node, &context.scopes)?)
+        Ok(minimize_lets(alloc, node, &context.scopes)?)
     }
 }

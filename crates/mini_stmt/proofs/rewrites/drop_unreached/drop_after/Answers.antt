@@ -8,7 +8,7 @@ remove-requires c = some_rest c.args.list.now c.in_ok-rest.rest c.args.at c.requ
 
 pub returns : goal.returns
 returns c =
-    after_dropped c.args.list.now c.args.at c.split_off.new.self c.in_ok-rest.rest c.remove.result c.remove.new.self c.leave_all.new.list c.append.new.self c.in_ok-changed.changed c.requires
+    after_dropped c.args.going c.args.list.now c.args.at c.split_off.new.self c.in_ok-rest.rest c.remove.result c.remove.new.self c.leave_all.new.list c.append.new.self c.in_ok-changed.changed c.requires
     (record {
       front_is = c.in_ok-rest.ensures.ok;
       tail_is = c.in_ok-rest.ensures.rest;

@@ -1,5 +1,5 @@
-use Rattle.mini_stmt.proofs.Unreached.{none_dropped}
+use Rattle.mini_stmt.proofs.Unreached.{drops}
 use Rattle.mini_stmt.proofs.rewrites.drop_unreached.drop_unreached.Goals as goal
 
-pub returns-in-None : goal.returns-in-None
-returns-in-None c = none_dropped c.args.list.now c.in-None.ensures
+pub returns : goal.returns
+returns c = drops c.args.list.now c.drop_behind.new.list c.drop_behind.result c.drop_behind.ensures

@@ -13,7 +13,7 @@ pub statements-init : goal.statements-init
 statements-init c =
     let empty = c.replace-whole.ensures.after ∙ c.new.ensures in
     let whole = c.in_ok-put_reversed.ensures.list ∙ ap (λ x. append c.replace-whole.result (reversed x)) c.new-rest.ensures ∙ append_none c.replace-whole.result ∙ c.replace-whole.ensures.value in
-    record { is = ap (λ x. append x (all_left (reversed c.put_reversed.new.rest))) empty ∙ ap all_left whole; said = ap some_go whole }
+    record { is = ap (λ x. append x (all_left c.args.going (reversed c.put_reversed.new.rest))) empty ∙ ap (all_left c.args.going) whole; said = ap (some_go c.args.going) whole }
 
 pub statements-smaller : goal.statements-smaller
 statements-smaller c =
@@ -23,13 +23,13 @@ statements-smaller c =
 pub statements-preserved : goal.statements-preserved
 statements-preserved c =
     let rest = ap reversed c.in-Some.ensures.value ∙ reversed_push c.pop.new.self c.in-Some.statement in
-    let turn = left_turn c.statements.list c.put_left.new.before c.in-Some.statement (reversed c.pop.new.self) c.args.list.now c.statements.changed c.in_ok-went.went
-    (sym (ap (λ x. append c.statements.list (all_left x)) rest) ∙ c.statements.invariant.is)
-    (sym (ap (λ x. c.statements.changed || some_go x) rest) ∙ c.statements.invariant.said)
+    let turn = left_turn c.args.going c.statements.list c.put_left.new.before c.in-Some.statement (reversed c.pop.new.self) c.args.list.now c.statements.changed c.in_ok-went.went
+    (sym (ap (λ x. append c.statements.list (all_left c.args.going x)) rest) ∙ c.statements.invariant.is)
+    (sym (ap (λ x. c.statements.changed || some_go c.args.going x) rest) ∙ c.statements.invariant.said)
     c.in_ok-went.ensures in
     record { is = turn.0; said = turn.1 }
 
 pub returns : goal.returns
 returns c =
     let end = c.in_default.ensures.value.0 in
-    left_end c.statements.list c.args.list.now c.statements.changed (sym (ap (λ x. append c.statements.list (all_left (reversed x))) end) ∙ c.statements.invariant.is) (sym (ap (λ x. c.statements.changed || some_go (reversed x)) end) ∙ c.statements.invariant.said)
+    left_end c.args.going c.statements.list c.args.list.now c.statements.changed (sym (ap (λ x. append c.statements.list (all_left c.args.going (reversed x))) end) ∙ c.statements.invariant.is) (sym (ap (λ x. c.statements.changed || some_go c.args.going (reversed x)) end) ∙ c.statements.invariant.said)

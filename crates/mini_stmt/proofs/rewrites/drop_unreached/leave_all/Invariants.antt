@@ -8,8 +8,8 @@ use Rattle.mini_stmt.proofs.rewrites.drop_unreached.leave_all.Given as goal
 
 abbrev pub invariant-statements : goal.invariant-statements
 invariant-statements l = record {
-  is : append l.list (all_left (reversed l.rest)) ≡ all_left l.fn.list;
-  said : (l.changed || some_go (reversed l.rest)) ≡ some_go l.fn.list;
+  is : append l.list (all_left l.fn.going (reversed l.rest)) ≡ all_left l.fn.going l.fn.list;
+  said : (l.changed || some_go l.fn.going (reversed l.rest)) ≡ some_go l.fn.going l.fn.list;
 }
 
 abbrev pub decreases-statements : goal.decreases-statements
