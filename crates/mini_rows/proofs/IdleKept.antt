@@ -47,18 +47,19 @@ use Rattle.mini_terms.proofs.Reading.{read_by_value, same_by_value, same_item}
 use Rattle.mini_rows.specs.Arranged.{KeptAt}
 use Rattle.mini_rows.specs.Idle.{is_still, is_still_part, is_function, is_unframed, IdleRow, IdleStatement}
 use Rattle.mini_rows.specs.Lists.{for_loop, sequence}
-use Rattle.mini_rows.specs.Sequences.{takes_alone, is_called_plainly}
+use Rattle.mini_rows.specs.Sequences.{takes_alone, stays_alone}
 use Rattle.mini_rows.specs.Sketches.{Sequence, OfExpression, Empty, Parts, part, under, list, end, ◌▹◌, no_items, item, items}
 use Rattle.mini_rows.specs.Steady.{bindings, all_bindings}
 use Rattle.mini_rows.proofs.ArrangedExpressions.{expressions_arranged_freely}
 use Rattle.mini_rows.proofs.ArrangedStatements.{statements_arranged}
 use Rattle.mini_rows.proofs.BranchLawful.{taken, fits_there, body_slot, plain_asked}
 use Rattle.mini_rows.proofs.FoldLawful.{statement_taken, empty_taken, expression_slot, statement_slot, statement_asked}
-use Rattle.mini_rows.proofs.FoldMeaning.{plain_of, value_of}
+use Rattle.mini_rows.proofs.FoldMeaning.{value_of}
 use Rattle.mini_rows.proofs.FoldWeights.{two, there, no_choice}
 use Rattle.mini_rows.proofs.ForPartKept.{in_nothing, gone, init_kept, update_kept, init_fits, update_fits}
 use Rattle.mini_rows.proofs.ForPartMeaning.{quiet_is_nothing, init_weaker, update_weaker}
 use Rattle.mini_rows.proofs.PlainRead.{plain_read}
+use Rattle.mini_rows.proofs.SequenceCalls.{left_called, left_plain}
 use Rattle.mini_rows.proofs.SequenceIdle.{idle_near, alone_near}
 use Rattle.mini_rows.proofs.SequenceLawful.{idle_fits, last_of_two, alone_asked}
 use Rattle.mini_rows.proofs.SequenceStands.{of_sequence, sequence_asked}
@@ -302,6 +303,13 @@ module _ (s : Seat) (n t : Tree) (p : stands n ≡ true) (i : is_item n ≡ true
       go true k c = same_by_value e D X n t p k (h Val) q
       go false k c = let (g, x) = and_parts (is_unguarded s.guard) (is_item t) (or_false (is_unguarded s.guard && is_item t) c) in item_by g x q f
 
+  left_by : stays_alone s t ≡ true → (q : Demand) → Fits (Expr s) q → Same e D X q n t
+  left_by c = go (suits s t) refl
+    where
+      go : (b : Bool) → suits s t ≡ b → (q : Demand) → Fits (Expr s) q → Same e D X q n t
+      go true k = value_by (value_of s t k)
+      go false k = left_called s t c k n p i e D X h
+
 module _ (V : Assured) (has : V.has_this ≡ true) (s : Seat) where
   part_kept : (before : Trees) (a t : Tree) (ts : Trees) → Still a → KeptAt (Expr s) (sequence (append before (a ▸ (t ▸ ts)))) (sequence (append before (t ▸ ts)))
   part_kept before a t ts h =
@@ -333,18 +341,18 @@ module _ (V : Assured) (has : V.has_this ≡ true) (s : Seat) where
         chooses = refl;
       }
 
-  alone_idles : (a t : Tree) → Still a → takes_alone s ≡ true → suits s t ≡ true → is_unframed t ≡ true → Idles V (Expr s) (sequence (a ▸ (t ▸ none))) t
+  alone_idles : (a t : Tree) → Still a → takes_alone s ≡ true → stays_alone s t ≡ true → is_unframed t ≡ true → Idles V (Expr s) (sequence (a ▸ (t ▸ none))) t
   alone_idles a t h seated stays bare =
       let whole : Tree = sequence (a ▸ (t ▸ none)) in
-      let plain = plain_of s t stays in
+      let plain = left_plain s t stays in
       let there_is = unframed t plain bare in
       let falls = alone_falls s seated a t h.heavy plain in record {
-        same = λ e z q f. value_by s whole t refl refl e nothing V.initial (λ u. record { by = λ r y i. alone_near nothing e a (quiet V has e z a h) t u y }) (value_of s t stays) q f;
+        same = λ e z q f. left_by s whole t refl refl e nothing V.initial (λ u. record { by = λ r y i. alone_near nothing e a (quiet V has e z a h) t u y }) stays q f;
         read = sym (plain_read t plain);
         kind = there_is.kind_is;
         fit = λ strict c f. let (takes, fit) = of_sequence strict c (a ▸ (t ▸ none)) f in expression_taken strict c t takes (last_of_two strict a t fit);
         slot = λ strict c f. expression_slot (Expr s) c (of_sequence strict c (a ▸ (t ▸ none)) f).0;
-        asked = alone_asked s (a ▸ (t ▸ none)) t (ap (λ b. b || is_called_plainly s t) stays);
+        asked = alone_asked s (a ▸ (t ▸ none)) t stays;
         kept = expressions_arranged_freely first_dropped (record { trees = a ▸ t ▸ none; lists = [] }) (tt, tt, (vanishes a h.dropped, tt)) (under Sequence (list (item (part 0) (item (part 1) no_items)) ▹ end)) (part 1) refl s whole t refl refl;
         bound = λ k. omega arith;
         bodies = λ b.

@@ -13,7 +13,7 @@ use Rattle.mini_model.specs.Weight.{same_text}
 use Rattle.mini_node.specs.Children.{names_of}
 use Rattle.mini_laws.specs.Value.{Value, VariableSet, variables}
 use Rattle.mini_laws.specs.State.{State, Completion, ok, stop, halt, out, either, Environment}
-use Rattle.mini_laws.specs.Demand.{Val, Demand, As, Callee, OfType, Deleted, AnEntry, Stat, plain_call}
+use Rattle.mini_laws.specs.Demand.{Want, Val, Demand, As, Callee, OfType, Deleted, AnEntry, Stat, plain_call}
 use Rattle.mini_laws.specs.Expressions.{is_eval, first_kind}
 use Rattle.mini_laws.specs.Fits.{Fits}
 use Rattle.mini_laws.specs.Naming.{EvalName, PlainName, UndefinedName, NumberName, kinds, naming, summaries}
@@ -84,14 +84,16 @@ called_near D x y g = absurd g
 no_other : (g h : Guard) → is_callee g ≡ true → g ≡ h → is_callee h ≡ false → ⊥
 no_other g h c e f = true≢false (sym c ∙ ap is_callee e ∙ f)
 
-called_by : (s : Seat) (n t : Tree) → stands n ≡ true → is_item n ≡ true → is_callee s.guard ≡ true → PlainlyCalled t → SameWanted n t → (e : Environment) (D X : VariableSet) (q : Demand) → Fits (Expr s) q → Same e D X q n t
-unfolding by_value
-called_by s n t p i c x h e D X (As u) f = h e D X u
-called_by s n t p i c x h e D X AnEntry f = same_item e D X n t i x.item (h e D X Val)
-called_by s n t p i c x h e D X Callee f = record { by = λ r z j. subst (λ y. Near D y (means e t Callee tt z)) (sym (read_by_value n p e Callee tt z)) (subst (Near D (next (value e n z) (λ v y. ok (plain_call v) y))) (sym (x.called_so e z)) (called_near D (value e n z) (value e t z) ((h e D X Val).by tt z j))) }
-called_by s n t p i c x h e D X OfType f = absurd (no_other s.guard guard.Typeof c f.2 refl)
-called_by s n t p i c x h e D X Deleted f = absurd (no_other s.guard guard.Delete c f.2 refl)
-called_by s n t p i c x h e D X q f = record { by = λ r z j. subst (λ y. Near D y (means e t q r z)) (sym (read_by_value n p e q r z)) (weak D (means e t q r z)) }
+-- in any environment in which it is the same as a value, a truth or nothing
+module _ (s : Seat) (n t : Tree) (p : stands n ≡ true) (i : is_item n ≡ true) (c : is_callee s.guard ≡ true) (x : PlainlyCalled t) (e : Environment) (D X : VariableSet) (h : (u : Want) → Same e D X (As u) n t) where
+  called_by : (q : Demand) → Fits (Expr s) q → Same e D X q n t
+  unfolding by_value
+  called_by (As u) f = h u
+  called_by AnEntry f = same_item e D X n t i x.item (h Val)
+  called_by Callee f = record { by = λ r z j. subst (λ y. Near D y (means e t Callee tt z)) (sym (read_by_value n p e Callee tt z)) (subst (Near D (next (value e n z) (λ v y. ok (plain_call v) y))) (sym (x.called_so e z)) (called_near D (value e n z) (value e t z) ((h Val).by tt z j))) }
+  called_by OfType f = absurd (no_other s.guard guard.Typeof c f.2 refl)
+  called_by Deleted f = absurd (no_other s.guard guard.Delete c f.2 refl)
+  called_by q f = record { by = λ r z j. subst (λ y. Near D y (means e t q r z)) (sym (read_by_value n p e q r z)) (weak D (means e t q r z)) }
 
 -- ---- what is left of a sequence
 
@@ -117,11 +119,15 @@ module _ (s : Seat) (t : Tree) (h : stays_alone s t ≡ true) where
       go true f = not_a_number s t e f
       go false f = (called_name s t (as_name f)).no_number
 
+  -- unless it is read by value
+  pub left_called : suits s t ≡ false → (n : Tree) → stands n ≡ true → is_item n ≡ true → (e : Environment) (D X : VariableSet) → ((u : Want) → Same e D X (As u) n t) → (q : Demand) → Fits (Expr s) q → Same e D X q n t
+  left_called f n p i e D X same q z =
+      let (called_here, name) = and_parts (is_callee s.guard) (is_name (shape_of t) && not (is_spelled (names_of t) (codes "eval"))) (as_name f) in
+      called_by s n t p i called_here (named t name) e D X same q z
+
   pub left_same : (n : Tree) → stands n ≡ true → is_item n ≡ true → SameWanted n t → SameAt (Expr s) n t
   left_same n p i same = go (suits s t) refl
     where
       go : (b : Bool) → suits s t ≡ b → SameAt (Expr s) n t
       go true f = same_in_seat s n t p (value_of s t f) same
-      go false f =
-          let (called_here, name) = and_parts (is_callee s.guard) (is_name (shape_of t) && not (is_spelled (names_of t) (codes "eval"))) (as_name f) in
-          record { by = called_by s n t p i called_here (named t name) same }
+      go false f = record { by = λ e D X q z. left_called f n p i e D X (same e D X) q z }

@@ -7,12 +7,12 @@ use Rattle.mini_model.specs.declared.shape.Shape.TheVariants as shape
 use Rattle.mini_model.specs.Tree.{Tree, Trees, none, ◌▸◌, count, shape_of, absent, expression_statement, empty_statement}
 use Rattle.mini_model.specs.Paths.{append}
 use Rattle.mini_terms.specs.Effects.{ef}
-use Rattle.mini_terms.specs.Parts.{leaves_nothing, suits, weighs}
+use Rattle.mini_terms.specs.Parts.{leaves_nothing, weighs}
 use Rattle.mini_terms.specs.Reading.{is_plain_part}
 use Rattle.mini_kept.specs.Without.{Assured}
 use Rattle.mini_node.specs.Children.{number_of}
 use Rattle.mini_rows.specs.Lists.{for_loop, sequence}
-use Rattle.mini_rows.specs.Sequences.{takes_alone}
+use Rattle.mini_rows.specs.Sequences.{takes_alone, stays_alone}
 
 -- it has no effect where `this` has none, so where the world isn't asked for it (ECMA-262, "ResolveThisBinding"), and leaves nothing behind
 abbrev pub is_still : Tree → Bool
@@ -76,14 +76,14 @@ is_function h = false
 abbrev pub is_unframed : Tree → Bool
 is_unframed t = (number_of t == 0) && not (is_function (shape_of t))
 
--- and where one part is left: `this, a()` becomes `a()`
+-- and where one part is left: `this, a()` becomes `a()`, and `(this, a)()` becomes `a()`
 pub record Row21AloneThis (V : Assured) (s : Seat) (n w : Tree) : Type 0 where
   pub idle : Tree
   pub last : Tree
   pub kept : V.has_this ≡ true
   pub still : is_still idle ≡ true
   pub seated : takes_alone s ≡ true
-  pub stays : suits s last ≡ true
+  pub stays : stays_alone s last ≡ true
   pub unframed : is_unframed last ≡ true
   pub shape : n ≡ sequence (idle ▸ (last ▸ none))
   pub written : w ≡ last

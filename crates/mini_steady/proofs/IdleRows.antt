@@ -13,10 +13,9 @@ use Rattle.mini_node.specs.Children.{first_children, part, rest_children, withou
 use Rattle.mini_node.specs.Kinds.{is_expression_statement, is_sequence, sequence}
 use Rattle.mini_node.specs.Made.{expression_statement_is, sequence_is}
 use Rattle.mini_node.specs.Walks.{from_first, next_child}
-use Rattle.mini_terms.specs.Parts.{suits}
 use Rattle.mini_rows.specs.Idle.{is_still, is_still_part, is_unframed, Row22This, Row22InitThis, Row22UpdateThis, Row21This, Row21AloneThis, IdleRow, IdleStatement}
 use Rattle.mini_rows.specs.Lists.{for_loop}
-use Rattle.mini_rows.specs.Sequences.{takes_alone}
+use Rattle.mini_rows.specs.Sequences.{takes_alone, stays_alone}
 use Rattle.mini_rows.specs.Steady.{SteadyRow}
 use Rattle.mini_steady.specs.Chains.{once}
 use Rattle.mini_steady.specs.Idle.{does_nothing, is_for, begins_still, turns_still, headless, turn_written, head_written, statement_written, written_in, still_before_last, is_left, loses_part, Loses, LosesIn}
@@ -144,14 +143,14 @@ last_loses s t is e V has = go (children (part t 0)) refl e
   where
     go : (ts : Trees) → children (part t 0) ≡ ts → is_left s ts ≡ true → IdleRow V s t (child_or_absent (children (part t 0)) 1)
     go (a ▸ (b ▸ none)) h e =
-        let (seated, rest) = and_parts (takes_alone s) (is_still a && (suits s b && is_unframed b)) e in
-        let (still, others) = and_parts (is_still a) (suits s b && is_unframed b) rest in
-        let (stays, unframed) = and_parts (suits s b) (is_unframed b) others in
+        let (seated, rest) = and_parts (takes_alone s) (is_still a && (stays_alone s b && is_unframed b)) e in
+        let (still, others) = and_parts (is_still a) (stays_alone s b && is_unframed b) rest in
+        let (stays, unframed) = and_parts (stays_alone s b) (is_unframed b) others in
         inr (record { idle = a; last = b; kept = has; still = still; seated = seated; stays = stays; unframed = unframed; shape = sequence_is t is ∙ ap sequence h; written = ap (λ us. child_or_absent us 1) h })
     go none h e = absurd (true≢false (sym e))
     go (a ▸ none) h e = absurd (true≢false (sym e))
     go (a ▸ (b ▸ (c ▸ ts))) h e =
-        let two = eqb-true (count (a ▸ (b ▸ (c ▸ ts)))) 2 (and_parts (nat_eq (count (a ▸ (b ▸ (c ▸ ts)))) 2) (takes_alone s && (is_still a && (suits s b && is_unframed b))) e).0 in absurd (omega (arith, two))
+        let two = eqb-true (count (a ▸ (b ▸ (c ▸ ts)))) 2 (and_parts (nat_eq (count (a ▸ (b ▸ (c ▸ ts)))) 2) (takes_alone s && (is_still a && (stays_alone s b && is_unframed b))) e).0 in absurd (omega (arith, two))
 
 found_still : (before : Trees) (a q : Tree) (qs : Trees) → is_still a ≡ true → still_before_last (append before (a ▸ (q ▸ qs))) ≡ true
 found_still none a q qs e = ap (λ b. b || still_before_last (q ▸ qs)) e
@@ -171,8 +170,8 @@ loses_still s before a q qs e h =
 rests : (s : Seat) (t : Tree) → loses_part s t ≡ false → (V : Assured) (w : Tree) → IdleRow V s t w → ⊥
 rests s t l V w (inl r) = true≢false (sym (loses_still s r.before r.idle r.next r.after r.still r.several) ∙ sym (ap (loses_part s) r.shape) ∙ l)
 rests s t l V w (inr r) =
-    true≢false (sym (both_true (takes_alone s) (is_still r.idle && (suits s r.last && is_unframed r.last)) r.seated
-    (both_true (is_still r.idle) (suits s r.last && is_unframed r.last) r.still (both_true (suits s r.last) (is_unframed r.last) r.stays r.unframed)))
+    true≢false (sym (both_true (takes_alone s) (is_still r.idle && (stays_alone s r.last && is_unframed r.last)) r.seated
+    (both_true (is_still r.idle) (stays_alone s r.last && is_unframed r.last) r.still (both_true (stays_alone s r.last) (is_unframed r.last) r.stays r.unframed)))
     ∙ sym (ap (loses_part s) r.shape) ∙ l)
 
 -- what is no sequence loses no part
