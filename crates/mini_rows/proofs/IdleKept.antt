@@ -47,7 +47,7 @@ use Rattle.mini_terms.proofs.Reading.{read_by_value, same_by_value, same_item}
 use Rattle.mini_rows.specs.Arranged.{KeptAt}
 use Rattle.mini_rows.specs.Idle.{is_still, is_still_part, is_function, is_unframed, IdleRow, IdleStatement}
 use Rattle.mini_rows.specs.Lists.{for_loop, sequence}
-use Rattle.mini_rows.specs.Sequences.{takes_alone, is_called_plainly}
+use Rattle.mini_rows.specs.Sequences.{takes_alone, is_called_plainly, is_typed_plainly}
 use Rattle.mini_rows.specs.Sketches.{Sequence, OfExpression, Empty, Parts, part, under, list, end, ◌▹◌, no_items, item, items}
 use Rattle.mini_rows.specs.Steady.{bindings, all_bindings}
 use Rattle.mini_rows.proofs.ArrangedExpressions.{expressions_arranged_freely}
@@ -344,7 +344,7 @@ module _ (V : Assured) (has : V.has_this ≡ true) (s : Seat) where
         kind = there_is.kind_is;
         fit = λ strict c f. let (takes, fit) = of_sequence strict c (a ▸ (t ▸ none)) f in expression_taken strict c t takes (last_of_two strict a t fit);
         slot = λ strict c f. expression_slot (Expr s) c (of_sequence strict c (a ▸ (t ▸ none)) f).0;
-        asked = alone_asked s (a ▸ (t ▸ none)) t (ap (λ b. b || is_called_plainly s t) stays);
+        asked = alone_asked s (a ▸ (t ▸ none)) t (ap (λ b. b || (is_called_plainly s t || is_typed_plainly s t)) stays);
         kept = expressions_arranged_freely first_dropped (record { trees = a ▸ t ▸ none; lists = [] }) (tt, tt, (vanishes a h.dropped, tt)) (under Sequence (list (item (part 0) (item (part 1) no_items)) ▹ end)) (part 1) refl s whole t refl refl;
         bound = λ k. omega arith;
         bodies = λ b.
