@@ -59,7 +59,7 @@ use Rattle.mini_rows.proofs.FoldWeights.{two, there, no_choice}
 use Rattle.mini_rows.proofs.ForPartKept.{in_nothing, gone, init_kept, update_kept, init_fits, update_fits}
 use Rattle.mini_rows.proofs.ForPartMeaning.{quiet_is_nothing, init_weaker, update_weaker}
 use Rattle.mini_rows.proofs.PlainRead.{plain_read}
-use Rattle.mini_rows.proofs.SequenceCalls.{left_called, left_plain}
+use Rattle.mini_rows.proofs.SequenceCalls.{left_read, left_plain}
 use Rattle.mini_rows.proofs.SequenceIdle.{idle_near, alone_near}
 use Rattle.mini_rows.proofs.SequenceLawful.{idle_fits, last_of_two, alone_asked}
 use Rattle.mini_rows.proofs.SequenceStands.{of_sequence, sequence_asked}
@@ -308,7 +308,7 @@ module _ (s : Seat) (n t : Tree) (p : stands n ≡ true) (i : is_item n ≡ true
     where
       go : (b : Bool) → suits s t ≡ b → (q : Demand) → Fits (Expr s) q → Same e D X q n t
       go true k = value_by (value_of s t k)
-      go false k = left_called s t c k n p i e D X h
+      go false k = left_read s t c k n p i e D X h
 
 module _ (V : Assured) (has : V.has_this ≡ true) (s : Seat) where
   part_kept : (before : Trees) (a t : Tree) (ts : Trees) → Still a → KeptAt (Expr s) (sequence (append before (a ▸ (t ▸ ts)))) (sequence (append before (t ▸ ts)))

@@ -1,4 +1,5 @@
--- A name is called as the sequence that it was the last part of: without a `this`, and not as a direct eval.
+-- What is left of a sequence where a reference is asked. A name is called as the sequence was that it was the last part of: without a
+-- `this`, and not as a direct eval. What `typeof` reads by its value it reads so in the sequence, too.
 use Rattle.std.proofs.Common.{◌≡◌, ℕ, Bool, true, false, List, [], ◌∷◌, refl, sym, ap, subst, ◌∙◌, true≢false}
 use Rattle.std.specs.Prelude.{◌&&◌, ◌||◌, not, None, codes, is_none, if◌then◌else◌}
 use Rattle.std.proofs.lemmas.Bool.{and_parts}
@@ -21,11 +22,11 @@ use Rattle.mini_laws.specs.Rows.{SameAt}
 use Rattle.mini_laws.specs.Same.{Goes, Agree, Same}
 use Rattle.mini_laws.specs.Step.{step, means, meaning}
 use Rattle.mini_terms.specs.Parts.{is_number, takes_numbers, suits}
-use Rattle.mini_terms.specs.Reading.{is_item, is_plain_part, stands, by_value, SameWanted}
+use Rattle.mini_terms.specs.Reading.{is_item, is_plain_part, is_typed_by_value, stands, by_value, SameWanted}
 use Rattle.mini_terms.proofs.Dropping.{weak}
-use Rattle.mini_terms.proofs.Reading.{read_by_value, same_item, same_in_seat}
+use Rattle.mini_terms.proofs.Reading.{read_by_value, typed_by_value, same_item, same_in_seat}
 use Rattle.mini_rows.specs.Decrements.{is_name, is_spelled}
-use Rattle.mini_rows.specs.Sequences.{is_callee, is_called_plainly, stays_alone}
+use Rattle.mini_rows.specs.Sequences.{is_callee, is_called_plainly, is_typeof, is_typed_plainly, stays_alone}
 use Rattle.mini_rows.proofs.ChainRuns.{next, called, value, named_call, name_kind}
 use Rattle.mini_rows.proofs.FoldMeaning.{plain_of, value_of}
 use Rattle.mini_rows.proofs.FoldWeights.{not_a_number}
@@ -95,39 +96,66 @@ module _ (s : Seat) (n t : Tree) (p : stands n ≡ true) (i : is_item n ≡ true
   called_by Deleted f = absurd (no_other s.guard guard.Delete c f.2 refl)
   called_by q f = record { by = λ r z j. subst (λ y. Near D y (means e t q r z)) (sym (read_by_value n p e q r z)) (weak D (means e t q r z)) }
 
+-- ---- under `typeof`
+
+record PlainlyTyped (s : Seat) (t : Tree) : Type 0 where
+  asked : is_typeof s.guard ≡ true
+  typed : is_typed_by_value t ≡ true
+  plain : is_plain_part t ≡ true
+  no_number : is_number t ≡ false
+
+typed_part : (s : Seat) (t : Tree) → is_typed_plainly s t ≡ true → PlainlyTyped s t
+typed_part s t h =
+    let (asked, rest) = and_parts (is_typeof s.guard) (is_typed_by_value t && (is_plain_part t && not (is_number t))) h in
+    let (typed, others) = and_parts (is_typed_by_value t) (is_plain_part t && not (is_number t)) rest in
+    let (plain, none) = and_parts (is_plain_part t) (not (is_number t)) others in
+    record { asked = asked; typed = typed; plain = plain; no_number = not_true (is_number t) none }
+
+typed_item : (t : Tree) → is_typed_by_value t ≡ true → is_item t ≡ true
+typed_item (node shape.Identifier xs n ts) h = refl
+typed_item (node k xs n ts) h = h
+
+no_typeof : (g h : Guard) → is_typeof g ≡ true → g ≡ h → is_typeof h ≡ false → ⊥
+no_typeof g h c e f = true≢false (sym c ∙ ap is_typeof e ∙ f)
+
+-- in any environment in which it is the same as a value, a truth or nothing
+module _ (s : Seat) (n t : Tree) (p : stands n ≡ true) (i : is_item n ≡ true) (x : PlainlyTyped s t) (e : Environment) (D X : VariableSet) (h : (u : Want) → Same e D X (As u) n t) where
+  typed_by : (q : Demand) → Fits (Expr s) q → Same e D X q n t
+  unfolding by_value
+  typed_by (As u) f = h u
+  typed_by AnEntry f = same_item e D X n t i (typed_item t x.typed) (h Val)
+  typed_by OfType f = record { by = λ r z j. subst (λ y. Near D y (means e t OfType tt z)) (sym (read_by_value n p e OfType tt z)) (subst (Near D (value e n z)) (sym (typed_by_value t x.typed e z)) ((h Val).by tt z j)) }
+  typed_by Callee f = absurd (no_typeof s.guard guard.Callee x.asked f.2 refl)
+  typed_by Deleted f = absurd (no_typeof s.guard guard.Delete x.asked f.2 refl)
+  typed_by q f = record { by = λ r z j. subst (λ y. Near D y (means e t q r z)) (sym (read_by_value n p e q r z)) (weak D (means e t q r z)) }
+
 -- ---- what is left of a sequence
 
-either_way : (b c : Bool) → b || c ≡ true → b ≡ false → c ≡ true
-either_way true c e f = absurd (true≢false f)
-either_way false c e f = e
-
 module _ (s : Seat) (t : Tree) (h : stays_alone s t ≡ true) where
-  as_name : suits s t ≡ false → is_called_plainly s t ≡ true
-  as_name f = either_way (suits s t) (is_called_plainly s t) h f
+  left_by : (A : Type 0) → (suits s t ≡ true → A) → (is_called_plainly s t ≡ true → A) → (is_typed_plainly s t ≡ true → A) → A
+  left_by A f g k = go (suits s t) (is_called_plainly s t) (is_typed_plainly s t) f g k h
+    where
+      go : (b c d : Bool) → (b ≡ true → A) → (c ≡ true → A) → (d ≡ true → A) → b || (c || d) ≡ true → A
+      go true c d f g k e = f refl
+      go false true d f g k e = g refl
+      go false false d f g k e = k e
 
   pub left_plain : is_plain_part t ≡ true
-  left_plain = go (suits s t) refl
-    where
-      go : (b : Bool) → suits s t ≡ b → is_plain_part t ≡ true
-      go true f = plain_of s t f
-      go false f = (called_name s t (as_name f)).plain
+  left_plain = left_by (is_plain_part t ≡ true) (plain_of s t) (λ c. (called_name s t c).plain) (λ c. (typed_part s t c).plain)
 
   pub left_number : takes_numbers s ≡ false → is_number t ≡ false
-  left_number e = go (suits s t) refl
-    where
-      go : (b : Bool) → suits s t ≡ b → is_number t ≡ false
-      go true f = not_a_number s t e f
-      go false f = (called_name s t (as_name f)).no_number
+  left_number e = left_by (is_number t ≡ false) (not_a_number s t e) (λ c. (called_name s t c).no_number) (λ c. (typed_part s t c).no_number)
 
-  -- unless it is read by value
-  pub left_called : suits s t ≡ false → (n : Tree) → stands n ≡ true → is_item n ≡ true → (e : Environment) (D X : VariableSet) → ((u : Want) → Same e D X (As u) n t) → (q : Demand) → Fits (Expr s) q → Same e D X q n t
-  left_called f n p i e D X same q z =
-      let (called_here, name) = and_parts (is_callee s.guard) (is_name (shape_of t) && not (is_spelled (names_of t) (codes "eval"))) (as_name f) in
-      called_by s n t p i called_here (named t name) e D X same q z
+  -- unless it is read by its value
+  pub left_read : suits s t ≡ false → (n : Tree) → stands n ≡ true → is_item n ≡ true → (e : Environment) (D X : VariableSet) → ((u : Want) → Same e D X (As u) n t) → (q : Demand) → Fits (Expr s) q → Same e D X q n t
+  left_read f n p i e D X same q z = left_by (Same e D X q n t) (λ g. absurd (true≢false (sym g ∙ f)))
+      (λ c. let (called_here, name) = and_parts (is_callee s.guard) (is_name (shape_of t) && not (is_spelled (names_of t) (codes "eval"))) c in
+      called_by s n t p i called_here (named t name) e D X same q z)
+      (λ c. typed_by s n t p i (typed_part s t c) e D X same q z)
 
   pub left_same : (n : Tree) → stands n ≡ true → is_item n ≡ true → SameWanted n t → SameAt (Expr s) n t
   left_same n p i same = go (suits s t) refl
     where
       go : (b : Bool) → suits s t ≡ b → SameAt (Expr s) n t
       go true f = same_in_seat s n t p (value_of s t f) same
-      go false f = record { by = λ e D X q z. left_called f n p i e D X (same e D X) q z }
+      go false f = record { by = λ e D X q z. left_read f n p i e D X (same e D X) q z }

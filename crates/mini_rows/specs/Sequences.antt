@@ -21,6 +21,7 @@ use Rattle.mini_model.specs.Weight.{outlines, weight, place_weight, is_parenthes
 use Rattle.mini_node.specs.Children.{names_of}
 use Rattle.mini_terms.specs.Folds.{is_effect_free}
 use Rattle.mini_terms.specs.Parts.{is_number, suits, leaves_nothing, weighs}
+use Rattle.mini_terms.specs.Reading.{is_plain_part, is_typed_by_value}
 use Rattle.mini_rows.specs.Decrements.{is_name, is_spelled}
 use Rattle.mini_rows.specs.Lists.{sequence}
 use Rattle.mini_rows.specs.Spellings.{binary}
@@ -132,9 +133,18 @@ is_callee g = false
 abbrev pub is_called_plainly : Seat → Tree → Bool
 is_called_plainly s t = is_callee s.guard && (is_name (shape_of t) && not (is_spelled (names_of t) (codes "eval")))
 
+abbrev pub is_typeof : Guard → Bool
+is_typeof guard.Typeof = true
+is_typeof g = false
+
+-- `typeof` reads by its value what is no name, and a name that a scope declares (ECMA-262, "The typeof Operator"); a name that nobody
+-- declares is `undefined` there, where the sequence would raise
+abbrev pub is_typed_plainly : Seat → Tree → Bool
+is_typed_plainly s t = is_typeof s.guard && (is_typed_by_value t && (is_plain_part t && not (is_number t)))
+
 -- what is left of a sequence means there what the sequence did
 abbrev pub stays_alone : Seat → Tree → Bool
-stays_alone s t = suits s t || is_called_plainly s t
+stays_alone s t = suits s t || (is_called_plainly s t || is_typed_plainly s t)
 
 -- ---- rows
 
@@ -176,7 +186,7 @@ pub record Row21Idle (n w : Tree) : Type 0 where
   pub shape : n ≡ sequence (append before (idle ▸ (next ▸ after)))
   pub written : w ≡ sequence (append before (next ▸ after))
 
--- and where one part is left: `1, a()` becomes `a()`, and `(0, a)()` becomes `a()`
+-- and where one part is left: `1, a()` becomes `a()`, `(0, a)()` becomes `a()`, and `typeof (0, a.b)` becomes `typeof a.b`
 pub record Row21Alone (s : Seat) (n w : Tree) : Type 0 where
   pub idle : Tree
   pub last : Tree

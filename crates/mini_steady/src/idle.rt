@@ -1,29 +1,25 @@
 //! Rows 21 and 22 of what has no effect where a body has its `this`: `a(), this, b()` becomes `a(), b()`, `this, a()` `a()`, `(this, a)()`
 //! `a()`, `this;` `;`, and `for (this; a; this) b` `for (; a;) b`.
 
-ghost use Rattle.std.specs.Prelude.{◌≡◌, ◌+◌, ◌<◌, ◌||◌, true, false, nat_le, is_some, unwrap_or, codes, IfOk, IfSome};
+ghost use Rattle.std.specs.Prelude.{◌≡◌, ◌+◌, ◌<◌, ◌||◌, true, false, nat_le, is_some, unwrap_or, IfOk, IfSome};
 ghost use Rattle.mini_model.specs.Tree.{children, count, child_or_absent};
-ghost use Rattle.mini_node.specs.Children.{names, part, without};
+ghost use Rattle.mini_node.specs.Children.{part, without};
 ghost use Rattle.mini_node.specs.Kinds.{sequence as sequence_of, is_sequence as is_it_sequence};
-ghost use Rattle.mini_rows.specs.Decrements.{is_spelled};
 ghost use Rattle.mini_rows.specs.Idle.{is_still as is_it_still, is_still_part as is_it_still_part, is_unframed as is_it_unframed};
-ghost use Rattle.mini_rows.specs.Sequences.{is_unmixed as is_it_unmixed, takes_alone as takes_it_alone, is_callee as is_it_callee, is_called_plainly as is_it_called_plainly, stays_alone as stays_it_alone};
 ghost use Rattle.mini_steady.specs.Declarations.{known_of};
 ghost use Rattle.mini_steady.specs.Idle as row;
 ghost use Rattle.mini_steady.specs.Idle.{Loses, LosesIn};
 
 use crate::code::BodyCode;
 use crate::steady::SteadyNames;
-use mini_model::{Guard, Mix, Name, OutOfMemory, Seat, Shape};
+use mini_held::{stays_alone, takes_alone};
+use mini_model::{OutOfMemory, Seat, Shape};
 use mini_node::{
     Node, Nodes, discard, empty_statement, is_expression_statement, is_sequence, one, sequence,
     taken, two,
 };
-use mini_terms::{is_effect_free, is_plain_part, leaves_nothing, suits, weighs};
+use mini_terms::{is_effect_free, is_plain_part, leaves_nothing, weighs};
 use std::alloc::Global;
-
-// The units of `eval`.
-const EVAL: [u16; 4] = [101, 118, 97, 108];
 
 // Whether it has no effect where the world isn't asked for `this`, and may go.
 fn is_still(node: &Node) -> bool
@@ -130,53 +126,6 @@ fn drop_part(alloc: Global, node: &mut Node, seat: Seat) -> Result<bool, OutOfMe
         }
         None => Ok(false),
     }
-}
-
-fn is_unmixed(mix: Mix) -> bool
-    ensures { result ≡ is_it_unmixed mix }
-{
-    match mix {
-        Mix::None => true,
-        _ => false,
-    }
-}
-
-// Whether an expression has parentheses here only where a sequence has them too.
-fn takes_alone(seat: Seat) -> bool
-    ensures { result ≡ takes_it_alone seat }
-{
-    seat.level > 0 || !seat.access && !seat.new_callee && is_unmixed(seat.mix)
-}
-
-fn is_callee(guard: Guard) -> bool
-    ensures { result ≡ is_it_callee guard }
-{
-    matches!(guard, Guard::Callee)
-}
-
-fn is_spelled_eval(name: &Option<Name>) -> bool
-    ensures { result ≡ is_spelled (names name.now) (codes "eval") }
-{
-    match name {
-        Some(name) => name.spelling.as_slice() == EVAL.as_slice(),
-        None => false,
-    }
-}
-
-// Whether it is a name that is called here, and not `eval`.
-fn is_called_plainly(seat: Seat, node: &Node) -> bool
-    ensures { result ≡ is_it_called_plainly seat node.now }
-{
-    is_callee(seat.guard)
-        && matches!(node.shape(), Shape::Identifier)
-        && !is_spelled_eval(node.name())
-}
-
-// Whether it means here what a sequence does of which it is left.
-fn stays_alone(seat: Seat, node: &Node) -> bool
-    ensures { result ≡ stays_it_alone seat node.now }
-{
-    suits(seat, node) || is_called_plainly(seat, node)
 }
 
 // Whether what stands around it says nothing of its body or its frame.

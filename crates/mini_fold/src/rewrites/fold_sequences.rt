@@ -1,24 +1,24 @@
 //! Rows 20 and 21: a sequence is lifted out of the first operand of a logical expression, a conditional, a `!`, `+`, `-` or `~`, an operator
 //! of two, or a `yield`, or of such nodes one in the first operand of the other, and spread in a sequence; parts that have no effect go, but the last.
-//! `(a, b) && c` becomes `a, b && c`, `-(a, b)` becomes `a, -b`, `(a, b) + c < d` becomes `a, b + c < d`, `a, (b, c)` becomes `a, b, c`, `a(), 1, b()` becomes `a(), b()`, and `(0, a)()` becomes `a()`. What is written is lighter in every place.
+//! `(a, b) && c` becomes `a, b && c`, `-(a, b)` becomes `a, -b`, `(a, b) + c < d` becomes `a, b + c < d`, `a, (b, c)` becomes `a, b, c`, `a(), 1, b()` becomes `a(), b()`, `(0, a)()` becomes `a()`, and `typeof (0, a.b)` becomes `typeof a.b`. What is written is lighter in every place.
 
 ghost use Rattle.std.specs.Prelude.{◌≡◌, ◌+◌, ◌<◌, ◌==◌, ◌&&◌, true, false, nat_le, is_some, IfOk, IfSome};
 ghost use Rattle.mini_model.specs.Tree.{children, count, child_or_absent, shape_of};
 ghost use Rattle.mini_node.specs.Children.{part, without};
 ghost use Rattle.mini_node.specs.Kinds.{sequence as sequence_of, is_sequence as is_it_sequence, is_sequence_shape, unary_operator as unary_operator_of};
 ghost use Rattle.mini_terms.specs.Parts.{is_number as is_it_number};
-ghost use Rattle.mini_rows.specs.Sequences.{is_bare_at as is_it_bare_at, is_unmixed as is_it_unmixed, takes_alone as takes_it_alone, is_callee as is_it_callee, is_called_plainly as is_it_called_plainly, stays_alone as stays_it_alone};
+ghost use Rattle.mini_rows.specs.Sequences.{is_bare_at as is_it_bare_at};
 ghost use Rattle.mini_tree.specs.Rule.{Applied};
 ghost use Rattle.mini_fold.specs.FoldSequences.{has_several as has_it_several, is_several as is_it_several, converts as converts_by, is_minus as is_it_minus, is_yield as is_it_yield, is_operation as is_it_operation, takes_last_of, gives_parts as it_gives_parts, reaches_sequence as reaches_it_sequence, ends_bare as end_they_bare, leaves_bare as leaves_it_bare, has_room as has_it_room, is_lifted as is_it_lifted, last_of, but_last, parts_before, left_of, lifted, any_of, spread_at, is_nested as is_it_nested, is_idle as is_it_idle, idle_before_last, is_left as is_it_left, Gives, Rests};
 ghost use Rattle.mini_fold.specs.Lighter.{sequences_lighter};
 
-use crate::rewrites::decrement_counter::is_spelled_eval;
-use mini_model::{Guard, Mix, OutOfMemory, Position, Seat, Shape, UnaryOperator};
+use mini_held::{stays_alone, takes_alone};
+use mini_model::{OutOfMemory, Position, Seat, Shape, UnaryOperator};
 use mini_node::{
     Node, Nodes, absent, binary_operator, discard, is_conditional, is_negation, is_sequence,
     logical_operator, one, sequence, take_first, taken, two, unary_operator,
 };
-use mini_terms::{has_no_effect, leaves_nothing, suits, weighs};
+use mini_terms::{has_no_effect, leaves_nothing, weighs};
 use mini_tree::{Context, Rule, child_place, place_weight, seats};
 use std::alloc::Global;
 
@@ -332,44 +332,6 @@ fn drop_part(alloc: Global, node: &mut Node, seat: Seat) -> Result<bool, OutOfMe
         }
         None => Ok(false),
     }
-}
-
-// Whether an expression has parentheses here only where a sequence has them too.
-fn takes_alone(seat: Seat) -> bool
-    ensures { result ≡ takes_it_alone seat }
-{
-    seat.level > 0 || !seat.access && !seat.new_callee && is_unmixed(seat.mix)
-}
-
-fn is_unmixed(mix: Mix) -> bool
-    ensures { result ≡ is_it_unmixed mix }
-{
-    match mix {
-        Mix::None => true,
-        _ => false,
-    }
-}
-
-fn is_callee(guard: Guard) -> bool
-    ensures { result ≡ is_it_callee guard }
-{
-    matches!(guard, Guard::Callee)
-}
-
-// Whether it is a name that is called here, and not `eval`.
-fn is_called_plainly(seat: Seat, node: &Node) -> bool
-    ensures { result ≡ is_it_called_plainly seat node.now }
-{
-    is_callee(seat.guard)
-        && matches!(node.shape(), Shape::Identifier)
-        && !is_spelled_eval(node.name())
-}
-
-// Whether it means here what a sequence does of which it is left.
-fn stays_alone(seat: Seat, node: &Node) -> bool
-    ensures { result ≡ stays_it_alone seat node.now }
-{
-    suits(seat, node) || is_called_plainly(seat, node)
 }
 
 // Whether of two parts the last one may stand alone.
