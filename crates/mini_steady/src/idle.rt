@@ -6,7 +6,7 @@ ghost use Rattle.mini_model.specs.Tree.{children, count, child_or_absent};
 ghost use Rattle.mini_node.specs.Children.{names, part, without};
 ghost use Rattle.mini_node.specs.Kinds.{sequence as sequence_of, is_sequence as is_it_sequence};
 ghost use Rattle.mini_rows.specs.Decrements.{is_spelled};
-ghost use Rattle.mini_rows.specs.Idle.{is_still as is_it_still, is_still_part as is_it_still_part, is_unframed as is_it_unframed};
+ghost use Rattle.mini_rows.specs.Idle.{is_still as is_it_still, is_still_part as is_it_still_part};
 ghost use Rattle.mini_rows.specs.Sequences.{is_unmixed as is_it_unmixed, takes_alone as takes_it_alone, is_callee as is_it_callee, is_called_plainly as is_it_called_plainly, stays_alone as stays_it_alone};
 ghost use Rattle.mini_steady.specs.Declarations.{known_of};
 ghost use Rattle.mini_steady.specs.Idle as row;
@@ -179,13 +179,6 @@ fn stays_alone(seat: Seat, node: &Node) -> bool
     suits(seat, node) || is_called_plainly(seat, node)
 }
 
-// Whether what stands around it says nothing of its body or its frame.
-fn is_unframed(node: &Node) -> bool
-    ensures { result ≡ is_it_unframed node.now }
-{
-    node.number() == 0 && !matches!(node.shape(), Shape::Function(_, _, _))
-}
-
 // Whether of two parts the last one may stand alone.
 fn is_left(seat: Seat, parts: &Nodes) -> bool
     ensures { result ≡ row.is_left seat parts.now }
@@ -194,7 +187,6 @@ fn is_left(seat: Seat, parts: &Nodes) -> bool
         && takes_alone(seat)
         && is_still(parts.child(0))
         && stays_alone(seat, parts.child(1))
-        && is_unframed(parts.child(1))
 }
 
 fn last_of_two(node: Node) -> Node
