@@ -1,7 +1,7 @@
 -- What is written where something goes that has no effect where a body has its `this` means the same there, keeps what a program has to keep, and is lighter.
 use Rattle.std.proofs.Common.{◌≡◌, ◌<◌, ◌≤◌, ◌+◌, ℕ, suc, Bool, true, false, List, [], ◌∷◌, ◌++◌, refl, sym, ap, subst, subst₂, ◌∙◌, inl, inr, arith, true≢false}
-use Rattle.std.specs.Prelude.{◌⊎◌, ◌&&◌, ◌||◌, ◌==◌, not, Option, None, nat_le}
-use Rattle.std.proofs.lemmas.Bool.{and_parts, eqb-true}
+use Rattle.std.specs.Prelude.{◌⊎◌, ◌&&◌, ◌||◌, Option, None, nat_le}
+use Rattle.std.proofs.lemmas.Bool.{and_parts}
 use Rattle.mini_model.specs.declared.kind.PropertyKind.{PropertyKind}
 use Rattle.mini_model.specs.declared.name.Name.{Name}
 use Rattle.mini_model.specs.declared.place.Position.{Position}
@@ -45,11 +45,11 @@ use Rattle.mini_terms.proofs.Opened.{statement_opened}
 use Rattle.mini_terms.proofs.Dropping.{weak}
 use Rattle.mini_terms.proofs.Reading.{read_by_value, same_by_value, same_item}
 use Rattle.mini_rows.specs.Arranged.{KeptAt}
-use Rattle.mini_rows.specs.Idle.{is_still, is_still_part, is_function, is_unframed, IdleRow, IdleStatement}
+use Rattle.mini_rows.specs.Idle.{is_still, is_still_part, IdleRow, IdleStatement}
 use Rattle.mini_rows.specs.Lists.{for_loop, sequence}
 use Rattle.mini_rows.specs.Sequences.{takes_alone, stays_alone}
 use Rattle.mini_rows.specs.Sketches.{Sequence, OfExpression, Empty, Parts, part, under, list, end, ◌▹◌, no_items, item, items}
-use Rattle.mini_rows.specs.Steady.{bindings, all_bindings}
+use Rattle.mini_rows.specs.Steady.{bindings, all_bindings, AroundAt, PropertyAt}
 use Rattle.mini_rows.proofs.ArrangedExpressions.{expressions_arranged_freely}
 use Rattle.mini_rows.proofs.ArrangedStatements.{statements_arranged}
 use Rattle.mini_rows.proofs.BranchLawful.{taken, fits_there, body_slot, plain_asked}
@@ -78,8 +78,8 @@ pub record Idles (V : Assured) (p : Position) (n w : Tree) : Type 0 where
   pub asked : AskedAlike p n w
   pub kept : KeptAt p n w
   pub bound : (k : ℕ) → bindings k w ≤ bindings k n
-  pub bodies : (a : Around) → BodiesKept (bodies a n) (bodies a w)
-  pub frames : (k : Option PropertyKind) → FramesKept (frames k n) (frames k w)
+  pub bodies : (a : Around) → AroundAt p a → BodiesKept (bodies a n) (bodies a w)
+  pub frames : (k : Option PropertyKind) → PropertyAt p k → FramesKept (frames k n) (frames k w)
   pub lighter : weight p w < weight p n
   pub absent : (outline n).absent ≡ (outline w).absent
   pub is_zero : ((outline n).is_zero ≡ (outline w).is_zero) ⊎ (weight p w + 2 ≤ weight p n)
@@ -133,8 +133,8 @@ module _ (V : Assured) (has : V.has_this ≡ true) (q : StmtSeat) where
     asked = statement_asked q a;
     kept = statements_arranged first_dropped (record { trees = a ▸ none; lists = [] }) (tt, tt, (vanishes a h.dropped, tt)) (under OfExpression (part 0 ▹ end)) (under Empty end) refl q (expression_statement a) empty_statement refl refl;
     bound = λ k. omega arith;
-    bodies = λ a. tt;
-    frames = λ k f c. in_nothing (frames k (expression_statement a)) f c;
+    bodies = λ a z. tt;
+    frames = λ k z f c. in_nothing (frames k (expression_statement a)) f c;
     lighter = omega arith;
     absent = refl;
     is_zero = inl refl;
@@ -156,8 +156,8 @@ module _ (V : Assured) (has : V.has_this ≡ true) (q : StmtSeat) where
       asked = plain_asked (Stmt q) (for_loop i t u b) (for_loop absent t u b) refl refl;
       kept = init_kept q i absent (gone an_init i plain (vanishes i h.dropped)) t u b;
       bound = λ k. omega arith;
-      bodies = λ a. let rest = bodies_from (λ j. inner a) 1 (t ▸ (u ▸ (b ▸ none))) in body_lists.second_of (bodies (inner a) i) rest rest (kept_itself rest);
-      frames = λ k. let rest = frames_from (λ j. None) 1 (t ▸ (u ▸ (b ▸ none))) in frame_lists.second_of (frames None i) rest rest (λ f c. c);
+      bodies = λ a z. let rest = bodies_from (λ j. inner a) 1 (t ▸ (u ▸ (b ▸ none))) in body_lists.second_of (bodies (inner a) i) rest rest (kept_itself rest);
+      frames = λ k z. let rest = frames_from (λ j. None) 1 (t ▸ (u ▸ (b ▸ none))) in frame_lists.second_of (frames None i) rest rest (λ f c. c);
       lighter = let heavy = two statement_expression_seat i h.heavy in omega (arith, heavy);
       absent = refl;
       is_zero = inl refl;
@@ -175,14 +175,14 @@ module _ (V : Assured) (has : V.has_this ≡ true) (q : StmtSeat) where
       asked = plain_asked (Stmt q) (for_loop i t u b) (for_loop i t absent b) refl refl;
       kept = update_kept q u absent (gone an_expression u plain (vanishes u h.dropped)) i t b;
       bound = λ k. omega arith;
-      bodies = λ a.
+      bodies = λ a z.
           let bi = bodies (inner a) i in
           let bt = bodies (inner a) t in
           let bu = bodies (inner a) u in
           let rest = bodies_from (λ j. inner a) 3 (b ▸ none) in
           body_lists.each_of bi (bt ++ (bu ++ rest)) bi (bt ++ rest) (kept_itself bi)
           (body_lists.each_of bt (bu ++ rest) bt rest (kept_itself bt) (body_lists.second_of bu rest rest (kept_itself rest)));
-      frames = λ k.
+      frames = λ k z.
           let fi = frames None i in
           let ft = frames None t in
           let fu = frames None u in
@@ -231,51 +231,32 @@ bound_fewer : (k : ℕ) (before : Trees) (a : Tree) (ts : Trees) → all_binding
 bound_fewer k none a ts = omega arith
 bound_fewer k (p ▸ ps) a ts = let rest = bound_fewer k ps a ts in omega (arith, rest)
 
--- what a plain part has by itself it has there, too, unless what stands around it says something of it
+-- what a plain part has by itself it has there, too, unless what stands around it makes a function a constructor
 
 abbrev own : Around → Around
 own a = record a { constructs = false; is_assigned = false }
 
-module _ (a : Around) where
-  bodies_alike : (h : Shape) (xs : List Name) (n : ℕ) (ts : Trees) → is_plain_part (node h xs n ts) ≡ true → is_function h ≡ false → bodies (own a) (node h xs n ts) ≡ bodies a (node h xs n ts)
-  bodies_alike (shape.Function d g ds) xs n ts p f = absurd (true≢false f)
-  bodies_alike (shape.Program m ds) xs n ts p f = absurd (true≢false (sym p))
-  bodies_alike (shape.MethodDefinition k c s) xs n ts p f = absurd (true≢false (sym p))
-  bodies_alike (shape.PropertyDefinition c s) xs n ts p f = absurd (true≢false (sym p))
-  bodies_alike (shape.AssignmentTargetPropertyProperty c) xs n ts p f = absurd (true≢false (sym p))
-  bodies_alike shape.Listed xs n ts p f = absurd (true≢false (sym p))
-  bodies_alike shape.RestElement xs n ts p f = absurd (true≢false (sym p))
-  bodies_alike shape.AssignmentPattern xs n ts p f = absurd (true≢false (sym p))
-  bodies_alike shape.InnerExpression xs n ts p f = absurd (true≢false (sym p))
-  bodies_alike h xs n ts p f = refl
+bodies_alike : (a : Around) (h : Shape) (xs : List Name) (n : ℕ) (ts : Trees) → is_plain_part (node h xs n ts) ≡ true → a.constructs ≡ false → bodies (own a) (node h xs n ts) ≡ bodies a (node h xs n ts)
+bodies_alike a (shape.Function d g ds) xs n ts p c = ap (λ b. bodies (record a { constructs = b; is_assigned = false }) (node (shape.Function d g ds) xs n ts)) (sym c)
+bodies_alike a (shape.Program m ds) xs n ts p c = absurd (true≢false (sym p))
+bodies_alike a (shape.MethodDefinition k b s) xs n ts p c = absurd (true≢false (sym p))
+bodies_alike a (shape.PropertyDefinition b s) xs n ts p c = absurd (true≢false (sym p))
+bodies_alike a (shape.AssignmentTargetPropertyProperty b) xs n ts p c = absurd (true≢false (sym p))
+bodies_alike a shape.Listed xs n ts p c = absurd (true≢false (sym p))
+bodies_alike a shape.RestElement xs n ts p c = absurd (true≢false (sym p))
+bodies_alike a shape.AssignmentPattern xs n ts p c = absurd (true≢false (sym p))
+bodies_alike a shape.InnerExpression xs n ts p c = absurd (true≢false (sym p))
+bodies_alike a h xs n ts p c = refl
 
-frames_alike : (k : Option PropertyKind) (h : Shape) (xs : List Name) (ts : Trees) → is_plain_part (node h xs 0 ts) ≡ true → frames None (node h xs 0 ts) ≡ frames k (node h xs 0 ts)
-frames_alike k (shape.Program m ds) xs ts p = absurd (true≢false (sym p))
-frames_alike k h xs ts p = refl
+own_alike : (a : Around) (t : Tree) → is_plain_part t ≡ true → a.constructs ≡ false → bodies (own a) t ≡ bodies a t
+own_alike a (node h xs n ts) p c = bodies_alike a h xs n ts p c
 
 kinds_alike : (h : Shape) (xs : List Name) (n : ℕ) (ts : Trees) → is_plain_part (node h xs n ts) ≡ true → arrow_kind shape.SequenceExpression ≡ arrow_kind h
 kinds_alike shape.FunctionBody xs n ts p = absurd (true≢false (sym p))
 kinds_alike h xs n ts p = refl
 
-record Unframed (t : Tree) : Type 0 where
-  bodies_are : (a : Around) → bodies (own a) t ≡ bodies a t
-  frames_are : (k : Option PropertyKind) → frames None t ≡ frames k t
-  kind_is : arrow_kind shape.SequenceExpression ≡ arrow_kind (shape_of t)
-
-not_true : (b : Bool) → not b ≡ true → b ≡ false
-not_true false e = refl
-not_true true e = absurd (true≢false (sym e))
-
-unframed : (t : Tree) → is_plain_part t ≡ true → is_unframed t ≡ true → Unframed t
-unframed (node h xs n ts) p u =
-    let (no_number, no_function) = and_parts (n == 0) (not (is_function h)) u in record {
-      bodies_are = λ a. bodies_alike a h xs n ts p (not_true (is_function h) no_function);
-      frames_are = λ k. numberless n (eqb-true n 0 no_number) p k;
-      kind_is = kinds_alike h xs n ts p;
-    }
-  where
-    numberless : (m : ℕ) → m ≡ 0 → is_plain_part (node h xs m ts) ≡ true → (k : Option PropertyKind) → frames None (node h xs m ts) ≡ frames k (node h xs m ts)
-    numberless m e p k = subst (λ m. frames None (node h xs m ts) ≡ frames k (node h xs m ts)) (sym e) (frames_alike k h xs ts p)
+kind_alike : (t : Tree) → is_plain_part t ≡ true → arrow_kind shape.SequenceExpression ≡ arrow_kind (shape_of t)
+kind_alike (node h xs n ts) p = kinds_alike h xs n ts p
 
 -- what is the same as a value, a truth or nothing in an environment is so whatever is asked in the seat
 
@@ -333,36 +314,35 @@ module _ (V : Assured) (has : V.has_this ≡ true) (s : Seat) where
         asked = sequence_asked (Expr s) (append before (a ▸ (t ▸ ts))) (append before (t ▸ ts));
         kept = part_kept before a t ts h;
         bound = λ k. let fewer = bound_fewer k before a (t ▸ ts) in omega (arith, fewer);
-        bodies = λ b. body_lists.each_of (bodies_from (λ k. own b) 0 (append before (a ▸ (t ▸ ts)))) [] (bodies_from (λ k. own b) 0 (append before (t ▸ ts))) [] (bodies_fewer (own b) before a (t ▸ ts) 0 0) tt;
-        frames = λ k. frame_lists.each_of (frames_from (λ k. None) 0 (append before (a ▸ (t ▸ ts)))) [] (frames_from (λ k. None) 0 (append before (t ▸ ts))) [] (frames_fewer before a (t ▸ ts) 0 0) (λ f c. c);
+        bodies = λ b z. body_lists.each_of (bodies_from (λ k. own b) 0 (append before (a ▸ (t ▸ ts)))) [] (bodies_from (λ k. own b) 0 (append before (t ▸ ts))) [] (bodies_fewer (own b) before a (t ▸ ts) 0 0) tt;
+        frames = λ k z. frame_lists.each_of (frames_from (λ k. None) 0 (append before (a ▸ (t ▸ ts)))) [] (frames_from (λ k. None) 0 (append before (t ▸ ts))) [] (frames_fewer before a (t ▸ ts) 0 0) (λ f c. c);
         lighter = idle_falls s before a t ts;
         absent = refl;
         is_zero = inl refl;
         chooses = refl;
       }
 
-  alone_idles : (a t : Tree) → Still a → takes_alone s ≡ true → stays_alone s t ≡ true → is_unframed t ≡ true → Idles V (Expr s) (sequence (a ▸ (t ▸ none))) t
-  alone_idles a t h seated stays bare =
+  alone_idles : (a t : Tree) → Still a → takes_alone s ≡ true → stays_alone s t ≡ true → Idles V (Expr s) (sequence (a ▸ (t ▸ none))) t
+  alone_idles a t h seated stays =
       let whole : Tree = sequence (a ▸ (t ▸ none)) in
       let plain = left_plain s t stays in
-      let there_is = unframed t plain bare in
       let falls = alone_falls s seated a t h.heavy plain in record {
         same = λ e z q f. left_by s whole t refl refl e nothing V.initial (λ u. record { by = λ r y i. alone_near nothing e a (quiet V has e z a h) t u y }) stays q f;
         read = sym (plain_read t plain);
-        kind = there_is.kind_is;
+        kind = kind_alike t plain;
         fit = λ strict c f. let (takes, fit) = of_sequence strict c (a ▸ (t ▸ none)) f in expression_taken strict c t takes (last_of_two strict a t fit);
         slot = λ strict c f. expression_slot (Expr s) c (of_sequence strict c (a ▸ (t ▸ none)) f).0;
         asked = alone_asked s (a ▸ (t ▸ none)) t stays;
         kept = expressions_arranged_freely first_dropped (record { trees = a ▸ t ▸ none; lists = [] }) (tt, tt, (vanishes a h.dropped, tt)) (under Sequence (list (item (part 0) (item (part 1) no_items)) ▹ end)) (part 1) refl s whole t refl refl;
         bound = λ k. omega arith;
-        bodies = λ b.
+        bodies = λ b z.
             let last = bodies (own b) t in
             let idle = bodies (own b) a in
-            body_lists.first_of (idle ++ (last ++ [])) [] (bodies b t) (body_lists.second_of idle (last ++ []) (bodies b t) (body_lists.first_of last [] (bodies b t) (subst (BodiesKept last) (there_is.bodies_are b) (kept_itself last))));
-        frames = λ k.
+            body_lists.first_of (idle ++ (last ++ [])) [] (bodies b t) (body_lists.second_of idle (last ++ []) (bodies b t) (body_lists.first_of last [] (bodies b t) (subst (BodiesKept last) (own_alike b t plain (z refl)) (kept_itself last))));
+        frames = λ k z.
             let last = frames None t in
             let idle = frames None a in
-            frame_lists.first_of (idle ++ (last ++ [])) [] (frames k t) (frame_lists.second_of idle (last ++ []) (frames k t) (frame_lists.first_of last [] (frames k t) (same_frames last (frames k t) (there_is.frames_are k))));
+            frame_lists.first_of (idle ++ (last ++ [])) [] (frames k t) (frame_lists.second_of idle (last ++ []) (frames k t) (frame_lists.first_of last [] (frames k t) (same_frames last (frames k t) (ap (λ j. frames j t) (sym (z refl))))));
         lighter = omega (arith, falls);
         absent = sym (there t plain);
         is_zero = inr falls;
@@ -371,4 +351,4 @@ module _ (V : Assured) (has : V.has_this ≡ true) (s : Seat) where
 
 pub expressions_idle : (V : Assured) (s : Seat) (n w : Tree) → IdleRow V s n w → Idles V (Expr s) n w
 expressions_idle V s n w (inl r) = along V (Expr s) n w _ _ r.shape r.written (part_idles V r.kept s r.before r.idle r.next r.after (still_is r.idle r.still) r.several)
-expressions_idle V s n w (inr r) = along V (Expr s) n w _ _ r.shape r.written (alone_idles V r.kept s r.idle r.last (still_is r.idle r.still) r.seated r.stays r.unframed)
+expressions_idle V s n w (inr r) = along V (Expr s) n w _ _ r.shape r.written (alone_idles V r.kept s r.idle r.last (still_is r.idle r.still) r.seated r.stays)

@@ -24,7 +24,7 @@ use Rattle.mini_kept.specs.AlikeBodies.{BodiesKept}
 use Rattle.mini_kept.specs.Frames.{frames, FramesKept}
 use Rattle.mini_kept.proofs.BodyLists.{kept_itself}
 use Rattle.mini_kept.proofs.FrameLists.{same_frames}
-use Rattle.mini_rows.specs.Steady.{bindings, all_bindings, LexicalRows, LexicalKeepsOwn, ReadsMore}
+use Rattle.mini_rows.specs.Steady.{bindings, all_bindings, AroundAt, PropertyAt, LexicalRows, LexicalKeepsOwn, ReadsMore}
 use Rattle.mini_rows.specs.Lexical.{is_of, is_of_by, is_of_outside, all_pass, are_held, LexicalStatement, LexicalRow, LexicalLightens}
 use Rattle.mini_rows.specs.Cases.{ended}
 use Rattle.mini_rows.specs.Lists.{block, for_loop}
@@ -165,8 +165,8 @@ lexical_own V = record {
   fixed = λ p n w r. (kept_at p n w (lexical_kind V.unshared p n w r)).fixed;
   declared = λ p n w r. (kept_at p n w (lexical_kind V.unshared p n w r)).declared;
   bound = at_place V.unshared (λ p n w. (k : ℕ) → bindings k w ≤ bindings k n) (λ q. statement_bound V.unshared);
-  bodies = at_place V.unshared (λ p n w. (a : Around) → BodiesKept (bodies a n) (bodies a w)) (λ q. statement_bodies V.unshared);
-  frames = at_place V.unshared (λ p n w. (k : Option PropertyKind) → FramesKept (frames k n) (frames k w)) (λ q. statement_frames V.unshared);
+  bodies = at_place V.unshared (λ p n w. (a : Around) → AroundAt p a → BodiesKept (bodies a n) (bodies a w)) (λ q n w r a z. statement_bodies V.unshared n w r a);
+  frames = at_place V.unshared (λ p n w. (k : Option PropertyKind) → PropertyAt p k → FramesKept (frames k n) (frames k w)) (λ q n w r k z. statement_frames V.unshared n w r k);
   lightens = lexical_lightens V.unshared;
 }
 

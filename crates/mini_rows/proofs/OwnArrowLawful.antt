@@ -147,7 +147,7 @@ module _ (F : OwnRows) (keeps : (V : Assured) → KeepsOwn V (F V)) (S : BodySet
   after es fs gs h = each_frame es fs es gs (λ f m. m) h
 
   whole_frames : FramesKept (frames None f) (frames None f')
-  whole_frames = after own_frame _ _ (after (frames None ps) _ _ (each_frame (frames None t) [] (frames None u) [] (own_frames F keeps t (S k) s None) (λ f m. m)))
+  whole_frames = after own_frame _ _ (after (frames None ps) _ _ (each_frame (frames None t) [] (frames None u) [] (own_frames F keeps t (S k) s None (λ m. refl)) (λ f m. m)))
 
   abbrev own_body : Around → Tree → List Body
   own_body a v = body_of a (shape.ArrowFunctionExpression ds) k (arrow_over ds k ps v) (ps ▸ (v ▸ none))
@@ -166,7 +166,7 @@ module _ (F : OwnRows) (keeps : (V : Assured) → KeepsOwn V (F V)) (S : BodySet
       each_under W S nothing (own_body a t) (bodies (below_it a 0) ps ++ (bodies (below_it a 1) t ++ [])) (own_body a u) (bodies (below_it a 0) ps ++ (bodies (below_it a 1) u ++ []))
       (inl (record { number = refl; kind = inl (own_kind F keeps t (S k) s); strict = refl; asks_this = refl; same = λ e z y X g. runs e y X g }), tt)
       (each_under W S nothing (bodies (below_it a 0) ps) _ (bodies (below_it a 0) ps) _ (itself_under W S nothing (bodies (below_it a 0) ps))
-      (each_under W S nothing (bodies (below_it a 1) t) [] (bodies (below_it a 1) u) [] (kept_under S W (bodies (below_it a 1) t) (bodies (below_it a 1) u) (own_bodies F keeps t (S k) s (below_it a 1))) tt))
+      (each_under W S nothing (bodies (below_it a 1) t) [] (bodies (below_it a 1) u) [] (kept_under S W (bodies (below_it a 1) t) (bodies (below_it a 1) u) (own_bodies F keeps t (S k) s (below_it a 1) (λ m. refl))) tt))
 
   whole_steadies : SteadiesWith W S p f f'
   whole_steadies = record {

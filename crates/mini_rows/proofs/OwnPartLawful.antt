@@ -161,12 +161,12 @@ module _ (F : OwnRows) (keeps : (V : Assured) → KeepsOwn V (F V)) (S : BodySet
         let inner = below a shape.StaticBlock (t ▸ none) 0 in
         each_under W S nothing (body_of a shape.StaticBlock k (block_over k t) (t ▸ none)) (bodies inner t ++ []) (body_of a shape.StaticBlock k (block_over k u) (u ▸ none)) (bodies inner u ++ [])
         (inl (record { number = refl; kind = inl refl; strict = refl; asks_this = refl; same = λ e y x X g. own_runs_over F keeps c V e x shape.StaticBlock k Elsewhere (own_first _ _ t u none s) (λ j. omega (arith, l j)) o FunctionStatements tt X (known_begins c V X g) }), tt)
-        (each_under W S nothing (bodies inner t) [] (bodies inner u) [] (kept_under S W (bodies inner t) (bodies inner u) (own_bodies F keeps c V s inner)) tt)
+        (each_under W S nothing (bodies inner t) [] (bodies inner u) [] (kept_under S W (bodies inner t) (bodies inner u) (own_bodies F keeps c V s inner (λ m. refl))) tt)
     part_bodies (an_inner p t u s l o) q a z =
         let inner = below a shape.InnerExpression (t ▸ none) 0 in
         each_under W S nothing (own_body t) (bodies inner t ++ []) (own_body u) (bodies inner u ++ [])
         (own_kept a.is_assigned refl)
-        (each_under W S nothing (bodies inner t) [] (bodies inner u) [] (kept_under S W (bodies inner t) (bodies inner u) (own_bodies F keeps c V s inner)) tt)
+        (each_under W S nothing (bodies inner t) [] (bodies inner u) [] (kept_under S W (bodies inner t) (bodies inner u) (own_bodies F keeps c V s inner (λ m. refl))) tt)
       where
         own_body : Tree → List Body
         own_body v = body_of a shape.InnerExpression k (inner_over k v) (v ▸ none)
@@ -234,7 +234,7 @@ module _ (F : OwnRows) (keeps : (V : Assured) → KeepsOwn V (F V)) (S : BodySet
       reached = more Elsewhere t u u (flat s) (done Elsewhere u)
 
       keeps_frames : KeepsFramesBut none_gone R
-      keeps_frames = record { places = places; frames = λ p n w r strict c z e a. kept_are_shown n w (own.frames p n w r None) a }
+      keeps_frames = record { places = places; frames = λ p n w r strict c z e a. kept_are_shown n w (own.frames p n w r None (λ m. refl)) a }
 
       whole_frames : FramesShown (gone_from K (undeclared u)) (KeyGivenUnder W S (undeclared u) (bodies_in t)) (frames_in t) (frames_in u)
       whole_frames =

@@ -87,10 +87,10 @@ module _ (F : OwnRows) (keeps : (V : Assured) → KeepsOwn V (F V)) (places : (V
   whole_bodies =
       each_under W S nothing (own_body t) (bodies inner t ++ []) (own_body u) (bodies inner u ++ [])
       (inl (record { number = refl; kind = inl refl; strict = refl; asks_this = refl; same = λ e z y X g. own_runs_over F keeps t (S k) e y (shape.Program m ds) k Elsewhere (own_first _ _ t u none s) (λ j. omega arith) program_off Program tt X (known_begins t (S k) X g) }), tt)
-      (each_under W S nothing (bodies inner t) [] (bodies inner u) [] (kept_under S W (bodies inner t) (bodies inner u) (own_bodies F keeps t (S k) s inner)) tt)
+      (each_under W S nothing (bodies inner t) [] (bodies inner u) [] (kept_under S W (bodies inner t) (bodies inner u) (own_bodies F keeps t (S k) s inner (λ m. refl))) tt)
 
   keeps_frames : KeepsFramesBut none_gone Q
-  keeps_frames = record { places = any_places F places; frames = λ p n w r strict c z e a. kept_are_shown n w (own.frames p n w r None) a }
+  keeps_frames = record { places = any_places F places; frames = λ p n w r strict c z e a. kept_are_shown n w (own.frames p n w r None (λ m. refl)) a }
 
   whole_frames : IsWellShaped f → FramesShown (gone_from K (undeclared f')) (KeyGivenUnder W S (undeclared f') (bodies_in f)) (frames_in f) (frames_in f')
   whole_frames e =

@@ -30,7 +30,7 @@ use Rattle.mini_rows.specs.Arranged.{KeptAt}
 use Rattle.mini_rows.specs.Idle.{IdleRow, IdleStatement}
 use Rattle.mini_rows.specs.Members.{Object, OfThis, OfName, is_kept, begins_at, is_ready, Index, Written, Held, is_kept_index, is_ready_index, MemberRow}
 use Rattle.mini_rows.specs.Past.{leaves}
-use Rattle.mini_rows.specs.Steady.{bindings, SteadyRow, KeepsOwn, ReadsMore, SteadyMeansSame, SteadyLightens}
+use Rattle.mini_rows.specs.Steady.{bindings, AroundAt, PropertyAt, SteadyRow, KeepsOwn, ReadsMore, SteadyMeansSame, SteadyLightens}
 use Rattle.mini_rows.specs.Unused.{resolved}
 use Rattle.mini_rows.proofs.FadingSteps.{same_fades}
 use Rattle.mini_rows.proofs.IdleKept.{Idles, expressions_idle, statements_idle}
@@ -48,8 +48,8 @@ record Here (V : Assured) (p : Position) (n w : Tree) : Type 0 where
   place : is_rewritten_place p ≡ true
   kept : KeptAt p n w
   bound : (k : ℕ) → bindings k w ≤ bindings k n
-  bodies_kept : (a : Around) → BodiesKept (bodies a n) (bodies a w)
-  frames_kept : (k : Option PropertyKind) → FramesKept (frames k n) (frames k w)
+  bodies_kept : (a : Around) → AroundAt p a → BodiesKept (bodies a n) (bodies a w)
+  frames_kept : (k : Option PropertyKind) → PropertyAt p k → FramesKept (frames k n) (frames k w)
   lighter : weight p w < weight p n
   absent : (outline n).absent ≡ (outline w).absent
   items : counts_items p ≡ true → (outline n).items ≡ (outline w).items
@@ -68,8 +68,8 @@ member_here V s n w r =
       place = refl;
       kept = k.kept;
       bound = k.bound;
-      bodies_kept = λ a. subst (BodiesKept (bodies a n)) (k.bodies a) (kept_itself (bodies a n));
-      frames_kept = λ q. same_frames (frames q n) (frames q w) (k.frames q);
+      bodies_kept = λ a z. subst (BodiesKept (bodies a n)) (k.bodies a) (kept_itself (bodies a n));
+      frames_kept = λ q z. same_frames (frames q n) (frames q w) (k.frames q);
       lighter = k.lighter;
       absent = ap (λ o. o.absent) k.outlined;
       items = λ c. absurd (true≢false (sym c));
@@ -182,7 +182,7 @@ module _ (V : Assured) (X : VariableSet) (holds : (x : Variable) → V.initial x
 
   idle_more : (s : Seat) (n w : Tree) → IdleRow V s n w → IdleRow V' s n w
   idle_more s n w (inl r) = inl (record { before = r.before; idle = r.idle; next = r.next; after = r.after; kept = r.kept; still = r.still; several = r.several; shape = r.shape; written = r.written })
-  idle_more s n w (inr r) = inr (record { idle = r.idle; last = r.last; kept = r.kept; still = r.still; seated = r.seated; stays = r.stays; unframed = r.unframed; shape = r.shape; written = r.written })
+  idle_more s n w (inr r) = inr (record { idle = r.idle; last = r.last; kept = r.kept; still = r.still; seated = r.seated; stays = r.stays; shape = r.shape; written = r.written })
 
   statement_more : (n w : Tree) → IdleStatement V n w → IdleStatement V' n w
   statement_more n w (inl r) = inl (record { expression = r.expression; kept = r.kept; still = r.still; shape = r.shape; written = r.written })

@@ -1,8 +1,10 @@
 -- What a row of steady names writes in the body of a function is lawful where those names are steady in that body.
-use Rattle.std.specs.Prelude.{ℕ, zero, suc, ◌≡◌, ◌<◌, ◌≤◌, ◌⊎◌, refl, Bool, true, false, List, [], ◌∷◌, ◌++◌, Option, Some, None, not, ◌&&◌, if◌then◌else◌, Contains}
+use Rattle.std.specs.Prelude.{ℕ, zero, suc, ◌+◌, ◌≡◌, ◌<◌, ◌≤◌, ◌⊎◌, refl, Bool, true, false, List, [], ◌∷◌, ◌++◌, Option, Some, None, not, ◌&&◌, if◌then◌else◌, Contains}
 use Rattle.std.proofs.Common.{ap, ◌∙◌, sym, subst, subst₂, length, inl, inr, arith, true≢false}
 use Rattle.std.proofs.lemmas.Bool.{and_parts}
+use Rattle.mini_model.specs.declared.kind.MethodDefinitionKind.TheVariants as method
 use Rattle.mini_model.specs.declared.kind.PropertyKind.{PropertyKind}
+use Rattle.mini_model.specs.declared.kind.PropertyKind.TheVariants.{Init}
 use Rattle.mini_model.specs.declared.kind.VariableDeclarationKind.{VariableDeclarationKind}
 use Rattle.mini_model.specs.declared.name.Name.{Name}
 use Rattle.mini_model.specs.declared.place.Position.{Position}
@@ -24,7 +26,7 @@ use Rattle.mini_laws.specs.Step.{step, means}
 use Rattle.mini_laws.specs.Rows.{SameAt}
 use Rattle.mini_laws.specs.Fixity.{fixed_by}
 use Rattle.mini_laws.specs.Body.{BodyKind, FunctionStatements, body_demand}
-use Rattle.mini_laws.specs.Bodies.{Around, below, Body, bodies, bodies_from, body_of, arrow_kind}
+use Rattle.mini_laws.specs.Bodies.{Around, below, constructs_below, Body, bodies, bodies_from, body_of, arrow_kind}
 use Rattle.mini_laws.specs.Skeleton.{plus, minus, Within, Off, hidden, hidden_all, kept, lets_at, along, list_needs, after_first, after_left, needs, Rules, Sound, TreesGo}
 use Rattle.mini_laws.specs.Fits.{Fits}
 use Rattle.mini_laws.specs.Asking.{demand, declaration_demand, head_demand, left_demand}
@@ -56,7 +58,7 @@ use Rattle.mini_kept.proofs.FrameLists.{each_of as each_frame}
 use Rattle.mini_kept.proofs.WithoutLists.{from_kept, more_under, nothing_within, each_under, itself_under}
 use Rattle.mini_rows.specs.Fading.{Fades, FadingFrom}
 use Rattle.mini_rows.specs.Past.{binds}
-use Rattle.mini_rows.specs.Steady.{SteadyRow, bindings, all_bindings, Begun, nothing_begun, lists_lexical, OfChild, OfNone, beginning, nth_lets, lets_as, head_lets, begins_by, begins, begun_at, valued, known_in, own_rows, KeepsOwn, has_body, OwnStep, own_here, own_inside, OwnStepIn, own_first, own_later, OwnRows, LexicalRows, OwnFunctionRow, OwnFunction, SteadyFunctionsAreLawful, SteadyFunctionsLighten, LexicalFunctionsAreLawful, LexicalFunctionsLighten}
+use Rattle.mini_rows.specs.Steady.{SteadyRow, bindings, all_bindings, Begun, nothing_begun, is_method_place, AroundAt, PropertyAt, lists_lexical, OfChild, OfNone, beginning, nth_lets, lets_as, head_lets, begins_by, begins, begun_at, valued, known_in, own_rows, KeepsOwn, has_body, OwnStep, own_here, own_inside, OwnStepIn, own_first, own_later, OwnRows, LexicalRows, OwnFunctionRow, OwnFunction, SteadyFunctionsAreLawful, SteadyFunctionsLighten, LexicalFunctionsAreLawful, LexicalFunctionsLighten}
 use Rattle.mini_rows.proofs.Fading.{fading_rules, fading_sound}
 use Rattle.mini_rows.proofs.FadingSteps.{trees_fade_from, tree_itself, runs_alike}
 use Rattle.mini_rows.proofs.LexicalKept.{lexical_own}
@@ -179,8 +181,8 @@ pub record KeepsForm (R : Position → Tree → Tree → Type 0) : Type 0 where
   pub fixed : (p : Position) (n w : Tree) → R p n w → (x : Variable) → fixed_by n x ≡ fixed_by w x
   pub declared : (p : Position) (n w : Tree) → R p n w → (x : Name) → Contains (declared w) x → Contains (declared n) x
   pub bound : (p : Position) (n w : Tree) → R p n w → (k : ℕ) → bindings k w ≤ bindings k n
-  pub bodies : (p : Position) (n w : Tree) → R p n w → (a : Around) → BodiesKept (bodies a n) (bodies a w)
-  pub frames : (p : Position) (n w : Tree) → R p n w → (k : Option PropertyKind) → FramesKept (frames k n) (frames k w)
+  pub bodies : (p : Position) (n w : Tree) → R p n w → (a : Around) → AroundAt p a → BodiesKept (bodies a n) (bodies a w)
+  pub frames : (p : Position) (n w : Tree) → R p n w → (k : Option PropertyKind) → PropertyAt p k → FramesKept (frames k n) (frames k w)
   pub lightens : Lightens R
 
 pub any_form : (F : OwnRows) → ((V : Assured) → KeepsOwn V (F V)) → KeepsForm (AnyRow F)
@@ -361,6 +363,39 @@ module _ (c : Tree) (X : VariableSet) where
       let there = more_known c X before.symbols (begins L.in_lexical h p (summaries ts) i) (needs h q S ts i) (begun_wide h p q L S ts fit a w o f i) in
       within_trans (K next) _ _ (within_minus (K next) _ (hidden_all ts) (begun_off c X h p L ts o f (suc i)) there) (needs_next L.in_lexical h p q S ts fit a i)
 
+-- ---- what a place tells of what stands around a child
+
+-- the place of the child that stands behind so many
+abbrev shift : ℕ → ℕ → ℕ
+shift i zero = i
+shift i (suc j) = shift (suc i) j
+
+shifted : (i j : ℕ) → shift i j ≡ i + j
+shifted i zero = omega arith
+shifted i (suc j) = let rest = shifted (suc i) j in omega (arith, rest)
+
+from_zero : (j : ℕ) → j ≡ shift 0 j
+from_zero j = let rest = shifted 0 j in omega (arith, rest)
+
+constructs_there : (a : Around) (h : Shape) (p : Position) (m i : ℕ) → is_method_place (child_position h p m i) ≡ false → constructs_below a h i ≡ false
+constructs_there a (shape.MethodDefinition k computed b) p m (suc i) e = absurd (true≢false e)
+constructs_there a (shape.MethodDefinition method.Constructor computed b) p m zero e = refl
+constructs_there a h p m i e = refl
+
+around_below : (a : Around) (h : Shape) (p : Position) (ts : Trees) (m i j : ℕ) → j ≡ i → AroundAt (child_position h p m j) (below a h ts i)
+around_below a h p ts m i j is e = constructs_there a h p m i (subst (λ k. is_method_place (child_position h p m k) ≡ false) is e)
+
+property_there : (h : Shape) (p : Position) (m i : ℕ) → is_method_place (child_position h p m i) ≡ false → property_below h i ≡ None
+property_there (shape.ObjectProperty Init false shorthand computed) p m i e = refl
+property_there (shape.ObjectProperty Init true shorthand computed) p m (suc i) e = absurd (true≢false e)
+property_there (shape.ObjectProperty k true shorthand computed) p m (suc i) e = absurd (true≢false e)
+property_there (shape.ObjectProperty k false shorthand computed) p m (suc i) e = absurd (true≢false e)
+property_there (shape.ObjectProperty k b shorthand computed) p m zero e = refl
+property_there h p m i e = refl
+
+property_at : (h : Shape) (p : Position) (m i j : ℕ) → j ≡ i → PropertyAt (child_position h p m j) (property_below h i)
+property_at h p m i j is e = property_there h p m i (subst (λ k. is_method_place (child_position h p m k) ≡ false) is e)
+
 module _ (F : OwnRows) (keeps : (V : Assured) → KeepsOwn V (F V)) (c : Tree) (V : Assured) where
   abbrev R : Begun → Position → Tree → Tree → Type 0
   R = own_rows F c V
@@ -392,26 +427,26 @@ module _ (F : OwnRows) (keeps : (V : Assured) → KeepsOwn V (F V)) (c : Tree) (
 
   -- the bodies and frames in it are among those that were there
   mutual
-    pub own_bodies : {L : Begun} {p : Position} {t u : Tree} → OwnStep R L p t u → (a : Around) → BodiesKept (bodies a t) (bodies a u)
-    own_bodies (own_here L p n w r) a = (keeps (known_in c V L)).bodies p n w r a
-    own_bodies (own_inside L p h xs ts us b s) a =
+    pub own_bodies : {L : Begun} {p : Position} {t u : Tree} → OwnStep R L p t u → (a : Around) → AroundAt p a → BodiesKept (bodies a t) (bodies a u)
+    own_bodies (own_here L p n w r) a z = (keeps (known_in c V L)).bodies p n w r a z
+    own_bodies (own_inside L p h xs ts us b s) a z =
         subst₂ BodiesKept (sym (λ i. no_body a h (node h xs 0 ts) ts b i ++ bodies_from (below a h ts) 0 ts)) (ap (λ α. bodies_from α 0 us) (around_same a h s) ∙ sym (λ i. no_body a h (node h xs 0 us) us b i ++ bodies_from (below a h us) 0 us))
-        (own_bodies_in s (below a h ts) 0)
+        (own_bodies_in s (below a h ts) 0 (λ j. around_below a h p ts (count ts) (shift 0 j) j (from_zero j)))
 
-    own_bodies_in : {Λ : ℕ → Begun} {π : ℕ → Position} {ts us : Trees} → OwnStepIn R Λ π ts us → (α : ℕ → Around) (i : ℕ) → BodiesKept (bodies_from α i ts) (bodies_from α i us)
-    own_bodies_in (own_first Λ π t u ts s) α i = each_body (bodies (α i) t) (bodies_from α (suc i) ts) (bodies (α i) u) (bodies_from α (suc i) ts) (own_bodies s (α i)) (kept_itself (bodies_from α (suc i) ts))
-    own_bodies_in (own_later Λ π t ts us s) α i = each_body (bodies (α i) t) (bodies_from α (suc i) ts) (bodies (α i) t) (bodies_from α (suc i) us) (kept_itself (bodies (α i) t)) (own_bodies_in s α (suc i))
+    own_bodies_in : {Λ : ℕ → Begun} {π : ℕ → Position} {ts us : Trees} → OwnStepIn R Λ π ts us → (α : ℕ → Around) (i : ℕ) → ((j : ℕ) → AroundAt (π j) (α (shift i j))) → BodiesKept (bodies_from α i ts) (bodies_from α i us)
+    own_bodies_in (own_first Λ π t u ts s) α i z = each_body (bodies (α i) t) (bodies_from α (suc i) ts) (bodies (α i) u) (bodies_from α (suc i) ts) (own_bodies s (α i) (z 0)) (kept_itself (bodies_from α (suc i) ts))
+    own_bodies_in (own_later Λ π t ts us s) α i z = each_body (bodies (α i) t) (bodies_from α (suc i) ts) (bodies (α i) t) (bodies_from α (suc i) us) (kept_itself (bodies (α i) t)) (own_bodies_in s α (suc i) (λ j. z (suc j)))
 
   mutual
-    pub own_frames : {L : Begun} {p : Position} {t u : Tree} → OwnStep R L p t u → (κ : Option PropertyKind) → FramesKept (frames κ t) (frames κ u)
-    own_frames (own_here L p n w r) κ = (keeps (known_in c V L)).frames p n w r κ
-    own_frames (own_inside L p h xs ts us b s) κ =
+    pub own_frames : {L : Begun} {p : Position} {t u : Tree} → OwnStep R L p t u → (κ : Option PropertyKind) → PropertyAt p κ → FramesKept (frames κ t) (frames κ u)
+    own_frames (own_here L p n w r) κ z = (keeps (known_in c V L)).frames p n w r κ z
+    own_frames (own_inside L p h xs ts us b s) κ z =
         subst₂ FramesKept (sym (λ i. no_frame κ h (frame_outline h xs 0 ts) (globals h ts) b i ++ frames_from (property_below h) 0 ts)) (sym (λ i. no_frame κ h (frame_outline h xs 0 us) (globals h us) b i ++ frames_from (property_below h) 0 us))
-        (own_frames_in s (property_below h) 0)
+        (own_frames_in s (property_below h) 0 (λ j. property_at h p (count ts) (shift 0 j) j (from_zero j)))
 
-    own_frames_in : {Λ : ℕ → Begun} {π : ℕ → Position} {ts us : Trees} → OwnStepIn R Λ π ts us → (κ : ℕ → Option PropertyKind) (i : ℕ) → FramesKept (frames_from κ i ts) (frames_from κ i us)
-    own_frames_in (own_first Λ π t u ts s) κ i = each_frame (frames (κ i) t) (frames_from κ (suc i) ts) (frames (κ i) u) (frames_from κ (suc i) ts) (own_frames s (κ i)) (λ f m. m)
-    own_frames_in (own_later Λ π t ts us s) κ i = each_frame (frames (κ i) t) (frames_from κ (suc i) ts) (frames (κ i) t) (frames_from κ (suc i) us) (λ f m. m) (own_frames_in s κ (suc i))
+    own_frames_in : {Λ : ℕ → Begun} {π : ℕ → Position} {ts us : Trees} → OwnStepIn R Λ π ts us → (κ : ℕ → Option PropertyKind) (i : ℕ) → ((j : ℕ) → PropertyAt (π j) (κ (shift i j))) → FramesKept (frames_from κ i ts) (frames_from κ i us)
+    own_frames_in (own_first Λ π t u ts s) κ i z = each_frame (frames (κ i) t) (frames_from κ (suc i) ts) (frames (κ i) u) (frames_from κ (suc i) ts) (own_frames s (κ i) (z 0)) (λ f m. m)
+    own_frames_in (own_later Λ π t ts us s) κ i z = each_frame (frames (κ i) t) (frames_from κ (suc i) ts) (frames (κ i) t) (frames_from κ (suc i) us) (λ f m. m) (own_frames_in s κ (suc i) (λ j. z (suc j)))
 
   -- and it does what it did where that is so which is known
   module _ (e : Environment) (z : Steadies V e) where
@@ -504,7 +539,7 @@ module _ (F : OwnRows) (keeps : (V : Assured) → KeepsOwn V (F V)) (S : BodySet
   whole_fixed x = step_fixed nothing Q (record { reads = own.reads; fixed = λ q n w r y c. own.fixed q n w r y }) whole x refl
 
   body_frames : FramesKept (frames None t) (frames None u)
-  body_frames = own_frames F keeps t (S k) s None
+  body_frames = own_frames F keeps t (S k) s None (λ m. refl)
 
   abbrev own_frame : List Frame
   own_frame = frame_of None (shape.Function d g ds) k (frame_outline (shape.Function d g ds) [] k (name ▸ (ps ▸ (t ▸ none)))) (globals (shape.Function d g ds) (name ▸ (ps ▸ (t ▸ none))))
@@ -528,7 +563,7 @@ module _ (F : OwnRows) (keeps : (V : Assured) → KeepsOwn V (F V)) (S : BodySet
   others_kept a =
       each_under W S nothing (bodies (below_it a 0) name) _ (bodies (below_it a 0) name) _ (itself_under W S nothing (bodies (below_it a 0) name))
       (each_under W S nothing (bodies (below_it a 1) ps) _ (bodies (below_it a 1) ps) _ (itself_under W S nothing (bodies (below_it a 1) ps))
-      (each_under W S nothing (bodies (below_it a 2) t) [] (bodies (below_it a 2) u) [] (kept_under S W (bodies (below_it a 2) t) (bodies (below_it a 2) u) (own_bodies F keeps t (S k) s (below_it a 2))) tt))
+      (each_under W S nothing (bodies (below_it a 2) t) [] (bodies (below_it a 2) u) [] (kept_under S W (bodies (below_it a 2) t) (bodies (below_it a 2) u) (own_bodies F keeps t (S k) s (below_it a 2) (λ m. refl))) tt))
 
   whole_bodies : (a : Around) → BodiesUnder W S nothing (bodies a f) (bodies a f')
   whole_bodies a =

@@ -1,16 +1,13 @@
 -- Rows of what has no effect where a body has its `this`, as equations: each is a shape and what is written in its place, with the JavaScript
 -- before and after. V says what is known of the body in which it stands.
-use Rattle.std.specs.Prelude.{◌≡◌, ◌⊎◌, ◌&&◌, ◌==◌, Bool, true, false, not, nat_le}
+use Rattle.std.specs.Prelude.{◌≡◌, ◌⊎◌, ◌&&◌, Bool, true, false, nat_le}
 use Rattle.mini_model.specs.declared.seat.Seat.{Seat}
-use Rattle.mini_model.specs.declared.shape.Shape.{Shape}
-use Rattle.mini_model.specs.declared.shape.Shape.TheVariants as shape
-use Rattle.mini_model.specs.Tree.{Tree, Trees, none, ◌▸◌, count, shape_of, absent, expression_statement, empty_statement}
+use Rattle.mini_model.specs.Tree.{Tree, Trees, none, ◌▸◌, count, absent, expression_statement, empty_statement}
 use Rattle.mini_model.specs.Paths.{append}
 use Rattle.mini_terms.specs.Effects.{ef}
 use Rattle.mini_terms.specs.Parts.{leaves_nothing, weighs}
 use Rattle.mini_terms.specs.Reading.{is_plain_part}
 use Rattle.mini_kept.specs.Without.{Assured}
-use Rattle.mini_node.specs.Children.{number_of}
 use Rattle.mini_rows.specs.Lists.{for_loop, sequence}
 use Rattle.mini_rows.specs.Sequences.{takes_alone, stays_alone}
 
@@ -68,14 +65,6 @@ pub record Row21This (V : Assured) (n w : Tree) : Type 0 where
   pub shape : n ≡ sequence (append before (idle ▸ (next ▸ after)))
   pub written : w ≡ sequence (append before (next ▸ after))
 
-abbrev pub is_function : Shape → Bool
-is_function (shape.Function is_declaration is_generator directives) = true
-is_function h = false
-
--- what stands around it says nothing of its body or its frame: it is no function but an arrow function, and has no number
-abbrev pub is_unframed : Tree → Bool
-is_unframed t = (number_of t == 0) && not (is_function (shape_of t))
-
 -- and where one part is left: `this, a()` becomes `a()`, and `(this, a)()` becomes `a()`
 pub record Row21AloneThis (V : Assured) (s : Seat) (n w : Tree) : Type 0 where
   pub idle : Tree
@@ -84,7 +73,6 @@ pub record Row21AloneThis (V : Assured) (s : Seat) (n w : Tree) : Type 0 where
   pub still : is_still idle ≡ true
   pub seated : takes_alone s ≡ true
   pub stays : stays_alone s last ≡ true
-  pub unframed : is_unframed last ≡ true
   pub shape : n ≡ sequence (idle ▸ (last ▸ none))
   pub written : w ≡ last
 

@@ -1,5 +1,5 @@
 -- Rows that rest on what is known of the body in which they stand, and the node that has the body.
-use Rattle.std.specs.Prelude.{◌≡◌, ◌⊎◌, ◌≤◌, ◌+◌, ◌&&◌, ◌||◌, not, nat_lt, if◌then◌else◌, ℕ, zero, suc, Bool, true, false, List, [], ◌∷◌, Option, Contains, Some}
+use Rattle.std.specs.Prelude.{◌≡◌, ◌⊎◌, ◌≤◌, ◌+◌, ◌&&◌, ◌||◌, not, nat_lt, if◌then◌else◌, ℕ, zero, suc, Bool, true, false, List, [], ◌∷◌, Option, Contains, Some, None}
 use Rattle.mini_model.specs.declared.kind.PropertyKind.{PropertyKind}
 use Rattle.mini_model.specs.declared.name.Name.{Name}
 use Rattle.mini_model.specs.declared.place.Position.{Position}
@@ -145,6 +145,18 @@ known_in t V L = record V { initial = valued t L.symbols V.initial }
 abbrev pub own_rows : OwnRows → Tree → Assured → Begun → Position → Tree → Tree → Type 0
 own_rows F t V L = F (known_in t V L)
 
+-- what stands around a node at a place makes a function there a constructor, or the frame there one of a method of an object, only where the node is
+-- the value of a method
+abbrev pub is_method_place : Position → Bool
+is_method_place Method = true
+is_method_place p = false
+
+abbrev pub AroundAt : Position → Around → Type 0
+AroundAt p a = is_method_place p ≡ false → a.constructs ≡ false
+
+abbrev pub PropertyAt : Position → Option PropertyKind → Type 0
+PropertyAt p k = is_method_place p ≡ false → k ≡ None
+
 -- What a relation has to keep of a node in the code of a body of which this is known, there where the node stands: it means the same but for
 -- variables that no event shows and that may have no value where the node stood, a parent reads both alike, and it keeps shapes, names, bodies
 -- and frames
@@ -158,8 +170,8 @@ pub record KeepsOwn (V : Assured) (R : Position → Tree → Tree → Type 0) : 
   pub fixed : (p : Position) (n w : Tree) → R p n w → (x : Variable) → fixed_by n x ≡ fixed_by w x
   pub declared : (p : Position) (n w : Tree) → R p n w → (x : Name) → Contains (declared w) x → Contains (declared n) x
   pub bound : (p : Position) (n w : Tree) → R p n w → (k : ℕ) → bindings k w ≤ bindings k n
-  pub bodies : (p : Position) (n w : Tree) → R p n w → (a : Around) → BodiesKept (bodies a n) (bodies a w)
-  pub frames : (p : Position) (n w : Tree) → R p n w → (k : Option PropertyKind) → FramesKept (frames k n) (frames k w)
+  pub bodies : (p : Position) (n w : Tree) → R p n w → (a : Around) → AroundAt p a → BodiesKept (bodies a n) (bodies a w)
+  pub frames : (p : Position) (n w : Tree) → R p n w → (k : Option PropertyKind) → PropertyAt p k → FramesKept (frames k n) (frames k w)
   pub lightens : Lightens R
 
 -- ---- in the body of a function

@@ -13,7 +13,7 @@ use Rattle.mini_node.specs.Children.{first_children, part, rest_children, withou
 use Rattle.mini_node.specs.Kinds.{is_expression_statement, is_sequence, sequence}
 use Rattle.mini_node.specs.Made.{expression_statement_is, sequence_is}
 use Rattle.mini_node.specs.Walks.{from_first, next_child}
-use Rattle.mini_rows.specs.Idle.{is_still, is_still_part, is_unframed, Row22This, Row22InitThis, Row22UpdateThis, Row21This, Row21AloneThis, IdleRow, IdleStatement}
+use Rattle.mini_rows.specs.Idle.{is_still, is_still_part, Row22This, Row22InitThis, Row22UpdateThis, Row21This, Row21AloneThis, IdleRow, IdleStatement}
 use Rattle.mini_rows.specs.Lists.{for_loop}
 use Rattle.mini_rows.specs.Sequences.{takes_alone, stays_alone}
 use Rattle.mini_rows.specs.Steady.{SteadyRow}
@@ -143,14 +143,13 @@ last_loses s t is e V has = go (children (part t 0)) refl e
   where
     go : (ts : Trees) → children (part t 0) ≡ ts → is_left s ts ≡ true → IdleRow V s t (child_or_absent (children (part t 0)) 1)
     go (a ▸ (b ▸ none)) h e =
-        let (seated, rest) = and_parts (takes_alone s) (is_still a && (stays_alone s b && is_unframed b)) e in
-        let (still, others) = and_parts (is_still a) (stays_alone s b && is_unframed b) rest in
-        let (stays, unframed) = and_parts (stays_alone s b) (is_unframed b) others in
-        inr (record { idle = a; last = b; kept = has; still = still; seated = seated; stays = stays; unframed = unframed; shape = sequence_is t is ∙ ap sequence h; written = ap (λ us. child_or_absent us 1) h })
+        let (seated, rest) = and_parts (takes_alone s) (is_still a && stays_alone s b) e in
+        let (still, stays) = and_parts (is_still a) (stays_alone s b) rest in
+        inr (record { idle = a; last = b; kept = has; still = still; seated = seated; stays = stays; shape = sequence_is t is ∙ ap sequence h; written = ap (λ us. child_or_absent us 1) h })
     go none h e = absurd (true≢false (sym e))
     go (a ▸ none) h e = absurd (true≢false (sym e))
     go (a ▸ (b ▸ (c ▸ ts))) h e =
-        let two = eqb-true (count (a ▸ (b ▸ (c ▸ ts)))) 2 (and_parts (nat_eq (count (a ▸ (b ▸ (c ▸ ts)))) 2) (takes_alone s && (is_still a && (stays_alone s b && is_unframed b))) e).0 in absurd (omega (arith, two))
+        let two = eqb-true (count (a ▸ (b ▸ (c ▸ ts)))) 2 (and_parts (nat_eq (count (a ▸ (b ▸ (c ▸ ts)))) 2) (takes_alone s && (is_still a && stays_alone s b)) e).0 in absurd (omega (arith, two))
 
 found_still : (before : Trees) (a q : Tree) (qs : Trees) → is_still a ≡ true → still_before_last (append before (a ▸ (q ▸ qs))) ≡ true
 found_still none a q qs e = ap (λ b. b || still_before_last (q ▸ qs)) e
@@ -170,8 +169,8 @@ loses_still s before a q qs e h =
 rests : (s : Seat) (t : Tree) → loses_part s t ≡ false → (V : Assured) (w : Tree) → IdleRow V s t w → ⊥
 rests s t l V w (inl r) = true≢false (sym (loses_still s r.before r.idle r.next r.after r.still r.several) ∙ sym (ap (loses_part s) r.shape) ∙ l)
 rests s t l V w (inr r) =
-    true≢false (sym (both_true (takes_alone s) (is_still r.idle && (stays_alone s r.last && is_unframed r.last)) r.seated
-    (both_true (is_still r.idle) (stays_alone s r.last && is_unframed r.last) r.still (both_true (stays_alone s r.last) (is_unframed r.last) r.stays r.unframed)))
+    true≢false (sym (both_true (takes_alone s) (is_still r.idle && stays_alone s r.last) r.seated
+    (both_true (is_still r.idle) (stays_alone s r.last) r.still r.stays))
     ∙ sym (ap (loses_part s) r.shape) ∙ l)
 
 -- what is no sequence loses no part

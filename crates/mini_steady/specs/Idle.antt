@@ -7,7 +7,7 @@ use Rattle.mini_model.specs.Tree.{Tree, Trees, node, none, ◌▸◌, absent, ch
 use Rattle.mini_kept.specs.Without.{Assured}
 use Rattle.mini_node.specs.Children.{is_bare, part, with_child}
 use Rattle.mini_node.specs.Kinds.{is_expression_statement, is_sequence}
-use Rattle.mini_rows.specs.Idle.{IdleRow, is_still, is_still_part, is_unframed}
+use Rattle.mini_rows.specs.Idle.{IdleRow, is_still, is_still_part}
 use Rattle.mini_rows.specs.Sequences.{takes_alone, stays_alone}
 
 -- ---- 22
@@ -57,7 +57,7 @@ still_before_last (t ▸ (u ▸ us)) = is_still t || still_before_last (u ▸ us
 
 -- of two the last one may stand alone
 abbrev pub is_left : Seat → Trees → Bool
-is_left s ts = nat_eq (count ts) 2 && (takes_alone s && (is_still (child_or_absent ts 0) && (stays_alone s (child_or_absent ts 1) && is_unframed (child_or_absent ts 1))))
+is_left s ts = nat_eq (count ts) 2 && (takes_alone s && (is_still (child_or_absent ts 0) && stays_alone s (child_or_absent ts 1)))
 
 -- a part of a sequence goes
 abbrev pub loses_part : Seat → Tree → Bool

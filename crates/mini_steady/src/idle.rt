@@ -5,7 +5,7 @@ ghost use Rattle.std.specs.Prelude.{◌≡◌, ◌+◌, ◌<◌, ◌||◌, true,
 ghost use Rattle.mini_model.specs.Tree.{children, count, child_or_absent};
 ghost use Rattle.mini_node.specs.Children.{part, without};
 ghost use Rattle.mini_node.specs.Kinds.{sequence as sequence_of, is_sequence as is_it_sequence};
-ghost use Rattle.mini_rows.specs.Idle.{is_still as is_it_still, is_still_part as is_it_still_part, is_unframed as is_it_unframed};
+ghost use Rattle.mini_rows.specs.Idle.{is_still as is_it_still, is_still_part as is_it_still_part};
 ghost use Rattle.mini_steady.specs.Declarations.{known_of};
 ghost use Rattle.mini_steady.specs.Idle as row;
 ghost use Rattle.mini_steady.specs.Idle.{Loses, LosesIn};
@@ -128,13 +128,6 @@ fn drop_part(alloc: Global, node: &mut Node, seat: Seat) -> Result<bool, OutOfMe
     }
 }
 
-// Whether what stands around it says nothing of its body or its frame.
-fn is_unframed(node: &Node) -> bool
-    ensures { result ≡ is_it_unframed node.now }
-{
-    node.number() == 0 && !matches!(node.shape(), Shape::Function(_, _, _))
-}
-
 // Whether of two parts the last one may stand alone.
 fn is_left(seat: Seat, parts: &Nodes) -> bool
     ensures { result ≡ row.is_left seat parts.now }
@@ -143,7 +136,6 @@ fn is_left(seat: Seat, parts: &Nodes) -> bool
         && takes_alone(seat)
         && is_still(parts.child(0))
         && stays_alone(seat, parts.child(1))
-        && is_unframed(parts.child(1))
 }
 
 fn last_of_two(node: Node) -> Node
