@@ -1,5 +1,5 @@
 -- A chain for a node that is no reference: where its value is asked it stands alone, and elsewhere behind a `0`.
-use Rattle.std.proofs.Common.{◌≡◌, ℕ, ◌≤◌, ◌+◌, Bool, true, false, List, [], length, refl, sym, ap, ◌∙◌, arith}
+use Rattle.std.proofs.Common.{◌≡◌, ◌≤◌, ◌+◌, Bool, true, false, [], length, refl, sym, ap, ◌∙◌, arith}
 use Rattle.std.specs.Prelude.{◌&&◌, ◌++◌, pos, if◌then◌else◌}
 use Rattle.std.specs.Fmt.{signed_decimal}
 use Rattle.std.proofs.lemmas.Bool.{and_parts}
@@ -14,7 +14,7 @@ use Rattle.mini_model.specs.Tree.{Tree, none, ◌▸◌, leaf, listed}
 use Rattle.mini_model.specs.Position.{branch_seat, chained_seat}
 use Rattle.mini_model.specs.Weight.{outline, outlines, weight, is_parenthesized, is_awkward}
 use Rattle.mini_accept.specs.WellShaped.{fits, is_not_positive_number}
-use Rattle.mini_laws.specs.Value.{Value, Number, VariableSet}
+use Rattle.mini_laws.specs.Value.{Number, VariableSet}
 use Rattle.mini_laws.specs.State.{State, ok, stop, either, Environment}
 use Rattle.mini_laws.specs.Demand.{Want, Demand, As}
 use Rattle.mini_laws.specs.Fits.{Fits}

@@ -6,7 +6,6 @@ use Rattle.mini_model.specs.declared.name.Name.{Name}
 use Rattle.mini_model.specs.declared.operator.BinaryOperator.TheVariants as binary_operator
 use Rattle.mini_model.specs.declared.place.Position.TheVariants.{Expr}
 use Rattle.mini_model.specs.declared.seat.Seat.{Seat}
-use Rattle.mini_model.specs.declared.shape.Shape.TheVariants as shape
 use Rattle.mini_model.specs.Tree.{Tree, none, ◌▸◌, listed, identifier, null_literal}
 use Rattle.mini_model.specs.Position.{branch_seat, callee_seat, object_seat, chained_seat}
 use Rattle.mini_model.specs.Weight.{same_text, weight}

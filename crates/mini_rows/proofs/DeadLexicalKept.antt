@@ -1,5 +1,5 @@
 -- A class, a `let` or a `const` that never runs goes, and its names are declared anew: nothing else of it is kept.
-use Rattle.std.specs.Prelude.{ℕ, suc, ◌+◌, ◌≤◌, ◌≡◌, refl, ◌&&◌, ◌||◌, not, nat_eq, Bool, true, false, List, [], ◌∷◌, ◌++◌, Contains, Option, if◌then◌else◌}
+use Rattle.std.specs.Prelude.{ℕ, suc, ◌≤◌, ◌≡◌, refl, ◌&&◌, ◌||◌, not, nat_eq, Bool, true, false, List, [], ◌∷◌, ◌++◌, Contains, Option}
 use Rattle.std.proofs.Common.{◌<◌, ap, ◌∙◌, sym, subst, inl, inr, ◌⊎◌, true≢false, arith}
 use Rattle.std.proofs.lemmas.Bool.{and_parts, eqb-true}
 use Rattle.std.proofs.lemmas.List.{append-nil}
@@ -14,15 +14,15 @@ use Rattle.mini_model.specs.declared.shape.Shape.TheVariants as shape
 use Rattle.mini_model.specs.Tree.{Tree, Trees, node, none, ◌▸◌, count, listed, shape_of, child_or_absent}
 use Rattle.mini_model.specs.Paths.{append}
 use Rattle.mini_laws.specs.declared.names.Use.{Use}
-use Rattle.mini_laws.specs.declared.names.Use.TheVariants.{Read, Write, ReadWrite, Hoisted, Alone}
+use Rattle.mini_laws.specs.declared.names.Use.TheVariants.{Read}
 use Rattle.mini_laws.specs.declared.names.Binding.{Binding}
 use Rattle.mini_laws.specs.declared.names.Declared.{Declared}
 use Rattle.mini_laws.specs.declared.names.Declared.TheVariants as declared
 use Rattle.mini_laws.specs.declared.names.Targets.{Targets}
-use Rattle.mini_laws.specs.DeclaredNames.{has_inner, names_of, all_names, first_names, body_names, bound_names, with_names}
+use Rattle.mini_laws.specs.DeclaredNames.{names_of, all_names, first_names, body_names, bound_names, with_names}
 use Rattle.mini_laws.specs.Scopes.{opened, use_of, is_alone, lexical_scope, name_if, scopes_by}
 use Rattle.mini_laws.specs.Resolved.{Environment, symbol_of}
-use Rattle.mini_laws.specs.Scoped.{NamesScoped, Scoped, AllScoped}
+use Rattle.mini_laws.specs.Scoped.{NamesScoped, Scoped}
 use Rattle.mini_laws.specs.Symbols.{symbols_in, declared as declared_in, declared_from, times}
 use Rattle.mini_laws.specs.Early.{own_declarations, scope_declarations, early_names, targets_of, early_jumps}
 use Rattle.mini_laws.specs.Value.{Variable, variables, choose, is_in}
@@ -52,7 +52,7 @@ use Rattle.mini_rows.proofs.ArrangedBodies.{HasBodies, bodies_local, HasFrames, 
 use Rattle.mini_rows.proofs.ArrangedFolds.{port}
 use Rattle.mini_rows.proofs.ArrangedGather.{concat}
 use Rattle.mini_rows.proofs.ArrangedValues.{Valued}
-use Rattle.mini_rows.proofs.DeadLexicalMeaning.{first_lets, one_names, declarator_lets}
+use Rattle.mini_rows.proofs.DeadLexicalMeaning.{first_lets, declarator_lets}
 use Rattle.mini_rows.proofs.Enclosing.{Declares as Encloses, enclosed}
 use Rattle.mini_rows.proofs.ListKeptDeclarations.{over, is_var, names_if, declares_as, scope_if, opens, used, names_are, body_are, declarations_are, scoped_up, symbols_are, numbers_are, declared_are, frames_are, bodies_are, once_is, jumps_are}
 use Rattle.mini_rows.proofs.ListKeptStretch.{first_all, second_all, items_of, of_all, sum_items, sum_shortened, NamesStretched, StretchedBut, fixed_stretched, read_is, stretch_kept_by}

@@ -1,19 +1,18 @@
 -- What is left of a class, a `let` or a `const` that never runs: it means the same, and a parent reads the same names of it.
-use Rattle.std.proofs.Common.{◌≡◌, ℕ, suc, ◌<◌, Bool, true, false, List, [], ◌∷◌, ◌++◌, None, refl, sym, ap, subst, ◌∙◌, true≢false, arith}
+use Rattle.std.proofs.Common.{◌≡◌, suc, true, false, List, [], ◌∷◌, ◌++◌, None, refl, sym, ap, subst, ◌∙◌, true≢false, arith}
 use Rattle.std.specs.Prelude.{◌&&◌, nat_eq}
 use Rattle.std.proofs.lemmas.Bool.{and_parts, eqb-true}
 use Rattle.std.proofs.lemmas.List.{append-nil}
 use Rattle.mini_model.specs.declared.kind.VariableDeclarationKind.{VariableDeclarationKind}
-use Rattle.mini_model.specs.declared.kind.VariableDeclarationKind.TheVariants.{Var, Let, Const}
+use Rattle.mini_model.specs.declared.kind.VariableDeclarationKind.TheVariants.{Let, Const}
 use Rattle.mini_model.specs.declared.name.Name.{Name}
 use Rattle.mini_model.specs.declared.operator.UnaryOperator.TheVariants.{LogicalNot}
-use Rattle.mini_model.specs.declared.shape.Shape.{Shape}
 use Rattle.mini_model.specs.declared.shape.Shape.TheVariants as shape
 use Rattle.mini_model.specs.Tree.{Tree, Trees, node, none, ◌▸◌, count, shape_of, children, child_or_absent}
 use Rattle.mini_model.specs.Paths.{append}
 use Rattle.mini_laws.specs.declared.names.Declared.TheVariants as declared
 use Rattle.mini_laws.specs.DeclaredNames.{is_inner, names_of, first_names, all_names}
-use Rattle.mini_laws.specs.Value.{Variable, variables}
+use Rattle.mini_laws.specs.Value.{variables}
 use Rattle.mini_laws.specs.State.{State, Environment}
 use Rattle.mini_laws.specs.Demand.{Stat}
 use Rattle.mini_laws.specs.Naming.{summary, summaries, lets_all, lets_first}
@@ -21,7 +20,7 @@ use Rattle.mini_laws.specs.Step.{means}
 use Rattle.mini_rows.specs.Lists.{encloses}
 use Rattle.mini_rows.specs.DeadLexicals.{is_lexical, gives, all_give, first_gives, goes_whole, may_fade, kind_left, declarators, declared_with, faded, Row77Lexical}
 use Rattle.mini_rows.proofs.ListEnds.{never_goes, ended_tree}
-use Rattle.mini_rows.proofs.ListStretches.{ReadSame, SameStretch, exec_more, read_in_list}
+use Rattle.mini_rows.proofs.ListStretches.{ReadSame, exec_more, read_in_list}
 use Rattle.mini_node.specs.Walks.{append_none}
 use Rattle.mini_laws.proofs.Stretching.{exec}
 

@@ -4,7 +4,7 @@ use Rattle.mini_model.specs.Tree.{Tree, Trees, none, ◌▸◌, empty_statement}
 use Rattle.mini_model.specs.Paths.{append}
 use Rattle.mini_laws.specs.Value.{Value, truth}
 use Rattle.mini_laws.specs.State.{State, ok, either, Environment}
-use Rattle.mini_laws.specs.Demand.{Test, LoopTail, As, Stat}
+use Rattle.mini_laws.specs.Demand.{Test, LoopTail, Stat}
 use Rattle.mini_laws.specs.Step.{means}
 use Rattle.mini_laws.specs.Stretches as stretch
 use Rattle.mini_laws.specs.Tails.{ends_in, GivesFalse}

@@ -1,19 +1,18 @@
 -- A `var` in no list, and one that a `for` begins with, without a name that nothing else mentions: what each keeps.
-use Rattle.std.specs.Prelude.{ℕ, suc, ◌+◌, ◌≤◌, ◌≡◌, refl, ◌||◌, ◌&&◌, Bool, true, false, List, [], ◌∷◌, ◌++◌, None}
+use Rattle.std.specs.Prelude.{ℕ, ◌≤◌, ◌≡◌, refl, Bool, true, false, List, [], ◌∷◌, ◌++◌, None}
 use Rattle.std.proofs.Common.{ap, ◌∙◌, sym, subst, subst₂, inl, inr, true≢false, arith}
 use Rattle.std.proofs.lemmas.List.{append-nil}
-use Rattle.mini_model.specs.declared.kind.VariableDeclarationKind.{VariableDeclarationKind}
-use Rattle.mini_model.specs.declared.kind.VariableDeclarationKind.TheVariants.{Var, Let, Const}
+use Rattle.mini_model.specs.declared.kind.VariableDeclarationKind.TheVariants.{Var}
 use Rattle.mini_model.specs.declared.name.Name.{Name}
 use Rattle.mini_model.specs.declared.shape.Shape.{Shape}
 use Rattle.mini_model.specs.declared.shape.Shape.TheVariants as shape
-use Rattle.mini_model.specs.Tree.{Tree, Trees, node, none, ◌▸◌, absent, listed, shape_of, count, child_or_absent, is_absent, expression_statement, empty_statement}
+use Rattle.mini_model.specs.Tree.{Tree, Trees, node, none, ◌▸◌, absent, shape_of, count, child_or_absent, is_absent, expression_statement}
 use Rattle.mini_model.specs.Paths.{append}
-use Rattle.mini_accept.specs.WellShaped.{Depth, a_statement, a_block, one, one_or_absent, each, fits, fill}
+use Rattle.mini_accept.specs.WellShaped.{Depth, a_statement, a_block, one, one_or_absent, fits}
 use Rattle.mini_laws.specs.declared.names.Declared.TheVariants as declared
 use Rattle.mini_laws.specs.declared.names.Use.{Use}
 use Rattle.mini_laws.specs.declared.names.Use.TheVariants.{Read, Alone}
-use Rattle.mini_laws.specs.Congruence.{Avoids, AllAvoid}
+use Rattle.mini_laws.specs.Congruence.{Avoids}
 use Rattle.mini_laws.specs.DeclaredNames.{names_of, all_names, has_inner}
 use Rattle.mini_laws.specs.Early.{label_by, is_loop}
 use Rattle.mini_laws.specs.Resolved.{Environment}
@@ -26,13 +25,13 @@ use Rattle.mini_kept.specs.KeepsNames.{is_read}
 use Rattle.mini_kept.specs.SameNames.{NoMoreClash}
 use Rattle.mini_kept.proofs.Bools.{left, both}
 use Rattle.mini_kept.proofs.Expressions.{refused_here}
-use Rattle.mini_kept.proofs.Unplaced.{as_body, all_as_body}
+use Rattle.mini_kept.proofs.Unplaced.{as_body}
 use Rattle.mini_node.specs.Kinds.{is_listed_shape}
-use Rattle.mini_rows.specs.Declarations.{binding, declarator}
+use Rattle.mini_rows.specs.Declarations.{declarator}
 use Rattle.mini_rows.specs.declared.inside.Way.TheVariants as way
 use Rattle.mini_rows.specs.Inside.{declares_var, HeadEnd}
 use Rattle.mini_rows.specs.Lists.{block, declaration, is_unscoped}
-use Rattle.mini_rows.specs.Unused.{resolved, any_names, declared_one, declared_among, declared_left, head_left, put_first, BlockRow}
+use Rattle.mini_rows.specs.Unused.{resolved, declared_one, declared_among, declared_left, head_left, put_first, BlockRow}
 use Rattle.mini_rows.proofs.ArrangedTrees.{both_same, itself}
 use Rattle.mini_rows.proofs.BranchInside.{no_lexical, same_symbols, same_scoped}
 use Rattle.mini_rows.proofs.DeclaredKept.{none_after, idle_leaves, idle_declares}
@@ -43,7 +42,7 @@ use Rattle.mini_rows.proofs.UnusedKept.{LeavesThere}
 use Rattle.mini_rows.proofs.UnusedLawful.{idle_vanishes}
 use Rattle.mini_rows.proofs.UnusedMeaning.{left_avoids}
 use Rattle.mini_rows.proofs.UnusedNames.{all_avoided}
-use Rattle.mini_rows.proofs.UnusedStretches.{item_in, Loses, Stretch, stretch, row_stretch}
+use Rattle.mini_rows.proofs.UnusedStretches.{item_in, Loses, stretch, row_stretch}
 
 -- ---- a statement of which no loop and no label is, and which declares `var`s alone
 

@@ -5,7 +5,7 @@ use Rattle.mini_model.specs.declared.kind.PropertyKind.{PropertyKind}
 use Rattle.mini_model.specs.declared.name.Name.{Name}
 use Rattle.mini_model.specs.declared.name.SymbolId.{SymbolId}
 use Rattle.mini_model.specs.declared.shape.Shape.TheVariants as shape
-use Rattle.mini_model.specs.Tree.{Tree, Trees, node, none, ◌▸◌, shape_of, child_or_absent, is_absent}
+use Rattle.mini_model.specs.Tree.{Tree, Trees, none, ◌▸◌, shape_of, child_or_absent, is_absent}
 use Rattle.mini_accept.specs.WellShaped.{Depth, nested, a_statement as statement_class, a_block, a_case as case_class, a_catch as catch_class, an_expression, an_init, a_label, a_loop_left, a_pattern, Slot, one, one_or_absent, many, these, each, is_whole, fits, fill}
 use Rattle.mini_laws.specs.declared.names.Binding.{Binding}
 use Rattle.mini_laws.specs.declared.names.Declared.TheVariants as declared

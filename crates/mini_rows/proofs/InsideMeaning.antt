@@ -9,15 +9,15 @@ use Rattle.mini_model.specs.declared.shape.Shape.TheVariants as shape
 use Rattle.mini_model.specs.Tree.{Tree, Trees, node, none, ◌▸◌, absent, listed, count}
 use Rattle.mini_model.specs.Paths.{append}
 use Rattle.mini_laws.specs.Asking.{first_demand, do_demand, for_demand, each_demand}
-use Rattle.mini_laws.specs.Command.{Naming, Kids, run}
+use Rattle.mini_laws.specs.Command.{Kids, run}
 use Rattle.mini_laws.specs.Congruence.{Avoids, AllAvoid, Apart, ReadAlike}
 use Rattle.mini_laws.specs.Demand.{Val, Test, Tail, LoopTail, Demand, As, Stat, Request, LabelSet}
 use Rattle.mini_laws.specs.Loops.{while_step, do_step, for_step, for_in_step, for_of_step}
-use Rattle.mini_laws.specs.Naming.{summary, facts, first_facts, nth_absent}
+use Rattle.mini_laws.specs.Naming.{summary}
 use Rattle.mini_laws.specs.Path.{Path, here, inside, join, plug}
 use Rattle.mini_laws.specs.Replies.{statement}
 use Rattle.mini_laws.specs.Same.{Same}
-use Rattle.mini_laws.specs.State.{State, Environment, ok, either, Writable}
+use Rattle.mini_laws.specs.State.{State, Environment, ok, either}
 use Rattle.mini_laws.specs.Statements.{if_in, label_step}
 use Rattle.mini_laws.specs.Step.{step, means, meaning}
 use Rattle.mini_laws.specs.Substitution.{alone}
@@ -37,12 +37,12 @@ use Rattle.mini_rows.proofs.ForHeadLawful.{left_same}
 use Rattle.mini_rows.proofs.InsideEnds.{is_simple, unscoped, HeldRow, held_row, held_keeps, head_keeps, head_avoided}
 use Rattle.mini_rows.proofs.InsideLoses.{joined_unnamed, no_way, ways_same, Runs, Asked, plug_avoids, listed_same, there_same, loses}
 use Rattle.mini_rows.proofs.InsideNames.{row_vars, list_keeps}
-use Rattle.mini_rows.proofs.InsideStages.{Stage, Braces, Then, Else, While, Doing, For, ForIn, ForOf, Labeled, Tried, Caught, Finally, Switched, Items, Cases, Case, Handler, Heading, from, to, head, before, over, plainly, view}
+use Rattle.mini_rows.proofs.InsideStages.{Stage, Then, Else, While, Doing, For, ForIn, ForOf, Labeled, Heading, from, to, head, before, over, plainly, view}
 use Rattle.mini_rows.proofs.ListHeads.{for_names}
 use Rattle.mini_rows.proofs.ListStatements.{one_unscoped, block_is}
 use Rattle.mini_rows.proofs.UnusedMeaning.{list_read, list_same, all_join, for_same}
 use Rattle.mini_rows.proofs.UnusedNames.{or_parts, all_avoided}
-use Rattle.mini_rows.proofs.UnusedStretches.{Loses, Stretch, row_stretch}
+use Rattle.mini_rows.proofs.UnusedStretches.{Loses, row_stretch}
 use Rattle.mini_rows.proofs.Weaker.{weaker_goes}
 
 -- ---- the last step of a way

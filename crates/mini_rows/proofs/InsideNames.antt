@@ -1,5 +1,5 @@
 -- A list of statements without a `var` that nothing else mentions: which names it declares, and what it keeps.
-use Rattle.std.specs.Prelude.{◌≡◌, ◌≤◌, refl, not, Bool, true, false, List, [], ◌∷◌, ◌++◌, ◌||◌}
+use Rattle.std.specs.Prelude.{◌≡◌, ◌≤◌, refl, not, Bool, true, false, List, [], ◌∷◌, ◌++◌}
 use Rattle.std.proofs.Common.{ap, ◌∙◌, sym, subst, inl, inr, true≢false, append_assoc}
 use Rattle.std.proofs.lemmas.List.{append-nil}
 use Rattle.mini_model.specs.declared.kind.VariableDeclarationKind.{VariableDeclarationKind}
@@ -28,8 +28,8 @@ use Rattle.mini_node.specs.Kinds.{is_listed_shape}
 use Rattle.mini_rows.specs.Declarations.{binding, declarator}
 use Rattle.mini_rows.specs.declared.inside.Way.TheVariants as way
 use Rattle.mini_rows.specs.Inside.{declares_var}
-use Rattle.mini_rows.specs.Lists.{block, declaration, Each, EachIn, EachOf, each_loop}
-use Rattle.mini_rows.specs.Unused.{resolved, names, any_names, declared_one, declared_among, declared_left, put_first, reads_head, BlockRow}
+use Rattle.mini_rows.specs.Lists.{block, declaration}
+use Rattle.mini_rows.specs.Unused.{resolved, names, any_names, declared_one, declared_among, declared_left, put_first, BlockRow}
 use Rattle.mini_rows.proofs.Arranging.{Any}
 use Rattle.mini_rows.proofs.ArrangedBodies.{HasBodies, bodies_local, HasFrames, frames_local, Declares, declares_local, FixedBy, fixed_local}
 use Rattle.mini_rows.proofs.ArrowBodyLawful.{list_fits, none_mention}
@@ -39,11 +39,9 @@ use Rattle.mini_rows.proofs.HeadMeaning.{head_unnamed}
 use Rattle.mini_rows.proofs.InsideKept.{Keeping}
 use Rattle.mini_rows.proofs.ListKeptDeclarations.{all_both}
 use Rattle.mini_rows.proofs.ListKeptStretch.{stretched}
-use Rattle.mini_rows.proofs.ListKeptHeads.{Seat, Loop, Choice, seated}
-use Rattle.mini_rows.proofs.SingleUse.{statement, Heads, heads}
 use Rattle.mini_rows.proofs.UnusedKept.{NamesThere, list_inner, list_scoped, list_symbols, list_numbers, list_once, list_targets}
 use Rattle.mini_rows.proofs.UnusedMeaning.{movable}
-use Rattle.mini_rows.proofs.UnusedNames.{or_parts, Other, other_both, all_other, declared_other}
+use Rattle.mini_rows.proofs.UnusedNames.{Other, other_both, all_other, declared_other}
 use Rattle.mini_rows.proofs.UnusedStretches.{item_in, Stretch, stretch, row_stretch}
 
 -- ---- the names of the statements that go and of those that are written

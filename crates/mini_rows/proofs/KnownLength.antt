@@ -16,7 +16,7 @@ use Rattle.mini_laws.specs.Path.{Path, here, inside}
 use Rattle.mini_laws.specs.Rows.{SameAt}
 use Rattle.mini_laws.specs.Same.{Same}
 use Rattle.mini_laws.specs.State.{Environment}
-use Rattle.mini_laws.specs.Value.{String, VariableSet, nothing, is_in}
+use Rattle.mini_laws.specs.Value.{String, VariableSet, nothing}
 use Rattle.mini_laws.proofs.Congruent.{congruent_same, transitive, weaker, avoids_nothing, no_within, no_off}
 use Rattle.mini_kept.specs.KeepsShapes.{AskedAlike}
 use Rattle.mini_kept.specs.Placed.{fits_place}

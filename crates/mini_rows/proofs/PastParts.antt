@@ -46,7 +46,7 @@ use Rattle.mini_rows.proofs.Passing.{Replies, Does, Replying, replied, constant_
 use Rattle.mini_rows.proofs.PastSpared.{left_alone}
 use Rattle.mini_rows.proofs.PastRuns.{Held, AllHeld, HeldBefore, HeldPath}
 use Rattle.mini_rows.proofs.SingleMeaning.{AllReply, AllFine, Gathers, textual_part, texts_in, earlier, valued_before}
-use Rattle.mini_rows.proofs.SingleUse.{Lead, Minus, Typing, Called as CalledLead, Against, Given, Filling, Keying, Interpolating, Linking, Following, Branching, Failing, Storing, Fielding, Listing, Spreading, Bracketing, head_of, before, place, surely, Step, is_end, suited, whole, allows, Indirect, Spared, found, found_head, by_front, ends_short}
+use Rattle.mini_rows.proofs.SingleUse.{Lead, Minus, Typing, Called as CalledLead, Against, Given, Filling, Keying, Linking, Following, Branching, Failing, Storing, Fielding, Listing, Spreading, Bracketing, head_of, before, place, surely, Step, is_end, suited, whole, allows, Indirect, Spared, found, found_head, by_front, ends_short}
 use Rattle.mini_rows.proofs.UnusedNames.{or_parts}
 use Rattle.mini_rows.proofs.WriteMeaning.{read_value}
 

@@ -14,7 +14,7 @@ use Rattle.mini_model.specs.declared.operator.LogicalOperator.{LogicalOperator}
 use Rattle.mini_model.specs.declared.operator.LogicalOperator.TheVariants.{Or, And, Coalesce}
 use Rattle.mini_model.specs.declared.operator.UnaryOperator.{UnaryOperator}
 use Rattle.mini_model.specs.declared.operator.UpdateOperator.{UpdateOperator}
-use Rattle.mini_model.specs.declared.operator.UnaryOperator.TheVariants.{UnaryPlus, UnaryNegation, BitwiseNot, Typeof}
+use Rattle.mini_model.specs.declared.operator.UnaryOperator.TheVariants.{UnaryPlus, UnaryNegation, BitwiseNot}
 use Rattle.mini_model.specs.declared.shape.Shape.{Shape}
 use Rattle.mini_model.specs.declared.shape.Shape.TheVariants as shape
 use Rattle.mini_model.specs.Tree.{Tree, Trees, node, none, ◌▸◌, count, identifier, shape_of}
@@ -40,7 +40,7 @@ use Rattle.mini_laws.specs.Truth.{told}
 use Rattle.mini_laws.specs.Congruence.{Avoids, AllAvoid}
 use Rattle.mini_laws.proofs.Congruent.{insensitive}
 use Rattle.mini_laws.proofs.Dead.{dead_sound, alive_self}
-use Rattle.mini_laws.proofs.Runs.{either_cong, either_assoc, either_ok}
+use Rattle.mini_laws.proofs.Runs.{either_cong, either_ok}
 use Rattle.mini_laws.proofs.Simulation.{goes_either}
 use Rattle.mini_laws.proofs.Truth.{coherent}
 use Rattle.mini_kept.specs.Without.{Unseen}

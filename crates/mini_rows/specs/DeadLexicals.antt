@@ -1,9 +1,9 @@
 -- The row of a class, a `let` or a `const` that never runs, as an equation: a shape and what is written in its place, with the JavaScript
 -- before and after. Code before it may mention its names, which nothing ever initializes, so they stay declared; what would initialize
 -- them goes.
-use Rattle.std.specs.Prelude.{◌≡◌, ℕ, zero, suc, nat_eq, nat_lt, Bool, true, false, ◌&&◌, List, [], ◌∷◌, length, pos}
+use Rattle.std.specs.Prelude.{◌≡◌, nat_eq, nat_lt, Bool, true, false, ◌&&◌, List, [], ◌∷◌, pos}
 use Rattle.mini_model.specs.declared.kind.VariableDeclarationKind.{VariableDeclarationKind}
-use Rattle.mini_model.specs.declared.kind.VariableDeclarationKind.TheVariants.{Var, Let, Const}
+use Rattle.mini_model.specs.declared.kind.VariableDeclarationKind.TheVariants.{Let, Const}
 use Rattle.mini_model.specs.declared.name.Name.{Name}
 use Rattle.mini_model.specs.declared.operator.UnaryOperator.TheVariants.{LogicalNot}
 use Rattle.mini_model.specs.declared.place.Position.TheVariants.{Stmt, StatementList}

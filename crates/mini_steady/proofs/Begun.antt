@@ -45,8 +45,8 @@ begun_next p t u at b c d m e flag shaped read before same more =
     let now = ap (λ ss. ss ++ us) same.begun in
     let one_more : suc at ≡ at + 1 = omega arith in
     let there : (λ k. is_listed k e.begun.items) ≡ passing (begun_in p (begun_by c) t at).symbols (begins c.in_lexical (shape_of t) p (summaries (children t)) at)
-        = fun_ext (λ k. ap (is_listed k) (more.begun ∙ now) ∙ either_listed k d.begun.items us
-          ∙ (λ i. (before.begun i).symbols k || (begins_there k (beginning b (shape_of u) p at) u at ∙ (λ j. is_in (Declared k) (begins (flag j) (shaped j) p (read j) at))) i)) in
+    = fun_ext (λ k. ap (is_listed k) (more.begun ∙ now) ∙ either_listed k d.begun.items us
+    ∙ (λ i. (before.begun i).symbols k || (begins_there k (beginning b (shape_of u) p at) u at ∙ (λ j. is_in (Declared k) (begins (flag j) (shaped j) p (read j) at))) i)) in
     let listed = more.in_lexical ∙ same.in_lexical ∙ ap (λ (L : Begun). L.in_lexical) before.begun in record {
       number = more.number ∙ same.number ∙ before.number;
       declared = more.declared ∙ same.declared ∙ before.declared;

@@ -36,8 +36,7 @@ minimize_parts-minimize_own_code-requires g t c κs within =
 pub minimize_parts-loop-at-init : goal.minimize_parts-loop-at-init
 minimize_parts-loop-at-init g t c =
     let S = g.S.SteadyNames.sets c.args.steady.now in
-    let body = c.args.body.now in
-    (
+    let body = c.args.body.now in (
       walked_none (rows_there g.W.OwnRewrites.rows S body) (rows_read g.W.OwnRewrites.rows g.met.W.OwnRewrites.keeps S body) (begun_by body) c.args.place c.args.node.now c.requires,
       begun_first c.args.place c.args.node.now body c.enter_children.new.code c.enter_children.ensures.number c.enter_children.ensures.declared c.enter_children.ensures.begun (c.enter_children.ensures.in_lexical ∙ c.lists_lexical.ensures ∙ ap (λ h. lists_lexical h c.args.place) c.shape.ensures),
     )
@@ -59,8 +58,8 @@ minimize_parts-loop-at-preserved g t c =
     let walked = walked_same F S body now (begun_by now) (begun_by now) _ _ _ _ begun.number begun.declared refl c.in_ok-part.ensures.walked in
     let counted = c.len-count.ensures ∙ ap count c.children.ensures in
     let next = walked_child R reads (begun_by body) (begun_by now) _ _ _ c.len-count.result c.loop-at.at _ c.loop-at.node _ _ _ c.loop-at.changed _
-        (c.child_place-stands.ensures, c.shape-in-loop-at.ensures, counted, c.children_mut.ensures.value, c.child_mut-child.ensures.value) begun.begun
-        (omega (arith, c.loop-at-test.true)) c.loop-at.invariant.0 walked in
+    (c.child_place-stands.ensures, c.shape-in-loop-at.ensures, counted, c.children_mut.ensures.value, c.child_mut-child.ensures.value) begun.begun
+    (omega (arith, c.loop-at-test.true)) c.loop-at.invariant.0 walked in
     (next, begun_walked R (begun_by body) c.args.place c.args.node.now _ c.loop-at.at _ c.is_in_lexical-was_lexical.result body now c.minimize_own_code.new.body c.push_behind.new.code next c.is_in_lexical-was_lexical.ensures begun c.in_ok-part.ensures.body c.in_ok-push_behind.ensures)
 
 pub minimize_parts-returns-clause-walked : goal.minimize_parts-returns-clause-walked
