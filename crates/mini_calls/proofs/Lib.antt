@@ -1,1 +1,9 @@
 pub mod Joining
+pub mod OwnOperators
+pub mod OwnLogical
+pub mod OwnConstants
+pub mod OwnChoices
+pub mod OwnJoined
+pub mod OwnSpellings
+pub mod OwnKeys
+pub mod OwnBodies

@@ -5,11 +5,16 @@
 mod choices;
 mod folding;
 mod joined;
+mod laws;
 mod logic;
 mod statements;
 mod syntax;
 mod unused;
 
+pub use laws::{
+    bodies_are_own_rows, choices_are_own_rows, folds_are_own_rows, joined_calls_are_own_rows,
+    keys_are_own_rows, operators_are_own_rows, spellings_are_own_rows,
+};
 // What is known of an expression, and how a key of a class is kept.
 pub use mini_syntax::{ClassPropertyKeyParent, ClassPropertyKeyParentType};
 pub use mini_terms::{

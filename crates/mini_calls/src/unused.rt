@@ -6,14 +6,14 @@ ghost use Rattle.mini_model.specs.declared.seat.StmtSeat.{StmtSeat};
 ghost use Rattle.mini_model.specs.Tree.{children, count, shape_of};
 ghost use Rattle.mini_node.specs.Kinds.{is_listed as is_it_listed};
 ghost use Rattle.mini_unused.specs.Calls.{Within, is_class, is_function, should_go};
-ghost use Rattle.mini_unused.specs.RemoveUnusedDeclaration.{Applied, AppliedInFunction, UnusedAt, list_at, marked, open_in};
+ghost use Rattle.mini_unused.specs.RemoveUnusedDeclaration.{Applied, AppliedInFunction, UnusedAt, list_at, allowed, open_in};
 ghost use Rattle.mini_unused.specs.RemoveUnusedName.{Applied as AppliedOfRemoveUnusedName, switches_of};
 ghost use Rattle.mini_unused.specs.SubstituteSingleUse.{Removed};
 ghost use Rattle.mini_unused.specs.SubstituteCatchClause.{Applied as AppliedOfSubstituteCatchClause};
 ghost use Rattle.std.specs.Prelude.{IfOk, None, false, true, ◌+◌, ◌<◌, ◌≡◌, ◌^◌};
 
 use crate::PeepholeOptimizations;
-use mini_context::Scopes;
+use mini_context::TraverseCtx;
 use mini_tree::{CompressOptions, Node, OutOfMemory};
 use std::alloc::Global;
 
@@ -25,11 +25,11 @@ impl PeepholeOptimizations {
         &self,
         alloc: Global,
         node: &mut Node,
-        scopes: &Scopes,
+        context: &TraverseCtx,
     ) -> Result<bool, OutOfMemory>
-        ensures { IfOk result (λ changed. (q : StmtSeat) → Applied (marked scopes.now) (Stmt q) node.old node.new changed) }
+        ensures { IfOk result (λ changed. (q : StmtSeat) → Applied (allowed context.now) (Stmt q) node.old node.new changed) }
     {
-        mini_unused::remove_unused_declaration(alloc, node, scopes)
+        mini_unused::remove_unused_declaration(alloc, node, context)
     }
 
     /// So do the statements of an arrow function, whose parameters don't mention x either, and those of any other function that stands as an
@@ -38,11 +38,11 @@ impl PeepholeOptimizations {
         &self,
         alloc: Global,
         node: &mut Node,
-        scopes: &Scopes,
+        context: &TraverseCtx,
     ) -> Result<bool, OutOfMemory>
-        ensures { IfOk result (λ changed. (s : Seat) → Applied (marked scopes.now) (Expr s) node.old node.new changed) }
+        ensures { IfOk result (λ changed. (s : Seat) → Applied (allowed context.now) (Expr s) node.old node.new changed) }
     {
-        mini_unused::remove_unused_in_arrow(alloc, node, scopes)
+        mini_unused::remove_unused_in_arrow(alloc, node, context)
     }
 
     /// Of a function that is no arrow function, as `function f(a) { let x = b(); return x + a; }`, whose own name and whose parameters don't
@@ -51,11 +51,11 @@ impl PeepholeOptimizations {
         &self,
         alloc: Global,
         node: &mut Node,
-        scopes: &Scopes,
+        context: &TraverseCtx,
     ) -> Result<bool, OutOfMemory>
-        ensures { IfOk result (λ changed. AppliedInFunction (marked scopes.now) node.old node.new changed) }
+        ensures { IfOk result (λ changed. AppliedInFunction (allowed context.now) node.old node.new changed) }
     {
-        mini_unused::remove_unused_in_function(alloc, node, scopes)
+        mini_unused::remove_unused_in_function(alloc, node, context)
     }
 
     /// Of a module, as `import "a"; const x = f(); g();`, in which nothing else mentions x, of a static block of a class, of each block of a
@@ -64,11 +64,11 @@ impl PeepholeOptimizations {
         &self,
         alloc: Global,
         node: &mut Node,
-        scopes: &Scopes,
+        context: &TraverseCtx,
     ) -> Result<bool, OutOfMemory>
-        ensures { IfOk result (λ changed. Applied (marked scopes.now) Elsewhere node.old node.new changed) }
+        ensures { IfOk result (λ changed. Applied (allowed context.now) Elsewhere node.old node.new changed) }
     {
-        mini_unused::remove_unused_in_module(alloc, node, scopes)
+        mini_unused::remove_unused_in_module(alloc, node, context)
     }
 
     /// Of a list of statements in which no name is unused, with what stands outside of them, `let x = a(); return x + b;` becomes
@@ -79,13 +79,13 @@ impl PeepholeOptimizations {
         alloc: Global,
         outside: &Node,
         list: &mut Node,
-        scopes: &Scopes,
+        context: &TraverseCtx,
     ) -> Result<bool, OutOfMemory>
         requires list { is_it_listed list.old ≡ true }
-        requires used { UnusedAt (open_in outside.now (marked scopes.now)) outside.now (children list.old) None }
-        ensures { IfOk result (λ changed. Removed (open_in outside.now (marked scopes.now)) outside.now list.old list.new changed) }
+        requires used { UnusedAt (open_in outside.now (allowed context.now)) outside.now (children list.old) None }
+        ensures { IfOk result (λ changed. Removed (open_in outside.now (allowed context.now)) outside.now list.old list.new changed) }
     {
-        mini_unused::substitute_single_uses(alloc, outside, list, scopes)
+        mini_unused::substitute_single_uses(alloc, outside, list, context)
     }
 
     /// Whether 72 would take the declarator at the second place of the declaration at the first, in a list of statements with what stands outside of
@@ -97,24 +97,24 @@ impl PeepholeOptimizations {
         list: &Node,
         at: usize,
         which: usize,
-        scopes: &Scopes,
+        context: &TraverseCtx,
     ) -> bool
         requires statement { at < count (children list.now) }
         requires declarator { which < count (children (list_at (children list.now) at)) }
         requires fits { which + 1 < 2 ^ 64 }
         requires fits_too { at + 1 < 2 ^ 64 }
-        ensures { result ≡ should_go (open_in outside.now (marked scopes.now)) outside.now list.now at which }
+        ensures { result ≡ should_go (open_in outside.now (allowed context.now)) outside.now list.now at which }
     {
-        mini_unused::should_remove_unused_declarator(outside, list, at, which, scopes)
+        mini_unused::should_remove_unused_declarator(outside, list, at, which, context)
     }
 
     /// Of a list of statements with what stands outside of them, `let x = a(), y = x.b;` becomes `let y = a().b;`, for the first such name; where
     /// a list stands outside, of a `var` alone. The answer says whether there was one.
-    pub fn substitute_within(&self, outside: &Node, list: &mut Node, scopes: &Scopes) -> bool
+    pub fn substitute_within(&self, outside: &Node, list: &mut Node, context: &TraverseCtx) -> bool
         requires { is_it_listed list.old ≡ true }
-        ensures { Within (open_in outside.now (marked scopes.now)) outside.now list.old list.new result }
+        ensures { Within (open_in outside.now (allowed context.now)) outside.now list.old list.new result }
     {
-        mini_unused::substitute_within(outside, list, scopes)
+        mini_unused::substitute_within(outside, list, context)
     }
 
     /// A function or class expression loses its name where nothing in it mentions that and the options let it go. The answer says whether it

@@ -15,7 +15,7 @@ use Rattle.mini_terms.specs.Folds.{goes_on}
 use Rattle.mini_rows.specs.Choices.{pair, Row13Both, ChoiceContracts}
 use Rattle.mini_choices.specs.MinimizeConditionalBranches.{is_lighter}
 use Rattle.mini_choices.specs.EvaluateBothSides as both
-use Rattle.mini_choices.proofs.Trials.{both_true, tried, lighter_test}
+use Rattle.mini_choices.proofs.Trials.{both_true, Falls, tries, lighter_test}
 
 known_row : (n : Tree) → both.goes_on_in (logical_operator n) (part n 0) ≡ true → Row13Both n (both.both_sides n)
 known_row n h = go (logical_operator n) refl h
@@ -24,13 +24,16 @@ known_row n h = go (logical_operator n) refl h
     go (Some o) k h = record { operator = o; left = part n 0; right = part n 1; known = h; shape = logical_is n o k; written = refl }
     go None k h = absurd (true≢false (sym h))
 
-pub both_row : (s : Seat) (n w : Tree) → both.written s n ≡ Some w → ChoiceContracts (Expr s) n w
-both_row s n w = tried s n w (both.evaluates_both s n) (both.both_sides n) None made (λ e. absurd (cc e))
+pub both_falls : (s : Seat) (n w : Tree) → both.written s n ≡ Some w → Falls (λ s n w. Row13Both n w) s n w
+both_falls s n w = tries (Falls (λ s n w. Row13Both n w) s n) w (both.evaluates_both s n) (both.both_sides n) None made (λ e. absurd (cc e))
   where
-    made : both.evaluates_both s n ≡ true → ChoiceContracts (Expr s) n (both.both_sides n)
+    made : both.evaluates_both s n ≡ true → Falls (λ s n w. Row13Both n w) s n (both.both_sides n)
     made h =
         let (known, less) = and_parts (both.goes_on_in (logical_operator n) (part n 0)) (is_lighter s (both.both_sides n) n) h in
-        record { row = inr (inr (inr (inr (inr (inr (inr (inl (known_row n known)))))))); lighter = omega (arith, ltb-true _ _ less) }
+        (known_row n known, omega (arith, ltb-true _ _ less))
+
+pub both_row : (s : Seat) (n w : Tree) → both.written s n ≡ Some w → ChoiceContracts (Expr s) n w
+both_row s n w e = let (r, less) = both_falls s n w e in record { row = inr (inr (inr (inr (inr (inr (inr (inl r))))))); lighter = less }
 
 there : (b : Bool) (t : Tree) → b ≡ true → is_some (if b then Some t else None) ≡ true
 there true t e = refl

@@ -12,9 +12,9 @@ use Rattle.mini_node.specs.Made.{call_expression_is, conditional_is}
 use Rattle.mini_node.specs.Walks.{from_first, next_child, no_rest}
 use Rattle.mini_node.proofs.Equality.{by_root, tree_itself, tree_same, trees_same}
 use Rattle.mini_node.proofs.Equality as equality
-use Rattle.mini_terms.specs.Folds.{is_effect_free}
+use Rattle.mini_terms.specs.Effects.{ef}
 use Rattle.mini_terms.specs.Reading.{is_item, is_plain_part}
-use Rattle.mini_rows.specs.Choices.{spread, argument, Row44}
+use Rattle.mini_rows.specs.Choices.{spread, argument, CallRow}
 use Rattle.mini_choices.specs.Calling.{is_spread, begins_with_item, begins_with_spread, begin_alike, are_others_same, is_idle, are_alike, calls_either, chosen_first, called}
 use Rattle.mini_choices.proofs.Trials.{both_true}
 
@@ -123,20 +123,20 @@ begun a ts us e = go (begins_with_item ts && begins_with_item us) refl e
 call_of : (t : Tree) → is_call_expression t ≡ true → 0 < count (children (part t 1)) → t ≡ call false (part t 0) (child_or_absent (children (part t 1)) 0 ▸ without (children (part t 1)) 0)
 call_of t e some = call_expression_is t e ∙ ap (call false (part t 0)) (begins (children (part t 1)) some)
 
-pub called_row : (n : Tree) → calls_either n ≡ true → Row44 n (called n)
-called_row n e =
+pub called_row : (asked : Bool) (n : Tree) → calls_either asked n ≡ true → CallRow asked n (called n)
+called_row asked n e =
     let yes = part n 1 in
     let no = part n 2 in
     let first = children (part yes 1) in
     let second = children (part no 1) in
-    let (chooses, e1) = and_parts (is_conditional n) (is_call_expression yes && (is_call_expression no && (are_alike yes no && is_effect_free (part n 0)))) e in
-    let (left, e2) = and_parts (is_call_expression yes) (is_call_expression no && (are_alike yes no && is_effect_free (part n 0))) e1 in
-    let (right, e3) = and_parts (is_call_expression no) (are_alike yes no && is_effect_free (part n 0)) e2 in
-    let (alike, free) = and_parts (are_alike yes no) (is_effect_free (part n 0)) e3 in
-    let (begin, e4) = and_parts (begin_alike first second) (same_tree (part yes 0) (part no 0) && (is_idle (part yes 0) && are_others_same first second)) alike in
-    let (same, e5) = and_parts (same_tree (part yes 0) (part no 0)) (is_idle (part yes 0) && are_others_same first second) e4 in
-    let (idle, others) = and_parts (is_idle (part yes 0)) (are_others_same first second) e5 in
-    let (plain, still) = and_parts (is_plain_part (part yes 0)) (is_effect_free (part yes 0)) idle in
+    let (chooses, e1) = and_parts (is_conditional n) (is_call_expression yes && (is_call_expression no && (are_alike asked yes no && ef asked (part n 0)))) e in
+    let (left, e2) = and_parts (is_call_expression yes) (is_call_expression no && (are_alike asked yes no && ef asked (part n 0))) e1 in
+    let (right, e3) = and_parts (is_call_expression no) (are_alike asked yes no && ef asked (part n 0)) e2 in
+    let (alike, free) = and_parts (are_alike asked yes no) (ef asked (part n 0)) e3 in
+    let (begin, e4) = and_parts (begin_alike first second) (same_tree (part yes 0) (part no 0) && (is_idle asked (part yes 0) && are_others_same first second)) alike in
+    let (same, e5) = and_parts (same_tree (part yes 0) (part no 0)) (is_idle asked (part yes 0) && are_others_same first second) e4 in
+    let (idle, others) = and_parts (is_idle asked (part yes 0)) (are_others_same first second) e5 in
+    let (plain, still) = and_parts (is_plain_part (part yes 0)) (ef asked (part yes 0)) idle in
     let one = tree_same (part yes 0) (part no 0) same in
     let b = begun (part n 0) first second begin in
     let f = b.firsts in
@@ -174,11 +174,11 @@ both_begin : (b : Bool) (p q : Tree) (ts : Trees) → b || is_item p ≡ true �
 both_begin false p q ts e f = ap (λ c. c || (begins_with_spread (p ▸ ts) && begins_with_spread (q ▸ ts))) (both_true (is_item p) (is_item q) e f)
 both_begin true p q ts e f = or_true (begins_with_item (argument true p ▸ ts) && begins_with_item (argument true q ▸ ts)) true refl
 
-pub called_passes : (n w : Tree) (r : Row44 n w) → calls_either (conditional r.a (call false r.callee (argument r.is_spread r.p ▸ r.others)) (call false r.callee (argument r.is_spread r.q ▸ r.others))) ≡ true
-called_passes n w r =
+pub called_passes : (asked : Bool) (n w : Tree) (r : CallRow asked n w) → calls_either asked (conditional r.a (call false r.callee (argument r.is_spread r.p ▸ r.others)) (call false r.callee (argument r.is_spread r.q ▸ r.others))) ≡ true
+called_passes asked n w r =
     let ts : Trees = argument r.is_spread r.p ▸ r.others in
     let us : Trees = argument r.is_spread r.q ▸ r.others in
-    both_true (are_alike (call false r.callee ts) (call false r.callee us)) (is_effect_free r.a)
+    both_true (are_alike asked (call false r.callee ts) (call false r.callee us)) (ef asked r.a)
     (both_true (begin_alike ts us) _ (both_begin r.is_spread r.p r.q r.others r.first r.second)
-    (both_true (same_tree r.callee r.callee) _ (tree_itself r.callee) (both_true (is_idle r.callee) (same_trees r.others r.others) (both_true (is_plain_part r.callee) (is_effect_free r.callee) r.plain r.idle) (trees_itself r.others))))
+    (both_true (same_tree r.callee r.callee) _ (tree_itself r.callee) (both_true (is_idle asked r.callee) (same_trees r.others r.others) (both_true (is_plain_part r.callee) (ef asked r.callee) r.plain r.idle) (trees_itself r.others))))
     r.effect_free

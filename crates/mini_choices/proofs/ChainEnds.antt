@@ -13,15 +13,17 @@ use Rattle.mini_terms.specs.Reading.{stands}
 use Rattle.mini_rows.specs.Chains.{is_calm, Link, a_member, a_computed, a_call, linked, is_calm_link, chain}
 use Rattle.mini_rows.specs.ChainLinks.{Marked, marked, links_over, are_calm_over, ChainRow}
 use Rattle.mini_rows.specs.ChainEnds.{is_nothing, key_of, keys_over, enclose, Row10, Row10Then, EndRow}
-use Rattle.mini_rows.specs.Choices.{pair, ChoiceContracts}
+use Rattle.mini_rows.proofs.ChainLinkLawful.{chains_fall}
+use Rattle.mini_rows.specs.Choices.{pair, ChoiceRow, ChoiceContracts}
 use Rattle.mini_rows.specs.Lists.{encloses}
 use Rattle.mini_rows.specs.Spellings.{void_zero}
 use Rattle.mini_choices.specs.MinimizeConditionalBranches.{is_lighter}
 use Rattle.mini_choices.specs.ChainLinks.{is_chain, is_step, is_marked, outcome, folded, wrapped, folded_written}
+use Rattle.mini_choices.specs.OwnRows.{FoldedRow}
 use Rattle.mini_choices.specs.FoldChainExpr.{ends_at_once, ends_in, base_of, base_in, links_enclose, links_in, ends_idly, may_end, acts, ends_after, may_end_after, base_then, after_written, written}
-use Rattle.mini_choices.proofs.ChainLinks.{chain_is, Stepped, stepped_is, step_passes, first_of_link, mark_of_link, links_row, links_pass}
+use Rattle.mini_choices.proofs.ChainLinks.{chain_is, Stepped, stepped_is, step_passes, first_of_link, mark_of_link, links_are_row, links_pass}
 use Rattle.mini_choices.proofs.FormsAre.{either_true}
-use Rattle.mini_choices.proofs.Trials.{not_true, both_true, tried, first_true, later_true, lighter_test}
+use Rattle.mini_choices.proofs.Trials.{Falls, not_true, both_true, tries, first_true, later_true, lighter_test}
 
 or_last : (b : Bool) {c : Bool} → c ≡ true → b || c ≡ true
 or_last true e = refl
@@ -179,7 +181,7 @@ module _ (s : Seat) (n : Tree) where
   abbrev links : Tree
   links = part n 0
 
-  end_row : may_end n && is_lighter s void_zero n ≡ true → ChoiceContracts (Expr s) n void_zero
+  end_row : may_end n && is_lighter s void_zero n ≡ true → Falls FoldedRow s n void_zero
   end_row h =
       let (may, less) = and_parts (may_end n) (is_lighter s void_zero n) h in
       let (c, idly) = and_parts (is_chain n) (ends_idly links) may in
@@ -199,9 +201,9 @@ module _ (s : Seat) (n : Tree) where
         shape = chain_is n c ∙ ap chain o.is;
         written = refl;
       } in
-      record { row = inr (inr (inr (inr (inr (inr (inl (inl row))))))); lighter = omega (arith, ltb-true _ _ less) }
+      (inl (inl row), omega (arith, ltb-true _ _ less))
 
-  after_row : may_end_after n && is_lighter s (base_then n) n ≡ true → ChoiceContracts (Expr s) n (base_then n)
+  after_row : may_end_after n && is_lighter s (base_then n) n ≡ true → Falls FoldedRow s n (base_then n)
   after_row h =
       let (may, less) = and_parts (may_end_after n) (is_lighter s (base_then n) n) h in
       let (c, after) = and_parts (is_chain n) (ends_after links) may in
@@ -226,12 +228,22 @@ module _ (s : Seat) (n : Tree) where
         shape = chain_is n c ∙ ap chain o.is;
         written = ap (λ t. pair t void_zero) base;
       } in
-      record { row = inr (inr (inr (inr (inr (inr (inl (inr row))))))); lighter = omega (arith, ltb-true _ _ less) }
+      (inl (inr row), omega (arith, ltb-true _ _ less))
+
+pub folded_falls : (s : Seat) (n w : Tree) → written s n ≡ Some w → Falls FoldedRow s n w
+folded_falls s n w e =
+    tries (Falls FoldedRow s n) w (may_end n && is_lighter s void_zero n) void_zero (after_written s n) (end_row s n)
+    (tries (Falls FoldedRow s n) w (may_end_after n && is_lighter s (base_then n) n) (base_then n) (folded_written s n) (after_row s n) linked_row) e
+  where
+    linked_row : folded_written s n ≡ Some w → Falls FoldedRow s n w
+    linked_row e = let r = links_are_row s n w e in (inr r, chains_fall s n w r)
 
 pub folded_row : (s : Seat) (n w : Tree) → written s n ≡ Some w → ChoiceContracts (Expr s) n w
-folded_row s n w e =
-    tried s n w (may_end n && is_lighter s void_zero n) void_zero (after_written s n) (end_row s n)
-    (tried s n w (may_end_after n && is_lighter s (base_then n) n) (base_then n) (folded_written s n) (after_row s n) (links_row s n w)) e
+folded_row s n w e = let (r, less) = folded_falls s n w e in record { row = of r; lighter = less }
+  where
+    of : FoldedRow s n w → ChoiceRow (Expr s) n w
+    of (inl r) = inr (inr (inr (inr (inr (inr (inl r))))))
+    of (inr r) = inr (inr (inr (inr (inr (inl r)))))
 
 -- ---- and what a row reads is written
 

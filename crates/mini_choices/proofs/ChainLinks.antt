@@ -2,7 +2,6 @@
 use Rattle.std.proofs.Common.{◌≡◌, ◌⊎◌, zero, Bool, true, false, List, [], ◌∷◌, Option, Some, None, refl, sym, ap, subst, ◌∙◌, inl, inr}
 use Rattle.std.specs.Prelude.{◌&&◌, ◌||◌, not, is_some, if◌then◌else◌}
 use Rattle.std.proofs.lemmas.Bool.{and_parts, false≢true}
-use Rattle.mini_model.specs.declared.place.Position.TheVariants.{Expr}
 use Rattle.mini_model.specs.declared.seat.Seat.{Seat}
 use Rattle.mini_model.specs.declared.shape.Shape.TheVariants as shape
 use Rattle.mini_model.specs.Tree.{Tree, Trees, node, none, ◌▸◌, children, child_or_absent, shape_of}
@@ -13,8 +12,6 @@ use Rattle.mini_terms.specs.Parts.{is_link}
 use Rattle.mini_terms.specs.Reading.{is_plain_part}
 use Rattle.mini_rows.specs.Chains.{is_calm, are_calm, Link, a_member, a_computed, a_call, linked, is_calm_link, chain}
 use Rattle.mini_rows.specs.ChainLinks.{is_there, Marked, marked, links_over, is_lone, are_calm_over, has_mark, chain_if, Row64, Row11, ChainRow}
-use Rattle.mini_rows.specs.Choices.{ChoiceContracts}
-use Rattle.mini_rows.proofs.ChainLinkLawful.{chains_fall}
 use Rattle.mini_choices.specs.ChainLinks.{is_chain, ends_none, is_step, is_marked, link_shape, relinked, holds_link, is_value, folds_here, here, with_mark, outcome, outcome_in, folded, folded_in, wrapped, folded_written}
 use Rattle.mini_choices.proofs.Trials.{not_true, both_true, some_is}
 
@@ -257,21 +254,18 @@ module _ (s : Seat) (n : Tree) where
         written = ap (λ b. chain_if b (folded may links)) j.keeps ∙ ap (chain_if (has_mark j.others)) j.makes;
       }
 
-  contracts : (w : Tree) → ChainRow s n w → ChoiceContracts (Expr s) n w
-  contracts w r = record { row = inr (inr (inr (inr (inr (inl r))))); lighter = chains_fall s n w r }
-
   row_of : (stays : Bool) → is_chain n ≡ true → Folds may links stays → ChainRow s n (chain_if stays (folded may links))
   row_of stays c (inl j) = inl (of_joined stays c j)
   row_of stays c (inr j) = inr (of_closed stays c j)
 
-pub links_row : (s : Seat) (n w : Tree) → folded_written s n ≡ Some w → ChoiceContracts (Expr s) n w
-links_row s n w e = go (is_chain n) refl e
+pub links_are_row : (s : Seat) (n w : Tree) → folded_written s n ≡ Some w → ChainRow s n w
+links_are_row s n w e = go (is_chain n) refl e
   where
-    of : is_chain n ≡ true → (o : Option Bool) → outcome (may s n) (links s n) ≡ o → wrapped o (folded (may s n) (links s n)) ≡ Some w → ChoiceContracts (Expr s) n w
-    of h (Some stays) f g = subst (ChoiceContracts (Expr s) n) (some_is _ w g) (contracts s n (chain_if stays (folded (may s n) (links s n))) (row_of s n stays h (folds_of (may s n) (links s n) stays f)))
+    of : is_chain n ≡ true → (o : Option Bool) → outcome (may s n) (links s n) ≡ o → wrapped o (folded (may s n) (links s n)) ≡ Some w → ChainRow s n w
+    of h (Some stays) f g = subst (ChainRow s n) (some_is _ w g) (row_of s n stays h (folds_of (may s n) (links s n) stays f))
     of h None f g = absurd (cc g)
 
-    go : (b : Bool) → is_chain n ≡ b → (if b then wrapped (outcome (may s n) (links s n)) (folded (may s n) (links s n)) else None) ≡ Some w → ChoiceContracts (Expr s) n w
+    go : (b : Bool) → is_chain n ≡ b → (if b then wrapped (outcome (may s n) (links s n)) (folded (may s n) (links s n)) else None) ≡ Some w → ChainRow s n w
     go true h g = of h (outcome (may s n) (links s n)) refl g
     go false h g = absurd (cc g)
 

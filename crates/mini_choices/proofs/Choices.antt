@@ -25,7 +25,7 @@ use Rattle.mini_node.proofs.Equality.{tree_same, tree_itself}
 use Rattle.mini_terms.specs.Exact.{kept_by_value}
 use Rattle.mini_terms.specs.Folds.{is_effect_free}
 use Rattle.mini_rows.specs.Lists.{sequence}
-use Rattle.mini_rows.specs.Choices.{argument, assign, is_grouped, joined, strictly, joining, asks_object, null_compared, ended, deciding, may_choose, Row39, Row38, Row35, Row35Member, Row45, Row45Member, Key, member_of, Row46Equal, Row46Unequal, Row44, Row13Both, Row45Indexed, Row21Zero, LighterRow, OwnRow, ChoiceRow, ChoiceContracts}
+use Rattle.mini_rows.specs.Choices.{argument, assign, is_grouped, joined, strictly, joining, asks_object, null_compared, ended, deciding, may_choose, Row39, Row38, Row35, Row35Member, Row45, Row45Member, Key, member_of, Row46Equal, Row46Unequal, Row13Both, Row21Zero, Row41Or, Row41And, LighterRow, OwnRow, ChoiceRow, ChoiceContracts}
 use Rattle.mini_rows.proofs.ChoiceCalls.{calls_lighter}
 use Rattle.mini_rows.proofs.ChoiceIndexed.{indexed_lighter}
 use Rattle.mini_rows.proofs.ChoiceWeights as choice_weights
@@ -49,7 +49,7 @@ use Rattle.mini_choices.proofs.FirstParts.{zero_row, zero_passes}
 use Rattle.mini_choices.proofs.ChainLinks.{chain_is}
 use Rattle.mini_choices.proofs.ChainEnds.{of_chain, end_passes, folded_row, folded_passes}
 use Rattle.mini_choices.proofs.OptionalChains.{chain_row, chain_passes}
-use Rattle.mini_choices.proofs.Trials.{some_is, not_true, both_true, tried, first_true, later_true, first_there, second_there, lighter_test}
+use Rattle.mini_choices.proofs.Trials.{Falls, some_is, not_true, both_true, tries, first_true, later_true, first_there, second_there, lighter_test}
 use Rattle.mini_choices.specs.SubstituteRotateLogicalExpression.{leftmost}
 use Rattle.mini_choices.specs.MinimizeNullishComparison as nullish
 use Rattle.mini_choices.specs.MinimizeObjectTest as object_test
@@ -60,11 +60,12 @@ use Rattle.mini_choices.proofs.Spines.{logical_kind_is, spine_of, leftmost_joine
 use Rattle.mini_choices.proofs.HeldBranches.{held_row, held_passes}
 use Rattle.mini_choices.proofs.Calls.{called_row, called_passes}
 use Rattle.mini_choices.proofs.AssignedIndexed.{indexed_row, indexed_passes}
+use Rattle.mini_choices.specs.OwnRows.{SharedRow}
 use Rattle.mini_choices.specs.Choices.{first_of, operands_written, written, Gives, Rests, WrittenIsRow, UnwrittenRests}
 
 -- ---- 39
 
-rotated_row : (n w : Tree) → rotate.written n ≡ Some w → Row39 n w
+pub rotated_row : (n w : Tree) → rotate.written n ≡ Some w → Row39 n w
 rotated_row n w e = go (logical_operator n) refl e
   where
     by : (o : LogicalOperator) → logical_operator n ≡ Some o → (b : Bool) → is_logical o (part n 1) && not (is_grouped o (leftmost o (part (part n 1) 0))) ≡ b → rotate.written_by (if b then Some o else None) n ≡ Some w → Row39 n w
@@ -88,7 +89,7 @@ rotated_row n w e = go (logical_operator n) refl e
     go (Some o) h e = by o h (is_logical o (part n 1) && not (is_grouped o (leftmost o (part (part n 1) 0)))) refl e
     go None h e = absurd (cc e)
 
-rotated_passes : (o : LogicalOperator) (a b c : Tree) (cs : Trees) → is_grouped o b ≡ false → is_some (rotate.written (logical o a (joined o b (c ▸ cs)))) ≡ true
+pub rotated_passes : (o : LogicalOperator) (a b c : Tree) (cs : Trees) → is_grouped o b ≡ false → is_some (rotate.written (logical o a (joined o b (c ▸ cs)))) ≡ true
 rotated_passes Or a b c cs e =
     ap (λ x. is_some (rotate.written_by (if not (is_grouped Or x) then Some Or else None) (logical Or a (joined Or b (c ▸ cs))))) (leftmost_joined Or b cs e)
     ∙ ap (λ g. is_some (rotate.written_by (if not g then Some Or else None) (logical Or a (joined Or b (c ▸ cs))))) e
@@ -101,7 +102,7 @@ rotated_passes Coalesce a b c cs e =
 
 -- ---- 38
 
-decided_row : (n w : Tree) → decide.written n ≡ Some w → Row38 n w
+pub decided_row : (n w : Tree) → decide.written n ≡ Some w → Row38 n w
 decided_row n w e = go (logical_operator n) refl e
   where
     by : (o : LogicalOperator) → logical_operator n ≡ Some o → (b : Bool) → assigns_name (part n 1) && is_same_name (part n 0) (part (part n 1) 0) ≡ b → decide.written_by (if b then Some o else None) (part n 1) ≡ Some w → Row38 n w
@@ -122,7 +123,7 @@ decided_row n w e = go (logical_operator n) refl e
     go (Some o) h e = by o h (assigns_name (part n 1) && is_same_name (part n 0) (part (part n 1) 0)) refl e
     go None h e = absurd (cc e)
 
-decided_passes : (o : LogicalOperator) (x : Name) (b : Tree) → decide.written (logical o (identifier x) (assign x b)) ≡ Some (assignment (deciding o) (identifier x) b)
+pub decided_passes : (o : LogicalOperator) (x : Name) (b : Tree) → decide.written (logical o (identifier x) (assign x b)) ≡ Some (assignment (deciding o) (identifier x) b)
 decided_passes o x b = ap (λ g. decide.written_by (if g then Some o else None) (assign x b)) (tree_itself (identifier x))
 
 -- ---- 45
@@ -253,35 +254,31 @@ unequal_row n k =
 
 -- ---- 41
 
-own_or_row : (s : Seat) (n : Tree) → branches.is_own_consequent s n ≡ true → ChoiceContracts (Expr s) n (logical Or (part n 0) (part n 2))
+own_or_row : (s : Seat) (n : Tree) → branches.is_own_consequent s n ≡ true → Falls SharedRow s n (logical Or (part n 0) (part n 2))
 own_or_row s n k =
     let (chooses, rest) = and_parts (is_conditional n) (is_same_name (part n 0) (part n 1) && branches.is_lighter s (logical Or (part n 0) (part n 2)) n) k in
     let (same, less) = and_parts (is_same_name (part n 0) (part n 1)) (branches.is_lighter s (logical Or (part n 0) (part n 2)) n) rest in
     let one = one_name (part n 0) (part n 1) same in
-    record {
-      row = inr (inl (inl (record {
-        name = one.name;
-        b = part n 2;
-        shape = conditional_is n chooses ∙ (λ i. conditional (one.first i) (one.second i) (part n 2));
-        written = ap (λ t. logical Or t (part n 2)) one.first;
-      })));
-      lighter = omega (arith, ltb-true _ _ less);
-    }
+    let row : Row41Or n (logical Or (part n 0) (part n 2)) = record {
+      name = one.name;
+      b = part n 2;
+      shape = conditional_is n chooses ∙ (λ i. conditional (one.first i) (one.second i) (part n 2));
+      written = ap (λ t. logical Or t (part n 2)) one.first;
+    } in
+    (inr (inl (inl row)), omega (arith, ltb-true _ _ less))
 
-own_and_row : (s : Seat) (n : Tree) → branches.is_own_alternate s n ≡ true → ChoiceContracts (Expr s) n (logical And (part n 0) (part n 1))
+own_and_row : (s : Seat) (n : Tree) → branches.is_own_alternate s n ≡ true → Falls SharedRow s n (logical And (part n 0) (part n 1))
 own_and_row s n k =
     let (chooses, rest) = and_parts (is_conditional n) (is_same_name (part n 0) (part n 2) && branches.is_lighter s (logical And (part n 0) (part n 1)) n) k in
     let (same, less) = and_parts (is_same_name (part n 0) (part n 2)) (branches.is_lighter s (logical And (part n 0) (part n 1)) n) rest in
     let one = one_name (part n 0) (part n 2) same in
-    record {
-      row = inr (inl (inr (record {
-        name = one.name;
-        b = part n 1;
-        shape = conditional_is n chooses ∙ (λ i. conditional (one.first i) (part n 1) (one.second i));
-        written = ap (λ t. logical And t (part n 1)) one.first;
-      })));
-      lighter = omega (arith, ltb-true _ _ less);
-    }
+    let row : Row41And n (logical And (part n 0) (part n 1)) = record {
+      name = one.name;
+      b = part n 1;
+      shape = conditional_is n chooses ∙ (λ i. conditional (one.first i) (part n 1) (one.second i));
+      written = ap (λ t. logical And t (part n 1)) one.first;
+    } in
+    (inr (inl (inr row)), omega (arith, ltb-true _ _ less))
 
 -- ---- a conditional
 
@@ -289,74 +286,90 @@ own_and_row s n k =
 sure : (s : Seat) (n w : Tree) → LighterRow s n w → ChoiceContracts (Expr s) n w
 sure s n w r = record { row = inl r; lighter = choice_weights.lighter s n w r }
 
-called_lighter : (s : Seat) (n w : Tree) → Row44 n w → ChoiceContracts (Expr s) n w
-called_lighter s n w r = record { row = inr (inr (inr (inr (inl r)))); lighter = calls_lighter s n w r }
-
-index_lighter : (s : Seat) (n w : Tree) → Row45Indexed s n w → ChoiceContracts (Expr s) n w
-index_lighter s n w r = record { row = inr (inr (inr (inr (inr (inr (inr (inr (inl r)))))))); lighter = indexed_lighter s n w r }
+-- where it is one of these
+of_shared : (s : Seat) (n w : Tree) → SharedRow s n w → ChoiceRow (Expr s) n w
+of_shared s n w (inl (inl r)) = inl (inr (inr (inr (inl r))))
+of_shared s n w (inl (inr r)) = inl (inr (inr (inr (inr (inl r)))))
+of_shared s n w (inr (inl r)) = inr (inl r)
+of_shared s n w (inr (inr (inl (inl r)))) = inl (inr (inr (inr (inr (inr (inl r))))))
+of_shared s n w (inr (inr (inl (inr (inl r))))) = inl (inr (inr (inr (inr (inr (inr (inr (inr (inr (inr (inr (inl r))))))))))))
+of_shared s n w (inr (inr (inl (inr (inr r))))) = inr (inr (inr (inr (inr (inr (inr (inr (inl r))))))))
+of_shared s n w (inr (inr (inr r))) = inr (inr (inr (inr (inl r))))
 
 module _ (s : Seat) (n w : Tree) where
-  assigned_lighter : Row45 s n (branches.assigned n) ⊎ Row45Member s n (branches.assigned n) → ChoiceContracts (Expr s) n (branches.assigned n)
-  assigned_lighter (inl r) = sure s n (branches.assigned n) (inr (inr (inr (inr (inr (inl r))))))
-  assigned_lighter (inr r) = sure s n (branches.assigned n) (inr (inr (inr (inr (inr (inr (inr (inr (inr (inr (inr (inl r))))))))))))
+  -- one that is lighter in every seat, as all are but those of `OwnRow`
+  surely : (u : Tree) → Row46Equal n u ⊎ (Row46Unequal n u ⊎ (Row45 s n u ⊎ Row45Member s n u)) → Falls SharedRow s n u
+  surely u (inl r) = (inl (inl r), choice_weights.lighter s n u (inr (inr (inr (inl r)))))
+  surely u (inr (inl r)) = (inl (inr r), choice_weights.lighter s n u (inr (inr (inr (inr (inl r))))))
+  surely u (inr (inr (inl r))) = (inr (inr (inl (inl r))), choice_weights.lighter s n u (inr (inr (inr (inr (inr (inl r)))))))
+  surely u (inr (inr (inr r))) = (inr (inr (inl (inr (inl r)))), choice_weights.lighter s n u (inr (inr (inr (inr (inr (inr (inr (inr (inr (inr (inr (inl r)))))))))))))
+
+  pub branch_falls : branches.written s n ≡ Some w → Falls SharedRow s n w
+  branch_falls =
+      tries (Falls SharedRow s n) w (branches.is_own_if_equal n) (logical Coalesce (part n 2) (part n 1)) (branches.unequal_written s n) (λ h. surely (logical Coalesce (part n 2) (part n 1)) (inl (equal_row n h)))
+      (tries (Falls SharedRow s n) w (branches.is_own_if_unequal n) (logical Coalesce (part n 1) (part n 2)) (branches.consequent_written s n) (λ h. surely (logical Coalesce (part n 1) (part n 2)) (inr (inl (unequal_row n h))))
+      (tries (Falls SharedRow s n) w (branches.is_own_consequent s n) (logical Or (part n 0) (part n 2)) (branches.alternate_written s n) (own_or_row s n)
+      (tries (Falls SharedRow s n) w (branches.is_own_alternate s n) (logical And (part n 0) (part n 1)) (branches.assignment_written s n) (own_and_row s n)
+      (tries (Falls SharedRow s n) w (branches.is_seated s && branches.assigns_either n) (branches.assigned n) (branches.indexed_written s n) (λ h. surely (branches.assigned n) (inr (inr (chosen_row s n h))))
+      (tries (Falls SharedRow s n) w (branches.is_seated s && branches.indexes_either n) (branches.assigned n) (branches.called_written n) index_row
+      (tries (Falls SharedRow s n) w (calls_either true n) (called n) None call_row (λ e. absurd (cc e))))))))
+    where
+      index_row : branches.is_seated s && branches.indexes_either n ≡ true → Falls SharedRow s n (branches.assigned n)
+      index_row h = let r = indexed_row s n h in (inr (inr (inl (inr (inr r)))), indexed_lighter s n (branches.assigned n) r)
+
+      call_row : calls_either true n ≡ true → Falls SharedRow s n (called n)
+      call_row h = let r = called_row true n h in (inr (inr (inr r)), calls_lighter s n (called n) r)
 
   branch_row : branches.written s n ≡ Some w → ChoiceContracts (Expr s) n w
-  branch_row =
-      tried s n w (branches.is_own_if_equal n) (logical Coalesce (part n 2) (part n 1)) (branches.unequal_written s n) (λ h. sure s n (logical Coalesce (part n 2) (part n 1)) (inr (inr (inr (inl (equal_row n h))))))
-      (tried s n w (branches.is_own_if_unequal n) (logical Coalesce (part n 1) (part n 2)) (branches.consequent_written s n) (λ h. sure s n (logical Coalesce (part n 1) (part n 2)) (inr (inr (inr (inr (inl (unequal_row n h)))))))
-      (tried s n w (branches.is_own_consequent s n) (logical Or (part n 0) (part n 2)) (branches.alternate_written s n) (own_or_row s n)
-      (tried s n w (branches.is_own_alternate s n) (logical And (part n 0) (part n 1)) (branches.assignment_written s n) (own_and_row s n)
-      (tried s n w (branches.is_seated s && branches.assigns_either n) (branches.assigned n) (branches.indexed_written s n) (λ h. assigned_lighter (chosen_row s n h))
-      (tried s n w (branches.is_seated s && branches.indexes_either n) (branches.assigned n) (branches.called_written n) (λ h. index_lighter s n (branches.assigned n) (indexed_row s n h))
-      (tried s n w (calls_either n) (called n) None (λ h. called_lighter s n (called n) (called_row n h)) (λ e. absurd (cc e))))))))
+  branch_row e = let (r, less) = branch_falls e in record { row = of_shared s n w r; lighter = less }
 
 module _ (s : Seat) (t : Tree) where
-  by_equal : branches.is_own_if_equal t ≡ true → is_some (branches.written s t) ≡ true
+  pub by_equal : branches.is_own_if_equal t ≡ true → is_some (branches.written s t) ≡ true
   by_equal h = first_true (branches.is_own_if_equal t) (logical Coalesce (part t 2) (part t 1)) (branches.unequal_written s t) h
 
   after_equal : is_some (branches.unequal_written s t) ≡ true → is_some (branches.written s t) ≡ true
   after_equal h = later_true (branches.is_own_if_equal t) (logical Coalesce (part t 2) (part t 1)) (branches.unequal_written s t) h
 
-  by_unequal : branches.is_own_if_unequal t ≡ true → is_some (branches.written s t) ≡ true
+  pub by_unequal : branches.is_own_if_unequal t ≡ true → is_some (branches.written s t) ≡ true
   by_unequal h = after_equal (first_true (branches.is_own_if_unequal t) (logical Coalesce (part t 1) (part t 2)) (branches.consequent_written s t) h)
 
   after_unequal : is_some (branches.consequent_written s t) ≡ true → is_some (branches.written s t) ≡ true
   after_unequal h = after_equal (later_true (branches.is_own_if_unequal t) (logical Coalesce (part t 1) (part t 2)) (branches.consequent_written s t) h)
 
-  by_consequent : branches.is_own_consequent s t ≡ true → is_some (branches.written s t) ≡ true
+  pub by_consequent : branches.is_own_consequent s t ≡ true → is_some (branches.written s t) ≡ true
   by_consequent h = after_unequal (first_true (branches.is_own_consequent s t) (logical Or (part t 0) (part t 2)) (branches.alternate_written s t) h)
 
   after_consequent : is_some (branches.alternate_written s t) ≡ true → is_some (branches.written s t) ≡ true
   after_consequent h = after_unequal (later_true (branches.is_own_consequent s t) (logical Or (part t 0) (part t 2)) (branches.alternate_written s t) h)
 
-  by_alternate : branches.is_own_alternate s t ≡ true → is_some (branches.written s t) ≡ true
+  pub by_alternate : branches.is_own_alternate s t ≡ true → is_some (branches.written s t) ≡ true
   by_alternate h = after_consequent (first_true (branches.is_own_alternate s t) (logical And (part t 0) (part t 1)) (branches.assignment_written s t) h)
 
-  by_assignment : branches.is_seated s && branches.assigns_either t ≡ true → is_some (branches.written s t) ≡ true
+  pub by_assignment : branches.is_seated s && branches.assigns_either t ≡ true → is_some (branches.written s t) ≡ true
   by_assignment h = after_consequent (later_true (branches.is_own_alternate s t) (logical And (part t 0) (part t 1)) (branches.assignment_written s t) (first_true (branches.is_seated s && branches.assigns_either t) (branches.assigned t) (branches.indexed_written s t) h))
 
   after_assignment : is_some (branches.indexed_written s t) ≡ true → is_some (branches.written s t) ≡ true
   after_assignment h = after_consequent (later_true (branches.is_own_alternate s t) (logical And (part t 0) (part t 1)) (branches.assignment_written s t) (later_true (branches.is_seated s && branches.assigns_either t) (branches.assigned t) (branches.indexed_written s t) h))
 
-  by_indexed : branches.is_seated s && branches.indexes_either t ≡ true → is_some (branches.written s t) ≡ true
+  pub by_indexed : branches.is_seated s && branches.indexes_either t ≡ true → is_some (branches.written s t) ≡ true
   by_indexed h = after_assignment (first_true (branches.is_seated s && branches.indexes_either t) (branches.assigned t) (branches.called_written t) h)
 
-  by_called : calls_either t ≡ true → is_some (branches.written s t) ≡ true
-  by_called h = after_assignment (later_true (branches.is_seated s && branches.indexes_either t) (branches.assigned t) (branches.called_written t) (first_true (calls_either t) (called t) None h))
+  pub by_called : calls_either true t ≡ true → is_some (branches.written s t) ≡ true
+  by_called h = after_assignment (later_true (branches.is_seated s && branches.indexes_either t) (branches.assigned t) (branches.called_written t) (first_true (calls_either true t) (called t) None h))
 
 or_true : (a b : Bool) → b ≡ true → (a || b) ≡ true
 or_true true b e = refl
 or_true false b e = e
 
-declared_passes : (x : Name) → is_none x.symbol ≡ false → same_tree (identifier x) (identifier x) && is_declared (identifier x) ≡ true
+pub declared_passes : (x : Name) → is_none x.symbol ≡ false → same_tree (identifier x) (identifier x) && is_declared (identifier x) ≡ true
 declared_passes x d = both_true (same_tree (identifier x) (identifier x)) (is_declared (identifier x)) (tree_itself (identifier x)) (ap not d)
 
-chosen_passes : (s : Seat) → nat_eq s.level conditional_level ≡ false → (o : AssignmentOperator) (a : Tree) (x : Name) (b c : Tree) → may_choose o (not (is_none x.symbol)) (is_effect_free a) ≡ true → branches.is_seated s && branches.assigns_either (conditional a (assignment o (identifier x) b) (assignment o (identifier x) c)) ≡ true
+pub chosen_passes : (s : Seat) → nat_eq s.level conditional_level ≡ false → (o : AssignmentOperator) (a : Tree) (x : Name) (b c : Tree) → may_choose o (not (is_none x.symbol)) (is_effect_free a) ≡ true → branches.is_seated s && branches.assigns_either (conditional a (assignment o (identifier x) b) (assignment o (identifier x) c)) ≡ true
 chosen_passes s seated o a x b c d =
     both_true (branches.is_seated s) (branches.assigns_either (conditional a (assignment o (identifier x) b) (assignment o (identifier x) c))) (ap not seated)
     (both_true (is_same_operator o o) _ (tree_itself (leaf (shape.AssignmentExpression o))) (ap (λ g. g || (is_plain (Some o) && (is_same_member (identifier x) (identifier x) && is_effect_free a))) (both_true (same_tree (identifier x) (identifier x)) _ (tree_itself (identifier x)) d)))
 
-chosen_member_passes : (s : Seat) → nat_eq s.level conditional_level ≡ false → (a : Tree) (x : Name) (k : Key) (b c : Tree) → is_none x.symbol ≡ false → is_effect_free a ≡ true → branches.is_seated s && branches.assigns_either (conditional a (assignment Assign (member_of x k) b) (assignment Assign (member_of x k) c)) ≡ true
+pub chosen_member_passes : (s : Seat) → nat_eq s.level conditional_level ≡ false → (a : Tree) (x : Name) (k : Key) (b c : Tree) → is_none x.symbol ≡ false → is_effect_free a ≡ true → branches.is_seated s && branches.assigns_either (conditional a (assignment Assign (member_of x k) b) (assignment Assign (member_of x k) c)) ≡ true
 chosen_member_passes s seated a x k b c d free =
     let m : Tree = member_of x k in
     both_true (branches.is_seated s) (branches.assigns_either (conditional a (assignment Assign m b) (assignment Assign m c))) (ap not seated)
@@ -523,7 +536,7 @@ passes s n w (inr (inr (inr (inr (inr (inr (inr (inr (inl r))))))))) small less 
     ap (λ t. is_some (written s t)) r.shape ∙ in_branches s u (by_indexed s u (indexed_passes s n w r))
 passes s n w (inr (inr (inr (inr (inl r))))) small less =
     let t : Tree = conditional r.a (call false r.callee (argument r.is_spread r.p ▸ r.others)) (call false r.callee (argument r.is_spread r.q ▸ r.others)) in
-    ap (λ t. is_some (written s t)) r.shape ∙ in_branches s t (by_called s t (called_passes n w r))
+    ap (λ t. is_some (written s t)) r.shape ∙ in_branches s t (by_called s t (called_passes true n w r))
 
 pub unwritten_rests : UnwrittenRests
 unwritten_rests s n e small w c = absurd (cc (sym (passes s n w c.row small c.lighter) ∙ ap is_some e))

@@ -1,7 +1,7 @@
 -- A literal 0 is written for the first part of a sequence just where a row says so.
 use borrow.Author.Tests.{ltb-true}
-use Rattle.std.proofs.Common.{◌≡◌, ◌<◌, ◌^◌, arith, Bool, true, None, Some, refl, sym, ap, ◌∙◌, inl, inr}
-use Rattle.std.specs.Prelude.{is_some, ◌&&◌}
+use Rattle.std.proofs.Common.{◌≡◌, ◌<◌, ◌^◌, arith, true, None, Some, refl, ap, ◌∙◌, inr}
+use Rattle.std.specs.Prelude.{is_some}
 use Rattle.std.proofs.lemmas.Bool.{and_parts}
 use Rattle.mini_model.specs.declared.place.Position.TheVariants.{Expr}
 use Rattle.mini_model.specs.declared.seat.Seat.{Seat}
@@ -15,7 +15,7 @@ use Rattle.mini_choices.specs.MinimizeConditionalBranches.{is_lighter}
 use Rattle.mini_choices.specs.MinimizeFirstPart as behind
 use Rattle.mini_choices.specs.MinimizeHeldBranches.{is_pair, item}
 use Rattle.mini_choices.proofs.HeldBranches.{pair_is}
-use Rattle.mini_choices.proofs.Trials.{both_true, tried, first_true, lighter_test}
+use Rattle.mini_choices.proofs.Trials.{both_true, Falls, tries, first_true, lighter_test}
 
 idle_row : (n : Tree) → behind.follows_idle n ≡ true → Row21Zero n (behind.behind_zero n)
 idle_row n h =
@@ -23,13 +23,16 @@ idle_row n h =
     let (free, dropped) = and_parts (is_effect_free (item n 0)) (leaves_nothing (item n 0)) idle in
     record { idle = item n 0; last = item n 1; effect_free = free; dropped = dropped; shape = pair_is n two; written = refl }
 
-pub zero_row : (s : Seat) (n w : Tree) → behind.written s n ≡ Some w → ChoiceContracts (Expr s) n w
-zero_row s n w = tried s n w (behind.is_shortened s n) (behind.behind_zero n) None made (λ e. absurd (cc e))
+pub zero_falls : (s : Seat) (n w : Tree) → behind.written s n ≡ Some w → Falls (λ s n w. Row21Zero n w) s n w
+zero_falls s n w = tries (Falls (λ s n w. Row21Zero n w) s n) w (behind.is_shortened s n) (behind.behind_zero n) None made (λ e. absurd (cc e))
   where
-    made : behind.is_shortened s n ≡ true → ChoiceContracts (Expr s) n (behind.behind_zero n)
+    made : behind.is_shortened s n ≡ true → Falls (λ s n w. Row21Zero n w) s n (behind.behind_zero n)
     made h =
         let (idle, less) = and_parts (behind.follows_idle n) (is_lighter s (behind.behind_zero n) n) h in
-        record { row = inr (inr (inr (inr (inr (inr (inr (inr (inr (idle_row n idle))))))))); lighter = omega (arith, ltb-true _ _ less) }
+        (idle_row n idle, omega (arith, ltb-true _ _ less))
+
+pub zero_row : (s : Seat) (n w : Tree) → behind.written s n ≡ Some w → ChoiceContracts (Expr s) n w
+zero_row s n w e = let (r, less) = zero_falls s n w e in record { row = inr (inr (inr (inr (inr (inr (inr (inr (inr r)))))))); lighter = less }
 
 pub zero_passes : (s : Seat) (n w : Tree) → Row21Zero n w → weight (Expr s) n < 2 ^ 64 → weight (Expr s) w < weight (Expr s) n → is_some (behind.written s n) ≡ true
 zero_passes s n w r small less =

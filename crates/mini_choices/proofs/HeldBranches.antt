@@ -18,7 +18,7 @@ use Rattle.mini_rows.specs.Choices.{pair, HeldRow, ChoiceContracts}
 use Rattle.mini_choices.specs.MinimizeConditionalBranches.{is_lighter}
 use Rattle.mini_choices.specs.MinimizeHeldBranches as held
 use Rattle.mini_choices.specs.MinimizeHeldBranches.{item}
-use Rattle.mini_choices.proofs.Trials.{both_true, tried, first_true, later_true, lighter_test}
+use Rattle.mini_choices.proofs.Trials.{Falls, both_true, tries, first_true, later_true, lighter_test}
 
 pub two_by_count : (ts : Trees) → nat_eq (count ts) 2 ≡ has_count ts 2
 two_by_count none = refl
@@ -41,10 +41,10 @@ pair_is t e =
 
 module _ (s : Seat) (n : Tree) (chooses : is_conditional n ≡ true) where
   abbrev Contracts : Tree → Type 0
-  Contracts w = ChoiceContracts (Expr s) n w
+  Contracts w = Falls (λ s n w. HeldRow n w) s n w
 
   weighed : (w : Tree) → HeldRow n w → is_lighter s w n ≡ true → Contracts w
-  weighed w r less = record { row = inr (inr (inl r)); lighter = omega (arith, ltb-true _ _ less) }
+  weighed w r less = (r, omega (arith, ltb-true _ _ less))
 
   is : n ≡ conditional (part n 0) (part n 1) (part n 2)
   is = conditional_is n chooses
@@ -98,20 +98,23 @@ module _ (s : Seat) (n : Tree) (chooses : is_conditional n ≡ true) where
 
   chosen_row : (w : Tree) → held.chosen_written s n ≡ Some w → Contracts w
   chosen_row w =
-      tried s n w (held.is_consequent_chosen s n) (held.consequent_chosen n) (held.alternate_chosen_written s n) consequent_chosen_row
-      (tried s n w (held.is_alternate_chosen s n) (held.alternate_chosen n) (held.decided_written s n) alternate_chosen_row
-      (tried s n w (held.is_consequent_decided s n) (held.consequent_decided n) (held.alternate_decided_written s n) consequent_decided_row
-      (tried s n w (held.is_alternate_decided s n) (held.alternate_decided n) (held.followed_written s n) alternate_decided_row
-      (tried s n w (held.is_consequent_followed s n) (held.consequent_followed n) (held.alternate_followed_written s n) consequent_followed_row
-      (tried s n w (held.is_alternate_followed s n) (held.alternate_followed n) (held.alike_written s n) alternate_followed_row
-      (tried s n w (held.are_both_alike s n) (held.both_followed n) None both_alike_row (λ e. absurd (cc e))))))))
+      tries Contracts w (held.is_consequent_chosen s n) (held.consequent_chosen n) (held.alternate_chosen_written s n) consequent_chosen_row
+      (tries Contracts w (held.is_alternate_chosen s n) (held.alternate_chosen n) (held.decided_written s n) alternate_chosen_row
+      (tries Contracts w (held.is_consequent_decided s n) (held.consequent_decided n) (held.alternate_decided_written s n) consequent_decided_row
+      (tries Contracts w (held.is_alternate_decided s n) (held.alternate_decided n) (held.followed_written s n) alternate_decided_row
+      (tries Contracts w (held.is_consequent_followed s n) (held.consequent_followed n) (held.alternate_followed_written s n) consequent_followed_row
+      (tries Contracts w (held.is_alternate_followed s n) (held.alternate_followed n) (held.alike_written s n) alternate_followed_row
+      (tries Contracts w (held.are_both_alike s n) (held.both_followed n) None both_alike_row (λ e. absurd (cc e))))))))
 
-pub held_row : (s : Seat) (n w : Tree) → held.written s n ≡ Some w → ChoiceContracts (Expr s) n w
-held_row s n w e = go (is_conditional n) refl e
+pub held_falls : (s : Seat) (n w : Tree) → held.written s n ≡ Some w → Falls (λ s n w. HeldRow n w) s n w
+held_falls s n w e = go (is_conditional n) refl e
   where
-    go : (b : Bool) → is_conditional n ≡ b → (if b then held.chosen_written s n else None) ≡ Some w → ChoiceContracts (Expr s) n w
+    go : (b : Bool) → is_conditional n ≡ b → (if b then held.chosen_written s n else None) ≡ Some w → Falls (λ s n w. HeldRow n w) s n w
     go true h e = chosen_row s n h w e
     go false h e = absurd (cc e)
+
+pub held_row : (s : Seat) (n w : Tree) → held.written s n ≡ Some w → ChoiceContracts (Expr s) n w
+held_row s n w e = let (r, less) = held_falls s n w e in record { row = inr (inr (inl r)); lighter = less }
 
 -- ---- where a row makes it lighter, something is written
 

@@ -23,7 +23,7 @@ use Rattle.mini_choices.specs.Assigning.{is_declared}
 use Rattle.mini_choices.specs.Forms.{is_undefined}
 use Rattle.mini_choices.specs.MinimizeConditionalBranches.{is_equal_in, is_unequal_in}
 use Rattle.mini_choices.specs.InjectOptionalChaining.{is_link, is_spine, is_over, opened, with_first, optional_over, optional_in, chained, is_eval, asks_name, reads_name, is_read_last, is_read_first, first_written, written}
-use Rattle.mini_choices.proofs.Trials.{not_true, both_true, tried, first_true, later_true}
+use Rattle.mini_choices.proofs.Trials.{not_true, both_true, tries, first_true, later_true}
 use Rattle.mini_choices.proofs.FormsAre.{either_true, undefined_is, undefined_passes}
 
 -- ---- arguments, one after another
@@ -229,10 +229,10 @@ asked_is t e =
     }
 
 module _ (s : Seat) (n : Tree) where
-  chains : (equal : Bool) (test missing read : Tree) → (a : Asked test) → is_undefined missing ≡ true → is_spine (part test 0) read ≡ true → n ≡ if_nullish equal a.name missing read → ChoiceContracts (Expr s) n (kept_by_value s.guard (chain (optional_over (part test 0) read)))
+  chains : (equal : Bool) (test missing read : Tree) → (a : Asked test) → is_undefined missing ≡ true → is_spine (part test 0) read ≡ true → n ≡ if_nullish equal a.name missing read → Row46Chain s n (kept_by_value s.guard (chain (optional_over (part test 0) read)))
   chains equal test missing read a u e is =
       let sp = spine_of (identifier a.name) read (subst (λ x. is_spine x read ≡ true) a.named e) in
-      let row : Row46Chain s n (kept_by_value s.guard (chain (optional_over (part test 0) read))) = record {
+      record {
         equal = equal;
         name = a.name;
         missing = missing;
@@ -244,10 +244,9 @@ module _ (s : Seat) (n : Tree) where
         calm = sp.calm;
         shape = is ∙ ap (if_nullish equal a.name missing) sp.is;
         written = ap (λ t. kept_by_value s.guard (chain t)) (ap (λ u. optional_over u read) a.named ∙ sp.over (identifier a.name));
-      } in
-      record { row = inr (inr (inr (inl row))); lighter = chain_row_lighter s n (kept_by_value s.guard (chain (optional_over (part test 0) read))) row }
+      }
 
-  last_row : is_read_last n ≡ true → ChoiceContracts (Expr s) n (kept_by_value s.guard (chained n (part n 2)))
+  last_row : is_read_last n ≡ true → Row46Chain s n (kept_by_value s.guard (chained n (part n 2)))
   last_row h =
       let (chooses, h2) = and_parts (is_conditional n) (is_equal_in (binary_operator (part n 0)) && reads_name (part n 0) (part n 1) (part n 2)) h in
       let (compares, h3) = and_parts (is_equal_in (binary_operator (part n 0))) (reads_name (part n 0) (part n 1) (part n 2)) h2 in
@@ -257,7 +256,7 @@ module _ (s : Seat) (n : Tree) where
       let test : part n 0 ≡ binary Equality (identifier a.name) null_literal = equal_is (part n 0) compares ∙ (λ i. binary Equality (a.named i) (a.null i)) in
       chains true (part n 0) (part n 1) (part n 2) a undefined spined (conditional_is n chooses ∙ ap (λ t. conditional t (part n 1) (part n 2)) test)
 
-  first_row : is_read_first n ≡ true → ChoiceContracts (Expr s) n (kept_by_value s.guard (chained n (part n 1)))
+  first_row : is_read_first n ≡ true → Row46Chain s n (kept_by_value s.guard (chained n (part n 1)))
   first_row h =
       let (chooses, h2) = and_parts (is_conditional n) (is_unequal_in (binary_operator (part n 0)) && reads_name (part n 0) (part n 2) (part n 1)) h in
       let (compares, h3) = and_parts (is_unequal_in (binary_operator (part n 0))) (reads_name (part n 0) (part n 2) (part n 1)) h2 in
@@ -267,10 +266,13 @@ module _ (s : Seat) (n : Tree) where
       let test : part n 0 ≡ binary Inequality (identifier a.name) null_literal = unequal_is (part n 0) compares ∙ (λ i. binary Inequality (a.named i) (a.null i)) in
       chains false (part n 0) (part n 2) (part n 1) a undefined spined (conditional_is n chooses ∙ ap (λ t. conditional t (part n 1) (part n 2)) test)
 
+pub chain_is_row : (s : Seat) (n w : Tree) → written s n ≡ Some w → Row46Chain s n w
+chain_is_row s n w e =
+    tries (Row46Chain s n) w (is_read_last n) (kept_by_value s.guard (chained n (part n 2))) (first_written s n) (last_row s n)
+    (tries (Row46Chain s n) w (is_read_first n) (kept_by_value s.guard (chained n (part n 1))) None (first_row s n) (λ e. absurd (cc e))) e
+
 pub chain_row : (s : Seat) (n w : Tree) → written s n ≡ Some w → ChoiceContracts (Expr s) n w
-chain_row s n w e =
-    tried s n w (is_read_last n) (kept_by_value s.guard (chained n (part n 2))) (first_written s n) (last_row s n)
-    (tried s n w (is_read_first n) (kept_by_value s.guard (chained n (part n 1))) None (first_row s n) (λ e. absurd (cc e))) e
+chain_row s n w e = let r = chain_is_row s n w e in record { row = inr (inr (inr (inl r))); lighter = chain_row_lighter s n w r }
 
 -- ---- and what the row reads is written
 

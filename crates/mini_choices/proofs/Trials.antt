@@ -6,7 +6,6 @@ use Rattle.mini_model.specs.declared.place.Position.TheVariants.{Expr}
 use Rattle.mini_model.specs.declared.seat.Seat.{Seat}
 use Rattle.mini_model.specs.Tree.{Tree}
 use Rattle.mini_model.specs.Weight.{weight}
-use Rattle.mini_rows.specs.Choices.{ChoiceContracts}
 use Rattle.mini_choices.specs.MinimizeConditionalBranches.{is_lighter}
 use Rattle.mini_choices.specs.Choices.{first_of}
 
@@ -21,11 +20,14 @@ pub both_true : (a b : Bool) → a ≡ true → b ≡ true → a && b ≡ true
 both_true true b e f = f
 both_true false b e f = absurd (true≢false (sym e))
 
-module _ (s : Seat) (n w : Tree) where
-  -- the first test that holds, or what the next ones write
-  pub tried : (b : Bool) (made : Tree) (next : Option Tree) → (b ≡ true → ChoiceContracts (Expr s) n made) → (next ≡ Some w → ChoiceContracts (Expr s) n w) → (if b then Some made else next) ≡ Some w → ChoiceContracts (Expr s) n w
-  tried true made next f g e = subst (ChoiceContracts (Expr s) n) (some_is made w e) (f refl)
-  tried false made next f g e = g e
+-- the first test that holds, or what the next ones write
+pub tries : (R : Tree → Type 0) (w : Tree) (b : Bool) (made : Tree) (next : Option Tree) → (b ≡ true → R made) → (next ≡ Some w → R w) → (if b then Some made else next) ≡ Some w → R w
+tries R w true made next f g e = subst R (some_is made w e) (f refl)
+tries R w false made next f g e = g e
+
+-- what a row says, and is lighter
+abbrev pub Falls : (Seat → Tree → Tree → Type 0) → Seat → Tree → Tree → Type 0
+Falls R s n w = R s n w × (weight (Expr s) w < weight (Expr s) n)
 
 -- what is tried writes something where one test holds
 

@@ -6,7 +6,7 @@ use Rattle.mini_model.specs.Tree.{Tree, Trees, shape_of, call, conditional, chil
 use Rattle.mini_node.specs.Children.{part, is_bare, without, with_inserted}
 use Rattle.mini_node.specs.Equal.{same_tree, same_trees}
 use Rattle.mini_node.specs.Kinds.{is_call_expression, is_conditional}
-use Rattle.mini_terms.specs.Folds.{is_effect_free}
+use Rattle.mini_terms.specs.Effects.{ef}
 use Rattle.mini_terms.specs.Reading.{is_item, is_plain_part}
 use Rattle.mini_rows.specs.Choices.{spread}
 
@@ -35,16 +35,17 @@ abbrev pub are_others_same : Trees → Trees → Bool
 are_others_same ts us = same_trees (without ts 0) (without us 0)
 
 -- of an expression without an effect, which is the same function wherever it is asked
-abbrev pub is_idle : Tree → Bool
-is_idle f = is_plain_part f && is_effect_free f
+-- `this` has one where it is asked of the world
+abbrev pub is_idle : Bool → Tree → Bool
+is_idle asked f = is_plain_part f && ef asked f
 
 -- of one such function, with the same arguments after the first, which both are expressions or both are spread
-abbrev pub are_alike : Tree → Tree → Bool
-are_alike t u = begin_alike (children (part t 1)) (children (part u 1)) && (same_tree (part t 0) (part u 0) && (is_idle (part t 0) && are_others_same (children (part t 1)) (children (part u 1))))
+abbrev pub are_alike : Bool → Tree → Tree → Bool
+are_alike asked t u = begin_alike (children (part t 1)) (children (part u 1)) && (same_tree (part t 0) (part u 0) && (is_idle asked (part t 0) && are_others_same (children (part t 1)) (children (part u 1))))
 
 -- `a ? f(p, r) : f(q, r)`, where evaluating a has no effect
-abbrev pub calls_either : Tree → Bool
-calls_either t = is_conditional t && (is_call_expression (part t 1) && (is_call_expression (part t 2) && (are_alike (part t 1) (part t 2) && is_effect_free (part t 0))))
+abbrev pub calls_either : Bool → Tree → Bool
+calls_either asked t = is_conditional t && (is_call_expression (part t 1) && (is_call_expression (part t 2) && (are_alike asked (part t 1) (part t 2) && ef asked (part t 0))))
 
 -- another first one
 abbrev pub with_first : Trees → Tree → Trees

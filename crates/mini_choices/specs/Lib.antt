@@ -23,3 +23,4 @@ pub mod Choices
 pub mod Writes
 pub mod Lighter
 pub mod Names
+pub mod OwnRows

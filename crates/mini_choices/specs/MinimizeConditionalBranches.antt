@@ -90,7 +90,7 @@ is_own_alternate s t = is_conditional t && (is_same_name (part t 0) (part t 2) &
 -- ---- one after another
 
 abbrev pub called_written : Tree → Option Tree
-called_written t = if calls_either t then Some (called t) else None
+called_written t = if calls_either true t then Some (called t) else None
 
 abbrev pub indexed_written : Seat → Tree → Option Tree
 indexed_written s t = if is_seated s && indexes_either t then Some (assigned t) else called_written t

@@ -1,5 +1,5 @@
 -- Rewrites and readers that stand in larger ones, each by itself.
-use Rattle.std.specs.Prelude.{Bool, true, false, not, ◌&&◌, Option, Some, None, if◌then◌else◌}
+use Rattle.std.specs.Prelude.{Bool, false, not, ◌&&◌, Option, Some, None, if◌then◌else◌}
 use Rattle.mini_model.specs.Tree.{Tree}
 use Rattle.mini_node.specs.Children.{part, names_of}
 use Rattle.mini_node.specs.Kinds.{is_identifier}

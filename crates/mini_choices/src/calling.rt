@@ -11,7 +11,7 @@ use mini_node::{
     Node, Nodes, call_expression, conditional, discard, is_call_expression, is_conditional,
     is_same_tree, of_one, one, take_first, three, two,
 };
-use mini_terms::{has_no_effect, is_item, is_plain_part};
+use mini_terms::{is_effect_free, is_item, is_plain_part};
 use std::alloc::Global;
 
 // Whether it is `...p`.
@@ -68,34 +68,34 @@ fn are_others_same(first: &Nodes, second: &Nodes) -> bool
     true
 }
 
-// An expression without an effect, which is the same function wherever it is asked.
-fn is_idle(node: &Node) -> bool
-    ensures { result ≡ is_it_idle node.now }
+// An expression without an effect, which is the same function wherever it is asked. `this` has one where it is asked of the world.
+fn is_idle(node: &Node, asked: bool) -> bool
+    ensures { result ≡ is_it_idle asked node.now }
 {
-    is_plain_part(node) && has_no_effect(node)
+    is_plain_part(node) && is_effect_free(node, asked)
 }
 
 // Whether two calls are of one such function, with the same arguments after the first, of which both are expressions or both spread.
-fn are_alike(first: &Node, second: &Node) -> bool
+fn are_alike(first: &Node, second: &Node, asked: bool) -> bool
     requires first_parts { count (children first.now) ≡ 2 }
     requires second_parts { count (children second.now) ≡ 2 }
-    ensures { result ≡ are_they_alike first.now second.now }
+    ensures { result ≡ are_they_alike asked first.now second.now }
 {
     begin_alike(first.child(1).children(), second.child(1).children())
         && is_same_tree(first.child(0), second.child(0))
-        && is_idle(first.child(0))
+        && is_idle(first.child(0), asked)
         && are_others_same(first.child(1).children(), second.child(1).children())
 }
 
-/// `a ? f(p, r) : f(q, r)`, where evaluating a has no effect, nor has f.
-pub fn calls_either(node: &Node) -> bool
-    ensures { result ≡ it_calls_either node.now }
+/// `a ? f(p, r) : f(q, r)`, where evaluating a has no effect, nor has f; `this` has one where it is asked of the world.
+pub fn calls_either(node: &Node, asked: bool) -> bool
+    ensures { result ≡ it_calls_either asked node.now }
 {
     is_conditional(node)
         && is_call_expression(node.child(1))
         && is_call_expression(node.child(2))
-        && are_alike(node.child(1), node.child(2))
-        && has_no_effect(node.child(0))
+        && are_alike(node.child(1), node.child(2), asked)
+        && is_effect_free(node.child(0), asked)
 }
 
 // `...p`

@@ -10,6 +10,8 @@ mod laws;
 mod rewrites;
 mod weights;
 
+// What row 44 takes, whether `this` has an effect there or not.
+pub use calling::{called, calls_either};
 // What rows 35 and 38 of names take for one target: a name, or a member of one with a key that is written out; and a name alone.
 pub use assigning::{
     assigns_plainly, has_written_key, is_same_name as can_compress_to_logical_assignment,
@@ -18,7 +20,7 @@ pub use assigning::{
 pub use joining::join_with_left_associative_op;
 pub use laws::{choices_are_rows, left_joins_mean_the_same, writes_are_rows};
 pub use rewrites::evaluate_both_sides::evaluate_both_sides;
-pub use rewrites::fold_chain_expr::fold_chain_expr;
+pub use rewrites::fold_chain_expr::{fold_chain_expr, void_zero};
 pub use rewrites::inject_assigned_chaining::inject_assigned_chaining;
 pub use rewrites::inject_optional_chaining::inject_optional_chaining;
 pub use rewrites::minimize_assigned_comparison::minimize_assigned_comparison;
@@ -27,8 +29,8 @@ pub use rewrites::minimize_choices::MinimizeChoices;
 pub use rewrites::minimize_conditional_branches::{
     assigned, is_seated, minimize_conditional_branches,
 };
-pub use rewrites::minimize_first_part::minimize_first_part;
-pub use rewrites::minimize_held_branches::minimize_held_branches;
+pub use rewrites::minimize_first_part::{behind_zero, minimize_first_part};
+pub use rewrites::minimize_held_branches::{is_pair, minimize_held_branches};
 pub use rewrites::minimize_logical_expression::{decided, deciding, minimize_logical_expression};
 pub use rewrites::minimize_logical_sequence::{
     are_several, decided_last, keeps_parentheses, last_place, minimize_logical_sequence,

@@ -39,7 +39,7 @@ module _ (s : Seat) (n w : Tree) where
       go false f e = nothing e
   by_literal v k None h e = nothing e
 
-  by_value : (c : Option Value) → calculated n ≡ c → written_by s n (literal_of c) ≡ Some w → RowConstant s n w
+  pub by_value : (c : Option Value) → calculated n ≡ c → written_by s n (literal_of c) ≡ Some w → RowConstant s n w
   by_value (Some v) k e = by_literal v k (lit v) refl e
   by_value None k e = nothing e
 
@@ -68,7 +68,7 @@ never : (s : Seat) (n w : Tree) (l : Option Tree) → l ≡ Some w → replaces 
 never s n w (Some u) h e f = passed (replaces s n u) u (subst (λ x. replaces s n x ≡ true) {x = w} {y = u} (cc h) e) f
 never s n w None h e f = nothing h
 
-literal_rests : (s : Seat) (n w : Tree) → literal_written s n ≡ None → weight (Expr s) n < 2 ^ 64 → RowConstant s n w → ⊥
+pub literal_rests : (s : Seat) (n w : Tree) → literal_written s n ≡ None → weight (Expr s) n < 2 ^ 64 → RowConstant s n w → ⊥
 literal_rests s n w e small r =
     never s n w (literal_of (calculated n)) (ap literal_of r.known ∙ r.literal)
     (both_true (leaves_nothing n) (suits s w && is_lighter s w n) r.dropped (both_true (suits s w) (is_lighter s w n) r.stays (lighter_test s w n small r.gains)))

@@ -1,6 +1,6 @@
 -- The length of a text that is known makes what its row says, and stays where the row makes it no lighter.
 use Rattle.std.proofs.Common.{◌≡◌, ℕ, ◌<◌, ◌^◌, Bool, true, false, List, length, refl, sym, ap, subst, ◌∙◌}
-use Rattle.std.specs.Prelude.{◌&&◌, nat_le, pos, codes, Option, Some, None, if◌then◌else◌}
+use Rattle.std.specs.Prelude.{nat_le, pos, Option, Some, None, if◌then◌else◌}
 use Rattle.std.proofs.lemmas.Bool.{and_parts, leb-true, le-leb}
 use Rattle.mini_model.specs.Numerals.{max_safe_integer}
 use Rattle.mini_model.specs.declared.place.Position.TheVariants.{Expr}
@@ -13,7 +13,7 @@ use Rattle.mini_terms.specs.Calculated.{free_value}
 use Rattle.mini_terms.specs.Folds.{is_effect_free}
 use Rattle.mini_terms.specs.Parts.{leaves_nothing}
 use Rattle.mini_rows.specs.Constants.{RowLength}
-use Rattle.mini_rows.specs.Spellings.{static_member, key, numeral}
+use Rattle.mini_rows.specs.Spellings.{numeral}
 use Rattle.mini_fold.specs.FoldConstants.{is_lighter, text_in, known_text, length_of, shortens, shortened_by, length_written}
 use Rattle.mini_fold.specs.FoldStaticMember.{asks_length, count_of}
 use Rattle.mini_fold.proofs.Gains.{nothing, lighter_is, lighter_test}

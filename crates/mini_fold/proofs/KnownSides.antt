@@ -1,6 +1,6 @@
 -- What is known makes what its rows say, and rests where no row reads the node.
 use Rattle.std.proofs.Common.{◌≡◌, Bool, true, false, refl, sym, ap, subst, ◌∙◌, inl, inr}
-use Rattle.std.specs.Prelude.{◌&&◌, not, codes, Option, Some, None, is_some, unwrap_or, if◌then◌else◌}
+use Rattle.std.specs.Prelude.{◌⊎◌, ◌&&◌, not, codes, Option, Some, None, is_some, unwrap_or, if◌then◌else◌}
 use Rattle.std.proofs.lemmas.Bool.{and_parts}
 use Rattle.mini_model.specs.declared.operator.BinaryOperator.{BinaryOperator}
 use Rattle.mini_model.specs.declared.operator.LogicalOperator.{LogicalOperator}
@@ -55,40 +55,44 @@ module _ (s : Seat) (o : LogicalOperator) (a b : Tree) where
   both_true true d e f = f
   both_true false d e f = e
 
-  passes : goes_on o a ≡ true → is_effect_free a ≡ true → leaves_nothing a ≡ true → weighs a ≡ true → suits s b ≡ true → is_passed s o a b ≡ true
+  pub passes : goes_on o a ≡ true → is_effect_free a ≡ true → leaves_nothing a ≡ true → weighs a ≡ true → suits s b ≡ true → is_passed s o a b ≡ true
   passes e f g h k = both_true (goes_on o a) _ e (both_true (is_effect_free a) _ f (both_true (leaves_nothing a) _ g (both_true (weighs a) (suits s b) h k)))
 
-  stopped : stops o a ≡ true → names_exports o b ≡ false → encloses false b ≡ true → weighs b ≡ true → suits s a ≡ true → is_stopped s o a b ≡ true
+  pub stopped : stops o a ≡ true → names_exports o b ≡ false → encloses false b ≡ true → weighs b ≡ true → suits s a ≡ true → is_stopped s o a b ≡ true
   stopped e f g h k = both_true (stops o a) _ e (both_true (not (names_exports o b)) _ (ap not f) (both_true (encloses false b) _ g (both_true (weighs b) (suits s a) h k)))
 
-  side_row : (w : Tree) → side (is_passed s o a b) (is_stopped s o a b) a b ≡ Some w → FoldingRow (Expr s) (logical o a b) w
+  side_row : (w : Tree) → side (is_passed s o a b) (is_stopped s o a b) a b ≡ Some w → Row13 s (logical o a b) w ⊎ Row12 s (logical o a b) w
   side_row w e = go (is_passed s o a b) (is_stopped s o a b) refl refl e
     where
-      go : (c d : Bool) → is_passed s o a b ≡ c → is_stopped s o a b ≡ d → side c d a b ≡ Some w → FoldingRow (Expr s) (logical o a b) w
+      go : (c d : Bool) → is_passed s o a b ≡ c → is_stopped s o a b ≡ d → side c d a b ≡ Some w → Row13 s (logical o a b) w ⊎ Row12 s (logical o a b) w
       go true d h k e = let is : b ≡ w = cc e in inl (subst (Row13 s (logical o a b)) is (passed_row h))
-      go false true h k e = let is : a ≡ w = cc e in inr (inl (subst (Row12 s (logical o a b)) is (stopped_row k)))
+      go false true h k e = let is : a ≡ w = cc e in inr (subst (Row12 s (logical o a b)) is (stopped_row k))
       go false false h k e = absurd (cc e)
 
 -- no side goes where nothing is written
-unpassed : (c d : Bool) (a b : Tree) → c ≡ true → side c d a b ≡ None → ⊥
+pub unpassed : (c d : Bool) (a b : Tree) → c ≡ true → side c d a b ≡ None → ⊥
 unpassed true d a b h e = cc e
 unpassed false d a b h e = cc h
 
-unstopped : (c d : Bool) (a b : Tree) → d ≡ true → side c d a b ≡ None → ⊥
+pub unstopped : (c d : Bool) (a b : Tree) → d ≡ true → side c d a b ≡ None → ⊥
 unstopped true d a b h e = cc e
 unstopped false true a b h e = cc e
 unstopped false false a b h e = cc h
 
-folded_is_row : (s : Seat) (n w : Tree) → folded s n ≡ Some w → FoldingRow (Expr s) n w
+pub folded_is_row : (s : Seat) (n w : Tree) → folded s n ≡ Some w → Row13 s n w ⊎ Row12 s n w
 folded_is_row s n w e = go (logical_operator n) refl e
   where
-    go : (x : Option LogicalOperator) → logical_operator n ≡ x → logical_written s x (part n 0) (part n 1) ≡ Some w → FoldingRow (Expr s) n w
-    go (Some o) h e = subst (λ t. FoldingRow (Expr s) t w) (sym (logical_is n o h)) (side_row s o (part n 0) (part n 1) w e)
+    go : (x : Option LogicalOperator) → logical_operator n ≡ x → logical_written s x (part n 0) (part n 1) ≡ Some w → Row13 s n w ⊎ Row12 s n w
+    go (Some o) h e = subst (λ t. Row13 s t w ⊎ Row12 s t w) (sym (logical_is n o h)) (side_row s o (part n 0) (part n 1) w e)
     go None h e = absurd (cc e)
+
+of_side : (s : Seat) (n w : Tree) → Row13 s n w ⊎ Row12 s n w → FoldingRow (Expr s) n w
+of_side s n w (inl r) = inl r
+of_side s n w (inr r) = inr (inl r)
 
 -- equalities
 
-equality_is_row : (n w : Tree) → equality.written n ≡ Some w → Row28 n w
+pub equality_is_row : (n w : Tree) → equality.written n ≡ Some w → Row28 n w
 equality_is_row n w e = go (binary_operator n) refl e
   where
     made : (o p : BinaryOperator) → binary_operator n ≡ Some o → loosened o ≡ Some p → has_one_kind (part n 0) (part n 1) ≡ true → with_operator n p ≡ w → Row28 n w
@@ -104,7 +108,7 @@ equality_is_row n w e = go (binary_operator n) refl e
     go None h e = absurd (cc e)
 
 -- of an equality that a row reads something is written
-equality_never : (l : Option BinaryOperator) (c : Bool) (p : BinaryOperator) (t : Tree) → l ≡ Some p → c ≡ true → written_by l c t ≡ None → ⊥
+pub equality_never : (l : Option BinaryOperator) (c : Bool) (p : BinaryOperator) (t : Tree) → l ≡ Some p → c ≡ true → written_by l c t ≡ None → ⊥
 equality_never (Some q) true p t h k e = cc e
 equality_never (Some q) false p t h k e = cc k
 equality_never None c p t h k e = cc h
@@ -120,14 +124,14 @@ idle_row s n h =
     let (heavy, stays) = and_parts (weighs (part n 0)) (suits s (part n 1)) last in
     record { test = part n 0; branch = part n 1; effect_free = free; dropped = dropped; heavy = heavy; stays = stays; shape = conditional_is n is ∙ ap (conditional (part n 0) (part n 1)) (sym (tree_same (part n 1) (part n 2) alike)); written = refl }
 
-branch_is_row : (s : Seat) (n w : Tree) → branch_written s n ≡ Some w → Row49Idle s n w
+pub branch_is_row : (s : Seat) (n w : Tree) → branch_written s n ≡ Some w → Row49Idle s n w
 branch_is_row s n w e = go (chooses_nothing s n) refl e
   where
     go : (c : Bool) → chooses_nothing s n ≡ c → (if c then Some (part n 1) else None) ≡ Some w → Row49Idle s n w
     go true h e = let is : part n 1 ≡ w = cc e in subst (Row49Idle s n) is (idle_row s n h)
     go false h e = absurd (cc e)
 
-idle_chooses : (s : Seat) (a b : Tree) → is_effect_free a ≡ true → leaves_nothing a ≡ true → weighs a ≡ true → suits s b ≡ true → chooses_nothing s (conditional a b b) ≡ true
+pub idle_chooses : (s : Seat) (a b : Tree) → is_effect_free a ≡ true → leaves_nothing a ≡ true → weighs a ≡ true → suits s b ≡ true → chooses_nothing s (conditional a b b) ≡ true
 idle_chooses s a b f g h k = all_true (same_tree b b) _ (tree_itself b) (all_true (is_effect_free a) _ f (all_true (leaves_nothing a) _ g (all_true (weighs a) (suits s b) h k)))
   where
     all_true : (c d : Bool) → c ≡ true → d ≡ true → c && d ≡ true
@@ -141,7 +145,7 @@ never_unwritten false t h e = cc h
 -- all
 
 row_of : (s : Seat) (n w : Tree) → written s n ≡ Some w → FoldingRow (Expr s) n w
-row_of s (node (shape.LogicalExpression o) xs m ts) w e = folded_is_row s (node (shape.LogicalExpression o) xs m ts) w e
+row_of s (node (shape.LogicalExpression o) xs m ts) w e = of_side s _ w (folded_is_row s (node (shape.LogicalExpression o) xs m ts) w e)
 row_of s (node (shape.BinaryExpression o) xs m ts) w e = inr (inr (inl (equality_is_row (node (shape.BinaryExpression o) xs m ts) w e)))
 row_of s (node shape.ConditionalExpression xs m ts) w e = inr (inr (inr (inl (branch_is_row s (node shape.ConditionalExpression xs m ts) w e))))
 row_of s (node (shape.StaticMemberExpression b) xs m ts) w e = inr (inr (inr (inr (length_is_row s (node (shape.StaticMemberExpression b) xs m ts) w e))))
@@ -163,7 +167,7 @@ unwritten_rests s n e w (inr (inl r)) = unstopped (is_passed s r.operator r.left
 
 -- statements
 
-expression_row : (n w : Tree) → expression_written n ≡ Some w → Row22 n w
+pub expression_row : (n w : Tree) → expression_written n ≡ Some w → Row22 n w
 expression_row n w e = go (does_nothing n) refl e
   where
     go : (c : Bool) → does_nothing n ≡ c → (if c then Some empty_statement else None) ≡ Some w → Row22 n w
@@ -179,7 +183,7 @@ statement_is_row q (node shape.ExpressionStatement xs m ts) w e = inl (expressio
 statement_is_row q (node shape.ForStatement xs m ts) w e = inr (for_row (node shape.ForStatement xs m ts) w e)
 statement_is_row q (node h xs m ts) w e = absurd (cc e)
 
-expression_rests : (n w : Tree) → expression_written n ≡ None → Row22 n w → ⊥
+pub expression_rests : (n w : Tree) → expression_written n ≡ None → Row22 n w → ⊥
 expression_rests n w e r = never (does_nothing n) (ap does_nothing r.shape ∙ both_true' (is_effect_free r.expression) (leaves_nothing r.expression) r.effect_free r.dropped) e
   where
     both_true' : (c d : Bool) → c ≡ true → d ≡ true → c && d ≡ true

@@ -47,7 +47,7 @@ negated_suits s a = sym (ap (λ b. is_plain_part a && (b && (takes_numbers s || 
     both true = refl
     both false = refl
 
-both_true : (b c : Bool) → b ≡ true → c ≡ true → b && c ≡ true
+pub both_true : (b c : Bool) → b ≡ true → c ≡ true → b && c ≡ true
 both_true true c e f = f
 both_true false c e f = e
 
@@ -89,7 +89,7 @@ middle_row s n o h e =
       written = refl;
     }
 
-logical_row : (s : Seat) (n w : Tree) (o : Option LogicalOperator) → logical_operator n ≡ o → logical_written s o n ≡ Some w → Row14 s n w
+pub logical_row : (s : Seat) (n w : Tree) (o : Option LogicalOperator) → logical_operator n ≡ o → logical_written s o n ≡ Some w → Row14 s n w
 logical_row s n w None h e = nothing e
 logical_row s n w (Some o) h e = go (is_redundant s o (part n 0) (part n 1)) refl e
   where
@@ -97,12 +97,12 @@ logical_row s n w (Some o) h e = go (is_redundant s o (part n 0) (part n 1)) ref
     go true k f = subst (Row14 s n) (some_is (logical o (part (part n 0) 0) (part n 1)) w f) (middle_row s n o h k)
     go false k f = nothing f
 
-redundant : (s : Seat) (o : LogicalOperator) (a k b : Tree) → is_and_or o ≡ true → goes_on o k ≡ true → is_effect_free k ≡ true → leaves_nothing k ≡ true → weighs k ≡ true → suits (right_operand_seat o s) b ≡ true → is_redundant s o (logical o a k) b ≡ true
+pub redundant : (s : Seat) (o : LogicalOperator) (a k b : Tree) → is_and_or o ≡ true → goes_on o k ≡ true → is_effect_free k ≡ true → leaves_nothing k ≡ true → weighs k ≡ true → suits (right_operand_seat o s) b ≡ true → is_redundant s o (logical o a k) b ≡ true
 redundant s Or a k b t h e d w p = both_true (goes_on Or k) _ h (both_true (is_effect_free k) _ e (both_true (leaves_nothing k) _ d (both_true (weighs k) (suits (right_operand_seat Or s) b) w p)))
 redundant s And a k b t h e d w p = both_true (goes_on And k) _ h (both_true (is_effect_free k) _ e (both_true (leaves_nothing k) _ d (both_true (weighs k) (suits (right_operand_seat And s) b) w p)))
 redundant s Coalesce a k b t h e d w p = absurd (true≢false (sym t))
 
-there : (b : Bool) (t : Tree) → b ≡ true → is_some (if b then Some t else None) ≡ true
+pub there : (b : Bool) (t : Tree) → b ≡ true → is_some (if b then Some t else None) ≡ true
 there true t e = refl
 there false t e = absurd (true≢false (sym e))
 
@@ -130,7 +130,7 @@ text_row s n a k b is e =
     let (known, stays) = and_parts (is_string_kind (kind a)) (suits s a) rest in
     record { on_right = b; operand = a; known = string_kind (kind a) known; stays = stays; shape = is ∙ ap (beside Addition b a) (empty_text k empty); written = refl }
 
-texts_row : (s : Seat) (n w a b : Tree) → n ≡ binary Addition a b → text_written s a b ≡ Some w → Row7 s n w
+pub texts_row : (s : Seat) (n w a b : Tree) → n ≡ binary Addition a b → text_written s a b ≡ Some w → Row7 s n w
 texts_row s n w a b is e = go (is_text s a b) (is_text s b a) refl refl e
   where
     go : (c d : Bool) → is_text s a b ≡ c → is_text s b a ≡ d → (if c then Some a else (if d then Some b else None)) ≡ Some w → Row7 s n w
@@ -138,23 +138,23 @@ texts_row s n w a b is e = go (is_text s a b) (is_text s b a) refl refl e
     go false true h k f = subst (Row7 s n) (some_is b w f) (text_row s n b a false is k)
     go false false h k f = nothing f
 
-first_or_second : (b c : Bool) (t u : Tree) → b || c ≡ true → is_some (if b then Some t else (if c then Some u else None)) ≡ true
+pub first_or_second : (b c : Bool) (t u : Tree) → b || c ≡ true → is_some (if b then Some t else (if c then Some u else None)) ≡ true
 first_or_second true c t u e = refl
 first_or_second false true t u e = refl
 first_or_second false false t u e = absurd (true≢false (sym e))
 
-is_text_there : (s : Seat) (a : Tree) → kind a ≡ IsString → suits s a ≡ true → is_text s a (text []) ≡ true
+pub is_text_there : (s : Seat) (a : Tree) → kind a ≡ IsString → suits s a ≡ true → is_text s a (text []) ≡ true
 is_text_there s a known stays = ap (λ k. is_string_kind k && suits s a) known ∙ stays
 
-or_right : (b c : Bool) → c ≡ true → b || c ≡ true
+pub or_right : (b c : Bool) → c ≡ true → b || c ≡ true
 or_right true c e = refl
 or_right false c e = e
 
-or_else_there : (t u : Option Tree) → is_some t ≡ true → is_some (or_else t u) ≡ true
+pub or_else_there : (t u : Option Tree) → is_some t ≡ true → is_some (or_else t u) ≡ true
 or_else_there (Some t) u e = refl
 or_else_there None u e = absurd (true≢false (sym e))
 
-or_else_other : (t u : Option Tree) → is_some u ≡ true → is_some (or_else t u) ≡ true
+pub or_else_other : (t u : Option Tree) → is_some u ≡ true → is_some (or_else t u) ≡ true
 or_else_other (Some t) u e = refl
 or_else_other None u e = e
 
@@ -167,7 +167,7 @@ text_passes s n w r = ap (λ t. is_some (written s t)) r.shape ∙ text_passes_a
 
 -- ---- 4
 
-joined_row : (n w a k : Tree) → n ≡ binary Addition a k → joined_written a k ≡ Some w → Row4 n w
+pub joined_row : (n w a k : Tree) → n ≡ binary Addition a k → joined_written a k ≡ Some w → Row4 n w
 joined_row n w a k is e = go (binary_operator a) (string (part a 1)) (tail_text k) refl refl refl e
   where
     go : (o : Option BinaryOperator) (c d : Option (List ℕ)) → binary_operator a ≡ o → string (part a 1) ≡ c → tail_text k ≡ d → with_text a (joined_texts (sum_text_by o (part a 1)) d) ≡ Some w → Row4 n w
@@ -242,13 +242,13 @@ zero_is b e = go (number b) refl e
     go (Some (pos zero)) h f = number_is b (pos 0) h
     go c h f = absurd (true≢false (sym f))
 
-zero_row : (n : Tree) (equal : Bool) (a b : Tree) → n ≡ binary (loosely equal) a b → tests_bits a b ≡ true → Row27 n (zero_told equal a)
+pub zero_row : (n : Tree) (equal : Bool) (a b : Tree) → n ≡ binary (loosely equal) a b → tests_bits a b ≡ true → Row27 n (zero_told equal a)
 zero_row n equal a b is e =
     let (nought, bits) = and_parts (is_zero (number b)) (is_bits a) e in
     record { equal = equal; operand = a; known = bits; shape = is ∙ ap (binary (loosely equal) a) (zero_is b nought); written = refl }
 
 -- a shift beside 0
-shift_row : (s : Seat) (n : Tree) (equal : Bool) (a b : Tree) → n ≡ binary (loosely equal) a b → tests_shift s equal a b ≡ true → Row27Asked s n a
+pub shift_row : (s : Seat) (n : Tree) (equal : Bool) (a b : Tree) → n ≡ binary (loosely equal) a b → tests_shift s equal a b ≡ true → Row27Asked s n a
 shift_row s n equal a b is e =
     let (nought, others) = and_parts (is_zero (number b)) (not equal && (s.boolean && is_shifted a)) e in
     let (unequal, seated) = and_parts (not equal) (s.boolean && is_shifted a) others in
@@ -260,17 +260,17 @@ shift_row s n equal a b is e =
     not_true true h = absurd (true≢false (sym h))
 
 -- a shift whose comparison has parentheses
-enclosed_row : (s : Seat) (n : Tree) (equal : Bool) (a b : Tree) → n ≡ binary (loosely equal) a b → tests_enclosed s a b ≡ true → Row27Enclosed s n (zero_told equal a)
+pub enclosed_row : (s : Seat) (n : Tree) (equal : Bool) (a b : Tree) → n ≡ binary (loosely equal) a b → tests_enclosed s a b ≡ true → Row27Enclosed s n (zero_told equal a)
 enclosed_row s n equal a b is e =
     let (nought, rest) = and_parts (is_zero (number b)) (encloses s && is_shifted a) e in
     let (seated, known) = and_parts (encloses s) (is_shifted a) rest in
     record { equal = equal; operand = a; known = known; seated = seated; shape = is ∙ ap (binary (loosely equal) a) (zero_is b nought); written = refl }
 
-there_or : (b : Bool) (t : Tree) (u : Option Tree) → b ≡ true → is_some (if b then Some t else u) ≡ true
+pub there_or : (b : Bool) (t : Tree) (u : Option Tree) → b ≡ true → is_some (if b then Some t else u) ≡ true
 there_or true t u e = refl
 there_or false t u e = absurd (true≢false (sym e))
 
-tested : (b : Bool) (t : Tree) (u : Option Tree) → is_some u ≡ true → is_some (if b then Some t else u) ≡ true
+pub tested : (b : Bool) (t : Tree) (u : Option Tree) → is_some u ≡ true → is_some (if b then Some t else u) ≡ true
 tested true t u e = refl
 tested false t u e = e
 
@@ -293,7 +293,7 @@ zero_passes_as s false a e = later Inequality (binary Inequality a (digit false)
 
 -- ---- 29 and 30
 
-truth_is : (t : Tree) (c : Bool) → truth_in t ≡ Some c → t ≡ negated_digit c
+pub truth_is : (t : Tree) (c : Bool) → truth_in t ≡ Some c → t ≡ negated_digit c
 truth_is t c e = go (is_negation t) refl e
   where
     by : is_negation t ≡ true → (x : Option ℤ) → number (part t 0) ≡ x → negated_truth x ≡ Some c → t ≡ negated_digit c
@@ -305,7 +305,7 @@ truth_is t c e = go (is_negation t) refl e
     go true h f = by h (number (part t 0)) refl f
     go false h f = absurd (cc f)
 
-boolean_kind : (k : Kind) → is_boolean_kind k ≡ true → k ≡ IsBoolean
+pub boolean_kind : (k : Kind) → is_boolean_kind k ≡ true → k ≡ IsBoolean
 boolean_kind IsBoolean e = refl
 boolean_kind k e = absurd (true≢false (sym e))
 
@@ -360,7 +360,7 @@ beside_passes s false c false a = later Inequality (binary Inequality (negated_d
 
 -- ---- 31 and 32
 
-kept_row : (s : Seat) (n w : Tree) (o : BinaryOperator) (r : Bool) → r || is_bitwise o ≡ true → (a k : Tree) → n ≡ beside o r a k → kept_written s o a k ≡ Some w → Row31 s n w
+pub kept_row : (s : Seat) (n w : Tree) (o : BinaryOperator) (r : Bool) → r || is_bitwise o ≡ true → (a k : Tree) → n ≡ beside o r a k → kept_written s o a k ≡ Some w → Row31 s n w
 kept_row s n w o r sided a k is e = go (number k) refl e
   where
     made : (x : ℤ) → number k ≡ Some x → (b : Bool) → keeps_bits o x && has_room o s ≡ b → (if b then Some (binary BitwiseOr a (digit false)) else None) ≡ Some w → Row31 s n w
@@ -373,11 +373,11 @@ kept_row s n w o r sided a k is e = go (number k) refl e
     go (Some x) h f = made x h (keeps_bits o x && has_room o s) refl f
     go None h f = nothing f
 
-either_is : (c d : Option Tree) (w : Tree) → or_else c d ≡ Some w → (c ≡ Some w) ⊎ (d ≡ Some w)
+pub either_is : (c d : Option Tree) (w : Tree) → or_else c d ≡ Some w → (c ≡ Some w) ⊎ (d ≡ Some w)
 either_is (Some t) d w e = inl e
 either_is None d w e = inr e
 
-bits_row : (s : Seat) (n w : Tree) (o : BinaryOperator) → is_bitwise o ≡ true → (a b : Tree) → n ≡ binary o a b → bits_written s o a b ≡ Some w → Row31 s n w
+pub bits_row : (s : Seat) (n w : Tree) (o : BinaryOperator) → is_bitwise o ≡ true → (a b : Tree) → n ≡ binary o a b → bits_written s o a b ≡ Some w → Row31 s n w
 bits_row s n w o h a b is e = go (either_is (kept_written s o a b) (kept_written s o b a) w e)
   where
     go : (kept_written s o a b ≡ Some w) ⊎ (kept_written s o b a ≡ Some w) → Row31 s n w
@@ -393,14 +393,14 @@ whole_row n w r a k is e = go (is_zero (number k) && is_int32 a) refl e
         record { on_right = r; operand = a; known = known; shape = is ∙ ap (beside BitwiseOr r a) (zero_is k nought); written = sym (some_is a w f) }
     go false j f = nothing f
 
-wholes_row : (n w a b : Tree) → n ≡ binary BitwiseOr a b → wholes_written a b ≡ Some w → Row32 n w
+pub wholes_row : (n w a b : Tree) → n ≡ binary BitwiseOr a b → wholes_written a b ≡ Some w → Row32 n w
 wholes_row n w a b is e = go (either_is (whole_written a b) (whole_written b a) w e)
   where
     go : (whole_written a b ≡ Some w) ⊎ (whole_written b a ≡ Some w) → Row32 n w
     go (inl f) = whole_row n w true a b is f
     go (inr f) = whole_row n w false b a is f
 
-kept_there : (s : Seat) (o : BinaryOperator) (x : ℤ) → keeps_bits o x ≡ true → has_room o s ≡ true → (a : Tree) → is_some (kept_written s o a (numeral x)) ≡ true
+pub kept_there : (s : Seat) (o : BinaryOperator) (x : ℤ) → keeps_bits o x ≡ true → has_room o s ≡ true → (a : Tree) → is_some (kept_written s o a (numeral x)) ≡ true
 kept_there s o x e h a = there (keeps_bits o x && has_room o s) (binary BitwiseOr a (digit false)) (both_true (keeps_bits o x) (has_room o s) e h)
 
 kept_passes : (s : Seat) (o : BinaryOperator) (r : Bool) (x : ℤ) → keeps_bits o x ≡ true → r || is_bitwise o ≡ true → has_room o s ≡ true → (a : Tree) → is_some (written s (beside o r a (numeral x))) ≡ true

@@ -84,14 +84,18 @@ never_row n o is h e =
       written = refl;
     }
 
-told_row : (s : Seat) (n : Tree) (o : BinaryOperator) (c : Bool) → n ≡ binary o (part n 0) (part n 1) → told o n ≡ Some c → OperatorRow s n (negated_digit c)
-told_row s n o c is e = go (is_equality o) (are_types_same (part n 0) (part n 1)) (is_never_type n) refl refl refl e
+pub told_row : (n : Tree) (o : BinaryOperator) (c : Bool) → n ≡ binary o (part n 0) (part n 1) → told o n ≡ Some c → Row16 n (negated_digit c) ⊎ Row17 n (negated_digit c)
+told_row n o c is e = go (is_equality o) (are_types_same (part n 0) (part n 1)) (is_never_type n) refl refl refl e
   where
-    go : (b x y : Bool) → is_equality o ≡ b → are_types_same (part n 0) (part n 1) ≡ x → is_never_type n ≡ y → (if b then told_by o x y else None) ≡ Some c → OperatorRow s n (negated_digit c)
-    go true true y h k l f = subst (λ d. OperatorRow s n (negated_digit d)) {x = says_equal o} {y = c} (cc f) (inr (inl (same_row n o (part n 0) (part n 1) is h k)))
-    go true false true h k l f = subst (λ d. OperatorRow s n (negated_digit d)) {x = not (says_equal o)} {y = c} (cc f) (inr (inr (inl (never_row n o is h l))))
+    go : (b x y : Bool) → is_equality o ≡ b → are_types_same (part n 0) (part n 1) ≡ x → is_never_type n ≡ y → (if b then told_by o x y else None) ≡ Some c → Row16 n (negated_digit c) ⊎ Row17 n (negated_digit c)
+    go true true y h k l f = inl (subst (λ d. Row16 n (negated_digit d)) {x = says_equal o} {y = c} (cc f) (same_row n o (part n 0) (part n 1) is h k))
+    go true false true h k l f = inr (subst (λ d. Row17 n (negated_digit d)) {x = not (says_equal o)} {y = c} (cc f) (never_row n o is h l))
     go true false false h k l f = nothing f
     go false x y h k l f = nothing f
+
+of_told : (s : Seat) (n w : Tree) → Row16 n w ⊎ Row17 n w → OperatorRow s n w
+of_told s n w (inl r) = inr (inl r)
+of_told s n w (inr r) = inr (inr (inl r))
 
 -- ---- 56
 
@@ -110,7 +114,7 @@ number_there : (c : Option Value) → is_number_value c ≡ true → (m : ℤ) �
 number_there (Some (Number m)) e = (m, refl)
 number_there c e = absurd (true≢false (sym e))
 
-module _ (s : Seat) (n : Tree) (o : BinaryOperator) (a b : Tree) (is : n ≡ binary o a b) where
+module _ (n : Tree) (o : BinaryOperator) (a b : Tree) (is : n ≡ binary o a b) where
   left_row : drops_left o a b ≡ true → Row56Left n (binary o (part a 0) b)
   left_row e =
       let (first, rest) = and_parts (is_plus a) (makes_numbers o && is_number_value (operand_value b)) e in
@@ -124,13 +128,17 @@ module _ (s : Seat) (n : Tree) (o : BinaryOperator) (a b : Tree) (is : n ≡ bin
       let (numeric, known) = and_parts (makes_numbers o) (is_number (kind a)) rest in
       record { operator = o; left = a; operand = part b 0; numeric = numeric; known = number_kind (kind a) known; shape = is ∙ ap (binary o a) (plus_is b last); written = refl }
 
-  plus_or : (w : Tree) (u : Option Tree) → without_plus o a b u ≡ Some w → OperatorRow s n w ⊎ (u ≡ Some w)
+  pub plus_or : (w : Tree) (u : Option Tree) → without_plus o a b u ≡ Some w → (Row56Left n w ⊎ Row56Right n w) ⊎ (u ≡ Some w)
   plus_or w u e = go (drops_left o a b) (drops_right o a b) refl refl e
     where
-      go : (x y : Bool) → drops_left o a b ≡ x → drops_right o a b ≡ y → (if x then Some (binary o (part a 0) b) else (if y then Some (binary o a (part b 0)) else u)) ≡ Some w → OperatorRow s n w ⊎ (u ≡ Some w)
-      go true y h k f = inl (inr (inr (inr (inl (subst (Row56Left n) (some_is (binary o (part a 0) b) w f) (left_row h))))))
-      go false true h k f = inl (inr (inr (inr (inr (inl (subst (Row56Right n) (some_is (binary o a (part b 0)) w f) (right_row k)))))))
+      go : (x y : Bool) → drops_left o a b ≡ x → drops_right o a b ≡ y → (if x then Some (binary o (part a 0) b) else (if y then Some (binary o a (part b 0)) else u)) ≡ Some w → (Row56Left n w ⊎ Row56Right n w) ⊎ (u ≡ Some w)
+      go true y h k f = inl (inl (subst (Row56Left n) (some_is (binary o (part a 0) b) w f) (left_row h)))
+      go false true h k f = inl (inr (subst (Row56Right n) (some_is (binary o a (part b 0)) w f) (right_row k)))
       go false false h k f = inr f
+
+of_plus : (s : Seat) (n w : Tree) → Row56Left n w ⊎ Row56Right n w → OperatorRow s n w
+of_plus s n w (inl r) = inr (inr (inr (inl r)))
+of_plus s n w (inr r) = inr (inr (inr (inr (inl r))))
 
 -- ---- 8
 
@@ -166,7 +174,7 @@ numbers_by o (Some c) (Some d) r e = go (calculated_numbers o c d) refl e
     go (Some (Number m)) h f = short m h (is_short m c d) refl f
     go v h f = nothing f
 
-module _ (s : Seat) (n : Tree) (o : BinaryOperator) (a b : Tree) (is : n ≡ binary o a b) where
+module _ (n : Tree) (o : BinaryOperator) (a b : Tree) (is : n ≡ binary o a b) where
   right_mask : Bitwise o a → (r : ℤ) → masked o (number (part a 1)) (number b) ≡ Some r → Row8 n (binary o (part a 0) (numeral r))
   right_mask g r e =
       let m = numbers_by o (number (part a 1)) (number b) r e in
@@ -177,18 +185,18 @@ module _ (s : Seat) (n : Tree) (o : BinaryOperator) (a b : Tree) (is : n ≡ bin
       let m = numbers_by o (number (part a 0)) (number b) r e in
       record { operator = o; on_right = false; operand = part a 1; first = m.first; second = m.second; joined = r; bitwise = g.bitwise; known = m.known; short = m.short; shape = is ∙ ap (λ t. binary o t b) (g.inner ∙ ap (λ t. binary o t (part a 1)) (number_is (part a 0) m.first m.one)) ∙ ap (binary o (binary o (numeral m.first) (part a 1))) (number_is b m.second m.other); written = refl }
 
-  masks_or : (w : Tree) (u : Option Tree) → Bitwise o a → masks_written o a b u ≡ Some w → OperatorRow s n w ⊎ (u ≡ Some w)
+  masks_or : (w : Tree) (u : Option Tree) → Bitwise o a → masks_written o a b u ≡ Some w → Row8 n w ⊎ (u ≡ Some w)
   masks_or w u g e = go (masked o (number (part a 1)) (number b)) (masked o (number (part a 0)) (number b)) refl refl e
     where
-      go : (c d : Option ℤ) → masked o (number (part a 1)) (number b) ≡ c → masked o (number (part a 0)) (number b) ≡ d → with_mask o (part a 0) c (with_mask o (part a 1) d u) ≡ Some w → OperatorRow s n w ⊎ (u ≡ Some w)
-      go (Some r) d h k f = inl (inr (inr (inr (inr (inr (subst (Row8 n) (some_is (binary o (part a 0) (numeral r)) w f) (right_mask g r h)))))))
-      go None (Some r) h k f = inl (inr (inr (inr (inr (inr (subst (Row8 n) (some_is (binary o (part a 1) (numeral r)) w f) (left_mask g r k)))))))
+      go : (c d : Option ℤ) → masked o (number (part a 1)) (number b) ≡ c → masked o (number (part a 0)) (number b) ≡ d → with_mask o (part a 0) c (with_mask o (part a 1) d u) ≡ Some w → Row8 n w ⊎ (u ≡ Some w)
+      go (Some r) d h k f = inl (subst (Row8 n) (some_is (binary o (part a 0) (numeral r)) w f) (right_mask g r h))
+      go None (Some r) h k f = inl (subst (Row8 n) (some_is (binary o (part a 1) (numeral r)) w f) (left_mask g r k))
       go None None h k f = inr f
 
-  mask_or : (w : Tree) (u : Option Tree) → mask_written o a b u ≡ Some w → OperatorRow s n w ⊎ (u ≡ Some w)
+  pub mask_or : (w : Tree) (u : Option Tree) → mask_written o a b u ≡ Some w → Row8 n w ⊎ (u ≡ Some w)
   mask_or w u e = go (holds_bitwise o (binary_operator a)) refl e
     where
-      go : (c : Bool) → holds_bitwise o (binary_operator a) ≡ c → (if c then masks_written o a b u else u) ≡ Some w → OperatorRow s n w ⊎ (u ≡ Some w)
+      go : (c : Bool) → holds_bitwise o (binary_operator a) ≡ c → (if c then masks_written o a b u else u) ≡ Some w → Row8 n w ⊎ (u ≡ Some w)
       go true h f = masks_or w u (bitwise_by o a (binary_operator a) refl h) f
       go false h f = inr f
 
@@ -198,22 +206,26 @@ module _ (s : Seat) (n : Tree) (o : BinaryOperator) (a b : Tree) (is : n ≡ bin
 pub operator_or : (s : Seat) (n w : Tree) (o : BinaryOperator) (u : Option Tree) → n ≡ binary o (part n 0) (part n 1) → operator_written o n u ≡ Some w → OperatorRow s n w ⊎ (u ≡ Some w)
 operator_or s n w o u is e = go (told o n) refl e
   where
-    last : OperatorRow s n w ⊎ (mask_written o (part n 0) (part n 1) u ≡ Some w) → OperatorRow s n w ⊎ (u ≡ Some w)
-    last (inl r) = inl r
-    last (inr f) = mask_or s n o (part n 0) (part n 1) is w u f
+    masks : Row8 n w ⊎ (u ≡ Some w) → OperatorRow s n w ⊎ (u ≡ Some w)
+    masks (inl r) = inl (inr (inr (inr (inr (inr r)))))
+    masks (inr f) = inr f
+
+    last : (Row56Left n w ⊎ Row56Right n w) ⊎ (mask_written o (part n 0) (part n 1) u ≡ Some w) → OperatorRow s n w ⊎ (u ≡ Some w)
+    last (inl r) = inl (of_plus s n w r)
+    last (inr f) = masks (mask_or n o (part n 0) (part n 1) is w u f)
 
     go : (c : Option Bool) → told o n ≡ c → boolean_or c (without_plus o (part n 0) (part n 1) (mask_written o (part n 0) (part n 1) u)) ≡ Some w → OperatorRow s n w ⊎ (u ≡ Some w)
-    go (Some c) h f = inl (subst (OperatorRow s n) (some_is (negated_digit c) w f) (told_row s n o c is h))
-    go None h f = last (plus_or s n o (part n 0) (part n 1) is w (mask_written o (part n 0) (part n 1) u) f)
+    go (Some c) h f = inl (subst (OperatorRow s n) (some_is (negated_digit c) w f) (of_told s n (negated_digit c) (told_row n o c is h)))
+    go None h f = last (plus_or n o (part n 0) (part n 1) is w (mask_written o (part n 0) (part n 1) u) f)
 
 -- ---- and each row is written
 
-boolean_first : (o : BinaryOperator) (b x y : Bool) (u : Option Tree) → b ≡ true → x ≡ true → is_some (boolean_or (if b then told_by o x y else None) u) ≡ true
+pub boolean_first : (o : BinaryOperator) (b x y : Bool) (u : Option Tree) → b ≡ true → x ≡ true → is_some (boolean_or (if b then told_by o x y else None) u) ≡ true
 boolean_first o true true y u h k = refl
 boolean_first o true false y u h k = absurd (true≢false (sym k))
 boolean_first o false x y u h k = absurd (true≢false (sym h))
 
-boolean_second : (o : BinaryOperator) (b x y : Bool) (u : Option Tree) → b ≡ true → y ≡ true → is_some (boolean_or (if b then told_by o x y else None) u) ≡ true
+pub boolean_second : (o : BinaryOperator) (b x y : Bool) (u : Option Tree) → b ≡ true → y ≡ true → is_some (boolean_or (if b then told_by o x y else None) u) ≡ true
 boolean_second o true true y u h k = refl
 boolean_second o true false true u h k = refl
 boolean_second o true false false u h k = absurd (true≢false (sym k))
@@ -233,11 +245,11 @@ after_boolean : (c : Option Bool) (u : Option Tree) → is_some u ≡ true → i
 after_boolean (Some c) u h = refl
 after_boolean None u h = h
 
-first_there : (x : Bool) (t : Tree) (u : Option Tree) → x ≡ true → is_some (if x then Some t else u) ≡ true
+pub first_there : (x : Bool) (t : Tree) (u : Option Tree) → x ≡ true → is_some (if x then Some t else u) ≡ true
 first_there true t u h = refl
 first_there false t u h = absurd (true≢false (sym h))
 
-second_there : (x y : Bool) (t v : Tree) (u : Option Tree) → y ≡ true → is_some (if x then Some t else (if y then Some v else u)) ≡ true
+pub second_there : (x y : Bool) (t v : Tree) (u : Option Tree) → y ≡ true → is_some (if x then Some t else (if y then Some v else u)) ≡ true
 second_there true y t v u h = refl
 second_there false y t v u h = first_there y v u h
 
@@ -287,7 +299,7 @@ holds_itself o h = absurd (true≢false (sym h))
 masked_there : (o : BinaryOperator) (c d r : ℤ) → calculated_numbers o c d ≡ Some (Number r) → is_short r c d ≡ true → is_some (masked o (Some c) (Some d)) ≡ true
 masked_there o c d r h k = ap (λ v. is_some (shortened (number_of v) c d)) h ∙ ap (λ b. is_some (if b then Some r else None)) k
 
-mask_there : (o : BinaryOperator) (b : Bool) (a : Tree) (c d r : ℤ) → is_bitwise o ≡ true → calculated_numbers o c d ≡ Some (Number r) → is_short r c d ≡ true → (u : Option Tree) → is_some (mask_written o (with_number o b a c) (numeral d) u) ≡ true
+pub mask_there : (o : BinaryOperator) (b : Bool) (a : Tree) (c d r : ℤ) → is_bitwise o ≡ true → calculated_numbers o c d ≡ Some (Number r) → is_short r c d ≡ true → (u : Option Tree) → is_some (mask_written o (with_number o b a c) (numeral d) u) ≡ true
 mask_there o true a c d r h k l u =
     ap (λ x. is_some (if x then masks_written o (binary o a (numeral c)) (numeral d) u else u)) (holds_itself o h)
     ∙ mask_first o a (masked o (Some c) (Some d)) (with_mask o (numeral c) (masked o (number a) (Some d)) u) (masked_there o c d r k l)

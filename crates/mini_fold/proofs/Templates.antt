@@ -693,7 +693,7 @@ made_from : (f : Tree → Tree) (o : Option Tree) (w : Tree) → made_by f o ≡
 made_from f (Some m) w e = (m, (refl, cc (sym e)))
 made_from f None w e = nothing e
 
-sum_falls : (o : Option Seat) (n a b w : Tree) → n ≡ binary Addition a b → sum_written o a b ≡ Some w → Falls o n w
+pub sum_falls : (o : Option Seat) (n a b w : Tree) → n ≡ binary Addition a b → sum_written o a b ≡ Some w → Falls o n w
 sum_falls o n a b w e k = go (is_whole a) (is_whole b) refl refl k
   where
     go : (c d : Bool) → is_whole a ≡ c → is_whole b ≡ d → sum_by c d o a b ≡ Some w → Falls o n w
@@ -739,7 +739,7 @@ nested_contracts s n a t u w e k = by (is_settled a t u) refl k
         record { row = inr (inr row); lighter = nested_lighter s n w row gain }
     by false h k = nothing k
 
-added_contracts : (s : Seat) (n a b w : Tree) → n ≡ binary Addition a b → added_written s a b ≡ Some w → TemplateContracts (Expr s) n w
+pub added_contracts : (s : Seat) (n a b w : Tree) → n ≡ binary Addition a b → added_written s a b ≡ Some w → TemplateContracts (Expr s) n w
 added_contracts s n a b w e k = go (binary_operator a) refl k
   where
     go : (o : Option BinaryOperator) → binary_operator a ≡ o → added_by o s a b ≡ Some w → TemplateContracts (Expr s) n w
@@ -809,7 +809,7 @@ before_rest o n w r small less k =
         ∙ sym (λ i. sum_by (f i) (g i) o r.head b)
         ∙ sym (ap (λ x. sum_written o (part x 0) (part x 1)) r.shape) ∙ k)
 
-sum_rest : (o : Option Seat) (n w : Tree) → Row5 n w → Fits o n → Gained o n w → sum_written o (part n 0) (part n 1) ≡ None → ⊥
+pub sum_rest : (o : Option Seat) (n w : Tree) → Row5 n w → Fits o n → Gained o n w → sum_written o (part n 0) (part n 1) ≡ None → ⊥
 sum_rest o n w (inl r) small less k = both_rest o n w r k
 sum_rest o n w (inr (inl r)) small less k = after_rest o n w r small less k
 sum_rest o n w (inr (inr r)) small less k = before_rest o n w r small less k
@@ -825,7 +825,7 @@ none_second : (o p : Option Tree) → first_written o p ≡ None → p ≡ None
 none_second None p e = e
 none_second (Some w) p e = nothing (sym e)
 
-sum_unwritten : (o : Option BinaryOperator) (s : Seat) (a b : Tree) → added_by o s a b ≡ None → sum_written (Some s) a b ≡ None
+pub sum_unwritten : (o : Option BinaryOperator) (s : Seat) (a b : Tree) → added_by o s a b ≡ None → sum_written (Some s) a b ≡ None
 sum_unwritten (Some Addition) s a b e = none_second (nested_written (part a 0) (part a 1) b) (sum_written (Some s) a b) e
 sum_unwritten o s a b e = e
 
@@ -863,7 +863,7 @@ row_settled n w r =
     let joins = both_true (is_whole r.inner || is_whole r.tail) (is_string_kind (kind_of r.inner) && is_effect_free r.tail) (one_whole (binary Addition r.inner r.tail) r.joined r.sum) plain in
     both_true (may_join r.inner r.tail) (is_primitive (kind_of r.left) || is_some (told_in r.tail)) joins r.settled
 
-nested_rest : (s : Seat) (n w : Tree) → Row6 n w → weight (Expr s) n < 2 ^ 64 → weight (Expr s) w < weight (Expr s) n → added_written s (part n 0) (part n 1) ≡ None → ⊥
+pub nested_rest : (s : Seat) (n w : Tree) → Row6 n w → weight (Expr s) n < 2 ^ 64 → weight (Expr s) w < weight (Expr s) n → added_written s (part n 0) (part n 1) ≡ None → ⊥
 nested_rest s n w r small less k =
     let whole = weights.nested_falls s n w r in
     let heavy = ap (weight (Expr s)) r.shape ∙ weights.nested_weighs s r.left r.inner r.tail in
@@ -888,7 +888,7 @@ sum_applied s t u b h e f = subst (λ v. Applied Gives Rests (Expr s) t v b) (sy
     go None k = (refl, sum_rests s t h k)
     go (Some w) k = moves_once Gives (Expr s) t w (added_contracts s t (part t 0) (part t 1) w (binary_is t Addition h) k)
 
-row5_sum : (n w : Tree) → Row5 n w → binary_operator n ≡ Some Addition
+pub row5_sum : (n w : Tree) → Row5 n w → binary_operator n ≡ Some Addition
 row5_sum n w (inl r) = ap binary_operator r.shape
 row5_sum n w (inr (inl r)) = ap binary_operator r.shape
 row5_sum n w (inr (inr r)) = ap binary_operator r.shape

@@ -34,7 +34,7 @@ fn minimize_lexical_statement<S: SteadyNames>(
 pub struct LexicalNames;
 
 impl<S: SteadyNames> OwnRewrites<S> for LexicalNames {
-    ghost rows = { LexicalRows };
+    ghost rows = { λ o. LexicalRows };
 
     fn rewrite(
         &self,
@@ -50,9 +50,9 @@ impl<S: SteadyNames> OwnRewrites<S> for LexicalNames {
         }
     }
 
-    ghost opens = { lexical_open };
+    ghost opens = { λ o. lexical_open };
 
-    ghost more = { lexical_more };
+    ghost more = { λ o. lexical_more };
 
-    ghost keeps = { lexical_keeps };
+    ghost keeps = { λ o. lexical_keeps };
 }

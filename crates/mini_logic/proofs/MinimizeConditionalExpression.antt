@@ -20,7 +20,7 @@ use Rattle.mini_tree.proofs.Reaching.{moves_once}
 use Rattle.mini_logic.specs.MinimizeConditionalExpression.{has_negated_test, swapped, equal_by, equal_operator, turned, written, IsRow, Gives, Rests}
 use Rattle.mini_logic.proofs.Seats.{test_falls}
 
-follows : (t : Tree) → has_negated_test t ≡ true → Row40 t (swapped t)
+pub follows : (t : Tree) → has_negated_test t ≡ true → Row40 t (swapped t)
 follows t e =
     let (chooses, negated) = and_parts (is_conditional t) (is_negation (part t 0)) e in
     record { a = part (part t 0) 0; b = part t 1; c = part t 2; shape = conditional_is t chooses ∙ ap (λ a. conditional a (part t 1) (part t 2)) (negation_is (part t 0) negated); written = refl }
@@ -43,7 +43,7 @@ unequal_is x o e = go (binary_operator x) refl e
 abbrev tested : Bool → Tree → Option BinaryOperator
 tested b t = if b then equal_by (binary_operator (part t 0)) else None
 
-follows_turned : (t : Tree) (o : BinaryOperator) → equal_operator t ≡ Some o → Row40Unequal t (turned t o)
+pub follows_turned : (t : Tree) (o : BinaryOperator) → equal_operator t ≡ Some o → Row40Unequal t (turned t o)
 follows_turned t o e = go (is_conditional t) refl e
   where
     go : (b : Bool) → is_conditional t ≡ b → tested b t ≡ Some o → Row40Unequal t (turned t o)
@@ -64,7 +64,7 @@ told : (k : Bool) (a b c d : Tree) → equal_operator (conditional (binary (uneq
 told true a b c d e = cc e
 told false a b c d e = cc e
 
-misses : (t w : Tree) → has_negated_test t ≡ false → equal_operator t ≡ None → IsRow t w → ⊥
+pub misses : (t w : Tree) → has_negated_test t ≡ false → equal_operator t ≡ None → IsRow t w → ⊥
 misses t w e f (inl r) = absurd (cc (sym (ap has_negated_test r.shape) ∙ e))
 misses t w e f (inr r) = told r.is_strict r.a r.b r.c r.d (sym (ap equal_operator r.shape) ∙ f)
 

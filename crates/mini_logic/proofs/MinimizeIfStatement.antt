@@ -357,7 +357,7 @@ module _ (t w : Tree) where
       go (inl x) = as_is (guard t) IsRow (follows_guard t x.0) x.1
       go (inr x) = skip_follows x
 
-  follows : written t ≡ Some w → IsRow t w
+  pub follows : written t ≡ Some w → IsRow t w
   follows e = go (taken (chooses t) (choice t) w (guard_or t) e)
     where
       go : ((chooses t ≡ true) × (choice t ≡ w)) ⊎ (guard_or t ≡ Some w) → IsRow t w
@@ -427,7 +427,7 @@ swap_missed t w e r =
     not_both t swaps _ e.swaps r.shape
     (ap (λ b. b && (keeps_braces r.s && is_unchained r.u)) r.other ∙ ap (λ b. b && is_unchained r.u) (read_braces r.s r.braces) ∙ r.unchained)
 
-misses : (q : StmtSeat) (t w : Tree) → written t ≡ None → weight (Stmt q) t < 2 ^ 64 → IsRow t w → ⊥
+pub misses : (q : StmtSeat) (t w : Tree) → written t ≡ None → weight (Stmt q) t < 2 ^ 64 → IsRow t w → ⊥
 misses q t w e small (inl (inl r)) = not_both t chooses _ (all_passed t e).chooses r.shape refl
 misses q t w e small (inl (inr (inl r))) = not_both t guards _ (all_passed t e).guards r.shape refl
 misses q t w e small (inl (inr (inr r))) = not_both t guards _ (all_passed t e).guards r.shape refl

@@ -22,7 +22,7 @@ use Rattle.mini_logic.proofs.Negations.{neg_other}
 abbrev falls : Seat → Tree → Bool
 falls s e = nat_lt (capped (weight (Expr s) (neg s e))) (capped (weight (Expr s) (negation e)))
 
-follows : (s : Seat) (t : Tree) → minimizes_unary s t ≡ true → Gives (Expr s) t (neg s (part t 0))
+pub follows : (s : Seat) (t : Tree) → minimizes_unary s t ≡ true → Gives (Expr s) t (neg s (part t 0))
 follows s t e =
     let (is, other) = and_parts (is_negation t) (has_lighter_negation s (part t 0)) e in
     let (own, less) = and_parts (has_own_negation s (part t 0)) (falls s (part t 0)) other in
@@ -46,7 +46,7 @@ heavy s e h small less = go (has_own_negation s e) refl h
     go true f g = absurd (omega (arith, ltb-false _ _ g, small, less))
     go false f g = absurd (omega (arith, ap (weight (Expr s)) (no_own s e f), less))
 
-misses : (s : Seat) (t w : Tree) → minimizes_unary s t ≡ false → weight (Expr s) t < 2 ^ 64 → Gives (Expr s) t w → ⊥
+pub misses : (s : Seat) (t w : Tree) → minimizes_unary s t ≡ false → weight (Expr s) t < 2 ^ 64 → Gives (Expr s) t w → ⊥
 misses s t w h small (r, less) =
     let same = ap (weight (Expr s)) r.shape in
     let made = ap (weight (Expr s)) r.written in

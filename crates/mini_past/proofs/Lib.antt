@@ -2,6 +2,7 @@ pub mod PassedParts
 pub mod Firsts
 pub mod Places
 pub mod NextPlaces
+pub mod Suiting
 pub mod PastRows
 pub mod NextRows
 pub mod Swept
@@ -9,3 +10,7 @@ pub mod Holders
 pub mod Steps
 pub mod Lawful
 pub mod InBlocks
+pub mod InCases
+pub mod InHeads
+pub mod InStatements
+pub mod Ends

@@ -9,19 +9,20 @@ use Rattle.mini_model.specs.Paths.{append}
 use Rattle.mini_kept.specs.Without.{Assured}
 use Rattle.mini_laws.specs.Naming.{is_lexical}
 use Rattle.mini_laws.specs.ScopeList.{has_eval}
-use Rattle.mini_laws.specs.Value.{VariableSet}
 use Rattle.mini_node.specs.Children.{names_of, part, with_part, first_children, rest_children}
 use Rattle.mini_node.specs.Walks.{next_child}
 use Rattle.mini_rows.specs.Lists.{block, declaration}
 use Rattle.mini_rows.specs.Declarations.{binding, declarator}
 use Rattle.mini_rows.specs.Past.{held, are_past, Row71PastNext}
 use Rattle.mini_rows.specs.Unused.{resolved, declared_among, names, any_names, is_constant, is_first, put_first, may_move, lets_go}
-use Rattle.mini_unused.specs.RemoveUnusedDeclaration.{is_lexical_shape, declares_list, list_at, may_lose}
+use Rattle.mini_rows.specs.Switches.{Liberties}
+use Rattle.mini_unused.specs.RemoveUnusedDeclaration.{is_lexical_shape, may_declare, list_at, may_lose}
 use Rattle.mini_unused.specs.SubstituteNext.{put_named, is_mentioned_beside, is_mentioned_elsewhere, declarators_next, list_next}
 use Rattle.mini_unused.proofs.NextUses.{next_left}
 use Rattle.mini_unused.proofs.SingleUses.{neither, next_there as child_there, rest_there, within_there}
 use Rattle.mini_unused.proofs.Unused.{parts_of, with_parts, there_child, there_first, there_rest, there_within, and_both, not_true, Declares, declares, declarator_is, a_declaration}
 use Rattle.mini_past.proofs.NextPlaces.{Found, found}
+use Rattle.mini_past.proofs.Suiting.{suits_kind, kind_told, may_go}
 use Rattle.mini_past.specs.SubstitutePast.{held_at, may_pass, reads_past_in, is_read_past_then, is_past_by, is_past_by_next, is_past_next, PastNextAt}
 
 -- ---- what is written
@@ -50,7 +51,7 @@ read_once V x d e o ds j ts i h =
     let (p, v) = and_parts (is_first x false (part e 1)) (are_past H x (part d 1) (part e 1)) u in
     record { once = p; passed = v; initial = a; other = c; outer = not_true (names x o) w; declared_earlier = g; declared_later = k; earlier = m; later = n }
 
-module _ (V : Assured) (W : VariableSet) (o : Tree) (ts : Trees) (i j : ℕ) (h : i < count ts) (g : suc j < count (children (list_at ts i))) (past : is_past_next V W o ts i j ≡ true) (unseen : has_eval (block (o ▸ ts)) ≡ false) where
+module _ (V : Assured) (W : Liberties) (o : Tree) (ts : Trees) (i j : ℕ) (h : i < count ts) (g : suc j < count (children (list_at ts i))) (past : is_past_next V W o ts i j ≡ true) (unseen : has_eval (block (o ▸ ts)) ≡ false) where
   abbrev statement : Tree
   statement = child_or_absent ts i
 
@@ -99,7 +100,7 @@ module _ (V : Assured) (W : VariableSet) (o : Tree) (ts : Trees) (i j : ℕ) (h 
   abbrev x : Name
   x = resolved one.spelling one.symbol
 
-  goes : lets_go W kind one.symbol ≡ true
+  goes : lets_go W.writable kind one.symbol ≡ true
   goes = sym (λ k. may_lose (is_lexical_shape (shape_of (let_there k))) W (names_of (part (one.is k) 0))) ∙ tests.lost
 
   reading : Once V x d n o ds j ts i
@@ -131,38 +132,42 @@ module _ (V : Assured) (W : VariableSet) (o : Tree) (ts : Trees) (i j : ℕ) (h 
   passed_there : are_past (held V ts before (is_lexical kind) first) x init value ≡ true
   passed_there = sym (ap (λ c. are_past (held V ts before (is_lexical_shape (shape_of c)) first) x init value) let_there) ∙ reading.passed
 
-  pub next_row : Row71PastNext V W o ts (children (list_next (listed ts) i j))
-  next_row = record {
-    before = before;
-    kind = kind;
-    first = first;
-    spelling = one.spelling;
-    symbol = one.symbol;
-    init = init;
-    binds = part n 0;
-    value = value;
-    last = last;
-    after = after;
-    goes = goes;
-    moves = tests.moves;
-    varies = tests.varies;
-    once = reading.once;
-    passed = passed_there;
-    other = reading.other;
-    outer = reading.outer;
-    earlier = reading.earlier;
-    declared_earlier = reading.declared_earlier;
-    initial = reading.initial;
-    declared_later = reading.declared_later;
-    later = reading.later;
-    unseen = unseen;
-    shape = list_is;
-    written = written_is;
-  }
+  -- and of a `var`, where a list stands outside
+  pub next_row : (r : Row71PastNext V W o ts (children (list_next (listed ts) i j))) × (suits_kind o r.kind ≡ true)
+  next_row = (
+      record {
+        before = before;
+        kind = kind;
+        first = first;
+        spelling = one.spelling;
+        symbol = one.symbol;
+        init = init;
+        binds = part n 0;
+        value = value;
+        last = last;
+        after = after;
+        goes = goes;
+        moves = tests.moves;
+        varies = tests.varies;
+        once = reading.once;
+        passed = passed_there;
+        other = reading.other;
+        outer = reading.outer;
+        earlier = reading.earlier;
+        declared_earlier = reading.declared_earlier;
+        initial = reading.initial;
+        declared_later = reading.declared_later;
+        later = reading.later;
+        unseen = unseen;
+        shape = list_is;
+        written = written_is;
+      },
+      kind_told o statement kind ds let_there tests.declares,
+    )
 
 -- ---- where nothing is written no row reads it
 
-module _ (V : Assured) (W : VariableSet) (o : Tree) (ts us : Trees) (r : Row71PastNext V W o ts us) where
+module _ (V : Assured) (W : Liberties) (o : Tree) (ts us : Trees) (r : Row71PastNext V W o ts us) (suits : suits_kind o r.kind ≡ true) where
   abbrev named : Name
   named = resolved r.spelling r.symbol
 
@@ -202,11 +207,12 @@ module _ (V : Assured) (W : VariableSet) (o : Tree) (ts us : Trees) (r : Row71Pa
       let i = count r.before in
       let j = count r.first in
       let read = is_read_past_then V (named ∷ []) declared following o declarators j statements i in
-      let passes = and_both (may_move r.init) (not (is_constant r.init)) r.moves (ap not r.varies) in
+      let passes = and_both (may_move W.switches r.init) (not (is_constant r.init)) r.moves (ap not r.varies) in
       ap (λ v. is_past_next V W o v i j) r.shape
-      ∙ ap (λ c. declares_list c && is_past_by_next V (is_lexical_shape (shape_of c)) W (part c 0) j o statements i) (there_child r.before stated r.after)
+      ∙ ap (λ c. may_declare o c && is_past_by_next V (is_lexical_shape (shape_of c)) W (part c 0) j o statements i) (there_child r.before stated r.after)
+      ∙ ap (λ b. b && is_past_by_next V (is_lexical r.kind) W (part stated 0) j o statements i) (may_go o r.kind declarators suits)
       ∙ (λ k. is_past_by V (is_lexical r.kind) W (there_child r.first declared (following ▸ r.last) k) (child_there r.first declared following r.last k) o declarators j statements i)
-      ∙ and_both (lets_go W r.kind r.symbol && may_pass r.init) read (and_both (lets_go W r.kind r.symbol) (may_pass r.init) r.goes passes) then_is
+      ∙ and_both (lets_go W.writable r.kind r.symbol && may_pass W.switches r.init) read (and_both (lets_go W.writable r.kind r.symbol) (may_pass W.switches r.init) r.goes passes) then_is
 
   next_within : suc (count r.first) < count (children (list_at ts (count r.before)))
   next_within =
@@ -216,5 +222,5 @@ module _ (V : Assured) (W : VariableSet) (o : Tree) (ts us : Trees) (r : Row71Pa
   statement_within : count r.before < count ts
   statement_within = subst (λ v. count r.before < count v) (sym r.shape) (there_within r.before stated r.after)
 
-pub none_next : (V : Assured) (W : VariableSet) (o : Tree) (ts : Trees) → PastNextAt V W o ts None → (us : Trees) → Row71PastNext V W o ts us → ⊥
-none_next V W o ts f us r = true≢false (sym (next_there V W o ts us r) ∙ f (count r.before) (statement_within V W o ts us r) (count r.first) (next_within V W o ts us r))
+pub none_next : (V : Assured) (W : Liberties) (o : Tree) (ts : Trees) → PastNextAt V W o ts None → (us : Trees) (r : Row71PastNext V W o ts us) → suits_kind o r.kind ≡ true → ⊥
+none_next V W o ts f us r s = true≢false (sym (next_there V W o ts us r s) ∙ f (count r.before) (statement_within V W o ts us r s) (count r.first) (next_within V W o ts us r s))

@@ -9,20 +9,21 @@ use Rattle.mini_model.specs.Paths.{append}
 use Rattle.mini_kept.specs.Without.{Assured}
 use Rattle.mini_laws.specs.Naming.{is_lexical}
 use Rattle.mini_laws.specs.ScopeList.{has_eval}
-use Rattle.mini_laws.specs.Value.{VariableSet}
 use Rattle.mini_node.specs.Children.{names_of, part, first_children, rest_children}
 use Rattle.mini_node.specs.Walks.{next_child}
 use Rattle.mini_rows.specs.Lists.{block, declaration}
 use Rattle.mini_rows.specs.Declarations.{binding, declarator}
 use Rattle.mini_rows.specs.Past.{held, are_past, Row71Past}
 use Rattle.mini_rows.specs.Unused.{resolved, declared_among, declared_left, names, any_names, is_constant, reads_head, evaluated, put_first, may_move, lets_go}
-use Rattle.mini_unused.specs.RemoveUnusedDeclaration.{declares_name, declares_list, is_free_at, is_lexical_shape, list_at, may_lose}
+use Rattle.mini_rows.specs.Switches.{Liberties}
+use Rattle.mini_unused.specs.RemoveUnusedDeclaration.{declares_name, declares_list, may_declare, is_free_at, is_lexical_shape, list_at, may_lose}
 use Rattle.mini_unused.specs.SubstituteNext.{put_named}
 use Rattle.mini_unused.specs.SubstituteSingleUse.{last_place, is_declared_over, is_mentioned_around, declaration_left, list_single}
 use Rattle.mini_unused.proofs.SingleUses.{last_is, last_rest, last_there, neither, next_there, none_after, rest_there, with_two, within_there}
 use Rattle.mini_unused.proofs.Unused.{parts_of, there_child, there_first, and_both, not_true, Declares, declares, a_declaration, left_is}
-use Rattle.mini_past.proofs.NextPlaces.{passing}
-use Rattle.mini_past.specs.SubstitutePast.{held_at, reads_past, is_read_past, may_pass, may_pass_by, is_past_declarator, is_past}
+use Rattle.mini_past.proofs.NextPlaces.{passing, declaring}
+use Rattle.mini_past.proofs.Suiting.{suits_kind, kind_told, may_go}
+use Rattle.mini_past.specs.SubstitutePast.{held_at, is_read_past, may_pass, may_pass_by, is_past_declarator, is_past}
 
 -- ---- what is written
 
@@ -37,16 +38,17 @@ record Once (V : Assured) (x : Name) (o init : Tree) (ds : Trees) (j : ℕ) (ts 
 
 read_once : (V : Assured) (x : Name) (o init : Tree) (ds : Trees) (j : ℕ) (ts : Trees) (i : ℕ) → is_read_past V (x ∷ []) o init ds j ts i ≡ true → Once V x o init ds j ts i
 read_once V x o init ds j ts i e =
-    let a = reads_past (held_at V ts i ds j) x init (child_or_absent ts (suc i)) in
-    let (n, e) = and_parts (not (names x o)) (a && (not (is_declared_over x init ds j) && not (is_mentioned_around x ts i))) e in
-    let (p, q) = and_parts a (not (is_declared_over x init ds j) && not (is_mentioned_around x ts i)) e in
+    let a = are_past (held_at V ts i ds j) x init (evaluated (child_or_absent ts (suc i))) in
+    let around = not (is_declared_over x init ds j) && not (is_mentioned_around x ts i) in
+    let (f, e) = and_parts (reads_head x (child_or_absent ts (suc i))) (not (names x o) && (a && around)) e in
+    let (n, e) = and_parts (not (names x o)) (a && around) e in
+    let (g, q) = and_parts a around e in
     let (r, s) = and_parts (not (is_declared_over x init ds j)) (not (is_mentioned_around x ts i)) q in
     let (t, u) = neither (names x init) (any_names x (first_children j ds)) r in
     let (w, v) = neither (any_names x (rest_children (suc (suc i)) ts)) (any_names x (first_children i ts)) s in
-    let (f, g) = and_parts (reads_head x (child_or_absent ts (suc i))) (are_past (held_at V ts i ds j) x init (evaluated (child_or_absent ts (suc i)))) p in
     record { outer = not_true (names x o) n; once = f; passed = g; initial = t; declared_earlier = u; earlier = v; later = w }
 
-module _ (V : Assured) (W : VariableSet) (o : Tree) (ts : Trees) (i : ℕ) (next : suc i < count ts) (some : 0 < count (children (list_at ts i))) (past : is_past V W o ts i ≡ true) (unseen : has_eval (block (o ▸ ts)) ≡ false) where
+module _ (V : Assured) (W : Liberties) (o : Tree) (ts : Trees) (i : ℕ) (next : suc i < count ts) (some : 0 < count (children (list_at ts i))) (past : is_past V W o ts i ≡ true) (unseen : has_eval (block (o ▸ ts)) ≡ false) where
   abbrev statement : Tree
   statement = child_or_absent ts i
 
@@ -77,13 +79,13 @@ module _ (V : Assured) (W : VariableSet) (o : Tree) (ts : Trees) (i : ℕ) (next
   abbrev once_there : Bool
   once_there = is_read_past V (names_of (part d 0)) o init ds j ts i
 
-  tests : (declares_list statement ≡ true) × (declares_name d ≡ true) × (may_lose (is_free_at ts i) W (names_of (part d 0)) ≡ true) × (may_move init ≡ true) × (is_constant init ≡ false) × (once_there ≡ true)
+  tests : (declares_list statement ≡ true) × (declares_name d ≡ true) × (may_lose (is_free_at ts i) W (names_of (part d 0)) ≡ true) × (may_move W.switches init ≡ true) × (is_constant init ≡ false) × (once_there ≡ true)
   tests =
       let passes = may_pass_by (is_free_at ts i) W d in
-      let (a, p) = and_parts (declares_list statement) (passes && once_there) past in
+      let (a, p) = and_parts (may_declare o statement) (passes && once_there) past in
       let (b, q) = and_parts passes once_there p in
       let (c, f, g, h) = passing (is_free_at ts i) W d b in
-      (a, c, f, g, h, q)
+      (declaring o statement a, c, f, g, h, q)
 
   abbrev kind : VariableDeclarationKind
   kind = (a_declaration statement tests.0).0
@@ -97,7 +99,7 @@ module _ (V : Assured) (W : VariableSet) (o : Tree) (ts : Trees) (i : ℕ) (next
   abbrev x : Name
   x = resolved one.spelling one.symbol
 
-  goes : lets_go W kind one.symbol ≡ true
+  goes : lets_go W.writable kind one.symbol ≡ true
   goes = sym (λ k. may_lose (is_lexical_shape (shape_of (let_there k))) W (names_of (part (one.is k) 0))) ∙ tests.2
 
   reading : Once V x o init ds j ts i
@@ -125,34 +127,39 @@ module _ (V : Assured) (W : VariableSet) (o : Tree) (ts : Trees) (i : ℕ) (next
   passed_there : are_past (held V ts before (is_lexical kind) first) x init (evaluated head) ≡ true
   passed_there = sym (ap (λ c. are_past (held V ts before (is_lexical_shape (shape_of c)) first) x init (evaluated head)) let_there) ∙ reading.passed
 
-  pub row_there : Row71Past V W o ts (children (list_single (listed ts) i j))
-  row_there = record {
-    before = before;
-    kind = kind;
-    first = first;
-    spelling = one.spelling;
-    symbol = one.symbol;
-    init = init;
-    head = head;
-    after = after;
-    goes = goes;
-    moves = tests.3;
-    varies = tests.4;
-    once = reading.once;
-    passed = passed_there;
-    outer = reading.outer;
-    earlier = reading.earlier;
-    declared_earlier = reading.declared_earlier;
-    initial = reading.initial;
-    later = reading.later;
-    unseen = unseen;
-    shape = list_is;
-    written = written_is;
-  }
+  -- where a list stands outside, it is a `var`
+  -- and of a `var`, where a list stands outside
+  pub row_there : (r : Row71Past V W o ts (children (list_single (listed ts) i j))) × (suits_kind o r.kind ≡ true)
+  row_there = (
+      record {
+        before = before;
+        kind = kind;
+        first = first;
+        spelling = one.spelling;
+        symbol = one.symbol;
+        init = init;
+        head = head;
+        after = after;
+        goes = goes;
+        moves = tests.3;
+        varies = tests.4;
+        once = reading.once;
+        passed = passed_there;
+        outer = reading.outer;
+        earlier = reading.earlier;
+        declared_earlier = reading.declared_earlier;
+        initial = reading.initial;
+        later = reading.later;
+        unseen = unseen;
+        shape = list_is;
+        written = written_is;
+      },
+      kind_told o statement kind ds let_there (and_parts (may_declare o statement) (may_pass_by (is_free_at ts i) W d && once_there) past).0,
+    )
 
 -- ---- where nothing is written no row reads it
 
-module _ (V : Assured) (W : VariableSet) (o : Tree) (ts us : Trees) (r : Row71Past V W o ts us) where
+module _ (V : Assured) (W : Liberties) (o : Tree) (ts us : Trees) (r : Row71Past V W o ts us) (suits : suits_kind o r.kind ≡ true) where
   abbrev named : Name
   named = resolved r.spelling r.symbol
 
@@ -171,31 +178,33 @@ module _ (V : Assured) (W : VariableSet) (o : Tree) (ts us : Trees) (r : Row71Pa
   once_is : is_read_past V (named ∷ []) o r.init declarators (count r.first) statements (count r.before) ≡ true
   once_is =
       let y = named in
-      let all = λ (n a b c d f : Bool). not n && (a && (not (b || c) && not (d || f))) in
+      let all = λ (h n a b c d f : Bool). h && (not n && (a && (not (b || c) && not (d || f)))) in
       let H = held_at V statements (count r.before) declarators (count r.first) in
       let there = λ (ts before : Trees) (l : Bool) (first : Trees). are_past (held V ts before l first) y r.init (evaluated r.head) in
       let lexical_there = ap (λ c. is_lexical_shape (shape_of c)) (there_child r.before stated (r.head ▸ r.after)) in
       let passed : are_past H y r.init (evaluated r.head) ≡ true =
       (λ k. there statements (there_first r.before stated (r.head ▸ r.after) k) (lexical_there k) (there_first r.first declared none k)) ∙ sym (ap (λ ts. there ts r.before (is_lexical r.kind) r.first) r.shape) ∙ r.passed in
-      let head_there = ap (reads_past H y r.init) (next_there r.before stated r.head r.after) ∙ and_both (reads_head y r.head) (are_past H y r.init (evaluated r.head)) r.once passed in
+      let head_there = ap (reads_head y) (next_there r.before stated r.head r.after) ∙ r.once in
+      let past = ap (λ h. are_past H y r.init (evaluated h)) (next_there r.before stated r.head r.after) ∙ passed in
       let first_ds = ap (any_names y) (there_first r.first declared none) ∙ r.declared_earlier in
       let first_ts = ap (any_names y) (there_first r.before stated (r.head ▸ r.after)) ∙ r.earlier in
       let rest_ts = ap (any_names y) (rest_there r.before stated r.head r.after) ∙ r.later in
-      λ k. all (r.outer k) (head_there k) (r.initial k) (first_ds k) (rest_ts k) (first_ts k)
+      λ k. all (head_there k) (r.outer k) (past k) (r.initial k) (first_ds k) (rest_ts k) (first_ts k)
 
   past_there : is_past V W o ts (count r.before) ≡ true
   past_there =
       let i = count r.before in
       let read = is_read_past V (named ∷ []) o r.init declarators (count r.first) statements i in
-      let passes = and_both (may_move r.init) (not (is_constant r.init)) r.moves (ap not r.varies) in
+      let passes = and_both (may_move W.switches r.init) (not (is_constant r.init)) r.moves (ap not r.varies) in
       ap (λ v. is_past V W o v i) r.shape
-      ∙ ap (λ c. declares_list c && is_past_declarator V (is_lexical_shape (shape_of c)) W (part c 0) (last_place (children (part c 0))) o statements i) (there_child r.before stated (r.head ▸ r.after))
+      ∙ ap (λ c. may_declare o c && is_past_declarator V (is_lexical_shape (shape_of c)) W (part c 0) (last_place (children (part c 0))) o statements i) (there_child r.before stated (r.head ▸ r.after))
+      ∙ ap (λ b. b && is_past_declarator V (is_lexical r.kind) W (part stated 0) (last_place (children (part stated 0))) o statements i) (may_go o r.kind declarators suits)
       ∙ ap (λ j. is_past_declarator V (is_lexical r.kind) W (part stated 0) j o statements i) (last_there r.first declared)
       ∙ ap (λ c. may_pass_by (is_lexical r.kind) W c && is_read_past V (names_of (part c 0)) o (part c 1) declarators (count r.first) statements i) (there_child r.first declared none)
-      ∙ and_both (lets_go W r.kind r.symbol && may_pass r.init) read (and_both (lets_go W r.kind r.symbol) (may_pass r.init) r.goes passes) once_is
+      ∙ and_both (lets_go W.writable r.kind r.symbol && may_pass W.switches r.init) read (and_both (lets_go W.writable r.kind r.symbol) (may_pass W.switches r.init) r.goes passes) once_is
 
   past_within : suc (count r.before) < count ts
   past_within = subst (λ v. suc (count r.before) < count v) (sym r.shape) (within_there r.before stated r.head r.after)
 
-pub none_past : (V : Assured) (W : VariableSet) (o : Tree) (ts : Trees) → ((i : ℕ) → suc i < count ts → is_past V W o ts i ≡ false) → (us : Trees) → Row71Past V W o ts us → ⊥
-none_past V W o ts f us r = true≢false (sym (past_there V W o ts us r) ∙ f (count r.before) (past_within V W o ts us r))
+pub none_past : (V : Assured) (W : Liberties) (o : Tree) (ts : Trees) → ((i : ℕ) → suc i < count ts → is_past V W o ts i ≡ false) → (us : Trees) (r : Row71Past V W o ts us) → suits_kind o r.kind ≡ true → ⊥
+none_past V W o ts f us r s = true≢false (sym (past_there V W o ts us r s) ∙ f (count r.before) (past_within V W o ts us r s))

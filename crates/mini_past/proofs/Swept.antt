@@ -7,20 +7,20 @@ use Rattle.mini_model.specs.declared.shape.Shape.{Shape}
 use Rattle.mini_model.specs.Tree.{Tree, Trees, node, none, ◌▸◌, children, child_or_absent}
 use Rattle.mini_kept.specs.Without.{Assured}
 use Rattle.mini_laws.specs.ScopeList.{has_eval}
-use Rattle.mini_laws.specs.Value.{VariableSet}
 use Rattle.mini_node.specs.Children.{names_of, part, with_part}
 use Rattle.mini_rows.specs.Past.{Kept, passes_any_at, is_certain, are_past_in, are_past, all_past}
 use Rattle.mini_rows.specs.declared.gathered.Gathered.{Gathered}
 use Rattle.mini_rows.specs.declared.gathered.Gathered.TheVariants.{Values as OfValues}
 use Rattle.mini_rows.specs.Unused.{names, begins_with, suits, is_sure, is_placed, gathered_below, is_first, reads_head, evaluated}
+use Rattle.mini_rows.specs.Switches.{Liberties}
 use Rattle.mini_unused.specs.Chains.{Chain, still, Several}
-use Rattle.mini_unused.specs.RemoveUnusedDeclaration.{declares_list, is_free_at, list_at}
+use Rattle.mini_unused.specs.RemoveUnusedDeclaration.{may_declare, is_free_at, list_at}
 use Rattle.mini_unused.specs.SubstituteNext.{put_named, is_mentioned_beside, is_mentioned_elsewhere, declarators_next, list_next}
 use Rattle.mini_unused.specs.SubstituteSingleUse.{declaration_left, last_place, is_declared_over, is_mentioned_around, list_single}
 use Rattle.mini_unused.proofs.Chains.{chain_joined, chain_once}
 use Rattle.mini_unused.proofs.Uneval.{Unseen, part_of, declaration_without, suits_along, suits_among, put_there, put_along_head, next_without, unseen_with, in_list}
-use Rattle.mini_past.proofs.NextPlaces.{found}
-use Rattle.mini_past.specs.SubstitutePast.{held_at, may_pass_by, reads_past, reads_past_in, is_read_past, is_read_past_then, PastAt, PastNextAt, ReadPast, NextPast, PastGone, Calm, Swept}
+use Rattle.mini_past.proofs.NextPlaces.{declaring, found}
+use Rattle.mini_past.specs.SubstitutePast.{held_at, may_pass_by, reads_past_in, is_read_past, is_read_past_then, PastAt, PastNextAt, ReadPast, NextPast, PastGone, Calm, Swept}
 
 -- ---- no direct eval comes about
 
@@ -42,10 +42,11 @@ once_put : (V : Assured) (xs : List Name) (o init : Tree) (ds : Trees) (j : ℕ)
 once_put V [] o init ds j ts i e f g = absurd (true≢false (sym e))
 once_put V (x ∷ xs) o init ds j ts i e f g =
     let head = child_or_absent ts (suc i) in
-    let reads = reads_past (held_at V ts i ds j) x init head in
-    let (a, p) = and_parts (not (names x o)) (reads && (not (is_declared_over x init ds j) && not (is_mentioned_around x ts i))) e in
-    let (read, q) = and_parts reads (not (is_declared_over x init ds j) && not (is_mentioned_around x ts i)) p in
-    let (first, past) = and_parts (reads_head x head) (are_past (held_at V ts i ds j) x init (evaluated head)) read in
+    let a = are_past (held_at V ts i ds j) x init (evaluated head) in
+    let around = not (is_declared_over x init ds j) && not (is_mentioned_around x ts i) in
+    let (first, p) = and_parts (reads_head x head) (not (names x o) && (a && around)) e in
+    let (n, q) = and_parts (not (names x o)) (a && around) p in
+    let (past, r) = and_parts a around q in
     put_along_head x init head first (past_along (held_at V ts i ds j) x OfValues init (evaluated head) past) f g
 
 then_put : (V : Assured) (xs : List Name) (d e o : Tree) (ds : Trees) (j : ℕ) (ts : Trees) (i : ℕ) → is_read_past_then V xs d e o ds j ts i ≡ true → has_eval (part d 1) ≡ false → has_eval (part e 1) ≡ false → has_eval (put_named xs (part d 1) (part e 1)) ≡ false
@@ -56,7 +57,7 @@ then_put V (x ∷ xs) d e o ds j ts i h f g =
     let (first, past) = and_parts (is_first x false (part e 1)) (are_past (held_at V ts i ds j) x (part d 1) (part e 1)) read in
     put_there x false (part d 1) (part e 1) first (past_along (held_at V ts i ds j) x OfValues (part d 1) (part e 1) past) f g
 
-module _ (V : Assured) (W : VariableSet) (o l m : Tree) (c : Unseen o l) where
+module _ (V : Assured) (W : Liberties) (o l m : Tree) (c : Unseen o l) where
   read_gone : ReadPast V W o l m → Unseen o m
   read_gone g =
       let ts = children l in
@@ -66,7 +67,8 @@ module _ (V : Assured) (W : VariableSet) (o l m : Tree) (c : Unseen o l) where
       let init = part d 1 in
       let once = is_read_past V (names_of (part d 0)) o init (children ds) j ts g.at in
       let passes = may_pass_by (is_free_at ts g.at) W d in
-      let (declares, p) = and_parts (declares_list (child_or_absent ts g.at)) (passes && once) g.there in
+      let (may, p) = and_parts (may_declare o (child_or_absent ts g.at)) (passes && once) g.there in
+      let declares = declaring o (child_or_absent ts g.at) may in
       let (a, f) = and_parts passes once p in
       let there = in_list o l g.at c in
       let value : has_eval init ≡ false = part_of d 1 (part_of ds j (part_of (part l g.at) 0 there)) in
@@ -88,24 +90,24 @@ module _ (V : Assured) (W : VariableSet) (o l m : Tree) (c : Unseen o l) where
   gone_unseen (inl r) = read_gone r
   gone_unseen (inr n) = next_gone n
 
-pub still_calm : (V : Assured) (W : VariableSet) (o l m : Tree) → Calm o l → PastGone V W o l m → Calm o m
+pub still_calm : (V : Assured) (W : Liberties) (o l m : Tree) → Calm o l → PastGone V W o l m → Calm o m
 still_calm V W o l m c g =
     let u = gone_unseen V W o l m (record { is_list = c.is_list; unseen = c.unseen }) g.name in
     record { is_list = u.is_list; unseen = u.unseen }
 
 -- ---- a list that has lost a name
 
-pub read_past : (V : Assured) (W : VariableSet) (o l m : Tree) (ts : Trees) (at last : ℕ) → ts ≡ children l → PastAt V W o ts (Some at) → (has_eval o || has_eval l) ≡ false → last ≡ last_place (children (list_at (children l) at)) → m ≡ list_single l at last → PastGone V W o l m
+pub read_past : (V : Assured) (W : Liberties) (o l m : Tree) (ts : Trees) (at last : ℕ) → ts ≡ children l → PastAt V W o ts (Some at) → (has_eval o || has_eval l) ≡ false → last ≡ last_place (children (list_at (children l) at)) → m ≡ list_single l at last → PastGone V W o l m
 read_past V W o l m ts at last e u v g f =
     let there = subst (λ us. PastAt V W o us (Some at)) e u in
     record { unseen = v; name = inl (record { at = at; next = there.0; declares = there.3; there = there.4; left = f ∙ ap (list_single l at) g }) }
 
-pub next_past : (V : Assured) (W : VariableSet) (o l m : Tree) (ts : Trees) (at which : ℕ) → ts ≡ children l → PastNextAt V W o ts (Some (at, which)) → (has_eval o || has_eval l) ≡ false → m ≡ list_next l at which → PastGone V W o l m
+pub next_past : (V : Assured) (W : Liberties) (o l m : Tree) (ts : Trees) (at which : ℕ) → ts ≡ children l → PastNextAt V W o ts (Some (at, which)) → (has_eval o || has_eval l) ≡ false → m ≡ list_next l at which → PastGone V W o l m
 next_past V W o l m ts at which e u v f = record { unseen = v; name = inr (record { at = at; which = which; there = subst (λ us. PastNextAt V W o us (Some (at, which))) e u; left = f }) }
 
 -- ---- a list that has lost some names
 
-module _ (V : Assured) (W : VariableSet) (o : Tree) where
+module _ (V : Assured) (W : Liberties) (o : Tree) where
   pub swept_none : (l : Tree) → Calm o l → Swept V W o l l
   swept_none l c = record { gone = still l; calm = c }
 

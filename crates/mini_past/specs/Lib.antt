@@ -1,4 +1,4 @@
 pub mod SubstitutePast
 pub mod Lighter
-pub mod Writing
 pub mod PastInBlocks
+pub mod PastEnds

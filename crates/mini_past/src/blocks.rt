@@ -1,56 +1,22 @@
-//! Row 71 past steady names of a block further inside a body, those of a `try` among them, as a row of the own code of whatever has the
-//! body: of `function f(g) { if (g) { let x = a(); return g(x); } }` the block becomes `{ ; return g(a()); }`.
+//! Row 71 past steady names of a block further inside a body, those of a `try` among them, of a case and of the head of a `for`, as a row of
+//! the own code of whatever has the body: of `function f(g) { if (g) { let x = a(); return g(x); } }` the block becomes `{ ; return g(a()); }`.
 
 ghost use Rattle.std.specs.Prelude.{◌≡◌, IfOk};
 ghost use Rattle.mini_rows.specs.PastBlocks.{PastBlocks};
 ghost use Rattle.mini_rows.proofs.PastBlockMore.{past_blocks_more};
 ghost use Rattle.mini_steady.specs.Declarations.{known_of};
-ghost use Rattle.mini_past.specs.PastInBlocks.{AppliedPastBlock, blocks_keep, blocks_open};
+ghost use Rattle.mini_unused.specs.Allowed.{switches_of};
+ghost use Rattle.mini_past.specs.PastInBlocks.{AppliedPastBlock, AppliedPastStatement, blocks_keep, blocks_open};
 
-use crate::names::PastNames;
+use crate::cases::substitute_past_in_cases;
+use crate::code_names::CodeNames;
+use crate::heads::substitute_past_in_head;
 use crate::searching::substitute_past;
-use mini_model::{OutOfMemory, Position, SymbolId};
+use mini_model::{OutOfMemory, Position};
 use mini_node::{Node, is_block};
-use mini_steady::{BodyCode, OwnRewrites, SteadyNames, is_initialised};
-use mini_unused::{put_child, take_child};
+use mini_steady::{BodyCode, OwnRewrites, SteadyNames};
+use mini_unused::{has_head, is_switch, put_child, take_child};
 use std::alloc::Global;
-
-// What is known at the place of a block in the code of a body, of whichever number it is asked; of a block no `var` goes.
-#[derive(Drop)]
-struct CodeNames<'a, S: SteadyNames> {
-    names: &'a S,
-    code: &'a BodyCode,
-}
-
-impl<'a, S: SteadyNames> SteadyNames for CodeNames<'a, S> {
-    ghost sets = { λ c b. known_of (S.sets c.names.now) c.code.now };
-
-    fn is_steady(&self, symbol: SymbolId, body: u32) -> bool {
-        self.names.is_steady(symbol, self.code.number)
-    }
-
-    fn is_unshared(&self, symbol: SymbolId, body: u32) -> bool {
-        self.names.is_unshared(symbol, self.code.number)
-    }
-
-    fn is_initial(&self, symbol: SymbolId, body: u32) -> bool {
-        is_initialised(symbol, self.code, self.names)
-    }
-
-    fn has_this(&self, body: u32) -> bool {
-        self.names.has_this(self.code.number)
-    }
-}
-
-impl<'a, S: SteadyNames> PastNames for CodeNames<'a, S> {
-    ghost use Rattle.mini_laws.specs.Value.{nothing};
-
-    ghost writable = { λ c. nothing };
-
-    fn is_writable(&self, symbol: SymbolId) -> bool {
-        false
-    }
-}
 
 /// Of a block in the code of a body, as `{ let x = a(); return g(x); }`, which becomes `{ ; return g(a()); }`. The answer says whether a name
 /// went.
@@ -61,7 +27,7 @@ pub fn substitute_past_in_block<S: SteadyNames>(
     body: &BodyCode,
     steady: &S,
 ) -> bool
-    ensures { AppliedPastBlock (known_of (S.sets steady.now) body.now) node.old node.new result }
+    ensures { AppliedPastBlock (switches_of (S.orders steady.now)) (known_of (S.sets steady.now) body.now) node.old node.new result }
 {
     if !is_block(node) {
         return false;
@@ -76,7 +42,26 @@ pub fn substitute_past_in_block<S: SteadyNames>(
     changed
 }
 
-/// Row 71 past steady names of blocks.
+/// Of a statement in the code of a body: of a block, of the cases of a switch, or of the head of a `for`. The answer says whether a name
+/// went; the only error is that memory runs out, and then the node is fit only to be dropped.
+pub fn substitute_past_in_statement<S: SteadyNames>(
+    alloc: Global,
+    node: &mut Node,
+    body: &BodyCode,
+    steady: &S,
+) -> Result<bool, OutOfMemory>
+    ensures { IfOk result (λ changed. AppliedPastStatement (switches_of (S.orders steady.now)) (known_of (S.sets steady.now) body.now) node.old node.new changed) }
+{
+    if has_head(node) {
+        return substitute_past_in_head(alloc, node, body, steady);
+    }
+    if is_switch(node) {
+        return Ok(substitute_past_in_cases(alloc, node, 0, body, steady));
+    }
+    Ok(substitute_past_in_block(alloc, node, body, steady))
+}
+
+/// Row 71 past steady names of blocks, of cases and of heads of `for`.
 pub struct PastNamesInBlocks;
 
 impl<S: SteadyNames> OwnRewrites<S> for PastNamesInBlocks {
@@ -91,7 +76,7 @@ impl<S: SteadyNames> OwnRewrites<S> for PastNamesInBlocks {
         steady: &S,
     ) -> Result<bool, OutOfMemory> {
         match place {
-            Position::Stmt(_) => Ok(substitute_past_in_block(alloc, node, body, steady)),
+            Position::Stmt(_) => substitute_past_in_statement(alloc, node, body, steady),
             Position::Elsewhere => Ok(substitute_past_in_block(alloc, node, body, steady)),
             _ => Ok(false),
         }

@@ -9,11 +9,11 @@ ghost use Rattle.mini_past.specs.SubstitutePast as row;
 use crate::names::PastNames;
 use mini_model::Name;
 use mini_node::Node;
-use mini_unused::{declares_name, is_constant, may_move};
+use mini_unused::{declares_name, is_constant};
 
 // A name that a scope declares, and that can be written.
 fn may_write<S: PastNames>(name: &Option<Name>, steady: &S) -> bool
-    ensures { result ≡ listing.may_write_in (S.writable steady.now) (names name.now) }
+    ensures { result ≡ listing.may_write_in (S.lets steady.now) (names name.now) }
 {
     match name {
         Some(name) => match name.symbol {
@@ -26,24 +26,24 @@ fn may_write<S: PastNames>(name: &Option<Name>, steady: &S) -> bool
 
 // One that is free to go, or such a one.
 fn may_lose<S: PastNames>(is_free: bool, name: &Option<Name>, steady: &S) -> bool
-    ensures { result ≡ listing.may_lose is_free (S.writable steady.now) (names name.now) }
+    ensures { result ≡ listing.may_lose is_free (S.lets steady.now) (names name.now) }
 {
     is_free || may_write(name, steady)
 }
 
 // An initializer that may move, and is no constant.
-fn may_pass(init: &Node) -> bool
-    ensures { result ≡ row.may_pass init.now }
+fn may_pass<S: PastNames>(init: &Node, steady: &S) -> bool
+    ensures { result ≡ row.may_pass (S.lets steady.now).switches init.now }
 {
-    may_move(init) && !is_constant(init)
+    steady.lets_move(init) && !is_constant(init)
 }
 
 /// A declarator of such a name with such an initializer.
 pub fn may_pass_by<S: PastNames>(is_free: bool, declarator: &Node, steady: &S) -> bool
-    ensures kind { result ≡ row.may_pass_by is_free (S.writable steady.now) declarator.now }
+    ensures kind { result ≡ row.may_pass_by is_free (S.lets steady.now) declarator.now }
     ensures parts { result ≡ true → count (children declarator.now) ≡ 2 }
 {
     declares_name(declarator)
         && may_lose(is_free, declarator.child(0).name(), steady)
-        && may_pass(declarator.child(1))
+        && may_pass(declarator.child(1), steady)
 }

@@ -13,7 +13,7 @@ use std::alloc::Global;
 /// `function f(g) { ; return g(a()); }`, wherever it stands. The answer says whether a name went.
 #[tactic(auto, using(crate::proofs::Holders::same_parts, crate::proofs::Holders::part_twice))]
 pub fn substitute_past_in_function<S: PastNames>(alloc: Global, node: &mut Node, steady: &S) -> bool
-    ensures { AppliedPast (S.sets steady.now) (S.writable steady.now) node.old node.new result }
+    ensures { AppliedPast (S.sets steady.now) (S.lets steady.now) node.old node.new result }
 {
     if !is_function(node) {
         return false;
@@ -31,7 +31,7 @@ pub fn substitute_past_in_function<S: PastNames>(alloc: Global, node: &mut Node,
 /// says whether a name went.
 #[tactic(auto, using(crate::proofs::Holders::same_parts, crate::proofs::Holders::part_twice))]
 pub fn substitute_past_in_arrow<S: PastNames>(alloc: Global, node: &mut Node, steady: &S) -> bool
-    ensures { AppliedPastArrow (S.sets steady.now) (S.writable steady.now) node.old node.new result }
+    ensures { AppliedPastArrow (S.sets steady.now) (S.lets steady.now) node.old node.new result }
 {
     if !has_statements(node) {
         return false;
@@ -49,7 +49,7 @@ pub fn substitute_past_in_arrow<S: PastNames>(alloc: Global, node: &mut Node, st
 /// says whether a name went.
 #[tactic(auto, using(crate::proofs::Holders::same_parts, crate::proofs::Holders::part_twice))]
 pub fn substitute_past_in_module<S: PastNames>(alloc: Global, node: &mut Node, steady: &S) -> bool
-    ensures { AppliedPastModule (S.sets steady.now) (S.writable steady.now) node.old node.new result }
+    ensures { AppliedPastModule (S.sets steady.now) (S.lets steady.now) node.old node.new result }
 {
     if !is_module(node) {
         return false;
@@ -64,7 +64,7 @@ pub fn substitute_past_in_module<S: PastNames>(alloc: Global, node: &mut Node, s
 /// `class A { static { const y = a(); c(y, b()); } }`. The answer says whether a name went.
 #[tactic(auto, using(crate::proofs::Holders::same_parts, crate::proofs::Holders::part_twice))]
 pub fn substitute_past_in_static<S: PastNames>(alloc: Global, node: &mut Node, steady: &S) -> bool
-    ensures { AppliedPastStatic (S.sets steady.now) (S.writable steady.now) node.old node.new result }
+    ensures { AppliedPastStatic (S.sets steady.now) (S.lets steady.now) node.old node.new result }
 {
     if !is_static_block(node) {
         return false;

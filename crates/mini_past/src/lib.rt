@@ -2,8 +2,12 @@
 #![tactic(auto)]
 
 mod blocks;
+mod cases;
+mod code_names;
 mod declared;
 mod functions;
+mod heads;
+mod inside;
 mod lets;
 mod names;
 mod next_declarators;
@@ -13,11 +17,12 @@ mod rule;
 mod searching;
 mod sweeping;
 
-pub use blocks::{PastNamesInBlocks, substitute_past_in_block};
+pub use blocks::{PastNamesInBlocks, substitute_past_in_block, substitute_past_in_statement};
 pub use functions::{
     substitute_past_in_arrow, substitute_past_in_function, substitute_past_in_module,
     substitute_past_in_static,
 };
+pub use inside::{PastEnds, SubstitutePastInside};
 pub use names::{PastContext, PastNames};
 pub use reaching::are_past;
 pub use rule::{

@@ -1,58 +1,76 @@
-//! What tells which names can be written, beside what is known of bodies.
+//! What tells which names can be written and which initializers may move, beside what is known of bodies.
 
 ghost use Rattle.std.specs.Prelude.{◌≡◌};
 ghost use Rattle.mini_model.specs.Tree.{Tree};
 ghost use Rattle.mini_tree.specs.declared.options.CompressOptions.{CompressOptions};
-ghost use Rattle.mini_laws.specs.Value.{Declared, VariableSet};
+ghost use Rattle.mini_laws.specs.Value.{Declared};
+ghost use Rattle.mini_rows.specs.Switches.{Liberties};
+ghost use Rattle.mini_rows.specs.Unused.{may_move as may_it_move};
 
 use mini_context::{Scopes, TraverseCtx};
 use mini_model::SymbolId;
+use mini_node::Node;
 use mini_steady::{SteadyContext, SteadyNames};
+use mini_unused::may_move;
 
-/// What tells what is known of bodies, and which of the names that a program mentions can be written in it.
+/// What tells what is known of bodies, which of the names that a program mentions can be written in it, and what the minifier may do.
 pub trait PastNames: SteadyNames {
-    /// The variables that it says can be written.
-    ghost writable: { Self → VariableSet };
+    /// The variables that it says can be written, and what the minifier may do.
+    ghost lets: { Self → Liberties };
 
     /// Whether the symbol is among them.
     fn is_writable(&self, symbol: SymbolId) -> bool
-        ensures { result ≡ writable self.now (Declared symbol.0) };
+        ensures { result ≡ (lets self.now).writable (Declared symbol.0) };
+
+    /// Whether an initializer may move.
+    fn lets_move(&self, init: &Node) -> bool
+        ensures { result ≡ may_it_move (lets self.now).switches init.now };
 }
 
 impl PastNames for Scopes {
-    ghost use Rattle.mini_unused.specs.RemoveUnusedDeclaration.{marked};
+    ghost use Rattle.mini_rows.specs.Switches.{liberties};
+    ghost use Rattle.mini_steady.specs.Told.{all_names_stay};
+    ghost use Rattle.mini_unused.specs.Allowed.{marked, switches_of};
 
-    ghost writable = { marked };
+    ghost lets = { λ c. liberties (switches_of all_names_stay) (marked c) };
 
     fn is_writable(&self, symbol: SymbolId) -> bool {
         self.is_mentioned_writable(symbol)
     }
+
+    fn lets_move(&self, init: &Node) -> bool {
+        may_move(init, SteadyNames::orders(self))
+    }
 }
 
 impl PastNames for TraverseCtx {
-    ghost use Rattle.mini_unused.specs.RemoveUnusedDeclaration.{marked};
+    ghost use Rattle.mini_unused.specs.Allowed.{allowed};
 
-    ghost writable = { λ c. marked c.scopes };
+    ghost lets = { allowed };
 
     fn is_writable(&self, symbol: SymbolId) -> bool {
         self.scopes.is_mentioned_writable(symbol)
+    }
+
+    fn lets_move(&self, init: &Node) -> bool {
+        may_move(init, self.options)
     }
 }
 
 /// A context that tells so of the program that it knows.
 pub trait PastContext: SteadyContext + PastNames {
-    /// Of a program, the variables that can be written in it.
-    ghost writes: { Tree → VariableSet };
+    /// Of options and a program, the variables that can be written in it, and what the minifier may do.
+    ghost lets_in: { CompressOptions → Tree → Liberties };
 
     /// It tells those of the program that it knows.
-    ghost says: { (c : Self) (o : CompressOptions) (q : Tree) → Self.knows c o q → Self.writable c ≡ writes q };
+    ghost says: { (c : Self) (o : CompressOptions) (q : Tree) → Self.knows c o q → Self.lets c ≡ lets_in o q };
 }
 
 impl PastContext for TraverseCtx {
-    ghost use Rattle.mini_laws.specs.Writable.{writable_in};
-    ghost use Rattle.mini_past.specs.Writing.{writable_known};
+    ghost use Rattle.mini_unused.specs.Allowed.{allowed_in};
+    ghost use Rattle.mini_unused.proofs.Holders.{told};
 
-    ghost writes = { writable_in };
+    ghost lets_in = { allowed_in };
 
-    ghost says = { writable_known };
+    ghost says = { told };
 }

@@ -15,8 +15,8 @@ use mini_model::Name;
 use mini_node::{Node, Nodes};
 use mini_steady::SteadyNames;
 use mini_unused::{
-    declares_list, either_has_eval, is_declarator, is_first, is_lexical, is_mentioned,
-    is_mentioned_beside, is_mentioned_elsewhere, substitute_next,
+    either_has_eval, is_declarator, is_first, is_lexical, is_mentioned, is_mentioned_beside,
+    is_mentioned_elsewhere, may_declare, substitute_next,
 };
 use std::alloc::Global;
 
@@ -108,7 +108,7 @@ fn is_past_by<S: PastNames>(
     requires statement { at < count statements.now }
     requires fits { which + 2 < 2 ^ 64 }
     requires fits_too { at + 1 < 2 ^ 64 }
-    ensures { result ≡ row.is_past_by (S.sets steady.now body) is_free (S.writable steady.now) declarator.now next.now outside.now declarators.now which statements.now at }
+    ensures { result ≡ row.is_past_by (S.sets steady.now body) is_free (S.lets steady.now) declarator.now next.now outside.now declarators.now which statements.now at }
 {
     is_declarator(next)
         && may_pass_by(is_free, declarator, steady)
@@ -142,7 +142,7 @@ pub fn is_past_by_next<S: PastNames>(
     requires statement { at < count statements.now }
     requires fits { which + 2 < 2 ^ 64 }
     requires fits_too { at + 1 < 2 ^ 64 }
-    ensures { result ≡ row.is_past_by_next (S.sets steady.now body) is_free (S.writable steady.now) list.now which outside.now statements.now at }
+    ensures { result ≡ row.is_past_by_next (S.sets steady.now body) is_free (S.lets steady.now) list.now which outside.now statements.now at }
 {
     let declarator = list.child(which);
     let next = list.child(which + 1);
@@ -173,7 +173,7 @@ fn next_in<S: PastNames>(
 ) -> Option<usize>
     requires statement { at < count statements.now }
     requires fits { at + 1 < 2 ^ 64 }
-    ensures { PastNextIn (S.sets steady.now body) is_free (S.writable steady.now) list.now outside.now statements.now at result }
+    ensures { PastNextIn (S.sets steady.now body) is_free (S.lets steady.now) list.now outside.now statements.now at result }
 {
     let count = list.children().len();
     if count == 0 {
@@ -197,10 +197,10 @@ fn next_of<S: PastNames>(
 ) -> Option<usize>
     requires statement { at < count statements.now }
     requires fits { at + 1 < 2 ^ 64 }
-    ensures { PastNextOf (S.sets steady.now body) (S.writable steady.now) outside.now statements.now at result }
+    ensures { PastNextOf (S.sets steady.now body) (S.lets steady.now) outside.now statements.now at result }
 {
     let statement = statements.child(at);
-    if !declares_list(statement) {
+    if !may_declare(outside, statement) {
         return None;
     }
     let is_free = is_lexical(statement.shape());
@@ -223,7 +223,7 @@ fn next_at<S: PastNames>(
     body: u32,
     steady: &S,
 ) -> Option<(usize, usize)>
-    ensures { PastNextAt (S.sets steady.now body) (S.writable steady.now) outside.now statements.now result }
+    ensures { PastNextAt (S.sets steady.now body) (S.lets steady.now) outside.now statements.now result }
 {
     for at in 0..statements.len() {
         if let Some(which) = next_of(outside, statements, at, body, steady) {
@@ -243,8 +243,8 @@ pub fn substitute_next_past<S: PastNames>(
     steady: &S,
 ) -> bool
     requires list { is_it_listed list.old ≡ true }
-    requires none { PastAt (S.sets steady.now body) (S.writable steady.now) outside.now (children list.old) None }
-    ensures { PastRemoved (S.sets steady.now body) (S.writable steady.now) outside.now list.old list.new result }
+    requires none { PastAt (S.sets steady.now body) (S.lets steady.now) outside.now (children list.old) None }
+    ensures { PastRemoved (S.sets steady.now body) (S.lets steady.now) outside.now list.old list.new result }
 {
     match next_at(outside, list.children(), body, steady) {
         Some((at, which)) => {

@@ -32,15 +32,15 @@ fn holds_function(place: Position) -> bool
 }
 
 /// Row 71 past steady names as a rule: of each function with statements that is no arrow function. Its context says what is known of each
-/// body, and which names can be written.
+/// body, which names can be written, and what the minifier may do.
 pub struct SubstitutePast;
 
 impl<C: PastContext> Rule<C> for SubstitutePast {
-    ghost gives = { λ o q. PastFunction (C.steady q) (C.writes q) };
+    ghost gives = { λ o q. PastFunction (C.steady q) (C.lets_in o q) };
 
-    ghost rests = { λ o q. RestsPast (C.steady q) (C.writes q) };
+    ghost rests = { λ o q. RestsPast (C.steady q) (C.lets_in o q) };
 
-    ghost lighter = { λ o q. past_lighter (C.steady q) (C.writes q) };
+    ghost lighter = { λ o q. past_lighter (C.steady q) (C.lets_in o q) };
 
     fn apply(
         &self,
@@ -67,11 +67,11 @@ fn holds_arrow(place: Position) -> bool
 pub struct SubstitutePastArrows;
 
 impl<C: PastContext> Rule<C> for SubstitutePastArrows {
-    ghost gives = { λ o q. PastArrow (C.steady q) (C.writes q) };
+    ghost gives = { λ o q. PastArrow (C.steady q) (C.lets_in o q) };
 
-    ghost rests = { λ o q. RestsPastArrow (C.steady q) (C.writes q) };
+    ghost rests = { λ o q. RestsPastArrow (C.steady q) (C.lets_in o q) };
 
-    ghost lighter = { λ o q. past_arrow_lighter (C.steady q) (C.writes q) };
+    ghost lighter = { λ o q. past_arrow_lighter (C.steady q) (C.lets_in o q) };
 
     fn apply(
         &self,
@@ -98,11 +98,11 @@ fn holds_program(place: Position) -> bool
 pub struct SubstitutePastModules;
 
 impl<C: PastContext> Rule<C> for SubstitutePastModules {
-    ghost gives = { λ o q. PastModule (C.steady q) (C.writes q) };
+    ghost gives = { λ o q. PastModule (C.steady q) (C.lets_in o q) };
 
-    ghost rests = { λ o q. RestsPastModule (C.steady q) (C.writes q) };
+    ghost rests = { λ o q. RestsPastModule (C.steady q) (C.lets_in o q) };
 
-    ghost lighter = { λ o q. past_module_lighter (C.steady q) (C.writes q) };
+    ghost lighter = { λ o q. past_module_lighter (C.steady q) (C.lets_in o q) };
 
     fn apply(
         &self,
@@ -122,11 +122,11 @@ impl<C: PastContext> Rule<C> for SubstitutePastModules {
 pub struct SubstitutePastStatics;
 
 impl<C: PastContext> Rule<C> for SubstitutePastStatics {
-    ghost gives = { λ o q. PastStatic (C.steady q) (C.writes q) };
+    ghost gives = { λ o q. PastStatic (C.steady q) (C.lets_in o q) };
 
-    ghost rests = { λ o q. RestsPastStatic (C.steady q) (C.writes q) };
+    ghost rests = { λ o q. RestsPastStatic (C.steady q) (C.lets_in o q) };
 
-    ghost lighter = { λ o q. past_static_lighter (C.steady q) (C.writes q) };
+    ghost lighter = { λ o q. past_static_lighter (C.steady q) (C.lets_in o q) };
 
     fn apply(
         &self,

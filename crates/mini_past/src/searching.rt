@@ -1,10 +1,12 @@
 //! Row 71 past steady names in the statements of a body: `let x = a(); return g(x);` becomes `; return g(a());`, where g is steady there.
 
-ghost use Rattle.std.specs.Prelude.{◌≡◌, ◌+◌, ◌<◌, ◌^◌, true, None};
+ghost use Rattle.std.specs.Prelude.{◌≡◌, ◌+◌, ◌<◌, ◌^◌, suc, true, None};
 ghost use Rattle.mini_model.specs.Tree.{child_or_absent, children, count};
 ghost use Rattle.mini_node.specs.Children.{names};
 ghost use Rattle.mini_node.specs.Kinds.{is_listed as is_it_listed};
 ghost use Rattle.mini_unused.specs.RemoveUnusedDeclaration.{list_at};
+ghost use Rattle.mini_rows.specs.Past.{are_past as are_it_past};
+ghost use Rattle.mini_rows.specs.Unused.{evaluated as evaluated_in, reads_head as reads_it_head};
 ghost use Rattle.mini_past.specs.SubstitutePast as row;
 ghost use Rattle.mini_past.specs.SubstitutePast.{PastAt, PastRemoved, held_at};
 
@@ -17,16 +19,26 @@ use mini_model::Name;
 use mini_node::{Node, Nodes};
 use mini_steady::SteadyNames;
 use mini_unused::{
-    declares_list, either_has_eval, evaluated, is_declared_over, is_lexical, is_mentioned,
-    is_mentioned_around, last_declarator, reads_head, substitute_in_list,
+    either_has_eval, evaluated, is_declared_over, is_lexical, is_mentioned, is_mentioned_around,
+    last_declarator, may_declare, reads_head, substitute_in_list,
 };
 use std::alloc::Global;
 
-// A head reads the name, after parts that pass the initializer.
-fn reads_past<S: SteadyNames>(
+// The next statement is a head that reads the name.
+#[tactic(auto, using(crate::proofs::Places::next_head))]
+fn reads_next(name: &Name, statements: &Nodes, at: usize) -> bool
+    requires next { at + 1 < count statements.now }
+    requires fits { at + 2 < 2 ^ 64 }
+    ensures { result ≡ reads_it_head name.now (child_or_absent statements.now (suc at)) }
+{
+    reads_head(name, statements.child(at + 1))
+}
+
+// It does so after parts that pass the initializer.
+#[tactic(auto, using(crate::proofs::Places::next_past))]
+fn passes_next<S: SteadyNames>(
     name: &Name,
     init: &Node,
-    node: &Node,
     statements: &Nodes,
     at: usize,
     declarators: &Nodes,
@@ -34,26 +46,25 @@ fn reads_past<S: SteadyNames>(
     body: u32,
     steady: &S,
 ) -> bool
-    requires statement { at < count statements.now }
+    requires next { at + 1 < count statements.now }
+    requires fits { at + 2 < 2 ^ 64 }
     requires declarator { which < count declarators.now }
-    ensures { result ≡ row.reads_past (held_at (S.sets steady.now body) statements.now at declarators.now which) name.now init.now node.now }
+    ensures { result ≡ are_it_past (held_at (S.sets steady.now body) statements.now at declarators.now which) name.now init.now (evaluated_in (child_or_absent statements.now (suc at))) }
 {
-    reads_head(name, node)
-        && are_past(
-            name,
-            init,
-            evaluated(node),
-            statements,
-            at,
-            declarators,
-            which,
-            body,
-            steady,
-        )
+    are_past(
+        name,
+        init,
+        evaluated(statements.child(at + 1)),
+        statements,
+        at,
+        declarators,
+        which,
+        body,
+        steady,
+    )
 }
 
 // The next statement does, and nothing else mentions it.
-#[tactic(auto, using(crate::proofs::Places::next_read))]
 fn is_read_past<S: SteadyNames>(
     name: &Option<Name>,
     outside: &Node,
@@ -72,18 +83,9 @@ fn is_read_past<S: SteadyNames>(
 {
     match name {
         Some(name) => {
-            !is_mentioned(name, outside)
-                && reads_past(
-                    name,
-                    init,
-                    statements.child(at + 1),
-                    statements,
-                    at,
-                    declarators,
-                    which,
-                    body,
-                    steady,
-                )
+            reads_next(name, statements, at)
+                && !is_mentioned(name, outside)
+                && passes_next(name, init, statements, at, declarators, which, body, steady)
                 && !is_declared_over(name, init, declarators, which)
                 && !is_mentioned_around(name, statements, at)
         }
@@ -104,7 +106,7 @@ fn is_past_declarator<S: PastNames>(
     requires declarator { which < count (children list.now) }
     requires next { at + 1 < count statements.now }
     requires fits { at + 2 < 2 ^ 64 }
-    ensures { result ≡ row.is_past_declarator (S.sets steady.now body) is_free (S.writable steady.now) list.now which outside.now statements.now at }
+    ensures { result ≡ row.is_past_declarator (S.sets steady.now body) is_free (S.lets steady.now) list.now which outside.now statements.now at }
 {
     let declarator = list.child(which);
     may_pass_by(is_free, declarator, steady)
@@ -121,7 +123,7 @@ fn is_past_declarator<S: PastNames>(
         )
 }
 
-/// The statement is a declaration, whose last declarator is such a one.
+/// The statement is a declaration from which names may go, whose last declarator is such a one.
 #[tactic(auto, using(crate::proofs::Places::no_declarator, crate::proofs::Places::last_is))]
 pub fn is_past<S: PastNames>(
     outside: &Node,
@@ -132,12 +134,12 @@ pub fn is_past<S: PastNames>(
 ) -> bool
     requires next { at + 1 < count statements.now }
     requires fits { at + 2 < 2 ^ 64 }
-    ensures past { result ≡ row.is_past (S.sets steady.now body) (S.writable steady.now) outside.now statements.now at }
+    ensures past { result ≡ row.is_past (S.sets steady.now body) (S.lets steady.now) outside.now statements.now at }
     ensures list { result ≡ true → 0 < count (children (child_or_absent statements.now at)) }
     ensures declarators { result ≡ true → 0 < count (children (list_at statements.now at)) }
 {
     let statement = statements.child(at);
-    if !declares_list(statement) {
+    if !may_declare(outside, statement) {
         return false;
     }
     let list = statement.child(0);
@@ -160,7 +162,7 @@ pub fn is_past<S: PastNames>(
 
 // The first such statement.
 fn past_at<S: PastNames>(outside: &Node, statements: &Nodes, body: u32, steady: &S) -> Option<usize>
-    ensures { PastAt (S.sets steady.now body) (S.writable steady.now) outside.now statements.now result }
+    ensures { PastAt (S.sets steady.now body) (S.lets steady.now) outside.now statements.now result }
 {
     let count = statements.len();
     if count == 0 {
@@ -185,7 +187,7 @@ pub fn substitute_past<S: PastNames>(
     steady: &S,
 ) -> bool
     requires { is_it_listed list.old ≡ true }
-    ensures { PastRemoved (S.sets steady.now body) (S.writable steady.now) outside.now list.old list.new result }
+    ensures { PastRemoved (S.sets steady.now body) (S.lets steady.now) outside.now list.old list.new result }
 {
     match past_at(outside, list.children(), body, steady) {
         Some(at) => {

@@ -13,7 +13,7 @@ use crate::next_declarators::is_past_by_next;
 use crate::searching::is_past;
 use mini_node::{Node, Nodes};
 use mini_unused::{
-    declarators_at, declares_list, has_next, is_lexical, last_declarator, substitute_in_list,
+    declarators_at, has_next, is_lexical, last_declarator, may_declare, substitute_in_list,
     substitute_next,
 };
 use std::alloc::Global;
@@ -31,7 +31,7 @@ fn sweep_last<S: PastNames>(
     requires fits { at + 1 < 2 ^ 64 }
     requires fits_too { which + 1 < 2 ^ 64 }
     requires calm { Calm outside.now list.old }
-    ensures { Swept (S.sets steady.now body) (S.writable steady.now) outside.now list.old list.new }
+    ensures { Swept (S.sets steady.now body) (S.lets steady.now) outside.now list.old list.new }
 {
     if declarators_at(list, at) != which + 1 {
         return;
@@ -58,10 +58,10 @@ fn is_next_there<S: PastNames>(
     requires statement { at < count statements.now }
     requires fits { at + 1 < 2 ^ 64 }
     requires fits_too { which + 1 < 2 ^ 64 }
-    ensures { result ≡ true → PastNextOf (S.sets steady.now body) (S.writable steady.now) outside.now statements.now at (Some which) }
+    ensures { result ≡ true → PastNextOf (S.sets steady.now body) (S.lets steady.now) outside.now statements.now at (Some which) }
 {
     let statement = statements.child(at);
-    if !declares_list(statement) {
+    if !may_declare(outside, statement) {
         return false;
     }
     let list = statement.child(0);
@@ -84,7 +84,7 @@ fn sweep_next<S: PastNames>(
     requires fits { at + 1 < 2 ^ 64 }
     requires fits_too { which + 1 < 2 ^ 64 }
     requires calm { Calm outside.now list.old }
-    ensures { Swept (S.sets steady.now body) (S.writable steady.now) outside.now list.old list.new }
+    ensures { Swept (S.sets steady.now body) (S.lets steady.now) outside.now list.old list.new }
 {
     if at >= list.children().len() {
         return;
@@ -108,7 +108,7 @@ fn sweep_declarator<S: PastNames>(
     requires fits { at + 1 < 2 ^ 64 }
     requires fits_too { which + 1 < 2 ^ 64 }
     requires calm { Calm outside.now list.old }
-    ensures { Swept (S.sets steady.now body) (S.writable steady.now) outside.now list.old list.new }
+    ensures { Swept (S.sets steady.now body) (S.lets steady.now) outside.now list.old list.new }
 {
     sweep_last(alloc, outside, list, at, which, body, steady);
     sweep_next(outside, list, at, which, body, steady);
@@ -125,7 +125,7 @@ fn sweep_statement<S: PastNames>(
 )
     requires fits { at + 1 < 2 ^ 64 }
     requires calm { Calm outside.now list.old }
-    ensures { Swept (S.sets steady.now body) (S.writable steady.now) outside.now list.old list.new }
+    ensures { Swept (S.sets steady.now body) (S.lets steady.now) outside.now list.old list.new }
 {
     let count = declarators_at(list, at);
     for passed in 0..count {
@@ -145,7 +145,7 @@ pub fn sweep<S: PastNames>(
 )
     requires list { is_it_listed list.old ≡ true }
     requires unseen { (has_eval outside.now || has_eval list.old) ≡ false }
-    ensures { Chain (PastGone (S.sets steady.now body) (S.writable steady.now) outside.now) list.old list.new }
+    ensures { Chain (PastGone (S.sets steady.now body) (S.lets steady.now) outside.now) list.old list.new }
 {
     for at in from..list.children().len() {
         sweep_statement(alloc, outside, list, at, body, steady);

@@ -10,7 +10,6 @@ use Rattle.mini_model.specs.Weight.{weight, program_weight, capped}
 use Rattle.mini_model.specs.Rewriting.{Everywhere, EverywhereIn, Step, StepIn, here, inside, first, later, Reaches, done, more}
 use Rattle.mini_laws.specs.Resolved.{resolved_program}
 use Rattle.mini_laws.specs.Writable.{writable_in}
-use Rattle.mini_laws.specs.Value.{VariableSet}
 use Rattle.mini_scope.specs.Pointers.{early_fault}
 use Rattle.mini_tree.specs.declared.options.CompressOptions.{CompressOptions}
 use Rattle.mini_tree.specs.Rule.{Either}
@@ -28,7 +27,7 @@ use Rattle.mini_writer.specs.Written.{program_data}
 use Rattle.mini_passes.specs.Passes.{GivesBoth, RestsBoth}
 use Rattle.mini_passes.specs.Staying.{StaysTold}
 use Rattle.mini_passes.proofs.Everywhere.{everywhere_with}
-use Rattle.mini_rows.specs.Switches.{let_go}
+use Rattle.mini_rows.specs.Switches.{let_go, Liberties}
 use Rattle.mini_rows.specs.Redex.{Rewrites, IsSettled}
 use Rattle.mini_steady.specs.Told.{told_in}
 use Rattle.mini_peephole.specs.AnyPasses.{EachBegins, NothingLeft}
@@ -43,6 +42,7 @@ use Rattle.mini_peephole.proofs.AnyPasses as any
 use Rattle.mini_peephole.proofs.Heaviest.{resolved_lighter}
 use Rattle.mini_peephole.proofs.Chains.{each_begins}
 use Rattle.mini_peephole.proofs.Rules.{all_contract, both_lawful, both_rest}
+use Rattle.mini_unused.specs.Allowed.{allowed_in}
 
 -- ---- a program in which nothing is left to rewrite stays
 
@@ -64,7 +64,7 @@ module _ (R : Position → Tree → Tree → Type 0) where
   stays (more p t w u st r) f = absurd (no_step st f)
 
 -- a node on which the rows rest that rest on what is known of bodies is read by none of them
-read_by_none : (S : BodySets) (W : VariableSet) (p : Position) (n : Tree) → IsSteadilySettled S W p n → IsSteadilySettled S W p n → ReadsNothing (SteadyRewrites S W) p n
+read_by_none : (S : BodySets) (W : Liberties) (p : Position) (n : Tree) → IsSteadilySettled S W p n → IsSteadilySettled S W p n → ReadsNothing (SteadyRewrites S W) p n
 read_by_none S W p n x y w (inl (inl (inl (inl (inl c))))) = x.0.0.0.0.0 w c
 read_by_none S W p n x y w (inl (inl (inl (inl (inr c))))) = x.0.0.0.0.1 w c
 read_by_none S W p n x y w (inl (inl (inl (inr c)))) = x.0.0.0.1 w c
@@ -81,26 +81,27 @@ read_by_none S W p n x y w (inr (inl (inr (inl (inl (inl c)))))) = x.1.0.1.0.0.0
 read_by_none S W p n x y w (inr (inl (inr (inl (inl (inr c)))))) = x.1.0.1.0.0.1 w c
 read_by_none S W p n x y w (inr (inl (inr (inl (inr c))))) = x.1.0.1.0.1 w c
 read_by_none S W p n x y w (inr (inl (inr (inr c)))) = x.1.0.1.1 w c
-read_by_none S W p n x y w (inr (inr c)) = x.1.1 w c.row c.stands
+read_by_none S W p n x y w (inr (inr (inl c))) = x.1.1.0 w c.row c.stands
+read_by_none S W p n x y w (inr (inr (inr c))) = x.1.1.1 w c.row c.stands
 
-nowhere_read : (u : Tree) → IsSteadilyRewritten u → Everywhere (ReadsNothing (SteadyRewrites (told_in u) (writable_in u))) Elsewhere u
-nowhere_read u f =
-    let settled = IsSteadilySettled (told_in u) (writable_in u) in
-    everywhere_with settled settled (ReadsNothing (SteadyRewrites (told_in u) (writable_in u))) (read_by_none (told_in u) (writable_in u)) Elsewhere u f f
+nowhere_read : (o : CompressOptions) (u : Tree) → IsSteadilyRewritten o u → Everywhere (ReadsNothing (SteadyRewrites (told_in u) (allowed_in o u))) Elsewhere u
+nowhere_read o u f =
+    let settled = IsSteadilySettled (told_in u) (allowed_in o u) in
+    everywhere_with settled settled (ReadsNothing (SteadyRewrites (told_in u) (allowed_in o u))) (read_by_none (told_in u) (allowed_in o u)) Elsewhere u f f
 
 -- ---- the rules
 
 module _ (o : CompressOptions) (t : Tree) (f : IsRewrittenBy true o t) where
   -- what reads something in it, were there anything
   abbrev AnyRow : Position → Tree → Tree → Type 0
-  AnyRow = Either (Rewrites (switches o) (writable_in t)) (SteadyRewrites (told_in t) (writable_in t))
+  AnyRow = Either (Rewrites (switches o) (writable_in t)) (SteadyRewrites (told_in t) (allowed_in o t))
 
-  neither : (p : Position) (n : Tree) → IsSettled (switches o) (writable_in t) p n → IsSteadilySettled (told_in t) (writable_in t) p n → ReadsNothing AnyRow p n
+  neither : (p : Position) (n : Tree) → IsSettled (switches o) (writable_in t) p n → IsSteadilySettled (told_in t) (allowed_in o t) p n → ReadsNothing AnyRow p n
   neither p n g h w (inl c) = g (record { to = w; contracts = c })
-  neither p n g h w (inr r) = read_by_none (told_in t) (writable_in t) p n h h w r
+  neither p n g h w (inr r) = read_by_none (told_in t) (allowed_in o t) p n h h w r
 
   nowhere : Everywhere (ReadsNothing AnyRow) Elsewhere t
-  nowhere = everywhere_with (IsSettled (switches o) (writable_in t)) (IsSteadilySettled (told_in t) (writable_in t)) (ReadsNothing AnyRow) neither Elsewhere t f.0 f.1
+  nowhere = everywhere_with (IsSettled (switches o) (writable_in t)) (IsSteadilySettled (told_in t) (allowed_in o t)) (ReadsNothing AnyRow) neither Elsewhere t f.0 f.1
 
   made_by_row : (b : Bool) (v : Tree) (p : Position) (n w : Tree) → GivesBoth (AllGives o) (SteadyGives o) StaysTold b v t p n w → AnyRow p n w
   made_by_row true v p n w (inl r) = inl (all_contract o t p n w r)
@@ -216,10 +217,10 @@ module _ (d : Data) (o : CompressOptions) (m : Minified) (t : Tree) (read : Acce
       )
 
   -- where it didn't stay, there was a step that rests on it
-  still : (v : Tree) → Accepts (view m.program) v → IsSteadilyRewritten (faith.later m v) → m.steady ≡ true
+  still : (v : Tree) → Accepts (view m.program) v → IsSteadilyRewritten o (faith.later m v) → m.steady ≡ true
   still v a f =
       let same : faith.later m v ≡ r.output = ap (faith.later m) (one_tree (view m.program) v again.0 a written) ∙ whole_is in
-      settles m.steady (λ s. let (w, moves) = (r.passes.lost s).1 in no_step (SteadyGives o r.output) moves.step (nowhere_read r.output (subst IsSteadilyRewritten same f)))
+      settles m.steady (λ s. let (w, moves) = (r.passes.lost s).1 in no_step (SteadyGives o r.output) moves.step (nowhere_read o r.output (subst (IsSteadilyRewritten o) same f)))
 
   pub passes_bounded : PassesBounded d o m
   passes_bounded = record { settled = λ v w a b s. bounded v w a b; unsettled = λ s. (r.passes.made.stopped s).0; enough = enough; fixed = fixed; steady = still }

@@ -41,6 +41,7 @@ use Rattle.mini_rows.specs.OwnPrograms.{OwnProgram, SteadyProgram, LexicalProgra
 use Rattle.mini_rows.specs.Past.{PastFunction}
 use Rattle.mini_rows.specs.PastArrows.{PastArrow}
 use Rattle.mini_rows.specs.PastBlocks.{PastBlocks}
+use Rattle.mini_rows.specs.PastInside.{PastInside}
 use Rattle.mini_rows.specs.PastModules.{PastModule}
 use Rattle.mini_rows.specs.PastStatics.{PastStatic}
 use Rattle.mini_rows.specs.Steady.{SteadyRow, LexicalRows}
@@ -48,14 +49,16 @@ use Rattle.mini_steady.specs.Told.{told_in}
 use Rattle.mini_past.proofs.Lawful.{past_code_lawful}
 use Rattle.mini_rows.proofs.PastBlockLawful.{past_blocks_are_lawful, past_blocks_are_lawful_in_programs}
 use Rattle.mini_rows.proofs.PastPartLawful.{past_blocks_are_lawful_in_parts}
+use Rattle.mini_rows.proofs.PastInsideLawful.{past_inside_is_lawful}
 use Rattle.mini_rows.proofs.PastModuleLawful.{past_modules_are_lawful}
 use Rattle.mini_rows.proofs.PastStaticLawful.{past_statics_are_lawful}
 use Rattle.mini_peephole.specs.Environments.{steady_in}
 use Rattle.mini_peephole.specs.Faithful.{switches, known_of, IsRewrittenBy}
-use Rattle.mini_peephole.specs.SteadyRows.{AnyCode}
+use Rattle.mini_peephole.specs.SteadyRows.{InsideCode, AnyCode}
 use Rattle.mini_peephole.specs.Rules.{Gives, Rests, AllGives, AllRests, SteadyGives, SteadyRests}
 use Rattle.mini_passes.specs.Staying.{StaysTold, within_through}
 use Rattle.mini_peephole.proofs.ToldWithin.{told_within}
+use Rattle.mini_unused.specs.Allowed.{allowed_in}
 
 -- the rows of the rules are among the rows
 
@@ -212,13 +215,15 @@ module _ (o : CompressOptions) (v : Tree) where
   steady_lawful : (q : Tree) → StaysTold q v → LawfulRooted (let_go (switches o)) (writable_in q) (steady_in v) (SteadyGives o q)
   steady_lawful q k =
       let K = let_go (switches o) in
-      let W = writable_in q in
+      let L = allowed_in o q in
+      let W = L.writable in
       let T = told_in q in
-      let Past = Either (PastFunction T W) (PastArrow T W) in
-      let Others = Either (PastModule T W) (PastStatic T W) in
-      let Blocks = AnyCode PastBlocks T in
+      let Past = Either (PastFunction T L) (PastArrow T L) in
+      let Others = Either (PastModule T L) (PastStatic T L) in
+      let Rows = PastBlocks L.switches in
+      let Blocks = AnyCode Rows T in
       rooted_wider (SteadyGives o q) K W W T (steady_in v) (λ x h. h) (λ b. within_through (told_in q b) (told_in v b) (steady_in v b) (k b) (told_within v b))
-      (rooted_join (Either (AnyCode SteadyRow T) (AnyCode LexicalRows T)) (Either (Either (Either Past Others) Blocks) (InsideContracts W)) K W T
+      (rooted_join (Either (AnyCode SteadyRow T) (AnyCode LexicalRows T)) (Either (Either (Either Past Others) Blocks) (InsideCode T L)) K W T
       (rooted_join (AnyCode SteadyRow T) (AnyCode LexicalRows T) K W T
       (rooted_join (Either (SteadyCode T) (SteadyProgram T)) (SteadyPart T) K W T
       (rooted_join (SteadyCode T) (SteadyProgram T) K W T (steady_is_rooted (SteadyCode T) K W T (steady_code_lawful K W T)) (steady_programs_lawful K W T))
@@ -226,13 +231,13 @@ module _ (o : CompressOptions) (v : Tree) where
       (rooted_join (Either (LexicalCode T) (LexicalProgram T)) (LexicalPart T) K W T
       (rooted_join (LexicalCode T) (LexicalProgram T) K W T (steady_is_rooted (LexicalCode T) K W T (lexical_code_lawful K W T)) (lexical_programs_lawful K W T))
       (lexical_parts_lawful K W T)))
-      (rooted_join (Either (Either Past Others) Blocks) (InsideContracts W) K W T
+      (rooted_join (Either (Either Past Others) Blocks) (InsideCode T L) K W T
       (rooted_join (Either Past Others) Blocks K W T
-      (rooted_join Past Others K W T (steady_is_rooted Past K W T (past_code_lawful K W T)) (rooted_join (PastModule T W) (PastStatic T W) K W T (past_modules_are_lawful K W T) (past_statics_are_lawful K W T)))
-      (rooted_join (Either (OwnCode PastBlocks T) (OwnProgram PastBlocks T)) (OwnPart PastBlocks T) K W T
-      (rooted_join (OwnCode PastBlocks T) (OwnProgram PastBlocks T) K W T (past_blocks_are_lawful K W T) (past_blocks_are_lawful_in_programs K W T))
-      (past_blocks_are_lawful_in_parts K W T)))
-      (steady_is_rooted (InsideContracts W) K W T (loose_is_steady (InsideContracts W) K W T (inside_loose K W)))))
+      (rooted_join Past Others K W T (steady_is_rooted Past K W T (past_code_lawful K L T)) (rooted_join (PastModule T L) (PastStatic T L) K W T (past_modules_are_lawful K L T) (past_statics_are_lawful K L T)))
+      (rooted_join (Either (OwnCode Rows T) (OwnProgram Rows T)) (OwnPart Rows T) K W T
+      (rooted_join (OwnCode Rows T) (OwnProgram Rows T) K W T (past_blocks_are_lawful L.switches K W T) (past_blocks_are_lawful_in_programs L.switches K W T))
+      (past_blocks_are_lawful_in_parts L.switches K W T)))
+      (rooted_join (InsideContracts L) (PastInside T L) K W T (steady_is_rooted (InsideContracts L) K W T (loose_is_steady (InsideContracts L) K W T (inside_loose K L))) (past_inside_is_lawful K L T))))
 
   -- what passes make on the way to v
   pub both_lawful : (b : Bool) (q : Tree) → LawfulRooted (let_go (switches o)) (writable_in q) (known_of b v) (GivesBoth (AllGives o) (SteadyGives o) StaysTold b v q)

@@ -150,7 +150,7 @@ IsRewritten o u = HasNoRedex (switches o) (writable_in u) Elsewhere u
 
 -- nothing is left at all, where what was known of bodies stayed so, and otherwise nothing but what rests on that
 abbrev pub IsRewrittenBy : Bool → CompressOptions → Tree → Type 0
-IsRewrittenBy true o u = IsRewritten o u × IsSteadilyRewritten u
+IsRewrittenBy true o u = IsRewritten o u × IsSteadilyRewritten o u
 IsRewrittenBy false o u = IsRewritten o u
 
 -- of rewrites
@@ -170,4 +170,4 @@ pub record PassesBounded (d : Data) (o : CompressOptions) (m : Minified) : Type 
   -- a program in which nothing is left to rewrite stays as it is, after one pass
   pub fixed : (t : Tree) → Accepts d t → IsRewrittenBy true o (earlier t) → Accepts (view m.program) t × (m.passes ≡ 1) × (m.settled ≡ true)
   -- where nothing that rests on what is known of bodies is left, that stayed so
-  pub steady : (u : Tree) → Accepts (view m.program) u → IsSteadilyRewritten (later m u) → m.steady ≡ true
+  pub steady : (u : Tree) → Accepts (view m.program) u → IsSteadilyRewritten o (later m u) → m.steady ≡ true

@@ -31,8 +31,8 @@ use Rattle.mini_stmt.specs.JoinLets as lets
 use Rattle.mini_unused.specs.RemoveUnusedDeclaration as unused
 use Rattle.mini_unused.specs.RemoveUnusedName as names
 use Rattle.mini_unused.specs.SubstituteCatchClause as catches
-use Rattle.mini_laws.specs.Writable.{writable_in}
 use Rattle.mini_steady.specs.Told.{told_in}
+use Rattle.mini_unused.specs.Allowed.{allowed_in}
 use Rattle.mini_peephole.specs.SteadyRows.{SteadyRewrites, IsSteadilySettled}
 
 -- of those that keep each name
@@ -47,11 +47,11 @@ abbrev pub AllGives : CompressOptions → Tree → Position → Tree → Tree �
 AllGives o q = Either (Gives o q) (Either (unused.Gives o q) (Either (names.Gives o q) (Either CatchContracts (Either (writes.Gives o q) (lets.Gives o q)))))
 
 abbrev pub AllRests : CompressOptions → Tree → Position → Tree → Type 0
-AllRests o q = Both (Rests o q) (Both (unused.Rests q) (Both (names.RestsUnder o q) (Both catches.Rests (Both (writes.Rests q) (lets.Rests q)))))
+AllRests o q = Both (Rests o q) (Both (unused.Rests o q) (Both (names.RestsUnder o q) (Both catches.Rests (Both (writes.Rests q) (lets.Rests q)))))
 
 -- and of those that rest on what is known of the bodies of the program, which act where no other does
 abbrev pub SteadyGives : CompressOptions → Tree → Position → Tree → Tree → Type 0
-SteadyGives o q = SteadyRewrites (told_in q) (writable_in q)
+SteadyGives o q = SteadyRewrites (told_in q) (allowed_in o q)
 
 abbrev pub SteadyRests : CompressOptions → Tree → Position → Tree → Type 0
-SteadyRests o q = IsSteadilySettled (told_in q) (writable_in q)
+SteadyRests o q = IsSteadilySettled (told_in q) (allowed_in o q)

@@ -26,8 +26,8 @@ use mini_logic::{
 };
 use mini_passes::{SteadyPasses, run_steady_passes};
 use mini_past::{
-    PastNamesInBlocks, SubstitutePast, SubstitutePastArrows, SubstitutePastModules,
-    SubstitutePastStatics,
+    PastNamesInBlocks, SubstitutePast, SubstitutePastArrows, SubstitutePastInside,
+    SubstitutePastModules, SubstitutePastStatics,
 };
 use mini_steady::{InArrows, InFunctions, InParts, InPrograms, SteadyMembers};
 use mini_stmt::{JoinLets, MinimizeStatements, TurnLoopGuards};
@@ -265,8 +265,11 @@ type Past = Then<
     Then<SubstitutePastModules, SubstitutePastStatics>,
 >;
 
+// Of a `var` further inside a body.
+type Inside = Then<RemoveInside, SubstitutePastInside>;
+
 // And those of blocks further inside a body. Of names that are read once or not at all.
-type Once = Then<Then<Past, AnyCode<PastNamesInBlocks>>, RemoveInside>;
+type Once = Then<Then<Past, AnyCode<PastNamesInBlocks>>, Inside>;
 
 const PAST: Past = Then {
     first: Then {
@@ -277,6 +280,11 @@ const PAST: Past = Then {
         first: SubstitutePastModules,
         second: SubstitutePastStatics,
     },
+};
+
+const INSIDE: Inside = Then {
+    first: RemoveInside,
+    second: SubstitutePastInside,
 };
 
 const IN_BLOCKS: AnyCode<PastNamesInBlocks> = Then {
@@ -308,7 +316,7 @@ const STEADY_RULES: Then<OwnRules, Once> = Then {
             first: PAST,
             second: IN_BLOCKS,
         },
-        second: RemoveInside,
+        second: INSIDE,
     },
 };
 

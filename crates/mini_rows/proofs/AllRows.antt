@@ -11,7 +11,7 @@ use Rattle.mini_kept.specs.Loosely.{LawfulWith, LawfulLoosely}
 use Rattle.mini_kept.proofs.Lawful.{lawful_join, lawful_narrowed, rows_are_lawful}
 use Rattle.mini_kept.proofs.Loosely.{lawful_is_loose, loose_join, loose_narrowed, loose_wider}
 use Rattle.mini_kept.proofs.WithoutLists.{nothing_part}
-use Rattle.mini_rows.specs.Switches.{Switches, let_go}
+use Rattle.mini_rows.specs.Switches.{Switches, let_go, liberties}
 use Rattle.mini_rows.specs.Arranged.{SameFixed, WhereFixed}
 use Rattle.mini_rows.specs.Spellings.{SpellingContracts}
 use Rattle.mini_rows.specs.Branches.{BranchContracts}
@@ -222,7 +222,7 @@ module _ (o : Switches) where
     Dropping p n w = NameContracts o p n w ⊎ Named p n w
 
     abbrev Going : Position → Tree → Tree → Type 0
-    Going p n w = UnusedContracts W p n w ⊎ Dropping p n w
+    Going p n w = UnusedContracts (liberties o W) p n w ⊎ Dropping p n w
 
     wider : (R : Position → Tree → Tree → Type 0) → LawfulLoosely (let_go o) R → LawfulWith (let_go o) W R
     wider R l = loose_wider R (let_go o) nothing W (nothing_part W) l
@@ -231,7 +231,7 @@ module _ (o : Switches) where
     pub all_loose : LawfulWith (let_go o) W (Rewrites o W)
     all_loose =
         loose_join (Contracts o) Going (let_go o) W (wider (Contracts o) (contracts_loose (let_go o)))
-        (loose_join (UnusedContracts W) Dropping (let_go o) W (unused_loose (let_go o) W)
+        (loose_join (UnusedContracts (liberties o W)) Dropping (let_go o) W (unused_loose (let_go o) (liberties o W))
         (loose_join (NameContracts o) Named (let_go o) W (wider (NameContracts o) (names_lawful o))
         (loose_join CatchContracts Written (let_go o) W (wider CatchContracts (catches_lawful (let_go o)))
         (loose_join (WriteContracts W) (LetContracts W) (let_go o) W (writes_lawful (let_go o) W) (lets_lawful (let_go o) W)))))

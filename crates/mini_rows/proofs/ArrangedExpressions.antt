@@ -21,7 +21,7 @@ use Rattle.mini_laws.specs.Symbols.{declared as declared_in, times}
 use Rattle.mini_laws.specs.Body.{ArrowExpression}
 use Rattle.mini_laws.specs.Bodies.{Around, bodies, arrow_kind}
 use Rattle.mini_kept.specs.AlikeBodies.{BodiesKept}
-use Rattle.mini_kept.specs.Frames.{is_declaration}
+use Rattle.mini_kept.specs.Frames.{is_declaration, frames, FramesKept}
 use Rattle.mini_kept.specs.KeepsLoosely.{InnerKept, KeepsLoosely}
 use Rattle.mini_kept.specs.KeepsNames.{Keeps, Stands as StandsFor, is_read, unplaced}
 use Rattle.mini_kept.specs.Lifted.{is_piece}
@@ -286,3 +286,20 @@ expressions_arranged_loosely f ps u (under h ss) r e q n w a b k g =
 -- where none is
 pub expressions_arranged : (ps : Parts) (s r : Sketch) → rearranges_expression still s r ≡ true → (q : Seat) (n w : Tree) → n ≡ filled ps s → w ≡ filled ps r → KeptAt (Expr q) n w
 expressions_arranged ps = expressions_arranged_freely still ps (tt, tt, tt)
+
+-- ---- in the code of a body
+
+-- its bodies and its frames are kept where nothing around makes it a constructor
+pub record CodeKept (n w : Tree) : Type 0 where
+  pub bodied : (a : Around) → a.constructs ≡ false → BodiesKept (bodies a n) (bodies a w)
+  pub framed : FramesKept (frames None n) (frames None w)
+
+pub code_arranged : (f : Free) (ps : Parts) → AreLoose ps f → (h g : Head) (ss rs : Sketches) → rearranges_expression f (under h ss) (under g rs) ≡ true → (n w : Tree) → n ≡ filled ps (under h ss) → w ≡ filled ps (under g rs) → CodeKept n w
+code_arranged f ps u h g ss rs e n w a b =
+    let t = tested f h ss (under g rs) e in
+    subst (λ t. CodeKept t w) (sym a)
+    (subst (CodeKept (filled ps (under h ss))) (sym b)
+    (record {
+      bodied = λ x k. bodies_kept f ps u h ss (under g rs) t.first t.second t.reads t.writes t.parts x k (expression_is_value g t.second);
+      framed = same_frames f ps u AsValue (under h ss) (under g rs) t.reads t.writes t.parts;
+    }))

@@ -166,7 +166,7 @@ module _ (e : Environment) where
 nil : (e : Environment) (x : Tree) → is_nothing x ≡ true → (z : State) → Gives Nil (value e x z)
 nil e x h z = gives_map (OfKind (kind x)) Nil (λ v p. nullish_of (kind x) v h p) (value e x z) (kind_sound x e z)
 
-void_value : (e : Environment) (z : State) → value e void_zero z ≡ ok Undefined z
+pub void_value : (e : Environment) (z : State) → value e void_zero z ≡ ok Undefined z
 void_value e z = lit_sound Undefined e z
 
 -- ---- what stands before it has an effect, and stays
@@ -233,7 +233,7 @@ module _ (ms : List Marked) (l : Link) (x : Tree) (known : is_nothing x ≡ true
 
   module _ (e : Environment) (z : State) where
     abbrev base : CalledByValue e x
-    base = idle_called e x idle
+    base = idle_called e true x idle
 
     abbrev now : Told (value e x z) z
     now = free_told e x idle z

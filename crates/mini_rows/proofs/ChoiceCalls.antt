@@ -1,5 +1,5 @@
 -- Two calls of one function between which a conditional chooses, and which differ in their first argument alone: one call chooses that.
-use Rattle.std.proofs.Common.{◌≡◌, ◌<◌, ◌≤◌, Bool, true, false, List, [], ◌∷◌, refl, sym, ap, ◌∙◌, true≢false, arith}
+use Rattle.std.proofs.Common.{◌≡◌, ◌<◌, ◌≤◌, Bool, true, false, List, [], ◌∷◌, refl, sym, ap, subst, ◌∙◌, true≢false, arith}
 use Rattle.std.specs.Prelude.{◌+◌, ◌&&◌, ◌||◌}
 use Rattle.std.proofs.lemmas.Bool.{and_parts}
 use Rattle.mini_model.specs.declared.place.Position.TheVariants.{Expr}
@@ -10,24 +10,25 @@ use Rattle.mini_model.specs.Position.{argument_seat, branch_seat}
 use Rattle.mini_model.specs.Weight.{Outline, outline, outlines, weight, place_weight, is_parenthesized, commas_weight}
 use Rattle.mini_accept.specs.WellShaped.{an_argument, one, many, fits, fill, each}
 use Rattle.mini_laws.specs.Value.{Value}
+use Rattle.mini_laws.specs.Naming.{summary}
 use Rattle.mini_laws.specs.State.{State, Completion, out, either, Environment}
 use Rattle.mini_laws.specs.Demand.{Demand, OfType, Called, Request}
 use Rattle.mini_laws.proofs.Runs.{either_eta}
 use Rattle.mini_laws.proofs.Seats.{placed}
 use Rattle.mini_model.specs.Paths.{append}
 use Rattle.mini_node.specs.Walks.{append_none}
-use Rattle.mini_terms.specs.Folds.{is_effect_free}
+use Rattle.mini_terms.specs.Effects.{ef}
 use Rattle.mini_terms.specs.Reading.{is_item, is_plain_part, by_value}
 use Rattle.mini_terms.proofs.Reading.{read_by_value}
 use Rattle.mini_kept.proofs.Bools.{left, both}
 use Rattle.mini_kept.proofs.Expressions.{expression, expression_taken, three_fit}
 use Rattle.mini_rows.specs.Arranged.{KeptAt}
-use Rattle.mini_rows.specs.Sketches.{Conditional, Call, Spread, Sketch, Parts, part, under, list, end, ◌▹◌, item as item_of, items as items_of, no_items}
+use Rattle.mini_rows.specs.Sketches.{still, Conditional, Call, Spread, Sketch, Parts, part, under, list, end, ◌▹◌, item as item_of, items as items_of, no_items}
 use Rattle.mini_rows.specs.Chains.{a_call}
-use Rattle.mini_rows.specs.Choices.{argument, Row44, CallsLighter}
-use Rattle.mini_rows.proofs.ArrangedExpressions.{expressions_arranged}
+use Rattle.mini_rows.specs.Choices.{argument, CallRow, Row44, CallsLighter}
+use Rattle.mini_rows.proofs.ArrangedExpressions.{expressions_arranged, CodeKept, code_arranged}
 use Rattle.mini_rows.proofs.ChainRuns.{called, items, next, calls, value_is}
-use Rattle.mini_rows.proofs.ChoiceFree.{free_told, chosen, goes_on_chosen, begins_alike}
+use Rattle.mini_rows.proofs.ChoiceFree.{Told, told_there, chosen, goes_on_chosen, begins_alike}
 use Rattle.mini_rows.proofs.ChoiceItems.{given, argument_read, nothing_given, gathers, items_split}
 use Rattle.mini_rows.proofs.ChoiceRuns.{value, asked, Tells, conditional_tells, conditional_value}
 use Rattle.mini_rows.proofs.ChoiceRuns.{by_value as same_value}
@@ -36,7 +37,6 @@ use Rattle.mini_rows.proofs.IdleCallees.{idle_called, callee_told}
 use Rattle.mini_rows.proofs.IdleWeights.{callee_heavy}
 use Rattle.mini_rows.proofs.PlainRead.{plain_read}
 use Rattle.mini_rows.proofs.SpellAlike.{SameTree}
-use Rattle.mini_rows.proofs.SpellMeaning.{same_by}
 use Rattle.mini_rows.proofs.SpellWeights.{falls_by}
 
 -- ---- a call
@@ -54,7 +54,8 @@ or_right : (b : Bool) → b || true ≡ true
 or_right true = refl
 or_right false = refl
 
-module _ (e : Environment) (f : Tree) (idle : is_effect_free f ≡ true) (b : Bool) (a p q : Tree) (ts : Trees) (free : is_effect_free a ≡ true) (is_first : b || is_item p ≡ true) (is_second : b || is_item q ≡ true) (s : State) where
+-- where neither the function nor the test does anything there
+module _ (e : Environment) (f : Tree) (b : Bool) (a p q : Tree) (ts : Trees) (is_first : b || is_item p ≡ true) (is_second : b || is_item q ≡ true) (s : State) (callee : Told (called e f s) s) (test : Told (value e a s) s) where
   abbrev either_one : Tree
   either_one = conditional a p q
 
@@ -77,23 +78,36 @@ module _ (e : Environment) (f : Tree) (idle : is_effect_free f ≡ true) (b : Bo
   follows_chosen g =
       follows_value either_one (or_right b) g s
       ∙ ap (goes_on g) (conditional_value e a p q s)
-      ∙ goes_on_chosen (goes_on g) (nothing_goes_on g) (value e a s) s (free_told e a free s) (λ z. value e p z) (λ z. value e q z)
+      ∙ goes_on_chosen (goes_on g) (nothing_goes_on g) (value e a s) s test (λ z. value e p z) (λ z. value e q z)
       ∙ (λ i. chosen (value e a s) (λ z. (sym (follows_value p is_first g z)) i) (λ z. (sym (follows_value q is_second g z)) i))
 
-  call_chosen : value e (conditional a (call false f (argument b p ▸ ts)) (call false f (argument b q ▸ ts))) s ≡ value e (call false f (argument b either_one ▸ ts)) s
+  pub call_chosen : value e (conditional a (call false f (argument b p ▸ ts)) (call false f (argument b q ▸ ts))) s ≡ value e (call false f (argument b either_one ▸ ts)) s
   call_chosen =
       conditional_value e a (call false f (argument b p ▸ ts)) (call false f (argument b q ▸ ts)) s
-      ∙ begins_alike s (called e f s) (value e a s) (callee_told e f idle (idle_called e f idle) s) (free_told e a free s) (follows p) (follows q) (follows either_one) follows_chosen (λ z. value e (call false f (argument b p ▸ ts)) z) (λ z. value e (call false f (argument b q ▸ ts)) z) (value_is e false (a_call (argument b p ▸ ts)) f s) (value_is e false (a_call (argument b q ▸ ts)) f s)
+      ∙ begins_alike s (called e f s) (value e a s) callee test (follows p) (follows q) (follows either_one) follows_chosen (λ z. value e (call false f (argument b p ▸ ts)) z) (λ z. value e (call false f (argument b q ▸ ts)) z) (value_is e false (a_call (argument b p ▸ ts)) f s) (value_is e false (a_call (argument b q ▸ ts)) f s)
       ∙ sym (value_is e false (a_call (argument b either_one ▸ ts)) f s)
+
+-- where `this` is asked of the world only if it has an effect
+pub idle_chosen : (e : Environment) (asked : Bool) → (asked ≡ false → e.asks_this ≡ false) → (n w : Tree) (r : CallRow asked n w) (s : State) → value e n s ≡ value e w s
+idle_chosen e asked f n w r s =
+    let told = told_there e asked f in
+    ap (λ t. value e t s) r.shape
+    ∙ call_chosen e r.callee r.is_spread r.a r.p r.q r.others r.first r.second s (callee_told e r.callee (idle_called e asked r.callee r.idle) s (told r.callee r.idle s)) (told r.a r.effect_free s)
+    ∙ sym (ap (λ t. value e t s) r.written)
+
+-- a row of calls is read by its value
+pub row_tells : (asked : Bool) (n w : Tree) → CallRow asked n w → Tells n × Tells w
+row_tells asked n w r = (
+  subst Tells (sym r.shape) (conditional_tells r.a (call false r.callee (argument r.is_spread r.p ▸ r.others)) (call false r.callee (argument r.is_spread r.q ▸ r.others))),
+  subst Tells (sym r.written) (call_tells r.callee (argument r.is_spread (conditional r.a r.p r.q) ▸ r.others)),
+)
+
+pub row_read : (asked : Bool) (n w : Tree) → CallRow asked n w → summary n ≡ summary w
+row_read asked n w r = ap summary r.shape ∙ sym (plain_read (call false r.callee (argument r.is_spread (conditional r.a r.p r.q) ▸ r.others)) r.plain) ∙ sym (ap summary r.written)
 
 -- 44 means the same
 pub calls_same : (n w : Tree) → Row44 n w → SameTree n w
-calls_same n w r =
-    let first : Tree = call false r.callee (argument r.is_spread r.p ▸ r.others) in
-    let second : Tree = call false r.callee (argument r.is_spread r.q ▸ r.others) in
-    same_by n w _ _ r.shape r.written
-    (same_value _ _ (conditional_tells r.a first second) (call_tells r.callee (argument r.is_spread (conditional r.a r.p r.q) ▸ r.others)) (sym (plain_read (call false r.callee (argument r.is_spread (conditional r.a r.p r.q) ▸ r.others)) r.plain))
-    (λ e s. call_chosen e r.callee r.idle r.is_spread r.a r.p r.q r.others r.effect_free r.first r.second s))
+calls_same n w r = let (t, u) = row_tells true n w r in same_value n w t u (row_read true n w r) (λ e s. idle_chosen e true (λ f. absurd (true≢false f)) n w r s)
 
 -- ---- where it stands
 
@@ -148,12 +162,28 @@ chosen_kept false f a p q ts s n w e g = expressions_arranged (call_parts f a p 
 chosen_kept true f a p q ts s n w e g =
     expressions_arranged (call_parts f a p q ts) (under Conditional (part 1 ▹ calls_part (under Spread (part 2 ▹ end)) ▹ calls_part (under Spread (part 3 ▹ end)) ▹ end)) (calls_part (under Spread (under Conditional (part 1 ▹ part 2 ▹ part 3 ▹ end) ▹ end))) refl s n w e g
 
-pub calls_kept : (q : Seat) (n w : Tree) → Row44 n w → KeptAt (Expr q) n w
-calls_kept q n w r =
-    let others = sym (append_none r.others) in
-    chosen_kept r.is_spread r.callee r.a r.p r.q r.others q n w
-    (r.shape ∙ (λ i. conditional r.a (call false r.callee (argument r.is_spread r.p ▸ others i)) (call false r.callee (argument r.is_spread r.q ▸ others i))))
-    (r.written ∙ (λ i. call false r.callee (argument r.is_spread (conditional r.a r.p r.q) ▸ others i)))
+chosen_code : (b : Bool) (f : Tree) (a p q : Tree) (ts : Trees) (n w : Tree) → n ≡ conditional a (call false f (argument b p ▸ append ts none)) (call false f (argument b q ▸ append ts none)) → w ≡ call false f (argument b (conditional a p q) ▸ append ts none) → CodeKept n w
+chosen_code false f a p q ts n w e g = code_arranged still (call_parts f a p q ts) (tt, tt) Conditional (Call false) (part 1 ▹ calls_part (part 2) ▹ calls_part (part 3) ▹ end) (part 0 ▹ list (item_of (under Conditional (part 1 ▹ part 2 ▹ part 3 ▹ end)) (items_of 0 no_items)) ▹ end) refl n w e g
+chosen_code true f a p q ts n w e g =
+    code_arranged still (call_parts f a p q ts) (tt, tt) Conditional (Call false) (part 1 ▹ calls_part (under Spread (part 2 ▹ end)) ▹ calls_part (under Spread (part 3 ▹ end)) ▹ end) (part 0 ▹ list (item_of (under Spread (under Conditional (part 1 ▹ part 2 ▹ part 3 ▹ end) ▹ end)) (items_of 0 no_items)) ▹ end) refl n w e g
+
+-- what is read and what is written, with the other arguments as a part
+record Parted (n w : Tree) (asked : Bool) (r : CallRow asked n w) : Type 0 where
+  shape : n ≡ conditional r.a (call false r.callee (argument r.is_spread r.p ▸ append r.others none)) (call false r.callee (argument r.is_spread r.q ▸ append r.others none))
+  written : w ≡ call false r.callee (argument r.is_spread (conditional r.a r.p r.q) ▸ append r.others none)
+
+parted : (asked : Bool) (n w : Tree) (r : CallRow asked n w) → Parted n w asked r
+parted asked n w r =
+    let others = sym (append_none r.others) in record {
+      shape = r.shape ∙ (λ i. conditional r.a (call false r.callee (argument r.is_spread r.p ▸ others i)) (call false r.callee (argument r.is_spread r.q ▸ others i)));
+      written = r.written ∙ (λ i. call false r.callee (argument r.is_spread (conditional r.a r.p r.q) ▸ others i));
+    }
+
+pub calls_kept : (asked : Bool) (q : Seat) (n w : Tree) → CallRow asked n w → KeptAt (Expr q) n w
+calls_kept asked q n w r = let x = parted asked n w r in chosen_kept r.is_spread r.callee r.a r.p r.q r.others q n w x.shape x.written
+
+pub calls_code : (asked : Bool) (n w : Tree) → CallRow asked n w → CodeKept n w
+calls_code asked n w r = let x = parted asked n w r in chosen_code r.is_spread r.callee r.a r.p r.q r.others n w x.shape x.written
 
 -- ---- lighter: a call and its function go
 
@@ -174,8 +204,8 @@ given_least : (b : Bool) (t : Tree) → weight (Expr argument_seat) t ≤ weight
 given_least false t = omega arith
 given_least true t = omega arith
 
-call_falls : (s : Seat) (f : Tree) → is_plain_part f ≡ true → is_effect_free f ≡ true → (b : Bool) (a p q : Tree) (ts : Trees) → weight (Expr s) (call false f (argument b (conditional a p q) ▸ ts)) < weight (Expr s) (conditional a (call false f (argument b p ▸ ts)) (call false f (argument b q ▸ ts)))
-call_falls s f i h b a p q ts =
+call_falls : (asked : Bool) (s : Seat) (f : Tree) → is_plain_part f ≡ true → ef asked f ≡ true → (b : Bool) (a p q : Tree) (ts : Trees) → weight (Expr s) (call false f (argument b (conditional a p q) ▸ ts)) < weight (Expr s) (conditional a (call false f (argument b p ▸ ts)) (call false f (argument b q ▸ ts)))
+call_falls asked s f i h b a p q ts =
     let one = argument b (conditional a p q) in
     let marks = call_marks s (outlines (f ▸ listed (one ▸ ts) ▸ none)) in
     let first = placed 0 (branch_seat argument_seat) argument_seat refl (λ h os. omega arith) p in
@@ -183,7 +213,10 @@ call_falls s f i h b a p q ts =
     let commas = first_comma (outline one) (outline (argument b p)) (outlines ts) in
     let given = given_weighs b (conditional a p q) p in
     let least = given_least b q in
-    omega (arith, marks, first, second, commas, given, least, callee_heavy f i h)
+    omega (arith, marks, first, second, commas, given, least, callee_heavy asked f i h)
+
+pub row_falls : (asked : Bool) (s : Seat) (n w : Tree) → CallRow asked n w → weight (Expr s) w < weight (Expr s) n
+row_falls asked s n w r = falls_by (Expr s) n w _ _ r.shape r.written (call_falls asked s r.callee r.plain r.idle r.is_spread r.a r.p r.q r.others)
 
 pub calls_lighter : CallsLighter
-calls_lighter s n w r = falls_by (Expr s) n w _ _ r.shape r.written (call_falls s r.callee r.plain r.idle r.is_spread r.a r.p r.q r.others)
+calls_lighter s n w r = row_falls true s n w r

@@ -5,6 +5,7 @@ use Rattle.mini_model.specs.Tree.{Tree}
 use Rattle.mini_laws.specs.Value.{Value, choose, truth}
 use Rattle.mini_laws.specs.State.{State, Completion, ok, stop, halt, out, either, Environment}
 use Rattle.mini_laws.specs.Demand.{Val}
+use Rattle.mini_terms.specs.Effects.{ef}
 use Rattle.mini_terms.specs.Folds.{is_effect_free}
 use Rattle.mini_terms.specs.Sound.{Quiet}
 use Rattle.mini_terms.proofs.EffectsTable.{effect_free_sound}
@@ -22,8 +23,12 @@ quiet_told (stop x t) s q = absurd q
 quiet_told (halt x t) s q = absurd q
 quiet_told out s q = inl refl
 
+-- where the world isn't asked for `this` if it is no effect
+pub told_there : (e : Environment) (asked : Bool) → (asked ≡ false → e.asks_this ≡ false) → (a : Tree) → ef asked a ≡ true → (s : State) → Told (value e a s) s
+told_there e asked f a h s = quiet_told (value e a s) s (effect_free_sound a e asked f h Val s)
+
 pub free_told : (e : Environment) (a : Tree) → is_effect_free a ≡ true → (s : State) → Told (value e a s) s
-free_told e a h s = quiet_told (value e a s) s (effect_free_sound a e true (λ f. absurd (true≢false f)) h Val s)
+free_told e a h s = told_there e true (λ f. absurd (true≢false f)) a h s
 
 -- a choice of values
 abbrev pub chosen : Completion Value → (State → Completion Value) → (State → Completion Value) → Completion Value

@@ -21,7 +21,7 @@ use Rattle.mini_model.specs.Paths.{append}
 use Rattle.mini_rows.specs.Lists.{sequence}
 use Rattle.mini_node.specs.Kinds.{computed_member}
 use Rattle.mini_rows.specs.Spellings.{binary, assignment}
-use Rattle.mini_rows.specs.Choices.{Key, Named, Spelled, Numbered, member_on, member_of, assign, joined, strictly, loosely, joining, asks_object, null_compared, held, ended, deciding, ChoiceRow, pair, argument, Row44, Row13Both, Row45Indexed, LighterRow, OwnRow, HeldRow}
+use Rattle.mini_rows.specs.Choices.{Key, Named, Spelled, Numbered, member_on, member_of, assign, joined, strictly, loosely, joining, asks_object, null_compared, held, ended, deciding, ChoiceRow, pair, argument, CallRow, Row13Both, Row45Indexed, LighterRow, OwnRow, HeldRow}
 use Rattle.mini_rows.proofs.ChainLinkLawful.{chains_fit, chains_asked, chains_slot}
 use Rattle.mini_rows.proofs.ChainEnds.{end_fits, end_asked, end_slot}
 use Rattle.mini_rows.proofs.ChainLawful.{chain_row_fits, chain_row_asked, chain_row_slot}
@@ -261,7 +261,7 @@ module _ (strict : Bool) where
         for_choice n w _ _ _ r.shape (λ x y z. let (b, c) = of_pair r.b r.c z in subst Fits (sym r.written) (pair_fits (logical Or r.a r.b) r.c (two_fit strict r.a r.b x b) y))
     held_fits n w (inr (inr (inr (inr (inr (inr r)))))) = for_choice n w _ _ _ r.shape (λ x y z. subst Fits (sym r.written) (pair_fits r.a r.b x y))
 
-    called_fits : (n w : Tree) → Row44 n w → Here n → Here w
+    pub called_fits : {asked : Bool} (n w : Tree) → CallRow asked n w → Here n → Here w
     called_fits n w r = for_choice n w _ _ _ r.shape (λ x y z. subst Fits (sym r.written) (calls_fit strict r.callee r.is_spread r.a r.p r.q r.others r.first r.second x y z))
 
     member_fits : (q : Seat) (n w : Tree) → Row45Indexed q n w → Here n → Here w
@@ -304,14 +304,14 @@ both_sides_formed : (n w : Tree) → Row13Both n w → Formed n n
 both_sides_formed n w r = record { first = a_logical r.operator; second = a_logical r.operator; parts = r.left ▸ r.right ▸ none; others = r.left ▸ r.right ▸ none; read = r.shape; made = r.shape; optional = λ e. e }
 
 -- of a conditional it asks nothing that another expression hasn't
-record Choosing (n w : Tree) : Type 0 where
+pub record Choosing (n w : Tree) : Type 0 where
   a : Tree
   b : Tree
   c : Tree
   read : n ≡ conditional a b c
   number : is_not_positive_number w ≡ true
 
-choosing_asked : (p : Position) (n w : Tree) → Choosing n w → AskedAlike p n w
+pub choosing_asked : (p : Position) (n w : Tree) → Choosing n w → AskedAlike p n w
 choosing_asked p n w r = record {
   absent = λ e. absurd (cc (sym e ∙ ap is_absent r.read));
   body = λ e. absurd (cc (sym e ∙ ap is_function_body r.read));
@@ -321,7 +321,7 @@ choosing_asked p n w r = record {
   plain = ap (λ t. is_default (shape_of t)) r.read;
 }
 
-chosen_formed : (n w : Tree) → Choosing n w → Formed n n
+pub chosen_formed : (n w : Tree) → Choosing n w → Formed n n
 chosen_formed n w r = record { first = a_conditional; second = a_conditional; parts = r.a ▸ r.b ▸ r.c ▸ none; others = r.a ▸ r.b ▸ r.c ▸ none; read = r.read; made = r.read; optional = λ e. e }
 
 own_choosing : (n w : Tree) → OwnRow n w → Choosing n w
@@ -337,7 +337,7 @@ held_choosing n w (inr (inr (inr (inr (inl r))))) = record { a = r.a; b = pair r
 held_choosing n w (inr (inr (inr (inr (inr (inl r)))))) = record { a = r.a; b = r.c; c = pair r.b r.c; read = r.shape; number = ap is_not_positive_number r.written }
 held_choosing n w (inr (inr (inr (inr (inr (inr r)))))) = record { a = r.a; b = r.b; c = r.b; read = r.shape; number = ap is_not_positive_number r.written }
 
-called_choosing : (n w : Tree) → Row44 n w → Choosing n w
+pub called_choosing : {asked : Bool} (n w : Tree) → CallRow asked n w → Choosing n w
 called_choosing n w r = record { a = r.a; b = call false r.callee (argument r.is_spread r.p ▸ r.others); c = call false r.callee (argument r.is_spread r.q ▸ r.others); read = r.shape; number = ap is_not_positive_number r.written }
 
 -- ---- wherever rows are made

@@ -17,7 +17,7 @@ use Rattle.mini_terms.specs.Exact.{by_value as behind_zero}
 use Rattle.mini_terms.specs.Reading.{is_item, is_unguarded}
 use Rattle.mini_terms.proofs.Reading.{same_in_seat}
 use Rattle.mini_rows.specs.Arranged.{KeptAt}
-use Rattle.mini_rows.specs.Choices.{pair, Row21Zero}
+use Rattle.mini_rows.specs.Choices.{pair, ZeroRow, Row21Zero}
 use Rattle.mini_rows.specs.Sketches.{Sequence, part, under, list, end, ◌▹◌, no_items, item}
 use Rattle.mini_rows.proofs.ArrangedExpressions.{expressions_arranged_freely}
 use Rattle.mini_rows.proofs.ChainGuards.{zero_number, behind_sketch, behind_fits}
@@ -29,13 +29,13 @@ either_way : (b : Bool) → b || true ≡ true
 either_way true = refl
 either_way false = refl
 
-module _ (s : Seat) (n w : Tree) (r : Row21Zero n w) where
-  pub zero_row_same : SameAt (Expr s) n w
-  zero_row_same =
-      subst (λ t. SameAt (Expr s) t w) (sym r.shape)
-      (subst (SameAt (Expr s) (pair r.idle r.last)) (sym r.written)
-      (same_in_seat s (pair r.idle r.last) (behind_zero r.last) refl (either_way (is_unguarded s.guard && is_item (behind_zero r.last))) (zero_same r.idle r.last r.effect_free)))
+pub zero_row_same : (s : Seat) (n w : Tree) → Row21Zero n w → SameAt (Expr s) n w
+zero_row_same s n w r =
+    subst (λ t. SameAt (Expr s) t w) (sym r.shape)
+    (subst (SameAt (Expr s) (pair r.idle r.last)) (sym r.written)
+    (same_in_seat s (pair r.idle r.last) (behind_zero r.last) refl (either_way (is_unguarded s.guard && is_item (behind_zero r.last))) (zero_same r.idle r.last r.effect_free)))
 
+module _ {asked : Bool} (s : Seat) (n w : Tree) (r : ZeroRow asked n w) where
   pub zero_row_read : summary n ≡ summary w
   zero_row_read = ap summary r.shape ∙ sym (ap summary r.written)
 

@@ -64,7 +64,7 @@ left_by : (P : Trees → Tree → Type 0) (K : VariableDeclarationKind) → P no
 left_by P K f g none = f
 left_by P K f g (t ▸ ds) = g t ds
 
-module _ (K : VariableDeclarationKind) (x : Name) (first : Trees) (init : Tree) (last : Trees) (test update body : Tree) where
+module _ (K : VariableDeclarationKind) (x : Name) (first : Trees) (init : Tree) (last : Trees) where
   abbrev before : Tree
   before = declared_among K x first init last
 
@@ -79,19 +79,21 @@ module _ (K : VariableDeclarationKind) (x : Name) (first : Trees) (init : Tree) 
       let rest = append_fits strict (one a_declarator) first last f (first_fits strict (one a_declarator) (declarator (binding x) init) last g).1 in
       left_by (λ ds t. fill strict (each (one a_declarator)) ds ≡ true → fits strict (one_or_absent an_init) t ≡ true) K (λ h. refl) (λ t ts h. init_declares strict K (t ▸ ts) ∙ both (nat_le 1 (count (t ▸ ts))) (fill strict (each (one a_declarator)) (t ▸ ts) && true) (le-leb 1 (count (t ▸ ts)) (omega arith)) (both (fill strict (each (one a_declarator)) (t ▸ ts)) true h refl)) (append first last) rest
 
+-- so what may begin a `for` in its place may stand there
+module _ (d w test update body : Tree) (h : (strict : Bool) → fits strict (one_or_absent an_init) d ≡ true → fits strict (one_or_absent an_init) w ≡ true) where
   abbrev Rest : Bool → Bool
   Rest strict = fits strict (one_or_absent an_expression) test && (fits strict (one_or_absent an_expression) update && (fits strict (one (a_statement nested)) body && true))
 
-  over : (strict : Bool) → (fits strict (one_or_absent an_init) before && Rest strict) ≡ true → (fits strict (one_or_absent an_init) after && Rest strict) ≡ true
+  over : (strict : Bool) → (fits strict (one_or_absent an_init) d && Rest strict) ≡ true → (fits strict (one_or_absent an_init) w && Rest strict) ≡ true
   over strict e =
-      let (h, r) = and_parts (fits strict (one_or_absent an_init) before) (Rest strict) e in
-      both (fits strict (one_or_absent an_init) after) (Rest strict) (head_fits strict h) r
+      let (f, r) = and_parts (fits strict (one_or_absent an_init) d) (Rest strict) e in
+      both (fits strict (one_or_absent an_init) w) (Rest strict) (h strict f) r
 
   abbrev Kept : Bool → Class → Type 0
-  Kept strict c = fits strict (one c) (for_loop before test update body) ≡ true → (fits strict (one c) (for_loop after test update body) ≡ true) × (is_in_body c ≡ true)
+  Kept strict c = fits strict (one c) (for_loop d test update body) ≡ true → (fits strict (one c) (for_loop w test update body) ≡ true) × (is_in_body c ≡ true)
 
-  refused : (strict : Bool) (s : Slot) → filling strict s shape.ForStatement ≡ filling_by None → fits strict s (for_loop before test update body) ≡ true → ⊥
-  refused strict s f e = refused_here strict s shape.ForStatement [] 0 (before ▸ (test ▸ (update ▸ (body ▸ none)))) f e
+  refused : (strict : Bool) (s : Slot) → filling strict s shape.ForStatement ≡ filling_by None → fits strict s (for_loop d test update body) ≡ true → ⊥
+  refused strict s f e = refused_here strict s shape.ForStatement [] 0 (d ▸ (test ▸ (update ▸ (body ▸ none)))) f e
 
   in_class : (strict : Bool) (c : Class) → Kept strict c
   in_class true (a_statement in_module) e = (over true e, refl)
@@ -108,7 +110,7 @@ module _ (K : VariableDeclarationKind) (x : Name) (first : Trees) (init : Tree) 
   in_class strict (an_inner_key false) e = absurd (refused strict (one (an_inner_key false)) refl e)
   in_class strict c e = absurd (refused strict (one c) refl e)
 
-  in_slot : (strict : Bool) (p : Position) (s : Slot) → fits strict s (for_loop before test update body) ≡ true → (fits strict s (for_loop after test update body) ≡ true) × (is_body_slot p s ≡ true)
+  pub in_slot : (strict : Bool) (p : Position) (s : Slot) → fits strict s (for_loop d test update body) ≡ true → (fits strict s (for_loop w test update body) ≡ true) × (is_body_slot p s ≡ true)
   in_slot strict p (one c) e = in_class strict c e
   in_slot strict p (one_or_absent c) e = let (f, g) = in_class strict c e in (f, g)
   in_slot strict p s e = absurd (refused strict s refl e)
@@ -220,7 +222,7 @@ module _ (q : StmtSeat) (n w : Tree) (r : ForRow n w) where
 
   in_place : (strict : Bool) (s : Slot) → fits strict s n ≡ true → (fits strict s w ≡ true) × (is_body_slot (Stmt q) s ≡ true)
   in_place strict s e =
-      let (f, g) = in_slot r.kind x r.first r.init r.last r.test r.update r.body strict (Stmt q) s (sym (ap (fits strict s) r.shape) ∙ e) in
+      let (f, g) = in_slot d v r.test r.update r.body (head_fits r.kind x r.first r.init r.last) strict (Stmt q) s (sym (ap (fits strict s) r.shape) ∙ e) in
       (ap (fits strict s) r.written ∙ f, g)
 
 -- ---- all

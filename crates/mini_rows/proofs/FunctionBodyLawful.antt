@@ -25,7 +25,7 @@ use Rattle.mini_kept.specs.KeepsFrames.{KeepsFunction}
 use Rattle.mini_kept.specs.KeepsNames.{Keeps, is_rewritten_place}
 use Rattle.mini_kept.specs.KeepsShapes.{AskedAlike}
 use Rattle.mini_kept.specs.Lifted.{is_piece, is_rooted_place, KeepsRoot}
-use Rattle.mini_kept.specs.Loosely.{DropsWith, LawfulWith}
+use Rattle.mini_kept.specs.Loosely.{DropsWith, LawfulWith, LawfulLoosely}
 use Rattle.mini_kept.specs.Placed.{is_statement_list}
 use Rattle.mini_kept.specs.ShownFrames.{no_key, gone_from}
 use Rattle.mini_kept.specs.Without.{BodiesWith}
@@ -39,6 +39,7 @@ use Rattle.mini_kept.proofs.ShownFrames.{kept_shown}
 use Rattle.mini_kept.proofs.WithoutLists as without
 use Rattle.mini_kept.proofs.WithoutLists.{nothing_part, from_kept}
 use Rattle.mini_rows.specs.Unused.{resolved, names, any_names, statements, function_with, UnusedRow, UnusedContracts, UnusedAreLawful}
+use Rattle.mini_rows.specs.Switches.{Switches, Liberties}
 use Rattle.mini_rows.proofs.ArrangedBodies.{quiet}
 use Rattle.mini_rows.proofs.ArrowBodyLawful.{Instance, list_fits, none_mention, statements_run, OfArrow, arrows_loose}
 use Rattle.mini_rows.proofs.FunctionBodyKept.{function_less, function_keeps, function_fixed, statements_frames, function_frames, function_bodies, function_declares}
@@ -335,13 +336,13 @@ abbrev pub OfBody : VariableSet → Position → Tree → Tree → Type 0
 OfBody W p n w = OfFunction W p n w ⊎ OfList W p n w
 
 -- of what holds statements and is no body
-abbrev pub OfInner : Position → Tree → Tree → Type 0
-OfInner p n w = OfBlock p n w ⊎ (OfSwitch p n w ⊎ OfFor p n w)
+abbrev pub OfInner : Switches → Position → Tree → Tree → Type 0
+OfInner o p n w = OfBlock o p n w ⊎ (OfSwitch o p n w ⊎ OfFor p n w)
 
-abbrev pub OfUnused : VariableSet → Position → Tree → Tree → Type 0
-OfUnused W p n w = OfInner p n w ⊎ (OfArrow W p n w ⊎ OfBody W p n w)
+abbrev pub OfUnused : Liberties → Position → Tree → Tree → Type 0
+OfUnused W p n w = OfInner W.switches p n w ⊎ (OfArrow W.writable p n w ⊎ OfBody W.writable p n w)
 
-either_holder : (W : VariableSet) (p : Position) (n w : Tree) → UnusedContracts W p n w → OfUnused W p n w
+either_holder : (W : Liberties) (p : Position) (n w : Tree) → UnusedContracts W p n w → OfUnused W p n w
 either_holder W p n w c = by p c.row
   where
     by : (p : Position) → UnusedRow W p n w → OfUnused W p n w
@@ -358,9 +359,17 @@ either_holder W p n w c = by p c.row
     by p r = absurd r
 
 -- each of them
-pub held_loose : (K : Shape → Bool) (W : VariableSet) → LawfulWith K W (OfUnused W)
+inner_loose : (o : Switches) (K : Shape → Bool) → LawfulLoosely K (OfInner o)
+inner_loose o K = loose_join (OfBlock o) (λ p n w. OfSwitch o p n w ⊎ OfFor p n w) K nothing (blocks_loose o K) (loose_join (OfSwitch o) OfFor K nothing (switches_loose o K) (heads_loose K))
+
+body_loose : (K : Shape → Bool) (W : VariableSet) → LawfulWith K W (OfBody W)
+body_loose K W = loose_join (OfFunction W) (OfList W) K W (functions_loose K W) (loose_join (OfModule W) (OfStaticBlock W) K W (modules_loose K W) (static_blocks_loose K W))
+
+pub held_loose : (K : Shape → Bool) (W : Liberties) → LawfulWith K W.writable (OfUnused W)
 held_loose K W =
-    loose_join OfInner (λ p n w. OfArrow W p n w ⊎ OfBody W p n w) K W (loose_wider OfInner K nothing W (nothing_part W) (loose_join OfBlock (λ p n w. OfSwitch p n w ⊎ OfFor p n w) K nothing (blocks_loose K) (loose_join OfSwitch OfFor K nothing (switches_loose K) (heads_loose K)))) (loose_join (OfArrow W) (OfBody W) K W (arrows_loose K W) (loose_join (OfFunction W) (OfList W) K W (functions_loose K W) (loose_join (OfModule W) (OfStaticBlock W) K W (modules_loose K W) (static_blocks_loose K W))))
+    let V = W.writable in
+    let O = OfInner W.switches in
+    loose_join O (λ p n w. OfArrow V p n w ⊎ OfBody V p n w) K V (loose_wider O K nothing V (nothing_part V) (inner_loose W.switches K)) (loose_join (OfArrow V) (OfBody V) K V (arrows_loose K V) (body_loose K V))
 
 pub unused_loose : UnusedAreLawful
-unused_loose K W = loose_narrowed (UnusedContracts W) (OfUnused W) K W (either_holder W) (held_loose K W)
+unused_loose K W = loose_narrowed (UnusedContracts W) (OfUnused W) K W.writable (either_holder W) (held_loose K W)

@@ -11,10 +11,11 @@ use Rattle.mini_laws.specs.Same.{Same}
 use Rattle.mini_laws.specs.Substitution.{alone}
 use Rattle.mini_kept.specs.Without.{Unseen}
 use Rattle.mini_terms.specs.Folds.{is_effect_free}
+use Rattle.mini_terms.specs.Reading.{is_plain_part}
 use Rattle.mini_rows.specs.Lists.{declaration, Each, EachIn, EachOf, each_loop}
 use Rattle.mini_rows.specs.Declarations.{declarator}
 use Rattle.mini_rows.specs.Sketches.{shape_by, AsValue, AsWholeItem}
-use Rattle.mini_rows.specs.Unused.{is_constant, resolved, names, any_names, declared_among, declared_left, may_move, put_first, OfValues, gathered_below, are_passed, reads_first, reads_head, evaluated, Row71}
+use Rattle.mini_rows.specs.Unused.{is_constant, resolved, names, any_names, declared_among, declared_left, put_first, OfValues, gathered_below, are_passed, reads_first, reads_head, evaluated, Row71}
 use Rattle.mini_rows.proofs.FoldMeaning.{plain_read}
 use Rattle.mini_rows.proofs.NextKept.{next_unnamed}
 use Rattle.mini_rows.proofs.FoundReads.{found_same, path_as, path_same, seated_same, loop_same, goes_as}
@@ -27,6 +28,7 @@ use Rattle.mini_rows.proofs.ItemReads.{plain_item}
 use Rattle.mini_rows.proofs.ConstantUse.{moves_there}
 use Rattle.mini_rows.proofs.UnusedMeaning.{SameRead, GoesWith, single_read, single_same, first_avoids, movable, block_same, lexical_alone, never_written}
 use Rattle.mini_rows.proofs.UnusedNames.{avoided, all_avoided}
+use Rattle.mini_rows.specs.Switches.{Switches, without_vars}
 
 -- ---- what is read of it
 
@@ -65,7 +67,7 @@ head_read x head e init = by (heads x head e)
 
 -- ---- what it does
 
-module _ (e : Environment) (spelling : List ℕ) (k : ℕ) (z : Unseen (alone (Declared k)) e) (init head : Tree) (moves : may_move init ≡ true) where
+module _ (e : Environment) (spelling : List ℕ) (k : ℕ) (z : Unseen (alone (Declared k)) e) (init head : Tree) (moves : is_plain_part init ≡ true) where
   abbrev x : Name
   x = resolved spelling k
 
@@ -81,7 +83,7 @@ module _ (e : Environment) (spelling : List ℕ) (k : ℕ) (z : Unseen (alone (D
       let beside = subst (AllPass OfValues init (shape_by (head_of t.lead)) 0) (sym t.front) tt in
       subst₂ (λ h w. GoesWith e k init h w s) (sym there) (sym put)
       (goes_as e k init (found steps (identifier (resolved reading.spelling k))) (led steps (identifier (resolved reading.spelling k))) (found_same steps (identifier (resolved reading.spelling k))) (led steps init) s
-      (moves_there e k z x refl reading.spelling init (sym (plain_read init (movable init moves))) (plain_item init (movable init moves)) AsWholeItem steps (t.stands (is_end t.path.steps), subst (λ c. Well c t.path.steps) (sym (t.below AsWholeItem)) t.path.well) ((ap (any_names x) t.front, t.free), t.path.spared) ((beside, or_true (is_constant init) (surely OfValues (is_effect_free init) t.lead) (t.steady (is_effect_free init)), t.allows_any (end_of reading.spelling init t.path.steps), t.whole_any init), subst (λ m. PassedIn m init reading.spelling t.path.steps) (sym (ap (λ us. gathered_below OfValues (shape_by (head_of t.lead)) (place 0 us)) t.front ∙ t.low)) (t.path.passed_in OfValues init (t.passed init passed))) (Stat None) tt tt [] tt s))
+      (moves_there e k z x refl reading.spelling init (sym (plain_read init moves)) (plain_item init moves) AsWholeItem steps (t.stands (is_end t.path.steps), subst (λ c. Well c t.path.steps) (sym (t.below AsWholeItem)) t.path.well) ((ap (any_names x) t.front, t.free), t.path.spared) ((beside, or_true (is_constant init) (surely OfValues (is_effect_free init) t.lead) (t.steady (is_effect_free init)), t.allows_any (end_of reading.spelling init t.path.steps), t.whole_any init), subst (λ m. PassedIn m init reading.spelling t.path.steps) (sym (ap (λ us. gathered_below OfValues (shape_by (head_of t.lead)) (place 0 us)) t.front ∙ t.low)) (t.path.passed_in OfValues init (t.passed init passed))) (Stat None) tt tt [] tt s))
 
   scope_goes : (t : Outside x head) → are_passed x init head ≡ true → (s : State) → GoesWith e k init head (put_first x init head) s
   scope_goes t passed s =
@@ -89,8 +91,8 @@ module _ (e : Environment) (spelling : List ℕ) (k : ℕ) (z : Unseen (alone (D
       let there = led p.steps (identifier (resolved p.read.spelling k)) in
       subst₂ (λ h w. GoesWith e k init h w s) (sym t.is) (sym (t.puts init ∙ ap (seated t.seat) (p.puts init)))
       (goes_as e k init (seated t.seat t.value) (seated t.seat there) (seated_same t.seat t.value there (path_same x k refl AsValue t.value p)) (seated t.seat (led p.steps init)) s
-      (outside_goes e k z x refl p.read.spelling init (sym (plain_read init (movable init moves))) p.steps p.well (λ y. Unit {0})
-      (λ v r y u. moves_there e k z x refl p.read.spelling init (sym (plain_read init (movable init moves))) (plain_item init (movable init moves)) AsValue p.steps p.well p.spared (p.passed_in OfValues init (t.passed init passed)) (As v) tt tt r tt y) t.seat t.beside s tt))
+      (outside_goes e k z x refl p.read.spelling init (sym (plain_read init moves)) p.steps p.well (λ y. Unit {0})
+      (λ v r y u. moves_there e k z x refl p.read.spelling init (sym (plain_read init moves)) (plain_item init moves) AsValue p.steps p.well p.spared (p.passed_in OfValues init (t.passed init passed)) (As v) tt tt r tt y) t.seat t.beside s tt))
 
   loop_goes : (t : Over x head) → are_passed x init t.value ≡ true → (s : State) → GoesWith e k init head (put_first x init head) s
   loop_goes t passed s =
@@ -100,7 +102,7 @@ module _ (e : Environment) (spelling : List ℕ) (k : ℕ) (z : Unseen (alone (D
       subst₂ (λ h w. GoesWith e k init h w s) (sym t.is) (sym (t.puts init ∙ ap loops (p.puts init)))
       (goes_as e k init (loops t.value) (loops there) (loop_same t.kind t.left t.value there t.body (path_same x k refl AsValue t.value p)) (loops (led p.steps init)) s
       (each_goes e k z x refl p.read.spelling init p.steps (λ y. Unit {0})
-      (λ y u. moves_there e k z x refl p.read.spelling init (sym (plain_read init (movable init moves))) (plain_item init (movable init moves)) AsValue p.steps p.well p.spared (p.passed_in OfValues init passed) (As Val) tt tt tt tt y) t.kind t.left t.body t.plain t.other t.later s tt))
+      (λ y u. moves_there e k z x refl p.read.spelling init (sym (plain_read init moves)) (plain_item init moves) AsValue p.steps p.well p.spared (p.passed_in OfValues init passed) (As Val) tt tt tt tt y) t.kind t.left t.body t.plain t.other t.later s tt))
 
   pub head_goes : reads_head x head ≡ true → are_passed x init (evaluated head) ≡ true → (s : State) → GoesWith e k init head (put_first x init head) s
   head_goes once passed s = by (heads x head once)
@@ -140,13 +142,13 @@ head_unnamed x head e init f = by (heads x head e)
 
 -- ---- the row
 
-pub row_71 : (e : Environment) (k : ℕ) → Unseen (alone (Declared k)) e → (n w : Tree) (r : Row71 nothing n w) → k ≡ r.symbol → (t : Option Tail) → Same e (alone (Declared k)) nothing (Stat t) n w
-row_71 e k z n w r h t =
+pub row_71 : {o : Switches} (e : Environment) (k : ℕ) → Unseen (alone (Declared k)) e → (n w : Tree) (r : Row71 (without_vars o) n w) → k ≡ r.symbol → (t : Option Tail) → Same e (alone (Declared k)) nothing (Stat t) n w
+row_71 {o = o} e k z n w r h t =
     let x = resolved r.spelling r.symbol in
     let u : Unseen (alone (Declared r.symbol)) e = subst (λ j. Unseen (alone (Declared j)) e) h z in
     let D = alone (Declared r.symbol) in
     let put = put_first x r.init r.head in
     let same = block_same e r.spelling r.symbol u r.before r.after (declared_among r.kind x r.first r.init none ▸ (r.head ▸ none)) (declared_left r.kind r.first ▸ (put ▸ none)) (single_read r.spelling r.symbol r.kind r.first r.init r.head put (head_read x r.head r.once r.init)) (all_avoided x r.symbol refl r.before r.earlier)
     (first_avoids D r.kind r.first (all_avoided x r.symbol refl r.first r.declared_earlier), (avoided x r.symbol refl put (head_unnamed x r.head r.once r.init r.initial), tt)) (all_avoided x r.symbol refl r.after r.later)
-    (single_same e r.spelling r.symbol u r.first r.init r.head put (ap (λ i. i.facts.absent) (plain_read r.init (movable r.init r.moves))) r.kind (never_written r.kind e r.symbol (lexical_alone r.kind r.goes)) (head_goes e r.spelling r.symbol u r.init r.head r.moves r.once r.passed)) t in
+    (single_same e r.spelling r.symbol u r.first r.init r.head put (ap (λ i. i.facts.absent) (plain_read r.init (movable o r.init r.moves))) r.kind (never_written r.kind e r.symbol (lexical_alone r.kind r.goes)) (head_goes e r.spelling r.symbol u r.init r.head (movable o r.init r.moves) r.once r.passed)) t in
     subst (λ j. Same e (alone (Declared j)) nothing (Stat t) n w) (sym h) (subst₂ (Same e D nothing (Stat t)) (sym r.shape) (sym r.written) same)

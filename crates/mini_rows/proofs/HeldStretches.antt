@@ -3,6 +3,7 @@ use Rattle.std.specs.Prelude.{ℕ, ◌≡◌, refl, Bool, true, List}
 use Rattle.mini_model.specs.Tree.{Tree, Trees, none, ◌▸◌, listed, program}
 use Rattle.mini_laws.specs.Value.{VariableSet}
 use Rattle.mini_rows.specs.Unused.{arrow_with, function_with, static_block, ArrowBodyRow, FunctionBodyRow, ModuleRow, StaticBlockRow}
+use Rattle.mini_rows.specs.Switches.{Liberties}
 use Rattle.mini_rows.proofs.UnusedStretches.{Stretch, row_stretch}
 
 pub record ArrowStretch (W : VariableSet) (n w : Tree) : Type 0 where
@@ -46,10 +47,10 @@ pub record StaticStretch (W : VariableSet) (n w : Tree) : Type 0 where
 
 -- ---- those of the rows of their statements
 
-pub arrow_stretch : (W : VariableSet) (n w : Tree) → ArrowBodyRow W n w → ArrowStretch W n w
+pub arrow_stretch : (W : Liberties) (n w : Tree) → ArrowBodyRow W n w → ArrowStretch W.writable n w
 arrow_stretch W n w r = record { directives = r.directives; number = r.number; parameters = r.parameters; before = r.before; after = r.after; there = row_stretch W (listed r.parameters) r.before r.after refl r.row; shape = r.shape; written = r.written }
 
-pub function_stretch : (W : VariableSet) (n w : Tree) → FunctionBodyRow W n w → FunctionStretch W n w
+pub function_stretch : (W : Liberties) (n w : Tree) → FunctionBodyRow W n w → FunctionStretch W.writable n w
 function_stretch W n w r = record {
   is_declared = r.is_declared;
   is_generator = r.is_generator;
@@ -64,8 +65,8 @@ function_stretch W n w r = record {
   written = r.written;
 }
 
-pub module_stretch : (W : VariableSet) (n w : Tree) → ModuleRow W n w → ModuleStretch W n w
+pub module_stretch : (W : Liberties) (n w : Tree) → ModuleRow W n w → ModuleStretch W.writable n w
 module_stretch W n w r = record { directives = r.directives; before = r.before; after = r.after; there = row_stretch W (listed none) r.before r.after refl r.row; shape = r.shape; written = r.written }
 
-pub static_stretch : (W : VariableSet) (n w : Tree) → StaticBlockRow W n w → StaticStretch W n w
+pub static_stretch : (W : Liberties) (n w : Tree) → StaticBlockRow W n w → StaticStretch W.writable n w
 static_stretch W n w r = record { number = r.number; before = r.before; after = r.after; there = row_stretch W (listed none) r.before r.after refl r.row; shape = r.shape; written = r.written }

@@ -10,11 +10,11 @@ use Rattle.mini_laws.specs.Demand.{Val, As, Callee, Stat}
 use Rattle.mini_laws.specs.Expressions.{first_kind, is_eval}
 use Rattle.mini_laws.specs.Naming.{kinds, naming, summaries}
 use Rattle.mini_laws.specs.Step.{step, means, meaning}
-use Rattle.mini_terms.specs.Folds.{is_effect_free}
+use Rattle.mini_terms.specs.Effects.{ef}
 use Rattle.mini_rows.specs.ChainLinks.{is_lone}
 use Rattle.mini_rows.proofs.ChainLinkMeaning.{base_called}
 use Rattle.mini_rows.proofs.ChainRuns.{called, next, value, named_call, name_kind}
-use Rattle.mini_rows.proofs.ChoiceFree.{Told, free_told}
+use Rattle.mini_rows.proofs.ChoiceFree.{Told}
 
 -- what is called is its value, with no `this`; of a name it may be a direct eval
 pub record CalledByValue (e : Environment) (f : Tree) : Type 0 where
@@ -32,27 +32,26 @@ list_reads : (e : Environment) (xs : List Name) (n : ℕ) (ts : Trees) (s : Stat
 unfolding means step either
 list_reads e xs n ts s = refl
 
-pub idle_called : (e : Environment) (f : Tree) → is_effect_free f ≡ true → CalledByValue e f
-idle_called e (node shape.Identifier xs n ts) h = record { direct = is_eval (first_kind (kinds xs)); reads = name_reads e xs n ts }
-idle_called e (node shape.Listed xs n ts) h = record { direct = false; reads = list_reads e xs n ts }
-idle_called e (node (shape.NumericLiteral m) xs n ts) h = plainly e (node (shape.NumericLiteral m) xs n ts) refl
-idle_called e (node (shape.StringLiteral t) xs n ts) h = plainly e (node (shape.StringLiteral t) xs n ts) refl
-idle_called e (node (shape.BooleanLiteral b) xs n ts) h = plainly e (node (shape.BooleanLiteral b) xs n ts) refl
-idle_called e (node shape.NullLiteral xs n ts) h = plainly e (node shape.NullLiteral xs n ts) refl
-idle_called e (node (shape.BigIntLiteral m) xs n ts) h = plainly e (node (shape.BigIntLiteral m) xs n ts) refl
-idle_called e (node (shape.UnaryExpression o) xs n ts) h = plainly e (node (shape.UnaryExpression o) xs n ts) refl
-idle_called e (node (shape.BinaryExpression o) xs n ts) h = plainly e (node (shape.BinaryExpression o) xs n ts) refl
-idle_called e (node (shape.LogicalExpression o) xs n ts) h = plainly e (node (shape.LogicalExpression o) xs n ts) refl
-idle_called e (node shape.ConditionalExpression xs n ts) h = plainly e (node shape.ConditionalExpression xs n ts) refl
-idle_called e (node shape.SequenceExpression xs n ts) h = plainly e (node shape.SequenceExpression xs n ts) refl
-idle_called e (node shape.TemplateLiteral xs n ts) h = plainly e (node shape.TemplateLiteral xs n ts) refl
-idle_called e (node h xs n ts) g = absurd (true≢false (sym g))
+-- whether `this` is asked of the world or not
+pub idle_called : (e : Environment) (asked : Bool) (f : Tree) → ef asked f ≡ true → CalledByValue e f
+idle_called e asked (node shape.Identifier xs n ts) h = record { direct = is_eval (first_kind (kinds xs)); reads = name_reads e xs n ts }
+idle_called e asked (node shape.Listed xs n ts) h = record { direct = false; reads = list_reads e xs n ts }
+idle_called e asked (node (shape.NumericLiteral m) xs n ts) h = plainly e (node (shape.NumericLiteral m) xs n ts) refl
+idle_called e asked (node (shape.StringLiteral t) xs n ts) h = plainly e (node (shape.StringLiteral t) xs n ts) refl
+idle_called e asked (node (shape.BooleanLiteral b) xs n ts) h = plainly e (node (shape.BooleanLiteral b) xs n ts) refl
+idle_called e asked (node shape.NullLiteral xs n ts) h = plainly e (node shape.NullLiteral xs n ts) refl
+idle_called e asked (node (shape.BigIntLiteral m) xs n ts) h = plainly e (node (shape.BigIntLiteral m) xs n ts) refl
+idle_called e asked (node shape.ThisExpression xs n ts) h = plainly e (node shape.ThisExpression xs n ts) refl
+idle_called e asked (node (shape.UnaryExpression o) xs n ts) h = plainly e (node (shape.UnaryExpression o) xs n ts) refl
+idle_called e asked (node (shape.BinaryExpression o) xs n ts) h = plainly e (node (shape.BinaryExpression o) xs n ts) refl
+idle_called e asked (node (shape.LogicalExpression o) xs n ts) h = plainly e (node (shape.LogicalExpression o) xs n ts) refl
+idle_called e asked (node shape.ConditionalExpression xs n ts) h = plainly e (node shape.ConditionalExpression xs n ts) refl
+idle_called e asked (node shape.SequenceExpression xs n ts) h = plainly e (node shape.SequenceExpression xs n ts) refl
+idle_called e asked (node shape.TemplateLiteral xs n ts) h = plainly e (node shape.TemplateLiteral xs n ts) refl
+idle_called e asked (node h xs n ts) g = absurd (true≢false (sym g))
 
 -- so it is outside the model, or known with nothing done besides
-pub callee_told : (e : Environment) (f : Tree) → is_effect_free f ≡ true → CalledByValue e f → (s : State) → Told (called e f s) s
+pub callee_told : (e : Environment) (f : Tree) → CalledByValue e f → (s : State) → Told (value e f s) s → Told (called e f s) s
 unfolding either
-callee_told e f h c s = by (free_told e f h s)
-  where
-    by : Told (value e f s) s → Told (called e f s) s
-    by (inl o) = inl (c.reads s ∙ ap (λ y. next y (λ v z. ok (named_call c.direct v) z)) o)
-    by (inr (v, k)) = inr (named_call c.direct v, c.reads s ∙ ap (λ y. next y (λ v z. ok (named_call c.direct v) z)) k)
+callee_told e f c s (inl o) = inl (c.reads s ∙ ap (λ y. next y (λ v z. ok (named_call c.direct v) z)) o)
+callee_told e f c s (inr (v, k)) = inr (named_call c.direct v, c.reads s ∙ ap (λ y. next y (λ v z. ok (named_call c.direct v) z)) k)

@@ -86,7 +86,7 @@ pub record Idles (V : Assured) (p : Position) (n w : Tree) : Type 0 where
   pub chooses : (outline n).chooses ≡ (outline w).chooses
 
 -- what is so of two trees is so of what they are
-along : (V : Assured) (p : Position) (n w a b : Tree) → n ≡ a → w ≡ b → Idles V p a b → Idles V p n w
+pub along : (V : Assured) (p : Position) (n w a b : Tree) → n ≡ a → w ≡ b → Idles V p a b → Idles V p n w
 along V p n w a b e f k = subst (λ t. Idles V p t w) (sym e) (subst (Idles V p a) (sym f) k)
 
 record Still (t : Tree) : Type 0 where

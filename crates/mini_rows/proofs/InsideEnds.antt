@@ -6,7 +6,7 @@ use Rattle.mini_model.specs.declared.kind.VariableDeclarationKind.TheVariants.{V
 use Rattle.mini_model.specs.declared.name.Name.{Name}
 use Rattle.mini_model.specs.declared.shape.Shape.{Shape}
 use Rattle.mini_model.specs.declared.shape.Shape.TheVariants as shape
-use Rattle.mini_model.specs.Tree.{Tree, Trees, node, none, ◌▸◌, absent, shape_of, count, child_or_absent, is_absent, expression_statement}
+use Rattle.mini_model.specs.Tree.{Tree, Trees, node, none, ◌▸◌, shape_of, count, child_or_absent, is_absent, expression_statement}
 use Rattle.mini_model.specs.Paths.{append}
 use Rattle.mini_accept.specs.WellShaped.{Depth, a_statement, a_block, one, one_or_absent, fits}
 use Rattle.mini_laws.specs.declared.names.Declared.TheVariants as declared
@@ -32,6 +32,7 @@ use Rattle.mini_rows.specs.declared.inside.Way.TheVariants as way
 use Rattle.mini_rows.specs.Inside.{declares_var, HeadEnd}
 use Rattle.mini_rows.specs.Lists.{block, declaration, is_unscoped}
 use Rattle.mini_rows.specs.Unused.{resolved, declared_one, declared_among, declared_left, head_left, put_first, BlockRow}
+use Rattle.mini_rows.specs.Switches.{Liberties}
 use Rattle.mini_rows.proofs.ArrangedTrees.{both_same, itself}
 use Rattle.mini_rows.proofs.BranchInside.{no_lexical, same_symbols, same_scoped}
 use Rattle.mini_rows.proofs.DeclaredKept.{none_after, idle_leaves, idle_declares}
@@ -105,7 +106,7 @@ record FirstSimple (d w : Trees) : Type 0 where
   read : is_simple (child_or_absent d 0) ≡ true
   written : is_simple (child_or_absent w 0) ≡ true
 
-row_simple : (W : VariableSet) (p : Tree) (a b : Trees) (e : is_listed_shape (shape_of p) ≡ true) (r : BlockRow W (block (p ▸ a)) (block (p ▸ b))) → declares_var r ≡ true → let t = row_stretch W p a b e r in FirstSimple t.d t.w
+row_simple : (W : Liberties) (p : Tree) (a b : Trees) (e : is_listed_shape (shape_of p) ≡ true) (r : BlockRow W (block (p ▸ a)) (block (p ▸ b))) → declares_var r ≡ true → let t = row_stretch W p a b e r in FirstSimple t.d t.w
 unfolding row_stretch stretch
 row_simple W p a b e (inl r) v =
     let x = resolved r.spelling r.symbol in
@@ -213,7 +214,7 @@ pub record HeldRow (W : VariableSet) (s w : Tree) : Type 0 where
   pub simple : is_simple s ≡ true
   pub simple_left : is_simple w ≡ true
 
-pub held_row : (W : VariableSet) (q s w : Tree) (e : is_listed_shape (shape_of q) ≡ true) (r : BlockRow W (block (q ▸ (s ▸ none))) (block (q ▸ (w ▸ none)))) → declares_var r ≡ true → (h : HeldRow W s w) × (let t = row_stretch W q (s ▸ none) (w ▸ none) e r in (h.spelling ≡ t.spelling) × (h.symbol ≡ t.symbol))
+pub held_row : (W : Liberties) (q s w : Tree) (e : is_listed_shape (shape_of q) ≡ true) (r : BlockRow W (block (q ▸ (s ▸ none))) (block (q ▸ (w ▸ none)))) → declares_var r ≡ true → (h : HeldRow W.writable s w) × (let t = row_stretch W q (s ▸ none) (w ▸ none) e r in (h.spelling ≡ t.spelling) × (h.symbol ≡ t.symbol))
 held_row W q s w e r is_var =
     let t = row_stretch W q (s ▸ none) (w ▸ none) e r in
     let x = resolved t.spelling t.symbol in
@@ -224,7 +225,7 @@ held_row W q s w e r is_var =
       record {
         spelling = t.spelling;
         symbol = t.symbol;
-        loses = subst₂ (Loses W t.spelling t.symbol) o.these those t.loses;
+        loses = subst₂ (Loses W.writable t.spelling t.symbol) o.these those t.loses;
         vars = subst₂ (VarThere x) o.these those v;
         simple = sym (ap (λ ts. is_simple (child_or_absent ts 0)) o.these) ∙ simple.read;
         simple_left = sym (ap (λ ts. is_simple (child_or_absent ts 0)) those) ∙ simple.written;
@@ -234,14 +235,14 @@ held_row W q s w e r is_var =
 
 -- one statement is left of it
 
-row_left : (W : VariableSet) (p : Tree) (a b : Trees) (e : is_listed_shape (shape_of p) ≡ true) (r : BlockRow W (block (p ▸ a)) (block (p ▸ b))) → let t = row_stretch W p a b e r in (count t.d ≡ 1) → (v : Tree) × (t.w ≡ v ▸ none)
+row_left : (W : Liberties) (p : Tree) (a b : Trees) (e : is_listed_shape (shape_of p) ≡ true) (r : BlockRow W (block (p ▸ a)) (block (p ▸ b))) → let t = row_stretch W p a b e r in (count t.d ≡ 1) → (v : Tree) × (t.w ≡ v ▸ none)
 unfolding row_stretch stretch
 row_left W p a b e (inl r) c = (_, refl)
 row_left W p a b e (inr (inl r)) c = (_, refl)
 row_left W p a b e (inr (inr (inl r))) c = absurd (omega (arith, c))
 row_left W p a b e (inr (inr (inr r))) c = (_, refl)
 
-pub single_left : (W : VariableSet) (q s : Tree) (us : Trees) (e : is_listed_shape (shape_of q) ≡ true) (r : BlockRow W (block (q ▸ (s ▸ none))) (block (q ▸ us))) → declares_var r ≡ true → (v : Tree) × (us ≡ v ▸ none)
+pub single_left : (W : Liberties) (q s : Tree) (us : Trees) (e : is_listed_shape (shape_of q) ≡ true) (r : BlockRow W (block (q ▸ (s ▸ none))) (block (q ▸ us))) → declares_var r ≡ true → (v : Tree) × (us ≡ v ▸ none)
 single_left W q s us e r is_var =
     let t = row_stretch W q (s ▸ none) us e r in
     let x = resolved t.spelling t.symbol in
@@ -284,7 +285,7 @@ is_it_read : (v : Use) → is_read v ≡ true → Read ≡ v
 is_it_read Read e = refl
 is_it_read v e = absurd (cc e)
 
-module _ (W : VariableSet) (o : Trees) (n w : Tree) (r : HeadEnd W o n w) where
+module _ (W : Liberties) (o : Trees) (n w : Tree) (r : HeadEnd W o n w) where
   abbrev x : Name
   x = resolved r.spelling r.symbol
 
@@ -335,7 +336,7 @@ module _ (W : VariableSet) (o : Trees) (n w : Tree) (r : HeadEnd W o n w) where
     declares = λ all a. (leaves.declares all (a, tt)).0;
     clash = clash_there;
     block = λ z. absurd (cc z);
-    fits_there = λ strict b m z e. head_fits Var x r.first r.init r.last absent absent absent strict e;
+    fits_there = λ strict b m z e. head_fits Var x r.first r.init r.last strict e;
   }
 
   pub head_keeps : Keeping r.spelling r.symbol way.Head n w

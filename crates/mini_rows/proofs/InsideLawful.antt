@@ -7,10 +7,10 @@ use Rattle.mini_model.specs.declared.place.Position.TheVariants.{Expr, Stmt, Met
 use Rattle.mini_model.specs.Tree.{Tree, Trees, none, ◌▸◌, absent, listed}
 use Rattle.mini_model.specs.Paths.{append}
 use Rattle.mini_laws.specs.Path.{plug}
-use Rattle.mini_laws.specs.Value.{VariableSet}
 use Rattle.mini_kept.proofs.Loosely.{loose_narrowed}
 use Rattle.mini_rows.specs.Inside.{above, Holder, Arrow, Function, Module, Static, over, stands_at, InsideRow, InsideContracts, InsideIsLawful}
 use Rattle.mini_rows.specs.Unused.{resolved, names, any_names}
+use Rattle.mini_rows.specs.Switches.{Liberties}
 use Rattle.mini_rows.proofs.FunctionBodyLawful.{OfUnused, held_loose}
 use Rattle.mini_rows.proofs.InsideMeaning.{EndLoses, end_loses}
 use Rattle.mini_rows.proofs.UnusedNames.{or_parts}
@@ -18,7 +18,7 @@ use Rattle.mini_rows.proofs.UnusedStretches.{Stretch}
 
 -- ---- nothing else in the body mentions it
 
-appended : (x : Name) (first : Trees) (t : Tree) (last : Trees) → any_names x (append first (t ▸ last)) ≡ false → (any_names x first ≡ false) × (names x t ≡ false) × (any_names x last ≡ false)
+pub appended : (x : Name) (first : Trees) (t : Tree) (last : Trees) → any_names x (append first (t ▸ last)) ≡ false → (any_names x first ≡ false) × (names x t ≡ false) × (any_names x last ≡ false)
 appended x none t last e = let (a, b) = or_parts (names x t) (any_names x last) e in (refl, a, b)
 appended x (u ▸ first) t last e =
     let (a, b) = or_parts (names x u) (any_names x (append first (t ▸ last))) e in
@@ -30,13 +30,13 @@ once true e = absurd (true≢false e)
 once false e = refl
 
 -- nor of its holder
-abbrev front : Holder → Tree
+abbrev pub front : Holder → Tree
 front (Arrow directives n parameters) = listed parameters
 front (Function is_declared is_generator directives n name parameters) = listed (name ▸ parameters)
 front (Module directives) = listed none
 front (Static n) = listed none
 
-in_front : (x : Name) (o : Holder) → names x (over o absent) ≡ false → names x (front o) ≡ false
+pub in_front : (x : Name) (o : Holder) → names x (over o absent) ≡ false → names x (front o) ≡ false
 in_front x (Arrow ds n ps) e = once (any_names x ps) e
 in_front x (Function d g ds n name ps) e =
     let (a, b) = or_parts (names x name) (any_names x ps || false) e in
@@ -46,11 +46,11 @@ in_front x (Static n) e = refl
 
 -- ---- so its statements lose the name
 
-module _ (W : VariableSet) (n w : Tree) (r : InsideRow W n w) where
+module _ (W : Liberties) (n w : Tree) (r : InsideRow W n w) where
   abbrev outer : Trees
   outer = over r.holder absent ▸ (listed (append r.first (absent ▸ r.last)) ▸ above r.place)
 
-  abbrev inner : EndLoses W r.end outer r.read r.put
+  abbrev inner : EndLoses W.writable r.end outer r.read r.put
   inner = end_loses W r.end outer r.read r.put r.row
 
   abbrev x : Name
@@ -62,7 +62,7 @@ module _ (W : VariableSet) (n w : Tree) (r : InsideRow W n w) where
   abbrev later : Trees
   later = append r.first (plug r.place r.put ▸ r.last)
 
-  stretch : Stretch W (front r.holder) earlier later
+  stretch : Stretch W.writable (front r.holder) earlier later
   stretch =
       let (held_free, rest) = or_parts (names x (over r.holder absent)) (any_names x (listed (append r.first (absent ▸ r.last)) ▸ above r.place)) inner.outside in
       let (list_free, own) = or_parts (any_names x (append r.first (absent ▸ r.last))) (any_names x (above r.place)) rest in
@@ -84,10 +84,10 @@ module _ (W : VariableSet) (n w : Tree) (r : InsideRow W n w) where
 
 -- ---- whatever holds them
 
-either_holder : (W : VariableSet) (p : Position) (n w : Tree) → InsideContracts W p n w → OfUnused W p n w
+either_holder : (W : Liberties) (p : Position) (n w : Tree) → InsideContracts W p n w → OfUnused W p n w
 either_holder W p n w c = by c.row.holder p c.stands (stretch W n w c.row) c.row.shape c.row.written
   where
-    by : (o : Holder) (p : Position) → stands_at o p ≡ true → {a b : Trees} → Stretch W (front o) a b → n ≡ over o (listed a) → w ≡ over o (listed b) → OfUnused W p n w
+    by : (o : Holder) (p : Position) → stands_at o p ≡ true → {a b : Trees} → Stretch W.writable (front o) a b → n ≡ over o (listed a) → w ≡ over o (listed b) → OfUnused W p n w
     by (Arrow ds k ps) (Expr s) e {a} {b} t f g = inr (inl (record { directives = ds; number = k; parameters = ps; before = a; after = b; there = t; shape = f; written = g }))
     by (Arrow ds k ps) p e t f g = absurd (cc e)
     by (Function d g ds k name ps) (Stmt q) e {a} {b} t f h = inr (inr (inl (refl, record { is_declared = d; is_generator = g; directives = ds; number = k; name = name; parameters = ps; before = a; after = b; there = t; shape = f; written = h })))
@@ -101,4 +101,4 @@ either_holder W p n w c = by c.row.holder p c.stands (stretch W n w c.row) c.row
     by (Static k) p e t f g = absurd (cc e)
 
 pub inside_loose : InsideIsLawful
-inside_loose K W = loose_narrowed (InsideContracts W) (OfUnused W) K W (either_holder W) (held_loose K W)
+inside_loose K W = loose_narrowed (InsideContracts W) (OfUnused W) K W.writable (either_holder W) (held_loose K W)

@@ -1,11 +1,12 @@
 -- A statement without a `var` further inside: what it keeps, and that it means the same but for what that variable holds.
-use Rattle.std.specs.Prelude.{ℕ, zero, suc, ◌≡◌, refl, ◌||◌, true, false, List, [], ◌∷◌, length, Option, Some, None}
+use Rattle.std.specs.Prelude.{ℕ, zero, suc, ◌≡◌, refl, ◌||◌, Bool, true, false, List, [], ◌∷◌, length, Option, Some, None}
 use Rattle.std.proofs.Common.{ap, ◌∙◌, sym, subst, inr, true≢false, arith}
 use Rattle.std.proofs.lemmas.List.{append-nil}
 use Rattle.mini_model.specs.declared.name.Name.{Name}
 use Rattle.mini_model.specs.declared.shape.Shape.{Shape}
 use Rattle.mini_model.specs.declared.shape.Shape.TheVariants as shape
 use Rattle.mini_model.specs.Tree.{Tree, Trees, node, none, ◌▸◌, absent, listed, count}
+use Rattle.mini_accept.specs.WellShaped.{Depth, each, fill}
 use Rattle.mini_laws.specs.declared.names.Declared.TheVariants as declared
 use Rattle.mini_laws.specs.declared.names.Use.TheVariants.{Read}
 use Rattle.mini_laws.specs.Asking.{demand, list_demand, tail_demand, last_tail}
@@ -33,7 +34,7 @@ use Rattle.mini_rows.proofs.ListShapes.{first_fits, more_fit}
 use Rattle.mini_rows.proofs.InsideKept.{Keeping, step, keeps_held}
 use Rattle.mini_rows.proofs.InsideStages.{Stage, Braces, Then, Else, While, Doing, For, ForIn, ForOf, Labeled, Tried, Caught, Finally, Switched, Items, Cases, Case, Handler, Heading, from, to, head, before, over, plainly, view}
 use Rattle.mini_rows.proofs.UnusedKept.{LeavesThere, DeclaresThere}
-use Rattle.mini_rows.proofs.UnusedMeaning.{ReadAs, read_alone}
+use Rattle.mini_rows.proofs.UnusedMeaning.{ReadAs, ReadThere, read_alone}
 use Rattle.mini_rows.proofs.UnusedNames.{or_parts, all_avoided}
 use Rattle.mini_rows.proofs.UnusedStretches.{item_in, Loses}
 
@@ -242,8 +243,7 @@ module _ (s : List ℕ) (k : ℕ) (z : Way) (runs : (q : Demand) → Asked z q �
 
 -- ---- it loses the name
 
-module _ (W : VariableSet) (s : List ℕ) (k : ℕ) (z : Way) (other : same_way z way.Statement ≡ false) (a b : Tree) (keeps : Keeping s k z a b) (avoided : Avoids (alone (Declared k)) b) (p : Path) (route : is_way_to z (Some way.Statement) p ≡ true) (free : any_names (resolved s k) (above p) ≡ false)
-    (same : (e : Environment) → Permits W (alone (Declared k)) e → Same e (alone (Declared k)) nothing (Stat None) (listed (plug p a ▸ none)) (listed (plug p b ▸ none))) where
+module _ (s : List ℕ) (k : ℕ) (z : Way) (other : same_way z way.Statement ≡ false) (a b : Tree) (keeps : Keeping s k z a b) (avoided : Avoids (alone (Declared k)) b) (p : Path) (route : is_way_to z (Some way.Statement) p ≡ true) (free : any_names (resolved s k) (above p) ≡ false) where
   abbrev name : Name
   name = resolved s k
 
@@ -259,7 +259,7 @@ module _ (W : VariableSet) (s : List ℕ) (k : ℕ) (z : Way) (other : same_way 
   known : States read written
   known = states z other p a b route
 
-  leaves : LeavesThere name (read ▸ none) (written ▸ none)
+  pub leaves : LeavesThere name (read ▸ none) (written ▸ none)
   unfolding Unmentioned
   leaves = record {
     inner = λ b a. (ap (λ c. c || b) kept.inner ∙ a.0, tt);
@@ -277,7 +277,7 @@ module _ (W : VariableSet) (s : List ℕ) (k : ℕ) (z : Way) (other : same_way 
     declares = λ all a. (kept.declares all a.0, tt);
   }
 
-  declares : DeclaresThere name (read ▸ none) (written ▸ none)
+  pub declares : DeclaresThere name (read ▸ none) (written ▸ none)
   unfolding body_names
   declares = record {
     first = kept.first;
@@ -289,13 +289,17 @@ module _ (W : VariableSet) (s : List ℕ) (k : ℕ) (z : Way) (other : same_way 
     clash = λ o. no_more_both (as_body o read) (as_body o written) [] [] (kept.clash o) (no_more_same [] [] refl);
   }
 
-  pub loses : Loses W s k (read ▸ none) (written ▸ none)
-  loses = record {
-    leaves = leaves;
-    declares = declares;
-    read = read_alone k read written (known.read k);
-    same = same;
-    avoids = (plug_avoids (alone (Declared k)) p b (path_avoids s k z way.Statement p route free) avoided, tt);
-    fits = λ o strict h. let (f, rest) = first_fits strict (item_in o) read none h in more_fit strict (item_in o) written none (kept.fits_there strict false false o f) rest;
-    ported = λ rest. known.ported rest;
-  }
+  pub read_there : ReadThere k (read ▸ none) (written ▸ none)
+  read_there = read_alone k read written (known.read k)
+
+  pub avoids_there : AllAvoid (alone (Declared k)) (written ▸ none)
+  avoids_there = (plug_avoids (alone (Declared k)) p b (path_avoids s k z way.Statement p route free) avoided, tt)
+
+  pub fits_there : (o : Depth) (strict : Bool) → fill strict (each (item_in o)) (read ▸ none) ≡ true → fill strict (each (item_in o)) (written ▸ none) ≡ true
+  fits_there o strict h = let (f, rest) = first_fits strict (item_in o) read none h in more_fit strict (item_in o) written none (kept.fits_there strict false false o f) rest
+
+  pub ported_there : (rest : Trees) → ports true (read ▸ rest) ≡ ports true (written ▸ rest)
+  ported_there = known.ported
+
+  pub loses : (W : VariableSet) → ((e : Environment) → Permits W (alone (Declared k)) e → Same e (alone (Declared k)) nothing (Stat None) (listed (read ▸ none)) (listed (written ▸ none))) → Loses W s k (read ▸ none) (written ▸ none)
+  loses W same = record { leaves = leaves; declares = declares; read = read_there; same = same; avoids = avoids_there; fits = fits_there; ported = ported_there }

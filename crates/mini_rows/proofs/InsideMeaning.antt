@@ -33,10 +33,11 @@ use Rattle.mini_rows.specs.declared.inside.Way.TheVariants as way
 use Rattle.mini_rows.specs.Inside.{way_in, above, same_way, is_way_to, ListEnd, HeldEnd, HeadEnd, EndRow}
 use Rattle.mini_rows.specs.Lists.{block, declaration}
 use Rattle.mini_rows.specs.Unused.{resolved, names, any_names, declared_among, head_left}
+use Rattle.mini_rows.specs.Switches.{Liberties}
 use Rattle.mini_rows.proofs.ForHeadLawful.{left_same}
 use Rattle.mini_rows.proofs.InsideEnds.{is_simple, unscoped, HeldRow, held_row, held_keeps, head_keeps, head_avoided}
 use Rattle.mini_rows.proofs.InsideLoses.{joined_unnamed, no_way, ways_same, Runs, Asked, plug_avoids, listed_same, there_same, loses}
-use Rattle.mini_rows.proofs.InsideNames.{row_vars, list_keeps}
+use Rattle.mini_rows.proofs.InsideNames.{row_vars, of_stretch, list_keeps}
 use Rattle.mini_rows.proofs.InsideStages.{Stage, Then, Else, While, Doing, For, ForIn, ForOf, Labeled, Heading, from, to, head, before, over, plainly, view}
 use Rattle.mini_rows.proofs.ListHeads.{for_names}
 use Rattle.mini_rows.proofs.ListStatements.{one_unscoped, block_is}
@@ -251,7 +252,7 @@ module _ (W : VariableSet) (s w : Tree) (r : HeldRow W s w) (e : Environment) (u
 
 -- in the head of a `for`
 
-heading_both : (W : VariableSet) (o : Trees) (n w : Tree) (r : HeadEnd W o n w) (e : Environment) → Permits W (alone (Declared r.symbol)) e → (g : Stage) → to g ≡ way.Head → (post : Trees) → any_names (resolved r.spelling r.symbol) (join (before g) absent post) ≡ false → Both e (alone (Declared r.symbol)) (over g n post) (over g w post)
+heading_both : (W : Liberties) (o : Trees) (n w : Tree) (r : HeadEnd W o n w) (e : Environment) → Permits W.writable (alone (Declared r.symbol)) e → (g : Stage) → to g ≡ way.Head → (post : Trees) → any_names (resolved r.spelling r.symbol) (join (before g) absent post) ≡ false → Both e (alone (Declared r.symbol)) (over g n post) (over g w post)
 heading_both W o n w r e u Heading h post free =
     let D = alone (Declared r.symbol) in
     let x = resolved r.spelling r.symbol in
@@ -304,53 +305,53 @@ pub record EndLoses (W : VariableSet) (z : Way) (o : Trees) (a b : Tree) : Type 
   pub outside : any_names (resolved spelling symbol) o ≡ false
   pub loses : (p : Path) → is_way_to z (Some way.Statement) p ≡ true → any_names (resolved spelling symbol) (above p) ≡ false → Loses W spelling symbol (plug p a ▸ none) (plug p b ▸ none)
 
-list_loses : (W : VariableSet) (o : Trees) (a b : Tree) → ListEnd W o a b → EndLoses W way.Statements o a b
+list_loses : (W : Liberties) (o : Trees) (a b : Tree) → ListEnd W o a b → EndLoses W.writable way.Statements o a b
 list_loses W o a b r =
     let t = row_stretch W (listed o) r.list r.left refl r.row in
     let D = alone (Declared t.symbol) in
     let x = resolved t.spelling t.symbol in
     let v = row_vars W (listed o) r.list r.left refl r.row r.var in
-    let keeps = list_keeps W (listed o) r.list r.left t v in
+    let keeps = list_keeps r.list r.left (of_stretch W.writable (listed o) r.list r.left t) v in
     let list_before = append t.before (append t.d t.after) in
     let list_after = append t.before (append t.w t.after) in
     let after_free = all_avoided x t.symbol refl t.after t.later in
     let avoids_list : AllAvoid D list_after = all_join D t.before (append t.w t.after) (all_avoided x t.symbol refl t.before t.earlier) (all_join D t.w t.after t.loses.avoids after_free) in
     let avoided : Avoids D (listed r.left) = (tt, subst (AllAvoid D) (sym t.written_is) avoids_list) in
-    let these : EndLoses W way.Statements o (listed r.list) (listed r.left) = record {
+    let these : EndLoses W.writable way.Statements o (listed r.list) (listed r.left) = record {
       spelling = t.spelling;
       symbol = t.symbol;
       outside = t.outside;
-      loses = λ p route free. loses W t.spelling t.symbol way.Statements refl (listed r.list) (listed r.left) keeps avoided p route free (λ e u.
+      loses = λ p route free. loses t.spelling t.symbol way.Statements refl (listed r.list) (listed r.left) keeps avoided p route free W.writable (λ e u.
           subst₂ (λ ts us. Same e D nothing (Stat None) (listed (plug p (listed ts) ▸ none)) (listed (plug p (listed us) ▸ none))) (sym t.read_is) (sym t.written_is)
           (listed_same t.spelling t.symbol way.Statements (λ q a. a) p free e u.unseen.shared (listed list_before) (listed list_after) (tt, avoids_list) (list_read e t.spelling t.symbol u.unseen t.before t.after t.d t.w t.loses.read)
           (λ i. list_same e t.spelling t.symbol u.unseen t.before t.after t.d t.w after_free (t.loses.same e u) i) route));
     } in
-    subst₂ (EndLoses W way.Statements o) (sym r.shape) (sym r.written) these
+    subst₂ (EndLoses W.writable way.Statements o) (sym r.shape) (sym r.written) these
 
-held_loses : (W : VariableSet) (o : Trees) (a b : Tree) → HeldEnd W o a b → EndLoses W way.Held o a b
+held_loses : (W : Liberties) (o : Trees) (a b : Tree) → HeldEnd W o a b → EndLoses W.writable way.Held o a b
 held_loses W o a b r =
     let t = row_stretch W (listed o) (a ▸ none) (b ▸ none) refl r.row in
     let (h, (same_spelling, same_symbol)) = held_row W (listed o) a b refl r.row r.var in
     let D = alone (Declared h.symbol) in
-    let keeps = held_keeps W h.spelling h.symbol a b h.loses h.vars h.simple h.simple_left in
+    let keeps = held_keeps W.writable h.spelling h.symbol a b h.loses h.vars h.simple h.simple_left in
     record {
       spelling = h.spelling;
       symbol = h.symbol;
       outside = (λ j. any_names (resolved (same_spelling j) (same_symbol j)) o) ∙ t.outside;
-      loses = λ p route free. loses W h.spelling h.symbol way.Held refl a b keeps h.loses.avoids.0 p route free
-          (λ e u. end_same h.spelling h.symbol way.Held refl refl a b h.loses.avoids.0 e u.unseen.shared (held_both W a b h e u) p route free);
+      loses = λ p route free. loses h.spelling h.symbol way.Held refl a b keeps h.loses.avoids.0 p route free W.writable
+          (λ e u. end_same h.spelling h.symbol way.Held refl refl a b h.loses.avoids.0 e u.unseen.shared (held_both W.writable a b h e u) p route free);
     }
 
-head_loses : (W : VariableSet) (o : Trees) (a b : Tree) → HeadEnd W o a b → EndLoses W way.Head o a b
+head_loses : (W : Liberties) (o : Trees) (a b : Tree) → HeadEnd W o a b → EndLoses W.writable way.Head o a b
 head_loses W o a b r = record {
   spelling = r.spelling;
   symbol = r.symbol;
   outside = r.outside;
-  loses = λ p route free. loses W r.spelling r.symbol way.Head refl a b (head_keeps W o a b r) (head_avoided W o a b r) p route free
+  loses = λ p route free. loses r.spelling r.symbol way.Head refl a b (head_keeps W o a b r) (head_avoided W o a b r) p route free W.writable
       (λ e u. end_same r.spelling r.symbol way.Head refl refl a b (head_avoided W o a b r) e u.unseen.shared (heading_both W o a b r e u) p route free);
 }
 
-pub end_loses : (W : VariableSet) (z : Way) (o : Trees) (a b : Tree) → EndRow z W o a b → EndLoses W z o a b
+pub end_loses : (W : Liberties) (z : Way) (o : Trees) (a b : Tree) → EndRow z W o a b → EndLoses W.writable z o a b
 end_loses W way.Statements o a b r = list_loses W o a b r
 end_loses W way.Held o a b r = held_loses W o a b r
 end_loses W way.Head o a b r = head_loses W o a b r

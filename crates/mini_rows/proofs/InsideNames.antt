@@ -1,5 +1,5 @@
 -- A list of statements without a `var` that nothing else mentions: which names it declares, and what it keeps.
-use Rattle.std.specs.Prelude.{◌≡◌, ◌≤◌, refl, not, Bool, true, false, List, [], ◌∷◌, ◌++◌}
+use Rattle.std.specs.Prelude.{ℕ, ◌≡◌, ◌≤◌, refl, not, Bool, true, false, List, [], ◌∷◌, ◌++◌}
 use Rattle.std.proofs.Common.{ap, ◌∙◌, sym, subst, inl, inr, true≢false, append_assoc}
 use Rattle.std.proofs.lemmas.List.{append-nil}
 use Rattle.mini_model.specs.declared.kind.VariableDeclarationKind.{VariableDeclarationKind}
@@ -15,7 +15,7 @@ use Rattle.mini_laws.specs.declared.names.Use.TheVariants.{Read}
 use Rattle.mini_laws.specs.DeclaredNames.{names_of, all_names}
 use Rattle.mini_laws.specs.Early.{is_loop}
 use Rattle.mini_laws.specs.Naming.{is_lexical}
-use Rattle.mini_laws.specs.Scoped.{Scoped, Unmentioned}
+use Rattle.mini_laws.specs.Scoped.{Scoped, Unmentioned, AllUnmentioned}
 use Rattle.mini_laws.specs.Symbols.{declared as declared_in, times}
 use Rattle.mini_laws.specs.Value.{VariableSet}
 use Rattle.mini_kept.specs.KeepsNames.{is_read}
@@ -30,6 +30,7 @@ use Rattle.mini_rows.specs.declared.inside.Way.TheVariants as way
 use Rattle.mini_rows.specs.Inside.{declares_var}
 use Rattle.mini_rows.specs.Lists.{block, declaration}
 use Rattle.mini_rows.specs.Unused.{resolved, names, any_names, declared_one, declared_among, declared_left, put_first, BlockRow}
+use Rattle.mini_rows.specs.Switches.{Liberties}
 use Rattle.mini_rows.proofs.Arranging.{Any}
 use Rattle.mini_rows.proofs.ArrangedBodies.{HasBodies, bodies_local, HasFrames, frames_local, Declares, declares_local, FixedBy, fixed_local}
 use Rattle.mini_rows.proofs.ArrowBodyLawful.{list_fits, none_mention}
@@ -39,7 +40,7 @@ use Rattle.mini_rows.proofs.HeadMeaning.{head_unnamed}
 use Rattle.mini_rows.proofs.InsideKept.{Keeping}
 use Rattle.mini_rows.proofs.ListKeptDeclarations.{all_both}
 use Rattle.mini_rows.proofs.ListKeptStretch.{stretched}
-use Rattle.mini_rows.proofs.UnusedKept.{NamesThere, list_inner, list_scoped, list_symbols, list_numbers, list_once, list_targets}
+use Rattle.mini_rows.proofs.UnusedKept.{LeavesThere, DeclaresThere, NamesThere, list_inner, list_scoped, list_symbols, list_numbers, list_once, list_targets}
 use Rattle.mini_rows.proofs.UnusedMeaning.{movable}
 use Rattle.mini_rows.proofs.UnusedNames.{Other, other_both, all_other, declared_other}
 use Rattle.mini_rows.proofs.UnusedStretches.{item_in, Stretch, stretch, row_stretch}
@@ -89,7 +90,7 @@ idle_vars x first init last f g = record {
   others_last = all_other x declared.Bound last g;
 }
 
-next_vars : (x : Name) (first : Trees) (init binds value put : Tree) (last : Trees) → any_names x first ≡ false → names x binds ≡ false → any_names x last ≡ false → VarThere x (declared_among Var x first init (declarator binds value ▸ last) ▸ none) (declaration Var (append first (declarator binds put ▸ last)) ▸ none)
+pub next_vars : (x : Name) (first : Trees) (init binds value put : Tree) (last : Trees) → any_names x first ≡ false → names x binds ≡ false → any_names x last ≡ false → VarThere x (declared_among Var x first init (declarator binds value ▸ last) ▸ none) (declaration Var (append first (declarator binds put ▸ last)) ▸ none)
 unfolding names_of
 next_vars x first init binds value put last f o g = record {
   lexical = refl;
@@ -117,17 +118,17 @@ alone_first x [] last zs o e = (refl, ap behind e)
 alone_first x (y ∷ ys) last zs o e = absurd (true≢false (sym (text_itself x.spelling) ∙ ap (λ z. same_text x.spelling z.spelling) (ap (head_or x) e) ∙ o.0))
 
 -- what it declares stays
-record SameHead (head put : Tree) : Type 0 where
-  lexical : names_of declared.Lexical put ++ [] ≡ names_of declared.Lexical head ++ []
-  hoisted : names_of declared.Hoisted put ++ [] ≡ names_of declared.Hoisted head ++ []
+pub record SameHead (head put : Tree) : Type 0 where
+  pub lexical : names_of declared.Lexical put ++ [] ≡ names_of declared.Lexical head ++ []
+  pub hoisted : names_of declared.Hoisted put ++ [] ≡ names_of declared.Hoisted head ++ []
 
-same_head : (x : Name) (init head put : Tree) → NamesThere x (declared_among Let x none init none ▸ (head ▸ none)) (declared_left Let none ▸ (put ▸ none)) → SameHead head put
+pub same_head : (x : Name) (init head put : Tree) → NamesThere x (declared_among Let x none init none ▸ (head ▸ none)) (declared_left Let none ▸ (put ▸ none)) → SameHead head put
 unfolding names_of
 same_head x init head put n =
     let (begins, rest) = alone_first x n.first n.last (names_of declared.Lexical head ++ []) n.others_first n.names in
     record { lexical = n.left ∙ ap (λ f. f ++ n.last) begins ∙ sym rest; hoisted = n.hoists }
 
-head_vars : (x : Name) (first : Trees) (init head put : Tree) → any_names x first ≡ false → Other x (names_of declared.Hoisted put) → SameHead head put → VarThere x (declared_among Var x first init none ▸ (head ▸ none)) (declared_left Var first ▸ (put ▸ none))
+pub head_vars : (x : Name) (first : Trees) (init head put : Tree) → any_names x first ≡ false → Other x (names_of declared.Hoisted put) → SameHead head put → VarThere x (declared_among Var x first init none ▸ (head ▸ none)) (declared_left Var first ▸ (put ▸ none))
 unfolding names_of
 head_vars x first init head put f o h =
     let bound = all_names declared.Bound first in
@@ -143,7 +144,7 @@ head_vars x first init head put f o h =
 
 -- ---- of a row
 
-pub row_vars : (W : VariableSet) (p : Tree) (a b : Trees) (e : is_listed_shape (shape_of p) ≡ true) (r : BlockRow W (block (p ▸ a)) (block (p ▸ b))) → declares_var r ≡ true → let t = row_stretch W p a b e r in VarThere (resolved t.spelling t.symbol) t.d t.w
+pub row_vars : (W : Liberties) (p : Tree) (a b : Trees) (e : is_listed_shape (shape_of p) ≡ true) (r : BlockRow W (block (p ▸ a)) (block (p ▸ b))) → declares_var r ≡ true → let t = row_stretch W p a b e r in VarThere (resolved t.spelling t.symbol) t.d t.w
 unfolding row_stretch stretch
 row_vars W p a b e (inl r) v =
     let x = resolved r.spelling r.symbol in
@@ -154,7 +155,7 @@ row_vars W p a b e (inr (inl r)) v =
 row_vars W p a b e (inr (inr (inl r))) v =
     let x = resolved r.spelling r.symbol in
     let put = put_first x r.init r.head in
-    let same = same_head x r.init r.head put (head_names Let x r.symbol refl none r.init r.head (movable r.init r.moves) r.once r.initial refl refl) in
+    let same = same_head x r.init r.head put (head_names Let x r.symbol refl none r.init r.head (movable W.switches r.init r.moves) r.once r.initial refl refl) in
     no_var r.kind (λ K. VarThere x (declared_among K x r.first r.init none ▸ (r.head ▸ none)) (declared_left K r.first ▸ (put ▸ none))) v (head_vars x r.first r.init r.head put r.declared_earlier (declared_other x declared.Hoisted put (head_unnamed x r.head r.once r.init r.initial)) same)
 row_vars W p a b e (inr (inr (inr r))) v =
     let x = resolved r.spelling r.symbol in
@@ -166,7 +167,42 @@ is_reading : (v : Use) → is_read v ≡ true → Read ≡ v
 is_reading Read e = refl
 is_reading v e = absurd (cc e)
 
-module _ (W : VariableSet) (p : Tree) (a b : Trees) (t : Stretch W p a b) (v : VarThere (resolved t.spelling t.symbol) t.d t.w) where
+-- statements that lose a name, whatever they mean
+pub record Losing (a b : Trees) : Type 0 where
+  pub spelling : List ℕ
+  pub symbol : ℕ
+  pub before : Trees
+  pub after : Trees
+  pub d : Trees
+  pub w : Trees
+  pub leaves : LeavesThere (resolved spelling symbol) d w
+  pub declares : DeclaresThere (resolved spelling symbol) d w
+  pub earlier : any_names (resolved spelling symbol) before ≡ false
+  pub later : any_names (resolved spelling symbol) after ≡ false
+  pub unmentioned : AllUnmentioned (record { name = resolved spelling symbol; hoists = false }) (append before (append w after))
+  pub fits : (o : Depth) (strict : Bool) → fill strict (each (item_in o)) a ≡ true → fill strict (each (item_in o)) b ≡ true
+  pub read_is : a ≡ append before (append d after)
+  pub written_is : b ≡ append before (append w after)
+
+abbrev pub of_stretch : (W : VariableSet) (p : Tree) (a b : Trees) → Stretch W p a b → Losing a b
+of_stretch W p a b t = record {
+  spelling = t.spelling;
+  symbol = t.symbol;
+  before = t.before;
+  after = t.after;
+  d = t.d;
+  w = t.w;
+  leaves = t.loses.leaves;
+  declares = t.loses.declares;
+  earlier = t.earlier;
+  later = t.later;
+  unmentioned = none_mention W p a b t;
+  fits = list_fits p a b t;
+  read_is = t.read_is;
+  written_is = t.written_is;
+}
+
+module _ (a b : Trees) (t : Losing a b) (v : VarThere (resolved t.spelling t.symbol) t.d t.w) where
   abbrev x : Name
   x = resolved t.spelling t.symbol
 
@@ -193,7 +229,7 @@ module _ (W : VariableSet) (p : Tree) (a b : Trees) (t : Stretch W p a b) (v : V
 
   nowhere : Unmentioned (record { name = x; hoists = false }) (listed (around t.w))
   unfolding Unmentioned
-  nowhere = (tt, none_mention W p a b t)
+  nowhere = (tt, t.unmentioned)
 
   clash_around : (o : Bool) → NoMoreClash (as_body o (listed (around t.w))) (as_body o (listed (around t.d)))
   clash_around o =
@@ -203,14 +239,14 @@ module _ (W : VariableSet) (p : Tree) (a b : Trees) (t : Stretch W p a b) (v : V
       subst (λ ds. NoMoreClash (as_body o (listed (around t.w))) ds) (sym (both t.d))
       (subst (λ ds. NoMoreClash ds (f ++ (all_as_body o t.d ++ g))) (sym (both t.w))
       (no_more_both f f (all_as_body o t.d ++ g) (all_as_body o t.w ++ g) (no_more_same f f refl)
-      (no_more_both (all_as_body o t.d) (all_as_body o t.w) g g (t.loses.declares.clash o) (no_more_same g g refl))))
+      (no_more_both (all_as_body o t.d) (all_as_body o t.w) g g (t.declares.clash o) (no_more_same g g refl))))
 
   items_fit : (strict : Bool) (o : Depth) → fill strict (each (item_in o)) (around t.d) ≡ true → fill strict (each (item_in o)) (around t.w) ≡ true
-  items_fit strict o e = sym (ap (fill strict (each (item_in o))) t.written_is) ∙ list_fits p a b t o strict (ap (fill strict (each (item_in o))) t.read_is ∙ e)
+  items_fit strict o e = sym (ap (fill strict (each (item_in o))) t.written_is) ∙ t.fits o strict (ap (fill strict (each (item_in o))) t.read_is ∙ e)
 
   pub list_keeps : Keeping t.spelling t.symbol way.Statements (listed a) (listed b)
   list_keeps =
-      let l = t.loses.leaves in
+      let l = t.leaves in
       subst (λ ts. Keeping t.spelling t.symbol way.Statements (listed ts) (listed b)) (sym t.read_is)
       (subst (λ ts. Keeping t.spelling t.symbol way.Statements (listed (around t.d)) (listed ts)) (sym t.written_is)
       (record {

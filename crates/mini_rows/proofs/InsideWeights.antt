@@ -14,13 +14,15 @@ use Rattle.mini_model.specs.Position.{child_position}
 use Rattle.mini_model.specs.Weight.{plain_outline, outline, outlines, one_chooses, weight}
 use Rattle.mini_laws.specs.Path.{Path, here, inside, join, count_joined, plug, position_at}
 use Rattle.mini_laws.specs.Value.{VariableSet}
+use Rattle.mini_laws.specs.Weights.{Lightens}
 use Rattle.mini_laws.proofs.Weights.{replacement, own_kept}
 use Rattle.mini_rows.specs.Declarations.{declarator}
 use Rattle.mini_rows.specs.declared.inside.Way.{Way}
 use Rattle.mini_rows.specs.declared.inside.Way.TheVariants as way
-use Rattle.mini_rows.specs.Inside.{above, way_in, is_way_to, ListEnd, HeldEnd, HeadEnd, EndRow, Holder, Arrow, Function, Module, Static, over, stands_at, InsideRow, InsideLighter, InsideLightens}
+use Rattle.mini_rows.specs.Inside.{above, way_in, is_way_to, ListEnd, HeldEnd, HeadEnd, EndRow, Holder, Arrow, Function, Module, Static, over, stands_at, Ends, InsideOf, InsideAt, unused_ends, InsideLighter, InsideLightens}
 use Rattle.mini_rows.specs.Lists.{block, declaration}
 use Rattle.mini_rows.specs.Unused.{resolved, declared_one, declared_among, declared_left, put_first, BlockRow}
+use Rattle.mini_rows.specs.Switches.{Liberties}
 use Rattle.mini_rows.proofs.InsideEnds.{is_simple, held_row}
 use Rattle.mini_rows.proofs.InsideLoses.{no_way, ways_same}
 use Rattle.mini_rows.proofs.InsideMeaning.{last_step, by_stage}
@@ -36,7 +38,7 @@ same_length : (before after : Trees) (d w : Tree) → length (outlines (append b
 same_length none after d w = refl
 same_length (t ▸ before) after d w = ap suc (same_length before after d w)
 
-one_outline : (before after : Trees) (d w : Tree) → (outline d).chooses ≡ (outline w).chooses → outline (listed (append before (d ▸ after))) ≡ outline (listed (append before (w ▸ after)))
+pub one_outline : (before after : Trees) (d w : Tree) → (outline d).chooses ≡ (outline w).chooses → outline (listed (append before (d ▸ after))) ≡ outline (listed (append before (w ▸ after)))
 one_outline before after d w e = λ i. record plain_outline { items = same_length before after d w i; chooses = same_choice before after d w e i }
 
 -- of two statements neither is the only one
@@ -49,7 +51,7 @@ two_lengths : (before after : Trees) (d e v w : Tree) → length (outlines (appe
 two_lengths none after d e v w = refl
 two_lengths (t ▸ before) after d e v w = ap suc (two_lengths before after d e v w)
 
-two_outlines : (before after : Trees) (d e v w : Tree) → outline (listed (append before (d ▸ (e ▸ after)))) ≡ outline (listed (append before (v ▸ (w ▸ after))))
+pub two_outlines : (before after : Trees) (d e v w : Tree) → outline (listed (append before (d ▸ (e ▸ after)))) ≡ outline (listed (append before (v ▸ (w ▸ after))))
 two_outlines before after d e v w = λ i. record plain_outline { items = two_lengths before after d e v w i; chooses = neither before after d e v w i }
 
 -- behind a first child that neither has
@@ -60,7 +62,7 @@ behind (t ▸ ts) = ts
 stretched_outline : (W : VariableSet) (p : Tree) (a b : Trees) (t : Stretch W p a b) → outline (listed (append t.before (append t.d t.after))) ≡ outline (listed (append t.before (append t.w t.after))) → outline (listed a) ≡ outline (listed b)
 stretched_outline W p a b t e = ap (λ ts. outline (listed ts)) t.read_is ∙ e ∙ sym (ap (λ ts. outline (listed ts)) t.written_is)
 
-row_outline : (W : VariableSet) (p : Trees) (a b : Trees) → (r : BlockRow W (block (listed p ▸ a)) (block (listed p ▸ b))) → let t = row_stretch W (listed p) a b refl r in outline (listed (append t.before (append t.d t.after))) ≡ outline (listed (append t.before (append t.w t.after)))
+row_outline : (W : Liberties) (p : Trees) (a b : Trees) → (r : BlockRow W (block (listed p ▸ a)) (block (listed p ▸ b))) → let t = row_stretch W (listed p) a b refl r in outline (listed (append t.before (append t.d t.after))) ≡ outline (listed (append t.before (append t.w t.after)))
 unfolding row_stretch stretch
 row_outline W p a b (inl r) = let t = row_stretch W (listed p) a b refl (inl r) in one_outline t.before r.after (declared_one r.kind (resolved r.spelling r.symbol) r.init) (expression_statement r.init) refl
 row_outline W p a b (inr (inl r)) =
@@ -76,7 +78,7 @@ row_outline W p a b (inr (inr (inr r))) =
 
 -- ---- where it stands
 
-abbrev Placed : Way → Position → Type 0
+abbrev pub Placed : Way → Position → Type 0
 Placed way.Statements p = p ≡ StatementList
 Placed way.Held p = (q : StmtSeat) × (p ≡ Stmt q)
 Placed w p = Unit {0}
@@ -94,7 +96,7 @@ placed (ForOf a b) p m = (_, refl)
 placed (Labeled a) p m = (_, refl)
 placed g p m = tt
 
-step_placed : (w : Way) (h : Shape) (pre : Trees) (r : Way) (p : Position) (m : ℕ) → way_in w h (count pre) ≡ Some r → Placed r (child_position h p m (count pre))
+pub step_placed : (w : Way) (h : Shape) (pre : Trees) (r : Way) (p : Position) (m : ℕ) → way_in w h (count pre) ≡ Some r → Placed r (child_position h p m (count pre))
 step_placed w h pre r p m e =
     let v = view w h pre r e in
     subst (λ pre. Placed r (child_position h p m (count pre))) v.before_is (subst (λ h. Placed r (child_position h p m (count (before v.stage)))) v.head_is (subst (λ r. Placed r (child_position (head v.stage) p m (count (before v.stage)))) v.to_is (placed v.stage p m)))
@@ -129,22 +131,26 @@ simple_outline (node shape.EmptyStatement xs n ts) e = refl
 simple_outline (node (shape.VariableDeclaration Var) xs n ts) e = refl
 simple_outline (node h xs n ts) e = absurd (true≢false (sym e))
 
-rows_fall : (W : VariableSet) (o list left : Trees) → BlockRow W (block (listed o ▸ list)) (block (listed o ▸ left)) → total left + 1 ≤ total list
+rows_fall : (W : Liberties) (o list left : Trees) → BlockRow W (block (listed o ▸ list)) (block (listed o ▸ left)) → total left + 1 ≤ total list
 rows_fall W o list left r =
     let less = block_lighter stmt_seat.List (block (listed o ▸ list)) (block (listed o ▸ left)) r in
     omega (arith, less, list_is (listed o ▸ list), list_is (listed o ▸ left))
 
-list_falls : (W : VariableSet) (o : Trees) (a b : Tree) → ListEnd W o a b → (k : Path) → is_way_to way.Statements (Some way.Statement) k ≡ true → weight at_item (plug k b) + 1 ≤ weight at_item (plug k a)
-list_falls W o a b r k e =
-    let same = ap outline r.shape ∙ stretched_outline W (listed o) r.list r.left (row_stretch W (listed o) r.list r.left refl r.row) (row_outline W o r.list r.left r.row) ∙ sym (ap outline r.written) in
+-- a list that weighs less does so in what stands around it
+pub lists_fall : (ts us : Trees) → outline (listed ts) ≡ outline (listed us) → total us + 1 ≤ total ts → (a b : Tree) → a ≡ listed ts → b ≡ listed us → (k : Path) → is_way_to way.Statements (Some way.Statement) k ≡ true → weight at_item (plug k b) + 1 ≤ weight at_item (plug k a)
+lists_fall ts us same less a b f g k e =
     let whole = replacement k a b at_item in
-    let above = own_kept k a b at_item same in
+    let above = own_kept k a b at_item (ap outline f ∙ same ∙ sym (ap outline g)) in
     let there = end_placed way.Statements way.Statement k at_item e tt in
-    let old : weight (position_at k at_item) a ≡ weight StatementList (listed r.list) = λ i. weight (there i) (r.shape i) in
-    let new : weight (position_at k at_item) b ≡ weight StatementList (listed r.left) = λ i. weight (there i) (r.written i) in
-    omega (arith, whole, above, old, new, rows_fall W o r.list r.left r.row, list_is r.list, list_is r.left)
+    let old : weight (position_at k at_item) a ≡ weight StatementList (listed ts) = λ i. weight (there i) (f i) in
+    let new : weight (position_at k at_item) b ≡ weight StatementList (listed us) = λ i. weight (there i) (g i) in
+    omega (arith, whole, above, old, new, less, list_is ts, list_is us)
 
-held_falls : (W : VariableSet) (o : Trees) (a b : Tree) → HeldEnd W o a b → (k : Path) → is_way_to way.Held (Some way.Statement) k ≡ true → weight at_item (plug k b) + 1 ≤ weight at_item (plug k a)
+list_falls : (W : Liberties) (o : Trees) (a b : Tree) → ListEnd W o a b → (k : Path) → is_way_to way.Statements (Some way.Statement) k ≡ true → weight at_item (plug k b) + 1 ≤ weight at_item (plug k a)
+list_falls W o a b r =
+    lists_fall r.list r.left (stretched_outline W.writable (listed o) r.list r.left (row_stretch W (listed o) r.list r.left refl r.row) (row_outline W o r.list r.left r.row)) (rows_fall W o r.list r.left r.row) a b r.shape r.written
+
+held_falls : (W : Liberties) (o : Trees) (a b : Tree) → HeldEnd W o a b → (k : Path) → is_way_to way.Held (Some way.Statement) k ≡ true → weight at_item (plug k b) + 1 ≤ weight at_item (plug k a)
 held_falls W o a b r k e =
     let h = (held_row W (listed o) a b refl r.row r.var).0 in
     let whole = replacement k a b at_item in
@@ -154,13 +160,13 @@ held_falls W o a b r k e =
     let new = ap (λ p. weight p b) there ∙ simple_weight q b h.simple_left in
     omega (arith, whole, above, old, new, rows_fall W o (a ▸ none) (b ▸ none) r.row)
 
-heading_falls : (W : VariableSet) (o : Trees) (a b : Tree) → HeadEnd W o a b → (g : Stage) → to g ≡ way.Head → (post : Trees) (p : Position) → (weight p (over_node g b post) < weight p (over_node g a post)) × (outline (over_node g a post) ≡ outline (over_node g b post))
+heading_falls : (W : Liberties) (o : Trees) (a b : Tree) → HeadEnd W o a b → (g : Stage) → to g ≡ way.Head → (post : Trees) (p : Position) → (weight p (over_node g b post) < weight p (over_node g a post)) × (outline (over_node g a post) ≡ outline (over_node g b post))
 heading_falls W o a b r Heading e post p =
     let less = head_falls p Var (resolved r.spelling r.symbol) r.first r.last r.init post in
     (omega (arith, less, ap (λ t. weight p (node shape.ForStatement [] 0 (t ▸ post))) r.shape, ap (λ t. weight p (node shape.ForStatement [] 0 (t ▸ post))) r.written), refl)
 heading_falls W o a b r g e post p = absurd (cc e)
 
-head_end_falls : (W : VariableSet) (o : Trees) (a b : Tree) → HeadEnd W o a b → (k : Path) → is_way_to way.Head (Some way.Statement) k ≡ true → weight at_item (plug k b) + 1 ≤ weight at_item (plug k a)
+head_end_falls : (W : Liberties) (o : Trees) (a b : Tree) → HeadEnd W o a b → (k : Path) → is_way_to way.Head (Some way.Statement) k ≡ true → weight at_item (plug k b) + 1 ≤ weight at_item (plug k a)
 head_end_falls W o a b r k e =
     let c = last_step way.Head k refl e in
     let n = node c.kind [] 0 (join c.pre a c.post) in
@@ -170,7 +176,7 @@ head_end_falls W o a b r k e =
     let above = own_kept c.place n w at_item same in
     omega (arith, less, whole, above, ap (weight at_item) (c.plugs a), ap (weight at_item) (c.plugs b))
 
-end_falls : (W : VariableSet) (z : Way) (o : Trees) (a b : Tree) → EndRow z W o a b → (k : Path) → is_way_to z (Some way.Statement) k ≡ true → weight at_item (plug k b) + 1 ≤ weight at_item (plug k a)
+end_falls : (W : Liberties) (z : Way) (o : Trees) (a b : Tree) → EndRow z W o a b → (k : Path) → is_way_to z (Some way.Statement) k ≡ true → weight at_item (plug k b) + 1 ≤ weight at_item (plug k a)
 end_falls W way.Statements o a b r = list_falls W o a b r
 end_falls W way.Held o a b r = held_falls W o a b r
 end_falls W way.Head o a b r = head_end_falls W o a b r
@@ -178,20 +184,9 @@ end_falls W z o a b r = absurd r
 
 -- ---- the body
 
-module _ (W : VariableSet) (n w : Tree) (r : InsideRow W n w) where
-  abbrev earlier : Trees
-  earlier = append r.first (plug r.place r.read ▸ r.last)
-
-  abbrev later : Trees
-  later = append r.first (plug r.place r.put ▸ r.last)
-
-  statement_falls : total (plug r.place r.put ▸ none) + 1 ≤ total (plug r.place r.read ▸ none)
-  statement_falls =
-      let less = end_falls W r.end (over r.holder absent ▸ (listed (append r.first (absent ▸ r.last)) ▸ above r.place)) r.read r.put r.row r.place r.there in
-      omega (arith, less)
-
-  body_falls : total later + 1 ≤ total earlier
-  body_falls = let less = in_list r.first (plug r.place r.read ▸ none) (plug r.place r.put ▸ none) r.last 1 statement_falls in omega (arith, less, list_is earlier, list_is later)
+-- what is read at the end of a way weighs less as a statement that it stands in
+abbrev pub Falls : Ends → Type 0
+Falls E = (z : Way) (o : Trees) (a b : Tree) → E o z a b → (k : Path) → is_way_to z (Some way.Statement) k ≡ true → weight at_item (plug k b) + 1 ≤ weight at_item (plug k a)
 
 held_lighter : (o : Holder) (p : Position) (a b : Trees) → stands_at o p ≡ true → total b + 1 ≤ total a → weight p (over o (listed b)) < weight p (over o (listed a))
 held_lighter (Arrow ds n ps) (Expr s) a b e f = omega (arith, f, body_is a, body_is b)
@@ -202,25 +197,47 @@ held_lighter (Module ds) p a b e f = absurd (cc e)
 held_lighter (Static n) Elsewhere a b e f = omega (arith, f, list_is a, list_is b)
 held_lighter (Static n) p a b e f = absurd (cc e)
 
-pub inside_lighter : InsideLighter
-inside_lighter W p n w r s =
-    let less = held_lighter r.holder p (earlier W n w r) (later W n w r) s (body_falls W n w r) in
-    omega (arith, less, ap (weight p) r.shape, ap (weight p) r.written)
-
 held_outline : (o : Holder) (a b : Trees) → outline (over o (listed a)) ≡ outline (over o (listed b))
 held_outline (Arrow ds n ps) a b = refl
 held_outline (Function d g ds n name ps) a b = refl
 held_outline (Module ds) a b = refl
 held_outline (Static n) a b = refl
 
-same_holder : (W : VariableSet) (n w : Tree) → InsideRow W n w → outline n ≡ outline w
-same_holder W n w r = ap outline r.shape ∙ held_outline r.holder (earlier W n w r) (later W n w r) ∙ sym (ap outline r.written)
+module _ (E : Ends) (falls : Falls E) where
+  module _ (n w : Tree) (r : InsideOf E n w) where
+    abbrev earlier : Trees
+    earlier = append r.first (plug r.place r.read ▸ r.last)
+
+    abbrev later : Trees
+    later = append r.first (plug r.place r.put ▸ r.last)
+
+    statement_falls : total (plug r.place r.put ▸ none) + 1 ≤ total (plug r.place r.read ▸ none)
+    statement_falls =
+        let less = falls r.end (over r.holder absent ▸ (listed (append r.first (absent ▸ r.last)) ▸ above r.place)) r.read r.put r.row r.place r.there in
+        omega (arith, less)
+
+    body_falls : total later + 1 ≤ total earlier
+    body_falls = let less = in_list r.first (plug r.place r.read ▸ none) (plug r.place r.put ▸ none) r.last 1 statement_falls in omega (arith, less, list_is earlier, list_is later)
+
+    same_holder : outline n ≡ outline w
+    same_holder = ap outline r.shape ∙ held_outline r.holder earlier later ∙ sym (ap outline r.written)
+
+  pub held_lightens : (p : Position) (n w : Tree) (r : InsideOf E n w) → stands_at r.holder p ≡ true → weight p w < weight p n
+  held_lightens p n w r s =
+      let less = held_lighter r.holder p (earlier n w r) (later n w r) s (body_falls n w r) in
+      omega (arith, less, ap (weight p) r.shape, ap (weight p) r.written)
+
+  pub holders_lighten : Lightens (InsideAt E)
+  holders_lighten = record {
+    lighter = λ p n w c. c.lighter;
+    absent = λ p n w c e. ap (λ o. o.absent) (same_holder n w c.row);
+    items = λ p n w c e. ap (λ o. o.items) (same_holder n w c.row);
+    is_zero = λ p n w c e. inl (ap (λ o. o.is_zero) (same_holder n w c.row));
+    chooses = λ p n w c e. inl (λ h. sym (ap (λ o. o.chooses) (same_holder n w c.row)) ∙ h);
+  }
+
+pub inside_lighter : InsideLighter
+inside_lighter W = held_lightens (unused_ends W) (end_falls W)
 
 pub inside_lightens : InsideLightens
-inside_lightens W = record {
-  lighter = λ p n w c. c.lighter;
-  absent = λ p n w c e. ap (λ o. o.absent) (same_holder W n w c.row);
-  items = λ p n w c e. ap (λ o. o.items) (same_holder W n w c.row);
-  is_zero = λ p n w c e. inl (ap (λ o. o.is_zero) (same_holder W n w c.row));
-  chooses = λ p n w c e. inl (λ h. sym (ap (λ o. o.chooses) (same_holder W n w c.row)) ∙ h);
-}
+inside_lightens W = holders_lighten (unused_ends W) (end_falls W)

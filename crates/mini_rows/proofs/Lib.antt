@@ -135,6 +135,7 @@ mod ReadFirst
 pub mod MemberRuns
 mod MemberKept
 mod IdleKept
+mod StillKept
 pub mod SteadyKept
 pub mod SteadyLawful
 pub mod OwnArrowLawful
@@ -148,16 +149,25 @@ pub mod PastNext
 pub mod PastHeads
 pub mod PastLets
 pub mod PastStretches
+pub mod PastHolders
 pub mod PastLawful
 pub mod PastArrowLawful
 pub mod PastModuleLawful
 pub mod PastStaticLawful
+pub mod PastLost
+pub mod PastBound
 pub mod PastBlockKept
+pub mod PastCaseKept
+pub mod PastHeadKept
+pub mod PastKept
 pub mod OwnLightens
 pub mod OwnLosses
 pub mod PastBlockLawful
 pub mod PastPartLawful
 pub mod PastBlockMore
+pub mod PastInsideKnown
+pub mod PastInsideKept
+pub mod PastInsideLawful
 pub mod FoldEqualities
 mod FoldBranches
 pub mod FoldMeaning

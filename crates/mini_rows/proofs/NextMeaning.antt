@@ -25,7 +25,7 @@ use Rattle.mini_kept.specs.Without.{Unseen}
 use Rattle.mini_rows.specs.Lists.{declaration}
 use Rattle.mini_rows.specs.Declarations.{binding, declarator}
 use Rattle.mini_rows.specs.Sketches.{shape_by, AsValue}
-use Rattle.mini_rows.specs.Unused.{resolved, names, any_names, declared_among, may_move, OfValues, is_first, put_first, are_passed, Row71Next}
+use Rattle.mini_rows.specs.Unused.{resolved, names, any_names, declared_among, OfValues, is_first, put_first, are_passed, Row71Next}
 use Rattle.mini_rows.proofs.FoldMeaning.{plain_read}
 use Rattle.mini_rows.proofs.FoundReads.{path_same, read_there}
 use Rattle.mini_rows.proofs.ListStretches.{lets_append}
@@ -38,6 +38,8 @@ use Rattle.mini_rows.proofs.UnusedMeaning.{ReadAs, declared_lets, declared_then,
 use Rattle.mini_rows.proofs.UnusedNames.{avoided, all_avoided}
 use Rattle.mini_rows.proofs.DeclaredKept.{none_in}
 use Rattle.mini_rows.proofs.NextKept.{next_unnamed}
+use Rattle.mini_rows.specs.Switches.{Switches, without_vars}
+use Rattle.mini_terms.specs.Reading.{is_plain_part}
 
 -- a path leads to no absent part
 pub led_there : (ss : List Step) (t : Tree) → (summary t).facts.absent ≡ false → (summary (led ss t)).facts.absent ≡ false
@@ -80,7 +82,7 @@ module _ (e : Environment) (id v : Tree) (there : (summary v).facts.absent ≡ f
         ∙ ap (λ c. either c (λ u z. others e id K last z) (λ x z. stop x z)) (alone_is s ∙ given (is_lexical K) s)
         ∙ either_assoc (means e v (As Val) tt s) _ _ _ _ ∙ either_cong (means e v (As Val) tt s) _ _ _ _ (λ a z. refl) (λ x z. either_stop x z _ _)
 
-module _ (e : Environment) (spelling : List ℕ) (k : ℕ) (z : Unseen (alone (Declared k)) e) (K : VariableDeclarationKind) (init id value : Tree) (last : Trees) (moves : may_move init ≡ true) (once : is_first (resolved spelling k) false value ≡ true) (passed : are_passed (resolved spelling k) init value ≡ true) where
+module _ (e : Environment) (spelling : List ℕ) (k : ℕ) (z : Unseen (alone (Declared k)) e) (K : VariableDeclarationKind) (init id value : Tree) (last : Trees) (moves : is_plain_part init ≡ true) (once : is_first (resolved spelling k) false value ≡ true) (passed : are_passed (resolved spelling k) init value ≡ true) where
   abbrev x : Name
   x = resolved spelling k
 
@@ -94,7 +96,7 @@ module _ (e : Environment) (spelling : List ℕ) (k : ℕ) (z : Unseen (alone (D
   after v s = with_vars s (set_var s.vars (Declared k) (Holds v))
 
   plain : summary (identifier x) ≡ summary init
-  plain = sym (plain_read init (movable init moves))
+  plain = sym (plain_read init moves)
 
   reading : Path x AsValue value
   reading = path x false value once
@@ -111,7 +113,7 @@ module _ (e : Environment) (spelling : List ℕ) (k : ℕ) (z : Unseen (alone (D
   value_goes : (s : State) → Go (either (means e init (As Val) tt s) (λ v t. means e value (As Val) tt (after v t)) (λ y t. stop y t)) (means e (put_first x init value) (As Val) tt s)
   value_goes s =
       subst₂ Go (read_there e k init value there same_there (As Val) tt s) (ap (λ w. means e w (As Val) tt s) (sym put_is))
-      (moves_there e k z x refl reading.read.spelling init plain (plain_item init (movable init moves)) AsValue reading.steps reading.well reading.spared (reading.passed_in OfValues init passed) (As Val) tt tt tt tt s)
+      (moves_there e k z x refl reading.read.spelling init plain (plain_item init moves) AsValue reading.steps reading.well reading.spared (reading.passed_in OfValues init passed) (As Val) tt tt tt tt s)
 
   value_there : (summary value).facts.absent ≡ false
   value_there = ap (λ i. i.facts.absent) same_there.read ∙ led_there reading.steps (identifier (resolved reading.read.spelling k)) refl
@@ -168,8 +170,8 @@ next_read K spelling k first last init id value put = record {
 pub next_avoids : (x : Name) (k : ℕ) → x.symbol ≡ symbol k → (K : VariableDeclarationKind) (first : Trees) (init id value : Tree) (last : Trees) → is_first x false value ≡ true → any_names x first ≡ false → names x init ≡ false → names x id ≡ false → any_names x last ≡ false → Avoids (alone (Declared k)) (declaration K (append first (declarator id (put_first x init value) ▸ last)))
 next_avoids x k e K first init id value last once f i o g = (tt, ((tt, all_avoided x k e (append first (declarator id (put_first x init value) ▸ last)) (none_in x first (declarator id (put_first x init value) ▸ last) f (next_unnamed x id value once init i o last g))), tt))
 
-pub row_71_next : (e : Environment) (k : ℕ) → Unseen (alone (Declared k)) e → (n w : Tree) (r : Row71Next nothing n w) → k ≡ r.symbol → (t : Option Tail) → Same e (alone (Declared k)) nothing (Stat t) n w
-row_71_next e k z n w r h t =
+pub row_71_next : {o : Switches} (e : Environment) (k : ℕ) → Unseen (alone (Declared k)) e → (n w : Tree) (r : Row71Next (without_vars o) n w) → k ≡ r.symbol → (t : Option Tail) → Same e (alone (Declared k)) nothing (Stat t) n w
+row_71_next {o = o} e k z n w r h t =
     let x = resolved r.spelling r.symbol in
     let u : Unseen (alone (Declared r.symbol)) e = subst (λ j. Unseen (alone (Declared j)) e) h z in
     let D = alone (Declared r.symbol) in
@@ -179,5 +181,5 @@ row_71_next e k z n w r h t =
     let last = all_avoided x r.symbol refl r.last r.declared_later in
     let id = avoided x r.symbol refl r.binds r.other in
     let same = block_same e r.spelling r.symbol u r.before r.after (d ▸ none) (left ▸ none) (read_alone r.symbol d left (next_read r.kind r.spelling r.symbol r.first r.last r.init r.binds r.value (put_first x r.init r.value))) (all_avoided x r.symbol refl r.before r.earlier) (next_avoids x r.symbol refl r.kind r.first r.init r.binds r.value r.last r.once r.declared_earlier r.initial r.other r.declared_later, tt) (all_avoided x r.symbol refl r.after r.later)
-    (next_same e r.spelling r.symbol u r.kind r.init r.binds r.value r.last r.moves r.once r.passed id last (never_written r.kind e r.symbol (lexical_alone r.kind r.goes)) r.first) t in
+    (next_same e r.spelling r.symbol u r.kind r.init r.binds r.value r.last (movable o r.init r.moves) r.once r.passed id last (never_written r.kind e r.symbol (lexical_alone r.kind r.goes)) r.first) t in
     subst (λ j. Same e (alone (Declared j)) nothing (Stat t) n w) (sym h) (subst₂ (Same e D nothing (Stat t)) (sym r.shape) (sym r.written) same)

@@ -1,4 +1,4 @@
--- A step in the code of a body by which a block loses a name: the body runs as before, where nobody else sees the name and nothing that is left
+-- A step in the code of a body by which a scope in it loses a name: the body runs as before, where nobody else sees the name and nothing that is left
 -- mentions it.
 use Rattle.std.specs.Prelude.{ℕ, suc, ◌≤◌, ◌≡◌, refl, [], ◌∷◌, ◌++◌, not}
 use Rattle.std.proofs.Common.{ap, ◌∙◌, sym, subst, subst₂, length, arith}
@@ -29,8 +29,10 @@ use Rattle.mini_kept.specs.Without.{Assured, Steadies, Permits}
 use Rattle.mini_kept.proofs.BodyLists.{kept_itself, each_of as each_body}
 use Rattle.mini_rows.specs.PastBlocks.{PastBlocks}
 use Rattle.mini_rows.specs.Steady.{bindings, all_bindings, Begun, nothing_begun, known_in, own_rows, OwnStep, own_here, own_inside, OwnStepIn, own_first, own_later}
+use Rattle.mini_rows.specs.Switches.{Switches}
 use Rattle.mini_rows.proofs.OwnPartLawful.{bodiless}
-use Rattle.mini_rows.proofs.PastBlockKept.{Lost, Loses, lost, at_block, loses_read, loses_kind}
+use Rattle.mini_rows.proofs.PastKept.{lost}
+use Rattle.mini_rows.proofs.PastLost.{Lost, Loses, loses_read, loses_kind}
 use Rattle.mini_rows.proofs.OwnLightens.{as_step}
 use Rattle.mini_rows.proofs.SteadyLawful.{at_start, known_steady, needs_still, Lists, children_list, begun_wide}
 use Rattle.mini_rows.proofs.Valued.{begun_off}
@@ -42,12 +44,13 @@ module _ (c : Tree) (V : Assured) where
   abbrev pub LosesThere : ℕ → Begun → Position → Tree → Tree → Type 0
   LosesThere k L = Lost (known_in c V L) k
 
+module _ (options : Switches) (c : Tree) (V : Assured) where
   mutual
-    pub some_step : {L : Begun} {p : Position} {t u : Tree} → OwnStep (own_rows PastBlocks c V) L p t u → (k : ℕ) × OwnStep (LosesThere k) L p t u
-    some_step (own_here L p n w r) = let (k, l) = lost (known_in c V L) p n w r in (k, own_here L p n w l)
+    pub some_step : {L : Begun} {p : Position} {t u : Tree} → OwnStep (own_rows (PastBlocks options) c V) L p t u → (k : ℕ) × OwnStep (LosesThere c V k) L p t u
+    some_step (own_here L p n w r) = let (k, l) = lost options (known_in c V L) p n w r in (k, own_here L p n w l)
     some_step (own_inside L p h xs ts us b s) = let (k, l) = some_steps s in (k, own_inside L p h xs ts us b l)
 
-    some_steps : {Λ : ℕ → Begun} {π : ℕ → Position} {ts us : Trees} → OwnStepIn (own_rows PastBlocks c V) Λ π ts us → (k : ℕ) × OwnStepIn (LosesThere k) Λ π ts us
+    some_steps : {Λ : ℕ → Begun} {π : ℕ → Position} {ts us : Trees} → OwnStepIn (own_rows (PastBlocks options) c V) Λ π ts us → (k : ℕ) × OwnStepIn (LosesThere c V k) Λ π ts us
     some_steps (own_first Λ π t u ts s) = let (k, l) = some_step s in (k, own_first Λ π t u ts l)
     some_steps (own_later Λ π t ts us s) = let (k, l) = some_steps s in (k, own_later Λ π t ts us l)
 
@@ -82,7 +85,7 @@ module _ (c : Tree) (V : Assured) (k : ℕ) where
 
   mutual
     pub lost_bodies : {L : Begun} {p : Position} {t u : Tree} → OwnStep R L p t u → (a : Around) → BodiesKept (bodies a t) (bodies a u)
-    lost_bodies (own_here L p n w r) a = at_block k (λ p n w. BodiesKept (bodies a n) (bodies a w)) (λ X q n w r. r.bodied a) p n w (known_in c V L, r)
+    lost_bodies (own_here L p n w r) a = r.bodied a
     lost_bodies (own_inside L p h xs ts us b s) a =
         subst₂ BodiesKept (sym (λ i. bodiless a h 0 (node h xs 0 ts) ts b i ++ bodies_from (below a h ts) 0 ts)) (ap (λ α. bodies_from α 0 us) (around_same a h s) ∙ sym (λ i. bodiless a h 0 (node h xs 0 us) us b i ++ bodies_from (below a h us) 0 us))
         (lost_bodies_in s (below a h ts) 0)
@@ -114,12 +117,12 @@ module _ (c : Tree) (V : Assured) (k : ℕ) where
     mutual
       lost_goes : {L : Begun} {p : Position} {t u : Tree} → OwnStep R L p t u → ((j : ℕ) → bindings j t ≤ bindings j c) → Off (hidden t) (I L) → Avoids D u → (X : VariableSet) → Within (I L) X → (q : Demand) → Fits p q → Lists L.in_lexical q → TreesGo U X q t u
       lost_goes (own_here L p n w r) less o av X wide q f a =
-          from_same D e apart X q n w av (weaker e D D (I L) X (within_refl D) wide q n w (r.means e z (known_steady c V L e y) q))
+          from_same D e apart X q n w av (weaker e D D (I L) X (within_refl D) wide q n w (r.means e z (known_steady c V L e y) o q f))
       lost_goes (own_inside L p h xs ts us b s) less o av X wide q f a =
           let inner = off_back (scope_of h (summaries ts)) (hidden_all ts) (I L) o in
           let fewer : (j : ℕ) → all_bindings j ts ≤ bindings j c = λ j. omega (arith, less j) in
           one_node U sound h xs xs 0 0 ts us X q (alive_alike D e h q (variables xs) 0 (summaries ts) (summaries us) av.0 (subst (AllAlike D e (summaries ts)) (lost_reads s) (all_alike_self D e (summaries ts)))) refl (ap facts_all (lost_reads s))
-          (lost_goes_in s fewer (begun_off c V.initial h p L ts inner fewer) av.1 (needs h q X ts) (begun_wide c V.initial h p q L X ts f a wide inner fewer) (demand h (facts ts) q) (λ i. subst (λ m. Fits (child_position h p m i) (demand h (facts ts) q i)) (facts_count ts) (fits_children h (facts ts) p q f i)) (children_list h p q L ts f))
+          (lost_goes_in s fewer (begun_off c V.initial h p L ts inner fewer) av.1 (needs h q X ts) (begun_wide c V.initial h p q L X ts f a wide inner fewer) (demand h (facts ts) q) (λ i. subst (λ m. Fits (child_position h p m i) (demand h (facts ts) q i)) (facts_count ts) (fits_children h (facts ts) p q f i)) (children_list h p q L ts f a))
 
       lost_goes_in : {Λ : ℕ → Begun} {π : ℕ → Position} {ts us : Trees} → OwnStepIn R Λ π ts us → ((j : ℕ) → all_bindings j ts ≤ bindings j c) → ((i : ℕ) → Off (hidden_all ts) (I (Λ i))) → AllAvoid D us → (X : ℕ → VariableSet) → ((i : ℕ) → Within (I (Λ i)) (X i)) → (σ : ℕ → Demand) → ((i : ℕ) → Fits (π i) (σ i)) → ((i : ℕ) → Lists (Λ i).in_lexical (σ i)) → PlaceGo U sound X σ (hidden_all ts) ts us
       lost_goes_in (own_first Λ π t u ts s) less o av X wide σ f a = place_cons U sound t u ts ts X σ (lost_goes s (λ j. omega (arith, less j)) (off_front (hidden t) (hidden_all ts) (I (Λ 0)) (o 0)) av.0 (X 0) (wide 0) (σ 0) (f 0) (a 0)) (kids_self D e apart ts av.1 (λ i. X (suc i)) (λ i. σ (suc i)))

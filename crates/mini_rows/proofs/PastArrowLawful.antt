@@ -32,16 +32,19 @@ use Rattle.mini_kept.proofs.Expressions.{TakesExpression}
 use Rattle.mini_kept.proofs.FrameLists as frame_list
 use Rattle.mini_kept.proofs.FrameRows.{expression_slot}
 use Rattle.mini_kept.proofs.InOrder.{in_order}
+use Rattle.mini_kept.proofs.Loosely.{steady_narrowed}
 use Rattle.mini_kept.proofs.ShownFrames.{kept_shown}
 use Rattle.mini_kept.proofs.WithoutLists as without
 use Rattle.mini_rows.specs.PastArrows.{PastArrowRow, PastArrow, PastArrowIsLawful, PastArrowLightens}
 use Rattle.mini_rows.specs.Unused.{resolved, statements, arrow_with}
+use Rattle.mini_rows.specs.Switches.{Liberties}
 use Rattle.mini_rows.proofs.ArrangedBodies.{quiet}
 use Rattle.mini_rows.proofs.ArrowBodyLawful.{same_at, in_slot}
 use Rattle.mini_rows.proofs.FunctionBodyKept.{arrow_less, arrow_keeps, arrow_fixed, frames_behind, bodies_behind, arrow_declares}
 use Rattle.mini_rows.proofs.ListWeights.{list_is, body_is}
 use Rattle.mini_rows.proofs.PastLawful.{list_fits, none_mention, list_lighter}
-use Rattle.mini_rows.proofs.PastStretches.{Behind, behind, statements_run}
+use Rattle.mini_rows.proofs.PastHolders.{ArrowBehind, ArrowsBehind, arrows_behind}
+use Rattle.mini_rows.proofs.PastStretches.{Behind, statements_run}
 
 -- ---- an instance
 
@@ -118,9 +121,9 @@ module _ (K : Shape → Bool) (S : BodySets) (W : VariableSet) (s : Seat) (ds : 
 -- ---- of a row
 
 module _ (S : BodySets) (W : VariableSet) where
-  instance : (K : Shape → Bool) (s : Seat) (n w : Tree) → PastArrowRow S W n w → Instance K W S (Expr s) n w
+  instance : (K : Shape → Bool) (s : Seat) (n w : Tree) → ArrowBehind S W n w → Instance K W S (Expr s) n w
   instance K s n w r =
-      let t = behind (S r.number) W (listed r.parameters) r.before r.after r.row in
+      let t = r.there in
       let with_list = arrow_with r.directives r.number r.parameters in
       let first = r.shape ∙ ap with_list t.read_is in
       let second = r.written ∙ ap with_list t.written_is in
@@ -128,21 +131,21 @@ module _ (S : BodySets) (W : VariableSet) where
       (subst (Instance K W S (Expr s) (with_list (append t.before (append t.d t.after)))) (sym second) (there K S W s r.directives r.number r.parameters r.before r.after t))
 
   -- whatever is told by the shape
-  shaped : (P : Tree → Tree → Type 0) → ((ds : List (List ℕ)) (k : ℕ) (ps a b : Trees) → P (arrow_with ds k ps a) (arrow_with ds k ps b)) → (n w : Tree) → PastArrowRow S W n w → P n w
+  shaped : (P : Tree → Tree → Type 0) → ((ds : List (List ℕ)) (k : ℕ) (ps a b : Trees) → P (arrow_with ds k ps a) (arrow_with ds k ps b)) → (n w : Tree) → ArrowBehind S W n w → P n w
   shaped P f n w r = subst (λ v. P v w) (sym r.shape) (subst (P (arrow_with r.directives r.number r.parameters r.before)) (sym r.written) (f r.directives r.number r.parameters r.before r.after))
 
-  stands : (n w : Tree) → PastArrowRow S W n w → (strict : Bool) (s : Slot) → fits strict s n ≡ true → TakesExpression s × (fits strict s w ≡ true)
+  stands : (n w : Tree) → ArrowBehind S W n w → (strict : Bool) (s : Slot) → fits strict s n ≡ true → TakesExpression s × (fits strict s w ≡ true)
   stands n w r strict s e =
-      let t = behind (S r.number) W (listed r.parameters) r.before r.after r.row in
+      let t = r.there in
       let (takes, f) = in_slot r.directives r.number r.parameters r.before r.after (list_fits (S r.number) W (listed r.parameters) r.before r.after t in_body) strict s (sym (ap (fits strict s) r.shape) ∙ e) in
       (takes, ap (fits strict s) r.written ∙ f)
 
   -- whichever place it is
-  at_arrow : (P : Position → Tree → Tree → Type 0) → ((s : Seat) (n w : Tree) → PastArrowRow S W n w → P (Expr s) n w) → (p : Position) (n w : Tree) → PastArrow S W p n w → P p n w
+  at_arrow : (P : Position → Tree → Tree → Type 0) → ((s : Seat) (n w : Tree) → ArrowBehind S W n w → P (Expr s) n w) → (p : Position) (n w : Tree) → ArrowsBehind S W p n w → P p n w
   at_arrow P f (Expr s) n w r = f s n w r
   at_arrow P f p n w r = absurd r
 
-  pub arrows_lawful : (K : Shape → Bool) → LawfulUnder K W S (PastArrow S W)
+  pub arrows_lawful : (K : Shape → Bool) → LawfulUnder K W S (ArrowsBehind S W)
   arrows_lawful K = record {
     shapes = record {
       fitting = at_arrow (λ p n w. (strict : Bool) (s : Slot) → fits_place p s ≡ true → fits strict s n ≡ true → fits strict s w ≡ true) (λ q n w r strict s z e. (stands n w r strict s e).1);
@@ -165,7 +168,12 @@ module _ (S : BodySets) (W : VariableSet) where
     instances = at_arrow (λ p n w. SteadiesWith W S p n w ⊎ ((k : ℕ) × DropsUnder K W S k p n w)) (λ q n w r. let i = instance K q n w r in inr (i.symbol, i.drops));
   }
 
-  -- ---- lighter
+-- ---- lighter
+
+module _ (S : BodySets) (W : Liberties) where
+  in_arrow : (P : Position → Tree → Tree → Type 0) → ((s : Seat) (n w : Tree) → PastArrowRow S W n w → P (Expr s) n w) → (p : Position) (n w : Tree) → PastArrow S W p n w → P p n w
+  in_arrow P f (Expr s) n w r = f s n w r
+  in_arrow P f p n w r = absurd r
 
   row_lighter : (p : Position) (n w : Tree) → PastArrowRow S W n w → weight p w < weight p n
   row_lighter p n w r =
@@ -173,11 +181,11 @@ module _ (S : BodySets) (W : VariableSet) where
       omega (arith, less, list_is r.before, list_is r.after, body_is r.before, body_is r.after, ap (weight p) r.shape, ap (weight p) r.written)
 
   row_outline : (p : Position) (n w : Tree) → PastArrow S W p n w → weight_outline n ≡ weight_outline w
-  row_outline = at_arrow (λ p n w. weight_outline n ≡ weight_outline w) (λ q. shaped (λ n w. weight_outline n ≡ weight_outline w) (λ ds k ps a b. refl))
+  row_outline = in_arrow (λ p n w. weight_outline n ≡ weight_outline w) (λ q n w r. ap weight_outline r.shape ∙ sym (ap weight_outline r.written))
 
   pub arrows_lighten : Lightens (PastArrow S W)
   arrows_lighten = record {
-    lighter = at_arrow (λ p n w. weight p w < weight p n) (λ q n w r. row_lighter (Expr q) n w r);
+    lighter = in_arrow (λ p n w. weight p w < weight p n) (λ q n w r. row_lighter (Expr q) n w r);
     absent = λ p n w c e. ap (λ o. o.absent) (row_outline p n w c);
     items = λ p n w c e. ap (λ o. o.items) (row_outline p n w c);
     is_zero = λ p n w c e. inl (ap (λ o. o.is_zero) (row_outline p n w c));
@@ -185,7 +193,7 @@ module _ (S : BodySets) (W : VariableSet) where
   }
 
 pub past_arrows_are_lawful : PastArrowIsLawful
-past_arrows_are_lawful K W S = arrows_lawful S W K
+past_arrows_are_lawful K W S = steady_narrowed (PastArrow S W) (ArrowsBehind S W.writable) K W.writable S (arrows_behind S W) (arrows_lawful S W.writable K)
 
 pub past_arrows_are_lighter : PastArrowLightens
 past_arrows_are_lighter S W = arrows_lighten S W

@@ -52,9 +52,10 @@ use Rattle.mini_rows.specs.OwnArrows.{arrow_over, OwnCode}
 use Rattle.mini_rows.specs.OwnPrograms.{program_over, OwnProgram}
 use Rattle.mini_rows.specs.PastBlocks.{PastBlocks, PastBlocksAreLawful, PastBlocksAreLawfulInPrograms}
 use Rattle.mini_rows.specs.Steady.{nothing_begun, own_rows, OwnStep, own_first, OwnFunctionRow}
+use Rattle.mini_rows.specs.Switches.{Switches}
 use Rattle.mini_rows.proofs.OwnArrowLawful.{body_fits, created_same as arrow_created}
 use Rattle.mini_rows.proofs.OwnLosses.{LosesThere, some_step, lost_step, lost_read, lost_kind, lost_bodies, lost_runs, lost_runs_over}
-use Rattle.mini_rows.proofs.PastBlockKept.{Loses, at_block, loses_names, loses_shapes, loses_places, loses_read}
+use Rattle.mini_rows.proofs.PastLost.{Loses, at_lost, loses_names, loses_shapes, loses_places, loses_read}
 use Rattle.mini_rows.proofs.PastModuleLawful.{undeclared_there, still_declared}
 use Rattle.mini_rows.proofs.SteadyLawful.{at_start, created_same, known_off, over_off, known_begins}
 
@@ -83,14 +84,14 @@ module _ (k : ℕ) (K : Shape → Bool) (W : VariableSet) (S : BodySets) (t u : 
   -- its symbol was declared once, and is declared no more
   gone : Distinct (declared_symbols t) → times (symbol k) (declared_symbols u) ≡ 0
   gone d =
-      let less = step_less R (symbol k) (at_block k (λ p n w. Kept n w) (λ V q n w r. r.kept)) (at_block k (λ p n w. (v : Use) → times (symbol k) (declared_in v w) + 1 ≤ times (symbol k) (declared_in v n)) (λ V q n w r. r.less)) s Read in
+      let less = step_less R (symbol k) (at_lost k (λ p n w. Kept n w) (λ V q n w r. r.kept)) (at_lost k (λ p n w. (v : Use) → times (symbol k) (declared_in v w) + 1 ≤ times (symbol k) (declared_in v n)) (λ V q n w r. r.less)) s Read in
       let once : times (symbol k) (declared_symbols t) ≤ 1 = d (symbol k) in
       omega (arith, less, once)
 
   keeps_frames : KeepsFramesBut (gone_from K D) R
   keeps_frames = record {
     places = loses_places k;
-    frames = at_block k (λ p n w. (strict : Bool) (c : Slot) → fits_place p c ≡ true → fits strict c n ≡ true → (a : Around) → FramesShown (gone_from K D) (KeyGiven nothing (bodies a n)) (frames None n) (frames None w)) (λ V q n w r strict c z e a. kept_shown (gone_from K D) (KeyGiven nothing (bodies a n)) (frames None n) (frames None w) r.framed);
+    frames = at_lost k (λ p n w. (strict : Bool) (c : Slot) → fits_place p c ≡ true → fits strict c n ≡ true → (a : Around) → FramesShown (gone_from K D) (KeyGiven nothing (bodies a n)) (frames None n) (frames None w)) (λ V q n w r strict c z e a. kept_shown (gone_from K D) (KeyGiven nothing (bodies a n)) (frames None n) (frames None w) r.framed);
   }
 
   pub program_kept : ProgramIsKeptUnder K W S t u
@@ -100,8 +101,8 @@ module _ (k : ℕ) (K : Shape → Bool) (W : VariableSet) (S : BodySets) (t u : 
     frames = λ v d.
         all_frames_more (gone_from K D) (gone_from K (undeclared u)) (KeyGiven nothing (bodies_in t)) (KeyGivenUnder W S (undeclared u) (bodies_in t)) (gone_more K D (undeclared u) (undeclared_there k u (gone d))) (given_seldom W S (undeclared u) (bodies_in t)) (frames_in t) (frames_in u)
         (step_frames_but (gone_from K D) R keeps_frames t u s e);
-    fixities = λ v d strict y h. ap (written_in strict) (step_fixed D R (record { reads = loses_read k; fixed = at_block k (λ p n w. (y : Variable) → D y ≡ false → fixed_by n y ≡ fixed_by w y) (λ V q n w r. r.fixed) }) s y (still_declared k u (gone d) y h));
-    declared = reaches_declared R (at_block k (λ p n w. (y : Name) → Contains (declared w) y → Contains (declared n) y) (λ V q n w r. r.declares)) reached;
+    fixities = λ v d strict y h. ap (written_in strict) (step_fixed D R (record { reads = loses_read k; fixed = at_lost k (λ p n w. (y : Variable) → D y ≡ false → fixed_by n y ≡ fixed_by w y) (λ V q n w r. r.fixed) }) s y (still_declared k u (gone d) y h));
+    declared = reaches_declared R (at_lost k (λ p n w. (y : Name) → Contains (declared w) y → Contains (declared n) y) (λ V q n w r. r.declares)) reached;
     root = rooted;
   }
 
@@ -222,55 +223,55 @@ record Place : Type 0 where
 abbrev Placed : (S : BodySets) → Place → Position → Tree → Tree → Type 0
 Placed S i = Owner S i.lost_symbol i.number
 
-module _ (S : BodySets) where
+module _ (options : Switches) (S : BodySets) where
   abbrev Somewhere : Position → Tree → Tree → Type 0
   Somewhere p n w = (i : Place) × Placed S i p n w
 
-  of_function : (p : Position) (n w : Tree) → OwnFunctionRow PastBlocks S n w → Somewhere p n w
+  of_function : (p : Position) (n w : Tree) → OwnFunctionRow (PastBlocks options) S n w → Somewhere p n w
   of_function p n w r =
-      let (k, s) = some_step r.before (S r.number) r.step in
+      let (k, s) = some_step options r.before (S r.number) r.step in
       subst (λ v. Somewhere p v w) (sym r.shape)
       (subst (Somewhere p (function_over r.is_declaration r.is_generator r.directives r.number r.name r.parameters r.before)) (sym r.written)
       (record { number = r.number; lost_symbol = k }, a_function p r.is_declaration r.is_generator r.directives r.name r.parameters r.before r.after s))
 
-  somewhere : (p : Position) (n w : Tree) → OwnCode PastBlocks S p n w → Somewhere p n w
+  somewhere : (p : Position) (n w : Tree) → OwnCode (PastBlocks options) S p n w → Somewhere p n w
   somewhere (Stmt q) n w (inl r) = of_function (Stmt q) n w r
   somewhere (Expr q) n w (inl r) = of_function (Expr q) n w r
   somewhere Method n w (inl r) = of_function Method n w r
   somewhere Elsewhere n w (inl r) = of_function Elsewhere n w r
   somewhere (Expr q) n w (inr r) =
-      let (k, s) = some_step r.before (S r.number) r.step in
+      let (k, s) = some_step options r.before (S r.number) r.step in
       subst (λ v. Somewhere (Expr q) v w) (sym r.shape)
       (subst (Somewhere (Expr q) (arrow_over r.directives r.number r.parameters r.before)) (sym r.written)
       (record { number = r.number; lost_symbol = k }, an_arrow q r.directives r.parameters r.before r.after s))
   somewhere p n w (inl r) = absurd r
   somewhere p n w (inr r) = absurd r
 
-  is_one : (p : Position) (n w : Tree) → OwnCode PastBlocks S p n w → is_body (shape_of n) ≡ true
+  is_one : (p : Position) (n w : Tree) → OwnCode (PastBlocks options) S p n w → is_body (shape_of n) ≡ true
   is_one p n w r = let (i, o) = somewhere p n w r in by o
     where
       by : {k m : ℕ} {p : Position} {n w : Tree} → Owner S k m p n w → is_body (shape_of n) ≡ true
       by (a_function p d g ds name ps t u s) = refl
       by (an_arrow q ds ps t u s) = refl
 
-  pub code_lawful : (K : Shape → Bool) (W : VariableSet) → LawfulRooted K W S (OwnCode PastBlocks S)
-  code_lawful K W = bodies_rooted (OwnCode PastBlocks S) is_one K W S kept
+  pub code_lawful : (K : Shape → Bool) (W : VariableSet) → LawfulRooted K W S (OwnCode (PastBlocks options) S)
+  code_lawful K W = bodies_rooted (OwnCode (PastBlocks options) S) is_one K W S kept
     where
-      kept : (t u : Tree) → Step (OwnCode PastBlocks S) Elsewhere t u → IsWellShaped t → ProgramIsKeptUnder K W S t u
+      kept : (t u : Tree) → Step (OwnCode (PastBlocks options) S) Elsewhere t u → IsWellShaped t → ProgramIsKeptUnder K W S t u
       kept t u s e = let (i, o) = step_of Place (Placed S) (step_on somewhere s) in
           owner_kept S i.lost_symbol i.number W K t u o e
 
   -- ---- the program itself
 
-  module _ (K : Shape → Bool) (W : VariableSet) (m : Bool) (ds : List (List ℕ)) (number : ℕ) (t u : Tree) (r : OwnStep (own_rows PastBlocks t (S number)) nothing_begun StatementList t u) where
+  module _ (K : Shape → Bool) (W : VariableSet) (m : Bool) (ds : List (List ℕ)) (number : ℕ) (t u : Tree) (r : OwnStep (own_rows (PastBlocks options) t (S number)) nothing_begun StatementList t u) where
     abbrev known : Assured
     known = S number
 
     abbrev lost_there : ℕ
-    lost_there = (some_step t known r).0
+    lost_there = (some_step options t known r).0
 
     abbrev own_step : OwnStep (LosesThere t known lost_there) nothing_begun StatementList t u
-    own_step = (some_step t known r).1
+    own_step = (some_step options t known r).1
 
     abbrev gone_there : VariableSet
     gone_there = alone (Declared lost_there)
@@ -295,17 +296,17 @@ module _ (S : BodySets) where
     whole_kept : IsWellShaped f → ProgramIsKeptUnder K W S f f'
     whole_kept e = program_kept lost_there K W S f f' (inside Elsewhere (shape.Program m ds) [] number (t ▸ none) (u ▸ none) (first _ t u none (lost_step t known lost_there own_step))) e refl program_bodies
 
-  of_program : (P : Tree → Tree → Type 0) → ((m : Bool) (ds : List (List ℕ)) (number : ℕ) (t u : Tree) → OwnStep (own_rows PastBlocks t (S number)) nothing_begun StatementList t u → P (program_over m ds number t) (program_over m ds number u)) → (p : Position) (n w : Tree) → OwnProgram PastBlocks S p n w → P n w
+  of_program : (P : Tree → Tree → Type 0) → ((m : Bool) (ds : List (List ℕ)) (number : ℕ) (t u : Tree) → OwnStep (own_rows (PastBlocks options) t (S number)) nothing_begun StatementList t u → P (program_over m ds number t) (program_over m ds number u)) → (p : Position) (n w : Tree) → OwnProgram (PastBlocks options) S p n w → P n w
   of_program P h Elsewhere n w r = subst (λ v. P v w) (sym r.shape) (subst (P (program_over r.is_module r.directives r.number r.before)) (sym r.written) (h r.is_module r.directives r.number r.before r.after r.step))
   of_program P h p n w r = absurd r
 
-  pub programs_lawful : (K : Shape → Bool) (W : VariableSet) → LawfulRooted K W S (OwnProgram PastBlocks S)
+  pub programs_lawful : (K : Shape → Bool) (W : VariableSet) → LawfulRooted K W S (OwnProgram (PastBlocks options) S)
   programs_lawful K W =
-      programs_rooted (OwnProgram PastBlocks S) (of_program (λ n w. is_program (shape_of n) ≡ true) (λ m ds number t u s. refl)) K W S
+      programs_rooted (OwnProgram (PastBlocks options) S) (of_program (λ n w. is_program (shape_of n) ≡ true) (λ m ds number t u s. refl)) K W S
       (λ n w r. of_program (λ n w. IsWellShaped n → ProgramIsKeptUnder K W S n w) (λ m ds number t u s. whole_kept K W m ds number t u s) Elsewhere n w r)
 
 pub past_blocks_are_lawful : PastBlocksAreLawful
-past_blocks_are_lawful K W S = code_lawful S K W
+past_blocks_are_lawful o K W S = code_lawful o S K W
 
 pub past_blocks_are_lawful_in_programs : PastBlocksAreLawfulInPrograms
-past_blocks_are_lawful_in_programs K W S = programs_lawful S K W
+past_blocks_are_lawful_in_programs o K W S = programs_lawful o S K W

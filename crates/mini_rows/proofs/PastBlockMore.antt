@@ -8,9 +8,9 @@ use Rattle.mini_model.specs.declared.place.Position.TheVariants.{Stmt, Elsewhere
 use Rattle.mini_model.specs.declared.operator.AssignmentOperator.{AssignmentOperator}
 use Rattle.mini_model.specs.declared.shape.Shape.{Shape}
 use Rattle.mini_model.specs.declared.shape.Shape.TheVariants as shape
-use Rattle.mini_model.specs.Tree.{Tree, Trees, node, none, ◌▸◌, listed, shape_of}
+use Rattle.mini_model.specs.Tree.{Tree, Trees, node, none, ◌▸◌, absent, listed, shape_of}
 use Rattle.mini_laws.specs.Naming.{is_lexical}
-use Rattle.mini_laws.specs.Value.{Variable, Declared, Global, VariableSet, nothing}
+use Rattle.mini_laws.specs.Value.{Variable, Declared, Global, VariableSet}
 use Rattle.mini_kept.specs.Without.{Assured}
 use Rattle.mini_kept.proofs.Bools.{both}
 use Rattle.mini_node.specs.Children.{names_of, part}
@@ -18,9 +18,10 @@ use Rattle.mini_terms.specs.Folds.{is_effect_free}
 use Rattle.mini_node.specs.Kinds.{is_identifier}
 use Rattle.mini_terms.specs.Kind.{is_primitive, kind as kind_of}
 use Rattle.mini_rows.specs.Past.{any_bind, is_let, begun, Kept, held, leaves, is_held_symbol, is_held_name, is_held, is_this, keeps_value, passes_any, passes_any_word, passes_any_member, passes_any_target, passes_any_item, passes_any_at, is_certain, are_past, are_past_in, all_past, PastRow}
-use Rattle.mini_rows.specs.PastBlocks.{PastBlockRow, PastBlocks}
-use Rattle.mini_rows.specs.Steady.{ReadsMore}
-use Rattle.mini_rows.specs.Unused.{resolved, names, is_constant, is_plain_assignment, is_word, is_member, is_field, Gathered, OfValues, OfEntries, OfTexts, gathered_below, evaluated}
+use Rattle.mini_rows.specs.Lists.{for_loop}
+use Rattle.mini_rows.specs.PastBlocks.{PastBlockRow, PastCaseRow, PastHeadRow, PastBlocksReadMore}
+use Rattle.mini_rows.specs.Unused.{resolved, names, switch_around, is_constant, is_plain_assignment, is_word, is_member, is_field, Gathered, OfValues, OfEntries, OfTexts, gathered_below, evaluated}
+use Rattle.mini_rows.specs.Switches.{Switches, Liberties, without_vars}
 
 either_more : (a b c : Bool) → (a ≡ true → b ≡ true) → (a || c) ≡ true → (b || c) ≡ true
 either_more true b c f e = ap (λ d. d || c) (f refl)
@@ -120,8 +121,8 @@ module _ (V : Assured) (X : VariableSet) (holds : (x : Variable) → V.initial x
 
   -- ---- the rows
 
-  row_more : (o : Tree) (ts us : Trees) → PastRow V nothing o ts us → PastRow V' nothing o ts us
-  row_more o ts us (inl r) = inl (record {
+  row_more : (W : Liberties) (o : Tree) (ts us : Trees) → PastRow V W o ts us → PastRow V' W o ts us
+  row_more W o ts us (inl r) = inl (record {
     before = r.before;
     kind = r.kind;
     first = r.first;
@@ -144,7 +145,7 @@ module _ (V : Assured) (X : VariableSet) (holds : (x : Variable) → V.initial x
     shape = r.shape;
     written = r.written;
   })
-  row_more o ts us (inr r) = inr (record {
+  row_more W o ts us (inr r) = inr (record {
     before = r.before;
     kind = r.kind;
     first = r.first;
@@ -172,10 +173,37 @@ module _ (V : Assured) (X : VariableSet) (holds : (x : Variable) → V.initial x
     written = r.written;
   })
 
-block_more : (V : Assured) (X : VariableSet) → ((x : Variable) → V.initial x ≡ true → X x ≡ true) → (n w : Tree) → PastBlockRow V n w → PastBlockRow (record V { initial = X }) n w
-block_more V X holds n w r = record { before = r.before; after = r.after; row = row_more V X holds (listed none) r.before r.after r.row; shape = r.shape; written = r.written }
+block_more : (o : Switches) (V : Assured) (X : VariableSet) → ((x : Variable) → V.initial x ≡ true → X x ≡ true) → (n w : Tree) → PastBlockRow o V n w → PastBlockRow o (record V { initial = X }) n w
+block_more o V X holds n w r = record { before = r.before; after = r.after; row = row_more V X holds (without_vars o) (listed none) r.before r.after r.row; shape = r.shape; written = r.written }
 
-pub past_blocks_more : ReadsMore PastBlocks
-past_blocks_more V X holds (Stmt q) n w r = block_more V X holds n w r
-past_blocks_more V X holds Elsewhere n w r = block_more V X holds n w r
-past_blocks_more V X holds p n w r = absurd r
+case_more : (o : Switches) (V : Assured) (X : VariableSet) → ((x : Variable) → V.initial x ≡ true → X x ≡ true) → (n w : Tree) → PastCaseRow o V n w → PastCaseRow o (record V { initial = X }) n w
+case_more o V X holds n w r = record {
+  discriminant = r.discriminant;
+  first = r.first;
+  test = r.test;
+  before = r.before;
+  last = r.last;
+  after = r.after;
+  row = row_more V X holds (without_vars o) (switch_around r.discriminant r.first r.test r.last) r.before r.after r.row;
+  shape = r.shape;
+  written = r.written;
+}
+
+head_more : (o : Switches) (V : Assured) (X : VariableSet) → ((x : Variable) → V.initial x ≡ true → X x ≡ true) → (n w : Tree) → PastHeadRow o V n w → PastHeadRow o (record V { initial = X }) n w
+head_more o V X holds n w r = record {
+  before = r.before;
+  after = r.after;
+  test = r.test;
+  update = r.update;
+  body = r.body;
+  row = row_more V X holds (without_vars o) (for_loop absent r.test r.update r.body) (r.before ▸ none) (r.after ▸ none) r.row;
+  shape = r.shape;
+  written = r.written;
+}
+
+pub past_blocks_more : PastBlocksReadMore
+past_blocks_more o V X holds (Stmt q) n w (inl r) = inl (block_more o V X holds n w r)
+past_blocks_more o V X holds (Stmt q) n w (inr (inl r)) = inr (inl (case_more o V X holds n w r))
+past_blocks_more o V X holds (Stmt q) n w (inr (inr r)) = inr (inr (head_more o V X holds n w r))
+past_blocks_more o V X holds Elsewhere n w r = block_more o V X holds n w r
+past_blocks_more o V X holds p n w r = absurd r

@@ -16,7 +16,7 @@ use Rattle.mini_kept.specs.Without.{Unseen}
 use Rattle.mini_rows.specs.Lists.{each_loop}
 use Rattle.mini_rows.specs.Past.{Kept, passes_any, is_certain, are_past, all_past}
 use Rattle.mini_rows.specs.Sketches.{AsValue}
-use Rattle.mini_rows.specs.Unused.{resolved, names, any_names, may_move, is_first, OfValues, put_first, reads_head, evaluated}
+use Rattle.mini_rows.specs.Unused.{resolved, names, any_names, is_first, OfValues, put_first, reads_head, evaluated}
 use Rattle.mini_rows.proofs.FoldMeaning.{plain_read}
 use Rattle.mini_rows.proofs.ItemReads.{plain_item}
 use Rattle.mini_rows.proofs.ListKeptHeads.{Seat, Loop, Choice, seated, rest}
@@ -29,10 +29,11 @@ use Rattle.mini_rows.proofs.PastRuns.{past_goes}
 use Rattle.mini_rows.proofs.FoundReads.{path_as, path_same, seated_same, loop_same, goes_as}
 use Rattle.mini_rows.proofs.SingleUse.{Path, path, led, Indirect, mentioned, Over, Heads, heads}
 use Rattle.mini_rows.proofs.SpellAlike.{SameTree}
-use Rattle.mini_rows.proofs.UnusedMeaning.{GoesWith, same_symbol, movable}
+use Rattle.mini_rows.proofs.UnusedMeaning.{GoesWith, same_symbol}
 use Rattle.mini_rows.proofs.UnusedNames.{avoided, all_avoided}
+use Rattle.mini_terms.specs.Reading.{is_plain_part}
 
-module _ (e : Environment) (spelling : List ℕ) (k : ℕ) (z : Unseen (alone (Declared k)) e) (H : Kept) (still : Still H e) (init head : Tree) (moves : may_move init ≡ true) where
+module _ (e : Environment) (spelling : List ℕ) (k : ℕ) (z : Unseen (alone (Declared k)) e) (H : Kept) (still : Still H e) (init head : Tree) (moves : is_plain_part init ≡ true) where
   abbrev x : Name
   x = resolved spelling k
 
@@ -57,14 +58,14 @@ module _ (e : Environment) (spelling : List ℕ) (k : ℕ) (z : Unseen (alone (D
 
     value_goes : (v : Want) (r : Request (As v)) (s : State) → Initialised H.variables s → Go (either (means e init (As Val) tt s) (λ p t. means e (led reading.steps (identifier (resolved reading.read.spelling k))) (As v) r (after p t)) (λ y t. stop y t)) (means e (led reading.steps init) (As v) r s)
     value_goes v r s ready =
-        past_goes e k z init s x refl reading.read.spelling (sym (plain_read init (movable init moves))) (plain_item init (movable init moves)) OfValues AsValue reading.steps reading.well reading.spared
+        past_goes e k z init s x refl reading.read.spelling (sym (plain_read init moves)) (plain_item init moves) OfValues AsValue reading.steps reading.well reading.spared
         (path_held e k z init s H still ready x refl OfValues reading.steps (resolved reading.read.spelling k) (read_named spelling k reading.read.spelling) (subst (λ y. Indirect (identifier (record { spelling = reading.read.spelling; symbol = y })) reading.steps) (same_symbol k reading.read.symbol reading.same) reading.direct) reading.spared (sym (ap (are_past H x init) (path_as x k refl AsValue value reading)) ∙ passed)) (As v) tt tt r tt
 
     scope_goes : (c : Seat) → any_names x (rest c) ≡ false → (s : State) → Initialised H.variables s → GoesWith e k init (seated c value) (seated c (put_first x init value)) s
     scope_goes c beside s ready =
         subst (λ w. GoesWith e k init (seated c value) w s) (ap (seated c) (sym (reading.puts init)))
         (goes_as e k init (seated c value) (seated c there) (seated_same c value there same_there) (seated c (led reading.steps init)) s
-        (outside_goes e k z x refl reading.read.spelling init (sym (plain_read init (movable init moves))) reading.steps reading.well (Initialised H.variables) value_goes c beside s ready))
+        (outside_goes e k z x refl reading.read.spelling init (sym (plain_read init moves)) reading.steps reading.well (Initialised H.variables) value_goes c beside s ready))
 
     loop_goes : (t : Over x head) → t.value ≡ value → (s : State) → Initialised H.variables s → GoesWith e k init (each_loop t.kind t.left value t.body) (each_loop t.kind t.left (put_first x init value) t.body) s
     loop_goes t same s ready =

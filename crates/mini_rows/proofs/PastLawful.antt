@@ -29,18 +29,21 @@ use Rattle.mini_kept.specs.ShownFrames.{no_key, gone_from}
 use Rattle.mini_kept.specs.Without.{Assured, BodySets, none_steady, BodiesUnder}
 use Rattle.mini_kept.proofs.FrameLists as frame_list
 use Rattle.mini_kept.proofs.InOrder.{in_order}
+use Rattle.mini_kept.proofs.Loosely.{steady_narrowed}
 use Rattle.mini_kept.proofs.ShownFrames.{kept_shown}
 use Rattle.mini_kept.proofs.WithoutLists as without
 use Rattle.mini_rows.specs.Lists.{block, declaration}
 use Rattle.mini_rows.specs.Declarations.{declarator}
 use Rattle.mini_rows.specs.Past.{PastRow, PastFunctionRow, PastFunction, PastIsLawful, PastLightens}
 use Rattle.mini_rows.specs.Unused.{resolved, names, any_names, declared_among, put_first, statements, function_with}
+use Rattle.mini_rows.specs.Switches.{Liberties}
 use Rattle.mini_rows.proofs.ArrangedBodies.{quiet}
 use Rattle.mini_rows.proofs.FunctionBodyKept.{function_less, function_keeps, function_fixed, statements_frames, function_frames, function_bodies, function_declares}
 use Rattle.mini_rows.proofs.FunctionBodyLawful.{same_at, function_fits, numbered, is_function_place, rooted, no_list}
 use Rattle.mini_rows.proofs.ListShapes.{append_fits, both_fit}
 use Rattle.mini_rows.proofs.ListWeights.{list_is, body_is}
-use Rattle.mini_rows.proofs.PastStretches.{Behind, behind, statements_run}
+use Rattle.mini_rows.proofs.PastHolders.{FunctionBehind, FunctionsBehind, functions_behind}
+use Rattle.mini_rows.proofs.PastStretches.{Behind, statements_run}
 use Rattle.mini_rows.proofs.SingleWeights.{single_falls, next_falls}
 use Rattle.mini_rows.proofs.UnusedKept.{all_append}
 use Rattle.mini_rows.proofs.UnusedMeaning.{movable}
@@ -133,12 +136,12 @@ module _ (S : BodySets) (W : VariableSet) (p : Position) (d g : Bool) (ds : List
 
 -- of a row
 
-module _ (S : BodySets) (W : VariableSet) (n w : Tree) (r : PastFunctionRow S W n w) where
+module _ (S : BodySets) (W : VariableSet) (n w : Tree) (r : FunctionBehind S W n w) where
   abbrev with_statements : Trees → Tree
   with_statements = function_with r.is_declared r.is_generator r.directives r.number r.name r.parameters
 
-  there : Behind (S r.number) W (listed (r.name ▸ r.parameters)) r.before r.after
-  there = behind (S r.number) W (listed (r.name ▸ r.parameters)) r.before r.after r.row
+  abbrev there : Behind (S r.number) W (listed (r.name ▸ r.parameters)) r.before r.after
+  there = r.there
 
   -- whatever is told by the lists that are read and written
   listed_there : (P : Trees → Trees → Type 0) → P (append there.before (append there.d there.after)) (append there.before (append there.w there.after)) → P r.before r.after
@@ -187,7 +190,7 @@ module _ (S : BodySets) (W : VariableSet) (n w : Tree) (r : PastFunctionRow S W 
 
 -- ---- all
 
-placed_row : (S : BodySets) (W : VariableSet) (p : Position) (n w : Tree) → PastFunction S W p n w → (is_function_place p ≡ true) × PastFunctionRow S W n w
+placed_row : (S : BodySets) (W : VariableSet) (p : Position) (n w : Tree) → FunctionsBehind S W p n w → (is_function_place p ≡ true) × FunctionBehind S W n w
 placed_row S W (Stmt q) n w r = (refl, r)
 placed_row S W (Expr s) n w r = (refl, r)
 placed_row S W Method n w r = (refl, r)
@@ -196,15 +199,15 @@ placed_row S W p n w r = absurd r
 
 module _ (S : BodySets) (W : VariableSet) where
   -- what holds wherever such a function stands
-  anywhere : (P : Position → Tree → Tree → Type 0) → ((p : Position) (n w : Tree) → is_function_place p ≡ true → PastFunctionRow S W n w → P p n w) → (p : Position) (n w : Tree) → PastFunction S W p n w → P p n w
+  anywhere : (P : Position → Tree → Tree → Type 0) → ((p : Position) (n w : Tree) → is_function_place p ≡ true → FunctionBehind S W n w → P p n w) → (p : Position) (n w : Tree) → FunctionsBehind S W p n w → P p n w
   anywhere P h p n w c = let (z, r) = placed_row S W p n w c in h p n w z r
 
-  root_kept : (p : Position) (n w : Tree) → (is_rewritten_place p ≡ true) ⊎ (is_rooted_place p ≡ true) → PastFunctionRow S W n w → (is_rewritten_place p ≡ true) ⊎ KeepsRoot p n w
+  root_kept : (p : Position) (n w : Tree) → (is_rewritten_place p ≡ true) ⊎ (is_rooted_place p ≡ true) → FunctionBehind S W n w → (is_rewritten_place p ≡ true) ⊎ KeepsRoot p n w
   root_kept p n w (inl e) r = inl e
   root_kept p n w (inr e) r = inr (shaped S W n w r (KeepsRoot p) (record { place = e; shape = refl; names = refl; number = refl; counted = refl; second = refl }))
 
-  pub past_lawful : (K : Shape → Bool) → LawfulUnder K W S (PastFunction S W)
-  past_lawful K = record {
+  pub functions_behind_lawful : (K : Shape → Bool) → LawfulUnder K W S (FunctionsBehind S W)
+  functions_behind_lawful K = record {
     shapes = record {
       fitting = λ p n w c strict s f e. row_fits S W n w (placed_row S W p n w c).1 strict s e;
       asked = anywhere AskedAlike (λ p n w z r. shaped S W n w r (AskedAlike p) (record { absent = λ g. absurd (true≢false (sym g)); body = λ g. absurd (true≢false (sym g)); optional = λ g. absurd (true≢false (sym g)); number = λ g h. refl; spelled = λ o g. absurd (cc g); plain = refl }));
@@ -226,15 +229,16 @@ module _ (S : BodySets) (W : VariableSet) where
     instances = λ p n w c. let r = (placed_row S W p n w c).1 in inr ((there S W n w r).symbol, instance_drops S W n w r p K);
   }
 
-  -- ---- lighter
+-- ---- lighter
 
+module _ (S : BodySets) (W : Liberties) where
   pub list_lighter : (V : Assured) (outside : Tree) (ts us : Trees) → PastRow V W outside ts us → weight (Stmt stmt_seat.List) (block us) + 1 ≤ weight (Stmt stmt_seat.List) (block ts)
   list_lighter V outside ts us (inl r) =
-      let falls = single_falls stmt_seat.List r.before r.kind r.first r.spelling r.symbol r.init r.head r.after (movable r.init r.moves) r.once in
+      let falls = single_falls stmt_seat.List r.before r.kind r.first r.spelling r.symbol r.init r.head r.after (movable W.switches r.init r.moves) r.once in
       omega (arith, falls, ap (λ l. weight (Stmt stmt_seat.List) (block l)) r.shape, ap (λ l. weight (Stmt stmt_seat.List) (block l)) r.written)
   list_lighter V outside ts us (inr r) =
       let x = resolved r.spelling r.symbol in
-      let falls = block_falls stmt_seat.List r.before r.after (declared_among r.kind x r.first r.init (declarator r.binds r.value ▸ r.last)) (declaration r.kind (append r.first (declarator r.binds (put_first x r.init r.value) ▸ r.last))) refl (next_falls r.kind r.spelling r.symbol r.first r.init r.binds r.value r.last (movable r.init r.moves) r.once) in
+      let falls = block_falls stmt_seat.List r.before r.after (declared_among r.kind x r.first r.init (declarator r.binds r.value ▸ r.last)) (declaration r.kind (append r.first (declarator r.binds (put_first x r.init r.value) ▸ r.last))) refl (next_falls r.kind r.spelling r.symbol r.first r.init r.binds r.value r.last (movable W.switches r.init r.moves) r.once) in
       omega (arith, falls, ap (λ l. weight (Stmt stmt_seat.List) (block l)) r.shape, ap (λ l. weight (Stmt stmt_seat.List) (block l)) r.written)
 
   row_lighter : (p : Position) (n w : Tree) → PastFunctionRow S W n w → weight p w < weight p n
@@ -242,12 +246,19 @@ module _ (S : BodySets) (W : VariableSet) where
       let less = list_lighter (S r.number) (listed (r.name ▸ r.parameters)) r.before r.after r.row in
       omega (arith, less, list_is r.before, list_is r.after, body_is r.before, body_is r.after, ap (weight p) r.shape, ap (weight p) r.written)
 
+  in_function : (P : Position → Tree → Tree → Type 0) → ((p : Position) (n w : Tree) → PastFunctionRow S W n w → P p n w) → (p : Position) (n w : Tree) → PastFunction S W p n w → P p n w
+  in_function P f (Stmt q) n w r = f (Stmt q) n w r
+  in_function P f (Expr s) n w r = f (Expr s) n w r
+  in_function P f Method n w r = f Method n w r
+  in_function P f Elsewhere n w r = f Elsewhere n w r
+  in_function P f p n w r = absurd r
+
   row_outline : (p : Position) (n w : Tree) → PastFunction S W p n w → weight_outline n ≡ weight_outline w
-  row_outline = anywhere (λ p n w. weight_outline n ≡ weight_outline w) (λ p n w z r. ap weight_outline r.shape ∙ sym (ap weight_outline r.written))
+  row_outline = in_function (λ p n w. weight_outline n ≡ weight_outline w) (λ p n w r. ap weight_outline r.shape ∙ sym (ap weight_outline r.written))
 
   pub past_lightens : Lightens (PastFunction S W)
   past_lightens = record {
-    lighter = anywhere (λ p n w. weight p w < weight p n) (λ p n w z r. row_lighter p n w r);
+    lighter = in_function (λ p n w. weight p w < weight p n) row_lighter;
     absent = λ p n w c e. ap (λ o. o.absent) (row_outline p n w c);
     items = λ p n w c e. ap (λ o. o.items) (row_outline p n w c);
     is_zero = λ p n w c e. inl (ap (λ o. o.is_zero) (row_outline p n w c));
@@ -255,7 +266,7 @@ module _ (S : BodySets) (W : VariableSet) where
   }
 
 pub past_is_lawful : PastIsLawful
-past_is_lawful K W S = past_lawful S W K
+past_is_lawful K W S = steady_narrowed (PastFunction S W) (FunctionsBehind S W.writable) K W.writable S (functions_behind S W) (functions_behind_lawful S W.writable K)
 
 pub past_is_lighter : PastLightens
 past_is_lighter S W = past_lightens S W

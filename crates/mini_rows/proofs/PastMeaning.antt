@@ -30,7 +30,7 @@ use Rattle.mini_kept.specs.Without.{Assured, Steadies, Begins, Unseen}
 use Rattle.mini_rows.specs.Lists.{declaration}
 use Rattle.mini_rows.specs.Past.{any_bind, is_let, begun, Kept, held, are_past}
 use Rattle.mini_rows.specs.Sketches.{AsWholeItem, AsValue}
-use Rattle.mini_rows.specs.Unused.{resolved, names, any_names, declared_one, declared_left, may_move, statements, static_block, OfValues, put_first, reads_first}
+use Rattle.mini_rows.specs.Unused.{resolved, names, any_names, declared_one, declared_left, statements, static_block, OfValues, put_first, reads_first}
 use Rattle.mini_rows.proofs.FoldMeaning.{plain_read}
 use Rattle.mini_rows.proofs.FoundReads.{found_same, path_as, goes_as}
 use Rattle.mini_rows.proofs.ItemReads.{plain_item}
@@ -40,7 +40,8 @@ use Rattle.mini_rows.proofs.PastParts.{Still, path_held}
 use Rattle.mini_rows.proofs.PastRuns.{past_goes}
 use Rattle.mini_rows.proofs.SingleUse.{Step, led, is_end, Well, Indirect, Spared, statement, or_true, found}
 use Rattle.mini_rows.proofs.Unbound.{unhidden}
-use Rattle.mini_rows.proofs.UnusedMeaning.{GoesWith, ReadThere, declared_then, list_read, all_join, same_append, same_symbol, movable}
+use Rattle.mini_rows.proofs.UnusedMeaning.{GoesWith, ReadThere, declared_then, list_read, all_join, same_append, same_symbol}
+use Rattle.mini_terms.specs.Reading.{is_plain_part}
 
 -- ---- a set of variables that no scope hides
 
@@ -71,7 +72,7 @@ module _ (V : Assured) (ts : Trees) where
 pub read_named : (spelling : List ℕ) (k : ℕ) (s : List ℕ) → names (resolved spelling k) (identifier (resolved s k)) ≡ true
 read_named spelling k s = ap (λ b. b || false) (ap (λ b. b || false) (or_true (same_text spelling s) (nat_eq k k) (eq-eqb k k refl)))
 
-module _ (e : Environment) (spelling : List ℕ) (k : ℕ) (z : Unseen (alone (Declared k)) e) (H : Kept) (still : Still H e) (init head : Tree) (moves : may_move init ≡ true) where
+module _ (e : Environment) (spelling : List ℕ) (k : ℕ) (z : Unseen (alone (Declared k)) e) (H : Kept) (still : Still H e) (init head : Tree) (moves : is_plain_part init ≡ true) where
   abbrev x : Name
   x = resolved spelling k
 
@@ -89,7 +90,7 @@ module _ (e : Environment) (spelling : List ℕ) (k : ℕ) (z : Unseen (alone (D
       let past = path_held e k z init s H still ready x refl OfValues steps (resolved reading.spelling k) (read_named spelling k reading.spelling) (t.direct (found t.path.steps (identifier (resolved reading.spelling k))), subst (λ u. Indirect u t.path.steps) read_as t.path.direct) spared (sym (ap (are_past H x init) there) ∙ passed) in
       subst₂ (λ h w. GoesWith e k init h w s) (sym there) (sym put)
       (goes_as e k init (found steps (identifier (resolved reading.spelling k))) (led steps (identifier (resolved reading.spelling k))) (found_same steps (identifier (resolved reading.spelling k))) (led steps init) s
-      (past_goes e k z init s x refl reading.spelling (sym (plain_read init (movable init moves))) (plain_item init (movable init moves)) OfValues AsWholeItem steps (t.stands (is_end t.path.steps), subst (λ c. Well c t.path.steps) (sym (t.below AsWholeItem)) t.path.well) spared past (Stat None) tt tt [] tt))
+      (past_goes e k z init s x refl reading.spelling (sym (plain_read init moves)) (plain_item init moves) OfValues AsWholeItem steps (t.stands (is_end t.path.steps), subst (λ c. Well c t.path.steps) (sym (t.below AsWholeItem)) t.path.well) spared past (Stat None) tt tt [] tt))
 
 -- ---- a declaration in two
 

@@ -33,18 +33,20 @@ use Rattle.mini_kept.specs.Rooted.{is_program, LawfulRooted}
 use Rattle.mini_kept.specs.ShownFrames.{KeyGivenUnder, gone_from}
 use Rattle.mini_kept.specs.Without.{BodySets, none_steady, BodiesUnder}
 use Rattle.mini_kept.proofs.FrameSteps.{module_frames}
-use Rattle.mini_kept.proofs.Rooted.{programs_rooted}
+use Rattle.mini_kept.proofs.Rooted.{programs_rooted, rooted_narrowed}
 use Rattle.mini_kept.proofs.ShownFrames.{kept_shown}
 use Rattle.mini_kept.proofs.Whole.{any_reaches_keep}
 use Rattle.mini_kept.proofs.WithoutLists as without
 use Rattle.mini_rows.specs.PastModules.{PastModuleRow, PastModule, PastModuleIsLawful, PastModuleLightens}
 use Rattle.mini_rows.specs.Unused.{resolved}
+use Rattle.mini_rows.specs.Switches.{Liberties}
 use Rattle.mini_rows.proofs.ArrangedBodies.{quiet}
 use Rattle.mini_rows.proofs.ListWeights.{list_is}
 use Rattle.mini_rows.proofs.ModuleKept.{module_less, module_keeps, module_fixed, module_declares}
 use Rattle.mini_rows.proofs.ModuleLawful.{module_fits, ports_behind}
 use Rattle.mini_rows.proofs.PastLawful.{list_fits, none_mention, list_lighter}
-use Rattle.mini_rows.proofs.PastStretches.{Behind, behind, module_runs}
+use Rattle.mini_rows.proofs.PastHolders.{ModuleBehind, ModulesBehind, modules_behind}
+use Rattle.mini_rows.proofs.PastStretches.{Behind, module_runs}
 use Rattle.mini_rows.proofs.UnusedKept.{list_frames, list_bodies}
 
 -- ---- a symbol that is declared no more
@@ -135,9 +137,9 @@ module _ (S : BodySets) (W : VariableSet) (ds : List (List ℕ)) (a b : Trees) (
 
 -- ---- of a row
 
-module _ (S : BodySets) (W : VariableSet) (n w : Tree) (r : PastModuleRow S W n w) where
-  there : Behind (S 0) W (listed none) r.before r.after
-  there = behind (S 0) W (listed none) r.before r.after r.row
+module _ (S : BodySets) (W : VariableSet) (n w : Tree) (r : ModuleBehind S W n w) where
+  abbrev there : Behind (S 0) W (listed none) r.before r.after
+  there = r.there
 
   -- what is told of both
   both_told : (P : Tree → Tree → Type 0) → P (program true r.directives (append there.before (append there.d there.after))) (program true r.directives (append there.before (append there.w there.after))) → P n w
@@ -158,33 +160,38 @@ module _ (S : BodySets) (W : VariableSet) (n w : Tree) (r : PastModuleRow S W n 
 
 module _ (S : BodySets) (W : VariableSet) where
   -- whichever place it is
-  at_module : (P : Position → Tree → Tree → Type 0) → ((n w : Tree) → PastModuleRow S W n w → P Elsewhere n w) → (p : Position) (n w : Tree) → PastModule S W p n w → P p n w
+  at_module : (P : Position → Tree → Tree → Type 0) → ((n w : Tree) → ModuleBehind S W n w → P Elsewhere n w) → (p : Position) (n w : Tree) → ModulesBehind S W p n w → P p n w
   at_module P f Elsewhere n w r = f n w r
   at_module P f p n w r = absurd r
 
   -- whatever is told by the shape
-  shaped : (P : Tree → Tree → Type 0) → ((ds : List (List ℕ)) (a b : Trees) → P (program true ds a) (program true ds b)) → (n w : Tree) → PastModuleRow S W n w → P n w
+  shaped : (P : Tree → Tree → Type 0) → ((ds : List (List ℕ)) (a b : Trees) → P (program true ds a) (program true ds b)) → (n w : Tree) → ModuleBehind S W n w → P n w
   shaped P f n w r = subst (λ v. P v w) (sym r.shape) (subst (P (program true r.directives r.before)) (sym r.written) (f r.directives r.before r.after))
 
-  module_names : KeepsNames (PastModule S W)
+  module_names : KeepsNames (ModulesBehind S W)
   module_names = record {
     places = at_module (λ p n w. (is_rewritten_place p ≡ true) ⊎ KeepsRoot p n w) (λ n w r. inr (shaped (KeepsRoot Elsewhere) (λ ds a b. record { place = refl; shape = refl; names = refl; number = refl; counted = refl; second = refl }) n w r));
     pieces = at_module (λ p n w. is_piece (shape_of n) ≡ false) (shaped (λ n w. is_piece (shape_of n) ≡ false) (λ ds a b. refl));
     keeps = at_module (λ p n w. (strict : Bool) (s : Slot) → fits_place p s ≡ true → fits strict s n ≡ true → KeepsLoosely p n w) (λ n w r strict s z e. row_keeps S W n w r);
   }
 
-  module_shapes : KeepsShapes (PastModule S W)
+  module_shapes : KeepsShapes (ModulesBehind S W)
   module_shapes = record {
     fitting = at_module (λ p n w. (strict : Bool) (s : Slot) → fits_place p s ≡ true → fits strict s n ≡ true → fits strict s w ≡ true) (λ n w r strict s z e. row_fits S W n w r strict s e);
     asked = at_module AskedAlike (shaped (AskedAlike Elsewhere) (λ ds a b. record { absent = λ g. absurd (true≢false (sym g)); body = λ g. absurd (true≢false (sym g)); optional = λ g. absurd (true≢false (sym g)); number = λ g h. refl; spelled = λ s g. absurd (cc g); plain = refl }));
   }
 
-  pub modules_lawful : (K : Shape → Bool) → LawfulRooted K W S (PastModule S W)
+  pub modules_lawful : (K : Shape → Bool) → LawfulRooted K W S (ModulesBehind S W)
   modules_lawful K =
-      programs_rooted (PastModule S W) (at_module (λ p n w. is_program (shape_of n) ≡ true) (shaped (λ n w. is_program (shape_of n) ≡ true) (λ ds a b. refl))) K W S
-      (λ n w r e. row_kept S W n w r K (any_reaches_keep (PastModule S W) module_names module_shapes n w (more Elsewhere n w w (here Elsewhere n w r) (done Elsewhere w))))
+      programs_rooted (ModulesBehind S W) (at_module (λ p n w. is_program (shape_of n) ≡ true) (shaped (λ n w. is_program (shape_of n) ≡ true) (λ ds a b. refl))) K W S
+      (λ n w r e. row_kept S W n w r K (any_reaches_keep (ModulesBehind S W) module_names module_shapes n w (more Elsewhere n w w (here Elsewhere n w r) (done Elsewhere w))))
 
-  -- ---- lighter
+-- ---- lighter
+
+module _ (S : BodySets) (W : Liberties) where
+  of_module_row : (P : Position → Tree → Tree → Type 0) → ((n w : Tree) → PastModuleRow S W n w → P Elsewhere n w) → (p : Position) (n w : Tree) → PastModule S W p n w → P p n w
+  of_module_row P f Elsewhere n w r = f n w r
+  of_module_row P f p n w r = absurd r
 
   row_lighter : (n w : Tree) → PastModuleRow S W n w → weight Elsewhere w < weight Elsewhere n
   row_lighter n w r =
@@ -192,11 +199,11 @@ module _ (S : BodySets) (W : VariableSet) where
       omega (arith, less, list_is r.before, list_is r.after, ap (weight Elsewhere) r.shape, ap (weight Elsewhere) r.written)
 
   row_outline : (p : Position) (n w : Tree) → PastModule S W p n w → weight_outline n ≡ weight_outline w
-  row_outline = at_module (λ p n w. weight_outline n ≡ weight_outline w) (shaped (λ n w. weight_outline n ≡ weight_outline w) (λ ds a b. refl))
+  row_outline = of_module_row (λ p n w. weight_outline n ≡ weight_outline w) (λ n w r. ap weight_outline r.shape ∙ sym (ap weight_outline r.written))
 
   pub modules_lighten : Lightens (PastModule S W)
   modules_lighten = record {
-    lighter = at_module (λ p n w. weight p w < weight p n) row_lighter;
+    lighter = of_module_row (λ p n w. weight p w < weight p n) row_lighter;
     absent = λ p n w c e. ap (λ o. o.absent) (row_outline p n w c);
     items = λ p n w c e. ap (λ o. o.items) (row_outline p n w c);
     is_zero = λ p n w c e. inl (ap (λ o. o.is_zero) (row_outline p n w c));
@@ -204,7 +211,7 @@ module _ (S : BodySets) (W : VariableSet) where
   }
 
 pub past_modules_are_lawful : PastModuleIsLawful
-past_modules_are_lawful K W S = modules_lawful S W K
+past_modules_are_lawful K W S = rooted_narrowed (PastModule S W) (ModulesBehind S W.writable) K W.writable S (modules_behind S W) (modules_lawful S W.writable K)
 
 pub past_modules_are_lighter : PastModuleLightens
 past_modules_are_lighter S W = modules_lighten S W

@@ -20,7 +20,7 @@ use Rattle.mini_rows.specs.Lists.{declaration}
 use Rattle.mini_rows.specs.Declarations.{binding, declarator}
 use Rattle.mini_rows.specs.Past.{Kept, are_past}
 use Rattle.mini_rows.specs.Sketches.{AsValue}
-use Rattle.mini_rows.specs.Unused.{resolved, may_move, is_first, OfValues, put_first}
+use Rattle.mini_rows.specs.Unused.{resolved, is_first, OfValues, put_first}
 use Rattle.mini_rows.proofs.FoldMeaning.{plain_read}
 use Rattle.mini_rows.proofs.ItemReads.{plain_item}
 use Rattle.mini_rows.proofs.ListStretches.{exec_one, listed_is}
@@ -32,9 +32,10 @@ use Rattle.mini_rows.proofs.PastRuns.{past_goes}
 use Rattle.mini_rows.proofs.FoundReads.{path_as, path_same, read_there}
 use Rattle.mini_rows.proofs.SingleUse.{Path, path, led, Indirect}
 use Rattle.mini_rows.proofs.SpellAlike.{SameTree}
-use Rattle.mini_rows.proofs.UnusedMeaning.{declared_then, movable, same_symbol}
+use Rattle.mini_rows.proofs.UnusedMeaning.{declared_then, same_symbol}
+use Rattle.mini_terms.specs.Reading.{is_plain_part}
 
-module _ (e : Environment) (spelling : List ℕ) (k : ℕ) (z : Unseen (alone (Declared k)) e) (H : Kept) (still : Still H e) (K : VariableDeclarationKind) (init id value : Tree) (last : Trees) (moves : may_move init ≡ true) (once : is_first (resolved spelling k) false value ≡ true) (passed : are_past H (resolved spelling k) init value ≡ true) where
+module _ (e : Environment) (spelling : List ℕ) (k : ℕ) (z : Unseen (alone (Declared k)) e) (H : Kept) (still : Still H e) (K : VariableDeclarationKind) (init id value : Tree) (last : Trees) (moves : is_plain_part init ≡ true) (once : is_first (resolved spelling k) false value ≡ true) (passed : are_past H (resolved spelling k) init value ≡ true) where
   abbrev x : Name
   x = resolved spelling k
 
@@ -48,7 +49,7 @@ module _ (e : Environment) (spelling : List ℕ) (k : ℕ) (z : Unseen (alone (D
   after v s = with_vars s (set_var s.vars (Declared k) (Holds v))
 
   plain : summary (identifier x) ≡ summary init
-  plain = sym (plain_read init (movable init moves))
+  plain = sym (plain_read init moves)
 
   reading : Path x AsValue value
   reading = path x false value once
@@ -62,7 +63,7 @@ module _ (e : Environment) (spelling : List ℕ) (k : ℕ) (z : Unseen (alone (D
   value_goes : (s : State) → Initialised H.variables s → Go (either (means e init (As Val) tt s) (λ v t. means e value (As Val) tt (after v t)) (λ y t. stop y t)) (means e (put_first x init value) (As Val) tt s)
   value_goes s ready =
       subst₂ Go (read_there e k init value there same_there (As Val) tt s) (ap (λ w. means e w (As Val) tt s) (sym (reading.puts init)))
-      (past_goes e k z init s x refl reading.read.spelling plain (plain_item init (movable init moves)) OfValues AsValue reading.steps reading.well reading.spared
+      (past_goes e k z init s x refl reading.read.spelling plain (plain_item init moves) OfValues AsValue reading.steps reading.well reading.spared
       (path_held e k z init s H still ready x refl OfValues reading.steps (resolved reading.read.spelling k) (read_named spelling k reading.read.spelling) (subst (λ y. Indirect (identifier (record { spelling = reading.read.spelling; symbol = y })) reading.steps) (same_symbol k reading.read.symbol reading.same) reading.direct) reading.spared (sym (ap (are_past H x init) (path_as x k refl AsValue value reading)) ∙ passed)) (As Val) tt tt tt tt)
 
   value_there : (summary value).facts.absent ≡ false

@@ -35,11 +35,12 @@ use Rattle.mini_kept.proofs.WithoutLists.{each_under, itself_under}
 use Rattle.mini_rows.specs.OwnParts.{block_over, inner_over, OwnPart}
 use Rattle.mini_rows.specs.PastBlocks.{PastBlocks, PastBlocksAreLawfulInParts}
 use Rattle.mini_rows.specs.Steady.{nothing_begun, OwnStep, own_first, has_body}
+use Rattle.mini_rows.specs.Switches.{Switches}
 use Rattle.mini_rows.proofs.OwnLosses.{LosesThere, some_step, lost_step, lost_read, lost_bodies, lost_runs_over}
 use Rattle.mini_rows.proofs.OwnPartLawful.{bodiless, inert_bodiless, inert_piece}
 use Rattle.mini_rows.proofs.PartPlaces.{is_part, Bare, bare_here, bare_inside, BareIn, bare_first, bare_later, Innermost, innermost, step_innermost}
 use Rattle.mini_rows.proofs.PartRuns.{inert_same}
-use Rattle.mini_rows.proofs.PastBlockKept.{Loses}
+use Rattle.mini_rows.proofs.PastLost.{Loses}
 use Rattle.mini_rows.proofs.PastBlockLawful.{Unnamed, unnamed_step, bodies_there, permitted, program_kept}
 use Rattle.mini_rows.proofs.SteadyLawful.{at_start, over_off, known_begins}
 
@@ -189,31 +190,31 @@ record Place : Type 0 where
 abbrev Placed : (S : BodySets) → Place → Position → Tree → Tree → Type 0
 Placed S i = Owner S i.lost_symbol i.number
 
-module _ (S : BodySets) where
+module _ (options : Switches) (S : BodySets) where
   abbrev Somewhere : Position → Tree → Tree → Type 0
   Somewhere p n w = (i : Place) × Placed S i p n w
 
-  somewhere : (p : Position) (n w : Tree) → OwnPart PastBlocks S p n w → Somewhere p n w
+  somewhere : (p : Position) (n w : Tree) → OwnPart (PastBlocks options) S p n w → Somewhere p n w
   somewhere p n w (inl r) =
-      let (k, s) = some_step r.before (S r.number) r.step in
+      let (k, s) = some_step options r.before (S r.number) r.step in
       subst (λ v. Somewhere p v w) (sym r.shape) (subst (Somewhere p (block_over r.number r.before)) (sym r.written) (record { number = r.number; lost_symbol = k }, a_block p r.before r.after s))
   somewhere p n w (inr r) =
-      let (k, s) = some_step r.before (S r.number) r.step in
+      let (k, s) = some_step options r.before (S r.number) r.step in
       subst (λ v. Somewhere p v w) (sym r.shape) (subst (Somewhere p (inner_over r.number r.before)) (sym r.written) (record { number = r.number; lost_symbol = k }, an_inner p r.before r.after s))
 
-  is_one : (p : Position) (n w : Tree) → OwnPart PastBlocks S p n w → is_body (shape_of n) ≡ true
+  is_one : (p : Position) (n w : Tree) → OwnPart (PastBlocks options) S p n w → is_body (shape_of n) ≡ true
   is_one p n w r = let (i, o) = somewhere p n w r in by o
     where
       by : {k m : ℕ} {p : Position} {n w : Tree} → Owner S k m p n w → is_body (shape_of n) ≡ true
       by (a_block p t u s) = refl
       by (an_inner p t u s) = refl
 
-  parts_lawful : (K : Shape → Bool) (W : VariableSet) → LawfulRooted K W S (OwnPart PastBlocks S)
-  parts_lawful K W = bodies_rooted (OwnPart PastBlocks S) is_one K W S kept
+  parts_lawful : (K : Shape → Bool) (W : VariableSet) → LawfulRooted K W S (OwnPart (PastBlocks options) S)
+  parts_lawful K W = bodies_rooted (OwnPart (PastBlocks options) S) is_one K W S kept
     where
-      kept : (t u : Tree) → Step (OwnPart PastBlocks S) Elsewhere t u → IsWellShaped t → ProgramIsKeptUnder K W S t u
+      kept : (t u : Tree) → Step (OwnPart (PastBlocks options) S) Elsewhere t u → IsWellShaped t → ProgramIsKeptUnder K W S t u
       kept t u s e = let (i, o) = step_of Place (Placed S) (step_on somewhere s) in
           owner_kept S i.lost_symbol i.number W K t u o e
 
 pub past_blocks_are_lawful_in_parts : PastBlocksAreLawfulInParts
-past_blocks_are_lawful_in_parts K W S = parts_lawful S K W
+past_blocks_are_lawful_in_parts o K W S = parts_lawful o S K W

@@ -47,13 +47,14 @@ use Rattle.mini_kept.proofs.Fixed.{step_fixed}
 use Rattle.mini_kept.proofs.FrameLists as frame_list
 use Rattle.mini_kept.proofs.FrameSteps.{step_frames_but}
 use Rattle.mini_kept.proofs.Gone.{step_less, avoids}
-use Rattle.mini_kept.proofs.Rooted.{step_on, step_of, bodies_rooted}
+use Rattle.mini_kept.proofs.Rooted.{step_on, step_of, bodies_rooted, rooted_narrowed}
 use Rattle.mini_kept.proofs.ShownFrames.{kept_shown, shows_itself, all_frames_more, gone_more, given_seldom}
 use Rattle.mini_kept.proofs.Whole.{any_reaches_keep}
 use Rattle.mini_kept.proofs.WithoutLists as without
 use Rattle.mini_rows.specs.PastStatics.{PastStaticRow, PastStatic, PastStaticIsLawful, PastStaticLightens}
 use Rattle.mini_rows.specs.Steady.{has_body}
 use Rattle.mini_rows.specs.Unused.{resolved, static_block}
+use Rattle.mini_rows.specs.Switches.{Liberties}
 use Rattle.mini_rows.proofs.ArrangedBodies.{quiet}
 use Rattle.mini_rows.proofs.ListWeights.{list_is}
 use Rattle.mini_rows.proofs.OwnPartLawful.{bodiless, inert_bodiless, inert_piece}
@@ -61,7 +62,8 @@ use Rattle.mini_rows.proofs.PartPlaces.{is_part, Bare, bare_here, bare_inside, B
 use Rattle.mini_rows.proofs.PartRuns.{inert_same}
 use Rattle.mini_rows.proofs.PastLawful.{list_fits, none_mention, list_lighter}
 use Rattle.mini_rows.proofs.PastModuleLawful.{undeclared_there, still_declared}
-use Rattle.mini_rows.proofs.PastStretches.{Behind, behind, static_runs}
+use Rattle.mini_rows.proofs.PastHolders.{StaticBehind, StaticsBehind, statics_behind}
+use Rattle.mini_rows.proofs.PastStretches.{Behind, static_runs}
 use Rattle.mini_rows.proofs.StaticBlockKept.{static_less, static_kept, static_keeps, static_fixed, static_declares}
 use Rattle.mini_rows.proofs.StaticBlockLawful.{member_fits, numbered}
 use Rattle.mini_rows.proofs.UnusedKept.{list_frames, list_bodies}
@@ -141,36 +143,36 @@ module _ (S : BodySets) (W : VariableSet) (number : ℕ) (a b : Trees) (t : Behi
 -- ---- of a row
 
 module _ (S : BodySets) (W : VariableSet) where
-  dropped : (n w : Tree) → PastStaticRow S W n w → (k : ℕ) × One S W k n w
+  dropped : (n w : Tree) → StaticBehind S W n w → (k : ℕ) × One S W k n w
   dropped n w r =
-      let t = behind (S r.number) W (listed none) r.before r.after r.row in
+      let t = r.there in
       let first = r.shape ∙ ap (static_block r.number) t.read_is in
       let second = r.written ∙ ap (static_block r.number) t.written_is in
       (t.symbol, subst (λ v. One S W t.symbol v w) (sym first) (subst (One S W t.symbol (static_block r.number (append t.before (append t.d t.after)))) (sym second) (lost S W r.number r.before r.after t)))
 
-  row_fits : (n w : Tree) → PastStaticRow S W n w → (strict : Bool) (s : Slot) → fits strict s n ≡ true → (fits strict s w ≡ true) × (is_keyed_slot s ≡ true)
+  row_fits : (n w : Tree) → StaticBehind S W n w → (strict : Bool) (s : Slot) → fits strict s n ≡ true → (fits strict s w ≡ true) × (is_keyed_slot s ≡ true)
   row_fits n w r strict s e =
-      let t = behind (S r.number) W (listed none) r.before r.after r.row in
+      let t = r.there in
       let (f, g) = member_fits r.number r.before r.after (list_fits (S r.number) W (listed none) r.before r.after t in_body) strict s (sym (ap (fits strict s) r.shape) ∙ e) in
       (ap (fits strict s) r.written ∙ f, g)
 
-  shown_alike : (n w : Tree) (r : PastStaticRow S W n w) (strict : Bool) (s : Slot) → fits strict s n ≡ true → IsShownAlike s n w
+  shown_alike : (n w : Tree) (r : StaticBehind S W n w) (strict : Bool) (s : Slot) → fits strict s n ≡ true → IsShownAlike s n w
   shown_alike n w r strict s e =
       let same : part n ≡ part w = ap part r.shape ∙ numbered r.number r.before r.after strict s (sym (ap (fits strict s) r.shape) ∙ e) ∙ sym (ap part r.written) in
       ((row_fits n w r strict s e).1, λ a. subst (Shows (KeyGiven nothing (bodies a n)) (part n)) same (shows_itself (KeyGiven nothing (bodies a n)) (part n)))
 
   -- whatever is told by the shape
-  shaped : (P : Tree → Tree → Type 0) → ((k : ℕ) (a b : Trees) → P (static_block k a) (static_block k b)) → (n w : Tree) → PastStaticRow S W n w → P n w
+  shaped : (P : Tree → Tree → Type 0) → ((k : ℕ) (a b : Trees) → P (static_block k a) (static_block k b)) → (n w : Tree) → StaticBehind S W n w → P n w
   shaped P f n w r = subst (λ v. P v w) (sym r.shape) (subst (P (static_block r.number r.before)) (sym r.written) (f r.number r.before r.after))
 
   -- ---- of those that lose one symbol
 
   module _ (k : ℕ) where
     abbrev Drop : Position → Tree → Tree → Type 0
-    Drop Elsewhere n w = PastStaticRow S W n w × One S W k n w
+    Drop Elsewhere n w = StaticBehind S W n w × One S W k n w
     Drop p n w = ⊥
 
-    at_class : (P : Position → Tree → Tree → Type 0) → ((n w : Tree) → PastStaticRow S W n w → One S W k n w → P Elsewhere n w) → (p : Position) (n w : Tree) → Drop p n w → P p n w
+    at_class : (P : Position → Tree → Tree → Type 0) → ((n w : Tree) → StaticBehind S W n w → One S W k n w → P Elsewhere n w) → (p : Position) (n w : Tree) → Drop p n w → P p n w
     at_class P f Elsewhere n w r = f n w r.0 r.1
     at_class P f p n w r = absurd r
 
@@ -299,19 +301,20 @@ module _ (S : BodySets) (W : VariableSet) where
 
   -- ---- all
 
-  is_one : (p : Position) (n w : Tree) → PastStatic S W p n w → is_body (shape_of n) ≡ true
+  is_one : (p : Position) (n w : Tree) → StaticsBehind S W p n w → is_body (shape_of n) ≡ true
   is_one Elsewhere n w r = shaped (λ n w. is_body (shape_of n) ≡ true) (λ k a b. refl) n w r
   is_one p n w r = absurd r
 
-  some_dropped : (p : Position) (n w : Tree) → PastStatic S W p n w → (k : ℕ) × Drop k p n w
+  some_dropped : (p : Position) (n w : Tree) → StaticsBehind S W p n w → (k : ℕ) × Drop k p n w
   some_dropped Elsewhere n w r = let (k, o) = dropped n w r in (k, (r, o))
   some_dropped p n w r = absurd r
 
-  pub statics_lawful : (K : Shape → Bool) → LawfulRooted K W S (PastStatic S W)
-  statics_lawful K = bodies_rooted (PastStatic S W) is_one K W S (λ t u s e. let (k, o) = step_of ℕ Drop (step_on some_dropped s) in program_kept k K t u o e)
+  pub statics_lawful : (K : Shape → Bool) → LawfulRooted K W S (StaticsBehind S W)
+  statics_lawful K = bodies_rooted (StaticsBehind S W) is_one K W S (λ t u s e. let (k, o) = step_of ℕ Drop (step_on some_dropped s) in program_kept k K t u o e)
 
-  -- ---- lighter
+-- ---- lighter
 
+module _ (S : BodySets) (W : Liberties) where
   row_lighter : (n w : Tree) → PastStaticRow S W n w → weight Elsewhere w < weight Elsewhere n
   row_lighter n w r =
       let less = list_lighter S W (S r.number) (listed none) r.before r.after r.row in
@@ -322,7 +325,7 @@ module _ (S : BodySets) (W : VariableSet) where
   at_block P f p n w r = absurd r
 
   row_outline : (p : Position) (n w : Tree) → PastStatic S W p n w → weight_outline n ≡ weight_outline w
-  row_outline = at_block (λ p n w. weight_outline n ≡ weight_outline w) (shaped (λ n w. weight_outline n ≡ weight_outline w) (λ k a b. refl))
+  row_outline = at_block (λ p n w. weight_outline n ≡ weight_outline w) (λ n w r. ap weight_outline r.shape ∙ sym (ap weight_outline r.written))
 
   pub statics_lighten : Lightens (PastStatic S W)
   statics_lighten = record {
@@ -334,7 +337,7 @@ module _ (S : BodySets) (W : VariableSet) where
   }
 
 pub past_statics_are_lawful : PastStaticIsLawful
-past_statics_are_lawful K W S = statics_lawful S W K
+past_statics_are_lawful K W S = rooted_narrowed (PastStatic S W) (StaticsBehind S W.writable) K W.writable S (statics_behind S W) (statics_lawful S W.writable K)
 
 pub past_statics_are_lighter : PastStaticLightens
 past_statics_are_lighter S W = statics_lighten S W

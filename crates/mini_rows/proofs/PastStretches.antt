@@ -23,6 +23,7 @@ use Rattle.mini_rows.specs.Lists.{declaration}
 use Rattle.mini_rows.specs.Declarations.{binding, declarator}
 use Rattle.mini_rows.specs.Past.{binds, any_bind, begun, held, Row71Past, Row71PastNext, PastRow, PastRunsAlike}
 use Rattle.mini_rows.specs.Unused.{resolved, names, any_names, declared_among, declared_one, declared_left, put_first, evaluated, statements, static_block}
+use Rattle.mini_rows.specs.Switches.{Liberties}
 use Rattle.mini_rows.proofs.FoldMeaning.{plain_read}
 use Rattle.mini_rows.proofs.HeadKept.{head_leaves, head_declares}
 use Rattle.mini_rows.proofs.HeadMeaning.{head_read, head_unnamed}
@@ -88,7 +89,7 @@ behind_off V before K first rest after ts is =
     held_off V ts (hidden_all (append before (declared_left K first ▸ none)))
     (λ j f. let (a, b) = bind_parts j before (declaration K (append first rest) ▸ after) (sym (ap (any_bind j) is) ∙ f) in all_unhidden j (append before (declared_left K first ▸ none)) (both_unbound j before (declared_left K first ▸ none) a (left_bound j K first rest after b)))
 
-unfoldable pub of_head : (V : Assured) (W : VariableSet) (outside : Tree) (ts us : Trees) → Row71Past V W outside ts us → Behind V W outside ts us
+unfoldable pub of_head : (V : Assured) (W : Liberties) (outside : Tree) (ts us : Trees) → Row71Past V W outside ts us → Behind V W.writable outside ts us
 of_head V W outside ts us r =
     let k = r.symbol in
     let x : Name = resolved r.spelling k in
@@ -109,20 +110,20 @@ of_head V W outside ts us r =
       after = r.after;
       d = d ▸ (r.head ▸ none);
       w = left ▸ (put ▸ none);
-      leaves = head_leaves K x k refl r.first r.init r.head (movable r.init r.moves) r.once r.initial r.declared_earlier;
-      declares = head_declares K x k refl r.first r.init r.head (movable r.init r.moves) r.once r.initial r.declared_earlier;
+      leaves = head_leaves K x k refl r.first r.init r.head (movable W.switches r.init r.moves) r.once r.initial r.declared_earlier;
+      declares = head_declares K x k refl r.first r.init r.head (movable W.switches r.init r.moves) r.once r.initial r.declared_earlier;
       read = single_read r.spelling k K r.first r.init r.head put (head_read x r.head r.once r.init);
       same = λ e u s.
           let off = behind_off V r.before K r.first (declarator (binding x) r.init ▸ none) (r.head ▸ r.after) ts r.shape in
           let moved = behind_same e D u.unseen.shared X H.variables pre (one ▸ (r.head ▸ none)) (put ▸ none) r.after (all_avoided x k refl r.after r.later) off (held_there V ts r.before K r.first off)
-          (pair_same e r.spelling k u.unseen H.variables r.init r.head put (ap (λ i. i.facts.absent) (plain_read r.init (movable r.init r.moves))) K (may_write W K e k r.goes u) (head_goes e r.spelling k u.unseen H (held_still V ts r.before (is_lexical K) r.first e s) r.init r.head r.moves r.once r.passed)) in
+          (pair_same e r.spelling k u.unseen H.variables r.init r.head put (ap (λ i. i.facts.absent) (plain_read r.init (movable W.switches r.init r.moves))) K (may_write W.writable K e k r.goes u) (head_goes e r.spelling k u.unseen H (held_still V ts r.before (is_lexical K) r.first e s) r.init r.head (movable W.switches r.init r.moves) r.once r.passed)) in
           transitive e D X (Stat None) (listed (append r.before (d ▸ (r.head ▸ r.after)))) (listed (append pre (one ▸ (r.head ▸ r.after)))) (listed (append r.before (left ▸ (put ▸ r.after)))) (in_two e K r.first (declarator (binding x) r.init ▸ none) D X r.before (r.head ▸ r.after))
           (subst (λ us. Same e D X (Stat None) (listed (append pre (one ▸ (r.head ▸ r.after)))) (listed us)) (append_twice r.before (left ▸ none) (put ▸ r.after)) moved);
       avoids = (first_avoids (alone (Declared k)) K r.first (all_avoided x k refl r.first r.declared_earlier), (avoided x k refl put (head_unnamed x r.head r.once r.init r.initial), tt));
       fits = λ o strict h.
           let (f, g) = first_fits strict (item_in o) d (r.head ▸ none) h in
           let (i, rest) = first_fits strict (item_in o) r.head none g in
-          let (v, w) = single_fits strict K x r.first r.init r.head r.moves r.once (no_number_there x r.init (evaluated r.head) r.varies) (sym (declaration_in o strict K (append r.first (declarator (binding x) r.init ▸ none))) ∙ f) (sym (there.head_in o strict) ∙ i) in
+          let (v, w) = single_fits strict K x r.first r.init r.head (movable W.switches r.init r.moves) r.once (no_number_there x r.init (evaluated r.head) r.varies) (sym (declaration_in o strict K (append r.first (declarator (binding x) r.init ▸ none))) ∙ f) (sym (there.head_in o strict) ∙ i) in
           more_fit strict (item_in o) left (put ▸ none) (left_in o strict K r.first ∙ v) (more_fit strict (item_in o) put none (there.put_in o strict ∙ w) rest);
       ported = λ rest. there.head_ported rest ∙ sym (there.put_ported rest) ∙ left_ported K r.first (put ▸ rest);
       outer = r.outer;
@@ -132,7 +133,7 @@ of_head V W outside ts us r =
       written_is = r.written;
     }
 
-unfoldable pub of_next : (V : Assured) (W : VariableSet) (outside : Tree) (ts us : Trees) → Row71PastNext V W outside ts us → Behind V W outside ts us
+unfoldable pub of_next : (V : Assured) (W : Liberties) (outside : Tree) (ts us : Trees) → Row71PastNext V W outside ts us → Behind V W.writable outside ts us
 of_next V W outside ts us r =
     let k = r.symbol in
     let x : Name = resolved r.spelling k in
@@ -159,11 +160,11 @@ of_next V W outside ts us r =
       same = λ e u s.
           let off = behind_off V r.before K r.first these r.after ts r.shape in
           let moved = behind_same e D u.unseen.shared X H.variables pre (declaration K these ▸ none) (declaration K those ▸ none) r.after (all_avoided x k refl r.after r.later) off (held_there V ts r.before K r.first off)
-          (next_past e r.spelling k u.unseen H (held_still V ts r.before (is_lexical K) r.first e s) K r.init r.binds r.value r.last r.moves r.once r.passed (avoided x k refl r.binds r.other) (all_avoided x k refl r.last r.declared_later) (may_write W K e k r.goes u)) in
+          (next_past e r.spelling k u.unseen H (held_still V ts r.before (is_lexical K) r.first e s) K r.init r.binds r.value r.last (movable W.switches r.init r.moves) r.once r.passed (avoided x k refl r.binds r.other) (all_avoided x k refl r.last r.declared_later) (may_write W.writable K e k r.goes u)) in
           transitive e D X (Stat None) (listed (append r.before (d ▸ r.after))) (listed (append pre (declaration K these ▸ r.after))) (listed (append r.before (w ▸ r.after))) (in_two e K r.first these D X r.before r.after)
           (transitive e D X (Stat None) (listed (append pre (declaration K these ▸ r.after))) (listed (append pre (declaration K those ▸ r.after))) (listed (append r.before (w ▸ r.after))) moved (in_one e K r.first those D X r.before r.after));
       avoids = (next_avoids x k refl K r.first r.init r.binds r.value r.last r.once r.declared_earlier r.initial r.other r.declared_later, tt);
-      fits = λ o strict. one_fits o strict d w (next_fits strict K x r.first r.init r.binds r.value r.last r.moves r.once (no_number_there x r.init r.value r.varies)) (declaration_in o strict K (append r.first these)) (declaration_in o strict K (append r.first those));
+      fits = λ o strict. one_fits o strict d w (next_fits strict K x r.first r.init r.binds r.value r.last (movable W.switches r.init r.moves) r.once (no_number_there x r.init r.value r.varies)) (declaration_in o strict K (append r.first these)) (declaration_in o strict K (append r.first those));
       ported = λ rest. refl;
       outer = r.outer;
       earlier = r.earlier;
@@ -172,7 +173,7 @@ of_next V W outside ts us r =
       written_is = r.written;
     }
 
-unfoldable pub behind : (V : Assured) (W : VariableSet) (outside : Tree) (ts us : Trees) → PastRow V W outside ts us → Behind V W outside ts us
+unfoldable pub behind : (V : Assured) (W : Liberties) (outside : Tree) (ts us : Trees) → PastRow V W outside ts us → Behind V W.writable outside ts us
 behind V W outside ts us (inl r) = of_head V W outside ts us r
 behind V W outside ts us (inr r) = of_next V W outside ts us r
 
@@ -201,4 +202,4 @@ static_runs V W outside ts us b n e u s X begins =
 pub runs_alike : PastRunsAlike
 runs_alike V W outside ts us r =
     let b = behind V W outside ts us r in
-    (b.symbol, λ e u s X g. subst₂ (λ a c. RunsAs e FunctionStatements FunctionStatements X (statements a) (statements c)) (sym b.read_is) (sym b.written_is) (statements_run V W outside ts us b e u s X g))
+    (b.symbol, λ e u s X g. subst₂ (λ a c. RunsAs e FunctionStatements FunctionStatements X (statements a) (statements c)) (sym b.read_is) (sym b.written_is) (statements_run V W.writable outside ts us b e u s X g))

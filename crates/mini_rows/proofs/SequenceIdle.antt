@@ -61,7 +61,7 @@ module _ (D : VariableSet) where
     alone_near q w s = subst (λ x. Near x (means e q (As w) tt s)) (sym (sequence_in_row e a (q ▸ none) w s)) (idle_first q none w s)
 
     -- and as after the literal 0
-    zero_near : (q : Tree) (w : Want) (s : State) → Near (means e (sequence (a ▸ (q ▸ none))) (As w) tt s) (means e (behind_zero q) (As w) tt s)
+    pub zero_near : (q : Tree) (w : Want) (s : State) → Near (means e (sequence (a ▸ (q ▸ none))) (As w) tt s) (means e (behind_zero q) (As w) tt s)
     zero_near q w s = subst (Near (means e (sequence (a ▸ (q ▸ none))) (As w) tt s)) (sym (behind_wanted e q w s)) (alone_near q w s)
 
 -- what has no effect wherever it stands

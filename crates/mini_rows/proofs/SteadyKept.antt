@@ -30,11 +30,13 @@ use Rattle.mini_rows.specs.Arranged.{KeptAt}
 use Rattle.mini_rows.specs.Idle.{IdleRow, IdleStatement}
 use Rattle.mini_rows.specs.Members.{Object, OfThis, OfName, is_kept, begins_at, is_ready, Index, Written, Held, is_kept_index, is_ready_index, MemberRow}
 use Rattle.mini_rows.specs.Past.{leaves}
+use Rattle.mini_rows.specs.Still.{StillRow}
 use Rattle.mini_rows.specs.Steady.{bindings, AroundAt, PropertyAt, SteadyRow, KeepsOwn, ReadsMore, SteadyMeansSame, SteadyLightens}
 use Rattle.mini_rows.specs.Unused.{resolved}
 use Rattle.mini_rows.proofs.FadingSteps.{same_fades}
 use Rattle.mini_rows.proofs.IdleKept.{Idles, expressions_idle, statements_idle}
 use Rattle.mini_rows.proofs.MemberKept.{keeps}
+use Rattle.mini_rows.proofs.StillKept.{stills_idle}
 use Rattle.mini_rows.proofs.SpellShapes.{formed_asked, formed_slot}
 
 -- what each row keeps where it stands
@@ -99,7 +101,8 @@ idle_here V p n w place counts k = record {
 
 here : (V : Assured) (p : Position) (n w : Tree) → SteadyRow V p n w → Here V p n w
 here V (Expr s) n w (inl r) = member_here V s n w r
-here V (Expr s) n w (inr r) = idle_here V (Expr s) n w refl refl (expressions_idle V s n w r)
+here V (Expr s) n w (inr (inl r)) = idle_here V (Expr s) n w refl refl (expressions_idle V s n w r)
+here V (Expr s) n w (inr (inr r)) = idle_here V (Expr s) n w refl refl (stills_idle V s n w r)
 here V (Stmt q) n w r = idle_here V (Stmt q) n w refl refl (statements_idle V q n w r)
 here V p n w r = absurd r
 
@@ -184,6 +187,11 @@ module _ (V : Assured) (X : VariableSet) (holds : (x : Variable) → V.initial x
   idle_more s n w (inl r) = inl (record { before = r.before; idle = r.idle; next = r.next; after = r.after; kept = r.kept; still = r.still; several = r.several; shape = r.shape; written = r.written })
   idle_more s n w (inr r) = inr (record { idle = r.idle; last = r.last; kept = r.kept; still = r.still; seated = r.seated; stays = r.stays; shape = r.shape; written = r.written })
 
+  stills_more : (n w : Tree) → StillRow V n w → StillRow V' n w
+  stills_more n w (inl r) = inl (record { kept = r.kept; row = r.row; heavy = r.heavy })
+  stills_more n w (inr (inl r)) = inr (inl (record { operand = r.operand; kept = r.kept; effect_free = r.effect_free; dropped = r.dropped; heavy = r.heavy; shape = r.shape; written = r.written }))
+  stills_more n w (inr (inr r)) = inr (inr (record { kept = r.kept; row = r.row }))
+
   statement_more : (n w : Tree) → IdleStatement V n w → IdleStatement V' n w
   statement_more n w (inl r) = inl (record { expression = r.expression; kept = r.kept; still = r.still; shape = r.shape; written = r.written })
   statement_more n w (inr (inl r)) = inr (inl (record { init = r.init; test = r.test; update = r.update; body = r.body; kept = r.kept; still = r.still; shape = r.shape; written = r.written }))
@@ -191,6 +199,7 @@ module _ (V : Assured) (X : VariableSet) (holds : (x : Variable) → V.initial x
 
 pub steady_more : ReadsMore SteadyRow
 steady_more V X holds (Expr s) n w (inl r) = inl (member_more V X holds s n w r)
-steady_more V X holds (Expr s) n w (inr r) = inr (idle_more V X holds s n w r)
+steady_more V X holds (Expr s) n w (inr (inl r)) = inr (inl (idle_more V X holds s n w r))
+steady_more V X holds (Expr s) n w (inr (inr r)) = inr (inr (stills_more V X holds n w r))
 steady_more V X holds (Stmt q) n w r = statement_more V X holds n w r
 steady_more V X holds p n w r = absurd r

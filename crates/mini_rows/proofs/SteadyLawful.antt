@@ -58,7 +58,7 @@ use Rattle.mini_kept.proofs.FrameLists.{each_of as each_frame}
 use Rattle.mini_kept.proofs.WithoutLists.{from_kept, more_under, nothing_within, each_under, itself_under}
 use Rattle.mini_rows.specs.Fading.{Fades, FadingFrom}
 use Rattle.mini_rows.specs.Past.{binds}
-use Rattle.mini_rows.specs.Steady.{SteadyRow, bindings, all_bindings, Begun, nothing_begun, is_method_place, AroundAt, PropertyAt, lists_lexical, OfChild, OfNone, beginning, nth_lets, lets_as, head_lets, begins_by, begins, begun_at, valued, known_in, own_rows, KeepsOwn, has_body, OwnStep, own_here, own_inside, OwnStepIn, own_first, own_later, OwnRows, LexicalRows, OwnFunctionRow, OwnFunction, SteadyFunctionsAreLawful, SteadyFunctionsLighten, LexicalFunctionsAreLawful, LexicalFunctionsLighten}
+use Rattle.mini_rows.specs.Steady.{SteadyRow, bindings, all_bindings, Begun, nothing_begun, is_method_place, AroundAt, PropertyAt, enters_lexical, OfChild, OfNone, beginning, nth_lets, lets_as, head_lets, begins_by, begins, begun_at, valued, known_in, own_rows, KeepsOwn, has_body, OwnStep, own_here, own_inside, OwnStepIn, own_first, own_later, OwnRows, LexicalRows, OwnFunctionRow, OwnFunction, SteadyFunctionsAreLawful, SteadyFunctionsLighten, LexicalFunctionsAreLawful, LexicalFunctionsLighten}
 use Rattle.mini_rows.proofs.Fading.{fading_rules, fading_sound}
 use Rattle.mini_rows.proofs.FadingSteps.{trees_fade_from, tree_itself, runs_alike}
 use Rattle.mini_rows.proofs.LexicalKept.{lexical_own}
@@ -250,14 +250,16 @@ listed_next : (q : Demand) (S : VariableSet) (ts : Trees) → Fits StatementList
 listed_next (Stat t) S ts fit i = let H = hidden_all ts in subst (λ xs. Within (minus (plus (along H S ts i) xs) H) (along H S ts (suc i))) (sym (nth_is ts i)) (along_next H S ts i)
 listed_next q S ts fit i = absurd fit
 
--- what is asked of a node that is the list of a `let` or a `const`
+-- what is asked of a node that is the list of a `let` or a `const`, or stands in an export
 abbrev pub Lists : Bool → Demand → Type 0
 Lists true (Declares true) = Unit {0}
+Lists true (Stat t) = Unit {0}
 Lists true q = ⊥
 Lists false q = Unit {0}
 
 lexical_next : (b : Bool) (q : Demand) (S : VariableSet) (ts : Trees) → Lists b q → (i : ℕ) → Within (minus (plus (list_needs q S ts i) (begins_by (if b then OfChild else OfNone) (summaries ts) i)) (hidden_all ts)) (list_needs q S ts (suc i))
 lexical_next true (Declares true) S ts a i = let H = hidden_all ts in subst (λ xs. Within (minus (plus (along H S ts i) xs) H) (along H S ts (suc i))) (sym (nth_is ts i)) (along_next H S ts i)
+lexical_next true (Stat t) S ts a i = let H = hidden_all ts in subst (λ xs. Within (minus (plus (along H S ts i) xs) H) (along H S ts (suc i))) (sym (nth_is ts i)) (along_next H S ts i)
 lexical_next true q S ts a i = absurd a
 lexical_next false q S ts a i = list_on q S ts i
 
@@ -317,7 +319,7 @@ needs_next b shape.ForInStatement p q S ts fit a i = left_next S b p ts i
 needs_next b shape.ForOfStatement p q S ts fit a i = left_next S b p ts i
 needs_next b h p q S ts fit a i = less S (hidden_all ts)
 
--- and a child that is the list of a `let` or a `const` is asked to declare
+-- and a child that is the list of a `let` or a `const` is asked to declare, and one that stands in an export as a statement is
 kind_lists : (b : Bool) → Lists b (Declares b)
 kind_lists true = tt
 kind_lists false = tt
@@ -338,17 +340,26 @@ head_lists : (v : VariableDeclarationKind) (s : Seat) (q : Demand) → Fits (Exp
 head_lists v s (Binds l) fit = none_list s.unused (is_lexical v) l fit.1
 head_lists v s q fit = both_list s.unused (is_lexical v)
 
-child_lists : (h : Shape) (p : Position) (q : Demand) (fs : List Facts) → Fits p q → (i : ℕ) → Lists (lists_lexical h p) (demand h fs q i)
-child_lists (shape.VariableDeclaration v) (Stmt k) q fs fit i = statement_lists v k q fit
-child_lists (shape.VariableDeclaration v) (Expr s) q fs fit i = head_lists v s q fit
-child_lists h p q fs fit i = tt
+exported_lists : (b : Bool) (v : VariableDeclarationKind) (q : Demand) → Lists b q → Lists (b && is_lexical v) (declaration_demand v q)
+exported_lists true v (Declares true) a = kind_lists (is_lexical v)
+exported_lists true v (Stat t) a = kind_lists (is_lexical v)
+exported_lists true v q a = absurd a
+exported_lists false v q a = tt
 
-listed_there : (h : Shape) (p : Position) (L : Begun) (is : List Summary) (i : ℕ) → lists_lexical h p ≡ (begun_at h p L is i).in_lexical
+child_lists : (b : Bool) (h : Shape) (p : Position) (q : Demand) (fs : List Facts) → Fits p q → Lists b q → (i : ℕ) → Lists (enters_lexical b h p) (demand h fs q i)
+child_lists b (shape.VariableDeclaration v) (Stmt k) q fs fit a i = statement_lists v k q fit
+child_lists b (shape.VariableDeclaration v) (Expr s) q fs fit a i = head_lists v s q fit
+child_lists b (shape.VariableDeclaration v) Elsewhere q fs fit a i = exported_lists b v q a
+child_lists b (shape.VariableDeclaration v) p q fs fit a i = tt
+child_lists b shape.ExportNamedDeclaration p q fs fit a i = tt
+child_lists b h p q fs fit a i = tt
+
+listed_there : (h : Shape) (p : Position) (L : Begun) (is : List Summary) (i : ℕ) → enters_lexical L.in_lexical h p ≡ (begun_at h p L is i).in_lexical
 listed_there h p L is zero = refl
 listed_there h p L is (suc i) = listed_there h p L is i
 
-pub children_list : (h : Shape) (p : Position) (q : Demand) (L : Begun) (ts : Trees) → Fits p q → (i : ℕ) → Lists (begun_at h p L (summaries ts) i).in_lexical (demand h (facts ts) q i)
-children_list h p q L ts fit i = subst (λ b. Lists b (demand h (facts ts) q i)) (listed_there h p L (summaries ts) i) (child_lists h p q (facts ts) fit i)
+pub children_list : (h : Shape) (p : Position) (q : Demand) (L : Begun) (ts : Trees) → Fits p q → Lists L.in_lexical q → (i : ℕ) → Lists (begun_at h p L (summaries ts) i).in_lexical (demand h (facts ts) q i)
+children_list h p q L ts fit a i = subst (λ b. Lists b (demand h (facts ts) q i)) (listed_there h p L (summaries ts) i) (child_lists L.in_lexical h p q (facts ts) fit a i)
 
 -- so what is known at each child has its value there
 module _ (c : Tree) (X : VariableSet) where
@@ -475,7 +486,7 @@ module _ (F : OwnRows) (keeps : (V : Assured) → KeepsOwn V (F V)) (c : Tree) (
           let inner = off_back (scope_of h (summaries ts)) (hidden_all ts) (I L) o in
           let fewer : (k : ℕ) → all_bindings k ts ≤ bindings k c = λ k. omega (arith, less k) in
           one_node U sound h xs xs 0 0 ts us X q (ap (naming h q (variables xs) 0) (own_reads s)) refl (ap facts_all (own_reads s))
-          (own_goes_in s fewer (needs h q X ts) (begun_wide c V.initial h p q L X ts f a wide inner fewer) (begun_off c V.initial h p L ts inner fewer) (demand h (facts ts) q) (λ i. subst (λ m. Fits (child_position h p m i) (demand h (facts ts) q i)) (facts_count ts) (fits_children h (facts ts) p q f i)) (children_list h p q L ts f))
+          (own_goes_in s fewer (needs h q X ts) (begun_wide c V.initial h p q L X ts f a wide inner fewer) (begun_off c V.initial h p L ts inner fewer) (demand h (facts ts) q) (λ i. subst (λ m. Fits (child_position h p m i) (demand h (facts ts) q i)) (facts_count ts) (fits_children h (facts ts) p q f i)) (children_list h p q L ts f a))
 
       own_goes_in : {Λ : ℕ → Begun} {π : ℕ → Position} {ts us : Trees} → OwnStepIn R Λ π ts us → ((k : ℕ) → all_bindings k ts ≤ bindings k c) → (X : ℕ → VariableSet) → ((i : ℕ) → Within (I (Λ i)) (X i)) → ((i : ℕ) → Off (hidden_all ts) (I (Λ i))) → (σ : ℕ → Demand) → ((i : ℕ) → Fits (π i) (σ i)) → ((i : ℕ) → Lists (Λ i).in_lexical (σ i)) → PlaceGo U sound X σ (hidden_all ts) ts us
       own_goes_in (own_first Λ π t u ts s) less X wide o σ f a = place_cons U sound t u ts ts X σ (own_goes s (λ k. omega (arith, less k)) (X 0) (wide 0) (off_front (hidden t) (hidden_all ts) (I (Λ 0)) (o 0)) (σ 0) (f 0) (a 0)) (kids_itself ts (λ i. X (suc i)) (λ i. σ (suc i)))

@@ -38,6 +38,7 @@ use Rattle.mini_kept.proofs.WithoutLists.{from_kept}
 use Rattle.mini_rows.specs.Cases.{switch_case}
 use Rattle.mini_rows.specs.Lists.{switch}
 use Rattle.mini_rows.specs.Unused.{resolved, names, any_names, switch_around, SwitchRow}
+use Rattle.mini_rows.specs.Switches.{Switches, without_vars}
 use Rattle.mini_rows.proofs.ArrowBodyLawful.{list_fits}
 use Rattle.mini_rows.proofs.ListShapes.{append_fits, both_fit, first_fits, more_fit}
 use Rattle.mini_rows.proofs.SwitchKept.{case_leaves, case_names, switch_less, switch_kept, switch_keeps, switch_fixed, switch_frames, switch_bodies, switch_declares}
@@ -56,13 +57,13 @@ parts_free x (t ▸ ts) us f =
     let (a, b) = parts_free x ts us rest in
     (ap (λ c. c || any_names x ts) its ∙ a, b)
 
-record Around (x : Name) (discriminant : Tree) (first : Trees) (test : Tree) (last : Trees) : Type 0 where
-  asked : names x discriminant ≡ false
-  earlier : any_names x first ≡ false
-  tested : names x test ≡ false
-  later : any_names x last ≡ false
+pub record Around (x : Name) (discriminant : Tree) (first : Trees) (test : Tree) (last : Trees) : Type 0 where
+  pub asked : names x discriminant ≡ false
+  pub earlier : any_names x first ≡ false
+  pub tested : names x test ≡ false
+  pub later : any_names x last ≡ false
 
-around : (x : Name) (discriminant : Tree) (first : Trees) (test : Tree) (last : Trees) → names x (listed (switch_around discriminant first test last ▸ none)) ≡ false → Around x discriminant first test last
+pub around : (x : Name) (discriminant : Tree) (first : Trees) (test : Tree) (last : Trees) → names x (listed (switch_around discriminant first test last ▸ none)) ≡ false → Around x discriminant first test last
 around x discriminant first test last f =
     let emptied = node shape.SwitchCase [] 0 (test ▸ (absent ▸ none)) in
     let (there, nil) = or_parts (names x (switch_around discriminant first test last)) false f in
@@ -118,19 +119,19 @@ module _ (discriminant : Tree) (first : Trees) (test : Tree) (last a b : Trees) 
   in_class strict (an_inner_key false) e = absurd (refused strict (one (an_inner_key false)) refl e)
   in_class strict c e = absurd (refused strict (one c) refl e)
 
-  in_slot : (strict : Bool) (p : Position) (s : Slot) → fits strict s (over a) ≡ true → (fits strict s (over b) ≡ true) × (is_body_slot p s ≡ true)
+  pub in_slot : (strict : Bool) (p : Position) (s : Slot) → fits strict s (over a) ≡ true → (fits strict s (over b) ≡ true) × (is_body_slot p s ≡ true)
   in_slot strict p (one c) e = in_class strict c e
   in_slot strict p (one_or_absent c) e = let (f, g) = in_class strict c e in (f, g)
   in_slot strict p s e = absurd (refused strict s refl e)
 
 -- ---- a name that is dropped
 
-module _ (q : StmtSeat) (n w : Tree) (r : SwitchRow n w) where
+module _ {options : Switches} (q : StmtSeat) (n w : Tree) (r : SwitchRow options n w) where
   abbrev front : Tree
   front = listed (switch_around r.discriminant r.first r.test r.last ▸ none)
 
   there : Stretch nothing front r.before r.after
-  there = row_stretch nothing front r.before r.after refl r.row
+  there = row_stretch (without_vars options) front r.before r.after refl r.row
 
   abbrev x : Name
   x = resolved there.spelling there.symbol
@@ -165,7 +166,7 @@ module _ (q : StmtSeat) (n w : Tree) (r : SwitchRow n w) where
   names_there : NamesThere x (switch_case r.test first_list ▸ none) (switch_case r.test second_list ▸ none)
   unfolding there
   names_there =
-      case_names x k refl r.test there.before there.after there.d there.w there.loses.leaves unread.tested there.earlier there.later (row_names front r.before r.after refl r.row) (all_other x Lexical there.before there.earlier)
+      case_names x k refl r.test there.before there.after there.d there.w there.loses.leaves unread.tested there.earlier there.later (row_names options front r.before r.after refl r.row) (all_other x Lexical there.before there.earlier)
       (all_other x Lexical there.after there.later)
 
   same : (e : Environment) → Unseen D e → (t : Option Tail) → Same e D nothing (Stat t) this that
@@ -206,23 +207,23 @@ module _ (q : StmtSeat) (n w : Tree) (r : SwitchRow n w) where
 -- ---- all
 
 -- whatever is told by the shape
-shaped : (P : Tree → Tree → Type 0) → ((d cs es : Tree) → P (switch d cs) (switch d es)) → (n w : Tree) → SwitchRow n w → P n w
+shaped : {o : Switches} (P : Tree → Tree → Type 0) → ((d cs es : Tree) → P (switch d cs) (switch d es)) → (n w : Tree) → SwitchRow o n w → P n w
 shaped P f n w r =
     let cases = λ (ts : Trees). listed (append r.first (switch_case r.test ts ▸ r.last)) in
     subst (λ t. P t w) (sym r.shape) (subst (P (switch r.discriminant (cases r.before))) (sym r.written) (f r.discriminant (cases r.before) (cases r.after)))
 
 -- of a statement
-abbrev pub OfSwitch : Position → Tree → Tree → Type 0
-OfSwitch (Stmt q) n w = SwitchRow n w
-OfSwitch p n w = ⊥
+abbrev pub OfSwitch : Switches → Position → Tree → Tree → Type 0
+OfSwitch o (Stmt q) n w = SwitchRow o n w
+OfSwitch o p n w = ⊥
 
 -- whichever place it is
-at_statement : (P : Position → Tree → Tree → Type 0) → ((q : StmtSeat) (n w : Tree) → SwitchRow n w → P (Stmt q) n w) → (p : Position) (n w : Tree) → OfSwitch p n w → P p n w
+at_statement : {o : Switches} (P : Position → Tree → Tree → Type 0) → ((q : StmtSeat) (n w : Tree) → SwitchRow o n w → P (Stmt q) n w) → (p : Position) (n w : Tree) → OfSwitch o p n w → P p n w
 at_statement P f (Stmt q) n w c = f q n w c
 at_statement P f p n w c = absurd c
 
-pub switches_loose : (K : Shape → Bool) → LawfulLoosely K OfSwitch
-switches_loose K = record {
+pub switches_loose : (o : Switches) (K : Shape → Bool) → LawfulLoosely K (OfSwitch o)
+switches_loose o K = record {
   shapes = record {
     fitting = at_statement (λ p n w. (strict : Bool) (s : Slot) → fits_place p s ≡ true → fits strict s n ≡ true → fits strict s w ≡ true) (λ q n w r strict s o e. (in_place q n w r strict s e).0);
     asked = at_statement AskedAlike (λ q. shaped (AskedAlike (Stmt q)) (λ d cs es. record { absent = λ g. absurd (true≢false (sym g)); body = λ g. absurd (true≢false (sym g)); optional = λ g. absurd (true≢false (sym g)); number = λ g h. refl; spelled = λ r g. absurd (cc g); plain = refl }));

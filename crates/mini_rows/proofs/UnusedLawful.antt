@@ -53,7 +53,8 @@ use Rattle.mini_terms.specs.Reading.{is_plain_part}
 use Rattle.mini_rows.specs.Arranged.{Vanishes}
 use Rattle.mini_rows.specs.Lists.{block, declares_nothing, declaration, Each, EachIn, EachOf, each_loop}
 use Rattle.mini_rows.specs.Declarations.{binding, declarator}
-use Rattle.mini_rows.specs.Unused.{resolved, declared_one, any_names, is_idle, may_move, is_first, reads_head, evaluated, BlockRow, declared_among, declared_left, put_first}
+use Rattle.mini_rows.specs.Unused.{resolved, declared_one, any_names, is_idle, is_first, reads_head, evaluated, BlockRow, declared_among, declared_left, put_first}
+use Rattle.mini_rows.specs.Switches.{Switches, without_vars}
 use Rattle.mini_rows.proofs.ArrangedBodies.{quiet}
 use Rattle.mini_rows.proofs.BlockPlaces.{holds_block, no_list, block_placed, block_there, block_asked}
 use Rattle.mini_rows.proofs.FoldLawful.{vanishes}
@@ -222,17 +223,17 @@ head_fits strict x head once r g f e = by (heads x head once)
     by (inr (inr (inl t))) = outside_fits strict x head t r (subst (MayStand x r) t.evaluates g) f e
     by (inr (inr (inr t))) = over_fits strict x head t r (subst (MayStand x r) t.evaluates g) f e
 
-pub single_fits : (strict : Bool) (k : VariableDeclarationKind) (x : Name) (first : Trees) (init head : Tree) → may_move init ≡ true → reads_head x head ≡ true → MayStand x init (evaluated head) → fits strict item (declared_among k x first init none) ≡ true → fits strict item head ≡ true → (fits strict item (declared_left k first) ≡ true) × (fits strict item (put_first x init head) ≡ true)
+pub single_fits : (strict : Bool) (k : VariableDeclarationKind) (x : Name) (first : Trees) (init head : Tree) → is_plain_part init ≡ true → reads_head x head ≡ true → MayStand x init (evaluated head) → fits strict item (declared_among k x first init none) ≡ true → fits strict item head ≡ true → (fits strict item (declared_left k first) ≡ true) × (fits strict item (put_first x init head) ≡ true)
 single_fits strict k x first init head m r p e f =
     let ds : Trees = append first (declarator (binding x) init ▸ none) in
     let all = (and_parts (nat_le 1 (count ds)) (fill strict (each (one a_declarator)) ds && true) (sym (declaration_anywhere strict nested k ds) ∙ e)).1 in
     let (g, h) = both_fit strict (one a_declarator) first (declarator (binding x) init ▸ none) (left (fill strict (each (one a_declarator)) ds) true all) in
     let (one_fits, rest) = first_fits strict (one a_declarator) (declarator (binding x) init) none h in
     let (id, value) = and_parts (fits strict (one a_pattern) (binding x)) (fits strict (one_or_absent an_expression) init && true) one_fits in
-    let moves = plain_there strict init (movable init m) (left (fits strict (one_or_absent an_expression) init) true value) in
+    let moves = plain_there strict init m (left (fits strict (one_or_absent an_expression) init) true value) in
     (first_left_fits strict k first g, head_fits strict x head r init p moves f)
 
-pub next_fits : (strict : Bool) (k : VariableDeclarationKind) (x : Name) (first : Trees) (init binds value : Tree) (last : Trees) → may_move init ≡ true → is_first x false value ≡ true → MayStand x init value → fits strict item (declared_among k x first init (declarator binds value ▸ last)) ≡ true → fits strict item (declaration k (append first (declarator binds (put_first x init value) ▸ last))) ≡ true
+pub next_fits : (strict : Bool) (k : VariableDeclarationKind) (x : Name) (first : Trees) (init binds value : Tree) (last : Trees) → is_plain_part init ≡ true → is_first x false value ≡ true → MayStand x init value → fits strict item (declared_among k x first init (declarator binds value ▸ last)) ≡ true → fits strict item (declaration k (append first (declarator binds (put_first x init value) ▸ last))) ≡ true
 next_fits strict k x first init binds value last m once p e =
     let d = declarator binds (put_first x init value) in
     let ds : Trees = append first (declarator (binding x) init ▸ (declarator binds value ▸ last)) in
@@ -242,7 +243,7 @@ next_fits strict k x first init binds value last m once p e =
     let (next_there, others) = first_fits strict (one a_declarator) (declarator binds value) last rest in
     let (id, initial) = and_parts (fits strict (one a_pattern) (binding x)) (fits strict (one_or_absent an_expression) init && true) one_fits in
     let (bound, given) = and_parts (fits strict (one a_pattern) binds) (fits strict (one_or_absent an_expression) value && true) next_there in
-    let moves = plain_there strict init (movable init m) (left (fits strict (one_or_absent an_expression) init) true initial) in
+    let moves = plain_there strict init m (left (fits strict (one_or_absent an_expression) init) true initial) in
     let put = put_initial strict x value once init p moves (left (fits strict (one_or_absent an_expression) value) true given) in
     let there_now = both (fits strict (one a_pattern) binds) (fits strict (one_or_absent an_expression) (put_first x init value) && true) bound (both (fits strict (one_or_absent an_expression) (put_first x init value)) true put refl) in
     let them = append_fits strict (one a_declarator) first (d ▸ last) f (more_fit strict (one a_declarator) d last there_now others) in
@@ -343,32 +344,32 @@ idle_vanishes init h = by (is_absent_part init) refl
         let quiet = (and_parts (declares_nothing init) (is_effect_free init && leaves_nothing init) (sym (ap (λ b. b || (declares_nothing init && (is_effect_free init && leaves_nothing init))) a) ∙ h)).1 in
         vanishes init (and_parts (is_effect_free init) (leaves_nothing init) quiet).1
 
-row_dropped : (p : Position) → holds_block p ≡ true → (n w : Tree) → BlockRow nothing n w → (k : ℕ) × Dropped p k n w
-row_dropped p h n w (inl r) =
+row_dropped : {o : Switches} (p : Position) → holds_block p ≡ true → (n w : Tree) → BlockRow (without_vars o) n w → (k : ℕ) × Dropped p k n w
+row_dropped {o = o} p h n w (inl r) =
     let x = resolved r.spelling r.symbol in (
       r.symbol,
       moved p r.symbol n w _ _ r.shape r.written (dropped r.spelling r.symbol r.before r.after (declared_one r.kind x r.init ▸ none) (expression_statement r.init ▸ none) (value_leaves r.kind x r.symbol refl r.init r.unused.initial) (value_names r.kind x r.symbol refl r.init r.unused.initial (lexical_alone r.kind r.goes)) r.unused.earlier r.unused.later (value_declares r.kind x r.symbol refl r.init r.unused.initial) p h
-          (λ e z. row_72 e r.symbol z _ _ (record { before = r.before; kind = r.kind; spelling = r.spelling; symbol = r.symbol; init = r.init; after = r.after; goes = r.goes; present = r.present; unused = r.unused; shape = refl; written = refl }) refl)),
+          (λ e z. row_72 {o = o} e r.symbol z _ _ (record { before = r.before; kind = r.kind; spelling = r.spelling; symbol = r.symbol; init = r.init; after = r.after; goes = r.goes; present = r.present; unused = r.unused; shape = refl; written = refl }) refl)),
     )
-row_dropped p h n w (inr (inl r)) =
+row_dropped {o = o} p h n w (inr (inl r)) =
     let x = resolved r.spelling r.symbol in
     let v = idle_vanishes r.init r.idle in (
       r.symbol,
       moved p r.symbol n w _ _ r.shape r.written (dropped r.spelling r.symbol r.before r.after (declared_among r.kind x r.first r.init r.last ▸ none) (declared_left r.kind (append r.first r.last) ▸ none) (idle_leaves r.kind x r.symbol refl r.first r.init r.last v r.unused.declared_earlier r.unused.declared_later) (idle_names r.kind x r.symbol refl r.first r.init r.last v r.unused.declared_earlier r.unused.declared_later (lexical_alone r.kind r.goes)) r.unused.earlier r.unused.later (idle_declares r.kind x r.symbol refl r.first r.init r.last v r.unused.declared_earlier r.unused.declared_later) p h
-          (λ e z. row_72_idle e r.symbol z _ _ (record { before = r.before; kind = r.kind; first = r.first; spelling = r.spelling; symbol = r.symbol; init = r.init; last = r.last; after = r.after; goes = r.goes; idle = r.idle; unused = r.unused; shape = refl; written = refl }) refl)),
+          (λ e z. row_72_idle {o = o} e r.symbol z _ _ (record { before = r.before; kind = r.kind; first = r.first; spelling = r.spelling; symbol = r.symbol; init = r.init; last = r.last; after = r.after; goes = r.goes; idle = r.idle; unused = r.unused; shape = refl; written = refl }) refl)),
     )
-row_dropped p h n w (inr (inr (inl r))) =
+row_dropped {o = o} p h n w (inr (inr (inl r))) =
     let x = resolved r.spelling r.symbol in
-    let plain = movable r.init r.moves in (
+    let plain = movable o r.init r.moves in (
       r.symbol,
       moved p r.symbol n w _ _ r.shape r.written (dropped r.spelling r.symbol r.before r.after (declared_among r.kind x r.first r.init none ▸ (r.head ▸ none)) (declared_left r.kind r.first ▸ (put_first x r.init r.head ▸ none)) (head_leaves r.kind x r.symbol refl r.first r.init r.head plain r.once r.initial r.declared_earlier) (head_names r.kind x r.symbol refl r.first r.init r.head plain r.once r.initial r.declared_earlier (lexical_alone r.kind r.goes)) r.earlier r.later (head_declares r.kind x r.symbol refl r.first r.init r.head plain r.once r.initial r.declared_earlier) p h
-          (λ e z. row_71 e r.symbol z _ _ (record { before = r.before; kind = r.kind; first = r.first; spelling = r.spelling; symbol = r.symbol; init = r.init; head = r.head; after = r.after; goes = r.goes; moves = r.moves; once = r.once; passed = r.passed; earlier = r.earlier; declared_earlier = r.declared_earlier; initial = r.initial; later = r.later; unseen = r.unseen; shape = refl; written = refl }) refl)),
+          (λ e z. row_71 {o = o} e r.symbol z _ _ (record { before = r.before; kind = r.kind; first = r.first; spelling = r.spelling; symbol = r.symbol; init = r.init; head = r.head; after = r.after; goes = r.goes; moves = r.moves; once = r.once; passed = r.passed; earlier = r.earlier; declared_earlier = r.declared_earlier; initial = r.initial; later = r.later; unseen = r.unseen; shape = refl; written = refl }) refl)),
     )
-row_dropped p h n w (inr (inr (inr r))) =
+row_dropped {o = o} p h n w (inr (inr (inr r))) =
     let x = resolved r.spelling r.symbol in (
       r.symbol,
       moved p r.symbol n w _ _ r.shape r.written (dropped r.spelling r.symbol r.before r.after (declared_among r.kind x r.first r.init (declarator r.binds r.value ▸ r.last) ▸ none) (declaration r.kind (append r.first (declarator r.binds (put_first x r.init r.value) ▸ r.last)) ▸ none) (next_leaves r.kind x r.symbol refl r.first r.init r.binds r.value r.last r.once r.declared_earlier r.initial r.other r.declared_later) (next_names r.kind x r.symbol refl r.first r.init r.binds r.value r.last r.once r.declared_earlier r.initial r.other r.declared_later (lexical_alone r.kind r.goes)) r.earlier r.later (next_declares r.kind x r.symbol refl r.first r.init r.binds r.value r.last r.once r.declared_earlier r.initial r.other r.declared_later) p h
-          (λ e z. row_71_next e r.symbol z _ _ (record { before = r.before; kind = r.kind; first = r.first; spelling = r.spelling; symbol = r.symbol; init = r.init; binds = r.binds; value = r.value; last = r.last; after = r.after; goes = r.goes; moves = r.moves; once = r.once; passed = r.passed; other = r.other; earlier = r.earlier; declared_earlier = r.declared_earlier; initial = r.initial; declared_later = r.declared_later; later = r.later; unseen = r.unseen; shape = refl; written = refl }) refl)),
+          (λ e z. row_71_next {o = o} e r.symbol z _ _ (record { before = r.before; kind = r.kind; first = r.first; spelling = r.spelling; symbol = r.symbol; init = r.init; binds = r.binds; value = r.value; last = r.last; after = r.after; goes = r.goes; moves = r.moves; once = r.once; passed = r.passed; other = r.other; earlier = r.earlier; declared_earlier = r.declared_earlier; initial = r.initial; declared_later = r.declared_later; later = r.later; unseen = r.unseen; shape = refl; written = refl }) refl)),
     )
 
 record Blocks (n w : Tree) : Type 0 where
@@ -378,16 +379,16 @@ record Blocks (n w : Tree) : Type 0 where
   after : w ≡ block second
   fitting : (strict : Bool) → fill strict (each item) first ≡ true → fill strict (each item) second ≡ true
 
-row_blocks : (n w : Tree) → BlockRow nothing n w → Blocks n w
-row_blocks n w (inl r) =
+row_blocks : {o : Switches} (n w : Tree) → BlockRow (without_vars o) n w → Blocks n w
+row_blocks {o = o} n w (inl r) =
     let d = declared_one r.kind (resolved r.spelling r.symbol) r.init in
     record { first = append r.before (d ▸ r.after); second = append r.before (expression_statement r.init ▸ r.after); before = r.shape; after = r.written; fitting = λ strict. one_item strict r.before r.after d (expression_statement r.init) (value_fits strict r.kind (resolved r.spelling r.symbol) r.init r.present) }
-row_blocks n w (inr (inl r)) =
+row_blocks {o = o} n w (inr (inl r)) =
     let x = resolved r.spelling r.symbol in
     let d = declared_among r.kind x r.first r.init r.last in
     let left = declared_left r.kind (append r.first r.last) in
     record { first = append r.before (d ▸ r.after); second = append r.before (left ▸ r.after); before = r.shape; after = r.written; fitting = λ strict. one_item strict r.before r.after d left (left_fits strict r.kind x r.first r.init r.last) }
-row_blocks n w (inr (inr (inl r))) =
+row_blocks {o = o} n w (inr (inr (inl r))) =
     let x = resolved r.spelling r.symbol in
     let d = declared_among r.kind x r.first r.init none in
     let left = declared_left r.kind r.first in
@@ -396,13 +397,13 @@ row_blocks n w (inr (inr (inl r))) =
       second = append r.before (left ▸ (put_first x r.init r.head ▸ r.after));
       before = r.shape;
       after = r.written;
-      fitting = λ strict. two_items strict r.before r.after d r.head left (put_first x r.init r.head) (λ f g. single_fits strict r.kind x r.first r.init r.head r.moves r.once (inr r.passed) f g);
+      fitting = λ strict. two_items strict r.before r.after d r.head left (put_first x r.init r.head) (λ f g. single_fits strict r.kind x r.first r.init r.head (movable o r.init r.moves) r.once (inr r.passed) f g);
     }
-row_blocks n w (inr (inr (inr r))) =
+row_blocks {o = o} n w (inr (inr (inr r))) =
     let x = resolved r.spelling r.symbol in
     let d = declared_among r.kind x r.first r.init (declarator r.binds r.value ▸ r.last) in
     let left = declaration r.kind (append r.first (declarator r.binds (put_first x r.init r.value) ▸ r.last)) in
-    record { first = append r.before (d ▸ r.after); second = append r.before (left ▸ r.after); before = r.shape; after = r.written; fitting = λ strict. one_item strict r.before r.after d left (next_fits strict r.kind x r.first r.init r.binds r.value r.last r.moves r.once (inr r.passed)) }
+    record { first = append r.before (d ▸ r.after); second = append r.before (left ▸ r.after); before = r.shape; after = r.written; fitting = λ strict. one_item strict r.before r.after d left (next_fits strict r.kind x r.first r.init r.binds r.value r.last (movable o r.init r.moves) r.once (inr r.passed)) }
 
 -- of two blocks, whatever is told by their shape
 shaped : (n w : Tree) (P : Tree → Tree → Type 0) → ((first_list second_list : Trees) → P (block first_list) (block second_list)) → Blocks n w → P n w
@@ -411,26 +412,26 @@ shaped n w P f b = subst (λ t. P t w) (sym b.before) (subst (P (block b.first))
 pub blocks_asked : (p : Position) (first_list second_list : Trees) → AskedAlike p (block first_list) (block second_list)
 blocks_asked p first_list second_list = record { absent = λ g. absurd (true≢false (sym g)); body = λ g. absurd (true≢false (sym g)); optional = λ g. absurd (true≢false (sym g)); number = λ g h. refl; spelled = λ r g. absurd (cc g); plain = refl }
 
-in_place : (p : Position) (n w : Tree) → BlockRow nothing n w → (strict : Bool) (s : Slot) → fits strict s n ≡ true → (fits strict s w ≡ true) × (is_body_slot p s ≡ true)
+in_place : {o : Switches} (p : Position) (n w : Tree) → BlockRow (without_vars o) n w → (strict : Bool) (s : Slot) → fits strict s n ≡ true → (fits strict s w ≡ true) × (is_body_slot p s ≡ true)
 in_place p n w r strict s e =
     let b = row_blocks n w r in
     let (f, g) = in_slot b.first b.second b.fitting strict p s (sym (ap (fits strict s) b.before) ∙ e) in
     (ap (fits strict s) b.after ∙ f, g)
 
 -- of a statement, or of a block of a `try`
-abbrev pub OfBlock : Position → Tree → Tree → Type 0
-OfBlock (Stmt q) n w = BlockRow nothing n w
-OfBlock Elsewhere n w = BlockRow nothing n w
-OfBlock p n w = ⊥
+abbrev pub OfBlock : Switches → Position → Tree → Tree → Type 0
+OfBlock o (Stmt q) n w = BlockRow (without_vars o) n w
+OfBlock o Elsewhere n w = BlockRow (without_vars o) n w
+OfBlock o p n w = ⊥
 
 -- whichever place it is
-at_block : (P : Position → Tree → Tree → Type 0) → ((p : Position) → holds_block p ≡ true → (n w : Tree) → BlockRow nothing n w → P p n w) → (p : Position) (n w : Tree) → OfBlock p n w → P p n w
+at_block : {o : Switches} (P : Position → Tree → Tree → Type 0) → ((p : Position) → holds_block p ≡ true → (n w : Tree) → BlockRow (without_vars o) n w → P p n w) → (p : Position) (n w : Tree) → OfBlock o p n w → P p n w
 at_block P f (Stmt q) n w c = f (Stmt q) refl n w c
 at_block P f Elsewhere n w c = f Elsewhere refl n w c
 at_block P f p n w c = absurd c
 
-pub blocks_loose : (K : Shape → Bool) → LawfulLoosely K OfBlock
-blocks_loose K = record {
+pub blocks_loose : (o : Switches) (K : Shape → Bool) → LawfulLoosely K (OfBlock o)
+blocks_loose o K = record {
   shapes = record {
     fitting = at_block (λ p n w. (strict : Bool) (s : Slot) → fits_place p s ≡ true → fits strict s n ≡ true → fits strict s w ≡ true) (λ p h n w r strict s o e. (in_place p n w r strict s e).0);
     asked = at_block AskedAlike (λ p h n w r. shaped n w (AskedAlike p) (blocks_asked p) (row_blocks n w r));

@@ -46,6 +46,7 @@ use Rattle.mini_rows.specs.Cases.{switch_case}
 use Rattle.mini_rows.specs.Lists.{block, switch, declaration, declares_nothing}
 use Rattle.mini_rows.specs.Declarations.{binding, declarator}
 use Rattle.mini_rows.specs.Unused.{resolved, declared_among, declared_one, is_idle, declared_left, takes_name, may_move, statements, static_block, lets_go, Row72, Row72Idle}
+use Rattle.mini_rows.specs.Switches.{Switches, without_vars}
 use Rattle.mini_rows.proofs.UnusedNames.{avoided, all_avoided}
 use Rattle.mini_rows.proofs.ListStretches.{lets_append, functions_append, facts_append, texts_append, exec_one, exec_two, listed_is}
 use Rattle.mini_rows.proofs.ListStatements.{declaration_is, declare_more, declare_none, expression_is, empty_is, declarations_join}
@@ -70,7 +71,7 @@ pub all_join : (D : VariableSet) (a b : Trees) → AllAvoid D a → AllAvoid D b
 all_join D none b p q = q
 all_join D (t ▸ a) b p q = (p.0, all_join D a b p.1 q)
 
-join_is : (pre : Trees) (c : Tree) (post : Trees) → join pre c post ≡ append pre (c ▸ post)
+pub join_is : (pre : Trees) (c : Tree) (post : Trees) → join pre c post ≡ append pre (c ▸ post)
 join_is none c post = refl
 join_is (t ▸ pre) c post = ap (λ ts. t ▸ ts) (join_is pre c post)
 
@@ -526,7 +527,7 @@ pub never_written : (K : VariableDeclarationKind) (e : Environment) (k : ℕ) �
 never_written K e k l f = absurd (true≢false (sym l ∙ f))
 
 -- the block means the same in each tail
-pub row_72 : (e : Environment) (k : ℕ) → Unseen (alone (Declared k)) e → (n w : Tree) (r : Row72 nothing n w) → k ≡ r.symbol → (t : Option Tail) → Same e (alone (Declared k)) nothing (Stat t) n w
+pub row_72 : {o : Switches} (e : Environment) (k : ℕ) → Unseen (alone (Declared k)) e → (n w : Tree) (r : Row72 (without_vars o) n w) → k ≡ r.symbol → (t : Option Tail) → Same e (alone (Declared k)) nothing (Stat t) n w
 row_72 e k z n w r h t =
     let x = resolved r.spelling r.symbol in
     let u : Unseen (alone (Declared r.symbol)) e = subst (λ j. Unseen (alone (Declared j)) e) h z in
@@ -534,7 +535,7 @@ row_72 e k z n w r h t =
     let same = block_same e r.spelling r.symbol u r.before r.after (declared_one r.kind x r.init ▸ none) (expression_statement r.init ▸ none) (read_alone r.symbol (declared_one r.kind x r.init) (expression_statement r.init) (one_read r.kind r.spelling r.symbol r.init (expression_statement r.init) refl)) (all_avoided x r.symbol refl r.before r.unused.earlier) ((tt, (avoided x r.symbol refl r.init r.unused.initial, tt)), tt) (all_avoided x r.symbol refl r.after r.unused.later) (value_same e r.spelling r.symbol u r.kind (never_written r.kind e r.symbol (lexical_alone r.kind r.goes)) r.init r.present) t in
     subst (λ j. Same e (alone (Declared j)) nothing (Stat t) n w) (sym h) (subst₂ (Same e D nothing (Stat t)) (sym r.shape) (sym r.written) same)
 
-pub row_72_idle : (e : Environment) (k : ℕ) → Unseen (alone (Declared k)) e → (n w : Tree) (r : Row72Idle nothing n w) → k ≡ r.symbol → (t : Option Tail) → Same e (alone (Declared k)) nothing (Stat t) n w
+pub row_72_idle : {o : Switches} (e : Environment) (k : ℕ) → Unseen (alone (Declared k)) e → (n w : Tree) (r : Row72Idle (without_vars o) n w) → k ≡ r.symbol → (t : Option Tail) → Same e (alone (Declared k)) nothing (Stat t) n w
 row_72_idle e k z n w r h t =
     let x = resolved r.spelling r.symbol in
     let u : Unseen (alone (Declared r.symbol)) e = subst (λ j. Unseen (alone (Declared j)) e) h z in
@@ -546,8 +547,8 @@ row_72_idle e k z n w r h t =
 -- ---- a name that is read once
 
 -- an initializer that may move, and what is read of it
-pub movable : (init : Tree) → may_move init ≡ true → is_plain_part init ≡ true
-movable init h = (and_parts (is_plain_part init) (not (takes_name (shape_of init) (part init 0))) h).0
+pub movable : (o : Switches) (init : Tree) → may_move o init ≡ true → is_plain_part init ≡ true
+movable o init h = (and_parts (is_plain_part init) (not (takes_name o (shape_of init) (part init 0))) h).0
 
 left_read : (K : VariableDeclarationKind) (first : Trees) → (summary (declared_left K first)).lets ≡ choose (is_lexical K) (lets_all (summaries first)) []
 left_read K none = no_lets (is_lexical K)

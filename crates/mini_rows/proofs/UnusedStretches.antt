@@ -19,7 +19,8 @@ use Rattle.mini_node.specs.Kinds.{is_listed_shape}
 use Rattle.mini_rows.specs.Lists.{block, declares_nothing, declaration, Each, EachIn, EachOf, each_loop}
 use Rattle.mini_rows.specs.Declarations.{binding, declarator}
 use Rattle.mini_rows.specs.Sketches.{shape_by, AsWholeItem}
-use Rattle.mini_rows.specs.Unused.{resolved, names, any_names, declared_one, declared_among, declared_left, is_idle, may_move, is_first, reads_first, put_first, are_passed, reads_head, evaluated, lets_go, BlockRow}
+use Rattle.mini_rows.specs.Unused.{resolved, names, any_names, declared_one, declared_among, declared_left, is_idle, is_first, reads_first, put_first, are_passed, reads_head, evaluated, lets_go, BlockRow}
+use Rattle.mini_rows.specs.Switches.{Switches, Liberties, without_vars}
 use Rattle.mini_rows.proofs.ListShapes.{declaration_anywhere, first_fits, more_fit}
 use Rattle.mini_rows.proofs.SingleUse.{Lead, Doing, Giving, Raising, Testing, head_of, Stands, statement, Heads, heads}
 use Rattle.mini_rows.proofs.ListKeptHeads.{Seat, Loop, Choice, seated}
@@ -33,6 +34,7 @@ use Rattle.mini_rows.proofs.UnusedKept.{LeavesThere, NamesThere, DeclaresThere}
 use Rattle.mini_rows.proofs.UnusedLawful.{item, value_fits, left_fits, single_fits, next_fits, idle_vanishes}
 use Rattle.mini_rows.proofs.UnusedMeaning.{ReadThere, read_alone, value_same, left_same, single_same, one_read, idle_read, left_avoids, single_read, first_avoids, may_write, movable, lexical_alone}
 use Rattle.mini_rows.proofs.UnusedNames.{or_parts, avoided, all_avoided}
+use Rattle.mini_terms.specs.Reading.{is_plain_part}
 
 -- a statement of a block, of a function's body, or of a module
 abbrev pub item_in : Depth → Slot
@@ -214,17 +216,17 @@ module _ (W : VariableSet) (K : VariableDeclarationKind) (s : List ℕ) (k : ℕ
         ported = left_ported K (append first last);
       }
 
-  pub of_71 : (first : Trees) (init head : Tree) → may_move init ≡ true → reads_head x head ≡ true → are_passed x init (evaluated head) ≡ true → names x init ≡ false → any_names x first ≡ false → Loses W s k (declared_among K x first init none ▸ (head ▸ none)) (declared_left K first ▸ (put_first x init head ▸ none))
+  pub of_71 : (first : Trees) (init head : Tree) → is_plain_part init ≡ true → reads_head x head ≡ true → are_passed x init (evaluated head) ≡ true → names x init ≡ false → any_names x first ≡ false → Loses W s k (declared_among K x first init none ▸ (head ▸ none)) (declared_left K first ▸ (put_first x init head ▸ none))
   of_71 first init head moves once passed initial earlier =
       let d = declared_among K x first init none in
       let left = declared_left K first in
       let put = put_first x init head in
       let there = stands_there x head once init in
       record {
-        leaves = head_leaves K x k refl first init head (movable init moves) once initial earlier;
-        declares = head_declares K x k refl first init head (movable init moves) once initial earlier;
+        leaves = head_leaves K x k refl first init head moves once initial earlier;
+        declares = head_declares K x k refl first init head moves once initial earlier;
         read = single_read s k K first init head put (head_read x head once init);
-        same = λ e u. single_same e s k u.unseen first init head put (ap (λ i. i.facts.absent) (plain_read init (movable init moves))) K (may_write W K e k goes u) (head_goes e s k u.unseen init head moves once passed);
+        same = λ e u. single_same e s k u.unseen first init head put (ap (λ i. i.facts.absent) (plain_read init moves)) K (may_write W K e k goes u) (head_goes e s k u.unseen init head moves once passed);
         avoids = (first_avoids (alone (Declared k)) K first (all_avoided x k refl first earlier), (avoided x k refl put (head_unnamed x head once init initial), tt));
         fits = λ o strict h.
             let (f, g) = first_fits strict (item_in o) d (head ▸ none) h in
@@ -234,7 +236,7 @@ module _ (W : VariableSet) (K : VariableDeclarationKind) (s : List ℕ) (k : ℕ
         ported = λ rest. there.head_ported rest ∙ sym (there.put_ported rest) ∙ left_ported K first (put ▸ rest);
       }
 
-  pub of_next : (first : Trees) (init binds value : Tree) (last : Trees) → may_move init ≡ true → is_first x false value ≡ true → are_passed x init value ≡ true → names x binds ≡ false → names x init ≡ false → any_names x first ≡ false → any_names x last ≡ false → Loses W s k (declared_among K x first init (declarator binds value ▸ last) ▸ none) (declaration K (append first (declarator binds (put_first x init value) ▸ last)) ▸ none)
+  pub of_next : (first : Trees) (init binds value : Tree) (last : Trees) → is_plain_part init ≡ true → is_first x false value ≡ true → are_passed x init value ≡ true → names x binds ≡ false → names x init ≡ false → any_names x first ≡ false → any_names x last ≡ false → Loses W s k (declared_among K x first init (declarator binds value ▸ last) ▸ none) (declaration K (append first (declarator binds (put_first x init value) ▸ last)) ▸ none)
   of_next first init binds value last moves once passed other initial earlier later =
       let d = declared_among K x first init (declarator binds value ▸ last) in
       let w = declaration K (append first (declarator binds (put_first x init value) ▸ last)) in
@@ -249,27 +251,27 @@ module _ (W : VariableSet) (K : VariableDeclarationKind) (s : List ℕ) (k : ℕ
         ported = λ rest. refl;
       }
 
-unfoldable pub row_stretch : (W : VariableSet) (p : Tree) (earlier_list later_list : Trees) → is_listed_shape (shape_of p) ≡ true → BlockRow W (block (p ▸ earlier_list)) (block (p ▸ later_list)) → Stretch W p earlier_list later_list
+unfoldable pub row_stretch : (W : Liberties) (p : Tree) (earlier_list later_list : Trees) → is_listed_shape (shape_of p) ≡ true → BlockRow W (block (p ▸ earlier_list)) (block (p ▸ later_list)) → Stretch W.writable p earlier_list later_list
 row_stretch W p a b e (inl r) =
     let x = resolved r.spelling r.symbol in
-    stretch W p a b e r.spelling r.symbol r.before r.after (declared_one r.kind x r.init) none (expression_statement r.init ▸ none) refl (of_72 W r.kind r.spelling r.symbol r.goes r.init r.present r.unused.initial) r.unused.earlier r.unused.later (ap list_of r.shape) (ap list_of r.written)
+    stretch W.writable p a b e r.spelling r.symbol r.before r.after (declared_one r.kind x r.init) none (expression_statement r.init ▸ none) refl (of_72 W.writable r.kind r.spelling r.symbol r.goes r.init r.present r.unused.initial) r.unused.earlier r.unused.later (ap list_of r.shape) (ap list_of r.written)
 row_stretch W p a b e (inr (inl r)) =
     let x = resolved r.spelling r.symbol in
-    stretch W p a b e r.spelling r.symbol r.before r.after (declared_among r.kind x r.first r.init r.last) none (declared_left r.kind (append r.first r.last) ▸ none) refl (of_72_idle W r.kind r.spelling r.symbol r.goes r.first r.init r.last r.idle r.unused.declared_earlier r.unused.declared_later) r.unused.earlier r.unused.later (ap list_of r.shape)
+    stretch W.writable p a b e r.spelling r.symbol r.before r.after (declared_among r.kind x r.first r.init r.last) none (declared_left r.kind (append r.first r.last) ▸ none) refl (of_72_idle W.writable r.kind r.spelling r.symbol r.goes r.first r.init r.last r.idle r.unused.declared_earlier r.unused.declared_later) r.unused.earlier r.unused.later (ap list_of r.shape)
     (ap list_of r.written)
 row_stretch W p a b e (inr (inr (inl r))) =
     let x = resolved r.spelling r.symbol in
-    stretch W p a b e r.spelling r.symbol r.before r.after (declared_among r.kind x r.first r.init none) (r.head ▸ none) (declared_left r.kind r.first ▸ (put_first x r.init r.head ▸ none)) refl (of_71 W r.kind r.spelling r.symbol r.goes r.first r.init r.head r.moves r.once r.passed r.initial r.declared_earlier) r.earlier r.later (ap list_of r.shape)
+    stretch W.writable p a b e r.spelling r.symbol r.before r.after (declared_among r.kind x r.first r.init none) (r.head ▸ none) (declared_left r.kind r.first ▸ (put_first x r.init r.head ▸ none)) refl (of_71 W.writable r.kind r.spelling r.symbol r.goes r.first r.init r.head (movable W.switches r.init r.moves) r.once r.passed r.initial r.declared_earlier) r.earlier r.later (ap list_of r.shape)
     (ap list_of r.written)
 row_stretch W p a b e (inr (inr (inr r))) =
     let x = resolved r.spelling r.symbol in
-    stretch W p a b e r.spelling r.symbol r.before r.after (declared_among r.kind x r.first r.init (declarator r.binds r.value ▸ r.last)) none (declaration r.kind (append r.first (declarator r.binds (put_first x r.init r.value) ▸ r.last)) ▸ none) refl (of_next W r.kind r.spelling r.symbol r.goes r.first r.init r.binds r.value r.last r.moves r.once r.passed r.other r.initial r.declared_earlier r.declared_later) r.earlier r.later (ap list_of r.shape)
+    stretch W.writable p a b e r.spelling r.symbol r.before r.after (declared_among r.kind x r.first r.init (declarator r.binds r.value ▸ r.last)) none (declaration r.kind (append r.first (declarator r.binds (put_first x r.init r.value) ▸ r.last)) ▸ none) refl (of_next W.writable r.kind r.spelling r.symbol r.goes r.first r.init r.binds r.value r.last (movable W.switches r.init r.moves) r.once r.passed r.other r.initial r.declared_earlier r.declared_later) r.earlier r.later (ap list_of r.shape)
     (ap list_of r.written)
 
 -- in a block, or in a switch, what is declared is a lexical name
-pub row_names : (p : Tree) (a b : Trees) (e : is_listed_shape (shape_of p) ≡ true) (r : BlockRow nothing (block (p ▸ a)) (block (p ▸ b))) → let t = row_stretch nothing p a b e r in NamesThere (resolved t.spelling t.symbol) t.d t.w
+pub row_names : (o : Switches) (p : Tree) (a b : Trees) (e : is_listed_shape (shape_of p) ≡ true) (r : BlockRow (without_vars o) (block (p ▸ a)) (block (p ▸ b))) → let t = row_stretch (without_vars o) p a b e r in NamesThere (resolved t.spelling t.symbol) t.d t.w
 unfolding row_stretch stretch
-row_names p a b e (inl r) = value_names r.kind (resolved r.spelling r.symbol) r.symbol refl r.init r.unused.initial (lexical_alone r.kind r.goes)
-row_names p a b e (inr (inl r)) = idle_names r.kind (resolved r.spelling r.symbol) r.symbol refl r.first r.init r.last (idle_vanishes r.init r.idle) r.unused.declared_earlier r.unused.declared_later (lexical_alone r.kind r.goes)
-row_names p a b e (inr (inr (inl r))) = head_names r.kind (resolved r.spelling r.symbol) r.symbol refl r.first r.init r.head (movable r.init r.moves) r.once r.initial r.declared_earlier (lexical_alone r.kind r.goes)
-row_names p a b e (inr (inr (inr r))) = next_names r.kind (resolved r.spelling r.symbol) r.symbol refl r.first r.init r.binds r.value r.last r.once r.declared_earlier r.initial r.other r.declared_later (lexical_alone r.kind r.goes)
+row_names o p a b e (inl r) = value_names r.kind (resolved r.spelling r.symbol) r.symbol refl r.init r.unused.initial (lexical_alone r.kind r.goes)
+row_names o p a b e (inr (inl r)) = idle_names r.kind (resolved r.spelling r.symbol) r.symbol refl r.first r.init r.last (idle_vanishes r.init r.idle) r.unused.declared_earlier r.unused.declared_later (lexical_alone r.kind r.goes)
+row_names o p a b e (inr (inr (inl r))) = head_names r.kind (resolved r.spelling r.symbol) r.symbol refl r.first r.init r.head (movable o r.init r.moves) r.once r.initial r.declared_earlier (lexical_alone r.kind r.goes)
+row_names o p a b e (inr (inr (inr r))) = next_names r.kind (resolved r.spelling r.symbol) r.symbol refl r.first r.init r.binds r.value r.last r.once r.declared_earlier r.initial r.other r.declared_later (lexical_alone r.kind r.goes)

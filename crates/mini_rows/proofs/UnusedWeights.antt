@@ -1,7 +1,6 @@
 -- What the rows of names that nothing mentions write is lighter.
 use Rattle.std.proofs.Common.{◌≡◌, ℕ, ◌+◌, ◌<◌, ◌≤◌, List, [], refl, sym, ap, ◌∙◌, inl, inr, arith}
-use Rattle.std.specs.Prelude.{not, if◌then◌else◌}
-use Rattle.std.proofs.lemmas.Bool.{and_parts}
+use Rattle.std.specs.Prelude.{if◌then◌else◌}
 use Rattle.mini_model.specs.declared.kind.VariableDeclarationKind.{VariableDeclarationKind}
 use Rattle.mini_model.specs.declared.kind.VariableDeclarationKind.TheVariants.{Var, Let, Const}
 use Rattle.mini_model.specs.declared.name.Name.{Name}
@@ -11,21 +10,20 @@ use Rattle.mini_model.specs.declared.seat.Seat.{Seat}
 use Rattle.mini_model.specs.declared.seat.StmtSeat.{StmtSeat}
 use Rattle.mini_model.specs.declared.seat.StmtSeat.TheVariants as stmt_seat
 use Rattle.mini_model.specs.declared.shape.Shape.TheVariants as shape
-use Rattle.mini_model.specs.Tree.{Tree, Trees, node, none, ◌▸◌, absent, count, listed, shape_of, empty_statement, expression_statement}
+use Rattle.mini_model.specs.Tree.{Tree, Trees, node, none, ◌▸◌, absent, count, listed, empty_statement, expression_statement}
 use Rattle.mini_model.specs.Paths.{append}
 use Rattle.mini_model.specs.Position.{argument_seat, statement_expression_seat, whole_seat, item_position}
 use Rattle.mini_model.specs.Weight.{Outline, own_weight, commas_weight, outline, outlines, one_chooses, braces_weight, weight, weights}
-use Rattle.mini_laws.specs.Value.{VariableSet}
 use Rattle.mini_laws.proofs.Seats.{moved}
-use Rattle.mini_node.specs.Children.{part}
 use Rattle.mini_rows.specs.Declarations.{binding, declarator}
 use Rattle.mini_rows.specs.Cases.{switch_case}
 use Rattle.mini_rows.specs.Lists.{block, switch, declaration}
-use Rattle.mini_rows.specs.Unused.{resolved, declared_among, declared_one, declared_left, head_left, put_first, takes_name, BlockRow, ArrowBodyRow, FunctionBodyRow, ModuleRow, StaticBlockRow, switch_around, SwitchRow, ForRow, UnusedRow, UnusedLighten, UnusedLighter}
-use Rattle.mini_terms.specs.Reading.{is_plain_part}
+use Rattle.mini_rows.specs.Unused.{resolved, declared_among, declared_one, declared_left, head_left, put_first, BlockRow, ArrowBodyRow, FunctionBodyRow, ModuleRow, StaticBlockRow, switch_around, SwitchRow, ForRow, UnusedRow, UnusedLighten, UnusedLighter}
+use Rattle.mini_rows.specs.Switches.{Switches, Liberties}
 use Rattle.mini_rows.proofs.BlockPlaces.{elsewhere_weighs}
 use Rattle.mini_rows.proofs.SingleWeights.{single_falls, next_falls}
 use Rattle.mini_rows.proofs.ListWeights.{total, list_is, body_is, in_list, comma_list, declarators_append}
+use Rattle.mini_rows.proofs.UnusedMeaning.{movable}
 
 value_falls : (K : VariableDeclarationKind) (s : List ℕ) (k : ℕ) (init : Tree) → total (expression_statement init ▸ none) + 1 ≤ total (declared_one K (resolved s k) init ▸ none)
 value_falls Let s k init = let seat = moved statement_expression_seat argument_seat refl init in omega (arith, seat)
@@ -73,38 +71,36 @@ block_falls q before after d w h less =
     let braces = ap (braces_weight q) (same_choice before after d w h) in
     omega (arith, falls, braces)
 
-pub block_lighter : {W : VariableSet} (q : StmtSeat) (n w : Tree) → BlockRow W n w → weight (Stmt q) w < weight (Stmt q) n
-block_lighter q n w (inl r) =
+pub block_lighter : {W : Liberties} (q : StmtSeat) (n w : Tree) → BlockRow W n w → weight (Stmt q) w < weight (Stmt q) n
+block_lighter {W = W} q n w (inl r) =
     let falls = block_falls q r.before r.after (declared_one r.kind (resolved r.spelling r.symbol) r.init) (expression_statement r.init) refl (value_falls r.kind r.spelling r.symbol r.init) in
     omega (arith, falls, ap (weight (Stmt q)) r.shape, ap (weight (Stmt q)) r.written)
-block_lighter q n w (inr (inl r)) =
+block_lighter {W = W} q n w (inr (inl r)) =
     let falls = block_falls q r.before r.after (declared_among r.kind (resolved r.spelling r.symbol) r.first r.init r.last) (declared_left r.kind (append r.first r.last)) (same_chooses r.kind (resolved r.spelling r.symbol) r.first r.last r.init) (idle_falls r.kind (resolved r.spelling r.symbol) r.first r.last r.init) in
     omega (arith, falls, ap (weight (Stmt q)) r.shape, ap (weight (Stmt q)) r.written)
-block_lighter q n w (inr (inr (inl r))) =
-    let plain = (and_parts (is_plain_part r.init) (not (takes_name (shape_of r.init) (part r.init 0))) r.moves).0 in
-    let falls = single_falls q r.before r.kind r.first r.spelling r.symbol r.init r.head r.after plain r.once in
+block_lighter {W = W} q n w (inr (inr (inl r))) =
+    let falls = single_falls q r.before r.kind r.first r.spelling r.symbol r.init r.head r.after (movable W.switches r.init r.moves) r.once in
     omega (arith, falls, ap (weight (Stmt q)) r.shape, ap (weight (Stmt q)) r.written)
-block_lighter q n w (inr (inr (inr r))) =
+block_lighter {W = W} q n w (inr (inr (inr r))) =
     let x = resolved r.spelling r.symbol in
-    let plain = (and_parts (is_plain_part r.init) (not (takes_name (shape_of r.init) (part r.init 0))) r.moves).0 in
-    let falls = block_falls q r.before r.after (declared_among r.kind x r.first r.init (declarator r.binds r.value ▸ r.last)) (declaration r.kind (append r.first (declarator r.binds (put_first x r.init r.value) ▸ r.last))) refl (next_falls r.kind r.spelling r.symbol r.first r.init r.binds r.value r.last plain r.once) in
+    let falls = block_falls q r.before r.after (declared_among r.kind x r.first r.init (declarator r.binds r.value ▸ r.last)) (declaration r.kind (append r.first (declarator r.binds (put_first x r.init r.value) ▸ r.last))) refl (next_falls r.kind r.spelling r.symbol r.first r.init r.binds r.value r.last (movable W.switches r.init r.moves) r.once) in
     omega (arith, falls, ap (weight (Stmt q)) r.shape, ap (weight (Stmt q)) r.written)
 
 -- a block of a `try` weighs what it weighs as a body
 weighs_there : (n : Tree) (ts : Trees) → n ≡ block ts → weight Elsewhere n ≡ weight (Stmt stmt_seat.Body) n
 weighs_there n ts e = ap (weight Elsewhere) e ∙ elsewhere_weighs ts ∙ sym (ap (weight (Stmt stmt_seat.Body)) e)
 
-both_weigh : {W : VariableSet} (n w : Tree) → BlockRow W n w → (weight Elsewhere n ≡ weight (Stmt stmt_seat.Body) n) × (weight Elsewhere w ≡ weight (Stmt stmt_seat.Body) w)
+both_weigh : {W : Liberties} (n w : Tree) → BlockRow W n w → (weight Elsewhere n ≡ weight (Stmt stmt_seat.Body) n) × (weight Elsewhere w ≡ weight (Stmt stmt_seat.Body) w)
 both_weigh n w (inl r) = (weighs_there n _ r.shape, weighs_there w _ r.written)
 both_weigh n w (inr (inl r)) = (weighs_there n _ r.shape, weighs_there w _ r.written)
 both_weigh n w (inr (inr (inl r))) = (weighs_there n _ r.shape, weighs_there w _ r.written)
 both_weigh n w (inr (inr (inr r))) = (weighs_there n _ r.shape, weighs_there w _ r.written)
 
-try_lighter : {W : VariableSet} (n w : Tree) → BlockRow W n w → weight Elsewhere w < weight Elsewhere n
+try_lighter : {W : Liberties} (n w : Tree) → BlockRow W n w → weight Elsewhere w < weight Elsewhere n
 try_lighter n w r = let (a, b) = both_weigh n w r in omega (arith, a, b, block_lighter stmt_seat.Body n w r)
 
 -- a function's body by the block that what stands before it and its statements would be
-arrow_lighter : {W : VariableSet} (s : Seat) (n w : Tree) → ArrowBodyRow W n w → weight (Expr s) w < weight (Expr s) n
+arrow_lighter : {W : Liberties} (s : Seat) (n w : Tree) → ArrowBodyRow W n w → weight (Expr s) w < weight (Expr s) n
 arrow_lighter s n w r =
     let less = block_lighter stmt_seat.List (block (listed r.parameters ▸ r.before)) (block (listed r.parameters ▸ r.after)) r.row in
     omega (
@@ -118,26 +114,26 @@ arrow_lighter s n w r =
       ap (weight (Expr s)) r.written,
     )
 
-function_lighter : {W : VariableSet} (p : Position) (n w : Tree) → FunctionBodyRow W n w → weight p w < weight p n
+function_lighter : {W : Liberties} (p : Position) (n w : Tree) → FunctionBodyRow W n w → weight p w < weight p n
 function_lighter p n w r =
     let front = listed (r.name ▸ r.parameters) in
     let less = block_lighter stmt_seat.List (block (front ▸ r.before)) (block (front ▸ r.after)) r.row in
     omega (arith, less, list_is (front ▸ r.before), list_is (front ▸ r.after), body_is r.before, body_is r.after, ap (weight p) r.shape, ap (weight p) r.written)
 
-module_lighter : {W : VariableSet} (n w : Tree) → ModuleRow W n w → weight Elsewhere w < weight Elsewhere n
+module_lighter : {W : Liberties} (n w : Tree) → ModuleRow W n w → weight Elsewhere w < weight Elsewhere n
 module_lighter n w r =
     let front = listed none in
     let less = block_lighter stmt_seat.List (block (front ▸ r.before)) (block (front ▸ r.after)) r.row in
     omega (arith, less, list_is (front ▸ r.before), list_is (front ▸ r.after), list_is r.before, list_is r.after, ap (weight Elsewhere) r.shape, ap (weight Elsewhere) r.written)
 
-static_lighter : {W : VariableSet} (n w : Tree) → StaticBlockRow W n w → weight Elsewhere w < weight Elsewhere n
+static_lighter : {W : Liberties} (n w : Tree) → StaticBlockRow W n w → weight Elsewhere w < weight Elsewhere n
 static_lighter n w r =
     let front = listed none in
     let less = block_lighter stmt_seat.List (block (front ▸ r.before)) (block (front ▸ r.after)) r.row in
     omega (arith, less, list_is (front ▸ r.before), list_is (front ▸ r.after), list_is r.before, list_is r.after, ap (weight Elsewhere) r.shape, ap (weight Elsewhere) r.written)
 
 -- the cases of a switch
-heap : Trees → ℕ
+pub heap : Trees → ℕ
 heap none = 0
 heap (t ▸ ts) = weight Elsewhere t + heap ts
 
@@ -157,11 +153,11 @@ switch_is q d ts = let all = heap_is (count ts) ts in omega (arith, all)
 abbrev head : Tree → ℕ
 head t = if (outline t).absent then 16 else 12
 
-switch_weighs : (q : StmtSeat) (d : Tree) (first : Trees) (test : Tree) (ts last : Trees) → weight (Stmt q) (switch d (listed (append first (switch_case test ts ▸ last)))) ≡ 20 + weight (Expr whole_seat) d + heap first + (head test + weight (Expr whole_seat) test + total ts) + heap last
+pub switch_weighs : (q : StmtSeat) (d : Tree) (first : Trees) (test : Tree) (ts last : Trees) → weight (Stmt q) (switch d (listed (append first (switch_case test ts ▸ last)))) ≡ 20 + weight (Expr whole_seat) d + heap first + (head test + weight (Expr whole_seat) test + total ts) + heap last
 unfolding heap
 switch_weighs q d first test ts last = omega (arith, switch_is q d (append first (switch_case test ts ▸ last)), heap_append first (switch_case test ts ▸ last), list_is ts)
 
-switch_lighter : (q : StmtSeat) (n w : Tree) → SwitchRow n w → weight (Stmt q) w < weight (Stmt q) n
+switch_lighter : {o : Switches} (q : StmtSeat) (n w : Tree) → SwitchRow o n w → weight (Stmt q) w < weight (Stmt q) n
 switch_lighter q n w r =
     let front = listed (switch_around r.discriminant r.first r.test r.last ▸ none) in
     let less = block_lighter stmt_seat.List (block (front ▸ r.before)) (block (front ▸ r.after)) r.row in
@@ -177,7 +173,7 @@ switch_lighter q n w r =
     )
 
 -- a `for` itself weighs the same whatever its parts are
-own_for : (p : Position) (os us : List Outline) → own_weight p shape.ForStatement [] os ≡ own_weight p shape.ForStatement [] us
+pub own_for : (p : Position) (os us : List Outline) → own_weight p shape.ForStatement [] os ≡ own_weight p shape.ForStatement [] us
 own_for (Expr s) os us = refl
 own_for (Stmt q) os us = refl
 own_for p os us = refl
@@ -223,16 +219,16 @@ unused_lighter W p n w r = absurd r
 
 -- ---- what a parent reads of them
 
-function_outline : {W : VariableSet} (n w : Tree) → FunctionBodyRow W n w → outline n ≡ outline w
+function_outline : {W : Liberties} (n w : Tree) → FunctionBodyRow W n w → outline n ≡ outline w
 function_outline n w r = ap outline r.shape ∙ sym (ap outline r.written)
 
-block_outline : {W : VariableSet} (n w : Tree) → BlockRow W n w → outline n ≡ outline w
+block_outline : {W : Liberties} (n w : Tree) → BlockRow W n w → outline n ≡ outline w
 block_outline n w (inl r) = ap outline r.shape ∙ sym (ap outline r.written)
 block_outline n w (inr (inl r)) = ap outline r.shape ∙ sym (ap outline r.written)
 block_outline n w (inr (inr (inl r))) = ap outline r.shape ∙ sym (ap outline r.written)
 block_outline n w (inr (inr (inr r))) = ap outline r.shape ∙ sym (ap outline r.written)
 
-same_outline : (W : VariableSet) (p : Position) (n w : Tree) → UnusedRow W p n w → outline n ≡ outline w
+same_outline : (W : Liberties) (p : Position) (n w : Tree) → UnusedRow W p n w → outline n ≡ outline w
 same_outline W (Stmt q) n w (inl r) = block_outline n w r
 same_outline W (Stmt q) n w (inr (inl r)) = function_outline n w r
 same_outline W (Stmt q) n w (inr (inr (inl r))) = ap outline r.shape ∙ sym (ap outline r.written)

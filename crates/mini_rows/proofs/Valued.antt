@@ -66,11 +66,11 @@ module _ (k : ℕ) where
   own_unbound false xs e = refl
 
   mutual
-    unbound : (t : Tree) → bindings k t ≡ 0 → binds k t ≡ false
+    pub unbound : (t : Tree) → bindings k t ≡ 0 → binds k t ≡ false
     unbound (node h xs n ts) e =
         (λ i. own_unbound (is_binding h) xs (omega (arith, e)) i || all_unbound ts (omega (arith, e)) i)
 
-    all_unbound : (ts : Trees) → all_bindings k ts ≡ 0 → any_bind k ts ≡ false
+    pub all_unbound : (ts : Trees) → all_bindings k ts ≡ 0 → any_bind k ts ≡ false
     all_unbound none e = refl
     all_unbound (t ▸ ts) e = (λ i. unbound t (omega (arith, e)) i || all_unbound ts (omega (arith, e)) i)
 

@@ -19,6 +19,7 @@ use Rattle.mini_model.specs.Position.{conditional_level}
 use Rattle.mini_model.specs.Paths.{append}
 use Rattle.mini_model.specs.Weight.{is_parenthesized, weight}
 use Rattle.mini_node.specs.Kinds.{static_member, computed_member}
+use Rattle.mini_terms.specs.Effects.{ef}
 use Rattle.mini_terms.specs.Exact.{by_value}
 use Rattle.mini_terms.specs.Folds.{is_effect_free, goes_on}
 use Rattle.mini_terms.specs.Parts.{leaves_nothing}
@@ -369,8 +370,9 @@ argument false p = p
 argument true p = spread p
 
 -- 44: `a ? f(p, r) : f(q, r)` becomes `f(a ? p : q, r)`, and `a ? f(...p, r) : f(...q, r)` becomes `f(...a ? p : q, r)`, where neither a nor f has
--- an effect, so that f is the same function before a and after it; r may be of any number of arguments, and f, p and q are expressions
-pub record Row44 (n w : Tree) : Type 0 where
+-- an effect, so that f is the same function before a and after it; r may be of any number of arguments, and f, p and q are expressions.
+-- `this` has one where it is asked of the world
+pub record CallRow (asked : Bool) (n w : Tree) : Type 0 where
   pub a : Tree
   pub callee : Tree
   pub is_spread : Bool
@@ -378,12 +380,16 @@ pub record Row44 (n w : Tree) : Type 0 where
   pub q : Tree
   pub others : Trees
   pub plain : is_plain_part callee ≡ true
-  pub idle : is_effect_free callee ≡ true
-  pub effect_free : is_effect_free a ≡ true
+  pub idle : ef asked callee ≡ true
+  pub effect_free : ef asked a ≡ true
   pub first : is_spread || is_item p ≡ true
   pub second : is_spread || is_item q ≡ true
   pub shape : n ≡ conditional a (call false callee (argument is_spread p ▸ others)) (call false callee (argument is_spread q ▸ others))
   pub written : w ≡ call false callee (argument is_spread (conditional a p q) ▸ others)
+
+-- wherever it stands
+abbrev pub Row44 : Tree → Tree → Type 0
+Row44 = CallRow true
 
 -- 13, and 15 of `??`: after a left side that lets the right one be evaluated, whatever it does besides, both are in order:
 -- `(x = []) && b` becomes `x = [], b`, and `void f() ?? b` becomes `void f(), b`
@@ -411,14 +417,18 @@ pub record Row45Indexed (s : Seat) (n w : Tree) : Type 0 where
   pub written : w ≡ assignment assigning.Assign (computed_member (identifier name) key) (conditional a b c)
 
 -- 21: `(null, a.b)()` becomes `(0, a.b)()`, as does what 13, 15 and 49 leave of `(null ?? a.b)()`. The first part has no effect, and where the last
--- one may not stand alone is there that it is read by its value, for which the shortest does
-pub record Row21Zero (n w : Tree) : Type 0 where
+-- one may not stand alone is there that it is read by its value, for which the shortest does. `this` has an effect where it is asked of the world
+pub record ZeroRow (asked : Bool) (n w : Tree) : Type 0 where
   pub idle : Tree
   pub last : Tree
-  pub effect_free : is_effect_free idle ≡ true
+  pub effect_free : ef asked idle ≡ true
   pub dropped : leaves_nothing idle ≡ true
   pub shape : n ≡ pair idle last
   pub written : w ≡ by_value last
+
+-- wherever it stands
+abbrev pub Row21Zero : Tree → Tree → Type 0
+Row21Zero = ZeroRow true
 
 -- rows of what is lighter in every seat
 abbrev pub LighterRow : Seat → Tree → Tree → Type 0

@@ -12,13 +12,14 @@ use Rattle.mini_model.specs.Weight.{weight}
 use Rattle.mini_laws.specs.Naming.{is_lexical}
 use Rattle.mini_laws.specs.Path.{Path, here, inside, join, plug}
 use Rattle.mini_laws.specs.ScopeList.{has_eval}
-use Rattle.mini_laws.specs.Value.{Declared, VariableSet}
+use Rattle.mini_laws.specs.Value.{Declared}
 use Rattle.mini_laws.specs.Weights.{Lightens}
 use Rattle.mini_kept.specs.Loosely.{LawfulWith}
 use Rattle.mini_node.specs.Kinds.{is_listed_shape}
 use Rattle.mini_rows.specs.declared.inside.Way.{Way}
 use Rattle.mini_rows.specs.declared.inside.Way.TheVariants as way
 use Rattle.mini_rows.specs.Lists.{block}
+use Rattle.mini_rows.specs.Switches.{Liberties}
 use Rattle.mini_rows.specs.Unused.{resolved, names, any_names, declared_among, head_left, is_idle, BlockRow}
 
 -- ---- the way to it
@@ -141,7 +142,7 @@ is_lexical_shape (shape.VariableDeclaration k) = is_lexical k
 is_lexical_shape h = false
 
 -- what goes is a `var`
-abbrev pub declares_var : {W : VariableSet} {n w : Tree} → BlockRow W n w → Bool
+abbrev pub declares_var : {W : Liberties} {n w : Tree} → BlockRow W n w → Bool
 declares_var (inl r) = not (is_lexical r.kind)
 declares_var (inr (inl r)) = not (is_lexical r.kind)
 declares_var (inr (inr (inl r))) = not (is_lexical r.kind)
@@ -150,7 +151,7 @@ declares_var (inr (inr (inr r))) = not (is_lexical r.kind)
 -- `{ var x = b(); return x.c; }` becomes `{ ; return b().c; }`, `{ var x = a(); b(); }` becomes `{ a(); b(); }`, and
 -- `{ const y = b(); var x = c(); return x.d + y; }` becomes `{ const y = b(); ; return c().d + y; }`: a list of statements, from which a `var`
 -- goes, with what stands outside of it
-pub record ListEnd (W : VariableSet) (o : Trees) (n w : Tree) : Type 0 where
+pub record ListEnd (W : Liberties) (o : Trees) (n w : Tree) : Type 0 where
   pub list : Trees
   pub left : Trees
   pub row : BlockRow W (block (listed o ▸ list)) (block (listed o ▸ left))
@@ -160,19 +161,19 @@ pub record ListEnd (W : VariableSet) (o : Trees) (n w : Tree) : Type 0 where
 
 -- `if (a) var x = b();` becomes `if (a) b();`, and `while (a) var x = b(), y = x.c;` becomes `while (a) var y = b().c;`: a `var` in no list, which
 -- is read like a list of this one statement
-pub record HeldEnd (W : VariableSet) (o : Trees) (n w : Tree) : Type 0 where
+pub record HeldEnd (W : Liberties) (o : Trees) (n w : Tree) : Type 0 where
   pub row : BlockRow W (block (listed o ▸ (n ▸ none))) (block (listed o ▸ (w ▸ none)))
   pub var : declares_var row ≡ true
 
 -- `for (var x = 1, y = 2; a; b) c(y);` becomes `for (var y = 2; a; b) c(y);`, and `for (var x; a; b) c();` becomes `for (; a; b) c();`: what a `for`
 -- begins with, where nothing misses the initializer
-pub record HeadEnd (W : VariableSet) (o : Trees) (n w : Tree) : Type 0 where
+pub record HeadEnd (W : Liberties) (o : Trees) (n w : Tree) : Type 0 where
   pub first : Trees
   pub spelling : List ℕ
   pub symbol : ℕ
   pub init : Tree
   pub last : Trees
-  pub goes : W (Declared symbol) ≡ true
+  pub goes : W.writable (Declared symbol) ≡ true
   pub idle : is_idle init ≡ true
   pub outside : any_names (resolved spelling symbol) o ≡ false
   pub declared_earlier : any_names (resolved spelling symbol) first ≡ false
@@ -183,17 +184,20 @@ pub record HeadEnd (W : VariableSet) (o : Trees) (n w : Tree) : Type 0 where
   pub written : w ≡ head_left Var (append first last)
 
 -- what is read at the end of a way, below these nodes
-abbrev pub EndRow : Way → VariableSet → Trees → Tree → Tree → Type 0
+abbrev pub EndRow : Way → Liberties → Trees → Tree → Tree → Type 0
 EndRow way.Statements W o n w = ListEnd W o n w
 EndRow way.Held W o n w = HeldEnd W o n w
 EndRow way.Head W o n w = HeadEnd W o n w
 EndRow s W o n w = ⊥
 
--- `function f(a) { if (a) { var x = b(); return x.c; } }` becomes `function f(a) { if (a) { ; return b().c; } }`, and
--- `function f(a) { for (;;) { var x = a(); b(); } }` becomes `function f(a) { for (;;) { a(); b(); } }`. All else that stands in the body, with
--- what it belongs to, is read like what stands before the declaration in a block. Each turn of a loop runs the list anew, so what reads
--- the name right behind its declaration reads what that has written
-pub record InsideRow (W : VariableSet) (n w : Tree) : Type 0 where
+-- what is read at the end of a way, by the nodes above it
+abbrev pub Ends : Type 1
+Ends = Trees → Way → Tree → Tree → Type 0
+
+-- a `var` further inside a body whose end is one of those. All else that stands in the body, with what it belongs to, is read like what stands
+-- before the declaration in a block. Each turn of a loop runs the list anew, so what reads the name right behind its declaration reads what
+-- that has written
+pub record InsideOf (E : Ends) (n w : Tree) : Type 0 where
   pub holder : Holder
   pub first : Trees
   pub place : Path
@@ -201,27 +205,41 @@ pub record InsideRow (W : VariableSet) (n w : Tree) : Type 0 where
   pub end : Way
   pub read : Tree
   pub put : Tree
-  pub row : EndRow end W (over holder absent ▸ (listed (append first (absent ▸ last)) ▸ above place)) read put
+  pub row : E (over holder absent ▸ (listed (append first (absent ▸ last)) ▸ above place)) end read put
   pub there : is_way_to end (Some way.Statement) place ≡ true
   pub shape : n ≡ over holder (listed (append first (plug place read ▸ last)))
   pub written : w ≡ over holder (listed (append first (plug place put ▸ last)))
 
 -- at this place, where it weighs less
-pub record InsideContracts (W : VariableSet) (p : Position) (n w : Tree) : Type 0 where
-  pub row : InsideRow W n w
+pub record InsideAt (E : Ends) (p : Position) (n w : Tree) : Type 0 where
+  pub row : InsideOf E n w
   pub stands : stands_at row.holder p ≡ true
   pub lighter : weight p w < weight p n
+
+abbrev pub unused_ends : Liberties → Ends
+unused_ends W o z n w = EndRow z W o n w
+
+-- `function f(a) { if (a) { var x = b(); return x.c; } }` becomes `function f(a) { if (a) { ; return b().c; } }`, and
+-- `function f(a) { for (;;) { var x = a(); b(); } }` becomes `function f(a) { for (;;) { a(); b(); } }`
+abbrev pub InsideRow : Liberties → Tree → Tree → Type 0
+InsideRow W = InsideOf (unused_ends W)
+
+abbrev pub InsideContracts : Liberties → Position → Tree → Tree → Type 0
+InsideContracts W = InsideAt (unused_ends W)
 
 -- ---- the laws
 
 -- it is lighter everywhere
+abbrev pub EndsLighten : Ends → Type 0
+EndsLighten E = (p : Position) (n w : Tree) → (r : InsideOf E n w) → stands_at r.holder p ≡ true → weight p w < weight p n
+
 abbrev pub InsideLighter : Type 0
-InsideLighter = (W : VariableSet) (p : Position) (n w : Tree) → (r : InsideRow W n w) → stands_at r.holder p ≡ true → weight p w < weight p n
+InsideLighter = (W : Liberties) → EndsLighten (unused_ends W)
 
 -- and makes the whole lighter
 abbrev pub InsideLightens : Type 0
-InsideLightens = (W : VariableSet) → Lightens (InsideContracts W)
+InsideLightens = (W : Liberties) → Lightens (InsideContracts W)
 
 -- it drops a name that nothing mentions, where those variables can be written, whichever functions and classes may lose their own
 abbrev pub InsideIsLawful : Type 0
-InsideIsLawful = (K : Shape → Bool) (W : VariableSet) → LawfulWith K W (InsideContracts W)
+InsideIsLawful = (K : Shape → Bool) (W : Liberties) → LawfulWith K W.writable (InsideContracts W)

@@ -34,6 +34,7 @@ pub mod Catches
 pub mod Writes
 pub mod Members
 pub mod Idle
+pub mod Still
 pub mod Steady
 pub mod OwnArrows
 pub mod OwnPrograms
@@ -43,6 +44,7 @@ pub mod PastArrows
 pub mod PastModules
 pub mod PastStatics
 pub mod PastBlocks
+pub mod PastInside
 pub mod Cases
 pub mod LoopGuards
 pub mod DeadCases

@@ -28,6 +28,7 @@ use Rattle.mini_terms.specs.Kind.{is_primitive, kind as kind_of}
 use Rattle.mini_rows.specs.Lists.{block, declaration}
 use Rattle.mini_rows.specs.Declarations.{declarator}
 use Rattle.mini_rows.specs.Inside.{is_lexical_shape}
+use Rattle.mini_rows.specs.Switches.{Liberties}
 use Rattle.mini_rows.specs.Unused.{resolved, names, any_names, declared_among, declared_left, lets_go, begins_with, suits, is_sure, is_placed, is_first, put_first, is_constant, is_plain_assignment, is_word, is_member, is_field, Gathered, OfValues, OfTexts, of_entries, gathered_below, reads_head, evaluated, is_declarator, declares_list, is_childless, may_move, statements, function_with}
 
 -- ---- what may be evaluated before the initializer
@@ -205,7 +206,7 @@ are_past H x = are_past_in H x OfValues
 
 -- 71: `function f(g) { let x = a(); return g(x); }` becomes `function f(g) { ; return g(a()); }`, and so of `[g, x]`, `g + x`, `g.b = x`, `this.b = x`
 -- and `{ b: g, c: x }`, of `const y = g(x);`, `switch (g(x)) { }` and `for (c of g(x)) d();`, and of each other head
-pub record Row71Past (V : Assured) (W : VariableSet) (outside : Tree) (ts us : Trees) : Type 0 where
+pub record Row71Past (V : Assured) (W : Liberties) (outside : Tree) (ts us : Trees) : Type 0 where
   pub before : Trees
   pub kind : VariableDeclarationKind
   pub first : Trees
@@ -214,8 +215,8 @@ pub record Row71Past (V : Assured) (W : VariableSet) (outside : Tree) (ts us : T
   pub init : Tree
   pub head : Tree
   pub after : Trees
-  pub goes : lets_go W kind symbol ≡ true
-  pub moves : may_move init ≡ true
+  pub goes : lets_go W.writable kind symbol ≡ true
+  pub moves : may_move W.switches init ≡ true
   pub varies : is_constant init ≡ false
   pub once : reads_head (resolved spelling symbol) head ≡ true
   pub passed : are_past (held V ts before (is_lexical kind) first) (resolved spelling symbol) init (evaluated head) ≡ true
@@ -229,7 +230,7 @@ pub record Row71Past (V : Assured) (W : VariableSet) (outside : Tree) (ts us : T
   pub written : us ≡ append before (declared_left kind first ▸ (put_first (resolved spelling symbol) init head ▸ after))
 
 -- where the next declarator reads it: `let x = a(), y = g(x);` becomes `let y = g(a());`
-pub record Row71PastNext (V : Assured) (W : VariableSet) (outside : Tree) (ts us : Trees) : Type 0 where
+pub record Row71PastNext (V : Assured) (W : Liberties) (outside : Tree) (ts us : Trees) : Type 0 where
   pub before : Trees
   pub kind : VariableDeclarationKind
   pub first : Trees
@@ -240,8 +241,8 @@ pub record Row71PastNext (V : Assured) (W : VariableSet) (outside : Tree) (ts us
   pub value : Tree
   pub last : Trees
   pub after : Trees
-  pub goes : lets_go W kind symbol ≡ true
-  pub moves : may_move init ≡ true
+  pub goes : lets_go W.writable kind symbol ≡ true
+  pub moves : may_move W.switches init ≡ true
   pub varies : is_constant init ≡ false
   pub once : is_first (resolved spelling symbol) false value ≡ true
   pub passed : are_past (held V ts before (is_lexical kind) first) (resolved spelling symbol) init value ≡ true
@@ -256,11 +257,11 @@ pub record Row71PastNext (V : Assured) (W : VariableSet) (outside : Tree) (ts us
   pub shape : ts ≡ append before (declared_among kind (resolved spelling symbol) first init (declarator binds value ▸ last) ▸ after)
   pub written : us ≡ append before (declaration kind (append first (declarator binds (put_first (resolved spelling symbol) init value) ▸ last)) ▸ after)
 
-abbrev pub PastRow : Assured → VariableSet → Tree → Trees → Trees → Type 0
+abbrev pub PastRow : Assured → Liberties → Tree → Trees → Trees → Type 0
 PastRow V W outside ts us = Row71Past V W outside ts us ⊎ Row71PastNext V W outside ts us
 
 -- a function with such statements: its name and its parameters are read like what stands before the declaration
-pub record PastFunctionRow (S : BodySets) (W : VariableSet) (n w : Tree) : Type 0 where
+pub record PastFunctionRow (S : BodySets) (W : Liberties) (n w : Tree) : Type 0 where
   pub is_declared : Bool
   pub is_generator : Bool
   pub directives : List (List ℕ)
@@ -274,7 +275,7 @@ pub record PastFunctionRow (S : BodySets) (W : VariableSet) (n w : Tree) : Type 
   pub written : w ≡ function_with is_declared is_generator directives number name parameters after
 
 -- wherever the function stands
-abbrev pub PastFunction : BodySets → VariableSet → Position → Tree → Tree → Type 0
+abbrev pub PastFunction : BodySets → Liberties → Position → Tree → Tree → Type 0
 PastFunction S W (Stmt q) n w = PastFunctionRow S W n w
 PastFunction S W (Expr s) n w = PastFunctionRow S W n w
 PastFunction S W Method n w = PastFunctionRow S W n w
@@ -287,13 +288,13 @@ PastFunction S W _ n w = ⊥
 -- where nobody else sees the name that goes
 abbrev pub PastRunsAlike : Type 0
 PastRunsAlike =
-    (V : Assured) (W : VariableSet) (outside : Tree) (ts us : Trees) → PastRow V W outside ts us → (k : ℕ) × ((e : Environment) → Permits W (alone (Declared k)) e → Steadies V e → (X : VariableSet) → Begins V X → RunsAs e FunctionStatements FunctionStatements X (statements ts) (statements us))
+    (V : Assured) (W : Liberties) (outside : Tree) (ts us : Trees) → PastRow V W outside ts us → (k : ℕ) × ((e : Environment) → Permits W.writable (alone (Declared k)) e → Steadies V e → (X : VariableSet) → Begins V X → RunsAs e FunctionStatements FunctionStatements X (statements ts) (statements us))
 
 -- it makes the whole lighter, wherever the function stands
 abbrev pub PastLightens : Type 0
-PastLightens = (S : BodySets) (W : VariableSet) → Lightens (PastFunction S W)
+PastLightens = (S : BodySets) (W : Liberties) → Lightens (PastFunction S W)
 
 -- and it drops a name that nothing mentions, where S says what is known of each body and the variables W can be written, whichever functions
 -- and classes may lose their own name
 abbrev pub PastIsLawful : Type 0
-PastIsLawful = (K : Shape → Bool) (W : VariableSet) (S : BodySets) → LawfulUnder K W S (PastFunction S W)
+PastIsLawful = (K : Shape → Bool) (W : Liberties) (S : BodySets) → LawfulUnder K W.writable S (PastFunction S W)

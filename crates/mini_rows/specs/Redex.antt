@@ -9,7 +9,7 @@ use Rattle.mini_model.specs.Rewriting.{Everywhere}
 use Rattle.mini_laws.specs.Value.{VariableSet}
 use Rattle.mini_kept.specs.Lawful.{Lawful}
 use Rattle.mini_kept.specs.Loosely.{LawfulWith}
-use Rattle.mini_rows.specs.Switches.{Switches, let_go}
+use Rattle.mini_rows.specs.Switches.{Switches, let_go, liberties}
 use Rattle.mini_rows.specs.Arranged.{WhereFixed}
 use Rattle.mini_rows.specs.Spellings.{SpellingRow}
 use Rattle.mini_rows.specs.Branches.{BranchRow}
@@ -50,7 +50,7 @@ pub record Contracts (o : Switches) (p : Position) (n w : Tree) : Type 0 where
 -- or what one of a name that nothing mentions writes, which goes, or one of a name that can be written, a `let` with an assignment after
 -- it among them. W has those variables
 abbrev pub Rewrites : Switches → VariableSet → Position → Tree → Tree → Type 0
-Rewrites o W p n w = Contracts o p n w ⊎ (UnusedContracts W p n w ⊎ (NameContracts o p n w ⊎ (CatchContracts p n w ⊎ (WriteContracts W p n w ⊎ LetContracts W p n w))))
+Rewrites o W p n w = Contracts o p n w ⊎ (UnusedContracts (liberties o W) p n w ⊎ (NameContracts o p n w ⊎ (CatchContracts p n w ⊎ (WriteContracts W p n w ⊎ LetContracts W p n w))))
 
 -- a redex in its place
 pub record Redex (o : Switches) (W : VariableSet) (p : Position) (n : Tree) : Type 0 where

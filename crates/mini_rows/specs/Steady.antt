@@ -29,11 +29,12 @@ use Rattle.mini_rows.specs.Fading.{FadingFrom}
 use Rattle.mini_rows.specs.Idle.{IdleRow, IdleStatement}
 use Rattle.mini_rows.specs.Lexical.{LexicalRow}
 use Rattle.mini_rows.specs.Members.{MemberRow}
+use Rattle.mini_rows.specs.Still.{StillRow}
 use Rattle.mini_rows.specs.Past.{is_binding, is_symbol, binds}
 
 -- a row reads n as w at this place, in a body of which this is known
 abbrev pub SteadyRow : Assured → Position → Tree → Tree → Type 0
-SteadyRow V (Expr s) n w = MemberRow V s n w ⊎ IdleRow V s n w
+SteadyRow V (Expr s) n w = MemberRow V s n w ⊎ (IdleRow V s n w ⊎ StillRow V n w)
 SteadyRow V (Stmt q) n w = IdleStatement V n w
 SteadyRow V _ n w = ⊥
 
@@ -71,7 +72,7 @@ passing L xs k = L k || is_in (Declared k) xs
 -- ---- what is begun at a node
 
 -- symbols that were declared before it, and have their values there; and whether it is the list of a `let` or a `const`, in which each declarator begins
--- what it declares
+-- what it declares, or stands in an export, which evaluates its declaration as a statement
 pub record Begun : Type 0 where
   pub symbols : Symbols
   pub in_lexical : Bool
@@ -79,11 +80,13 @@ pub record Begun : Type 0 where
 abbrev pub nothing_begun : Begun
 nothing_begun = record { symbols = λ k. false; in_lexical = false }
 
--- a child is such a list: the declaration is a statement, or the head of a `for`
-abbrev pub lists_lexical : Shape → Position → Bool
-lists_lexical (shape.VariableDeclaration v) (Stmt q) = is_lexical v
-lists_lexical (shape.VariableDeclaration v) (Expr s) = s.unused && is_lexical v
-lists_lexical h p = false
+-- a child is so: the declaration is a statement, the head of a `for`, or exported (ECMA-262, "Exports", Evaluation)
+abbrev pub enters_lexical : Bool → Shape → Position → Bool
+enters_lexical b (shape.VariableDeclaration v) (Stmt q) = is_lexical v
+enters_lexical b (shape.VariableDeclaration v) (Expr s) = s.unused && is_lexical v
+enters_lexical b (shape.VariableDeclaration v) Elsewhere = b && is_lexical v
+enters_lexical b shape.ExportNamedDeclaration p = true
+enters_lexical b h p = false
 
 -- where that is declared which begins behind a child: by the child, or in the head of a loop
 pub data Beginning : Type 0 where
@@ -128,7 +131,7 @@ begins b h p is i = begins_by (beginning b h p i) is i
 
 -- what is begun at each child of a node at a place
 abbrev pub begun_at : Shape → Position → Begun → List Summary → ℕ → Begun
-begun_at h p L is zero = record { symbols = L.symbols; in_lexical = lists_lexical h p }
+begun_at h p L is zero = record { symbols = L.symbols; in_lexical = enters_lexical L.in_lexical h p }
 begun_at h p L is (suc i) = record (begun_at h p L is i) { symbols = passing (begun_at h p L is i).symbols (begins L.in_lexical h p is i) }
 
 -- the variables that have their values in this code of a body, where L is begun: those, if the code declares them only once;

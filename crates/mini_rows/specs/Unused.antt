@@ -1,5 +1,5 @@
 -- Rows of names that nothing mentions: each is a shape and what is written in its place, with the JavaScript before and after. W has
--- the variables that the program mentions and that can be written in it.
+-- the variables that the program mentions and that can be written in it, and what the options let happen.
 use Rattle.std.specs.Prelude.{◌≡◌, ◌<◌, ◌⊎◌, ◌||◌, ◌&&◌, not, ℕ, zero, suc, Bool, true, false, List, [], ◌∷◌, if◌then◌else◌}
 use Rattle.mini_model.specs.declared.kind.PropertyKind.TheVariants.{Init}
 use Rattle.mini_model.specs.declared.kind.VariableDeclarationKind.{VariableDeclarationKind}
@@ -17,7 +17,7 @@ use Rattle.mini_model.specs.Weight.{same_text, weight}
 use Rattle.mini_laws.specs.Naming.{is_lexical}
 use Rattle.mini_laws.specs.ScopeList.{is_eval, is_eval_callee, has_eval}
 use Rattle.mini_laws.specs.Symbols.{is_same}
-use Rattle.mini_laws.specs.Value.{Declared, VariableSet, nothing}
+use Rattle.mini_laws.specs.Value.{Declared, VariableSet}
 use Rattle.mini_laws.specs.Weights.{Lightens}
 use Rattle.mini_kept.specs.Loosely.{LawfulWith}
 use Rattle.mini_node.specs.Children.{names_of, part, is_bare, is_nameless, rest_children}
@@ -35,6 +35,7 @@ use Rattle.mini_rows.specs.Declarations.{binding, declarator}
 use Rattle.mini_rows.specs.Chains.{is_calm}
 use Rattle.mini_rows.specs.ChainLinks.{is_lone_by}
 use Rattle.mini_rows.specs.SpellKeys.{is_proto}
+use Rattle.mini_rows.specs.Switches.{Switches, Liberties, without_vars}
 
 -- whether one of these names has the symbol of this one, or its spelling
 abbrev pub is_like_one : Name → List Name → Bool
@@ -74,14 +75,14 @@ abbrev pub lets_go : VariableSet → VariableDeclarationKind → ℕ → Bool
 lets_go W kind k = is_lexical kind || W (Declared k)
 
 -- 72: `{ let x = a(); b(); }` becomes `{ a(); b(); }`
-pub record Row72 (W : VariableSet) (n w : Tree) : Type 0 where
+pub record Row72 (W : Liberties) (n w : Tree) : Type 0 where
   pub before : Trees
   pub kind : VariableDeclarationKind
   pub spelling : List ℕ
   pub symbol : ℕ
   pub init : Tree
   pub after : Trees
-  pub goes : lets_go W kind symbol ≡ true
+  pub goes : lets_go W.writable kind symbol ≡ true
   -- an expression stands there
   pub present : declares_nothing init ≡ true
   pub unused : Alone kind (resolved spelling symbol) before none init none after
@@ -98,7 +99,7 @@ declared_left k none = empty_statement
 declared_left k (d ▸ ds) = declaration k (d ▸ ds)
 
 -- `{ let x, y = b(); c(y); }` becomes `{ let y = b(); c(y); }`, and `{ let x; b(); }` and `{ const x = 1; b(); }` become `{ ; b(); }`
-pub record Row72Idle (W : VariableSet) (n w : Tree) : Type 0 where
+pub record Row72Idle (W : Liberties) (n w : Tree) : Type 0 where
   pub before : Trees
   pub kind : VariableDeclarationKind
   pub first : Trees
@@ -107,7 +108,7 @@ pub record Row72Idle (W : VariableSet) (n w : Tree) : Type 0 where
   pub init : Tree
   pub last : Trees
   pub after : Trees
-  pub goes : lets_go W kind symbol ≡ true
+  pub goes : lets_go W.writable kind symbol ≡ true
   pub idle : is_idle init ≡ true
   pub unused : Alone kind (resolved spelling symbol) before first init last after
   pub shape : n ≡ block (append before (declared_among kind (resolved spelling symbol) first init last ▸ after))
@@ -542,20 +543,20 @@ abbrev pub evaluated : Tree → Tree
 evaluated t = if has_declarator t then part (part (part t 0) 0) 1 else (if goes_over t then part t 1 else t)
 
 -- an arrow function, and a function or a class without a name of its own, gets the variable's name (ECMA-262, "NamedEvaluation"): none
--- of them moves
-abbrev pub takes_name : Shape → Tree → Bool
-takes_name (shape.Function is_declaration is_generator directives) own = is_absent_part own
-takes_name (shape.ArrowFunctionExpression directives) own = true
-takes_name (shape.Class is_declaration) own = is_absent_part own
-takes_name h own = false
+-- of them moves where the names of functions, or of classes, have to stay
+abbrev pub takes_name : Switches → Shape → Tree → Bool
+takes_name o (shape.Function is_declaration is_generator directives) own = o.keep_function_names && is_absent_part own
+takes_name o (shape.ArrowFunctionExpression directives) own = o.keep_function_names
+takes_name o (shape.Class is_declaration) own = o.keep_class_names && is_absent_part own
+takes_name o h own = false
 
-abbrev pub may_move : Tree → Bool
-may_move t = is_plain_part t && not (takes_name (shape_of t) (part t 0))
+abbrev pub may_move : Switches → Tree → Bool
+may_move o t = is_plain_part t && not (takes_name o (shape_of t) (part t 0))
 
 -- 71: `{ let a, x = b(); return x + c; }` becomes `{ let a; return b() + c; }`, `{ const x = b(); return x; }` `{ ; return b(); }`,
 -- `{ let x = a(); const y = x.b; c(y); }` `{ ; const y = a().b; c(y); }`, `{ let x = a(); switch (x.b) { } }` `{ ; switch (a().b) { } }`, and
 -- `{ let x = a(); for (c of x.b) d(); }` `{ ; for (c of a().b) d(); }`
-pub record Row71 (W : VariableSet) (n w : Tree) : Type 0 where
+pub record Row71 (W : Liberties) (n w : Tree) : Type 0 where
   pub before : Trees
   pub kind : VariableDeclarationKind
   pub first : Trees
@@ -564,8 +565,8 @@ pub record Row71 (W : VariableSet) (n w : Tree) : Type 0 where
   pub init : Tree
   pub head : Tree
   pub after : Trees
-  pub goes : lets_go W kind symbol ≡ true
-  pub moves : may_move init ≡ true
+  pub goes : lets_go W.writable kind symbol ≡ true
+  pub moves : may_move W.switches init ≡ true
   pub once : reads_head (resolved spelling symbol) head ≡ true
   pub passed : are_passed (resolved spelling symbol) init (evaluated head) ≡ true
   pub earlier : any_names (resolved spelling symbol) before ≡ false
@@ -577,7 +578,7 @@ pub record Row71 (W : VariableSet) (n w : Tree) : Type 0 where
   pub written : w ≡ block (append before (declared_left kind first ▸ (put_first (resolved spelling symbol) init head ▸ after)))
 
 -- where the next declarator reads it first: `{ let a, x = b(), y = x.c; d(y); }` becomes `{ let a, y = b().c; d(y); }`
-pub record Row71Next (W : VariableSet) (n w : Tree) : Type 0 where
+pub record Row71Next (W : Liberties) (n w : Tree) : Type 0 where
   pub before : Trees
   pub kind : VariableDeclarationKind
   pub first : Trees
@@ -588,8 +589,8 @@ pub record Row71Next (W : VariableSet) (n w : Tree) : Type 0 where
   pub value : Tree
   pub last : Trees
   pub after : Trees
-  pub goes : lets_go W kind symbol ≡ true
-  pub moves : may_move init ≡ true
+  pub goes : lets_go W.writable kind symbol ≡ true
+  pub moves : may_move W.switches init ≡ true
   pub once : is_first (resolved spelling symbol) false value ≡ true
   pub passed : are_passed (resolved spelling symbol) init value ≡ true
   pub other : names (resolved spelling symbol) binds ≡ false
@@ -603,7 +604,7 @@ pub record Row71Next (W : VariableSet) (n w : Tree) : Type 0 where
   pub written : w ≡ block (append before (declaration kind (append first (declarator binds (put_first (resolved spelling symbol) init value) ▸ last)) ▸ after))
 
 -- one of them reads a block
-abbrev pub BlockRow : VariableSet → Tree → Tree → Type 0
+abbrev pub BlockRow : Liberties → Tree → Tree → Type 0
 BlockRow W n w = Row72 W n w ⊎ (Row72Idle W n w ⊎ (Row71 W n w ⊎ Row71Next W n w))
 
 -- ---- in the body of an arrow function
@@ -618,7 +619,7 @@ arrow_with directives n parameters ts = node (shape.ArrowFunctionExpression dire
 
 -- 71 and 72 in its body: `(a) => { let x = b(); return x + a; }` becomes `(a) => { ; return b() + a; }`. Its parameters are read like
 -- what stands before the declaration in a block
-pub record ArrowBodyRow (W : VariableSet) (n w : Tree) : Type 0 where
+pub record ArrowBodyRow (W : Liberties) (n w : Tree) : Type 0 where
   pub directives : List (List ℕ)
   pub number : ℕ
   pub parameters : Trees
@@ -636,7 +637,7 @@ function_with is_declared is_generator directives n name parameters ts = node (s
 
 -- 71 and 72 in its body: `function f(a) { let x = b(); return x + a; }` becomes `function f(a) { ; return b() + a; }`. Its name and its
 -- parameters are read like what stands before the declaration in a block
-pub record FunctionBodyRow (W : VariableSet) (n w : Tree) : Type 0 where
+pub record FunctionBodyRow (W : Liberties) (n w : Tree) : Type 0 where
   pub is_declared : Bool
   pub is_generator : Bool
   pub directives : List (List ℕ)
@@ -654,7 +655,7 @@ pub record FunctionBodyRow (W : VariableSet) (n w : Tree) : Type 0 where
 -- 71 and 72 in a module: `import "a"; const x = f(); g();` becomes `import "a"; f(); g();`. Its statements are read like those of a
 -- function without parameters. `export { x }` mentions x, and what is exported where it is declared is no declaration of a list. What a
 -- script declares stays: other scripts see it
-pub record ModuleRow (W : VariableSet) (n w : Tree) : Type 0 where
+pub record ModuleRow (W : Liberties) (n w : Tree) : Type 0 where
   pub directives : List (List ℕ)
   pub before : Trees
   pub after : Trees
@@ -671,7 +672,7 @@ static_block n ts = node shape.StaticBlock [] n (listed ts ▸ none)
 -- 71 and 72 in a static block of a class: `class A { static { var x = f(); g(); } }` becomes `class A { static { f(); g(); } }`. Its
 -- statements are read like those of a function without parameters, since it is a body of its own, whose `var`s nothing around it sees
 -- (ECMA-262, "ClassStaticBlockDefinition")
-pub record StaticBlockRow (W : VariableSet) (n w : Tree) : Type 0 where
+pub record StaticBlockRow (W : Liberties) (n w : Tree) : Type 0 where
   pub number : ℕ
   pub before : Trees
   pub after : Trees
@@ -688,14 +689,14 @@ switch_around d first test last = switch d (listed (append first (node shape.Swi
 -- 71 and 72 among the statements of a case: `switch (a) { case 1: let x = f(); g(); }` becomes `switch (a) { case 1: f(); g(); }`. All cases
 -- are one scope (ECMA-262, "Runtime Semantics: Evaluation" of SwitchStatement), so all else that stands in the switch is read like what
 -- stands before the declaration in a block
-pub record SwitchRow (n w : Tree) : Type 0 where
+pub record SwitchRow (o : Switches) (n w : Tree) : Type 0 where
   pub discriminant : Tree
   pub first : Trees
   pub test : Tree
   pub before : Trees
   pub last : Trees
   pub after : Trees
-  pub row : BlockRow nothing (block (listed (switch_around discriminant first test last ▸ none) ▸ before)) (block (listed (switch_around discriminant first test last ▸ none) ▸ after))
+  pub row : BlockRow (without_vars o) (block (listed (switch_around discriminant first test last ▸ none) ▸ before)) (block (listed (switch_around discriminant first test last ▸ none) ▸ after))
   pub shape : n ≡ switch discriminant (listed (append first (switch_case test before ▸ last)))
   pub written : w ≡ switch discriminant (listed (append first (switch_case test after ▸ last)))
 
@@ -734,25 +735,25 @@ pub record ForRow (n w : Tree) : Type 0 where
 -- `try { let x = a(); b(); } catch (e) { }` the first becomes `{ a(); b(); }`. What a `catch` takes is declared around its block (ECMA-262,
 -- "CatchClauseEvaluation"), like parameters around a body, and stays. A block that is no body and a switch keep each
 -- `var`: its name is seen around it
-abbrev pub UnusedRow : VariableSet → Position → Tree → Tree → Type 0
-UnusedRow W (Stmt q) n w = BlockRow nothing n w ⊎ (FunctionBodyRow W n w ⊎ (SwitchRow n w ⊎ ForRow n w))
+abbrev pub UnusedRow : Liberties → Position → Tree → Tree → Type 0
+UnusedRow W (Stmt q) n w = BlockRow (without_vars W.switches) n w ⊎ (FunctionBodyRow W n w ⊎ (SwitchRow W.switches n w ⊎ ForRow n w))
 UnusedRow W (Expr s) n w = ArrowBodyRow W n w ⊎ FunctionBodyRow W n w
 UnusedRow W Method n w = FunctionBodyRow W n w
-UnusedRow W Elsewhere n w = FunctionBodyRow W n w ⊎ (ModuleRow W n w ⊎ (StaticBlockRow W n w ⊎ BlockRow nothing n w))
+UnusedRow W Elsewhere n w = FunctionBodyRow W n w ⊎ (ModuleRow W n w ⊎ (StaticBlockRow W n w ⊎ BlockRow (without_vars W.switches) n w))
 UnusedRow W _ n w = ⊥
 
 -- what it writes, where it weighs less
-pub record UnusedContracts (W : VariableSet) (p : Position) (n w : Tree) : Type 0 where
+pub record UnusedContracts (W : Liberties) (p : Position) (n w : Tree) : Type 0 where
   pub row : UnusedRow W p n w
   pub lighter : weight p w < weight p n
 
 -- which is everywhere
 abbrev pub UnusedLighter : Type 0
-UnusedLighter = (W : VariableSet) (p : Position) (n w : Tree) → UnusedRow W p n w → weight p w < weight p n
+UnusedLighter = (W : Liberties) (p : Position) (n w : Tree) → UnusedRow W p n w → weight p w < weight p n
 
 abbrev pub UnusedLighten : Type 0
-UnusedLighten = (W : VariableSet) → Lightens (UnusedContracts W)
+UnusedLighten = (W : Liberties) → Lightens (UnusedContracts W)
 
 -- it drops a name that nothing mentions, where those variables can be written, whichever functions and classes may lose their own
 abbrev pub UnusedAreLawful : Type 0
-UnusedAreLawful = (K : Shape → Bool) (W : VariableSet) → LawfulWith K W (UnusedContracts W)
+UnusedAreLawful = (K : Shape → Bool) (W : Liberties) → LawfulWith K W.writable (UnusedContracts W)

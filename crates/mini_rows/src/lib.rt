@@ -57,10 +57,11 @@ pub use past::{
     past_steady_names_are_lawful, past_steady_names_are_lawful_in_arrows,
     past_steady_names_are_lawful_in_blocks, past_steady_names_are_lawful_in_blocks_of_parts,
     past_steady_names_are_lawful_in_blocks_of_programs, past_steady_names_are_lawful_in_modules,
-    past_steady_names_are_lawful_in_static_blocks, past_steady_names_lighten,
-    past_steady_names_lighten_arrows, past_steady_names_lighten_blocks,
-    past_steady_names_lighten_modules, past_steady_names_lighten_static_blocks,
-    past_steady_names_read_more_in_blocks, past_steady_names_run_alike,
+    past_steady_names_are_lawful_in_static_blocks, past_steady_names_are_lawful_inside,
+    past_steady_names_lighten, past_steady_names_lighten_arrows, past_steady_names_lighten_blocks,
+    past_steady_names_lighten_inside, past_steady_names_lighten_modules,
+    past_steady_names_lighten_static_blocks, past_steady_names_read_more_in_blocks,
+    past_steady_names_run_alike,
 };
 pub use programs::{own_programs_are_lawful, own_programs_lighten};
 pub use redexes::rows_are_lawful;

@@ -4,6 +4,7 @@ ghost use Rattle.mini_rows.specs.Past.{PastIsLawful, PastLightens, PastRunsAlike
 ghost use Rattle.mini_rows.specs.PastArrows.{PastArrowIsLawful, PastArrowLightens};
 ghost use Rattle.mini_rows.specs.PastModules.{PastModuleIsLawful, PastModuleLightens};
 ghost use Rattle.mini_rows.specs.PastStatics.{PastStaticIsLawful, PastStaticLightens};
+ghost use Rattle.mini_rows.specs.PastInside.{PastInsideIsLawful, PastInsideLightens};
 ghost use Rattle.mini_rows.specs.PastBlocks.{PastBlocksAreLawful, PastBlocksAreLawfulInParts, PastBlocksAreLawfulInPrograms, PastBlocksLighten, PastBlocksReadMore};
 
 /// A body runs as before where the initializer goes past names that are held, from each start that initialises what is known to be
@@ -76,4 +77,14 @@ pub fn past_steady_names_are_lawful_in_blocks_of_parts()
 /// And so is one that has such a block itself.
 pub fn past_steady_names_are_lawful_in_blocks_of_programs()
     ensures { PastBlocksAreLawfulInPrograms }
+{}
+
+/// So is what is written of a body in which a `var` stands further inside.
+pub fn past_steady_names_lighten_inside()
+    ensures { PastInsideLightens }
+{}
+
+/// And the program is kept, where that is so which is known of that body, and those variables can be written for which it acts.
+pub fn past_steady_names_are_lawful_inside()
+    ensures { PastInsideIsLawful }
 {}

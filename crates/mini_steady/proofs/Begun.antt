@@ -10,7 +10,7 @@ use Rattle.mini_model.specs.Tree.{Tree, children, shape_of}
 use Rattle.mini_laws.specs.Naming.{summary, summaries}
 use Rattle.mini_laws.specs.Value.{Declared, is_in}
 use Rattle.mini_kept.specs.Without.{Assured, BodySets}
-use Rattle.mini_rows.specs.Steady.{OwnRows, Begun, passing, lists_lexical, beginning, begins, begun_at}
+use Rattle.mini_rows.specs.Steady.{OwnRows, Begun, passing, enters_lexical, beginning, begins, begun_at}
 use Rattle.mini_steady.specs.Declarations.{is_listed, begin_in, unlisted, known_there, known_of, begun_by}
 use Rattle.mini_steady.specs.Own.{KeepsEach, begun_in, rows_there, OwnWalked, AppliedHere, AsBefore, BeginsBesides}
 use Rattle.mini_steady.specs.declared.code.BodyCode.{BodyCode}
@@ -29,7 +29,7 @@ pub record BegunTo (p : Position) (t : Tree) (at : ℕ) (c d : BodyCode) : Type 
   pub is : d.begun.items ≡ c.begun.items ++ added
 
 -- c at the node, and d as its children are entered
-pub begun_first : (p : Position) (t : Tree) (c d : BodyCode) → d.number ≡ c.number → d.declared.items ≡ c.declared.items → d.begun.items ≡ c.begun.items → d.in_lexical ≡ lists_lexical (shape_of t) p → BegunTo p t 0 c d
+pub begun_first : (p : Position) (t : Tree) (c d : BodyCode) → d.number ≡ c.number → d.declared.items ≡ c.declared.items → d.begun.items ≡ c.begun.items → d.in_lexical ≡ enters_lexical c.in_lexical (shape_of t) p → BegunTo p t 0 c d
 begun_first p t c d number declared begun listed = record {
   number = number;
   declared = declared;

@@ -8,14 +8,14 @@ use Rattle.mini_model.specs.declared.name.Name.{Name}
 use Rattle.mini_model.specs.declared.name.SymbolId.{SymbolId}
 use Rattle.mini_model.specs.declared.operator.UnaryOperator.TheVariants.{LogicalNot}
 use Rattle.mini_model.specs.declared.place.Position.{Position}
-use Rattle.mini_model.specs.declared.place.Position.TheVariants.{Expr, Stmt, StatementList, BodyList, CommaList}
+use Rattle.mini_model.specs.declared.place.Position.TheVariants.{Expr, Stmt, StatementList, BodyList, CommaList, Elsewhere}
 use Rattle.mini_model.specs.declared.shape.Shape.{Shape}
 use Rattle.mini_model.specs.declared.shape.Shape.TheVariants as shape
 use Rattle.mini_model.specs.Tree.{Tree, Trees, node, none, ◌▸◌, children, shape_of, child_or_absent}
 use Rattle.mini_laws.specs.Naming.{Summary, AClass, Declared as What, Variables, is_lexical as is_lexical_kind, summary, summaries, first_facts, facts_all, facts_of}
 use Rattle.mini_laws.specs.Value.{Variable, Declared, choose, is_in}
-use Rattle.mini_rows.specs.Steady.{lists_lexical, Beginning, OfChild, OfHead, OfNone, beginning, nth_lets, lets_as, head_lets, begins_by}
-use Rattle.mini_steady.specs.Declarations.{is_listed, is_negation, is_of_child, is_of_head, is_statement_list, is_comma_list, is_catch, is_for, is_for_each, is_lexical_shape, may_begin, is_lexical, is_lexical_first, lets_in, lets_if, begin_by}
+use Rattle.mini_rows.specs.Steady.{enters_lexical, Beginning, OfChild, OfHead, OfNone, beginning, nth_lets, lets_as, head_lets, begins_by}
+use Rattle.mini_steady.specs.Declarations.{is_listed, is_negation, is_of_child, is_of_head, is_statement_list, is_comma_list, is_catch, is_for, is_for_each, is_lexical_shape, may_begin, is_export, is_lexical, is_lexical_first, lets_in, lets_if, begin_by}
 use Rattle.mini_steady.proofs.Letting.{lets_there}
 
 -- ---- where it is declared
@@ -98,11 +98,12 @@ and_swap : (a b : Bool) → (a && b) ≡ (b && a)
 and_swap true b = and_true b
 and_swap false b = and_none b
 
-pub lists_it : (h : Shape) (p : Position) → lists_lexical h p ≡ (is_lexical_shape h && may_begin p)
-lists_it (shape.VariableDeclaration v) (Stmt q) = lists_kind v ∙ and_true (is_lexical_shape (shape.VariableDeclaration v))
-lists_it (shape.VariableDeclaration v) (Expr s) = ap (λ b. s.unused && b) (lists_kind v) ∙ and_swap s.unused (is_lexical_shape (shape.VariableDeclaration v))
-lists_it (shape.VariableDeclaration v) p = and_none (is_lexical_shape (shape.VariableDeclaration v))
-lists_it h p = refl
+pub enters_it : (b : Bool) (h : Shape) (p : Position) → enters_lexical b h p ≡ (is_export h || (is_lexical_shape h && may_begin b p))
+enters_it b (shape.VariableDeclaration v) (Stmt q) = lists_kind v ∙ and_true (is_lexical_shape (shape.VariableDeclaration v))
+enters_it b (shape.VariableDeclaration v) (Expr s) = ap (λ c. s.unused && c) (lists_kind v) ∙ and_swap s.unused (is_lexical_shape (shape.VariableDeclaration v))
+enters_it b (shape.VariableDeclaration v) Elsewhere = ap (λ c. b && c) (lists_kind v) ∙ and_swap b (is_lexical_shape (shape.VariableDeclaration v))
+enters_it b (shape.VariableDeclaration v) p = and_none (is_lexical_shape (shape.VariableDeclaration v))
+enters_it b h p = refl
 
 -- ---- a head that is a `let` or a `const`
 
@@ -145,7 +146,7 @@ module _ (k : ℕ) where
   as_lets (Some AClass) b ss xs e f = ap (λ c. is_listed k (if c then ss else [])) e
   as_lets None b ss xs e f = ap (λ c. is_listed k (if c then ss else [])) e
 
-  head_begins : (ts : Trees) → is_listed k (lets_if (is_lexical (child_or_absent ts 0)) (child_or_absent ts 0)) ≡ In (head_lets (summaries ts))
+  pub head_begins : (ts : Trees) → is_listed k (lets_if (is_lexical (child_or_absent ts 0)) (child_or_absent ts 0)) ≡ In (head_lets (summaries ts))
   head_begins none = refl
   head_begins (t ▸ ts) = as_lets (summary t).facts.declared (is_lexical t) (lets_in t) (summary t).lets (lexical_there t) (lets_there k t)
 

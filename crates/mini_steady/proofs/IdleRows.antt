@@ -13,7 +13,7 @@ use Rattle.mini_node.specs.Children.{first_children, part, rest_children, withou
 use Rattle.mini_node.specs.Kinds.{is_expression_statement, is_sequence, sequence}
 use Rattle.mini_node.specs.Made.{expression_statement_is, sequence_is}
 use Rattle.mini_node.specs.Walks.{from_first, next_child}
-use Rattle.mini_rows.specs.Idle.{is_still, is_still_part, Row22This, Row22InitThis, Row22UpdateThis, Row21This, Row21AloneThis, IdleRow, IdleStatement}
+use Rattle.mini_rows.specs.Idle.{is_still, is_still_part, IdleRow, IdleStatement}
 use Rattle.mini_rows.specs.Lists.{for_loop}
 use Rattle.mini_rows.specs.Sequences.{takes_alone, stays_alone}
 use Rattle.mini_rows.specs.Steady.{SteadyRow}
@@ -21,7 +21,7 @@ use Rattle.mini_steady.specs.Chains.{once}
 use Rattle.mini_steady.specs.Idle.{does_nothing, is_for, begins_still, turns_still, headless, turn_written, head_written, statement_written, written_in, still_before_last, is_left, loses_part, Loses, LosesIn}
 use Rattle.mini_steady.specs.Members as members
 use Rattle.mini_steady.specs.Own.{AppliedHere}
-use Rattle.mini_steady.proofs.MemberRows.{members_are_rows, unwritten_rests}
+use Rattle.mini_steady.proofs.MemberRows.{members_are_rows}
 
 -- ---- 22
 
@@ -46,7 +46,7 @@ module _ (V : Assured) (has : V.has_this ≡ true) (n : Tree) where
       inr (inr (record { init = part n 0; test = part n 1; update = part n 2; body = part n 3; kept = has; still = still; shape = for_is n kind; written = ap (headless 2) (for_is n kind) }))
 
 -- one after another
-tried : (P : Tree → Type 0) (b : Bool) (made : Tree) (next : Option Tree) (w : Tree) → (b ≡ true → P made) → (next ≡ Some w → P w) → (if b then Some made else next) ≡ Some w → P w
+pub tried : (P : Tree → Type 0) (b : Bool) (made : Tree) (next : Option Tree) (w : Tree) → (b ≡ true → P made) → (next ≡ Some w → P w) → (if b then Some made else next) ≡ Some w → P w
 tried P true made next w f g e = let is : made ≡ w = cc e in subst P is (f refl)
 tried P false made next w f g e = g e
 
@@ -75,11 +75,11 @@ has_it V n w (inl r) = r.kept
 has_it V n w (inr (inl r)) = r.kept
 has_it V n w (inr (inr r)) = r.kept
 
-chosen : (b : Bool) (x : Option Tree) → b ≡ true → is_some x ≡ true → is_some (if b then x else None) ≡ true
+pub chosen : (b : Bool) (x : Option Tree) → b ≡ true → is_some x ≡ true → is_some (if b then x else None) ≡ true
 chosen true x e f = f
 chosen false x e f = e
 
-chosen_is : (b : Bool) (x : Option Tree) (w : Tree) → (if b then x else None) ≡ Some w → (b ≡ true) × (x ≡ Some w)
+pub chosen_is : (b : Bool) (x : Option Tree) (w : Tree) → (if b then x else None) ≡ Some w → (b ≡ true) × (x ≡ Some w)
 chosen_is true x w e = (refl, e)
 chosen_is false x w e = absurd (cc e)
 
@@ -248,17 +248,9 @@ member_applied V s t u e f = subst (λ v. AppliedHere (SteadyRow V) (Expr s) t v
     go None h f = absurd (true≢false f)
     go (Some w) h f = once t w (inl (members_are_rows V s t w h))
 
-pub idle_applied : (V : Assured) (s : Seat) (t m u : Tree) (b : Bool) → m ≡ unwrap_or (members.written V s t) t → false ≡ is_some (members.written V s t) → LosesIn V s m u b → AppliedHere (SteadyRow V) (Expr s) t u b
-idle_applied V s t m u b e f l = go (members.written V s t) refl f (subst (λ v. LosesIn V s v u b) e l)
+pub idle_applied : (V : Assured) (s : Seat) (t m u : Tree) → m ≡ unwrap_or (members.written V s t) t → false ≡ is_some (members.written V s t) → LosesIn V s m u true → AppliedHere (SteadyRow V) (Expr s) t u true
+idle_applied V s t m u e f l = go (members.written V s t) refl f (subst (λ v. LosesIn V s v u true) e l)
   where
-    on : (b : Bool) → members.written V s t ≡ None → LosesIn V s t u b → AppliedHere (SteadyRow V) (Expr s) t u b
-    on true h l = once t u (inr l)
-    on false h l = (l.0, unread)
-      where
-        unread : (w : Tree) → SteadyRow V (Expr s) t w → ⊥
-        unread w (inl r) = unwritten_rests V s t h w r
-        unread w (inr r) = l.1 w r
-
-    go : (o : Option Tree) → members.written V s t ≡ o → false ≡ is_some o → LosesIn V s (unwrap_or o t) u b → AppliedHere (SteadyRow V) (Expr s) t u b
-    go None h f l = on b h l
+    go : (o : Option Tree) → members.written V s t ≡ o → false ≡ is_some o → LosesIn V s (unwrap_or o t) u true → AppliedHere (SteadyRow V) (Expr s) t u true
+    go None h f l = once t u (inr (inl l))
     go (Some w) h f l = absurd (true≢false (sym f))

@@ -1,5 +1,5 @@
 -- The symbols that a statement declares in the scope around it, as the code gathers them, are those that it lets; and what is begun in a list of statements.
-use Rattle.std.proofs.Common.{◌≡◌, ℕ, ◌+◌, Bool, true, false, List, [], ◌∷◌, Option, Some, None, refl, sym, ap, ◌∙◌}
+use Rattle.std.proofs.Common.{◌≡◌, ◌≤◌, ℕ, Bool, true, false, List, [], ◌∷◌, length, slice_index_or, Option, Some, None, refl, sym, ap, ◌∙◌}
 use Rattle.std.specs.Prelude.{◌&&◌, ◌||◌, ◌++◌, nat_eq, if◌then◌else◌}
 use Rattle.std.proofs.lemmas.Bool.{false≢true}
 use Rattle.std.proofs.lemmas.List.{append-nil}
@@ -12,11 +12,12 @@ use Rattle.mini_model.specs.declared.shape.Shape.TheVariants as shape
 use Rattle.mini_model.specs.Tree.{Tree, Trees, node, none, ◌▸◌, children, shape_of}
 use Rattle.mini_laws.specs.Naming.{Summary, AClass, Declared as What, Variables, summary, summaries, lets_all, lets_first as first_lets, lets_of, class_lets, first_facts, facts_all, facts_of, front}
 use Rattle.mini_laws.specs.Value.{Variable, Declared, choose, is_in, variable_by, variable_eq, variables}
-use Rattle.mini_node.specs.Children.{names, names_of, part}
+use Rattle.mini_node.specs.Children.{names, names_of, trees_of}
 use Rattle.mini_rows.specs.Past.{is_binding}
 use Rattle.mini_steady.specs.Declarations.{symbol_of, symbols_of, is_listed, Lets, Itself, Each, First, OfClass, NoName, lets_at, is_each, is_first, is_of_class, is_class_shape, is_negation, is_class, is_class_first, front_symbols, lets_by, lets_in, lets_among, lets_first}
 use Rattle.mini_steady.proofs.Declaring.{either_listed}
 use Rattle.mini_steady.proofs.Gathering.{Gathers}
+use Rattle.mini_steady.proofs.Rests.{rest_of, opened_list}
 
 -- ---- the list, part by part
 
@@ -93,11 +94,11 @@ module _ (k : ℕ) where
   abbrev In : List Variable → Bool
   In xs = is_in (Declared k) xs
 
-  as_choose : (a b : Bool) → (a || b) ≡ choose a true b
+  pub as_choose : (a b : Bool) → (a || b) ≡ choose a true b
   as_choose true b = refl
   as_choose false b = refl
 
-  in_both : (xs ys : List Variable) → In (xs ++ ys) ≡ choose (In xs) true (In ys)
+  pub in_both : (xs ys : List Variable) → In (xs ++ ys) ≡ choose (In xs) true (In ys)
   in_both [] ys = refl
   in_both (x ∷ xs) ys = by (variable_eq x (Declared k)) (in_both xs ys)
     where
@@ -166,3 +167,37 @@ module _ (k : ℕ) where
     first_there : (ts : Trees) → is_listed k (lets_first ts) ≡ In (first_lets (summaries ts))
     first_there none = refl
     first_there (t ▸ ts) = lets_there t
+
+-- ---- one symbol among them
+
+module _ (k : ℕ) where
+  or_none : (b : Bool) → (b || false) ≡ b
+  or_none true = refl
+  or_none false = refl
+
+  pub some_listed : (x : Name) (s : SymbolId) → x.symbol ≡ Some s → is_listed k (symbols_of (x ∷ [])) ≡ nat_eq s.0 k
+  some_listed x s e = ap (λ o. is_listed k (symbol_of o ++ [])) e ∙ or_none (nat_eq s.0 k)
+
+  pub none_listed : (x : Name) → x.symbol ≡ None → is_listed k (symbols_of (x ∷ [])) ≡ false
+  none_listed x e = ap (λ o. is_listed k (symbol_of o ++ [])) e
+
+  pub listed_itself : (t : Tree) (o : Option Name) → is_binding (shape_of t) ≡ true → names o ≡ names_of t → is_listed k (lets_in t) ≡ is_listed k (symbols_of (names o))
+  listed_itself t o e f = ap (is_listed k) (by_itself t o e f)
+
+  pub listed_each : (t : Tree) → is_each (lets_at (shape_of t)) ≡ true → is_listed k (lets_in t) ≡ is_listed k (lets_among (children t))
+  listed_each t e = ap (is_listed k) (by_each t e)
+
+  pub listed_first : (t : Tree) → is_first (lets_at (shape_of t)) ≡ true → is_listed k (lets_in t) ≡ is_listed k (lets_first (children t))
+  listed_first t e = ap (is_listed k) (by_first t e)
+
+  pub listed_class : (t : Tree) → is_of_class (lets_at (shape_of t)) ≡ true → is_class_first (children t) ≡ true → is_listed k (lets_in t) ≡ is_listed k (lets_first (children t))
+  listed_class t e f = ap (is_listed k) (by_class t e f)
+
+  pub listed_nothing : (t : Tree) → is_binding (shape_of t) ≡ false → is_each (lets_at (shape_of t)) ≡ false → is_first (lets_at (shape_of t)) ≡ false → (is_of_class (lets_at (shape_of t)) && is_class_first (children t)) ≡ false → is_listed k (lets_in t) ≡ false
+  listed_nothing t e f g i = ap (is_listed k) (by_nothing t e f g i)
+
+  pub listed_more : (t : Tree) (ts : Trees) → is_listed k (lets_among (t ▸ ts)) ≡ (is_listed k (lets_in t) || is_listed k (lets_among ts))
+  listed_more t ts = either_listed k (lets_in t) (lets_among ts)
+
+  pub listed_rest : (xs : List Tree) (x : Tree) (b : Bool) → 1 ≤ length xs → x ≡ slice_index_or xs 0 x → false ≡ is_listed k (lets_in x) → b ≡ is_listed k (lets_among (rest_of xs)) → b ≡ is_listed k (lets_among (trees_of xs))
+  listed_rest xs x b h e f g = g ∙ ap (λ c. c || is_listed k (lets_among (rest_of xs))) f ∙ sym (listed_more x (rest_of xs)) ∙ sym (ap (λ ts. is_listed k (lets_among ts)) (opened_list xs x h e))

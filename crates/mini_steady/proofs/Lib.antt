@@ -1,10 +1,12 @@
 pub mod BoundNames
 pub mod Gathering
+pub mod Rests
 pub mod Declaring
 pub mod Written
 pub mod LeftParts
 pub mod MemberRows
 pub mod IdleRows
+pub mod StillRows
 pub mod Owning
 pub mod Letting
 pub mod Behind
@@ -13,3 +15,5 @@ pub mod FunctionSteps
 pub mod ArrowSteps
 pub mod ProgramSteps
 pub mod PartSteps
+pub mod Twice
+pub mod AroundPlaces

@@ -9,7 +9,6 @@ use Rattle.mini_model.specs.declared.operator.AssignmentOperator.TheVariants.{As
 use Rattle.mini_model.specs.declared.operator.BinaryOperator.{BinaryOperator}
 use Rattle.mini_model.specs.declared.operator.LogicalOperator.{LogicalOperator}
 use Rattle.mini_model.specs.declared.operator.LogicalOperator.TheVariants.{Or}
-use Rattle.mini_model.specs.declared.place.Position.TheVariants.{Expr}
 use Rattle.mini_model.specs.declared.seat.Seat.{Seat}
 use Rattle.mini_model.specs.declared.shape.Shape.TheVariants as shape
 use Rattle.mini_model.specs.Tree.{Tree, Trees, node, none, ◌▸◌, child_or_absent, identifier, logical, conditional}
@@ -25,7 +24,6 @@ use Rattle.mini_node.proofs.Equality.{tree_same, tree_itself}
 use Rattle.mini_rows.specs.Choices.{Key, Named, Spelled, Numbered, member_on, computing, deciding, keeps_parentheses}
 use Rattle.mini_rows.specs.Members.{this, Object, OfThis, OfName, object, is_kept, are_left, is_ready, Index, Written, Held, member_at, is_kept_index, is_ready_index, Row38Member, Row38MemberLast, Row35This, Row45Kept, MemberRow}
 use Rattle.mini_rows.specs.Past.{leaves}
-use Rattle.mini_rows.specs.Steady.{SteadyRow}
 use Rattle.mini_rows.specs.Unused.{resolved}
 use Rattle.mini_choices.specs.Assigning.{is_plain, has_written_key}
 use Rattle.mini_choices.specs.MinimizeConditionalBranches.{is_seated, assigned}

@@ -7,7 +7,7 @@ use Rattle.mini_model.specs.declared.operator.UnaryOperator.TheVariants.{Logical
 use Rattle.mini_model.specs.declared.shape.Shape.{Shape}
 use Rattle.mini_model.specs.declared.shape.Shape.TheVariants as shape
 use Rattle.mini_model.specs.declared.place.Position.{Position}
-use Rattle.mini_model.specs.declared.place.Position.TheVariants.{Expr, Stmt, StatementList, BodyList, CommaList}
+use Rattle.mini_model.specs.declared.place.Position.TheVariants.{Expr, Stmt, StatementList, BodyList, CommaList, Elsewhere}
 use Rattle.mini_model.specs.Tree.{Tree, Trees, node, none, ◌▸◌, shape_of}
 use Rattle.mini_laws.specs.Value.{Declared, Global, VariableSet}
 use Rattle.mini_kept.specs.Without.{Assured, BodySets}
@@ -171,11 +171,17 @@ is_lexical_shape (shape.VariableDeclaration Let) = true
 is_lexical_shape (shape.VariableDeclaration Const) = true
 is_lexical_shape h = false
 
--- where a declaration is a statement, or the head of a `for`
-abbrev pub may_begin : Position → Bool
-may_begin (Stmt q) = true
-may_begin (Expr s) = s.unused
-may_begin p = false
+-- where a declaration is a statement, the head of a `for`, or exported, if the node stands in an export
+abbrev pub may_begin : Bool → Position → Bool
+may_begin b (Stmt q) = true
+may_begin b (Expr s) = s.unused
+may_begin b Elsewhere = b
+may_begin b p = false
+
+-- an export of a declaration, or of names
+abbrev pub is_export : Shape → Bool
+is_export shape.ExportNamedDeclaration = true
+is_export h = false
 
 abbrev mutual
   pub is_lexical : Tree → Bool

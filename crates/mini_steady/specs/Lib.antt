@@ -5,6 +5,7 @@ pub mod Own
 pub mod Keeping
 pub mod Members
 pub mod Idle
+pub mod Still
 pub mod Functions
 pub mod Arrows
 pub mod Programs

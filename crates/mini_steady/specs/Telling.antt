@@ -195,3 +195,6 @@ told_stays c d o q u k r =
 -- a context tells of the program that it knows
 pub told_known : (c : TraverseCtx) (o : CompressOptions) (q : Tree) → Knows c o q → told_by c.scopes ≡ told_in q
 told_known c o q k = tells_all c.scopes q (length k.told.reads) k.refreshed.told
+
+pub ordered_known : (c : TraverseCtx) (o : CompressOptions) (q : Tree) → Knows c o q → c.options ≡ o
+ordered_known c o q k = k.options

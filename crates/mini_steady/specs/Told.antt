@@ -1,5 +1,5 @@
 -- What a look at a program tells of its bodies, and what the tables of a context tell.
-use Rattle.std.specs.Prelude.{ℕ, Bool, false, not, ◌&&◌, ◌||◌}
+use Rattle.std.specs.Prelude.{ℕ, Bool, true, false, not, ◌&&◌, ◌||◌}
 use Rattle.std.specs.List.{list_any}
 use Rattle.mini_model.specs.Tree.{Tree}
 use Rattle.mini_laws.specs.Bodies.{bodies_in}
@@ -8,6 +8,8 @@ use Rattle.mini_laws.specs.Mentions.{is_among}
 use Rattle.mini_laws.specs.Shared.{is_shared}
 use Rattle.mini_laws.specs.Value.{Declared, Global, VariableSet}
 use Rattle.mini_kept.specs.Without.{BodySets}
+use Rattle.mini_tree.specs.declared.options.CompressOptions.{CompressOptions}
+use Rattle.mini_tree.specs.Options.{default_options}
 use Rattle.mini_context.specs.Asking.{asks_as}
 use Rattle.mini_context.specs.Facts.{Facts}
 use Rattle.mini_context.specs.Steady.{has_this, is_initial, is_past, is_steady, is_unshared}
@@ -48,3 +50,9 @@ told_by f b = record {
   initial = of_symbols (λ s. is_past f s || is_initial f s b);
   has_this = has_this f b;
 }
+
+-- ---- where no options are told
+
+-- all names stay
+abbrev pub all_names_stay : CompressOptions
+all_names_stay = record default_options { keep_names = record { function = true; class = true } }

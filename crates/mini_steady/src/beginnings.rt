@@ -3,7 +3,7 @@
 ghost use Rattle.std.specs.Prelude.{◌≡◌, ◌<◌, OnOk};
 ghost use Rattle.mini_model.specs.Tree.{children, count};
 ghost use Rattle.mini_node.specs.Children.{trees_of};
-ghost use Rattle.mini_rows.specs.Steady.{beginning, lists_lexical as lists_it_lexical};
+ghost use Rattle.mini_rows.specs.Steady.{beginning, enters_lexical as enters_it_lexical};
 ghost use Rattle.mini_steady.specs.Declarations as row;
 ghost use Rattle.mini_steady.specs.Own.{BeginsBesides};
 
@@ -19,13 +19,14 @@ fn is_statement_list(shape: &Shape, place: Position) -> bool
     matches!(shape, Shape::Listed) && matches!(place, Position::StatementList | Position::BodyList)
 }
 
-// Where a declaration is a statement or the head of a `for`.
-fn may_begin(place: Position) -> bool
-    ensures { result ≡ row.may_begin place }
+// Where a declaration is a statement, the head of a `for`, or exported, if the node stands in an export.
+fn may_begin(place: Position, in_lexical: bool) -> bool
+    ensures { result ≡ row.may_begin in_lexical place }
 {
     match place {
         Position::Stmt(_) => true,
         Position::Expr(seat) => seat.unused,
+        Position::Elsewhere => in_lexical,
         _ => false,
     }
 }
@@ -75,12 +76,19 @@ fn begins_head(shape: &Shape, place: Position, at: usize, in_lexical: bool) -> b
     is_for(shape) && at == 0 || is_for_each(shape) && at == 1
 }
 
-/// Whether the children of a node are the list of a `let` or a `const`.
-#[tactic(auto, using(crate::proofs::Behind::lists_it))]
-pub fn lists_lexical(shape: &Shape, place: Position) -> bool
-    ensures { result ≡ lists_it_lexical shape.now place }
+/// Whether the children of a node are the list of a `let` or a `const`, or stand in an export; and the node itself may.
+#[tactic(auto, using(crate::proofs::Behind::enters_it))]
+pub fn enters_lexical(shape: &Shape, place: Position, in_lexical: bool) -> bool
+    ensures { result ≡ enters_it_lexical in_lexical shape.now place }
 {
-    is_lexical_shape(shape) && may_begin(place)
+    is_export(shape) || is_lexical_shape(shape) && may_begin(place, in_lexical)
+}
+
+// An export of a declaration, or of names.
+fn is_export(shape: &Shape) -> bool
+    ensures { result ≡ row.is_export shape.now }
+{
+    matches!(shape, Shape::ExportNamedDeclaration)
 }
 
 // A `let` or a `const`.
@@ -93,10 +101,10 @@ fn is_lexical_shape(shape: &Shape) -> bool
     )
 }
 
-// Whether it is one.
+/// Whether it is one.
 #[cycle(heads)]
 #[tactic(auto, using(crate::proofs::Behind::opened_lexical))]
-fn is_lexical(node: &Node) -> bool
+pub fn is_lexical(node: &Node) -> bool
     ensures { result ≡ row.is_lexical node.now }
 {
     is_lexical_shape(node.shape()) || is_negation(node.shape()) && is_lexical_first(node.parts())

@@ -1,8 +1,9 @@
 //! Whether a name with a symbol is declared in a tree.
 
-ghost use Rattle.std.specs.Prelude.{◌≡◌};
-ghost use Rattle.mini_node.specs.Children.{names};
+ghost use Rattle.std.specs.Prelude.{◌≡◌, nat_lt};
+ghost use Rattle.mini_node.specs.Children.{names, trees_of};
 ghost use Rattle.mini_rows.specs.Past as reading;
+ghost use Rattle.mini_rows.specs.Steady.{all_bindings, bindings};
 ghost use Rattle.mini_steady.specs.Leaving as row;
 
 use mini_model::{Name, Shape, SymbolId};
@@ -60,4 +61,46 @@ pub fn any_bind(symbol: SymbolId, nodes: &Nodes) -> bool
         }
     }
     false
+}
+
+/// Whether one is declared in one of these.
+pub fn is_any_bound(symbol: SymbolId, nodes: &[Node]) -> bool
+    ensures { result ≡ reading.any_bind symbol.0 (trees_of nodes.now) }
+{
+    match nodes {
+        [first, rest @ ..] => binds(symbol, first) || is_any_bound(symbol, rest),
+        [] => false,
+    }
+}
+
+// Whether one is declared in a tree more than once.
+#[cycle(twice)]
+#[tactic(auto, using(crate::proofs::Twice::twice_here, crate::proofs::Twice::twice_below))]
+fn is_bound_twice(symbol: SymbolId, node: &Node) -> bool
+    ensures { result ≡ nat_lt 1 (bindings symbol.0 node.now) }
+{
+    let name = node.name();
+    if is_binding(node.shape()) && has_symbol(symbol, name) {
+        is_any_bound(symbol, node.parts())
+    } else {
+        are_bound_twice(symbol, node.parts())
+    }
+}
+
+/// Whether one is declared in these nodes more than once.
+#[cycle(twice)]
+#[tactic(auto, using(crate::proofs::Twice::twice_first, crate::proofs::Twice::twice_later))]
+pub fn are_bound_twice(symbol: SymbolId, nodes: &[Node]) -> bool
+    ensures { result ≡ nat_lt 1 (all_bindings symbol.0 (trees_of nodes.now)) }
+{
+    match nodes {
+        [first, rest @ ..] => {
+            if binds(symbol, first) {
+                is_bound_twice(symbol, first) || is_any_bound(symbol, rest)
+            } else {
+                are_bound_twice(symbol, rest)
+            }
+        }
+        [] => false,
+    }
 }

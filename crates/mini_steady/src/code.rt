@@ -25,7 +25,7 @@ pub struct BodyCode {
     pub declared: Vec<SymbolId>,
     /// Of a place in it, those that were declared before it, and have their values there.
     pub begun: Vec<SymbolId>,
-    /// Whether the place is the list of a `let` or a `const`.
+    /// Whether the place is the list of a `let` or a `const`, or stands in an export.
     pub in_lexical: bool,
 }
 
@@ -119,14 +119,14 @@ pub fn begun_count(code: &BodyCode) -> usize
     code.begun.as_slice().len()
 }
 
-/// Whether the place is the list of a `let` or a `const`.
+/// Whether the place is the list of a `let` or a `const`, or stands in an export.
 pub fn is_in_lexical(code: &BodyCode) -> bool
     ensures { result ≡ code.now.in_lexical }
 {
     code.in_lexical
 }
 
-/// Goes to the children of a node, which may be such a list.
+/// Goes to the children of a node, which may be so.
 pub fn enter_children(code: &mut BodyCode, in_lexical: bool)
     ensures number { code.new.number ≡ code.old.number }
     ensures declared { code.new.declared.items ≡ code.old.declared.items }

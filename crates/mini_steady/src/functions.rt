@@ -5,6 +5,7 @@ ghost use Rattle.mini_model.specs.Tree.{children, count};
 ghost use Rattle.mini_node.specs.Children.{names};
 ghost use Rattle.mini_steady.specs.Functions as row;
 ghost use Rattle.mini_steady.specs.Functions.{AppliedInFunction};
+ghost use Rattle.mini_unused.specs.Allowed.{switches_of};
 
 use crate::code::code_of;
 use crate::own::{OwnRewrites, minimize_own_code};
@@ -42,7 +43,7 @@ pub fn minimize_in_function<S: SteadyNames, W: OwnRewrites<S>>(
     steady: &S,
     rewrites: &W,
 ) -> Result<bool, OutOfMemory>
-    ensures { IfOk result (λ changed. AppliedInFunction W.rows (S.sets steady.now) node.old node.new changed) }
+    ensures { IfOk result (λ changed. AppliedInFunction (W.rows (switches_of (S.orders steady.now))) (S.sets steady.now) node.old node.new changed) }
 {
     if !is_function(node) {
         return Ok(false);

@@ -8,7 +8,7 @@ ghost use Rattle.mini_steady.specs.Declarations as row;
 
 use crate::bindings::is_binding;
 use crate::code::push_name;
-use mini_model::{OutOfMemory, Shape, SymbolId, UnaryOperator, VariableDeclarationKind};
+use mini_model::{Name, OutOfMemory, Shape, SymbolId, UnaryOperator, VariableDeclarationKind};
 use mini_node::{Node, Nodes};
 
 // What declares what its parts do.
@@ -122,5 +122,61 @@ fn push_first_lets(symbols: &mut Vec<SymbolId>, nodes: &[Node]) -> Result<(), Ou
     match nodes {
         [first, ..] => push_lets(symbols, first),
         [] => Ok(()),
+    }
+}
+
+// The symbol of a name is this one.
+#[tactic(auto, using(crate::proofs::Letting::some_listed, crate::proofs::Letting::none_listed))]
+fn has_symbol(symbol: SymbolId, name: &Option<Name>) -> bool
+    ensures { result ≡ row.is_listed symbol.0 (row.symbols_of (names name.now)) }
+{
+    match name {
+        Some(name) => match name.symbol {
+            Some(own) => own.0 == symbol.0,
+            None => false,
+        },
+        None => false,
+    }
+}
+
+/// Whether a node declares a name with the symbol in the scope around it.
+#[cycle(letting)]
+#[tactic(auto, using(crate::proofs::Letting::listed_itself, crate::proofs::Letting::listed_each, crate::proofs::Letting::listed_first, crate::proofs::Letting::listed_class, crate::proofs::Letting::listed_nothing))]
+pub fn is_let_in(symbol: SymbolId, node: &Node) -> bool
+    ensures { result ≡ row.is_listed symbol.0 (row.lets_in node.now) }
+{
+    if is_binding(node.shape()) {
+        has_symbol(symbol, node.name())
+    } else if lets_each(node.shape()) {
+        is_let_among(symbol, node.parts())
+    } else if lets_first(node.shape()) {
+        is_let_first(symbol, node.parts())
+    } else if lets_class(node.shape()) && is_class_first(node.parts()) {
+        is_let_first(symbol, node.parts())
+    } else {
+        false
+    }
+}
+
+// Whether one of these nodes does.
+#[cycle(letting)]
+#[tactic(auto, using(crate::proofs::Letting::listed_more))]
+fn is_let_among(symbol: SymbolId, nodes: &[Node]) -> bool
+    ensures { result ≡ row.is_listed symbol.0 (row.lets_among (trees_of nodes.now)) }
+{
+    match nodes {
+        [first, rest @ ..] => is_let_in(symbol, first) || is_let_among(symbol, rest),
+        [] => false,
+    }
+}
+
+// Whether the first does.
+#[cycle(letting)]
+fn is_let_first(symbol: SymbolId, nodes: &[Node]) -> bool
+    ensures { result ≡ row.is_listed symbol.0 (row.lets_first (trees_of nodes.now)) }
+{
+    match nodes {
+        [first, ..] => is_let_in(symbol, first),
+        [] => false,
     }
 }

@@ -19,6 +19,7 @@ use crate::idle::{drop_idle_parts, drop_idle_statement};
 use crate::leaving::{begins_at, is_this, leave_before, leaves_object};
 use crate::own::OwnRewrites;
 use crate::steady::SteadyNames;
+use crate::still::shorten_idle_parts;
 use mini_choices::{
     are_several, assigned, assigns_plainly, combined, computing, decided, decided_last,
     has_written_key, is_seated, keeps_parentheses, last_place,
@@ -274,7 +275,7 @@ pub fn minimize_members<S: SteadyNames>(
     Ok(true)
 }
 
-// Of an expression: a row of members, or a part of it goes.
+// Of an expression: a row of members, or a part of it goes that has no effect, or is shortened.
 fn minimize_expression<S: SteadyNames>(
     alloc: Global,
     node: &mut Node,
@@ -287,15 +288,18 @@ fn minimize_expression<S: SteadyNames>(
     if minimize_members(alloc, node, seat, body, steady)? {
         return Ok(true);
     }
-    let dropped = drop_idle_parts(alloc, node, seat, body, steady)?;
-    Ok(dropped)
+    if drop_idle_parts(alloc, node, seat, body, steady)? {
+        return Ok(true);
+    }
+    let shortened = shorten_idle_parts(alloc, node, body, steady)?;
+    Ok(shortened)
 }
 
-/// Rows of what keeps its value: of members 35, 38 and 45, and 21 and 22 of what has no effect where the body has its `this`.
+/// Rows of what keeps its value: of members 35, 38 and 45, and 1, 21, 22 and 44 of what has no effect where the body has its `this`.
 pub struct SteadyMembers;
 
 impl<S: SteadyNames> OwnRewrites<S> for SteadyMembers {
-    ghost rows = { SteadyRow };
+    ghost rows = { λ o. SteadyRow };
 
     fn rewrite(
         &self,
@@ -312,9 +316,9 @@ impl<S: SteadyNames> OwnRewrites<S> for SteadyMembers {
         }
     }
 
-    ghost opens = { members_open };
+    ghost opens = { λ o. members_open };
 
-    ghost more = { steady_more };
+    ghost more = { λ o. steady_more };
 
-    ghost keeps = { members_keep };
+    ghost keeps = { λ o. members_keep };
 }

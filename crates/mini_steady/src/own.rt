@@ -1,11 +1,13 @@
 //! Rows of the own code of a body, and a walk over that, children first, past no other body and no node with a number.
 
 ghost use Rattle.std.specs.Prelude.{◌≡◌, true, IfOk, OnOk};
+ghost use Rattle.mini_rows.specs.Switches.{Switches};
 ghost use Rattle.mini_rows.specs.Steady.{OwnRows, ReadsMore, has_body as has_it_body};
 ghost use Rattle.mini_steady.specs.Declarations.{begun_by, known_of};
+ghost use Rattle.mini_unused.specs.Allowed.{switches_of};
 ghost use Rattle.mini_steady.specs.Own.{AppliedHere, AsBefore, KeepsEach, OwnWalked, OwnWalkedBelow, ReadsOpen, is_open as is_it_open, rows_there};
 
-use crate::beginnings::{lists_lexical, push_behind};
+use crate::beginnings::{enters_lexical, push_behind};
 use crate::code::{BodyCode, begun_count, enter_children, is_in_lexical, leave_children};
 use crate::steady::SteadyNames;
 use mini_model::{OutOfMemory, Position, Shape};
@@ -15,8 +17,8 @@ use std::alloc::Global;
 
 /// Rows of the own code of a body, over what tells what is known of bodies.
 pub trait OwnRewrites<S: SteadyNames> {
-    /// By what is known of the body, which nodes are read as which.
-    ghost rows: { OwnRows };
+    /// By what the minifier may do and what is known of the body, which nodes are read as which.
+    ghost rows: { Switches → OwnRows };
 
     /// Writes what a row says that reads the node at its place, in this body, once or more often, and answers true; or leaves it, if none
     /// does, and answers false. The only error is that memory runs out, and then the node is fit only to be dropped.
@@ -28,16 +30,16 @@ pub trait OwnRewrites<S: SteadyNames> {
         body: &BodyCode,
         steady: &S,
     ) -> Result<bool, OutOfMemory>
-        ensures { IfOk result (λ changed. AppliedHere (rows (known_of (S.sets steady.now) body.now)) place node.old node.new changed) };
+        ensures { IfOk result (λ changed. AppliedHere (rows (switches_of (S.orders steady.now)) (known_of (S.sets steady.now) body.now)) place node.old node.new changed) };
 
     /// What has a body or a number no row reads.
-    ghost opens: { ReadsOpen rows };
+    ghost opens: { (o : Switches) → ReadsOpen (rows o) };
 
     /// What they read they read where more variables are known to have values.
-    ghost more: { ReadsMore rows };
+    ghost more: { (o : Switches) → ReadsMore (rows o) };
 
     /// What a row writes is read alike, declares no name that what stood there didn't and no symbol more often, and is lighter.
-    ghost keeps: { KeepsEach rows };
+    ghost keeps: { (o : Switches) → KeepsEach (rows o) };
 }
 
 // What has a body of its own.
@@ -73,7 +75,7 @@ pub fn minimize_own_code<S: SteadyNames, W: OwnRewrites<S>>(
     steady: &S,
     rewrites: &W,
 ) -> Result<bool, OutOfMemory>
-    ensures walked { IfOk result (λ changed. OwnWalked (rows_there W.rows (S.sets steady.now) body.old) (begun_by body.old) place node.old node.new changed) }
+    ensures walked { IfOk result (λ changed. OwnWalked (rows_there (W.rows (switches_of (S.orders steady.now))) (S.sets steady.now) body.old) (begun_by body.old) place node.old node.new changed) }
     ensures body { OnOk result (AsBefore body.old body.new) }
 {
     if !is_open(node) {
@@ -95,13 +97,13 @@ fn minimize_parts<S: SteadyNames, W: OwnRewrites<S>>(
     rewrites: &W,
 ) -> Result<bool, OutOfMemory>
     requires { is_it_open node.old ≡ true }
-    ensures walked { IfOk result (λ changed. OwnWalkedBelow (rows_there W.rows (S.sets steady.now) body.old) (begun_by body.old) place node.old node.new changed) }
+    ensures walked { IfOk result (λ changed. OwnWalkedBelow (rows_there (W.rows (switches_of (S.orders steady.now))) (S.sets steady.now) body.old) (begun_by body.old) place node.old node.new changed) }
     ensures body { OnOk result (AsBefore body.old body.new) }
 {
     let count = node.children().len();
     let before = begun_count(body);
     let was_lexical = is_in_lexical(body);
-    enter_children(body, lists_lexical(node.shape(), place));
+    enter_children(body, enters_lexical(node.shape(), place, was_lexical));
     let mut changed = false;
     for at in 0..count {
         let stands = child_place(node.shape(), place, count, at);

@@ -4,6 +4,7 @@ ghost use Rattle.std.specs.Prelude.{◌≡◌, true, IfOk};
 ghost use Rattle.mini_model.specs.Tree.{children, count};
 ghost use Rattle.mini_steady.specs.Parts as row;
 ghost use Rattle.mini_steady.specs.Parts.{AppliedInPart};
+ghost use Rattle.mini_unused.specs.Allowed.{switches_of};
 
 use crate::code::code_of;
 use crate::functions::has_no_name;
@@ -33,7 +34,7 @@ pub fn minimize_in_part<S: SteadyNames, W: OwnRewrites<S>>(
     steady: &S,
     rewrites: &W,
 ) -> Result<bool, OutOfMemory>
-    ensures { IfOk result (λ changed. AppliedInPart W.rows (S.sets steady.now) place node.old node.new changed) }
+    ensures { IfOk result (λ changed. AppliedInPart (W.rows (switches_of (S.orders steady.now))) (S.sets steady.now) place node.old node.new changed) }
 {
     if !is_part(node) {
         return Ok(false);

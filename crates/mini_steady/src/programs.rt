@@ -4,6 +4,7 @@ ghost use Rattle.std.specs.Prelude.{◌≡◌, true, IfOk};
 ghost use Rattle.mini_model.specs.Tree.{children, count};
 ghost use Rattle.mini_steady.specs.Programs as row;
 ghost use Rattle.mini_steady.specs.Programs.{AppliedInProgram};
+ghost use Rattle.mini_unused.specs.Allowed.{switches_of};
 
 use crate::code::code_of;
 use crate::functions::has_no_name;
@@ -32,7 +33,7 @@ pub fn minimize_in_program<S: SteadyNames, W: OwnRewrites<S>>(
     steady: &S,
     rewrites: &W,
 ) -> Result<bool, OutOfMemory>
-    ensures { IfOk result (λ changed. AppliedInProgram W.rows (S.sets steady.now) node.old node.new changed) }
+    ensures { IfOk result (λ changed. AppliedInProgram (W.rows (switches_of (S.orders steady.now))) (S.sets steady.now) node.old node.new changed) }
 {
     if !is_program(node) {
         return Ok(false);

@@ -13,6 +13,7 @@ ghost use Rattle.mini_steady.specs.Programs.{holds_program as may_hold_program, 
 ghost use Rattle.mini_rows.specs.OwnParts.{OwnPart};
 ghost use Rattle.mini_steady.specs.Parts.{PartRests};
 ghost use Rattle.mini_steady.specs.Lighter.{arrow_lighter, function_lighter, part_lighter, program_lighter};
+ghost use Rattle.mini_unused.specs.Allowed.{switches_of};
 
 use crate::arrows::minimize_in_arrow;
 use crate::functions::minimize_in_function;
@@ -33,15 +34,20 @@ pub trait SteadyContext: Context + SteadyNames {
 
     /// It tells that of the program that it knows.
     ghost told: { (c : Self) (o : CompressOptions) (q : Tree) → Self.knows c o q → Self.sets c ≡ steady q };
+
+    /// And its options are what it says that the minifier may do.
+    ghost ordered: { (c : Self) (o : CompressOptions) (q : Tree) → Self.knows c o q → Self.orders c ≡ o };
 }
 
 impl SteadyContext for TraverseCtx {
     ghost use Rattle.mini_steady.specs.Told.{told_in};
-    ghost use Rattle.mini_steady.specs.Telling.{told_known};
+    ghost use Rattle.mini_steady.specs.Telling.{ordered_known, told_known};
 
     ghost steady = { told_in };
 
     ghost told = { told_known };
+
+    ghost ordered = { ordered_known };
 }
 
 // Whether a function may stand there.
@@ -61,11 +67,11 @@ pub struct InFunctions<W> {
 }
 
 impl<C: SteadyContext, W: OwnRewrites<C>> Rule<C> for InFunctions<W> {
-    ghost gives = { λ o q. OwnFunction W.rows (C.steady q) };
+    ghost gives = { λ o q. OwnFunction (W.rows (switches_of o)) (C.steady q) };
 
-    ghost rests = { λ o q. Rests W.rows (C.steady q) };
+    ghost rests = { λ o q. Rests (W.rows (switches_of o)) (C.steady q) };
 
-    ghost lighter = { λ o q. function_lighter W.rows W.keeps (C.steady q) };
+    ghost lighter = { λ o q. function_lighter (W.rows (switches_of o)) (W.keeps (switches_of o)) (C.steady q) };
 
     fn apply(
         &self,
@@ -95,11 +101,11 @@ pub struct InArrows<W> {
 }
 
 impl<C: SteadyContext, W: OwnRewrites<C>> Rule<C> for InArrows<W> {
-    ghost gives = { λ o q. OwnArrow W.rows (C.steady q) };
+    ghost gives = { λ o q. OwnArrow (W.rows (switches_of o)) (C.steady q) };
 
-    ghost rests = { λ o q. ArrowRests W.rows (C.steady q) };
+    ghost rests = { λ o q. ArrowRests (W.rows (switches_of o)) (C.steady q) };
 
-    ghost lighter = { λ o q. arrow_lighter W.rows W.keeps (C.steady q) };
+    ghost lighter = { λ o q. arrow_lighter (W.rows (switches_of o)) (W.keeps (switches_of o)) (C.steady q) };
 
     fn apply(
         &self,
@@ -129,11 +135,11 @@ pub struct InPrograms<W> {
 }
 
 impl<C: SteadyContext, W: OwnRewrites<C>> Rule<C> for InPrograms<W> {
-    ghost gives = { λ o q. OwnProgram W.rows (C.steady q) };
+    ghost gives = { λ o q. OwnProgram (W.rows (switches_of o)) (C.steady q) };
 
-    ghost rests = { λ o q. ProgramRests W.rows (C.steady q) };
+    ghost rests = { λ o q. ProgramRests (W.rows (switches_of o)) (C.steady q) };
 
-    ghost lighter = { λ o q. program_lighter W.rows W.keeps (C.steady q) };
+    ghost lighter = { λ o q. program_lighter (W.rows (switches_of o)) (W.keeps (switches_of o)) (C.steady q) };
 
     fn apply(
         &self,
@@ -156,11 +162,11 @@ pub struct InParts<W> {
 }
 
 impl<C: SteadyContext, W: OwnRewrites<C>> Rule<C> for InParts<W> {
-    ghost gives = { λ o q. OwnPart W.rows (C.steady q) };
+    ghost gives = { λ o q. OwnPart (W.rows (switches_of o)) (C.steady q) };
 
-    ghost rests = { λ o q. PartRests W.rows (C.steady q) };
+    ghost rests = { λ o q. PartRests (W.rows (switches_of o)) (C.steady q) };
 
-    ghost lighter = { λ o q. part_lighter W.rows W.keeps (C.steady q) };
+    ghost lighter = { λ o q. part_lighter (W.rows (switches_of o)) (W.keeps (switches_of o)) (C.steady q) };
 
     fn apply(
         &self,

@@ -88,7 +88,7 @@ key_spelled k e = spelled_by k (names_key k) (key_number k) refl refl e
 spelled_held : (t : Tree) → is_holder t ≡ true → spelled t ≡ with_key t (respelled (part t 0))
 spelled_held t e = ap (λ b. if b then with_key t (respelled (part t 0)) else t) e
 
-spelled_row : (n : Tree) → is_spelled n ≡ true → Row52Held n (spelled n)
+pub spelled_row : (n : Tree) → is_spelled n ≡ true → Row52Held n (spelled n)
 spelled_row n e =
     let (holds, spells) = and_parts (is_holder n) (respells (part n 0)) e in
     let h = held_is n holds in
@@ -127,7 +127,7 @@ bare_shape_is of_target = refl
 bare_shape_is (of_method kind is_static) = refl
 bare_shape_is (of_field is_static) = refl
 
-bare_row : (n : Tree) → drops_brackets n ≡ true → Row52Bare n (bare n)
+pub bare_row : (n : Tree) → drops_brackets n ≡ true → Row52Bare n (bare n)
 bare_row n e =
     let (bracketed, others) = and_parts (is_bracketed n) (is_inner (part n 0) && (is_literal_key false (bracketed_key n) && not (keeps (shape_of n) (shape_of (bracketed_key n))))) e in
     let (inner, rest) = and_parts (is_inner (part n 0)) (is_literal_key false (bracketed_key n) && not (keeps (shape_of n) (shape_of (bracketed_key n)))) others in
@@ -216,7 +216,7 @@ quoted_respells (of_whole n) i =
     let s = signed_decimal (pos n) in
     ap (λ o. is_identifier_name s || is_some (whole_of o)) (number_of_text s (pos n) (i, refl)) ∙ or_true (is_identifier_name s)
 
-held_reads : (n w : Tree) → Row52Held n w → is_spelled n ≡ true
+pub held_reads : (n w : Tree) → Row52Held n w → is_spelled n ≡ true
 held_reads n w r = ap is_spelled r.shape ∙ ap (λ b. b && respells (part (holding r.holder (quoted r.spelling) r.value) 0)) (held r.holder (quoted r.spelling) r.value) ∙ quoted_respells r.spelling r.is_spelling
 
 still_by : (k : Tree) (b : Bool) (o : Option ℤ) → b || is_some o ≡ false → respelled_by b o k ≡ k
@@ -224,7 +224,7 @@ still_by k false None e = refl
 still_by k false (Some n) e = absurd (cc e)
 still_by k true o e = absurd (cc e)
 
-bare_reads : (n w : Tree) → Row52Bare n w → drops_brackets n ≡ true
+pub bare_reads : (n w : Tree) → Row52Bare n w → drops_brackets n ≡ true
 bare_reads n w r = ap drops_brackets r.shape ∙ dropped r.member r.number r.key r.value r.is_key r.loses
 
 later_said : (a b : Bool) → b ≡ true → a || b ≡ true
@@ -246,14 +246,14 @@ rests p n e w r = false≢true (sym e ∙ reads p n w r)
 same_key : (t : Tree) → is_holder t ≡ true → respelled (part t 0) ≡ part t 0 → with_key t (respelled (part t 0)) ≡ t
 same_key t h e = let x = held_is t h in ap (λ k. with_key t k) e ∙ ap (λ u. with_key u (part t 0)) x.shape ∙ sym x.shape
 
-unspelled : (n : Tree) → is_spelled n ≡ false → spelled n ≡ n
+pub unspelled : (n : Tree) → is_spelled n ≡ false → spelled n ≡ n
 unspelled n e = go (is_holder n) refl e
   where
     go : (b : Bool) → is_holder n ≡ b → b && respells (part n 0) ≡ false → spelled n ≡ n
     go true h k = spelled_held n h ∙ same_key n h (still_by (part n 0) (names_key (part n 0)) (key_number (part n 0)) k)
     go false h k = ap (λ b. if b then with_key n (respelled (part n 0)) else n) h
 
-neither : (a b : Bool) → a || b ≡ false → (a ≡ false) × (b ≡ false)
+pub neither : (a b : Bool) → a || b ≡ false → (a ≡ false) × (b ≡ false)
 neither true b e = absurd (false≢true (sym e))
 neither false b e = (refl, e)
 

@@ -44,7 +44,7 @@ some_is x y e = cc e
 
 -- 65
 
-boolean_follows : (t w : Tree) → substituted.written t ≡ Some w → Row65 t w
+pub boolean_follows : (t w : Tree) → substituted.written t ≡ Some w → Row65 t w
 boolean_follows t w e = go (boolean_of t) refl e
   where
     go : (o : Option Bool) → boolean_of t ≡ o → substituted.digit_of o ≡ Some w → Row65 t w
@@ -82,7 +82,7 @@ numbered_follows (node (shape.ComputedMemberExpression false) [] zero (o ▸ k �
     go None h e = absurd (cc e)
 numbered_follows t n e = absurd (cc e)
 
-turned_follows : (t w : Tree) → turned t ≡ Some w → Row33 t w
+pub turned_follows : (t w : Tree) → turned t ≡ Some w → Row33 t w
 turned_follows t w e = go (named_member t) (numbered_member t) refl refl e
   where
     go : (b : Option Bool) (n : Option ℤ) → named_member t ≡ b → numbered_member t ≡ n → dotted.turned_by b n t ≡ Some w → Row33 t w
@@ -103,14 +103,14 @@ number_misses o n safe e = go (is_identifier_name (signed_decimal n)) refl
     go true h = absurd (cc (sym (step true h) ∙ e))
     go false h = absurd (cc (sym (step false h) ∙ e))
 
-turned_misses : (t w : Tree) → Row33 t w → turned t ≡ None → ⊥
+pub turned_misses : (t w : Tree) → Row33 t w → turned t ≡ None → ⊥
 turned_misses t w (inl r) e =
     let named : turned (computed_member r.is_optional r.object (text r.name)) ≡ Some (static_member r.is_optional r.object (key r.name)) = ap (λ c. dotted.turned_by (if c then Some r.is_optional else None) (numbered_member (computed_member r.is_optional r.object (text r.name))) (computed_member r.is_optional r.object (text r.name))) r.is_name in
     absurd (cc (sym named ∙ sym (ap turned r.shape) ∙ e))
 turned_misses t w (inr r) e = number_misses r.object r.number r.is_safe (sym (ap turned r.shape) ∙ e)
 
 module _ (t : Tree) where
-  assigned_follows : (w : Tree) → dotted.assigned t ≡ Some w → Row33Assigned t w
+  pub assigned_follows : (w : Tree) → dotted.assigned t ≡ Some w → Row33Assigned t w
   assigned_follows w e = go (assignment_operator t) (turned (part t 0)) refl refl e
     where
       go : (o : Option AssignmentOperator) (m : Option Tree) → assignment_operator t ≡ o → turned (part t 0) ≡ m → dotted.assigned_by o m t ≡ Some w → Row33Assigned t w
@@ -122,7 +122,7 @@ update_is : (t : Tree) (o : UpdateOperator) (l : Bool) → update_operator t ≡
 update_is (node (shape.UpdateExpression p m) [] zero (a ▸ none)) o l e = ap (λ x. update x.0 x.1 a) (some_is (p, m) (o, l) e)
 update_is t o l e = absurd (cc e)
 
-updated_follows : (t w : Tree) → dotted.updated t ≡ Some w → Row33Updated t w
+pub updated_follows : (t w : Tree) → dotted.updated t ≡ Some w → Row33Updated t w
 updated_follows t w e = go (update_operator t) (turned (part t 0)) refl refl e
   where
     go : (o : Option (UpdateOperator × Bool)) (m : Option Tree) → update_operator t ≡ o → turned (part t 0) ≡ m → dotted.updated_by o m ≡ Some w → Row33Updated t w
@@ -152,7 +152,7 @@ loose_is t o e = go (binary_operator t) refl e
     go (Some p) h e = by p h (loose.is_loose p) refl e
     go None h e = absurd (cc e)
 
-loose_row : (t w : Tree) → loose.written t ≡ Some w → Row58Left t w ⊎ Row58Right t w
+pub loose_row : (t w : Tree) → loose.written t ≡ Some w → Row58Left t w ⊎ Row58Right t w
 loose_row t w e = go (loose.loose_operator t) refl e
   where
     by : (o : BinaryOperator) → loose.loose_operator t ≡ Some o → (a b : Bool) → is_undefined (part t 0) ≡ a → is_undefined (part t 1) ≡ b → (if a then Some (binary o null_literal (part t 1)) else (if b then Some (binary o (part t 0) null_literal) else None)) ≡ Some w → Row58Left t w ⊎ Row58Right t w
@@ -165,7 +165,7 @@ loose_row t w e = go (loose.loose_operator t) refl e
     go None h e = absurd (cc e)
 
 -- where nothing is written, neither side is undefined
-unwritten_sides : (o : BinaryOperator) (a b : Tree) → IsLoose o → loose.written (binary o a b) ≡ None → (is_undefined a ≡ false) × (is_undefined b ≡ false)
+pub unwritten_sides : (o : BinaryOperator) (a b : Tree) → IsLoose o → loose.written (binary o a b) ≡ None → (is_undefined a ≡ false) × (is_undefined b ≡ false)
 unwritten_sides o a b l e = go (is_undefined a) (is_undefined b) refl refl
   where
     step : loose.written (binary o a b) ≡ loose.written_by (Some o) a b
@@ -178,7 +178,7 @@ unwritten_sides o a b l e = go (is_undefined a) (is_undefined b) refl refl
 
 -- 54
 
-swap_row : (t w : Tree) → swap.written t ≡ Some w → Row54 t w
+pub swap_row : (t w : Tree) → swap.written t ≡ Some w → Row54 t w
 swap_row t w e = go (binary_operator t) refl e
   where
     by : (o : BinaryOperator) → binary_operator t ≡ Some o → (c : Bool) → (is_equality o && (is_plain (part t 0) && swap.is_ready (part t 1))) ≡ c → swap.written_by (if c then Some o else None) (part t 0) (part t 1) ≡ Some w → Row54 t w
@@ -202,7 +202,7 @@ swap_row t w e = go (binary_operator t) refl e
     go (Some o) h e = by o h (is_equality o && (is_plain (part t 0) && swap.is_ready (part t 1))) refl e
     go None h e = absurd (cc e)
 
-swap_misses : (t w : Tree) → Row54 t w → swap.written t ≡ None → ⊥
+pub swap_misses : (t w : Tree) → Row54 t w → swap.written t ≡ None → ⊥
 swap_misses t w r e =
     let swaps : (is_equality r.operator && (is_plain (plain r.left) && swap.is_ready r.right)) ≡ true = ap (λ c. c && (is_plain (plain r.left) && swap.is_ready r.right)) r.equality ∙ ap (λ c. c && swap.is_ready r.right) (plain_passes r.left) ∙ ready_passes r.right r.ready r.outer in
     let step : swap.written (binary r.operator (plain r.left) r.right) ≡ Some (binary r.operator r.right (plain r.left)) = ap (λ c. swap.written_by (if c then Some r.operator else None) (plain r.left) r.right) swaps in
@@ -242,7 +242,7 @@ typeof_value_is t e = let (over, operand) = and_parts (is_typeof (unary_operator
     go (Some o) h v k = absurd (cc v)
     go None h v k = absurd (cc v)
 
-value_row : (t w : Tree) → by_value.written t ≡ Some w → Row55Value t w
+pub value_row : (t w : Tree) → by_value.written t ≡ Some w → Row55Value t w
 value_row t w e = go (binary_operator t) refl (by_value.is_typeof_value (part t 0) && is_undefined_text (string (part t 1))) refl e
   where
     by : (o : BinaryOperator) → binary_operator t ≡ Some o → (by_value.is_typeof_value (part t 0) && is_undefined_text (string (part t 1))) ≡ true → (c : Bool) → is_equality o ≡ c → by_value.written_by (if c then Some (strict_operator o) else None) (part (part t 0) 0) ≡ Some w → Row55Value t w
@@ -285,14 +285,14 @@ order_row t w p e made = go (binary_operator t) refl (typeof.is_typeof_name (par
     go (Some o) h false f e = absurd (cc e)
     go None h b f e = absurd (cc e)
 
-typeof_row : (t w : Tree) → typeof.written t ≡ Some w → Row55 t w ⊎ Row55Value t w
+pub typeof_row : (t w : Tree) → typeof.written t ≡ Some w → Row55 t w ⊎ Row55Value t w
 typeof_row t w e = go (typeof.order t) refl e
   where
     go : (x : Option BinaryOperator) → typeof.order t ≡ x → typeof.written_by x (part t 0) (by_value.written t) ≡ Some w → Row55 t w ⊎ Row55Value t w
     go (Some o) h e = inl (order_row t w o h (some_is (binary o (part t 0) (text (codes "u"))) w e))
     go None h e = inr (value_row t w e)
 
-typeof_misses : (t w : Tree) → Row55 t w → typeof.written t ≡ None → ⊥
+pub typeof_misses : (t w : Tree) → Row55 t w → typeof.written t ≡ None → ⊥
 typeof_misses t w r e =
     let long : Tree = binary r.operator (typeof_name r.name) (text (codes "undefined")) in
     let step : typeof.written long ≡ Some (binary (ordered r.operator) (typeof_name r.name) (text (codes "u"))) = ap (λ c. typeof.written_by (if c then Some (ordered r.operator) else None) (typeof_name r.name) (by_value.written long)) r.equality in
@@ -306,11 +306,14 @@ no_value t e = go (typeof.order t) e
     go (Some o) e = absurd (cc e)
     go None e = e
 
-value_misses : (t w : Tree) → Row55Value t w → typeof.written t ≡ None → ⊥
-value_misses t w r e =
+pub value_unwritten : (t w : Tree) → Row55Value t w → by_value.written t ≡ None → ⊥
+value_unwritten t w r e =
     let long : Tree = binary r.operator (unary Typeof r.operand) (text (codes "undefined")) in
     let step : by_value.written long ≡ Some (binary (strict_operator r.operator) r.operand void_zero) = ap (λ b. by_value.written_by (by_value.strict_in (Some r.operator) (b && true)) r.operand) r.value ∙ ap (λ c. by_value.written_by (if c then Some (strict_operator r.operator) else None) r.operand) r.equality in
-    absurd (cc (sym step ∙ sym (ap by_value.written r.shape) ∙ no_value t e))
+    absurd (cc (sym step ∙ sym (ap by_value.written r.shape) ∙ e))
+
+pub value_misses : (t w : Tree) → Row55Value t w → typeof.written t ≡ None → ⊥
+value_misses t w r e = value_unwritten t w r (no_value t e)
 
 -- 60
 
@@ -318,7 +321,7 @@ yield_is : (t : Tree) → yielding.yields_void_zero t ≡ true → t ≡ yields 
 yield_is (node (shape.YieldExpression false) [] zero (a ▸ none)) e = ap yields (void_zero_is a e)
 yield_is t e = absurd (cc e)
 
-yield_row : (t w : Tree) → yielding.written t ≡ Some w → Row60Yield t w
+pub yield_row : (t w : Tree) → yielding.written t ≡ Some w → Row60Yield t w
 yield_row t w e = go (yielding.yields_void_zero t) refl e
   where
     go : (c : Bool) → yielding.yields_void_zero t ≡ c → (if c then Some (yields absent) else None) ≡ Some w → Row60Yield t w
@@ -327,7 +330,7 @@ yield_row t w e = go (yielding.yields_void_zero t) refl e
 
 -- 19
 
-template_row : (t w : Tree) → templates.written t ≡ Some w → Row19 t w
+pub template_row : (t w : Tree) → templates.written t ≡ Some w → Row19 t w
 template_row t w e = go (is_text_template t) refl e
   where
     over : (l : Bool) (raw s : List ℕ) → t ≡ template l raw s → (c : Bool) → nat_le (length s) (length raw) ≡ c → (if c then Some (text s) else None) ≡ Some w → Row19 t w
@@ -341,7 +344,7 @@ template_row t w e = go (is_text_template t) refl e
     go true h e = told (template_told t h) e
     go false h e = absurd (cc e)
 
-template_misses : (l : Bool) (raw s : List ℕ) → nat_le (length s) (length raw) ≡ true → templates.written (template l raw s) ≡ None → ⊥
+pub template_misses : (l : Bool) (raw s : List ℕ) → nat_le (length s) (length raw) ≡ true → templates.written (template l raw s) ≡ None → ⊥
 template_misses l raw s h e = absurd (cc (sym (ap (λ b. if b then Some (text s) else None) h) ∙ e))
 
 -- all

@@ -1,7 +1,6 @@
 -- The constant of an expression as it is calculated, of children and of the parts of a template, one after another; and that it is the Const.
-use Rattle.std.proofs.Common.{◌≡◌, ℕ, zero, suc, ◌<◌, ◌+◌, ◌≤◌, Bool, true, false, List, [], ◌∷◌, Option, Some, None, refl, sym, ap, subst, ◌∙◌, true≢false, eqb-true, arith}
-use Rattle.std.specs.Prelude.{ℤ, pos, ◌-◌, ◌&&◌, ◌++◌, length, nat_eq, nat_le, codes, if◌then◌else◌}
-use Rattle.std.proofs.lemmas.Bool.{and_parts}
+use Rattle.std.proofs.Common.{◌≡◌, ℕ, zero, suc, ◌<◌, ◌≤◌, Bool, true, false, List, [], ◌∷◌, Option, Some, None, refl, sym, ap, subst, ◌∙◌, eqb-true, arith}
+use Rattle.std.specs.Prelude.{pos, ◌-◌, ◌&&◌, ◌++◌, length, nat_eq, nat_le, codes, if◌then◌else◌}
 use Rattle.mini_model.specs.Numerals.{max_safe_integer}
 use Rattle.mini_model.specs.declared.operator.BinaryOperator.{BinaryOperator}
 use Rattle.mini_model.specs.declared.operator.LogicalOperator.{LogicalOperator}
@@ -11,11 +10,10 @@ use Rattle.mini_model.specs.declared.shape.Shape.{Shape}
 use Rattle.mini_model.specs.declared.shape.Shape.TheVariants as shape
 use Rattle.mini_model.specs.Tree.{Tree, Trees, node, none, ◌▸◌, listed, children, count, shape_of, child_or_absent}
 use Rattle.mini_model.specs.Weight.{same_text}
-use Rattle.mini_node.specs.Children.{part, names_of, rest_children}
-use Rattle.mini_node.specs.Walks.{from_first, next_child, no_rest}
+use Rattle.mini_node.specs.Children.{part, names_of}
 use Rattle.mini_laws.specs.Value.{Value, Number, String, truth, choose}
 use Rattle.mini_laws.specs.Expressions.{first_kind}
-use Rattle.mini_laws.specs.Naming.{NameKind, UndefinedName, kinds, facts, texts_all}
+use Rattle.mini_laws.specs.Naming.{NameKind, kinds, facts, texts_all}
 use Rattle.mini_laws.specs.Conversion.{to_number}
 use Rattle.mini_terms.specs.Calculated.{undefined_if, as_number, calculated_unary, unary_value}
 use Rattle.mini_terms.specs.Const.{name_const, unary_const, binary_const, logical_const, conditional_const, member_const, text_of, all_texts, cons_text, template_const, nth_const, last_const, nth_texts, const_by, const, each_const, texts_in, each_texts, Agrees}

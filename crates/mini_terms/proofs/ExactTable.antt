@@ -1,5 +1,5 @@
 -- Terms of a node by its shape and its children.
-use Rattle.std.proofs.Common.{◌≡◌, ℕ, zero, suc, ◌<◌, ◌≤◌, Bool, true, false, refl, sym, ap, ◌∙◌, arith}
+use Rattle.std.proofs.Common.{◌≡◌, Bool, true, false, refl, arith}
 use Rattle.mini_model.specs.declared.operator.UnaryOperator.TheVariants.{Void}
 use Rattle.mini_model.specs.declared.seat.Guard.{Guard}
 use Rattle.mini_model.specs.declared.shape.Shape.{Shape}
@@ -9,7 +9,7 @@ use Rattle.mini_node.specs.Children.{part, names_of}
 use Rattle.mini_laws.specs.Naming.{kinds}
 use Rattle.mini_terms.specs.Exact.{int32_by, is_int32_or_uint32, is_over_zero, is_text_alone, undefined_by, is_expression_undefined, asks_guard, is_guarded}
 use Rattle.mini_terms.specs.Kind.{each_kind}
-use Rattle.mini_terms.specs.Plain.{is_zero, has_no_items, is_literal, plain_by, plain}
+use Rattle.mini_terms.specs.Plain.{is_zero, has_no_items, is_literal, plain}
 
 pub int32_is : (t : Tree) → is_int32_or_uint32 t ≡ int32_by (shape_of t) (each_kind (children t))
 int32_is (node h xs n ts) = refl

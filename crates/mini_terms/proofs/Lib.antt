@@ -21,3 +21,4 @@ pub mod Deep
 pub mod TextNumbers
 pub mod ConstantTable
 pub mod ExactTable
+pub mod Int32Table

@@ -15,7 +15,7 @@ use Rattle.mini_laws.specs.Expressions.{first_kind}
 use Rattle.mini_terms.specs.Calculated.{undefined_if, unary_value}
 use Rattle.mini_terms.specs.Const.{binary_const, logical_const, conditional_const, text_of, nth_const, last_const, const, Agrees}
 use Rattle.mini_terms.specs.Evident.{are_lists}
-use Rattle.mini_terms.specs.Kind.{Kind, is_undefined_name, kind}
+use Rattle.mini_terms.specs.Kind.{is_undefined_name, kind}
 use Rattle.mini_terms.specs.Templates.{cooked_in, joined_text, last_text, text_value}
 use Rattle.mini_terms.specs.Sound.{Gives}
 use Rattle.mini_terms.specs.Truth.{truth_by}

@@ -1,13 +1,13 @@
 -- Terms of small expressions, computed: each was worked out by hand.
-use Rattle.std.specs.Prelude.{◌≡◌, refl, true, false, [], ◌∷◌, Some, None, codes, pos}
+use Rattle.std.specs.Prelude.{◌≡◌, refl, true, false, [], Some, None, codes, pos}
 use Rattle.mini_model.specs.declared.operator.BinaryOperator.TheVariants as binary
 use Rattle.mini_model.specs.declared.operator.UnaryOperator.TheVariants as unary
 use Rattle.mini_model.specs.declared.seat.Guard.TheVariants as guard
 use Rattle.mini_model.specs.declared.shape.Shape.TheVariants as shape
 use Rattle.mini_model.specs.Tree.{none, ◌▸◌, leaf, listed, negation}
 use Rattle.mini_model.specs.Tree as tree
-use Rattle.mini_laws.specs.Value.{Undefined, Number, String}
-use Rattle.mini_laws.specs.Samples.{global, local, number, text, null, binary, called, member, sequence}
+use Rattle.mini_laws.specs.Value.{Undefined, Number}
+use Rattle.mini_laws.specs.Samples.{global, local, number, text, binary, called, sequence}
 use Rattle.mini_terms.specs.Constant.{constant, constant_truth}
 use Rattle.mini_terms.specs.Exact.{is_int32_or_uint32, is_expression_undefined, is_guarded, by_value, kept_by_value}
 use Rattle.mini_terms.specs.Plain.{void_zero}

@@ -16,3 +16,4 @@ pub mod Constant
 pub mod Exact
 pub mod Examples
 pub mod ExactExamples
+pub mod Int32

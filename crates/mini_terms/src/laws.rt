@@ -2,6 +2,7 @@
 
 ghost use Rattle.mini_terms.specs.Constant.{ConstantIsConst, ConstantTruth};
 ghost use Rattle.mini_terms.specs.Folds.{GoesOnSame, StopsSame, DoesNothing};
+ghost use Rattle.mini_terms.specs.Int32.{Int32Sound};
 ghost use Rattle.mini_terms.specs.Reading.{ReadByValue, SameByValue, SameItem, SameInSeat};
 ghost use Rattle.mini_terms.specs.Sound.{KindSound, EffectFreeSound, ConstSound, TruthSound, TruthOfValue, LitSound};
 
@@ -31,6 +32,11 @@ pub fn constants_are_sound()
 pub fn truth_is_sound()
     ensures test { TruthSound }
     ensures value { TruthOfValue }
+{}
+
+/// The value of what makes a number of 32 bits is a whole number from -2^31 to 2^32 - 1.
+pub fn int32_is_sound()
+    ensures { Int32Sound }
 {}
 
 /// The literal of a value has that value, and does nothing.

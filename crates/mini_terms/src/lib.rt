@@ -28,8 +28,8 @@ pub use folds::{goes_on, has_no_effect, has_one_kind, stops};
 pub use kinds::{Kind, Kind as ValueType};
 pub use known::{is_nullish, is_primitive, kind_of, kind_of as value_type};
 pub use laws::{
-    const_is_sound, constants_are_sound, effect_free_is_sound, kind_is_sound, lit_is_sound,
-    truth_is_sound, values_are_read, what_is_known_goes,
+    const_is_sound, constants_are_sound, effect_free_is_sound, int32_is_sound, kind_is_sound,
+    lit_is_sound, truth_is_sound, values_are_read, what_is_known_goes,
 };
 pub use literals::{
     calculated_binary, copied, evaluate_value, given_value, is_true, operand_value, strictly_equal,

@@ -2,9 +2,9 @@
 use Rattle.mini_model.specs.declared.place.Position.{Position}
 use Rattle.mini_model.specs.Tree.{Tree}
 use Rattle.mini_model.specs.Rewriting.{Reaches, here, done, more}
-use Rattle.mini_laws.specs.Value.{VariableSet}
 use Rattle.mini_rows.specs.Unused.{UnusedRow, UnusedContracts}
 use Rattle.mini_rows.proofs.UnusedWeights.{unused_lighter}
+use Rattle.mini_rows.specs.Switches.{Liberties}
 use Rattle.mini_tree.specs.Rule.{Moves}
 use Rattle.mini_tree.proofs.Reaching.{reaches_trans}
 use Rattle.mini_unused.specs.Chains.{Chain, still, further, Several}
@@ -33,7 +33,7 @@ module _ (R S : Tree → Tree → Type 0) (I : Tree → Type 0) (over : Tree →
 
 -- ---- as steps of the rule
 
-module _ (W : VariableSet) (p : Position) (R : Tree → Tree → Type 0) (read : (t u : Tree) → R t u → UnusedRow W p t u) where
+module _ (W : Liberties) (p : Position) (R : Tree → Tree → Type 0) (read : (t u : Tree) → R t u → UnusedRow W p t u) where
   written : (t u : Tree) → R t u → UnusedContracts W p t u
   written t u r = record { row = read t u r; lighter = unused_lighter W p t u (read t u r) }
 

@@ -2,7 +2,7 @@
 use Rattle.std.specs.Prelude.{ℕ, ◌≡◌, ◌<◌, Bool, true}
 use Rattle.std.proofs.Common.{ap, ◌∙◌, subst, subst₂, arith}
 use Rattle.mini_model.specs.Tree.{Tree, none, ◌▸◌, absent, listed, count, children}
-use Rattle.mini_laws.specs.Value.{VariableSet}
+use Rattle.mini_rows.specs.Inside.{Ends}
 use Rattle.mini_node.specs.Children.{part, with_part}
 use Rattle.mini_node.specs.Kinds.{is_listed}
 use Rattle.mini_rows.specs.declared.inside.Way.TheVariants as way
@@ -15,8 +15,8 @@ use Rattle.mini_unused.proofs.Unused.{same_parts, part_twice, part_with}
 pub above_listed : (a o n : Tree) → a ≡ listed none → n ≡ pushed a o → is_listed n ≡ true
 above_listed a o n e f = ap is_listed f ∙ pushed_listed a o (ap is_listed e)
 
-pub under_walked : (W : VariableSet) (o p l m a n : Tree) (c : Bool) → a ≡ listed none → n ≡ pushed a o → p ≡ o → BelowWalked W (children n) way.Statements l m c → Under W o l p m c
-under_walked W o p l m a n c e f g w = (g, subst (λ us. BelowWalked W us way.Statements l m c) (ap children f ∙ ap (λ z. children (pushed z o)) e) w)
+pub under_walked : (E : Ends) (o p l m a n : Tree) (c : Bool) → a ≡ listed none → n ≡ pushed a o → p ≡ o → BelowWalked E (children n) way.Statements l m c → Under E o l p m c
+under_walked E o p l m a n c e f g w = (g, subst (λ us. BelowWalked E us way.Statements l m c) (ap children f ∙ ap (λ z. children (pushed z o)) e) w)
 
 -- ---- a body
 
@@ -36,9 +36,9 @@ body_list_parts t n o i e f h k = let same = ap (λ u. count (children (part u i
 pub list_parts : (t n o : Tree) → n ≡ with_part t 0 absent → o ≡ n → 0 < count (children t) → 0 < count (children o)
 list_parts t n o e f h = let same = ap (λ u. count (children u)) (f ∙ e) ∙ same_parts t 0 absent in omega (arith, same, h)
 
-pub body_walked : (W : VariableSet) (t : Tree) (i : ℕ) (l n o m u : Tree) (c : Bool) → i < count (children t) → l ≡ part (part t i) 0 → n ≡ with_body_list t i absent → Under W n l o m c → u ≡ with_body_list o i m → UnderBody W t i u c
-body_walked W t i l n o m u c h e f r g =
-    (m, g ∙ ap (λ z. with_body_list z i m) (r.0 ∙ f) ∙ body_twice t i absent m h, subst₂ (λ z b. BelowWalked W (z ▸ none) way.Statements b m c) f e r.1)
+pub body_walked : (E : Ends) (t : Tree) (i : ℕ) (l n o m u : Tree) (c : Bool) → i < count (children t) → l ≡ part (part t i) 0 → n ≡ with_body_list t i absent → Under E n l o m c → u ≡ with_body_list o i m → UnderBody E t i u c
+body_walked E t i l n o m u c h e f r g =
+    (m, g ∙ ap (λ z. with_body_list z i m) (r.0 ∙ f) ∙ body_twice t i absent m h, subst₂ (λ z b. BelowWalked E (z ▸ none) way.Statements b m c) f e r.1)
 
-pub list_walked : (W : VariableSet) (t l n o m u : Tree) (c : Bool) → l ≡ part t 0 → n ≡ with_part t 0 absent → Under W n l o m c → u ≡ with_part o 0 m → UnderList W t u c
-list_walked W t l n o m u c e f r g = (m, g ∙ ap (λ z. with_part z 0 m) (r.0 ∙ f) ∙ part_twice t 0 absent m, subst₂ (λ z b. BelowWalked W (z ▸ none) way.Statements b m c) f e r.1)
+pub list_walked : (E : Ends) (t l n o m u : Tree) (c : Bool) → l ≡ part t 0 → n ≡ with_part t 0 absent → Under E n l o m c → u ≡ with_part o 0 m → UnderList E t u c
+list_walked E t l n o m u c e f r g = (m, g ∙ ap (λ z. with_part z 0 m) (r.0 ∙ f) ∙ part_twice t 0 absent m, subst₂ (λ z b. BelowWalked E (z ▸ none) way.Statements b m c) f e r.1)

@@ -11,7 +11,6 @@ use Rattle.mini_model.specs.Paths.{append}
 use Rattle.mini_laws.specs.Naming as kinds
 use Rattle.mini_laws.specs.Path.{Path, here, inside, join, plug}
 use Rattle.mini_laws.specs.ScopeList.{has_eval, any_has_eval}
-use Rattle.mini_laws.specs.Value.{VariableSet}
 use Rattle.mini_node.specs.Children.{part, with_part, with_child, first_children, rest_children, is_bare, is_nameless}
 use Rattle.mini_node.specs.Kinds.{is_listed, is_listed_shape}
 use Rattle.mini_node.specs.Made.{listed_is}
@@ -19,11 +18,12 @@ use Rattle.mini_node.specs.Walks.{with_same, append_none}
 use Rattle.mini_rows.specs.declared.inside.Way.{Way}
 use Rattle.mini_rows.specs.declared.inside.Way.TheVariants as way
 use Rattle.mini_rows.specs.Declarations.{binding, declarator}
-use Rattle.mini_rows.specs.Inside.{is_way_to, way_in, above, declares_var, ListEnd, HeldEnd, HeadEnd, EndRow}
+use Rattle.mini_rows.specs.Inside.{is_way_to, way_in, above, declares_var, ListEnd, HeldEnd, HeadEnd, EndRow, Ends, unused_ends}
 use Rattle.mini_rows.specs.Lists.{block, declaration, declares_nothing}
 use Rattle.mini_rows.specs.Unused.{resolved, names, any_names, declared_among, head_left, is_idle, lets_go, BlockRow}
 use Rattle.mini_rows.proofs.InsideEnds.{single_left}
 use Rattle.mini_rows.proofs.InsideLoses.{no_way, ways_same}
+use Rattle.mini_rows.specs.Switches.{Liberties}
 use Rattle.mini_unused.specs.Chains.{Several, still}
 use Rattle.mini_unused.specs.RemoveUnusedDeclaration.{open_in, declares_list, declares_name, is_lexical_shape, is_var, is_unused, is_idle_at, head_without, UnusedOf}
 use Rattle.mini_unused.specs.SubstituteSingleUse.{Gone, Removed}
@@ -76,11 +76,11 @@ several_then R t u v a b = record { next = a.next; first = a.first; others = cha
 
 -- ---- a step of a child
 
-module _ (W : VariableSet) (a : Trees) (s : Way) where
+module _ (E : Ends) (a : Trees) (s : Way) where
   abbrev hole : Shape → Trees → ℕ → Tree
   hole h ts i = node h [] 0 (with_child ts i absent)
 
-  lifted : (h : Shape) (ts : Trees) (i : ℕ) (r : Way) → i < count ts → way_in s h i ≡ Some r → (v w : Tree) → InStep W (append a (hole h ts i ▸ none)) r v w → BelowStep W a s (node h [] 0 (with_child ts i v)) (node h [] 0 (with_child ts i w))
+  lifted : (h : Shape) (ts : Trees) (i : ℕ) (r : Way) → i < count ts → way_in s h i ≡ Some r → (v w : Tree) → InStep E (append a (hole h ts i ▸ none)) r v w → BelowStep E a s (node h [] 0 (with_child ts i v)) (node h [] 0 (with_child ts i w))
   lifted h ts i r k e v w m =
       let pre = first_children i ts in
       let post = rest_children (suc i) ts in
@@ -92,20 +92,20 @@ module _ (W : VariableSet) (a : Trees) (s : Way) where
         read = m.read;
         put = m.put;
         way = ap (λ n. is_way_to m.end (way_in s h n) m.place) (count_first ts i k) ∙ ap (λ o. is_way_to m.end o m.place) e ∙ m.way;
-        row = subst (λ us. EndRow m.end W us m.read m.put) around m.row;
+        row = subst (λ us. E us m.end m.read m.put) around m.row;
         shape = ap (λ c. node h [] 0 (with_child ts i c)) m.shape ∙ over (plug m.place m.read);
         written = ap (λ c. node h [] 0 (with_child ts i c)) m.written ∙ over (plug m.place m.put);
         below = λ z. refl;
       }
 
-  steps_lifted : (h : Shape) (ts : Trees) (i : ℕ) (r : Way) → i < count ts → way_in s h i ≡ Some r → (u : Tree) → Several (InStep W (append a (hole h ts i ▸ none)) r) (child_or_absent ts i) u → Several (BelowStep W a s) (node h [] 0 ts) (node h [] 0 (with_child ts i u))
+  steps_lifted : (h : Shape) (ts : Trees) (i : ℕ) (r : Way) → i < count ts → way_in s h i ≡ Some r → (u : Tree) → Several (InStep E (append a (hole h ts i ▸ none)) r) (child_or_absent ts i) u → Several (BelowStep E a s) (node h [] 0 ts) (node h [] 0 (with_child ts i u))
   steps_lifted h ts i r k e u m =
-      subst (λ vs. Several (BelowStep W a s) (node h [] 0 vs) (node h [] 0 (with_child ts i u))) (with_same ts i)
-      (several_over (InStep W (append a (hole h ts i ▸ none)) r) (BelowStep W a s) (λ v. Unit {0}) (λ v. node h [] 0 (with_child ts i v)) (λ v w z q. (lifted h ts i r k e v w q, tt)) (child_or_absent ts i) u tt m)
+      subst (λ vs. Several (BelowStep E a s) (node h [] 0 vs) (node h [] 0 (with_child ts i u))) (with_same ts i)
+      (several_over (InStep E (append a (hole h ts i ▸ none)) r) (BelowStep E a s) (λ v. Unit {0}) (λ v. node h [] 0 (with_child ts i v)) (λ v w z q. (lifted h ts i r k e v w q, tt)) (child_or_absent ts i) u tt m)
 
   -- what the way doesn't go into
-  nothing_lifted : (h : Shape) (ts : Trees) (i : ℕ) (r : Way) → way_in s h i ≡ Some r → ((k : Path) → NothingAt W (append a (hole h ts i ▸ none)) r (child_or_absent ts i) k)
-      → (g : Shape) (xs : List Name) (n : ℕ) (pre : Trees) (k : Path) (post : Trees) → count pre ≡ i → NothingAt W a s (node h [] 0 ts) (inside g xs n pre k post)
+  nothing_lifted : (h : Shape) (ts : Trees) (i : ℕ) (r : Way) → way_in s h i ≡ Some r → ((k : Path) → NothingAt E (append a (hole h ts i ▸ none)) r (child_or_absent ts i) k)
+      → (g : Shape) (xs : List Name) (n : ℕ) (pre : Trees) (k : Path) (post : Trees) → count pre ≡ i → NothingAt E a s (node h [] 0 ts) (inside g xs n pre k post)
   nothing_lifted h ts i r e f g [] zero pre k post q end read put way is row =
       let these : ts ≡ join pre (plug k read) post = ap children is in
       let shaped : h ≡ g = ap shape_of is in
@@ -115,11 +115,11 @@ module _ (W : VariableSet) (a : Trees) (s : Way) where
       let asked : way_in s h i ≡ way_in s g (count pre) = λ j. way_in s (shaped j) (at j) in
       let route : is_way_to end (Some r) k ≡ true = ap (λ o. is_way_to end o k) (sym e ∙ asked) ∙ way in
       let around : append a (above (inside g [] 0 pre k post)) ≡ append (append a (hole h ts i ▸ none)) (above k) = sym (append_more a (hole h ts i) (above k) ∙ ap (λ u. append a (u ▸ above k)) emptied) in
-      f k end read put route there (subst (λ us. EndRow end W us read put) around row)
+      f k end read put route there (subst (λ us. E us end read put) around row)
   nothing_lifted h ts i r e f g [] (suc n) pre k post q end read put way is row = absurd (true≢false (sym way))
   nothing_lifted h ts i r e f g (x ∷ xs) n pre k post q end read put way is row = absurd (true≢false (sym way))
 
-  no_way_in : (h : Shape) (ts : Trees) (i : ℕ) → way_in s h i ≡ None → (g : Shape) (xs : List Name) (n : ℕ) (pre : Trees) (k : Path) (post : Trees) → count pre ≡ i → NothingAt W a s (node h [] 0 ts) (inside g xs n pre k post)
+  no_way_in : (h : Shape) (ts : Trees) (i : ℕ) → way_in s h i ≡ None → (g : Shape) (xs : List Name) (n : ℕ) (pre : Trees) (k : Path) (post : Trees) → count pre ≡ i → NothingAt E a s (node h [] 0 ts) (inside g xs n pre k post)
   no_way_in h ts i e g [] zero pre k post q end read put way is row =
       let shaped : h ≡ g = ap shape_of is in
       let at : i ≡ count pre = sym q in
@@ -130,34 +130,34 @@ module _ (W : VariableSet) (a : Trees) (s : Way) where
 
   -- ---- a node without a name and a number
 
-  pub at_none : (t : Tree) (i : ℕ) → is_nameless t ≡ true → way_in s (shape_of t) i ≡ None → WalkedAt W a s t i t false
+  pub at_none : (t : Tree) (i : ℕ) → is_nameless t ≡ true → way_in s (shape_of t) i ≡ None → WalkedAt E a s t i t false
   at_none (node h [] zero ts) i z e = (refl, no_way_in h ts i e)
   at_none (node h [] (suc n) ts) i z e = absurd (true≢false (sym z))
   at_none (node h (x ∷ xs) n ts) i z e = absurd (true≢false (sym z))
 
-  pub at_some : (t : Tree) (i : ℕ) (u : Tree) (r : Way) (c : Bool) → is_nameless t ≡ true → i < count (children t) → way_in s (shape_of t) i ≡ Some r → ChildWalked W a r t i u c → WalkedAt W a s t i u c
-  at_some (node h [] zero ts) i u r true z k e (v, is, m) = (v, is, subst (Several (BelowStep W a s) (node h [] 0 ts)) (sym is) (steps_lifted h ts i r k e v m))
+  pub at_some : (t : Tree) (i : ℕ) (u : Tree) (r : Way) (c : Bool) → is_nameless t ≡ true → i < count (children t) → way_in s (shape_of t) i ≡ Some r → ChildWalked E a r t i u c → WalkedAt E a s t i u c
+  at_some (node h [] zero ts) i u r true z k e (v, is, m) = (v, is, subst (Several (BelowStep E a s) (node h [] 0 ts)) (sym is) (steps_lifted h ts i r k e v m))
   at_some (node h [] zero ts) i u r false z k e (v, is, m) = (is ∙ ap (λ c. node h [] 0 (with_child ts i c)) m.0 ∙ ap (node h [] 0) (with_same ts i), nothing_lifted h ts i r e m.1)
   at_some (node h [] (suc n) ts) i u r c z k e m = absurd (true≢false (sym z))
   at_some (node h (x ∷ xs) n ts) i u r c z k e m = absurd (true≢false (sym z))
 
   -- ---- the end itself
 
-  weakened : (t u : Tree) → BelowStep W a s t u → InStep W a s t u
+  weakened : (t u : Tree) → BelowStep E a s t u → InStep E a s t u
   weakened t u m = record { place = m.place; end = m.end; read = m.read; put = m.put; way = m.way; row = m.row; shape = m.shape; written = m.written; below = λ z. absurd (true≢false (sym z)) }
 
-  all_weakened : (t u : Tree) → Several (BelowStep W a s) t u → Several (InStep W a s) t u
-  all_weakened t u x = several_over (BelowStep W a s) (InStep W a s) (λ z. Unit {0}) (λ z. z) (λ z w q r. (weakened z w r, tt)) t u tt x
+  all_weakened : (t u : Tree) → Several (BelowStep E a s) t u → Several (InStep E a s) t u
+  all_weakened t u x = several_over (BelowStep E a s) (InStep E a s) (λ z. Unit {0}) (λ z. z) (λ z w q r. (weakened z w r, tt)) t u tt x
 
   -- first what stands in it, and then the node itself
-  pub walked : (t u v : Tree) (c d : Bool) → BelowWalked W a s t u c → HereWalked W a s u v d → Walked W a s t v (c || d)
-  walked t u v true true x y = several_then (InStep W a s) t u v (all_weakened t u x) y
-  walked t u v true false x y = subst (Several (InStep W a s) t) (sym y.0) (all_weakened t u x)
-  walked t u v false true x y = subst (λ z. Several (InStep W a s) z v) x.0 y
+  pub walked : (t u v : Tree) (c d : Bool) → BelowWalked E a s t u c → HereWalked E a s u v d → Walked E a s t v (c || d)
+  walked t u v true true x y = several_then (InStep E a s) t u v (all_weakened t u x) y
+  walked t u v true false x y = subst (Several (InStep E a s) t) (sym y.0) (all_weakened t u x)
+  walked t u v false true x y = subst (λ z. Several (InStep E a s) z v) x.0 y
   walked t u v false false x y = (y.0 ∙ x.0, by)
     where
-      by : (k : Path) → NothingAt W a s t k
-      by here = subst (λ z. NothingAt W a s z here) x.0 y.1
+      by : (k : Path) → NothingAt E a s t k
+      by here = subst (λ z. NothingAt E a s z here) x.0 y.1
       by (inside h xs n pre k post) = x.1 h xs n pre k post
 
 mentions : (a : Trees) (x : _) → names x (listed a) ≡ any_names x a
@@ -168,17 +168,17 @@ unfolding has_eval
 evals a = refl
 
 -- nothing is read where no end is
-no_end : (W : VariableSet) (a : Trees) (s : Way) (t : Tree) → ((read put : Tree) → t ≡ read → EndRow s W a read put → ⊥) → NothingAt W a s t here
-no_end W a s t f end read put way is row =
+pub no_end : (E : Ends) (a : Trees) (s : Way) (t : Tree) → ((read put : Tree) → t ≡ read → E a s read put → ⊥) → NothingAt E a s t here
+no_end E a s t f end read put way is row =
     let same = ways_same end s way in
-    f read put is (subst (λ us. EndRow s W us read put) (append_none a) (subst (λ z. EndRow z W (append a none) read put) same row))
+    f read put is (subst (λ us. E us s read put) (append_none a) (subst (λ z. E (append a none) z read put) same row))
 
 -- what stays a list
 abbrev IsList : Tree → Type 0
 IsList t = t ≡ listed (children t)
 
-module _ (W : VariableSet) (a : Trees) where
-  gone_here : (ts : Trees) (u : Tree) → Gone W (listed a) (listed ts) u → InStep W a way.Statements (listed ts) u × IsList u
+module _ (W : Liberties) (a : Trees) where
+  gone_here : (ts : Trees) (u : Tree) → Gone W (listed a) (listed ts) u → InStep (unused_ends W) a way.Statements (listed ts) u × IsList u
   gone_here ts u m =
       let (row, var) = var_row W a ts u m in
       let is = left_listed W (listed a) ts u m in (
@@ -196,17 +196,17 @@ module _ (W : VariableSet) (a : Trees) where
         is,
       )
 
-  here_gone : (t u : Tree) → IsList t → Gone W (listed a) t u → InStep W a way.Statements t u × IsList u
+  here_gone : (t u : Tree) → IsList t → Gone W (listed a) t u → InStep (unused_ends W) a way.Statements t u × IsList u
   here_gone t u is m =
       let (step, list) = gone_here (children t) u (subst (λ v. Gone W (listed a) v u) is m) in
-      (subst (λ v. InStep W a way.Statements v u) (sym is) step, list)
+      (subst (λ v. InStep (unused_ends W) a way.Statements v u) (sym is) step, list)
 
   list_rests : (ts : Trees) (m : Tree) → Removed W (listed a) (listed ts) m false → (read put : Tree) → listed ts ≡ read → ListEnd W a read put → ⊥
   list_rests ts m r read put is row = no_var_row W a row.list m (subst (λ us. Removed W (listed a) (listed us) m false) (ap children (is ∙ row.shape)) r) (block (listed a ▸ row.left)) row.row row.var
 
-  here_removed : (ts : Trees) (m : Tree) (c : Bool) → Removed W (listed a) (listed ts) m c → HereWalked W a way.Statements (listed ts) m c
-  here_removed ts m true r = several_over (Gone W (listed a)) (InStep W a way.Statements) IsList (λ z. z) here_gone (listed ts) m refl r
-  here_removed ts m false r = (r.0, no_end W a way.Statements (listed ts) (list_rests ts m r))
+  here_removed : (ts : Trees) (m : Tree) (c : Bool) → Removed W (listed a) (listed ts) m c → HereWalked (unused_ends W) a way.Statements (listed ts) m c
+  here_removed ts m true r = several_over (Gone W (listed a)) (InStep (unused_ends W) a way.Statements) IsList (λ z. z) here_gone (listed ts) m refl r
+  here_removed ts m false r = (r.0, no_end (unused_ends W) a way.Statements (listed ts) (list_rests ts m r))
 
   -- ---- a `var` in no list
 
@@ -218,7 +218,7 @@ module _ (W : VariableSet) (a : Trees) where
   abbrev VarRow : Trees → Trees → Type 0
   VarRow ts us = (r : BlockRow W (block (listed a ▸ ts)) (block (listed a ▸ us))) × (declares_var r ≡ true)
 
-  one_gone : (t u : Tree) → Gone W (listed a) (listed (t ▸ none)) u → InStep W a way.Held t (part u 0) × IsOne u
+  one_gone : (t u : Tree) → Gone W (listed a) (listed (t ▸ none)) u → InStep (unused_ends W) a way.Held t (part u 0) × IsOne u
   one_gone t u m =
       let (row, var) = var_row W a (t ▸ none) u m in
       let is = left_listed W (listed a) (t ▸ none) u m in
@@ -240,34 +240,34 @@ module _ (W : VariableSet) (a : Trees) where
         whole ∙ ap (λ z. listed (z ▸ none)) (sym first),
       )
 
-  held_gone : (v u : Tree) → IsOne v → Gone W (listed a) v u → InStep W a way.Held (part v 0) (part u 0) × IsOne u
+  held_gone : (v u : Tree) → IsOne v → Gone W (listed a) v u → InStep (unused_ends W) a way.Held (part v 0) (part u 0) × IsOne u
   held_gone v u is m = one_gone (part v 0) u (subst (λ z. Gone W (listed a) z u) is m)
 
   held_rests : (t m : Tree) → Removed W (listed a) (listed (t ▸ none)) m false → (read put : Tree) → t ≡ read → HeldEnd W a read put → ⊥
   held_rests t m r read put is row = no_var_row W a (read ▸ none) m (subst (λ z. Removed W (listed a) (listed (z ▸ none)) m false) is r) (block (listed a ▸ (put ▸ none))) row.row row.var
 
-  held_removed : (t m : Tree) (c : Bool) → Removed W (listed a) (listed (t ▸ none)) m c → HereWalked W a way.Held t (part m 0) c
-  held_removed t m true r = several_over (Gone W (listed a)) (InStep W a way.Held) IsOne (λ z. part z 0) held_gone (listed (t ▸ none)) m refl r
-  held_removed t m false r = (ap (λ z. part z 0) r.0, no_end W a way.Held t (held_rests t m r))
+  held_removed : (t m : Tree) (c : Bool) → Removed W (listed a) (listed (t ▸ none)) m c → HereWalked (unused_ends W) a way.Held t (part m 0) c
+  held_removed t m true r = several_over (Gone W (listed a)) (InStep (unused_ends W) a way.Held) IsOne (λ z. part z 0) held_gone (listed (t ▸ none)) m refl r
+  held_removed t m false r = (ap (λ z. part z 0) r.0, no_end (unused_ends W) a way.Held t (held_rests t m r))
 
 not_true : (b : Bool) → not b ≡ true → b ≡ false
 not_true true e = absurd (true≢false (sym e))
 not_true false e = refl
 
 -- above it stands a list of nodes
-pub here_by : (W : VariableSet) (o t m : Tree) (c : Bool) → is_listed o ≡ true → is_listed t ≡ true → Removed (open_in o W) o t m c → HereWalked W (children o) way.Statements t m c
+pub here_by : (W : Liberties) (o t m : Tree) (c : Bool) → is_listed o ≡ true → is_listed t ≡ true → Removed (open_in o W) o t m c → HereWalked (unused_ends W) (children o) way.Statements t m c
 here_by W o t m c e list r =
     let over = listed_is o e in
     let this = listed_is t list in
-    subst (λ v. HereWalked W (children o) way.Statements v m c) (sym this)
+    subst (λ v. HereWalked (unused_ends W) (children o) way.Statements v m c) (sym this)
     (here_removed W (children o) (children t) m c (subst₂ (λ z v. Removed (open_in z W) z v m c) over this r))
 
-pub no_list_here : (W : VariableSet) (a : Trees) (t : Tree) → is_listed t ≡ false → HereWalked W a way.Statements t t false
-no_list_here W a t f = (refl, no_end W a way.Statements t (λ read put is row. true≢false (sym (ap is_listed (is ∙ row.shape)) ∙ f)))
+pub no_list_here : (W : Liberties) (a : Trees) (t : Tree) → is_listed t ≡ false → HereWalked (unused_ends W) a way.Statements t t false
+no_list_here W a t f = (refl, no_end (unused_ends W) a way.Statements t (λ read put is row. true≢false (sym (ap is_listed (is ∙ row.shape)) ∙ f)))
 
-pub held_by : (W : VariableSet) (o t l m : Tree) (c : Bool) → is_listed o ≡ true → l ≡ listed (t ▸ none) → Removed (open_in o W) o l m c → (u : Tree) → u ≡ part m 0 → HereWalked W (children o) way.Held t u c
+pub held_by : (W : Liberties) (o t l m : Tree) (c : Bool) → is_listed o ≡ true → l ≡ listed (t ▸ none) → Removed (open_in o W) o l m c → (u : Tree) → u ≡ part m 0 → HereWalked (unused_ends W) (children o) way.Held t u c
 held_by W o t l m c e f r u g =
-    subst (λ z. HereWalked W (children o) way.Held t z c) (sym g)
+    subst (λ z. HereWalked (unused_ends W) (children o) way.Held t z c) (sym g)
     (held_removed W (children o) t m c (subst₂ (λ z y. Removed (open_in z W) z y m c) (listed_is o e) f r))
 
 -- what a row reads there is a `var`
@@ -284,7 +284,7 @@ var_there o t (b ▸ (c ▸ before)) k ds after e f v = let n = ap count f in le
 abbrev statements_of : Tree → Trees
 statements_of t = children (part t 0)
 
-row_of_var : (W : VariableSet) (a : Trees) (t w : Tree) (r : BlockRow W (block (listed a ▸ (t ▸ none))) w) → declares_var r ≡ true → is_var t ≡ true
+row_of_var : (W : Liberties) (a : Trees) (t w : Tree) (r : BlockRow W (block (listed a ▸ (t ▸ none))) w) → declares_var r ≡ true → is_var t ≡ true
 row_of_var W a t w (inl r) v = var_there (listed a) t r.before r.kind (declarator (binding (resolved r.spelling r.symbol)) r.init ▸ none) r.after refl (ap statements_of r.shape) v
 row_of_var W a t w (inr (inl r)) v = var_there (listed a) t r.before r.kind (append r.first (declarator (binding (resolved r.spelling r.symbol)) r.init ▸ r.last)) r.after refl (ap statements_of r.shape) v
 row_of_var W a t w (inr (inr (inl r))) v = var_there (listed a) t r.before r.kind (append r.first (declarator (binding (resolved r.spelling r.symbol)) r.init ▸ none)) (r.head ▸ r.after) refl (ap statements_of r.shape) v
@@ -294,21 +294,21 @@ or_left : (a b : Bool) → (a || b) ≡ false → a ≡ false
 or_left true b e = absurd (true≢false e)
 or_left false b e = refl
 
-pub no_held_here : (W : VariableSet) (a : Trees) (t : Tree) → is_var t ≡ false → HereWalked W a way.Held t t false
-no_held_here W a t f = (refl, no_end W a way.Held t by)
+pub no_held_here : (W : Liberties) (a : Trees) (t : Tree) → is_var t ≡ false → HereWalked (unused_ends W) a way.Held t t false
+no_held_here W a t f = (refl, no_end (unused_ends W) a way.Held t by)
   where
     by : (read put : Tree) → t ≡ read → HeldEnd W a read put → ⊥
     by read put is row = true≢false (sym (row_of_var W a read (block (listed a ▸ (put ▸ none))) row.row row.var) ∙ ap is_var (sym is) ∙ f)
 
 -- ---- what a `for` begins with
 
-pub no_heading_here : (W : VariableSet) (a : Trees) (t : Tree) → is_var t ≡ false → HereWalked W a way.Head t t false
-no_heading_here W a t f = (refl, no_end W a way.Head t (λ read put is row. true≢false (sym (ap is_var (is ∙ row.shape)) ∙ f)))
+pub no_heading_here : (W : Liberties) (a : Trees) (t : Tree) → is_var t ≡ false → HereWalked (unused_ends W) a way.Head t t false
+no_heading_here W a t f = (refl, no_end (unused_ends W) a way.Head t (λ read put is row. true≢false (sym (ap is_var (is ∙ row.shape)) ∙ f)))
 
-pub no_such_end : (W : VariableSet) (a : Trees) (s : Way) (t : Tree) → ((read put : Tree) → EndRow s W a read put → ⊥) → HereWalked W a s t t false
-no_such_end W a s t f = (refl, no_end W a s t (λ read put is row. f read put row))
+pub no_such_end : (W : Liberties) (a : Trees) (s : Way) (t : Tree) → ((read put : Tree) → EndRow s W a read put → ⊥) → HereWalked (unused_ends W) a s t t false
+no_such_end W a s t f = (refl, no_end (unused_ends W) a s t (λ read put is row. f read put row))
 
-module _ (W : VariableSet) (a : Trees) (t : Tree) (v : is_var t ≡ true) where
+module _ (W : Liberties) (a : Trees) (t : Tree) (v : is_var t ≡ true) where
   abbrev as_block : Tree
   as_block = block (listed a ▸ (t ▸ none))
 
@@ -354,7 +354,7 @@ module _ (W : VariableSet) (a : Trees) (t : Tree) (v : is_var t ≡ true) where
           symbol = s.symbol;
           init = z;
           last = l;
-          goes = sym (ap (λ k. lets_go W k s.symbol) kind_is) ∙ goes as_block 1 j refl second g W test quiet;
+          goes = sym (ap (λ k. lets_go W.writable k s.symbol) kind_is) ∙ goes as_block 1 j refl second g W test quiet;
           idle = (and_parts (declares_name (part (part t 0) j)) (is_idle (part (part (part t 0) j) 1)) i).1;
           outside = or_left (any_names x a) false alone_there.earlier;
           declared_earlier = alone_there.declared_earlier;
@@ -407,10 +407,10 @@ module _ (W : VariableSet) (a : Trees) (t : Tree) (v : is_var t ≡ true) where
       missed_declarator false W (listed a) (named r) r.first r.init r.last (d ▸ none) 0 j inside u (sym (ap (λ z. is_idle_at (part z 0) j) r.shape) ∙ e) r.idle
 
 -- as the code tells
-pub found_none : (W : VariableSet) (o t : Tree) → is_listed o ≡ true → is_var t ≡ true → UnusedOf (open_in o W) o (t ▸ none) 0 None → HeadingFound (open_in o W) o t None
+pub found_none : (W : Liberties) (o t : Tree) → is_listed o ≡ true → is_var t ≡ true → UnusedOf (open_in o W) o (t ▸ none) 0 None → HeadingFound (open_in o W) o t None
 found_none W o t e v n = no_unused (open_in o W) (children o) t v (subst (λ z. UnusedOf (open_in o W) z (t ▸ none) 0 None) (listed_is o e) n)
 
-pub found_missed : (W : VariableSet) (o t : Tree) (j : ℕ) → is_listed o ≡ true → is_var t ≡ true → UnusedOf (open_in o W) o (t ▸ none) 0 (Some j) → (is_idle_at (part t 0) j && not (has_eval o || has_eval (listed (t ▸ none)))) ≡ false → HeadingFound (open_in o W) o t None
+pub found_missed : (W : Liberties) (o t : Tree) (j : ℕ) → is_listed o ≡ true → is_var t ≡ true → UnusedOf (open_in o W) o (t ▸ none) 0 (Some j) → (is_idle_at (part t 0) j && not (has_eval o || has_eval (listed (t ▸ none)))) ≡ false → HeadingFound (open_in o W) o t None
 found_missed W o t j e v n f = by (is_idle_at (part t 0) j) refl
   where
     here_found : UnusedOf (open_in o W) (listed (children o)) (t ▸ none) 0 (Some j)
@@ -424,17 +424,17 @@ found_missed W o t j e v n f = by (is_idle_at (part t 0) j) refl
     by true i = seen_here (open_in o W) (children o) t v (sym (ap (λ z. has_eval z || has_eval (listed (t ▸ none))) (listed_is o e)) ∙ seen_by (has_eval o || has_eval (listed (t ▸ none))) (sym (ap (λ b. b && not (has_eval o || has_eval (listed (t ▸ none)))) i) ∙ f))
     by false i = missed_here (open_in o W) (children o) t v j here_found i
 
-pub found_some : (W : VariableSet) (o t : Tree) (j : ℕ) → UnusedOf (open_in o W) o (t ▸ none) 0 (Some j) → (is_idle_at (part t 0) j && not (has_eval o || has_eval (listed (t ▸ none)))) ≡ true → HeadingFound (open_in o W) o t (Some j)
+pub found_some : (W : Liberties) (o t : Tree) (j : ℕ) → UnusedOf (open_in o W) o (t ▸ none) 0 (Some j) → (is_idle_at (part t 0) j && not (has_eval o || has_eval (listed (t ▸ none)))) ≡ true → HeadingFound (open_in o W) o t (Some j)
 found_some W o t j n f =
     let (i, q) = and_parts (is_idle_at (part t 0) j) (not (has_eval o || has_eval (listed (t ▸ none)))) f in
     (n, i, not_true (has_eval o || has_eval (listed (t ▸ none))) q)
 
-pub heading_gone : (W : VariableSet) (o t : Tree) (j : ℕ) → is_listed o ≡ true → is_var t ≡ true → HeadingFound (open_in o W) o t (Some j) → (u : Tree) → u ≡ head_without t j → HereWalked W (children o) way.Head t u true
+pub heading_gone : (W : Liberties) (o t : Tree) (j : ℕ) → is_listed o ≡ true → is_var t ≡ true → HeadingFound (open_in o W) o t (Some j) → (u : Tree) → u ≡ head_without t j → HereWalked (unused_ends W) (children o) way.Head t u true
 heading_gone W o t j e v h u f =
     let a = children o in
     let h2 = subst (λ z. HeadingFound (open_in z W) z t (Some j)) (listed_is o e) h in
     let row = heading_row W a t v j h2.0.1 h2.0.2 h2.1 h2.2 in
-    let step : InStep W a way.Head t (head_without t j) = record {
+    let step : InStep (unused_ends W) a way.Head t (head_without t j) = record {
       place = here;
       end = way.Head;
       read = t;
@@ -445,10 +445,10 @@ heading_gone W o t j e v h u f =
       written = refl;
       below = λ z. absurd (true≢false (sym z));
     } in
-    subst (λ z. Several (InStep W a way.Head) t z) (sym f) (record { next = head_without t j; first = step; others = still (head_without t j) })
+    subst (λ z. Several (InStep (unused_ends W) a way.Head) t z) (sym f) (record { next = head_without t j; first = step; others = still (head_without t j) })
 
-pub heading_rests : (W : VariableSet) (o t : Tree) → is_listed o ≡ true → HeadingFound (open_in o W) o t None → (u : Tree) → u ≡ t → HereWalked W (children o) way.Head t u false
-heading_rests W o t e h u f = (f, no_end W (children o) way.Head t (λ read put is row. subst (λ z. HeadingFound (open_in z W) z t None) (listed_is o e) h put (subst (λ z. HeadEnd W (children o) z put) (sym is) row)))
+pub heading_rests : (W : Liberties) (o t : Tree) → is_listed o ≡ true → HeadingFound (open_in o W) o t None → (u : Tree) → u ≡ t → HereWalked (unused_ends W) (children o) way.Head t u false
+heading_rests W o t e h u f = (f, no_end (unused_ends W) (children o) way.Head t (λ read put is row. subst (λ z. HeadingFound (open_in z W) z t None) (listed_is o e) h put (subst (λ z. HeadEnd W (children o) z put) (sym is) row)))
 
 -- ---- the nodes above
 
@@ -457,6 +457,6 @@ pushed_listed (node h [] zero ts) t e = e
 pushed_listed (node h [] (suc n) ts) t e = e
 pushed_listed (node h (x ∷ xs) n ts) t e = e
 
-pub child_walked : (W : VariableSet) (a : Tree) (r : Way) (t : Tree) (i : ℕ) (u v m n c : Tree) (changed : Bool) → m ≡ with_part t i absent → n ≡ pushed a m → c ≡ part t i → Walked W (children n) r c v changed → u ≡ with_part m i v → ChildWalked W (children a) r t i u changed
-child_walked W (node h xs k ts) r t i u v m n c changed e f g w d =
-    (v, put_back t i v m u e d, subst₂ (λ us x. Walked W us r x v changed) (ap children f ∙ ap (λ x. append ts (x ▸ none)) e) g w)
+pub child_walked : (E : Ends) (a : Tree) (r : Way) (t : Tree) (i : ℕ) (u v m n c : Tree) (changed : Bool) → m ≡ with_part t i absent → n ≡ pushed a m → c ≡ part t i → Walked E (children n) r c v changed → u ≡ with_part m i v → ChildWalked E (children a) r t i u changed
+child_walked E (node h xs k ts) r t i u v m n c changed e f g w d =
+    (v, put_back t i v m u e d, subst₂ (λ us x. Walked E us r x v changed) (ap children f ∙ ap (λ x. append ts (x ▸ none)) e) g w)

@@ -1,15 +1,15 @@
 -- The `var`s of a list with a list outside of it: what is found there is a row of a `var`, and where none is found no such row reads one.
-use Rattle.std.specs.Prelude.{ℕ, zero, suc, ◌≡◌, ◌<◌, ◌⊎◌, ◌||◌, ◌&&◌, not, refl, Bool, true, false, None}
+use Rattle.std.specs.Prelude.{ℕ, zero, suc, ◌≡◌, ◌<◌, ◌⊎◌, ◌||◌, not, refl, true, false, None}
 use Rattle.std.proofs.Common.{ap, ◌∙◌, sym, inl, inr, true≢false, arith}
 use Rattle.std.proofs.lemmas.Bool.{and_parts}
-use Rattle.mini_model.specs.Tree.{Tree, Trees, none, ◌▸◌, listed, count, children, shape_of, child_or_absent}
+use Rattle.mini_model.specs.Tree.{Tree, Trees, ◌▸◌, listed, count, children, shape_of, child_or_absent}
 use Rattle.mini_laws.specs.Naming as kinds
 use Rattle.mini_laws.specs.ScopeList.{has_eval, any_has_eval}
-use Rattle.mini_laws.specs.Value.{VariableSet}
 use Rattle.mini_node.specs.Children.{part}
 use Rattle.mini_rows.specs.Inside.{declares_var}
 use Rattle.mini_rows.specs.Lists.{block}
 use Rattle.mini_rows.specs.Unused.{names, any_names, Row71, Row71Next, BlockRow}
+use Rattle.mini_rows.specs.Switches.{Liberties}
 use Rattle.mini_unused.specs.RemoveUnusedDeclaration.{declares_list, is_lexical_shape, is_var, is_free_at, is_unused_declarator, list_at, is_unused, UnusedAt}
 use Rattle.mini_unused.specs.SubstituteNext.{is_read_by_next, is_next, NextAt, NextGone}
 use Rattle.mini_unused.specs.SubstituteSingleUse.{last_place, is_single_declarator, is_single, SingleAt, NameGone, ReadGone, Gone, Removed}
@@ -22,7 +22,7 @@ use Rattle.mini_unused.proofs.Unused as unused
 var_parts : (t : Tree) → is_var t ≡ true → (declares_list t ≡ true) × (not (is_lexical_shape (shape_of t)) ≡ true)
 var_parts t e = and_parts (declares_list t) (not (is_lexical_shape (shape_of t))) e
 
-module _ (W : VariableSet) (a ts : Trees) where
+module _ (W : Liberties) (a ts : Trees) where
   mentioned : (x : _) → names x (listed a) ≡ any_names x a
   mentioned x = refl
 

@@ -1,5 +1,5 @@
 -- The head of a `for`: its parts are read like the statements of a block, of which its declaration is the first.
-use Rattle.std.proofs.Common.{◌≡◌, ℕ, zero, suc, ◌<◌, ◌≤◌, Bool, true, false, List, [], ◌∷◌, refl, sym, ap, ◌∙◌, subst, inl, inr, true≢false, arith}
+use Rattle.std.proofs.Common.{◌≡◌, ℕ, zero, suc, ◌<◌, Bool, true, false, List, [], ◌∷◌, refl, sym, ap, ◌∙◌, subst, inl, inr, true≢false, arith}
 use Rattle.std.specs.Prelude.{◌⊎◌, ◌&&◌, ◌||◌, Some, None, if◌then◌else◌}
 use Rattle.std.proofs.lemmas.Bool.{and_parts}
 use Rattle.mini_model.specs.declared.kind.VariableDeclarationKind.{VariableDeclarationKind}
@@ -10,17 +10,21 @@ use Rattle.mini_model.specs.declared.shape.Shape.TheVariants as shape
 use Rattle.mini_model.specs.Tree.{Tree, Trees, node, none, ◌▸◌, absent, listed, shape_of, children, count, child_or_absent, empty_statement}
 use Rattle.mini_model.specs.Paths.{append}
 use Rattle.mini_laws.specs.ScopeList.{has_eval, any_has_eval}
-use Rattle.mini_laws.specs.Value.{VariableSet, nothing}
 use Rattle.mini_node.specs.Children.{names_of, part, with_part, without, is_bare, first_children, rest_children}
 use Rattle.mini_node.specs.Kinds.{is_block}
 use Rattle.mini_rows.specs.Declarations.{binding, declarator}
 use Rattle.mini_rows.specs.Lists.{block, declaration, declares_nothing, for_loop}
 use Rattle.mini_rows.specs.Unused.{resolved, declared_among, head_left, is_idle, UnusedRow, ForRow}
-use Rattle.mini_unused.specs.RemoveUnusedDeclaration.{declares_name, declares_list, is_lexical_shape, is_free_at, may_lose, may_go, is_alone, is_unused_declarator, list_at, is_unused, UnusedOf, let_left, open_in, is_function, is_switch, is_for_shape, has_head, is_idle_at, head_without, Applied, AppliedInHead, IdleDropped}
+use Rattle.mini_rows.specs.Switches.{Liberties, without_vars}
+use Rattle.mini_unused.specs.RemoveUnusedDeclaration.{declares_name, declares_list, is_lexical_shape, is_free_at, may_lose, may_go, is_alone, is_unused_declarator, list_at, is_unused, UnusedOf, open_in, is_function, is_switch, is_for_shape, has_head, is_idle_at, head_without, Applied, AppliedInHead, IdleDropped}
 use Rattle.mini_unused.specs.Chains.{still}
 use Rattle.mini_unused.proofs.Chains.{several_moves}
-use Rattle.mini_unused.proofs.Unused.{no_outside, and_both, without_is, parts_of, ds, d, init, first, last, tests, kind, let_there, one, x, unused, statement_is, list_is, Read, unused_there, declarator_within, no_block}
+use Rattle.mini_unused.proofs.Unused.{no_outside, and_both, without_is, ds, d, init, first, last, kind, let_there, one, x, unused, statement_is, Read, unused_there, declarator_within, no_block}
 use Rattle.mini_unused.proofs.Holders.{or_none, no_function, no_switch}
+
+-- 72 of a `let` or a `const` reads the same whatever lets a `var` go, and whatever names are kept
+abbrev closed : Liberties
+closed = without_vars (record { sequences = false; join_vars = false; keep_function_names = true; keep_class_names = true })
 
 -- ---- what is outside of it mentions nothing
 
@@ -28,14 +32,14 @@ alone_same : (xs : List Name) (v : Tree) (us : Trees) (j : ℕ) (ts : Trees) (i 
 alone_same [] v us j ts i = refl
 alone_same (y ∷ xs) v us j ts i = refl
 
-same_test : (W : VariableSet) (ts : Trees) (j : ℕ) → is_lexical_shape (shape_of (child_or_absent ts 0)) ≡ true → is_unused (open_in empty_statement W) empty_statement ts 0 j ≡ is_unused nothing no_outside ts 0 j
+same_test : (W : Liberties) (ts : Trees) (j : ℕ) → is_lexical_shape (shape_of (child_or_absent ts 0)) ≡ true → is_unused (open_in empty_statement W) empty_statement ts 0 j ≡ is_unused closed no_outside ts 0 j
 same_test W ts j e =
     let c = child_or_absent ts 0 in
     let l = list_at ts 0 in
     let p = part l j in
     ap (λ f. declares_list c && is_unused_declarator f (open_in empty_statement W) l j empty_statement ts 0) e
     ∙ ap (λ b. declares_list c && (declares_name p && (true && (may_go (part p 1) l && b)))) (alone_same (names_of (part p 0)) (part p 1) (children l) j ts 0)
-    ∙ sym (ap (λ f. declares_list c && is_unused_declarator f nothing l j no_outside ts 0) e)
+    ∙ sym (ap (λ f. declares_list c && is_unused_declarator f closed l j no_outside ts 0) e)
 
 -- ---- a `for`
 
@@ -73,7 +77,7 @@ for_evals a b c e = refl
 
 -- ---- such a declarator is what the row says
 
-module _ (a b c e : Tree) (lexical : is_lexical_shape (shape_of a) ≡ true) (j : ℕ) (g : j < count (children (part a 0))) (idle : is_idle (part (part (part a 0) j) 1) ≡ true) (u : is_unused nothing no_outside (a ▸ (b ▸ (c ▸ (e ▸ none)))) 0 j ≡ true) (v : has_eval (for_loop a b c e) ≡ false) where
+module _ (a b c e : Tree) (lexical : is_lexical_shape (shape_of a) ≡ true) (j : ℕ) (g : j < count (children (part a 0))) (idle : is_idle (part (part (part a 0) j) 1) ≡ true) (u : is_unused closed no_outside (a ▸ (b ▸ (c ▸ (e ▸ none)))) 0 j ≡ true) (v : has_eval (for_loop a b c e) ≡ false) where
   abbrev all : Trees
   all = a ▸ (b ▸ (c ▸ (e ▸ none)))
 
@@ -87,25 +91,25 @@ module _ (a b c e : Tree) (lexical : is_lexical_shape (shape_of a) ≡ true) (j 
   unseen = block_evals all ∙ sym (for_evals a b c e) ∙ v
 
   abbrev there : Tree
-  there = declared_among (kind as_block 0 j refl within g nothing u unseen) (x as_block 0 j refl within g nothing u unseen) (first as_block 0 j refl within g nothing u unseen) (init as_block 0 j refl within g nothing u unseen) (last as_block 0 j refl within g nothing u unseen)
+  there = declared_among (kind as_block 0 j refl within g closed u unseen) (x as_block 0 j refl within g closed u unseen) (first as_block 0 j refl within g closed u unseen) (init as_block 0 j refl within g closed u unseen) (last as_block 0 j refl within g closed u unseen)
 
   is_there : a ≡ there
-  is_there = statement_is as_block 0 j refl within g nothing u unseen
+  is_there = statement_is as_block 0 j refl within g closed u unseen
 
   in_head : ForRow (for_loop a b c e) (for_loop (head_without a j) b c e)
   in_head =
-      let k = kind as_block 0 j refl within g nothing u unseen in
-      let s = one as_block 0 j refl within g nothing u unseen in
-      let f = first as_block 0 j refl within g nothing u unseen in
-      let l = last as_block 0 j refl within g nothing u unseen in
-      let alone_there = unused as_block 0 j refl within g nothing u unseen in
-      let us = ds as_block 0 j refl within g nothing u unseen in
+      let k = kind as_block 0 j refl within g closed u unseen in
+      let s = one as_block 0 j refl within g closed u unseen in
+      let f = first as_block 0 j refl within g closed u unseen in
+      let l = last as_block 0 j refl within g closed u unseen in
+      let alone_there = unused as_block 0 j refl within g closed u unseen in
+      let us = ds as_block 0 j refl within g closed u unseen in
       record {
         kind = k;
         first = f;
         spelling = s.spelling;
         symbol = s.symbol;
-        init = init as_block 0 j refl within g nothing u unseen;
+        init = init as_block 0 j refl within g closed u unseen;
         last = l;
         test = b;
         update = c;
@@ -118,10 +122,10 @@ module _ (a b c e : Tree) (lexical : is_lexical_shape (shape_of a) ≡ true) (j 
         later = alone_there.later;
         unseen = sym (ap (λ y. has_eval (for_loop y b c e)) is_there) ∙ v;
         shape = ap (λ y. for_loop y b c e) is_there;
-        written = ap (λ y. for_loop (head_without y j) b c e) (let_there as_block 0 j refl within g nothing u unseen) ∙ ap (λ h. for_loop h b c e) (head_left_is k us j g);
+        written = ap (λ y. for_loop (head_without y j) b c e) (let_there as_block 0 j refl within g closed u unseen) ∙ ap (λ h. for_loop h b c e) (head_left_is k us j g);
       }
 
-dropped_there : (W : VariableSet) (t : Tree) (j : ℕ) → has_head t ≡ true → UnusedOf (open_in empty_statement W) empty_statement (children t) 0 (Some j) → (u : Tree) → IdleDropped t j u true → AppliedInHead t u true
+dropped_there : (W : Liberties) (t : Tree) (j : ℕ) → has_head t ≡ true → UnusedOf (open_in empty_statement W) empty_statement (children t) 0 (Some j) → (u : Tree) → IdleDropped t j u true → AppliedInHead t u true
 dropped_there W t j h n u d =
     let r = head t h in
     let a = part t 0 in
@@ -137,7 +141,7 @@ dropped_there W t j h n u d =
 
 -- ---- where there is none, no row reads it
 
-as_read : (t w : Tree) (r : ForRow t w) → Read nothing (block (declared_among r.kind (resolved r.spelling r.symbol) r.first r.init r.last ▸ (r.test ▸ (r.update ▸ (r.body ▸ none)))))
+as_read : (t w : Tree) (r : ForRow t w) → Read closed (block (declared_among r.kind (resolved r.spelling r.symbol) r.first r.init r.last ▸ (r.test ▸ (r.update ▸ (r.body ▸ none)))))
 as_read t w r =
     let a = declared_among r.kind (resolved r.spelling r.symbol) r.first r.init r.last in
     record {
@@ -155,7 +159,7 @@ as_read t w r =
       shape = refl;
     }
 
-pub none_there : (W : VariableSet) (t : Tree) → has_head t ≡ true → UnusedOf (open_in empty_statement W) empty_statement (children t) 0 None → AppliedInHead t t false
+pub none_there : (W : Liberties) (t : Tree) → has_head t ≡ true → UnusedOf (open_in empty_statement W) empty_statement (children t) 0 None → AppliedInHead t t false
 unfolding as_read
 none_there W t h n = (refl, by)
   where
@@ -164,8 +168,8 @@ none_there W t h n = (refl, by)
         let a = declared_among r.kind (resolved r.spelling r.symbol) r.first r.init r.last in
         let ts : Trees = a ▸ (r.test ▸ (r.update ▸ (r.body ▸ none))) in
         let read = as_read t w r in
-        let here = unused_there nothing (block ts) read in
-        let inside = declarator_within nothing (block ts) read in
+        let here = unused_there closed (block ts) read in
+        let inside = declarator_within closed (block ts) read in
         let moved = subst (λ us. UnusedOf (open_in empty_statement W) empty_statement us 0 None) (ap children r.shape) n in
         true≢false (sym (same_test W ts (count r.first) r.lexical ∙ here) ∙ moved (count r.first) inside)
 
@@ -181,7 +185,7 @@ single_there none c (b ▸ last) e j h = absurd (true≢false (sym e))
 single_there (a ▸ none) c last e j h = absurd (true≢false (sym e))
 single_there (a ▸ (b ▸ first)) c last e j h = absurd (true≢false (sym e))
 
-pub missed_declarator : (free : Bool) (W : VariableSet) (o : Tree) (x : Name) (first : Trees) (v : Tree) (last ts : Trees) (i j : ℕ) → j < count (append first (declarator (binding x) v ▸ last)) → is_unused_declarator free W (listed (append first (declarator (binding x) v ▸ last))) j o ts i ≡ true → is_idle_at (listed (append first (declarator (binding x) v ▸ last))) j ≡ false → is_idle v ≡ true → ⊥
+pub missed_declarator : (free : Bool) (W : Liberties) (o : Tree) (x : Name) (first : Trees) (v : Tree) (last ts : Trees) (i j : ℕ) → j < count (append first (declarator (binding x) v ▸ last)) → is_unused_declarator free W (listed (append first (declarator (binding x) v ▸ last))) j o ts i ≡ true → is_idle_at (listed (append first (declarator (binding x) v ▸ last))) j ≡ false → is_idle v ≡ true → ⊥
 missed_declarator free W o x first v last ts i j inside u f idle =
     let d = declarator (binding x) v in
     let us = append first (d ▸ last) in
@@ -196,7 +200,7 @@ missed_declarator free W o x first v last ts i j inside u f idle =
     let (single, present) = and_parts (is_bare l 1) (declares_nothing z) (sym (ap (λ b. b || (is_bare l 1 && declares_nothing z)) missed) ∙ goes) in
     true≢false (sym idle ∙ sym (ap (λ y. is_idle (part y 1)) (single_there first d last single j inside)) ∙ missed)
 
-missed_there : (W : VariableSet) (t : Tree) (j : ℕ) → UnusedOf (open_in empty_statement W) empty_statement (children t) 0 (Some j) → is_idle_at (part (part t 0) 0) j ≡ false → AppliedInHead t t false
+missed_there : (W : Liberties) (t : Tree) (j : ℕ) → UnusedOf (open_in empty_statement W) empty_statement (children t) 0 (Some j) → is_idle_at (part (part t 0) 0) j ≡ false → AppliedInHead t t false
 missed_there W t j n e = (refl, by)
   where
     by : (w : Tree) → ForRow t w → ⊥
@@ -208,7 +212,7 @@ missed_there W t j n e = (refl, by)
         let u = sym (ap (λ us. is_unused (open_in empty_statement W) empty_statement us 0 j) (ap children r.shape)) ∙ n.2 in
         missed_declarator (is_free_at ts 0) (open_in empty_statement W) empty_statement x r.first r.init r.last ts 0 j inside u (sym (ap (λ y. is_idle_at (part (part y 0) 0) j) r.shape) ∙ e) r.idle
 
-pub idle_dropped : (W : VariableSet) (t : Tree) (j : ℕ) → has_head t ≡ true → UnusedOf (open_in empty_statement W) empty_statement (children t) 0 (Some j) → (u : Tree) (b : Bool) → IdleDropped t j u b → AppliedInHead t u b
+pub idle_dropped : (W : Liberties) (t : Tree) (j : ℕ) → has_head t ≡ true → UnusedOf (open_in empty_statement W) empty_statement (children t) 0 (Some j) → (u : Tree) (b : Bool) → IdleDropped t j u b → AppliedInHead t u b
 idle_dropped W t j h n u true d = dropped_there W t j h n u d
 idle_dropped W t j h n u false d = by d.1
   where
@@ -218,7 +222,7 @@ idle_dropped W t j h n u false d = by d.1
 
 -- ---- as a statement
 
-pub of_head : (W : VariableSet) (t u : Tree) (b : Bool) → has_head t ≡ true → AppliedInHead t u b → (q : StmtSeat) → Applied W (Stmt q) t u b
+pub of_head : (W : Liberties) (t u : Tree) (b : Bool) → has_head t ≡ true → AppliedInHead t u b → (q : StmtSeat) → Applied W (Stmt q) t u b
 of_head W t u true h r q = several_moves W (Stmt q) ForRow (λ t u r. inr (inr (inr r))) t u (record { next = u; first = r; others = still u })
 of_head W t u false h r q = (r.0, by)
   where
@@ -227,7 +231,7 @@ of_head W t u false h r q = (r.0, by)
     no_other t e = absurd (true≢false (sym e))
 
     by : (w : Tree) → UnusedRow W (Stmt q) t w → ⊥
-    by w (inl k) = no_block nothing t (no_other t h).0 w k
+    by w (inl k) = no_block (without_vars W.switches) t (no_other t h).0 w k
     by w (inr (inl f)) = no_function W t (no_other t h).1 w f
     by w (inr (inr (inl s))) = no_switch t (no_other t h).2 w s
     by w (inr (inr (inr v))) = r.1 w v

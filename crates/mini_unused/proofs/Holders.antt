@@ -1,8 +1,8 @@
 -- What holds the statements of a list: a block, or a function, which is read like a block that begins with what stands before its
 -- statements: its name and its parameters. A module and a static block are read like a function without them.
 use Rattle.std.proofs.Common.{◌≡◌, ℕ, zero, suc, ◌<◌, Bool, true, false, List, [], ◌∷◌, refl, sym, ap, ◌∙◌, subst, inl, inr, true≢false, arith}
-use Rattle.std.specs.Prelude.{not, ◌⊎◌, ◌&&◌, ◌||◌, nat_eq, nat_le, None, Result, Ok, Err, IfOk, if◌then◌else◌}
-use Rattle.std.proofs.lemmas.Bool.{and_parts, eqb-true, le-leb, leb-true}
+use Rattle.std.specs.Prelude.{not, ◌⊎◌, ◌&&◌, ◌||◌, nat_eq, None, Result, Ok, Err, IfOk, if◌then◌else◌}
+use Rattle.std.proofs.lemmas.Bool.{and_parts, eqb-true}
 use Rattle.mini_model.specs.declared.name.Name.{Name}
 use Rattle.mini_model.specs.declared.place.Position.{Position}
 use Rattle.mini_model.specs.declared.place.Position.TheVariants.{Expr, Stmt, Method, Elsewhere}
@@ -11,29 +11,29 @@ use Rattle.mini_model.specs.declared.seat.StmtSeat.{StmtSeat}
 use Rattle.mini_model.specs.declared.shape.Shape.TheVariants as shape
 use Rattle.mini_model.specs.Tree.{Tree, Trees, node, none, ◌▸◌, absent, listed, program, shape_of, children, count, child_or_absent}
 use Rattle.mini_laws.specs.ScopeList.{has_eval, any_has_eval}
-use Rattle.mini_laws.specs.Value.{Variable, VariableSet, Declared, Global, nothing}
+use Rattle.mini_laws.specs.Value.{Variable, Declared, Global}
 use Rattle.mini_node.specs.Children.{names_of, number_of, part, with_part, first_children, rest_children}
 use Rattle.mini_node.specs.Kinds.{is_block, is_listed, is_listed_shape}
 use Rattle.mini_node.specs.Made.{block_is, listed_is}
-use Rattle.mini_model.specs.Paths.{append}
 use Rattle.mini_laws.specs.Naming as kinds
-use Rattle.mini_rows.specs.Declarations.{binding, declarator}
 use Rattle.mini_rows.specs.Lists.{block}
-use Rattle.mini_rows.specs.Unused.{names, any_names, may_move, statements, arrow_with, ArrowBodyRow, function_with, FunctionBodyRow, ModuleRow, static_block, StaticBlockRow, SwitchRow, ForRow, resolved, BlockRow, UnusedRow}
+use Rattle.mini_rows.specs.Unused.{names, any_names, may_move, statements, arrow_with, ArrowBodyRow, function_with, FunctionBodyRow, ModuleRow, static_block, StaticBlockRow, SwitchRow, ForRow, BlockRow, UnusedRow}
 use Rattle.mini_tree.specs.declared.options.CompressOptions.{CompressOptions}
 use Rattle.mini_tree.specs.Rule as rule
 use Rattle.mini_context.specs.declared.context.TraverseCtx.{TraverseCtx}
 use Rattle.mini_context.specs.Known.{Knows}
 use Rattle.mini_laws.specs.Writable.{writable_in}
-use Rattle.mini_unused.specs.RemoveUnusedDeclaration.{declares_name, declares_list, is_var, may_declare, is_unused_declarator, is_free_at, may_lose, may_go, open_in, is_alone, list_at, is_unused, UnusedAt, is_arrow_shape, are_statements, are_no_names, has_statements, is_function_shape, is_function, is_module, is_static_block, holds_list, is_switch, is_for_shape, has_head, marked, Applied, AppliedInFunction, Gives, Rests, holds_statements}
+use Rattle.mini_unused.specs.RemoveUnusedDeclaration.{declares_name, declares_list, is_var, may_declare, is_unused_declarator, is_free_at, may_lose, may_go, open_in, is_alone, list_at, is_unused, UnusedAt, is_arrow_shape, are_statements, are_no_names, has_statements, is_function_shape, is_function, is_module, is_static_block, holds_list, is_switch, is_for_shape, has_head, allowed, Applied, AppliedInFunction, Gives, Rests, holds_statements}
 use Rattle.mini_unused.specs.SubstituteNext.{is_declarator, reads_then, is_mentioned_beside, is_read_then, is_read_by_next, is_next, NextAt, NextGone}
 use Rattle.mini_unused.specs.SubstituteSingleUse.{last_place, is_declared_over, reads_next, is_read_once, is_single_declarator, is_single, SingleAt, NameGone, ReadGone, Gone, Removed}
 use Rattle.mini_unused.specs.Chains.{Several}
 use Rattle.mini_unused.proofs.Chains.{several_over, several_moves}
 use Rattle.mini_unused.proofs.Unused.{no_outside, and_both, declared_there, part_twice, row_at, no_row, no_block, all_used, seen_by_eval}
 use Rattle.mini_rows.proofs.UnusedNames.{or_parts}
+use Rattle.mini_rows.specs.Switches.{Switches, Liberties, without_vars, liberties}
 use Rattle.mini_unused.proofs.SingleUses.{row_there, none_single}
 use Rattle.mini_unused.proofs.NextUses.{next_row, none_next}
+use Rattle.mini_unused.specs.Allowed.{allowed_in, marked, switches_of}
 
 -- ---- a block
 
@@ -51,7 +51,7 @@ block_seen ts = or_none (any_has_eval ts)
 abbrev pub held : Tree → Tree
 held m = node shape.BlockStatement [] 0 (m ▸ none)
 
-gone_row : (W : VariableSet) (ts : Trees) (m : Tree) → Gone W no_outside (listed ts) m → BlockRow W (block ts) (held m)
+gone_row : (W : Liberties) (ts : Trees) (m : Tree) → Gone W no_outside (listed ts) m → BlockRow W (block ts) (held m)
 gone_row W ts m r = by r.name
   where
     by : NameGone W no_outside (listed ts) m ⊎ (ReadGone W no_outside (listed ts) m ⊎ NextGone W no_outside (listed ts) m) → BlockRow W (block ts) (held m)
@@ -59,7 +59,7 @@ gone_row W ts m r = by r.name
     by (inr (inl g)) = inr (inr (inl (row_there (block ts) g.at refl g.next g.declares W g.single (block_seen ts ∙ r.unseen) (held m) (ap held g.left))))
     by (inr (inr g)) = inr (inr (inr (next_row (block ts) g.at g.which refl g.there.0 g.there.1.1 W g.there.1.2 (block_seen ts ∙ r.unseen) (held m) (ap held g.left))))
 
-rests : (W : VariableSet) (ts : Trees) (m : Tree) → Removed W no_outside (listed ts) m false → (w : Tree) → BlockRow W (block ts) w → ⊥
+rests : (W : Liberties) (ts : Trees) (m : Tree) → Removed W no_outside (listed ts) m false → (w : Tree) → BlockRow W (block ts) w → ⊥
 rests W ts m r = by r.1
   where
     by : ((has_eval no_outside || has_eval (listed ts)) ≡ true) ⊎ (UnusedAt W no_outside ts None × SingleAt W no_outside ts None × NextAt W no_outside ts None) → (w : Tree) → BlockRow W (block ts) w → ⊥
@@ -67,7 +67,7 @@ rests W ts m r = by r.1
     by (inr u) = no_row W (block ts) (all_used W (block ts) u.0) (none_single W (block ts) u.1) (none_next W (block ts) u.2)
 
 -- what is left of a list is one
-pub left_listed : (W : VariableSet) (o : Tree) (ts : Trees) (m : Tree) → Gone W o (listed ts) m → m ≡ listed (children m)
+pub left_listed : (W : Liberties) (o : Tree) (ts : Trees) (m : Tree) → Gone W o (listed ts) m → m ≡ listed (children m)
 left_listed W o ts m r = by r.name
   where
     by : NameGone W o (listed ts) m ⊎ (ReadGone W o (listed ts) m ⊎ NextGone W o (listed ts) m) → m ≡ listed (children m)
@@ -79,7 +79,7 @@ abbrev is_list : Tree → Type 0
 is_list l = l ≡ listed (children l)
 
 -- names that go from a list one after another go so from what holds it
-pub several_in : (W : VariableSet) (o : Tree) (S : Tree → Tree → Type 0) (over : Tree → Tree) → ((ts : Trees) (m : Tree) → Gone W o (listed ts) m → S (over (listed ts)) (over m)) → (ts : Trees) (m : Tree) → Several (Gone W o) (listed ts) m → Several S (over (listed ts)) (over m)
+pub several_in : (W : Liberties) (o : Tree) (S : Tree → Tree → Type 0) (over : Tree → Tree) → ((ts : Trees) (m : Tree) → Gone W o (listed ts) m → S (over (listed ts)) (over m)) → (ts : Trees) (m : Tree) → Several (Gone W o) (listed ts) m → Several S (over (listed ts)) (over m)
 several_in W o S over on ts m = several_over (Gone W o) S is_list over by (listed ts) m refl
   where
     by : (t u : Tree) → is_list t → Gone W o t u → S (over t) (over u) × is_list u
@@ -88,10 +88,10 @@ several_in W o S over on ts m = several_over (Gone W o) S is_list over by (liste
         (subst (λ v. S (over v) (over u)) (sym i) (on (children t) u there), left_listed W o (children t) u there)
 
 -- no other holder
-pub no_function : (W : VariableSet) (t : Tree) → is_function t ≡ false → (w : Tree) → FunctionBodyRow W t w → ⊥
+pub no_function : (W : Liberties) (t : Tree) → is_function t ≡ false → (w : Tree) → FunctionBodyRow W t w → ⊥
 no_function W t e w r = true≢false (sym (ap is_function r.shape) ∙ e)
 
-no_arrow : (W : VariableSet) (t : Tree) → has_statements t ≡ false → (w : Tree) → ArrowBodyRow W t w → ⊥
+no_arrow : (W : Liberties) (t : Tree) → has_statements t ≡ false → (w : Tree) → ArrowBodyRow W t w → ⊥
 no_arrow W t e w r = true≢false (sym (ap has_statements r.shape) ∙ e)
 
 -- a `for` that a row reads has a head
@@ -105,14 +105,14 @@ no_head t e w r = true≢false (sym (row_has_head t w r) ∙ e)
 pub no_for : (t : Tree) → is_for_shape (shape_of t) ≡ false → (w : Tree) → ForRow t w → ⊥
 no_for t e w r = true≢false (sym (ap (λ u. is_for_shape (shape_of u)) r.shape) ∙ e)
 
-pub no_switch : (t : Tree) → is_switch t ≡ false → (w : Tree) → SwitchRow t w → ⊥
+pub no_switch : {o : Switches} (t : Tree) → is_switch t ≡ false → (w : Tree) → SwitchRow o t w → ⊥
 no_switch t e w r = true≢false (sym (ap is_switch r.shape) ∙ e)
 
 -- where its row is one, and no other reads it
-module _ (W : VariableSet) (p : Position) (read : (t u : Tree) → BlockRow nothing t u → UnusedRow W p t u) (alone : (ts : Trees) (w : Tree) → UnusedRow W p (block ts) w → BlockRow nothing (block ts) w) where
-  block_applied : (ts : Trees) (m : Tree) (c : Bool) → Removed nothing no_outside (listed ts) m c → Applied W p (block ts) (held m) c
-  block_applied ts m true r = several_moves W p (BlockRow nothing) read (block ts) (held m) (several_in nothing no_outside (BlockRow nothing) held (gone_row nothing) ts m r)
-  block_applied ts m false r = (ap held r.0, λ w a. rests nothing ts m r w (alone ts w a))
+module _ (W : Liberties) (p : Position) (read : (t u : Tree) → BlockRow (without_vars W.switches) t u → UnusedRow W p t u) (alone : (ts : Trees) (w : Tree) → UnusedRow W p (block ts) w → BlockRow (without_vars W.switches) (block ts) w) where
+  block_applied : (ts : Trees) (m : Tree) (c : Bool) → Removed (without_vars W.switches) no_outside (listed ts) m c → Applied W p (block ts) (held m) c
+  block_applied ts m true r = several_moves W p (BlockRow (without_vars W.switches)) read (block ts) (held m) (several_in (without_vars W.switches) no_outside (BlockRow (without_vars W.switches)) held (gone_row (without_vars W.switches)) ts m r)
+  block_applied ts m false r = (ap held r.0, λ w a. rests (without_vars W.switches) ts m r w (alone ts w a))
 
   applied_there : (t m : Tree) (c : Bool) → is_block t ≡ true → Removed (open_in (with_part t 0 absent) W) (with_part t 0 absent) (part t 0) m c → (u : Tree) → u ≡ with_part t 0 m → Applied W p t u c
   applied_there t m c b r u f =
@@ -121,10 +121,10 @@ module _ (W : VariableSet) (p : Position) (read : (t u : Tree) → BlockRow noth
       let there = subst (λ v. Removed (open_in (with_part v 0 absent) W) (with_part v 0 absent) (part v 0) m c) is r in
       subst (λ v. Applied W p v u c) (sym is) (subst (λ v. Applied W p (block ts) v c) (sym (f ∙ ap (λ v. with_part v 0 m) is)) (block_applied ts m c there))
 
-pub of_block : (W : VariableSet) (t m : Tree) (c : Bool) → is_block t ≡ true → Removed (open_in (with_part t 0 absent) W) (with_part t 0 absent) (part t 0) m c → (u : Tree) → u ≡ with_part t 0 m → (q : StmtSeat) → Applied W (Stmt q) t u c
+pub of_block : (W : Liberties) (t m : Tree) (c : Bool) → is_block t ≡ true → Removed (open_in (with_part t 0 absent) W) (with_part t 0 absent) (part t 0) m c → (u : Tree) → u ≡ with_part t 0 m → (q : StmtSeat) → Applied W (Stmt q) t u c
 of_block W t m c b r u f q = applied_there W (Stmt q) (λ t u b. inl b) by t m c b r u f
   where
-    by : (ts : Trees) (w : Tree) → UnusedRow W (Stmt q) (block ts) w → BlockRow nothing (block ts) w
+    by : (ts : Trees) (w : Tree) → UnusedRow W (Stmt q) (block ts) w → BlockRow (without_vars W.switches) (block ts) w
     by ts w (inl b) = b
     by ts w (inr (inl f)) = absurd (no_function W (block ts) refl w f)
     by ts w (inr (inr (inl s))) = absurd (no_switch (block ts) refl w s)
@@ -151,7 +151,7 @@ then_pulled false r m f c = refl
 then_pulled true r m f c = refl
 
 -- what is outside of the statements, and as a list before them
-module _ (W : VariableSet) (outside : Tree) (front ts : Trees) (mentions : (x : Name) → names x outside ≡ any_names x front) (evals : has_eval outside ≡ any_has_eval front) where
+module _ (W : Liberties) (outside : Tree) (front ts : Trees) (mentions : (x : Name) → names x outside ≡ any_names x front) (evals : has_eval outside ≡ any_has_eval front) where
   -- as a block
   abbrev pub behind : Trees
   behind = listed front ▸ ts
@@ -185,7 +185,7 @@ module _ (W : VariableSet) (outside : Tree) (front ts : Trees) (mentions : (x : 
   single_within i =
       let l = list_at ts i in
       let j = last_place (children l) in
-      ap (λ b. declares_name (part l j) && (may_lose (is_free_at ts i) W (names_of (part (part l j) 0)) && (may_move (part (part l j) 1) && b))) (read_there (names_of (part (part l j) 0)) (part (part l j) 1) (children l) j i)
+      ap (λ b. declares_name (part l j) && (may_lose (is_free_at ts i) W (names_of (part (part l j) 0)) && (may_move W.switches (part (part l j) 1) && b))) (read_there (names_of (part (part l j) 0)) (part (part l j) 1) (children l) j i)
 
   then_there : (xs : List Name) (d e : Tree) (ds : Trees) (j i : ℕ) → is_read_then xs d e outside ds j ts i ≡ is_read_then xs d e no_outside ds j behind (suc i)
   then_there [] d e ds j i = refl
@@ -201,7 +201,7 @@ module _ (W : VariableSet) (outside : Tree) (front ts : Trees) (mentions : (x : 
       let l = list_at ts i in
       let d = part l j in
       let e = part l (suc j) in
-      ap (λ b. declares_name d && (is_declarator e && (may_lose (is_free_at ts i) W (names_of (part d 0)) && (may_move (part d 1) && b)))) (then_there (names_of (part d 0)) d e (children l) j i)
+      ap (λ b. declares_name d && (is_declarator e && (may_lose (is_free_at ts i) W (names_of (part d 0)) && (may_move W.switches (part d 1) && b)))) (then_there (names_of (part d 0)) d e (children l) j i)
 
   abbrev declared_at : ℕ → Tree
   declared_at i = child_or_absent ts i
@@ -243,7 +243,7 @@ module _ (W : VariableSet) (outside : Tree) (front ts : Trees) (mentions : (x : 
   row_behind m r = gone_row W behind (left m) (gone_there m r)
 
 -- where that is no list, nothing else is read behind it
-module _ (W : VariableSet) (outside : Tree) (front ts : Trees) (mentions : (x : Name) → names x outside ≡ any_names x front) (evals : has_eval outside ≡ any_has_eval front) (shut : is_listed_shape (shape_of outside) ≡ false) where
+module _ (W : Liberties) (outside : Tree) (front ts : Trees) (mentions : (x : Name) → names x outside ≡ any_names x front) (evals : has_eval outside ≡ any_has_eval front) (shut : is_listed_shape (shape_of outside) ≡ false) where
   abbrev there : Trees
   there = behind W outside front ts mentions evals
 
@@ -283,7 +283,7 @@ module _ (W : VariableSet) (outside : Tree) (front ts : Trees) (mentions : (x : 
 
 -- ---- an arrow function: its parameters stand before its statements
 
-module _ (W : VariableSet) (directives : List (List ℕ)) (number : ℕ) (ps : Trees) where
+module _ (W : Liberties) (directives : List (List ℕ)) (number : ℕ) (ps : Trees) where
   abbrev outside_arrow : Tree
   outside_arrow = node (shape.ArrowFunctionExpression directives) [] number (listed ps ▸ (absent ▸ none))
 
@@ -318,7 +318,7 @@ module _ (W : VariableSet) (directives : List (List ℕ)) (number : ℕ) (ps : T
 
 -- ---- any other function: its name and its parameters do
 
-module _ (W : VariableSet) (d g : Bool) (directives : List (List ℕ)) (number : ℕ) (name : Tree) (ps : Trees) where
+module _ (W : Liberties) (d g : Bool) (directives : List (List ℕ)) (number : ℕ) (name : Tree) (ps : Trees) where
   abbrev outside_function : Tree
   outside_function = node (shape.Function d g directives) [] number (name ▸ (listed ps ▸ (absent ▸ none)))
 
@@ -360,13 +360,13 @@ module _ (W : VariableSet) (d g : Bool) (directives : List (List ℕ)) (number :
 
 -- ---- a module and a static block: nothing stands before their statements
 
-no_static : (W : VariableSet) (t : Tree) → is_static_block t ≡ false → (w : Tree) → StaticBlockRow W t w → ⊥
+no_static : (W : Liberties) (t : Tree) → is_static_block t ≡ false → (w : Tree) → StaticBlockRow W t w → ⊥
 no_static W t e w r = true≢false (sym (ap is_static_block r.shape) ∙ e)
 
-no_module : (W : VariableSet) (t : Tree) → is_module t ≡ false → (w : Tree) → ModuleRow W t w → ⊥
+no_module : (W : Liberties) (t : Tree) → is_module t ≡ false → (w : Tree) → ModuleRow W t w → ⊥
 no_module W t e w r = true≢false (sym (ap is_module r.shape) ∙ e)
 
-module _ (W : VariableSet) (directives : List (List ℕ)) where
+module _ (W : Liberties) (directives : List (List ℕ)) where
   abbrev outside_module : Tree
   outside_module = node (shape.Program true directives) [] 0 (absent ▸ none)
 
@@ -396,21 +396,21 @@ module _ (W : VariableSet) (directives : List (List ℕ)) where
       by w (inl f) = no_function W (program true directives ts) refl w f
       by w (inr (inl a)) = module_rests ts m r w a
       by w (inr (inr (inl a))) = no_static W (program true directives ts) refl w a
-      by w (inr (inr (inr b))) = no_block nothing (program true directives ts) refl w b
+      by w (inr (inr (inr b))) = no_block (without_vars W.switches) (program true directives ts) refl w b
 
 pub module_is : (t : Tree) → is_module t ≡ true → (directives : List (List ℕ)) × (t ≡ program true directives (children (part t 0)))
 module_is (node (shape.Program true directives) [] zero (node shape.Listed [] zero ts ▸ none)) e = (directives, refl)
 module_is (node (shape.Program true directives) [] zero (u ▸ none)) e = absurd (true≢false (sym e))
 module_is t e = absurd (true≢false (sym e))
 
-of_module : (W : VariableSet) (t m : Tree) (c : Bool) → is_module t ≡ true → Removed (open_in (with_part t 0 absent) W) (with_part t 0 absent) (part t 0) m c → (u : Tree) → u ≡ with_part t 0 m → Applied W Elsewhere t u c
+of_module : (W : Liberties) (t m : Tree) (c : Bool) → is_module t ≡ true → Removed (open_in (with_part t 0 absent) W) (with_part t 0 absent) (part t 0) m c → (u : Tree) → u ≡ with_part t 0 m → Applied W Elsewhere t u c
 of_module W t m c h r u f =
     let (directives, is) = module_is t h in
     let ts = children (part t 0) in
     let there = subst (λ v. Removed (open_in (with_part v 0 absent) W) (with_part v 0 absent) (part v 0) m c) is r in
     subst (λ v. Applied W Elsewhere v u c) (sym is) (subst (λ v. Applied W Elsewhere (program true directives ts) v c) (sym (f ∙ ap (λ v. with_part v 0 m) is)) (module_applied W directives ts m c there))
 
-module _ (W : VariableSet) (number : ℕ) where
+module _ (W : Liberties) (number : ℕ) where
   abbrev outside_static : Tree
   outside_static = node shape.StaticBlock [] number (absent ▸ none)
 
@@ -440,7 +440,7 @@ module _ (W : VariableSet) (number : ℕ) where
       by w (inl f) = no_function W (static_block number ts) refl w f
       by w (inr (inl a)) = no_module W (static_block number ts) refl w a
       by w (inr (inr (inl a))) = static_rests ts m r w a
-      by w (inr (inr (inr b))) = no_block nothing (static_block number ts) refl w b
+      by w (inr (inr (inr b))) = no_block (without_vars W.switches) (static_block number ts) refl w b
 
 pub static_is : (t : Tree) → is_static_block t ≡ true → t ≡ static_block (number_of t) (children (part t 0))
 static_is (node shape.StaticBlock [] n (node shape.Listed [] zero ts ▸ none)) e = refl
@@ -450,14 +450,14 @@ static_is (node shape.StaticBlock [] n none) e = absurd (true≢false (sym e))
 static_is (node shape.StaticBlock (x ∷ xs) n ts) e = absurd (true≢false (sym e))
 static_is t e = absurd (true≢false (sym e))
 
-of_static : (W : VariableSet) (t m : Tree) (c : Bool) → is_static_block t ≡ true → Removed (open_in (with_part t 0 absent) W) (with_part t 0 absent) (part t 0) m c → (u : Tree) → u ≡ with_part t 0 m → Applied W Elsewhere t u c
+of_static : (W : Liberties) (t m : Tree) (c : Bool) → is_static_block t ≡ true → Removed (open_in (with_part t 0 absent) W) (with_part t 0 absent) (part t 0) m c → (u : Tree) → u ≡ with_part t 0 m → Applied W Elsewhere t u c
 of_static W t m c h r u f =
     let is = static_is t h in
     let ts = children (part t 0) in
     let there = subst (λ v. Removed (open_in (with_part v 0 absent) W) (with_part v 0 absent) (part v 0) m c) is r in
     subst (λ v. Applied W Elsewhere v u c) (sym is) (subst (λ v. Applied W Elsewhere (static_block (number_of t) ts) v c) (sym (f ∙ ap (λ v. with_part v 0 m) is)) (static_applied W (number_of t) ts m c there))
 
-of_holder : (W : VariableSet) (t m : Tree) (c : Bool) → holds_list t ≡ true → Removed (open_in (with_part t 0 absent) W) (with_part t 0 absent) (part t 0) m c → (u : Tree) → u ≡ with_part t 0 m → Applied W Elsewhere t u c
+of_holder : (W : Liberties) (t m : Tree) (c : Bool) → holds_list t ≡ true → Removed (open_in (with_part t 0 absent) W) (with_part t 0 absent) (part t 0) m c → (u : Tree) → u ≡ with_part t 0 m → Applied W Elsewhere t u c
 of_holder W t m c h r u f = by (is_module t) refl
   where
     by : (b : Bool) → is_module t ≡ b → Applied W Elsewhere t u c
@@ -465,16 +465,16 @@ of_holder W t m c h r u f = by (is_module t) refl
     by false e = of_static W t m c (sym (ap (λ b. b || is_static_block t) e) ∙ h) r u f
 
 -- a block that is no statement
-of_try_block : (W : VariableSet) (t m : Tree) (c : Bool) → is_block t ≡ true → Removed (open_in (with_part t 0 absent) W) (with_part t 0 absent) (part t 0) m c → (u : Tree) → u ≡ with_part t 0 m → Applied W Elsewhere t u c
+of_try_block : (W : Liberties) (t m : Tree) (c : Bool) → is_block t ≡ true → Removed (open_in (with_part t 0 absent) W) (with_part t 0 absent) (part t 0) m c → (u : Tree) → u ≡ with_part t 0 m → Applied W Elsewhere t u c
 of_try_block W t m c b r u f = applied_there W Elsewhere (λ t u b. inr (inr (inr b))) by t m c b r u f
   where
-    by : (ts : Trees) (w : Tree) → UnusedRow W Elsewhere (block ts) w → BlockRow nothing (block ts) w
+    by : (ts : Trees) (w : Tree) → UnusedRow W Elsewhere (block ts) w → BlockRow (without_vars W.switches) (block ts) w
     by ts w (inl f) = absurd (no_function W (block ts) refl w f)
     by ts w (inr (inl a)) = absurd (no_module W (block ts) refl w a)
     by ts w (inr (inr (inl a))) = absurd (no_static W (block ts) refl w a)
     by ts w (inr (inr (inr b))) = b
 
-pub of_statements : (W : VariableSet) (t m : Tree) (c : Bool) → holds_statements t ≡ true → Removed (open_in (with_part t 0 absent) W) (with_part t 0 absent) (part t 0) m c → (u : Tree) → u ≡ with_part t 0 m → Applied W Elsewhere t u c
+pub of_statements : (W : Liberties) (t m : Tree) (c : Bool) → holds_statements t ≡ true → Removed (open_in (with_part t 0 absent) W) (with_part t 0 absent) (part t 0) m c → (u : Tree) → u ≡ with_part t 0 m → Applied W Elsewhere t u c
 of_statements W t m c h r u f = by (is_block t) refl
   where
     by : (b : Bool) → is_block t ≡ b → Applied W Elsewhere t u c
@@ -505,7 +505,7 @@ arrow_is t e =
     let (directives, is) = arrow_parts t a b c in
     (directives, is ∙ (λ k. node (shape.ArrowFunctionExpression directives) [] (number_of t) (listed_is (part t 0) d k ▸ (body_is (part t 1) f k ▸ none))))
 
-pub of_arrow : (W : VariableSet) (t m : Tree) (c : Bool) → has_statements t ≡ true → Removed (open_in (with_part t 1 absent) W) (with_part t 1 absent) (part (part t 1) 0) m c → (u : Tree) → u ≡ with_part t 1 (with_part (part t 1) 0 m) → (s : Seat) → Applied W (Expr s) t u c
+pub of_arrow : (W : Liberties) (t m : Tree) (c : Bool) → has_statements t ≡ true → Removed (open_in (with_part t 1 absent) W) (with_part t 1 absent) (part (part t 1) 0) m c → (u : Tree) → u ≡ with_part t 1 (with_part (part t 1) 0 m) → (s : Seat) → Applied W (Expr s) t u c
 of_arrow W t m c h r u f s =
     let (directives, is) = arrow_is t h in
     let n = number_of t in
@@ -533,7 +533,7 @@ function_is t e =
     let (d, g, directives, is) = function_parts t a b c in
     (d, g, directives, is ∙ (λ k. node (shape.Function d g directives) [] (number_of t) (part t 0 ▸ (listed_is (part t 1) l k ▸ (body_is (part t 2) f k ▸ none)))))
 
-pub of_function : (W : VariableSet) (t m : Tree) (c : Bool) → is_function t ≡ true → Removed (open_in (with_part t 2 absent) W) (with_part t 2 absent) (part (part t 2) 0) m c → (u : Tree) → u ≡ with_part t 2 (with_part (part t 2) 0 m) → AppliedInFunction W t u c
+pub of_function : (W : Liberties) (t m : Tree) (c : Bool) → is_function t ≡ true → Removed (open_in (with_part t 2 absent) W) (with_part t 2 absent) (part (part t 2) 0) m c → (u : Tree) → u ≡ with_part t 2 (with_part (part t 2) 0 m) → AppliedInFunction W t u c
 of_function W t m c h r u f =
     let (d, g, directives, is) = function_is t h in
     let n = number_of t in
@@ -544,22 +544,22 @@ of_function W t m c h r u f =
     subst (λ v. AppliedInFunction W v u c) (sym is)
     (subst (λ v. AppliedInFunction W (function_with d g directives n name ps ts) v c) (sym (f ∙ ap (λ v. with_part v 2 (with_part (part v 2) 0 m)) is)) (function_applied W d g directives n name ps ts m c there))
 
-pub stays : (W : VariableSet) (t : Tree) → is_function t ≡ false → AppliedInFunction W t t false
+pub stays : (W : Liberties) (t : Tree) → is_function t ≡ false → AppliedInFunction W t t false
 stays W t e = (refl, no_function W t e)
 
 -- ---- where a function stands
 
-pub as_statement : (W : VariableSet) (t u : Tree) (c : Bool) → has_head t ≡ false → is_switch t ≡ false → is_block t ≡ false → AppliedInFunction W t u c → (q : StmtSeat) → Applied W (Stmt q) t u c
+pub as_statement : (W : Liberties) (t u : Tree) (c : Bool) → has_head t ≡ false → is_switch t ≡ false → is_block t ≡ false → AppliedInFunction W t u c → (q : StmtSeat) → Applied W (Stmt q) t u c
 as_statement W t u true h s e r q = several_moves W (Stmt q) (FunctionBodyRow W) (λ t u f. inr (inl f)) t u r
 as_statement W t u false h s e r q = (r.0, by)
   where
     by : (w : Tree) → UnusedRow W (Stmt q) t w → ⊥
-    by w (inl b) = no_block nothing t e w b
+    by w (inl b) = no_block (without_vars W.switches) t e w b
     by w (inr (inl f)) = r.1 w f
     by w (inr (inr (inl v))) = no_switch t s w v
     by w (inr (inr (inr v))) = no_head t h w v
 
-pub as_expression : (W : VariableSet) (t u : Tree) (c : Bool) → has_statements t ≡ false → AppliedInFunction W t u c → (s : Seat) → Applied W (Expr s) t u c
+pub as_expression : (W : Liberties) (t u : Tree) (c : Bool) → has_statements t ≡ false → AppliedInFunction W t u c → (s : Seat) → Applied W (Expr s) t u c
 as_expression W t u true e r s = several_moves W (Expr s) (FunctionBodyRow W) (λ t u f. inr f) t u r
 as_expression W t u false e r s = (r.0, by)
   where
@@ -567,11 +567,11 @@ as_expression W t u false e r s = (r.0, by)
     by w (inl a) = no_arrow W t e w a
     by w (inr f) = r.1 w f
 
-pub as_method : (W : VariableSet) (t u : Tree) (c : Bool) → AppliedInFunction W t u c → Applied W Method t u c
+pub as_method : (W : Liberties) (t u : Tree) (c : Bool) → AppliedInFunction W t u c → Applied W Method t u c
 as_method W t u true r = several_moves W Method (FunctionBodyRow W) (λ t u f. f) t u r
 as_method W t u false r = r
 
-pub as_exported : (W : VariableSet) (t u : Tree) (c : Bool) → holds_statements t ≡ false → AppliedInFunction W t u c → Applied W Elsewhere t u c
+pub as_exported : (W : Liberties) (t u : Tree) (c : Bool) → holds_statements t ≡ false → AppliedInFunction W t u c → Applied W Elsewhere t u c
 as_exported W t u true e r = several_moves W Elsewhere (FunctionBodyRow W) (λ t u f. inl f) t u r
 as_exported W t u false e r = (r.0, by (or_parts (is_block t) (holds_list t) e))
   where
@@ -579,19 +579,19 @@ as_exported W t u false e r = (r.0, by (or_parts (is_block t) (holds_list t) e))
     by (b, l) w (inl f) = r.1 w f
     by (b, l) w (inr (inl a)) = no_module W t (or_parts (is_module t) (is_static_block t) l).0 w a
     by (b, l) w (inr (inr (inl a))) = no_static W t (or_parts (is_module t) (is_static_block t) l).1 w a
-    by (b, l) w (inr (inr (inr a))) = no_block nothing t b w a
+    by (b, l) w (inr (inr (inr a))) = no_block (without_vars W.switches) t b w a
 
 -- ---- the context
 
--- its tables tell what can be written in the program that it knows
-pub told : (c : TraverseCtx) (o : CompressOptions) (q : Tree) → Knows c o q → marked c.scopes ≡ writable_in q
-told c o q k = λ j x. by x j
+-- its tables tell what can be written in the program that it knows, and it has these options
+pub told : (c : TraverseCtx) (o : CompressOptions) (q : Tree) → Knows c o q → allowed c ≡ allowed_in o q
+told c o q k = λ j. liberties (switches_of (k.options j)) (λ x. by x j)
   where
     by : (x : Variable) → marked c.scopes x ≡ writable_in q x
     by (Declared s) = k.refreshed.told.writable_told s
     by (Global s) = refl
 
-pub known : (c : TraverseCtx) (p : Position) (t u : Tree) (b : Bool) → Applied (marked c.scopes) p t u b → (o : CompressOptions) (q : Tree) → Knows c o q → rule.Applied (Gives o q) (Rests q) p t u b
+pub known : (c : TraverseCtx) (p : Position) (t u : Tree) (b : Bool) → Applied (allowed c) p t u b → (o : CompressOptions) (q : Tree) → Knows c o q → rule.Applied (Gives o q) (Rests o q) p t u b
 known c p t u b r o q k = subst (λ W. Applied W p t u b) (told c o q k) r
 
 -- ---- where memory does not run out

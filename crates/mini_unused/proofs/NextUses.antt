@@ -8,7 +8,6 @@ use Rattle.mini_model.specs.Tree.{Tree, Trees, node, none, ◌▸◌, shape_of, 
 use Rattle.mini_model.specs.Paths.{append}
 use Rattle.mini_laws.specs.Naming as kinds
 use Rattle.mini_laws.specs.ScopeList.{has_eval}
-use Rattle.mini_laws.specs.Value.{VariableSet}
 use Rattle.mini_node.specs.Children.{names_of, like, part, with_child, with_part, without, first_children, rest_children}
 use Rattle.mini_node.specs.Kinds.{is_block}
 use Rattle.mini_node.specs.Made.{block_is}
@@ -16,6 +15,7 @@ use Rattle.mini_node.specs.Walks.{next_child}
 use Rattle.mini_rows.specs.Lists.{block, declaration}
 use Rattle.mini_rows.specs.Declarations.{binding, declarator}
 use Rattle.mini_rows.specs.Unused.{resolved, declared_among, names, any_names, is_first, put_first, are_passed, may_move, lets_go, Row71Next}
+use Rattle.mini_rows.specs.Switches.{Liberties}
 use Rattle.mini_unused.specs.RemoveUnusedDeclaration.{declares_name, is_lexical_shape, declares_list, may_declare, may_lose, is_free_at, list_at}
 use Rattle.mini_unused.specs.SubstituteNext.{is_declarator, reads_then, put_named, is_mentioned_beside, is_mentioned_elsewhere, is_read_then, is_read_by, is_read_by_next, is_next, NextIn, NextOf, NextAt, declarators_next, list_next}
 use Rattle.mini_unused.proofs.SingleUses.{no_first, next_there as child_there, rest_there, within_there}
@@ -29,41 +29,41 @@ two_parts d e = ap (λ t. count (children t)) (declares d e).is
 pub declarator_parts : (d : Tree) → is_declarator d ≡ true → count (children d) ≡ 2
 declarator_parts d e = ap (λ t. count (children t)) (declarator_is d e)
 
-pub next_is : (free : Bool) (W : VariableSet) (l : Tree) (j : ℕ) (o : Tree) (ts : Trees) (i : ℕ) → is_read_by free W (part l j) (part l (j + 1)) o (children l) j ts i ≡ is_read_by_next free W l j o ts i
+pub next_is : (free : Bool) (W : Liberties) (l : Tree) (j : ℕ) (o : Tree) (ts : Trees) (i : ℕ) → is_read_by free W (part l j) (part l (j + 1)) o (children l) j ts i ≡ is_read_by_next free W l j o ts i
 next_is free W l j o ts i = ap (λ k. is_read_by free W (part l j) (part l k) o (children l) j ts i) (add-one j)
 
-pub none_of : (W : VariableSet) (o : Tree) (ts : Trees) (i : ℕ) → may_declare o (child_or_absent ts i) ≡ false → NextOf W o ts i None
+pub none_of : (W : Liberties) (o : Tree) (ts : Trees) (i : ℕ) → may_declare o (child_or_absent ts i) ≡ false → NextOf W o ts i None
 none_of W o ts i e j h = ap (λ b. b && is_read_by_next (is_free_at ts i) W (list_at ts i) j o ts i) e
 
-pub of_list : (W : VariableSet) (o : Tree) (ts : Trees) (i : ℕ) (f : Option ℕ) → may_declare o (child_or_absent ts i) ≡ true → 0 < count (children (child_or_absent ts i)) → NextIn (is_free_at ts i) W (list_at ts i) o ts i f → NextOf W o ts i f
+pub of_list : (W : Liberties) (o : Tree) (ts : Trees) (i : ℕ) (f : Option ℕ) → may_declare o (child_or_absent ts i) ≡ true → 0 < count (children (child_or_absent ts i)) → NextIn (is_free_at ts i) W (list_at ts i) o ts i f → NextOf W o ts i f
 of_list W o ts i (Some j) e h u = (h, u.0, and_both (may_declare o (child_or_absent ts i)) (is_read_by_next (is_free_at ts i) W (list_at ts i) j o ts i) e u.1)
 of_list W o ts i None e h u = λ j g. ap (λ b. b && is_read_by_next (is_free_at ts i) W (list_at ts i) j o ts i) e ∙ u j g
 
 -- what it has
-pub record Found (W : VariableSet) (o : Tree) (ts : Trees) (i j : ℕ) : Type 0 where
+pub record Found (W : Liberties) (o : Tree) (ts : Trees) (i j : ℕ) : Type 0 where
   pub declared : declares_list (child_or_absent ts i) ≡ true
   pub one : declares_name (part (list_at ts i) j) ≡ true
   pub next : is_declarator (part (list_at ts i) (suc j)) ≡ true
   pub lost : may_lose (is_free_at ts i) W (names_of (part (part (list_at ts i) j) 0)) ≡ true
-  pub moves : may_move (part (part (list_at ts i) j) 1) ≡ true
+  pub moves : may_move W.switches (part (part (list_at ts i) j) 1) ≡ true
   pub read : is_read_then (names_of (part (part (list_at ts i) j) 0)) (part (list_at ts i) j) (part (list_at ts i) (suc j)) o (children (list_at ts i)) j ts i ≡ true
 
-pub found : (W : VariableSet) (o : Tree) (ts : Trees) (i j : ℕ) → is_next W o ts i j ≡ true → Found W o ts i j
+pub found : (W : Liberties) (o : Tree) (ts : Trees) (i j : ℕ) → is_next W o ts i j ≡ true → Found W o ts i j
 found W o ts i j e =
     let l = list_at ts i in
     let lost = may_lose (is_free_at ts i) W (names_of (part (part l j) 0)) in
     let read = is_read_then (names_of (part (part l j) 0)) (part l j) (part l (suc j)) o (children l) j ts i in
-    let (a, p) = and_parts (may_declare o (child_or_absent ts i)) (declares_name (part l j) && (is_declarator (part l (suc j)) && (lost && (may_move (part (part l j) 1) && read)))) e in
-    let (b, q) = and_parts (declares_name (part l j)) (is_declarator (part l (suc j)) && (lost && (may_move (part (part l j) 1) && read))) p in
-    let (c, r) = and_parts (is_declarator (part l (suc j))) (lost && (may_move (part (part l j) 1) && read)) q in
-    let (d, s) = and_parts lost (may_move (part (part l j) 1) && read) r in
-    let (f, g) = and_parts (may_move (part (part l j) 1)) read s in
+    let (a, p) = and_parts (may_declare o (child_or_absent ts i)) (declares_name (part l j) && (is_declarator (part l (suc j)) && (lost && (may_move W.switches (part (part l j) 1) && read)))) e in
+    let (b, q) = and_parts (declares_name (part l j)) (is_declarator (part l (suc j)) && (lost && (may_move W.switches (part (part l j) 1) && read))) p in
+    let (c, r) = and_parts (is_declarator (part l (suc j))) (lost && (may_move W.switches (part (part l j) 1) && read)) q in
+    let (d, s) = and_parts lost (may_move W.switches (part (part l j) 1) && read) r in
+    let (f, g) = and_parts (may_move W.switches (part (part l j) 1)) read s in
     record { declared = declared_there o (child_or_absent ts i) a; one = b; next = c; lost = d; moves = f; read = g }
 
-pub declares_there : (W : VariableSet) (o : Tree) (ts : Trees) (i j : ℕ) → NextOf W o ts i (Some j) → declares_name (part (list_at ts i) j) ≡ true
+pub declares_there : (W : Liberties) (o : Tree) (ts : Trees) (i j : ℕ) → NextOf W o ts i (Some j) → declares_name (part (list_at ts i) j) ≡ true
 declares_there W o ts i j n = (found W o ts i j n.2).one
 
-pub next_declares_there : (W : VariableSet) (o : Tree) (ts : Trees) (i j : ℕ) → NextOf W o ts i (Some j) → is_declarator (part (list_at ts i) (j + 1)) ≡ true
+pub next_declares_there : (W : Liberties) (o : Tree) (ts : Trees) (i j : ℕ) → NextOf W o ts i (Some j) → is_declarator (part (list_at ts i) (j + 1)) ≡ true
 next_declares_there W o ts i j n = ap (λ k. is_declarator (part (list_at ts i) k)) (add-one j) ∙ (found W o ts i j n.2).next
 
 -- ---- a declarator less
@@ -123,7 +123,7 @@ read_once x d e ds j ts i h =
 abbrev pub block_next : Tree → ℕ → ℕ → Tree
 block_next t i j = with_part t 0 (list_next (part t 0) i j)
 
-module _ (t : Tree) (i j : ℕ) (b : is_block t ≡ true) (h : i < count (children (part t 0))) (g : suc j < count (children (list_at (children (part t 0)) i))) (W : VariableSet) (e : is_next W no_outside (children (part t 0)) i j ≡ true) (v : has_eval t ≡ false) where
+module _ (t : Tree) (i j : ℕ) (b : is_block t ≡ true) (h : i < count (children (part t 0))) (g : suc j < count (children (list_at (children (part t 0)) i))) (W : Liberties) (e : is_next W no_outside (children (part t 0)) i j ≡ true) (v : has_eval t ≡ false) where
   abbrev ts : Trees
   ts = children (part t 0)
 
@@ -175,7 +175,7 @@ module _ (t : Tree) (i j : ℕ) (b : is_block t ≡ true) (h : i < count (childr
   abbrev x : Name
   x = resolved one.spelling one.symbol
 
-  goes : lets_go W kind one.symbol ≡ true
+  goes : lets_go W.writable kind one.symbol ≡ true
   goes = sym (λ k. may_lose (is_lexical_shape (shape_of (let_there k))) W (names_of (part (one.is k) 0))) ∙ tests.lost
 
   reading : Once x d n ds j ts i
@@ -237,7 +237,7 @@ module _ (t : Tree) (i j : ℕ) (b : is_block t ≡ true) (h : i < count (childr
 
 -- ---- where nothing is written no row reads it
 
-module _ (W : VariableSet) (t w : Tree) (r : Row71Next W t w) where
+module _ (W : Liberties) (t w : Tree) (r : Row71Next W t w) where
   abbrev named : Name
   named = resolved r.spelling r.symbol
 
@@ -271,11 +271,11 @@ module _ (W : VariableSet) (t w : Tree) (r : Row71Next W t w) where
   next_there =
       let i = count r.before in
       let j = count r.first in
-      let last = may_move r.init && is_read_then (named ∷ []) declared following no_outside declarators j statements i in
+      let last = may_move W.switches r.init && is_read_then (named ∷ []) declared following no_outside declarators j statements i in
       ap (λ v. is_next W no_outside (children (part v 0)) i j) r.shape
       ∙ ap (λ c. declares_list c && is_read_by_next (is_lexical_shape (shape_of c)) W (part c 0) j no_outside statements i) (there_child r.before stated r.after)
       ∙ (λ k. is_read_by (kinds.is_lexical r.kind) W (there_child r.first declared (following ▸ r.last) k) (child_there r.first declared following r.last k) no_outside declarators j statements i)
-      ∙ and_both (lets_go W r.kind r.symbol) last r.goes (and_both (may_move r.init) (is_read_then (named ∷ []) declared following no_outside declarators j statements i) r.moves then_is)
+      ∙ and_both (lets_go W.writable r.kind r.symbol) last r.goes (and_both (may_move W.switches r.init) (is_read_then (named ∷ []) declared following no_outside declarators j statements i) r.moves then_is)
 
   pub next_within : suc (count r.first) < count (children (list_at (children (part t 0)) (count r.before)))
   next_within =
@@ -285,5 +285,5 @@ module _ (W : VariableSet) (t w : Tree) (r : Row71Next W t w) where
   pub statement_within : count r.before < count (children (part t 0))
   statement_within = subst (λ v. count r.before < count (children (part v 0))) (sym r.shape) (there_within r.before stated r.after)
 
-pub none_next : (W : VariableSet) (t : Tree) → NextAt W no_outside (children (part t 0)) None → (w : Tree) → Row71Next W t w → ⊥
+pub none_next : (W : Liberties) (t : Tree) → NextAt W no_outside (children (part t 0)) None → (w : Tree) → Row71Next W t w → ⊥
 none_next W t f w r = true≢false (sym (next_there W t w r) ∙ f (count r.before) (statement_within W t w r) (count r.first) (next_within W t w r))

@@ -9,16 +9,16 @@ use Rattle.mini_model.specs.Tree.{Tree, Trees, node, none, ◌▸◌, listed, ch
 use Rattle.mini_model.specs.Paths.{append}
 use Rattle.mini_model.specs.Weight.{same_text}
 use Rattle.mini_laws.specs.Symbols.{is_same}
-use Rattle.mini_laws.specs.Value.{VariableSet}
 use Rattle.mini_node.specs.Children.{names_of, like, part, with_child, with_part, without, is_bare, is_nameless, first_children, rest_children}
 use Rattle.mini_node.specs.Kinds.{is_identifier}
 use Rattle.mini_node.specs.Walks.{next_child}
 use Rattle.mini_kept.proofs.SameScopes.{same_texts}
 use Rattle.mini_rows.specs.Declarations.{declarator}
-use Rattle.mini_rows.specs.Unused.{may_hold, resolved, is_like_one, names, any_names, is_idle, leads, holds_list, is_childless, reads, is_first, leads_to, put_first, put_among, are_passed, is_head_shape, reads_first, reads_head, has_declarator, goes_over, evaluated}
+use Rattle.mini_rows.specs.Unused.{may_hold, resolved, is_like_one, names, any_names, is_idle, leads, holds_list, reads, is_first, leads_to, put_first, put_among, are_passed, is_head_shape, reads_first, reads_head, has_declarator, goes_over, evaluated}
 use Rattle.mini_rows.proofs.ListKeptHeads.{Seat, Loop, Choice, seated}
 use Rattle.mini_rows.specs.Lists.{Each, EachIn, EachOf, each_loop}
 use Rattle.mini_rows.proofs.SingleUse.{Heads, heads}
+use Rattle.mini_rows.specs.Switches.{Liberties}
 use Rattle.mini_unused.specs.declared.tallies.Tallies.{Tallies}
 use Rattle.mini_unused.specs.RemoveUnusedDeclaration.{declares_list, is_alone, list_at, let_left, statement_left, list_left}
 use Rattle.mini_unused.specs.SubstituteNext.{reads_in, put_named, is_read_then, declarators_next, list_next, NextGone}
@@ -159,7 +159,7 @@ module _ (f : Name → ℕ) (b : ℕ) where
       let less = declarators_fewer (part t 0) j in
       omega (arith, whole, one, less)
 
-  pub gone_fewer : (W : VariableSet) (o l n : Tree) → Gone W o l n → tally f b n ≤ tally f b l
+  pub gone_fewer : (W : Liberties) (o l n : Tree) → Gone W o l n → tally f b n ≤ tally f b l
   gone_fewer W o l n g = by g.name
     where
       by : NameGone W o l n ⊎ (ReadGone W o l n ⊎ NextGone W o l n) → tally f b n ≤ tally f b l
@@ -167,13 +167,13 @@ module _ (f : Name → ℕ) (b : ℕ) where
       by (inr (inr x)) = let less = list_next_fewer l x.at x.which in let same = ap (tally f b) x.left in omega (arith, less, same)
       by (inr (inl x)) = let less = list_moved l x.at (last_place (children (list_at (children l) x.at))) in let same = ap (tally f b) x.left in omega (arith, less, same)
 
-pub still_covers : (by_symbol : Bool) (counts : List ℕ) (W : VariableSet) (o l n : Tree) → Gone W o l n → Covers by_symbol counts o l → Covers by_symbol counts o n
+pub still_covers : (by_symbol : Bool) (counts : List ℕ) (W : Liberties) (o l n : Tree) → Gone W o l n → Covers by_symbol counts o l → Covers by_symbol counts o n
 still_covers by_symbol counts W o l n g c b h k =
     let less = gone_fewer (bucket by_symbol (length counts)) b W o l n g in
     let before = c b h k in
     omega (arith, less, before)
 
-pub still_tallied : (c : Tallies) (W : VariableSet) (o l n : Tree) → Gone W o l n → Tallied c o l → Tallied c o n
+pub still_tallied : (c : Tallies) (W : Liberties) (o l n : Tree) → Gone W o l n → Tallied c o l → Tallied c o n
 still_tallied c W o l n g t = record { symbols = still_covers true c.by_symbol.items W o l n g t.symbols; spellings = still_covers false c.by_spelling.items W o l n g t.spellings }
 
 -- ---- a name whose buckets nothing else is in

@@ -12,7 +12,6 @@ use Rattle.mini_model.specs.Tree.{Tree, Trees, node, none, ◌▸◌, shape_of, 
 use Rattle.mini_model.specs.Paths.{append}
 use Rattle.mini_laws.specs.Naming as kinds
 use Rattle.mini_laws.specs.ScopeList.{has_eval}
-use Rattle.mini_laws.specs.Value.{VariableSet}
 use Rattle.mini_node.specs.Children.{names_of, part, with_child, with_part, is_bare, is_nameless, number_of, first_children, rest_children}
 use Rattle.mini_node.specs.Kinds.{is_absent_part, is_block}
 use Rattle.mini_node.specs.Made.{block_is}
@@ -24,6 +23,7 @@ use Rattle.mini_rows.specs.Unused.{resolved, declared_among, declared_left, name
 use Rattle.mini_unused.specs.RemoveUnusedDeclaration.{declares_name, is_lexical_shape, declares_list, may_declare, may_lose, is_free_at, list_at}
 use Rattle.mini_rows.specs.declared.gathered.Gathered.{Gathered}
 use Rattle.mini_rows.specs.declared.gathered.Gathered.TheVariants.{Values as OfValues}
+use Rattle.mini_rows.specs.Switches.{Liberties}
 use Rattle.mini_unused.specs.SubstituteNext.{put_named}
 use Rattle.mini_unused.specs.SubstituteSingleUse.{is_own_name, written_in_full, mention_place, may_lead, all_pass, is_reached_at, may_reach, is_head, reads_here, last_place, is_declared_over, is_mentioned_around, reads_next, is_read_once, is_single_declarator, is_single, declaration_left, list_single}
 use Rattle.mini_unused.proofs.Unused.{no_outside, parts_of, there_child, there_first, and_both, Declares, declares, a_declaration, left_is}
@@ -437,14 +437,14 @@ last_is none h = absurd (omega (arith, h))
 last_is (t ▸ none) h = refl
 last_is (t ▸ (u ▸ ts)) h = let rest = last_is (u ▸ ts) (omega arith) in omega (arith, rest)
 
-pub no_declarator : (free : Bool) (W : VariableSet) (l o : Tree) (ts : Trees) (i j : ℕ) → count (children l) ≡ 0 → is_single_declarator free W l j o ts i ≡ false
+pub no_declarator : (free : Bool) (W : Liberties) (l o : Tree) (ts : Trees) (i j : ℕ) → count (children l) ≡ 0 → is_single_declarator free W l j o ts i ≡ false
 no_declarator free W (node h xs n none) o ts i j e = refl
 no_declarator free W (node h xs n (t ▸ us)) o ts i j e = absurd (omega (arith, e))
 
 pub read_next : (x : Name) (r : Tree) (ts : Trees) (i : ℕ) → reads_here x r (child_or_absent ts (i + 1)) ≡ reads_next x r ts i
 read_next x r ts i = ap (λ k. reads_here x r (child_or_absent ts k)) (add-one i)
 
-pub single_by : (W : VariableSet) (o : Tree) (ts : Trees) (i : ℕ) (statement l : Tree) (n : ℕ) (free r : Bool) → statement ≡ child_or_absent ts i → may_declare o statement ≡ true → l ≡ part statement 0 → n ≡ last_place (children l) → free ≡ is_lexical_shape (shape_of statement) → r ≡ is_single_declarator free W l n o ts i → r ≡ is_single W o ts i
+pub single_by : (W : Liberties) (o : Tree) (ts : Trees) (i : ℕ) (statement l : Tree) (n : ℕ) (free r : Bool) → statement ≡ child_or_absent ts i → may_declare o statement ≡ true → l ≡ part statement 0 → n ≡ last_place (children l) → free ≡ is_lexical_shape (shape_of statement) → r ≡ is_single_declarator free W l n o ts i → r ≡ is_single W o ts i
 single_by W o ts i statement l n free r s e f g z h =
     let there : l ≡ list_at ts i = f ∙ ap (λ t. part t 0) s in
     let is_free : free ≡ is_free_at ts i = z ∙ ap (λ t. is_lexical_shape (shape_of t)) s in
@@ -521,7 +521,7 @@ read_once x init ds j ts i e =
 abbrev pub block_single : Tree → ℕ → ℕ → Tree
 block_single t i j = with_part t 0 (list_single (part t 0) i j)
 
-module _ (t : Tree) (i : ℕ) (b : is_block t ≡ true) (next : suc i < count (children (part t 0))) (some : 0 < count (children (list_at (children (part t 0)) i))) (W : VariableSet) (single : is_single W no_outside (children (part t 0)) i ≡ true) (v : has_eval t ≡ false) where
+module _ (t : Tree) (i : ℕ) (b : is_block t ≡ true) (next : suc i < count (children (part t 0))) (some : 0 < count (children (list_at (children (part t 0)) i))) (W : Liberties) (single : is_single W no_outside (children (part t 0)) i ≡ true) (v : has_eval t ≡ false) where
   abbrev ts : Trees
   ts = children (part t 0)
 
@@ -558,12 +558,12 @@ module _ (t : Tree) (i : ℕ) (b : is_block t ≡ true) (next : suc i < count (c
   abbrev lost : Bool
   lost = may_lose (is_free_at ts i) W (names_of (part d 0))
 
-  tests : (declares_list statement ≡ true) × (declares_name d ≡ true) × (may_move init ≡ true) × (once_there ≡ true) × (lost ≡ true)
+  tests : (declares_list statement ≡ true) × (declares_name d ≡ true) × (may_move W.switches init ≡ true) × (once_there ≡ true) × (lost ≡ true)
   tests =
-      let (a, p) = and_parts (declares_list statement) (declares_name d && (lost && (may_move init && once_there))) single in
-      let (c, q) = and_parts (declares_name d) (lost && (may_move init && once_there)) p in
-      let (l, m) = and_parts lost (may_move init && once_there) q in
-      let (f, r) = and_parts (may_move init) once_there m in
+      let (a, p) = and_parts (declares_list statement) (declares_name d && (lost && (may_move W.switches init && once_there))) single in
+      let (c, q) = and_parts (declares_name d) (lost && (may_move W.switches init && once_there)) p in
+      let (l, m) = and_parts lost (may_move W.switches init && once_there) q in
+      let (f, r) = and_parts (may_move W.switches init) once_there m in
       (a, c, f, r, l)
 
   abbrev kind : VariableDeclarationKind
@@ -578,7 +578,7 @@ module _ (t : Tree) (i : ℕ) (b : is_block t ≡ true) (next : suc i < count (c
   abbrev x : Name
   x = resolved one.spelling one.symbol
 
-  goes : lets_go W kind one.symbol ≡ true
+  goes : lets_go W.writable kind one.symbol ≡ true
   goes = sym (λ k. may_lose (is_lexical_shape (shape_of (let_there k))) W (names_of (part (one.is k) 0))) ∙ tests.4
 
   reading : Once x init ds j ts i
@@ -633,7 +633,7 @@ module _ (t : Tree) (i : ℕ) (b : is_block t ≡ true) (next : suc i < count (c
 
 -- ---- where nothing is written no row reads it
 
-module _ (W : VariableSet) (t w : Tree) (r : Row71 W t w) where
+module _ (W : Liberties) (t w : Tree) (r : Row71 W t w) where
   abbrev named : Name
   named = resolved r.spelling r.symbol
 
@@ -665,11 +665,11 @@ module _ (W : VariableSet) (t w : Tree) (r : Row71 W t w) where
       ap (λ v. is_single W no_outside (children (part v 0)) i) r.shape
       ∙ ap (λ c. declares_list c && is_single_declarator (is_lexical_shape (shape_of c)) W (part c 0) (last_place (children (part c 0))) no_outside statements i) (there_child r.before stated (r.head ▸ r.after))
       ∙ ap (λ j. is_single_declarator (kinds.is_lexical r.kind) W (part stated 0) j no_outside statements i) (last_there r.first declared)
-      ∙ ap (λ c. declares_name c && (may_lose (kinds.is_lexical r.kind) W (names_of (part c 0)) && (may_move (part c 1) && is_read_once (names_of (part c 0)) no_outside (part c 1) declarators (count r.first) statements i))) (there_child r.first declared none)
-      ∙ and_both (lets_go W r.kind r.symbol) (may_move r.init && is_read_once (named ∷ []) no_outside r.init declarators (count r.first) statements i) r.goes (and_both (may_move r.init) (is_read_once (named ∷ []) no_outside r.init declarators (count r.first) statements i) r.moves once_is)
+      ∙ ap (λ c. declares_name c && (may_lose (kinds.is_lexical r.kind) W (names_of (part c 0)) && (may_move W.switches (part c 1) && is_read_once (names_of (part c 0)) no_outside (part c 1) declarators (count r.first) statements i))) (there_child r.first declared none)
+      ∙ and_both (lets_go W.writable r.kind r.symbol) (may_move W.switches r.init && is_read_once (named ∷ []) no_outside r.init declarators (count r.first) statements i) r.goes (and_both (may_move W.switches r.init) (is_read_once (named ∷ []) no_outside r.init declarators (count r.first) statements i) r.moves once_is)
 
   pub single_within : suc (count r.before) < count (children (part t 0))
   single_within = subst (λ v. suc (count r.before) < count (children (part v 0))) (sym r.shape) (within_there r.before stated r.head r.after)
 
-pub none_single : (W : VariableSet) (t : Tree) → ((i : ℕ) → suc i < count (children (part t 0)) → is_single W no_outside (children (part t 0)) i ≡ false) → (w : Tree) → Row71 W t w → ⊥
+pub none_single : (W : Liberties) (t : Tree) → ((i : ℕ) → suc i < count (children (part t 0)) → is_single W no_outside (children (part t 0)) i ≡ false) → (w : Tree) → Row71 W t w → ⊥
 none_single W t f w r = true≢false (sym (single_there W t w r) ∙ f (count r.before) (single_within W t w r))

@@ -4,10 +4,10 @@ use Rattle.std.specs.Prelude.{◌&&◌, ◌||◌, nat_eq, Some, Result, Ok, Err,
 use Rattle.std.proofs.lemmas.Bool.{and_parts}
 use Rattle.mini_model.specs.Tree.{Tree, Trees, listed, shape_of, children, count, child_or_absent}
 use Rattle.mini_laws.specs.ScopeList.{has_eval}
-use Rattle.mini_laws.specs.Value.{VariableSet}
 use Rattle.mini_node.specs.Children.{names_of, part, is_bare}
 use Rattle.mini_node.specs.Kinds.{is_block, is_block_shape, is_listed}
 use Rattle.mini_rows.specs.Unused.{resolved, may_move}
+use Rattle.mini_rows.specs.Switches.{Liberties}
 use Rattle.mini_unused.specs.Chains.{Chain, still, Several}
 use Rattle.mini_unused.specs.RemoveUnusedDeclaration.{declares_name, may_lose, may_go, is_alone, declares_list, may_declare, is_lexical_shape, is_free_at, is_unused_declarator, list_at, list_left, UnusedOf, UnusedAt, are_statements, are_no_names, is_body_shape, is_arrow_shape, has_statements, is_function_shape, is_function, is_module_shape, is_module, is_static_shape, is_static_block, holds_list, holds_statements}
 use Rattle.mini_unused.specs.SubstituteNext.{is_declarator, is_read_then, is_read_by_next, list_next, NextOf, NextAt}
@@ -29,7 +29,7 @@ three_and_one a b c d e f =
     let (z, v) = and_parts b c y in
     and_both a (b && (c && d)) x (and_both b (c && d) z (and_both c d v f))
 
-pub unused_there : (W : VariableSet) (o : Tree) (ts : Trees) (i j : ℕ) (statement l : Tree) (free : Bool) → statement ≡ child_or_absent ts i → may_declare o statement ≡ true → 0 < count (children statement) → l ≡ part statement 0 → j < count (children l) → free ≡ is_lexical_shape (shape_of statement)
+pub unused_there : (W : Liberties) (o : Tree) (ts : Trees) (i j : ℕ) (statement l : Tree) (free : Bool) → statement ≡ child_or_absent ts i → may_declare o statement ≡ true → 0 < count (children statement) → l ≡ part statement 0 → j < count (children l) → free ≡ is_lexical_shape (shape_of statement)
     → may_go_at free W l j ≡ true → is_alone (names_of (part (part l j) 0)) o (part (part l j) 1) (children l) j ts i ≡ true → UnusedOf W o ts i (Some j)
 unused_there W o ts i j statement l free s d h f g z e t =
     let there : l ≡ list_at ts i = f ∙ ap (λ u. part u 0) s in
@@ -40,10 +40,10 @@ unused_there W o ts i j statement l free s d h f g z e t =
       and_both (may_declare o (child_or_absent ts i)) (is_unused_declarator (is_free_at ts i) W (list_at ts i) j o ts i) (sym (ap (may_declare o) s) ∙ d) (sym (λ k. is_unused_declarator (is_free k) W (there k) j o ts i) ∙ unused),
     )
 
-pub single_there : (W : VariableSet) (o : Tree) (ts : Trees) (i j : ℕ) (statement l : Tree) (free : Bool) → statement ≡ child_or_absent ts i → may_declare o statement ≡ true → l ≡ part statement 0 → j + 1 ≡ count (children l) → free ≡ is_lexical_shape (shape_of statement)
+pub single_there : (W : Liberties) (o : Tree) (ts : Trees) (i j : ℕ) (statement l : Tree) (free : Bool) → statement ≡ child_or_absent ts i → may_declare o statement ≡ true → l ≡ part statement 0 → j + 1 ≡ count (children l) → free ≡ is_lexical_shape (shape_of statement)
     → may_move_at free W l j ≡ true → is_read_once (names_of (part (part l j) 0)) o (part (part l j) 1) (children l) j ts i ≡ true → is_single W o ts i ≡ true
 single_there W o ts i j statement l free s d f g z e t =
-    let single : is_single_declarator free W l j o ts i ≡ true = three_and_one (declares_name (part l j)) (may_lose free W (names_of (part (part l j) 0))) (may_move (part (part l j) 1)) (is_read_once (names_of (part (part l j) 0)) o (part (part l j) 1) (children l) j ts i) e t in
+    let single : is_single_declarator free W l j o ts i ≡ true = three_and_one (declares_name (part l j)) (may_lose free W (names_of (part (part l j) 0))) (may_move W.switches (part (part l j) 1)) (is_read_once (names_of (part (part l j) 0)) o (part (part l j) 1) (children l) j ts i) e t in
     let last : j ≡ last_place (children l) = omega (arith, g, last_is (children l) (omega (arith, g))) in
     sym (single_by W o ts i statement l j free true s d f last z (sym single))
 
@@ -85,14 +85,14 @@ read_by_both a b c d e f g h =
     let (z, v) = and_parts c d y in
     and_both a (b && (c && (d && e))) x (and_both b (c && (d && e)) g (and_both c (d && e) z (and_both d e v h)))
 
-pub next_there : (W : VariableSet) (o : Tree) (ts : Trees) (i j : ℕ) (statement l : Tree) (free : Bool) → statement ≡ child_or_absent ts i → may_declare o statement ≡ true → 0 < count (children statement) → l ≡ part statement 0 → j + 1 < count (children l) → free ≡ is_lexical_shape (shape_of statement)
+pub next_there : (W : Liberties) (o : Tree) (ts : Trees) (i j : ℕ) (statement l : Tree) (free : Bool) → statement ≡ child_or_absent ts i → may_declare o statement ≡ true → 0 < count (children statement) → l ≡ part statement 0 → j + 1 < count (children l) → free ≡ is_lexical_shape (shape_of statement)
     → may_move_at free W l j ≡ true → is_declarator (part l (j + 1)) ≡ true → is_read_then (names_of (part (part l j) 0)) (part l j) (part l (j + 1)) o (children l) j ts i ≡ true → NextOf W o ts i (Some j)
 next_there W o ts i j statement l free s d h f g z e n t =
     let there : l ≡ list_at ts i = f ∙ ap (λ u. part u 0) s in
     let is_free : free ≡ is_free_at ts i = z ∙ ap (λ u. is_lexical_shape (shape_of u)) s in
     let one = add-one j in
     let read : is_read_by_next free W l j o ts i ≡ true =
-    read_by_both (declares_name (part l j)) (is_declarator (part l (suc j))) (may_lose free W (names_of (part (part l j) 0))) (may_move (part (part l j) 1)) (is_read_then (names_of (part (part l j) 0)) (part l j) (part l (suc j)) o (children l) j ts i) e
+    read_by_both (declares_name (part l j)) (is_declarator (part l (suc j))) (may_lose free W (names_of (part (part l j) 0))) (may_move W.switches (part (part l j) 1)) (is_read_then (names_of (part (part l j) 0)) (part l j) (part l (suc j)) o (children l) j ts i) e
     (sym (ap (λ k. is_declarator (part l k)) one) ∙ n) (sym (ap (λ k. is_read_then (names_of (part (part l j) 0)) (part l j) (part l k) o (children l) j ts i) one) ∙ t) in (
       subst (λ u. 0 < count (children u)) s h,
       subst (λ u. suc j < count (children u)) there (omega (arith, g)),
@@ -114,31 +114,31 @@ module _ (T : Tallies) (o : Tree) (ts : Trees) (i j : ℕ) (h : i < count ts) (d
 
 -- ---- a list that has lost a name
 
-pub name_gone : (W : VariableSet) (o l m : Tree) (ts : Trees) (at which : ℕ) → ts ≡ children l → UnusedAt W o ts (Some (at, which)) → (has_eval o || has_eval l) ≡ false → m ≡ list_left l at which → Gone W o l m
+pub name_gone : (W : Liberties) (o l m : Tree) (ts : Trees) (at which : ℕ) → ts ≡ children l → UnusedAt W o ts (Some (at, which)) → (has_eval o || has_eval l) ≡ false → m ≡ list_left l at which → Gone W o l m
 name_gone W o l m ts at which e u v f = record { unseen = v; name = inl (record { at = at; which = which; unused = subst (λ us. UnusedAt W o us (Some (at, which))) e u; left = f }) }
 
-pub read_gone : (W : VariableSet) (o l m : Tree) (ts : Trees) (at last : ℕ) → ts ≡ children l → SingleAt W o ts (Some at) → (has_eval o || has_eval l) ≡ false → last ≡ last_place (children (list_at (children l) at)) → m ≡ list_single l at last → Gone W o l m
+pub read_gone : (W : Liberties) (o l m : Tree) (ts : Trees) (at last : ℕ) → ts ≡ children l → SingleAt W o ts (Some at) → (has_eval o || has_eval l) ≡ false → last ≡ last_place (children (list_at (children l) at)) → m ≡ list_single l at last → Gone W o l m
 read_gone W o l m ts at last e u v g f =
     let single = subst (λ us. SingleAt W o us (Some at)) e u in
     record { unseen = v; name = inr (inl (record { at = at; next = single.0; declares = single.3; single = single.4; left = f ∙ ap (list_single l at) g })) }
 
-pub next_gone : (W : VariableSet) (o l m : Tree) (ts : Trees) (at which : ℕ) → ts ≡ children l → NextAt W o ts (Some (at, which)) → (has_eval o || has_eval l) ≡ false → m ≡ list_next l at which → Gone W o l m
+pub next_gone : (W : Liberties) (o l m : Tree) (ts : Trees) (at which : ℕ) → ts ≡ children l → NextAt W o ts (Some (at, which)) → (has_eval o || has_eval l) ≡ false → m ≡ list_next l at which → Gone W o l m
 next_gone W o l m ts at which e u v f = record { unseen = v; name = inr (inr (record { at = at; which = which; there = subst (λ us. NextAt W o us (Some (at, which))) e u; left = f })) }
 
 -- ---- a list that has lost some names
 
-pub swept_none : (W : VariableSet) (T : Tallies) (o l : Tree) → Calm T o l → Swept W T o l l
+pub swept_none : (W : Liberties) (T : Tallies) (o l : Tree) → Calm T o l → Swept W T o l l
 swept_none W T o l c = record { gone = still l; calm = c }
 
-pub swept_one : (W : VariableSet) (T : Tallies) (o l m : Tree) → Calm T o l → Gone W o l m → Swept W T o l m
+pub swept_one : (W : Liberties) (T : Tallies) (o l m : Tree) → Calm T o l → Gone W o l m → Swept W T o l m
 swept_one W T o l m c g =
     let there = still_unseen W o l m (record { is_list = c.is_list; unseen = c.unseen }) g in
     record { gone = chain_once (Gone W o) l m g; calm = record { is_list = there.is_list; unseen = there.unseen; tallied = still_tallied T W o l m g c.tallied } }
 
-pub swept_on : (W : VariableSet) (T : Tallies) (o l k m : Tree) → Swept W T o l k → Swept W T o k m → Swept W T o l m
+pub swept_on : (W : Liberties) (T : Tallies) (o l k m : Tree) → Swept W T o l k → Swept W T o k m → Swept W T o l m
 swept_on W T o l k m s t = record { gone = chain_joined (Gone W o) l k m s.gone t.gone; calm = t.calm }
 
-pub some_gone : (W : VariableSet) (o l k m : Tree) → Gone W o l k → Chain (Gone W o) k m → Several (Gone W o) l m
+pub some_gone : (W : Liberties) (o l k m : Tree) → Gone W o l k → Chain (Gone W o) k m → Several (Gone W o) l m
 some_gone W o l k m g s = record { next = k; first = g; others = s }
 
 pub on_ok : {A E : Type 0} (r : Result A E) (P Q : Type 0) → (P → Q) → OnOk r P → OnOk r Q

@@ -9,12 +9,12 @@ use Rattle.mini_model.specs.declared.shape.Shape.TheVariants as shape
 use Rattle.mini_model.specs.Tree.{Tree, Trees, node, none, ◌▸◌, absent, listed, shape_of, children, count}
 use Rattle.mini_model.specs.Paths.{append}
 use Rattle.mini_laws.specs.ScopeList.{has_eval, any_has_eval}
-use Rattle.mini_laws.specs.Value.{VariableSet, nothing}
 use Rattle.mini_node.specs.Children.{part, with_child, with_part, is_bare, first_children, rest_children}
 use Rattle.mini_node.specs.Kinds.{is_block, is_listed}
 use Rattle.mini_rows.specs.Cases.{switch_case}
 use Rattle.mini_rows.specs.Lists.{block, switch}
 use Rattle.mini_rows.specs.Unused.{names, any_names, switch_around, SwitchRow, BlockRow, UnusedRow}
+use Rattle.mini_rows.specs.Switches.{Switches, Liberties, without_vars}
 use Rattle.mini_unused.specs.RemoveUnusedDeclaration.{is_function, is_switch, is_case_shape, is_case, case_at, with_statements, open_in, is_for_shape, Applied, AppliedInCase, AppliedInCases}
 use Rattle.mini_unused.specs.SubstituteSingleUse.{Gone, Removed}
 use Rattle.mini_unused.specs.Chains.{Several}
@@ -24,18 +24,18 @@ use Rattle.mini_unused.proofs.Holders.{or_none, left_listed, several_in, row_beh
 
 -- ---- what it looks like
 
-switch_is : (t : Tree) → is_switch t ≡ true → t ≡ switch (part t 0) (listed (children (part t 1)))
+pub switch_is : (t : Tree) → is_switch t ≡ true → t ≡ switch (part t 0) (listed (children (part t 1)))
 switch_is (node shape.SwitchStatement [] zero (d ▸ (node shape.Listed [] zero ts ▸ none))) e = refl
 switch_is (node shape.SwitchStatement [] zero (d ▸ (u ▸ none))) e = absurd (true≢false (sym e))
 switch_is t e = absurd (true≢false (sym e))
 
-case_is : (t : Tree) → is_case t ≡ true → t ≡ switch_case (part t 0) (children (part t 1))
+pub case_is : (t : Tree) → is_case t ≡ true → t ≡ switch_case (part t 0) (children (part t 1))
 case_is (node shape.SwitchCase [] zero (d ▸ (node shape.Listed [] zero ts ▸ none))) e = refl
 case_is (node shape.SwitchCase [] zero (d ▸ (u ▸ none))) e = absurd (true≢false (sym e))
 case_is t e = absurd (true≢false (sym e))
 
 -- a case with its list
-abbrev case_over : Tree → Tree → Tree
+abbrev pub case_over : Tree → Tree → Tree
 case_over test l = node shape.SwitchCase [] 0 (test ▸ (l ▸ none))
 
 module _ (d : Tree) (first : Trees) (test : Tree) (last : Trees) where
@@ -52,27 +52,27 @@ module _ (d : Tree) (first : Trees) (test : Tree) (last : Trees) where
   unfolding has_eval
   evals = sym (or_none (has_eval outside))
 
-  gone : (ts : Trees) (m : Tree) → Gone nothing outside (listed ts) m → SwitchRow (over (listed ts)) (over m)
-  gone ts m r = record {
+  gone : (options : Switches) (ts : Trees) (m : Tree) → Gone (without_vars options) outside (listed ts) m → SwitchRow options (over (listed ts)) (over m)
+  gone options ts m r = record {
     discriminant = d;
     first = first;
     test = test;
     before = ts;
     last = last;
     after = children m;
-    row = row_behind nothing outside (outside ▸ none) ts mentions evals m r;
+    row = row_behind (without_vars options) outside (outside ▸ none) ts mentions evals m r;
     shape = refl;
-    written = ap over (left_listed nothing outside ts m r);
+    written = ap over (left_listed (without_vars options) outside ts m r);
   }
 
-  several : (ts : Trees) (m : Tree) → Several (Gone nothing outside) (listed ts) m → Several SwitchRow (over (listed ts)) (over m)
-  several ts m r = several_in nothing outside SwitchRow over gone ts m r
+  several : (options : Switches) (ts : Trees) (m : Tree) → Several (Gone (without_vars options) outside) (listed ts) m → Several (SwitchRow options) (over (listed ts)) (over m)
+  several options ts m r = several_in (without_vars options) outside (SwitchRow options) over (gone options) ts m r
 
-  rests : (ts : Trees) (m : Tree) → Removed nothing outside (listed ts) m false → (w : Tree) → BlockRow nothing (block (listed (outside ▸ none) ▸ ts)) w → ⊥
-  rests ts m r w b = none_behind nothing outside (outside ▸ none) ts mentions evals refl m r (listed (outside ▸ none) ▸ ts) refl w b
+  rests : (options : Switches) (ts : Trees) (m : Tree) → Removed (without_vars options) outside (listed ts) m false → (w : Tree) → BlockRow (without_vars options) (block (listed (outside ▸ none) ▸ ts)) w → ⊥
+  rests options ts m r w b = none_behind (without_vars options) outside (outside ▸ none) ts mentions evals refl m r (listed (outside ▸ none) ▸ ts) refl w b
 
   -- another list in the case
-  put : (l m : Tree) → with_statements (over l) (count first) m ≡ over m
+  pub put : (l m : Tree) → with_statements (over l) (count first) m ≡ over m
   put l m =
       let cases = append first (case_over test l ▸ last) in
       ap (λ c. switch d (listed (with_child cases (count first) (with_part c 1 m)))) (there_child first (case_over test l) last)
@@ -136,11 +136,11 @@ module _ (t : Tree) (i : ℕ) (s : is_switch t ≡ true) (h : i < count (childre
   abbrev there : Tree → Tree
   there l = over (part t 0) before test after l
 
-  is : t ≡ there (listed statements)
+  pub is : t ≡ there (listed statements)
   is = switch_is t s ∙ ap (λ us. switch (part t 0) (listed us)) (parts_of cases i h ∙ ap (λ u. append before (u ▸ after)) (case_is (case_at t i) c))
 
   -- with another list
-  with_list : (m : Tree) → with_statements t i m ≡ there m
+  pub with_list : (m : Tree) → with_statements t i m ≡ there m
   with_list m =
       ap (λ u. with_part u 1 (with_part (part t 1) i (with_part (case_at t i) 1 m))) (switch_is t s)
       ∙ ap (λ u. switch (part t 0) (with_part u i (with_part (case_at t i) 1 m))) (list_is t s)
@@ -150,49 +150,49 @@ module _ (t : Tree) (i : ℕ) (s : is_switch t ≡ true) (h : i < count (childre
       list_is : (t : Tree) → is_switch t ≡ true → part t 1 ≡ listed (children (part t 1))
       list_is t s = ap (λ u. part u 1) (switch_is t s)
 
-  list_there : part (case_at t i) 1 ≡ listed statements
+  pub list_there : part (case_at t i) 1 ≡ listed statements
   list_there = ap (λ u. part u 1) (case_is (case_at t i) c)
 
-  applied : (m : Tree) → Several (Gone nothing (there absent)) (listed statements) m → Several SwitchRow t (with_statements t i m)
-  applied m r = subst₂ (Several SwitchRow) (sym is) (sym (with_list m)) (several (part t 0) before test after statements m r)
+  applied : (options : Switches) (m : Tree) → Several (Gone (without_vars options) (there absent)) (listed statements) m → Several (SwitchRow options) t (with_statements t i m)
+  applied options m r = subst₂ (Several (SwitchRow options)) (sym is) (sym (with_list m)) (several (part t 0) before test after options statements m r)
 
-  case_rests : (m : Tree) → Removed nothing (there absent) (listed statements) m false → (w : Tree) (r : SwitchRow t w) → count r.first ≡ i → ⊥
-  case_rests m r w row k =
+  case_rests : (options : Switches) (m : Tree) → Removed (without_vars options) (there absent) (listed statements) m false → (w : Tree) (r : SwitchRow options t w) → count r.first ≡ i → ⊥
+  case_rests options m r w row k =
       let at : case_at t i ≡ switch_case row.test row.before = ap (λ j. case_at t j) (sym k) ∙ ap (λ u. case_at u (count row.first)) row.shape ∙ there_child row.first (switch_case row.test row.before) row.last in
       let emptied : there absent ≡ switch_around row.discriminant row.first row.test row.last =
       sym (with_list absent) ∙ ap (λ j. with_statements t j absent) (sym k) ∙ ap (λ u. with_statements u (count row.first) absent) row.shape
       ∙ put row.discriminant row.first row.test row.last (listed row.before) absent
       in
-      let moved = subst₂ (λ o l. Removed nothing o l m false) emptied (sym list_there ∙ ap (λ u. part u 1) at) r in
-      rests row.discriminant row.first row.test row.last row.before m moved (block (listed (switch_around row.discriminant row.first row.test row.last ▸ none) ▸ row.after)) row.row
+      let moved = subst₂ (λ o l. Removed (without_vars options) o l m false) emptied (sym list_there ∙ ap (λ u. part u 1) at) r in
+      rests row.discriminant row.first row.test row.last options row.before m moved (block (listed (switch_around row.discriminant row.first row.test row.last ▸ none) ▸ row.after)) row.row
 
-  pub in_case : (W : VariableSet) (m : Tree) (b : Bool) → Removed (open_in (with_statements t i absent) W) (with_statements t i absent) (part (case_at t i) 1) m b → (u : Tree) → u ≡ with_statements t i m → AppliedInCase t i u b
+  pub in_case : (W : Liberties) (m : Tree) (b : Bool) → Removed (open_in (with_statements t i absent) W) (with_statements t i absent) (part (case_at t i) 1) m b → (u : Tree) → u ≡ with_statements t i m → AppliedInCase W.switches t i u b
   in_case W m b r u e = by b (subst₂ (λ o l. Removed (open_in o W) o l m b) (with_list absent) list_there r)
     where
-      by : (b : Bool) → Removed nothing (there absent) (listed statements) m b → AppliedInCase t i u b
-      by true r = subst (Several SwitchRow t) (sym e) (applied m r)
-      by false r = (e ∙ ap (with_statements t i) r.0 ∙ with_list (listed statements) ∙ sym is, case_rests m r)
+      by : (b : Bool) → Removed (without_vars W.switches) (there absent) (listed statements) m b → AppliedInCase W.switches t i u b
+      by true r = subst (Several (SwitchRow W.switches) t) (sym e) (applied W.switches m r)
+      by false r = (e ∙ ap (with_statements t i) r.0 ∙ with_list (listed statements) ∙ sym is, case_rests W.switches m r)
 
 -- what is no case is read as nothing
-pub no_case : (t : Tree) (i : ℕ) → is_case (case_at t i) ≡ false → AppliedInCase t i t false
-no_case t i e = (refl, by)
+pub no_case : (o : Switches) (t : Tree) (i : ℕ) → is_case (case_at t i) ≡ false → AppliedInCase o t i t false
+no_case o t i e = (refl, by)
   where
-    by : (w : Tree) (r : SwitchRow t w) → count r.first ≡ i → ⊥
+    by : (w : Tree) (r : SwitchRow o t w) → count r.first ≡ i → ⊥
     by w r k = true≢false (sym (ap is_case (ap (λ j. case_at t j) (sym k) ∙ ap (λ u. case_at u (count r.first)) r.shape ∙ there_child r.first (switch_case r.test r.before) r.last)) ∙ e)
 
 -- ---- all cases
 
 -- there is none from the last place on
-pub no_cases : (t : Tree) (i : ℕ) → count (children (part t 1)) ≤ i → AppliedInCases t i t false
-no_cases t i h = (refl, by)
+pub no_cases : (o : Switches) (t : Tree) (i : ℕ) → count (children (part t 1)) ≤ i → AppliedInCases o t i t false
+no_cases o t i h = (refl, by)
   where
-    by : (w : Tree) (r : SwitchRow t w) → i ≤ count r.first → ⊥
+    by : (w : Tree) (r : SwitchRow o t w) → i ≤ count r.first → ⊥
     by w r k =
         let within = there_within r.first (switch_case r.test r.before) r.last in
         let same = ap (λ u. count (children (part u 1))) r.shape in
         omega (arith, within, same, h, k)
 
-split : (i k : ℕ) → i ≤ k → (k ≡ i) ⊎ (suc i ≤ k)
+pub split : (i k : ℕ) → i ≤ k → (k ≡ i) ⊎ (suc i ≤ k)
 split zero zero h = inl refl
 split zero (suc k) h = inr (omega arith)
 split (suc i) zero h = absurd (omega (arith, h))
@@ -202,23 +202,23 @@ split (suc i) (suc k) h = by (split i k (omega (arith, h)))
     by (inl e) = inl (ap suc e)
     by (inr l) = inr (omega (arith, l))
 
-later_cases : (t : Tree) (i : ℕ) (v u : Tree) (b : Bool) → AppliedInCase t i v false → AppliedInCases v (suc i) u b → AppliedInCases t i u b
-later_cases t i v u true one others = subst (λ z. Several SwitchRow z u) one.0 others
-later_cases t i v u false one others = (others.0 ∙ one.0, by)
+later_cases : (o : Switches) (t : Tree) (i : ℕ) (v u : Tree) (b : Bool) → AppliedInCase o t i v false → AppliedInCases o v (suc i) u b → AppliedInCases o t i u b
+later_cases o t i v u true one others = subst (λ z. Several (SwitchRow o) z u) one.0 others
+later_cases o t i v u false one others = (others.0 ∙ one.0, by)
   where
-    by : (w : Tree) (r : SwitchRow t w) → i ≤ count r.first → ⊥
+    by : (w : Tree) (r : SwitchRow o t w) → i ≤ count r.first → ⊥
     by w r k = or_later (split i (count r.first) k)
       where
         or_later : (count r.first ≡ i) ⊎ (suc i ≤ count r.first) → ⊥
         or_later (inl e) = one.1 w r e
-        or_later (inr e) = subst (λ z. (w : Tree) (r : SwitchRow z w) → suc i ≤ count r.first → ⊥) one.0 others.1 w r e
+        or_later (inr e) = subst (λ z. (w : Tree) (r : SwitchRow o z w) → suc i ≤ count r.first → ⊥) one.0 others.1 w r e
 
 -- of the next place
-pub next_cases : (t : Tree) (i : ℕ) (v u : Tree) (a b : Bool) → a ≡ false → AppliedInCase t i v a → AppliedInCases v (i + 1) u b → AppliedInCases t i u b
-next_cases t i v u a b e one others = later_cases t i v u b (subst (AppliedInCase t i v) e one) (subst (λ j. AppliedInCases v j u b) (add-one i) others)
+pub next_cases : (o : Switches) (t : Tree) (i : ℕ) (v u : Tree) (a b : Bool) → a ≡ false → AppliedInCase o t i v a → AppliedInCases o v (i + 1) u b → AppliedInCases o t i u b
+next_cases o t i v u a b e one others = later_cases o t i v u b (subst (AppliedInCase o t i v) e one) (subst (λ j. AppliedInCases o v j u b) (add-one i) others)
 
-pub of_switch : (W : VariableSet) (t u : Tree) (b : Bool) → is_switch t ≡ true → AppliedInCases t 0 u b → (q : StmtSeat) → Applied W (Stmt q) t u b
-of_switch W t u true s r q = several_moves W (Stmt q) SwitchRow (λ t u r. inr (inr (inl r))) t u r
+pub of_switch : (W : Liberties) (t u : Tree) (b : Bool) → is_switch t ≡ true → AppliedInCases W.switches t 0 u b → (q : StmtSeat) → Applied W (Stmt q) t u b
+of_switch W t u true s r q = several_moves W (Stmt q) (SwitchRow W.switches) (λ t u r. inr (inr (inl r))) t u r
 of_switch W t u false s r q = (r.0, by)
   where
     no_other : (t : Tree) → is_switch t ≡ true → (is_block t ≡ false) × (is_function t ≡ false) × (is_for_shape (shape_of t) ≡ false)
@@ -226,7 +226,7 @@ of_switch W t u false s r q = (r.0, by)
     no_other t e = absurd (true≢false (sym e))
 
     by : (w : Tree) → UnusedRow W (Stmt q) t w → ⊥
-    by w (inl b) = no_block nothing t (no_other t s).0 w b
+    by w (inl b) = no_block (without_vars W.switches) t (no_other t s).0 w b
     by w (inr (inl f)) = no_function W t (no_other t s).1 w f
     by w (inr (inr (inl v))) = r.1 w v (omega arith)
     by w (inr (inr (inr f))) = no_for t (no_other t s).2 w f

@@ -9,7 +9,6 @@ use Rattle.mini_model.specs.declared.shape.Shape.{Shape}
 use Rattle.mini_model.specs.declared.shape.Shape.TheVariants as shape
 use Rattle.mini_model.specs.Tree.{Tree, Trees, node, none, ◌▸◌, absent, listed, shape_of, children, child_or_absent, empty_statement, expression_statement}
 use Rattle.mini_laws.specs.ScopeList.{has_eval, any_has_eval, is_eval, is_eval_call, is_eval_callee}
-use Rattle.mini_laws.specs.Value.{VariableSet}
 use Rattle.mini_node.specs.Children.{names_of, part, with_child, with_part, without, is_bare, is_nameless}
 use Rattle.mini_node.specs.Kinds.{is_listed}
 use Rattle.mini_rows.specs.Lists.{declaration, Each, EachIn, EachOf, each_loop}
@@ -22,6 +21,7 @@ use Rattle.mini_unused.specs.SubstituteNext.{reads_then, put_named, is_declarato
 use Rattle.mini_unused.specs.SubstituteSingleUse.{declaration_left, last_place, reads_next, is_declared_over, is_mentioned_around, is_read_once, NameGone, ReadGone, Gone}
 use Rattle.mini_rows.proofs.ListKeptHeads.{Seat, Loop, Choice, seated}
 use Rattle.mini_rows.proofs.SingleUse.{Initial, Heads, heads, mentioned}
+use Rattle.mini_rows.specs.Switches.{Liberties}
 use Rattle.mini_unused.proofs.NextUses.{found, next_child_left}
 use Rattle.mini_unused.proofs.Unused.{a_declaration, declarator_is, declared_there, not_true}
 
@@ -367,7 +367,7 @@ then_put (x ∷ xs) d e o ds j ts i h f g =
     let (first, passed) = and_parts (is_first x false (part e 1)) (are_passed x (part d 1) (part e 1)) read in
     put_there x false (part d 1) (part e 1) first (passed_along x OfValues (part d 1) (part e 1) passed) f g
 
-module _ (W : VariableSet) (o l m : Tree) (c : Unseen o l) where
+module _ (W : Liberties) (o l m : Tree) (c : Unseen o l) where
   name_gone : NameGone W o l m → Unseen o m
   name_gone g =
       let declares = declared_there o (child_or_absent (children l) g.at) (and_parts (may_declare o (child_or_absent (children l) g.at)) (is_unused_declarator (is_free_at (children l) g.at) W (list_at (children l) g.at) g.which o (children l) g.at) g.unused.1.2).0 in
@@ -382,10 +382,10 @@ module _ (W : VariableSet) (o l m : Tree) (c : Unseen o l) where
       let init = part d 1 in
       let once = is_read_once (names_of (part d 0)) o init (children ds) j ts g.at in
       let lost = may_lose (is_free_at ts g.at) W (names_of (part d 0)) in
-      let (declared_here, p) = and_parts (may_declare o (child_or_absent ts g.at)) (declares_name d && (lost && (may_move init && once))) g.single in
-      let (a, q) = and_parts (declares_name d) (lost && (may_move init && once)) p in
-      let (b, r) = and_parts lost (may_move init && once) q in
-      let (e, f) = and_parts (may_move init) once r in
+      let (declared_here, p) = and_parts (may_declare o (child_or_absent ts g.at)) (declares_name d && (lost && (may_move W.switches init && once))) g.single in
+      let (a, q) = and_parts (declares_name d) (lost && (may_move W.switches init && once)) p in
+      let (b, r) = and_parts lost (may_move W.switches init && once) q in
+      let (e, f) = and_parts (may_move W.switches init) once r in
       let there = in_list o l g.at c in
       let value : has_eval init ≡ false = part_of d 1 (part_of ds j (part_of (part l g.at) 0 there)) in
       let left = unseen_with o l g.at (declaration_left (part l g.at) j) c (declaration_without (part l g.at) j (declared_there o (child_or_absent ts g.at) declared_here) there) in

@@ -14,7 +14,6 @@ use Rattle.mini_model.specs.Tree.{Tree, Trees, node, none, ◌▸◌, absent, li
 use Rattle.mini_model.specs.Paths.{append}
 use Rattle.mini_laws.specs.Naming as kinds
 use Rattle.mini_laws.specs.ScopeList.{has_eval}
-use Rattle.mini_laws.specs.Value.{VariableSet}
 use Rattle.mini_node.specs.Children.{names_of, part, with_child, with_part, without, is_bare, first_children, rest_children}
 use Rattle.mini_node.specs.Kinds.{is_block, is_listed_shape}
 use Rattle.mini_node.specs.Made.{block_is}
@@ -22,6 +21,7 @@ use Rattle.mini_rows.specs.Lists.{block, declaration, declares_nothing}
 use Rattle.mini_rows.specs.Declarations.{binding, declarator}
 use Rattle.mini_rows.specs.Inside.{declares_var}
 use Rattle.mini_rows.specs.Unused.{resolved, declared_among, declared_left, names, any_names, is_idle, lets_go, Alone, Row72, Row72Idle, Row71, Row71Next, BlockRow}
+use Rattle.mini_rows.specs.Switches.{Liberties}
 use Rattle.mini_unused.specs.RemoveUnusedDeclaration.{is_resolved_binding, is_declarator_shape, declares_name, is_lexical_shape, declares_list, is_var, may_declare, shows_vars, open_in, may_write, may_write_in, may_lose, is_free_at, may_go, is_alone, is_unused_declarator, list_at, is_unused, UnusedIn, UnusedOf, UnusedAt, let_left, statement_left, list_left, Applied}
 
 -- ---- children
@@ -133,7 +133,7 @@ a_declaration (node (shape.VariableDeclaration k) [] zero (u ▸ none)) e = absu
 a_declaration t e = absurd (true≢false (sym e))
 
 -- a name by where it stands
-pub open_name : (W : VariableSet) (o : Tree) (xs : List Name) → may_write_in (open_in o W) xs ≡ (not (shows_vars (shape_of o)) && may_write_in W xs)
+pub open_name : (W : Liberties) (o : Tree) (xs : List Name) → may_write_in (open_in o W) xs ≡ (not (shows_vars (shape_of o)) && may_write_in W xs)
 open_name W o [] = sym (and_none (not (shows_vars (shape_of o))))
 open_name W o (x ∷ []) = by x.symbol
   where
@@ -210,7 +210,7 @@ declared_there o t e = by (is_listed_shape (shape_of o)) e
     by false f = f
 
 -- a block in which such a declarator stands
-module _ (t : Tree) (i j : ℕ) (b : is_block t ≡ true) (h : i < count (children (part t 0))) (g : j < count (children (list_at (children (part t 0)) i))) (W : VariableSet) (e : is_unused W no_outside (children (part t 0)) i j ≡ true) (v : has_eval t ≡ false) where
+module _ (t : Tree) (i j : ℕ) (b : is_block t ≡ true) (h : i < count (children (part t 0))) (g : j < count (children (list_at (children (part t 0)) i))) (W : Liberties) (e : is_unused W no_outside (children (part t 0)) i j ≡ true) (v : has_eval t ≡ false) where
   abbrev ts : Trees
   ts = children (part t 0)
 
@@ -264,7 +264,7 @@ module _ (t : Tree) (i j : ℕ) (b : is_block t ≡ true) (h : i < count (childr
   abbrev pub x : Name
   x = resolved one.spelling one.symbol
 
-  pub goes : lets_go W kind one.symbol ≡ true
+  pub goes : lets_go W.writable kind one.symbol ≡ true
   goes = sym (λ k. may_lose (is_lexical_shape (shape_of (let_there k))) W (names_of (part (one.is k) 0))) ∙ tests.4
 
   nothing_else : Quiet x init ds j ts i
@@ -345,7 +345,7 @@ module _ (t : Tree) (i j : ℕ) (b : is_block t ≡ true) (h : i < count (childr
 -- ---- where nothing is written no row reads it
 
 -- a block that a row reads
-pub record Read (W : VariableSet) (t : Tree) : Type 0 where
+pub record Read (W : Liberties) (t : Tree) : Type 0 where
   pub before : Trees
   pub kind : VariableDeclarationKind
   pub first : Trees
@@ -354,7 +354,7 @@ pub record Read (W : VariableSet) (t : Tree) : Type 0 where
   pub init : Tree
   pub last : Trees
   pub after : Trees
-  pub lost : lets_go W kind symbol ≡ true
+  pub lost : lets_go W.writable kind symbol ≡ true
   pub goes : may_go init (listed (append first (declarator (binding (resolved spelling symbol)) init ▸ last))) ≡ true
   pub unused : Alone kind (resolved spelling symbol) before first init last after
   pub shape : t ≡ block (append before (declared_among kind (resolved spelling symbol) first init last ▸ after))
@@ -363,13 +363,13 @@ pub or_true : (b : Bool) → (b || true) ≡ true
 or_true true = refl
 or_true false = refl
 
-unfoldable pub dropped : (W : VariableSet) (t w : Tree) → Row72 W t w → Read W t
+unfoldable pub dropped : (W : Liberties) (t w : Tree) → Row72 W t w → Read W t
 dropped W t w r = record { before = r.before; kind = r.kind; lost = r.goes; first = none; spelling = r.spelling; symbol = r.symbol; init = r.init; last = none; after = r.after; goes = ap (λ b. is_idle r.init || b) r.present ∙ or_true (is_idle r.init); unused = r.unused; shape = r.shape }
 
-unfoldable pub dropped_idle : (W : VariableSet) (t w : Tree) → Row72Idle W t w → Read W t
+unfoldable pub dropped_idle : (W : Liberties) (t w : Tree) → Row72Idle W t w → Read W t
 dropped_idle W t w r = record { before = r.before; kind = r.kind; lost = r.goes; first = r.first; spelling = r.spelling; symbol = r.symbol; init = r.init; last = r.last; after = r.after; goes = ap (λ b. b || (is_bare (listed (append r.first (declarator (binding (resolved r.spelling r.symbol)) r.init ▸ r.last))) 1 && declares_nothing r.init)) r.idle; unused = r.unused; shape = r.shape }
 
-module _ (W : VariableSet) (t : Tree) (r : Read W t) where
+module _ (W : Liberties) (t : Tree) (r : Read W t) where
   abbrev named_there : Name
   named_there = resolved r.spelling r.symbol
 
@@ -404,7 +404,7 @@ module _ (W : VariableSet) (t : Tree) (r : Read W t) where
       ap (λ v. is_unused W no_outside (children (part v 0)) i j) r.shape
       ∙ ap (λ c. declares_list c && is_unused_declarator (is_lexical_shape (shape_of c)) W (part c 0) j no_outside ts i) (there_child r.before statement_there r.after)
       ∙ ap (λ c. declares_name c && (may_lose (kinds.is_lexical r.kind) W (names_of (part c 0)) && (may_go (part c 1) (listed ds) && is_alone (names_of (part c 0)) no_outside (part c 1) ds j ts i))) (there_child r.first declarator_there r.last)
-      ∙ and_both (lets_go W r.kind r.symbol) (may_go r.init (listed ds) && is_alone (named_there ∷ []) no_outside r.init ds j ts i) r.lost (and_both (may_go r.init (listed ds)) (is_alone (named_there ∷ []) no_outside r.init ds j ts i) r.goes alone_is)
+      ∙ and_both (lets_go W.writable r.kind r.symbol) (may_go r.init (listed ds) && is_alone (named_there ∷ []) no_outside r.init ds j ts i) r.lost (and_both (may_go r.init (listed ds)) (is_alone (named_there ∷ []) no_outside r.init ds j ts i) r.goes alone_is)
 
   pub statement_within : count r.before < count (children (part t 0))
   statement_within = subst (λ v. count r.before < count (children (part v 0))) (sym r.shape) (there_within r.before statement_there r.after)
@@ -414,22 +414,22 @@ module _ (W : VariableSet) (t : Tree) (r : Read W t) where
       subst (λ v. count r.first < count (children (list_at (children (part v 0)) (count r.before)))) (sym r.shape)
       (subst (λ c. count r.first < count (children (part c 0))) (sym (there_child r.before statement_there r.after)) (there_within r.first declarator_there r.last))
 
-pub no_row : (W : VariableSet) (t : Tree) → (Read W t → ⊥) → ((w : Tree) → Row71 W t w → ⊥) → ((w : Tree) → Row71Next W t w → ⊥) → (w : Tree) → BlockRow W t w → ⊥
+pub no_row : (W : Liberties) (t : Tree) → (Read W t → ⊥) → ((w : Tree) → Row71 W t w → ⊥) → ((w : Tree) → Row71Next W t w → ⊥) → (w : Tree) → BlockRow W t w → ⊥
 no_row W t f g h w (inl r) = f (dropped W t w r)
 no_row W t f g h w (inr (inl r)) = f (dropped_idle W t w r)
 no_row W t f g h w (inr (inr (inl r))) = g w r
 no_row W t f g h w (inr (inr (inr r))) = h w r
 
-pub no_block : (W : VariableSet) (t : Tree) → is_block t ≡ false → (w : Tree) → BlockRow W t w → ⊥
+pub no_block : (W : Liberties) (t : Tree) → is_block t ≡ false → (w : Tree) → BlockRow W t w → ⊥
 no_block W t e = no_row W t (λ r. true≢false (sym (ap is_block r.shape) ∙ e)) (λ w r. true≢false (sym (ap is_block r.shape) ∙ e)) (λ w r. true≢false (sym (ap is_block r.shape) ∙ e))
 
-pub all_used : (W : VariableSet) (t : Tree) → UnusedAt W no_outside (children (part t 0)) None → Read W t → ⊥
+pub all_used : (W : Liberties) (t : Tree) → UnusedAt W no_outside (children (part t 0)) None → Read W t → ⊥
 all_used W t f r = true≢false (sym (unused_there W t r) ∙ f (count r.before) (statement_within W t r) (count r.first) (declarator_within W t r))
 
-pub seen_by_eval : (W : VariableSet) (t : Tree) → has_eval t ≡ true → (w : Tree) → BlockRow W t w → ⊥
+pub seen_by_eval : (W : Liberties) (t : Tree) → has_eval t ≡ true → (w : Tree) → BlockRow W t w → ⊥
 seen_by_eval W t e = no_row W t (λ r. true≢false (sym e ∙ ap has_eval r.shape ∙ r.unused.unseen)) (λ w r. true≢false (sym e ∙ ap has_eval r.shape ∙ r.unseen)) (λ w r. true≢false (sym e ∙ ap has_eval r.shape ∙ r.unseen))
 
-pub elsewhere : (W : VariableSet) (p : Position) (t : Tree) → ((q : StmtSeat) → p ≡ Stmt q → ⊥) → ((s : Seat) → p ≡ Expr s → ⊥) → (p ≡ Method → ⊥) → (p ≡ Elsewhere → ⊥) → Applied W p t t false
+pub elsewhere : (W : Liberties) (p : Position) (t : Tree) → ((q : StmtSeat) → p ≡ Stmt q → ⊥) → ((s : Seat) → p ≡ Expr s → ⊥) → (p ≡ Method → ⊥) → (p ≡ Elsewhere → ⊥) → Applied W p t t false
 elsewhere W (Stmt q) t f g h i = absurd (f q refl)
 elsewhere W (Expr s) t f g h i = absurd (g s refl)
 elsewhere W Method t f g h i = absurd (h refl)
@@ -460,9 +460,9 @@ module _ (P : ℕ → Type 0) where
 
 -- of one statement
 
-pub none_of : (W : VariableSet) (o : Tree) (ts : Trees) (i : ℕ) → may_declare o (child_or_absent ts i) ≡ false → UnusedOf W o ts i None
+pub none_of : (W : Liberties) (o : Tree) (ts : Trees) (i : ℕ) → may_declare o (child_or_absent ts i) ≡ false → UnusedOf W o ts i None
 none_of W o ts i e j h = ap (λ b. b && is_unused_declarator (is_free_at ts i) W (list_at ts i) j o ts i) e
 
-pub of_list : (W : VariableSet) (o : Tree) (ts : Trees) (i : ℕ) (f : Option ℕ) → may_declare o (child_or_absent ts i) ≡ true → 0 < count (children (child_or_absent ts i)) → UnusedIn (is_free_at ts i) W (list_at ts i) o ts i f → UnusedOf W o ts i f
+pub of_list : (W : Liberties) (o : Tree) (ts : Trees) (i : ℕ) (f : Option ℕ) → may_declare o (child_or_absent ts i) ≡ true → 0 < count (children (child_or_absent ts i)) → UnusedIn (is_free_at ts i) W (list_at ts i) o ts i f → UnusedOf W o ts i f
 of_list W o ts i (Some j) e h u = (h, u.0, and_both (may_declare o (child_or_absent ts i)) (is_unused_declarator (is_free_at ts i) W (list_at ts i) j o ts i) e u.1)
 of_list W o ts i None e h u = λ j g. ap (λ b. b && is_unused_declarator (is_free_at ts i) W (list_at ts i) j o ts i) e ∙ u j g

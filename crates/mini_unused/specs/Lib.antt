@@ -1,4 +1,5 @@
 pub mod Chains
+pub mod Allowed
 pub mod RemoveUnusedDeclaration
 pub mod Lighter
 pub mod SubstituteNext

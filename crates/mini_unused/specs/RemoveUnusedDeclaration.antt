@@ -11,17 +11,17 @@ use Rattle.mini_model.specs.declared.shape.Shape.TheVariants as shape
 use Rattle.mini_model.specs.Tree.{Tree, Trees, absent, shape_of, count, child_or_absent, empty_statement, expression_statement, children}
 use Rattle.mini_laws.specs.Naming.{is_lexical}
 use Rattle.mini_laws.specs.ScopeList.{has_eval}
-use Rattle.mini_laws.specs.Value.{Declared, Global, VariableSet}
+use Rattle.mini_laws.specs.Value.{Declared}
 use Rattle.mini_node.specs.Children.{names_of, like, part, with_part, without, is_bare, first_children, rest_children}
 use Rattle.mini_node.specs.Kinds.{is_listed, is_listed_shape, is_named_leaf, is_block}
 use Rattle.mini_rows.specs.Lists.{declares_nothing}
+use Rattle.mini_rows.specs.Switches.{Switches, Liberties, liberties}
 use Rattle.mini_rows.specs.Unused.{names, any_names, is_idle, FunctionBodyRow, SwitchRow, ForRow, UnusedRow, UnusedContracts}
 pub use Rattle.mini_rows.specs.Unused.{is_declarator_shape, is_variables_shape, declares_list}
 use Rattle.mini_tree.specs.declared.options.CompressOptions.{CompressOptions}
 use Rattle.mini_tree.specs.Rule as rule
-use Rattle.mini_context.specs.Facts.{Facts}
-use Rattle.mini_context.specs.Tables.{mark_at}
-use Rattle.mini_laws.specs.Writable.{writable_in}
+pub use Rattle.mini_unused.specs.Allowed.{allowed}
+use Rattle.mini_unused.specs.Allowed.{allowed_in}
 use Rattle.mini_unused.specs.Chains.{Several}
 
 -- shapes
@@ -46,11 +46,6 @@ is_resolved_binding t = is_binding_shape (shape_of t) && (is_named_leaf t && has
 abbrev pub declares_name : Tree → Bool
 declares_name d = is_declarator_shape (shape_of d) && (is_bare d 2 && is_resolved_binding (part d 0))
 
--- the variables that a table marks, by symbol
-abbrev pub marked : Facts → VariableSet
-marked f (Declared k) = mark_at f.writable k
-marked f (Global s) = false
-
 -- what shows the `var`s in it to what is around it
 abbrev pub shows_vars : Shape → Bool
 shows_vars shape.BlockStatement = true
@@ -58,19 +53,19 @@ shows_vars shape.SwitchStatement = true
 shows_vars _ = false
 
 -- those of them whose `var` may go from statements with what stands outside of them: of a block that is no body, and of a switch, none
-abbrev pub open_in : Tree → VariableSet → VariableSet
-open_in o W x = not (shows_vars (shape_of o)) && W x
+abbrev pub open_in : Tree → Liberties → Liberties
+open_in o W = liberties W.switches (λ x. not (shows_vars (shape_of o)) && W.writable x)
 
-abbrev pub may_write : VariableSet → Option SymbolId → Bool
-may_write W (Some s) = W (Declared s.0)
+abbrev pub may_write : Liberties → Option SymbolId → Bool
+may_write W (Some s) = W.writable (Declared s.0)
 may_write W None = false
 
-abbrev pub may_write_in : VariableSet → List Name → Bool
+abbrev pub may_write_in : Liberties → List Name → Bool
 may_write_in W (x ∷ []) = may_write W x.symbol
 may_write_in W xs = false
 
 -- a name that a `let` or a `const` declares, or one of these
-abbrev pub may_lose : Bool → VariableSet → List Name → Bool
+abbrev pub may_lose : Bool → Liberties → List Name → Bool
 may_lose free W xs = free || may_write_in W xs
 
 -- of a declarator that goes nothing misses the initializer, or it is the only one of the list and leaves an expression
@@ -89,7 +84,7 @@ is_alone (x ∷ xs) o init ds j ts i = not (names x o) && is_alone_inside x init
 
 -- the declarator at the place in the list of a declaration, which is a statement at its place, has a name that nothing else mentions,
 -- which is free to go, or one of these variables
-abbrev pub is_unused_declarator : Bool → VariableSet → Tree → ℕ → Tree → Trees → ℕ → Bool
+abbrev pub is_unused_declarator : Bool → Liberties → Tree → ℕ → Tree → Trees → ℕ → Bool
 is_unused_declarator free W l j o ts i = declares_name (part l j) && (may_lose free W (names_of (part (part l j) 0)) && (may_go (part (part l j) 1) l && is_alone (names_of (part (part l j) 0)) o (part (part l j) 1) (children l) j ts i))
 
 -- of the statement at the place the list of its declarators
@@ -110,21 +105,21 @@ abbrev pub may_declare : Tree → Tree → Bool
 may_declare o t = if is_listed_shape (shape_of o) then is_var t else declares_list t
 
 -- it has such a declarator at the other place
-abbrev pub is_unused : VariableSet → Tree → Trees → ℕ → ℕ → Bool
+abbrev pub is_unused : Liberties → Tree → Trees → ℕ → ℕ → Bool
 is_unused W o ts i j = may_declare o (child_or_absent ts i) && is_unused_declarator (is_free_at ts i) W (list_at ts i) j o ts i
 
 -- the place of one in a list, or there is none
-abbrev pub UnusedIn : Bool → VariableSet → Tree → Tree → Trees → ℕ → Option ℕ → Type 0
+abbrev pub UnusedIn : Bool → Liberties → Tree → Tree → Trees → ℕ → Option ℕ → Type 0
 UnusedIn free W l o ts i (Some j) = (j < count (children l)) × (is_unused_declarator free W l j o ts i ≡ true)
 UnusedIn free W l o ts i None = (j : ℕ) → j < count (children l) → is_unused_declarator free W l j o ts i ≡ false
 
 -- of one statement
-abbrev pub UnusedOf : VariableSet → Tree → Trees → ℕ → Option ℕ → Type 0
+abbrev pub UnusedOf : Liberties → Tree → Trees → ℕ → Option ℕ → Type 0
 UnusedOf W o ts i (Some j) = (0 < count (children (child_or_absent ts i))) × (j < count (children (list_at ts i))) × (is_unused W o ts i j ≡ true)
 UnusedOf W o ts i None = (j : ℕ) → j < count (children (list_at ts i)) → is_unused W o ts i j ≡ false
 
 -- of all
-abbrev pub UnusedAt : VariableSet → Tree → Trees → Option (ℕ × ℕ) → Type 0
+abbrev pub UnusedAt : Liberties → Tree → Trees → Option (ℕ × ℕ) → Type 0
 UnusedAt W o ts (Some p) = (p.0 < count ts) × UnusedOf W o ts p.0 (Some p.1)
 UnusedAt W o ts None = (i : ℕ) → i < count ts → UnusedOf W o ts i None
 
@@ -215,13 +210,13 @@ abbrev pub with_statements : Tree → ℕ → Tree → Tree
 with_statements t i l = with_part t 1 (with_part (part t 1) i (with_part (case_at t i) 1 l))
 
 -- one call of it for the case at the place, and for those from there on
-abbrev pub AppliedInCase : Tree → ℕ → Tree → Bool → Type 0
-AppliedInCase t i u true = Several SwitchRow t u
-AppliedInCase t i u false = (u ≡ t) × ((w : Tree) (r : SwitchRow t w) → count r.first ≡ i → ⊥)
+abbrev pub AppliedInCase : Switches → Tree → ℕ → Tree → Bool → Type 0
+AppliedInCase o t i u true = Several (SwitchRow o) t u
+AppliedInCase o t i u false = (u ≡ t) × ((w : Tree) (r : SwitchRow o t w) → count r.first ≡ i → ⊥)
 
-abbrev pub AppliedInCases : Tree → ℕ → Tree → Bool → Type 0
-AppliedInCases t i u true = Several SwitchRow t u
-AppliedInCases t i u false = (u ≡ t) × ((w : Tree) (r : SwitchRow t w) → i ≤ count r.first → ⊥)
+abbrev pub AppliedInCases : Switches → Tree → ℕ → Tree → Bool → Type 0
+AppliedInCases o t i u true = Several (SwitchRow o) t u
+AppliedInCases o t i u false = (u ≡ t) × ((w : Tree) (r : SwitchRow o t w) → i ≤ count r.first → ⊥)
 
 -- a `for` over a `let` or a `const`
 abbrev pub is_for_shape : Shape → Bool
@@ -250,21 +245,21 @@ IdleDropped t j u true = (is_idle_at (part (part t 0) 0) j ≡ true) × (has_eva
 IdleDropped t j u false = (u ≡ t) × ((is_idle_at (part (part t 0) 0) j ≡ false) ⊎ (has_eval t ≡ true))
 
 -- no row of these variables reads it as anything
-abbrev pub RestsOver : VariableSet → Position → Tree → Type 0
+abbrev pub RestsOver : Liberties → Position → Tree → Type 0
 RestsOver W p n = (w : Tree) → UnusedRow W p n w → ⊥
 
 -- one call of the rule
-abbrev pub Applied : VariableSet → Position → Tree → Tree → Bool → Type 0
+abbrev pub Applied : Liberties → Position → Tree → Tree → Bool → Type 0
 Applied W = rule.Applied (UnusedContracts W) (RestsOver W)
 
 -- one call of it for a function, wherever that stands
-abbrev pub AppliedInFunction : VariableSet → Tree → Tree → Bool → Type 0
+abbrev pub AppliedInFunction : Liberties → Tree → Tree → Bool → Type 0
 AppliedInFunction W t u true = Several (FunctionBodyRow W) t u
 AppliedInFunction W t u false = (u ≡ t) × ((w : Tree) → FunctionBodyRow W t w → ⊥)
 
--- over a program the rule makes what a row says of the variables that can be written in it, and rests where none does
+-- over a program the rule makes what a row says of the variables that can be written in it and of the options, and rests where none does
 abbrev pub Gives : CompressOptions → Tree → Position → Tree → Tree → Type 0
-Gives o q = UnusedContracts (writable_in q)
+Gives o q = UnusedContracts (allowed_in o q)
 
-abbrev pub Rests : Tree → Position → Tree → Type 0
-Rests q = RestsOver (writable_in q)
+abbrev pub Rests : CompressOptions → Tree → Position → Tree → Type 0
+Rests o q = RestsOver (allowed_in o q)

@@ -14,10 +14,8 @@ use Rattle.mini_rows.specs.Switches.{Switches, let_go}
 use Rattle.mini_rows.specs.Unused.{any_names}
 use Rattle.mini_tree.specs.declared.options.CompressOptions.{CompressOptions}
 use Rattle.mini_tree.specs.Rule as rule
+pub use Rattle.mini_unused.specs.Allowed.{switches_of}
 use Rattle.mini_unused.specs.RemoveUnusedDeclaration.{is_resolved_binding}
-
-abbrev pub switches_of : CompressOptions → Switches
-switches_of o = record { sequences = o.sequences; join_vars = o.join_vars; keep_function_names = o.keep_names.function; keep_class_names = o.keep_names.class }
 
 abbrev pub is_nameless : List Name → Bool
 is_nameless [] = true

@@ -3,8 +3,8 @@
 use Rattle.std.specs.Prelude.{◌≡◌, ◌<◌, ℕ, suc, Bool, true, false, not, ◌&&◌, ◌||◌, List, [], ◌∷◌, Option, Some, None}
 use Rattle.mini_model.specs.declared.name.Name.{Name}
 use Rattle.mini_model.specs.Tree.{Tree, Trees, count, child_or_absent, children}
-use Rattle.mini_laws.specs.Value.{VariableSet}
 use Rattle.mini_node.specs.Children.{names_of, like, part, with_part, without, first_children, rest_children}
+use Rattle.mini_rows.specs.Switches.{Liberties}
 use Rattle.mini_rows.specs.Unused.{names, any_names, is_first, may_move, put_first, are_passed}
 pub use Rattle.mini_rows.specs.Unused.{is_declarator}
 use Rattle.mini_unused.specs.RemoveUnusedDeclaration.{declares_name, may_declare, may_lose, is_free_at, list_at}
@@ -31,29 +31,29 @@ is_read_then [] d e o ds j ts i = false
 is_read_then (x ∷ xs) d e o ds j ts i = reads_then x (part d 1) e && (not (is_mentioned_beside x d e ds j) && (not (names x o) && not (is_mentioned_elsewhere x ts i)))
 
 -- so is the name of a declarator, whose initializer may move, and which is free to go, or one of these variables
-abbrev pub is_read_by : Bool → VariableSet → Tree → Tree → Tree → Trees → ℕ → Trees → ℕ → Bool
-is_read_by free W d e o ds j ts i = declares_name d && (is_declarator e && (may_lose free W (names_of (part d 0)) && (may_move (part d 1) && is_read_then (names_of (part d 0)) d e o ds j ts i)))
+abbrev pub is_read_by : Bool → Liberties → Tree → Tree → Tree → Trees → ℕ → Trees → ℕ → Bool
+is_read_by free W d e o ds j ts i = declares_name d && (is_declarator e && (may_lose free W (names_of (part d 0)) && (may_move W.switches (part d 1) && is_read_then (names_of (part d 0)) d e o ds j ts i)))
 
 -- of a list the declarator at the place
-abbrev pub is_read_by_next : Bool → VariableSet → Tree → ℕ → Tree → Trees → ℕ → Bool
+abbrev pub is_read_by_next : Bool → Liberties → Tree → ℕ → Tree → Trees → ℕ → Bool
 is_read_by_next free W l j o ts i = is_read_by free W (part l j) (part l (suc j)) o (children l) j ts i
 
 -- the statement at the place is a declaration, whose declarator at the other place is such a one
-abbrev pub is_next : VariableSet → Tree → Trees → ℕ → ℕ → Bool
+abbrev pub is_next : Liberties → Tree → Trees → ℕ → ℕ → Bool
 is_next W o ts i j = may_declare o (child_or_absent ts i) && is_read_by_next (is_free_at ts i) W (list_at ts i) j o ts i
 
 -- the place of one in a list, or there is none
-abbrev pub NextIn : Bool → VariableSet → Tree → Tree → Trees → ℕ → Option ℕ → Type 0
+abbrev pub NextIn : Bool → Liberties → Tree → Tree → Trees → ℕ → Option ℕ → Type 0
 NextIn free W l o ts i (Some j) = (suc j < count (children l)) × (is_read_by_next free W l j o ts i ≡ true)
 NextIn free W l o ts i None = (j : ℕ) → suc j < count (children l) → is_read_by_next free W l j o ts i ≡ false
 
 -- of one statement
-abbrev pub NextOf : VariableSet → Tree → Trees → ℕ → Option ℕ → Type 0
+abbrev pub NextOf : Liberties → Tree → Trees → ℕ → Option ℕ → Type 0
 NextOf W o ts i (Some j) = (0 < count (children (child_or_absent ts i))) × (suc j < count (children (list_at ts i))) × (is_next W o ts i j ≡ true)
 NextOf W o ts i None = (j : ℕ) → suc j < count (children (list_at ts i)) → is_next W o ts i j ≡ false
 
 -- of all
-abbrev pub NextAt : VariableSet → Tree → Trees → Option (ℕ × ℕ) → Type 0
+abbrev pub NextAt : Liberties → Tree → Trees → Option (ℕ × ℕ) → Type 0
 NextAt W o ts (Some p) = (p.0 < count ts) × NextOf W o ts p.0 (Some p.1)
 NextAt W o ts None = (i : ℕ) → i < count ts → NextOf W o ts i None
 
@@ -74,7 +74,7 @@ abbrev pub list_next : Tree → ℕ → ℕ → Tree
 list_next l i j = with_part l i (with_part (part l i) 0 (declarators_next (part (part l i) 0) j))
 
 -- one call, of a list of statements and what is outside of them: a name that the next declarator read is gone
-pub record NextGone (W : VariableSet) (o l m : Tree) : Type 0 where
+pub record NextGone (W : Liberties) (o l m : Tree) : Type 0 where
   pub at : ℕ
   pub which : ℕ
   pub there : NextAt W o (children l) (Some (at, which))

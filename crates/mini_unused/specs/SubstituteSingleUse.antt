@@ -7,11 +7,11 @@ use Rattle.mini_model.specs.declared.shape.Shape.{Shape}
 use Rattle.mini_model.specs.declared.shape.Shape.TheVariants as shape
 use Rattle.mini_model.specs.Tree.{Tree, Trees, node, none, ◌▸◌, count, child_or_absent, empty_statement, shape_of, children}
 use Rattle.mini_laws.specs.ScopeList.{has_eval}
-use Rattle.mini_laws.specs.Value.{VariableSet}
 use Rattle.mini_node.specs.Children.{names_of, part, with_part, is_bare, is_nameless, first_children, rest_children}
 use Rattle.mini_terms.specs.Folds.{is_effect_free}
 use Rattle.mini_rows.specs.SpellKeys.{is_proto}
 use Rattle.mini_rows.specs.declared.gathered.Gathered.{Gathered}
+use Rattle.mini_rows.specs.Switches.{Liberties}
 use Rattle.mini_rows.specs.Unused.{names, any_names, leads, in_full, may_hold, is_constant, is_head_shape, may_move, passes_at, is_sure, is_placed, suits, are_passed, reads_head, evaluated}
 use Rattle.mini_unused.specs.Chains.{Several}
 use Rattle.mini_unused.specs.SubstituteNext.{put_named, NextAt, NextGone}
@@ -85,15 +85,15 @@ is_read_once [] o init ds j ts i = false
 is_read_once (x ∷ xs) o init ds j ts i = not (names x o) && is_read_inside x init ds j ts i
 
 -- so is the name of the declarator at the place, whose initializer may move, and which is free to go, or one of these variables
-abbrev pub is_single_declarator : Bool → VariableSet → Tree → ℕ → Tree → Trees → ℕ → Bool
-is_single_declarator free W l j o ts i = declares_name (part l j) && (may_lose free W (names_of (part (part l j) 0)) && (may_move (part (part l j) 1) && is_read_once (names_of (part (part l j) 0)) o (part (part l j) 1) (children l) j ts i))
+abbrev pub is_single_declarator : Bool → Liberties → Tree → ℕ → Tree → Trees → ℕ → Bool
+is_single_declarator free W l j o ts i = declares_name (part l j) && (may_lose free W (names_of (part (part l j) 0)) && (may_move W.switches (part (part l j) 1) && is_read_once (names_of (part (part l j) 0)) o (part (part l j) 1) (children l) j ts i))
 
 -- the statement at the place is a declaration, whose last declarator is such a one
-abbrev pub is_single : VariableSet → Tree → Trees → ℕ → Bool
+abbrev pub is_single : Liberties → Tree → Trees → ℕ → Bool
 is_single W o ts i = may_declare o (child_or_absent ts i) && is_single_declarator (is_free_at ts i) W (list_at ts i) (last_place (children (list_at ts i))) o ts i
 
 -- the place of such a statement, or there is none
-abbrev pub SingleAt : VariableSet → Tree → Trees → Option ℕ → Type 0
+abbrev pub SingleAt : Liberties → Tree → Trees → Option ℕ → Type 0
 SingleAt W o ts (Some i) = (suc i < count ts) × (suc i < 2 ^ 64) × (0 < count (children (child_or_absent ts i))) × (0 < count (children (list_at ts i))) × (is_single W o ts i ≡ true)
 SingleAt W o ts None = (i : ℕ) → suc i < count ts → is_single W o ts i ≡ false
 
@@ -116,14 +116,14 @@ list_single l i j = with_part (with_part l i (declaration_left (part l i) j)) (s
 -- ---- one call, of a list of statements and what is outside of them
 
 -- a name that nothing mentions is gone
-pub record NameGone (W : VariableSet) (o l m : Tree) : Type 0 where
+pub record NameGone (W : Liberties) (o l m : Tree) : Type 0 where
   pub at : ℕ
   pub which : ℕ
   pub unused : UnusedAt W o (children l) (Some (at, which))
   pub left : m ≡ list_left l at which
 
 -- one that was read once is gone
-pub record ReadGone (W : VariableSet) (o l m : Tree) : Type 0 where
+pub record ReadGone (W : Liberties) (o l m : Tree) : Type 0 where
   pub at : ℕ
   pub next : suc at < count (children l)
   pub declares : 0 < count (children (list_at (children l) at))
@@ -131,11 +131,11 @@ pub record ReadGone (W : VariableSet) (o l m : Tree) : Type 0 where
   pub left : m ≡ list_single l at (last_place (children (list_at (children l) at)))
 
 -- of one of them, which no direct eval sees
-pub record Gone (W : VariableSet) (o l m : Tree) : Type 0 where
+pub record Gone (W : Liberties) (o l m : Tree) : Type 0 where
   pub unseen : (has_eval o || has_eval l) ≡ false
   pub name : NameGone W o l m ⊎ (ReadGone W o l m ⊎ NextGone W o l m)
 
 -- some names are gone, one after another; or there is none, or a direct eval sees it
-abbrev pub Removed : VariableSet → Tree → Tree → Tree → Bool → Type 0
+abbrev pub Removed : Liberties → Tree → Tree → Tree → Bool → Type 0
 Removed W o l m true = Several (Gone W o) l m
 Removed W o l m false = (m ≡ l) × (((has_eval o || has_eval l) ≡ true) ⊎ (UnusedAt W o (children l) None × SingleAt W o (children l) None × NextAt W o (children l) None))

@@ -7,7 +7,7 @@ ghost use Rattle.mini_model.specs.Tree.{children, count, shape_of};
 ghost use Rattle.mini_node.specs.Children.{part};
 ghost use Rattle.mini_node.specs.Kinds.{is_listed as is_it_listed};
 ghost use Rattle.mini_unused.specs.Calls as row;
-ghost use Rattle.mini_unused.specs.RemoveUnusedDeclaration.{list_at, marked, open_in};
+ghost use Rattle.mini_unused.specs.RemoveUnusedDeclaration.{list_at, allowed, open_in};
 ghost use Rattle.mini_unused.specs.RemoveUnusedName.{switches_of, Applied};
 
 use crate::declarations::{declares_name, is_alone, is_lexical, may_declare, may_lose};
@@ -15,7 +15,7 @@ use crate::declares::declares_nothing;
 use crate::evals::either_has_eval;
 use crate::names::remove_unused_name;
 use crate::next_uses::{next_at, substitute_next};
-use mini_context::Scopes;
+use mini_context::TraverseCtx;
 use mini_model::Shape;
 use mini_node::{Node, Nodes, is_absent_part};
 use mini_tree::CompressOptions;
@@ -70,17 +70,17 @@ fn goes_alone(
     outside: &Node,
     statements: &Nodes,
     at: usize,
-    scopes: &Scopes,
+    context: &TraverseCtx,
 ) -> bool
     requires declarator { which < count (children list.now) }
     requires statement { at < count statements.now }
     requires fits { which + 1 < 2 ^ 64 }
     requires fits_too { at + 1 < 2 ^ 64 }
-    ensures { result ≡ row.goes_alone is_free (open_in outside.now (marked scopes.now)) list.now which outside.now statements.now at }
+    ensures { result ≡ row.goes_alone is_free (open_in outside.now (allowed context.now)) list.now which outside.now statements.now at }
 {
     let declarator = list.child(which);
     declares_name(declarator)
-        && may_lose(is_free, declarator.child(0).name(), outside, scopes)
+        && may_lose(is_free, declarator.child(0).name(), outside, context)
         && may_go_alone(declarator.child(1))
         && is_alone(
             declarator.child(0).name(),
@@ -101,13 +101,13 @@ pub fn should_remove_unused_declarator(
     list: &Node,
     at: usize,
     which: usize,
-    scopes: &Scopes,
+    context: &TraverseCtx,
 ) -> bool
     requires statement { at < count (children list.now) }
     requires declarator { which < count (children (list_at (children list.now) at)) }
     requires fits { which + 1 < 2 ^ 64 }
     requires fits_too { at + 1 < 2 ^ 64 }
-    ensures { result ≡ row.should_go (open_in outside.now (marked scopes.now)) outside.now list.now at which }
+    ensures { result ≡ row.should_go (open_in outside.now (allowed context.now)) outside.now list.now at which }
 {
     let statement = list.child(at);
     if !may_declare(outside, statement) {
@@ -122,17 +122,17 @@ pub fn should_remove_unused_declarator(
         outside,
         list.children(),
         at,
-        scopes,
+        context,
     ) && !either_has_eval(outside, list)
 }
 
 /// Of a list of statements with what stands outside of them, `let x = a(), y = x.b;` becomes `let y = a().b;`, for the first such name; where
 /// a list stands outside, of a `var` alone. The answer says whether there was one.
-pub fn substitute_within(outside: &Node, list: &mut Node, scopes: &Scopes) -> bool
+pub fn substitute_within(outside: &Node, list: &mut Node, context: &TraverseCtx) -> bool
     requires { is_it_listed list.old ≡ true }
-    ensures { row.Within (open_in outside.now (marked scopes.now)) outside.now list.old list.new result }
+    ensures { row.Within (open_in outside.now (allowed context.now)) outside.now list.old list.new result }
 {
-    match next_at(outside, list.children(), scopes) {
+    match next_at(outside, list.children(), context) {
         Some((at, which)) => {
             if either_has_eval(outside, list) {
                 return false;

@@ -12,9 +12,10 @@ ghost use Rattle.mini_model.specs.Tree.{absent, children, count, empty_statement
 ghost use Rattle.mini_node.specs.Children.{names, part, with_part};
 ghost use Rattle.mini_node.specs.Kinds.{is_listed as is_it_listed};
 ghost use Rattle.mini_rows.specs.Unused.{is_idle as is_it_idle};
+ghost use Rattle.mini_unused.specs.Allowed.{switches_of};
 ghost use Rattle.mini_unused.specs.Lighter.{unused_is_lighter};
 ghost use Rattle.mini_unused.specs.RemoveUnusedDeclaration as row;
-ghost use Rattle.mini_unused.specs.RemoveUnusedDeclaration.{declares_name as it_declares_name, declares_list as it_declares_list, is_lexical_shape, is_var as is_it_var, may_declare as may_it_declare, is_free_at, let_left, marked, open_in, case_at, with_statements, UnusedIn, UnusedOf, UnusedAt, Applied, AppliedInCase, AppliedInCases, AppliedInFunction, AppliedInHead, IdleDropped, Gives, Rests};
+ghost use Rattle.mini_unused.specs.RemoveUnusedDeclaration.{declares_name as it_declares_name, declares_list as it_declares_list, is_lexical_shape, is_var as is_it_var, may_declare as may_it_declare, is_free_at, let_left, allowed, open_in, case_at, with_statements, UnusedIn, UnusedOf, UnusedAt, Applied, AppliedInCase, AppliedInCases, AppliedInFunction, AppliedInHead, IdleDropped, Gives, Rests};
 ghost use Rattle.mini_unused.specs.SubstituteSingleUse.{Removed};
 
 use crate::declares::declares_nothing;
@@ -22,7 +23,7 @@ use crate::evals::{either_has_eval, has_eval};
 use crate::mentions::{is_mentioned, is_mentioned_before, is_mentioned_from};
 use crate::single_uses::substitute_single_uses;
 use crate::sweeping::sweep;
-use mini_context::{Scopes, TraverseCtx};
+use mini_context::TraverseCtx;
 use mini_model::{Name, OutOfMemory, Position, Shape, VariableDeclarationKind};
 use mini_node::{
     Node, Nodes, discard, empty_statement, expression_statement, is_absent_part, is_block,
@@ -120,12 +121,12 @@ fn shows_vars(shape: &Shape) -> bool
 }
 
 // A name that a scope declares, and that can be written.
-fn may_write(name: &Option<Name>, scopes: &Scopes) -> bool
-    ensures { result ≡ row.may_write_in (marked scopes.now) (names name.now) }
+fn may_write(name: &Option<Name>, context: &TraverseCtx) -> bool
+    ensures { result ≡ row.may_write_in (allowed context.now) (names name.now) }
 {
     match name {
         Some(name) => match name.symbol {
-            Some(symbol) => scopes.is_mentioned_writable(symbol),
+            Some(symbol) => context.scopes.is_mentioned_writable(symbol),
             None => false,
         },
         None => false,
@@ -134,10 +135,10 @@ fn may_write(name: &Option<Name>, scopes: &Scopes) -> bool
 
 /// A name that a `let` or a `const` declares, or, in a function's statements, one that can be written.
 #[tactic(auto, using(crate::proofs::Unused::open_name))]
-pub fn may_lose(is_free: bool, name: &Option<Name>, outside: &Node, scopes: &Scopes) -> bool
-    ensures { result ≡ row.may_lose is_free (open_in outside.now (marked scopes.now)) (names name.now) }
+pub fn may_lose(is_free: bool, name: &Option<Name>, outside: &Node, context: &TraverseCtx) -> bool
+    ensures { result ≡ row.may_lose is_free (open_in outside.now (allowed context.now)) (names name.now) }
 {
-    is_free || !shows_vars(outside.shape()) && may_write(name, scopes)
+    is_free || !shows_vars(outside.shape()) && may_write(name, context)
 }
 
 // An initializer that nothing misses: none, or an expression that has no effect and leaves nothing behind.
@@ -211,17 +212,17 @@ fn is_unused_declarator(
     outside: &Node,
     statements: &Nodes,
     at: usize,
-    scopes: &Scopes,
+    context: &TraverseCtx,
 ) -> bool
     requires declarator { which < count (children list.now) }
     requires statement { at < count statements.now }
     requires fits { which + 1 < 2 ^ 64 }
     requires fits_too { at + 1 < 2 ^ 64 }
-    ensures { result ≡ row.is_unused_declarator is_free (open_in outside.now (marked scopes.now)) list.now which outside.now statements.now at }
+    ensures { result ≡ row.is_unused_declarator is_free (open_in outside.now (allowed context.now)) list.now which outside.now statements.now at }
 {
     let declarator = list.child(which);
     declares_name(declarator)
-        && may_lose(is_free, declarator.child(0).name(), outside, scopes)
+        && may_lose(is_free, declarator.child(0).name(), outside, context)
         && may_go(declarator.child(1), list)
         && is_alone(
             declarator.child(0).name(),
@@ -241,14 +242,14 @@ fn unused_in(
     outside: &Node,
     statements: &Nodes,
     at: usize,
-    scopes: &Scopes,
+    context: &TraverseCtx,
 ) -> Option<usize>
     requires statement { at < count statements.now }
     requires fits { at + 1 < 2 ^ 64 }
-    ensures { UnusedIn is_free (open_in outside.now (marked scopes.now)) list.now outside.now statements.now at result }
+    ensures { UnusedIn is_free (open_in outside.now (allowed context.now)) list.now outside.now statements.now at result }
 {
     for which in 0..list.children().len() {
-        if is_unused_declarator(is_free, list, which, outside, statements, at, scopes) {
+        if is_unused_declarator(is_free, list, which, outside, statements, at, context) {
             return Some(which);
         }
     }
@@ -256,25 +257,37 @@ fn unused_in(
 }
 
 /// Of the statement, where it is a declaration.
-pub fn unused_of(outside: &Node, statements: &Nodes, at: usize, scopes: &Scopes) -> Option<usize>
+pub fn unused_of(
+    outside: &Node,
+    statements: &Nodes,
+    at: usize,
+    context: &TraverseCtx,
+) -> Option<usize>
     requires statement { at < count statements.now }
     requires fits { at + 1 < 2 ^ 64 }
-    ensures { UnusedOf (open_in outside.now (marked scopes.now)) outside.now statements.now at result }
+    ensures { UnusedOf (open_in outside.now (allowed context.now)) outside.now statements.now at result }
 {
     let statement = statements.child(at);
     if !may_declare(outside, statement) {
         return None;
     }
     let is_free = is_lexical(statement.shape());
-    unused_in(is_free, statement.child(0), outside, statements, at, scopes)
+    unused_in(
+        is_free,
+        statement.child(0),
+        outside,
+        statements,
+        at,
+        context,
+    )
 }
 
 // The first statement that has one, and the declarator's place in it.
-fn unused_at(outside: &Node, statements: &Nodes, scopes: &Scopes) -> Option<(usize, usize)>
-    ensures { UnusedAt (open_in outside.now (marked scopes.now)) outside.now statements.now result }
+fn unused_at(outside: &Node, statements: &Nodes, context: &TraverseCtx) -> Option<(usize, usize)>
+    ensures { UnusedAt (open_in outside.now (allowed context.now)) outside.now statements.now result }
 {
     for at in 0..statements.len() {
-        if let Some(which) = unused_of(outside, statements, at, scopes) {
+        if let Some(which) = unused_of(outside, statements, at, context) {
             return Some((at, which));
         }
     }
@@ -358,26 +371,26 @@ pub fn remove_in_list(
     alloc: Global,
     outside: &Node,
     list: &mut Node,
-    scopes: &Scopes,
+    context: &TraverseCtx,
 ) -> Result<bool, OutOfMemory>
     requires { is_it_listed list.old ≡ true }
-    ensures { IfOk result (λ changed. Removed (open_in outside.now (marked scopes.now)) outside.now list.old list.new changed) }
+    ensures { IfOk result (λ changed. Removed (open_in outside.now (allowed context.now)) outside.now list.old list.new changed) }
 {
-    match unused_at(outside, list.children(), scopes) {
+    match unused_at(outside, list.children(), context) {
         Some((at, which)) => {
             if either_has_eval(outside, list) {
                 return Ok(false);
             }
             drop_in_list(alloc, list, at, which)?;
-            sweep(alloc, outside, list, at, scopes)?;
+            sweep(alloc, outside, list, at, context)?;
             Ok(true)
         }
-        None => substitute_single_uses(alloc, outside, list, scopes),
+        None => substitute_single_uses(alloc, outside, list, context),
     }
 }
 
-// A switch over a list of cases.
-fn is_switch(node: &Node) -> bool
+/// A switch over a list of cases.
+pub fn is_switch(node: &Node) -> bool
     ensures kind { result ≡ row.is_switch node.now }
     ensures parts { result ≡ true → count (children node.now) ≡ 2 }
 {
@@ -392,8 +405,8 @@ fn is_case(node: &Node) -> bool
     matches!(node.shape(), Shape::SwitchCase) && node.is_bare(2) && is_listed(node.child(1))
 }
 
-// Of a switch, what stands at the place is such a case.
-fn is_case_at(node: &Node, at: usize) -> bool
+/// Of a switch, what stands at the place is a case with its statements in a list.
+pub fn is_case_at(node: &Node, at: usize) -> bool
     requires cases { 1 < count (children node.now) }
     requires case { at < count (children (part node.now 1)) }
     ensures kind { result ≡ row.is_case (case_at node.now at) }
@@ -402,9 +415,9 @@ fn is_case_at(node: &Node, at: usize) -> bool
     is_case(node.child(1).child(at))
 }
 
-// Of a switch, the statements of the case at the place, taken out of it.
+/// Of a switch, the statements of the case at the place, taken out of it.
 #[tactic(auto, using(crate::proofs::Unused::same_parts, crate::proofs::Unused::part_twice))]
-fn take_statements(node: &mut Node, at: usize) -> Node
+pub fn take_statements(node: &mut Node, at: usize) -> Node
     requires cases { 1 < count (children node.old) }
     requires case { at < count (children (part node.old 1)) }
     requires list { 1 < count (children (case_at node.old at)) }
@@ -419,9 +432,9 @@ fn take_statements(node: &mut Node, at: usize) -> Node
     list
 }
 
-// Of a switch, these are the statements of the case at the place.
+/// Of a switch, these are the statements of the case at the place.
 #[tactic(auto, using(crate::proofs::Unused::same_parts, crate::proofs::Unused::part_twice))]
-fn put_statements(node: &mut Node, at: usize, list: Node)
+pub fn put_statements(node: &mut Node, at: usize, list: Node)
     requires cases { 1 < count (children node.old) }
     requires case { at < count (children (part node.old 1)) }
     requires list { 1 < count (children (case_at node.old at)) }
@@ -439,18 +452,18 @@ fn remove_in_case(
     alloc: Global,
     node: &mut Node,
     at: usize,
-    scopes: &Scopes,
+    context: &TraverseCtx,
 ) -> Result<bool, OutOfMemory>
     requires switch { row.is_switch node.old ≡ true }
     requires cases { 1 < count (children node.old) }
     requires case { at < count (children (part node.old 1)) }
-    ensures { IfOk result (λ changed. AppliedInCase node.old at node.new changed) }
+    ensures { IfOk result (λ changed. AppliedInCase (switches_of context.now.options) node.old at node.new changed) }
 {
     if !is_case_at(node, at) {
         return Ok(false);
     }
     let mut list = take_statements(node, at);
-    let changed = remove_in_list(alloc, node, &mut list, scopes);
+    let changed = remove_in_list(alloc, node, &mut list, context);
     put_statements(node, at, list);
     changed
 }
@@ -460,36 +473,36 @@ fn remove_in_cases(
     alloc: Global,
     node: &mut Node,
     from: usize,
-    scopes: &Scopes,
+    context: &TraverseCtx,
 ) -> Result<bool, OutOfMemory>
     requires switch { row.is_switch node.old ≡ true }
     requires cases { 1 < count (children node.old) }
-    ensures { IfOk result (λ changed. AppliedInCases node.old from node.new changed) }
+    ensures { IfOk result (λ changed. AppliedInCases (switches_of context.now.options) node.old from node.new changed) }
 {
     if from >= node.child(1).children().len() {
         return Ok(false);
     }
-    if remove_in_case(alloc, node, from, scopes)? {
+    if remove_in_case(alloc, node, from, context)? {
         return Ok(true);
     }
-    remove_in_cases(alloc, node, from + 1, scopes)
+    remove_in_cases(alloc, node, from + 1, context)
 }
 
 // Of a switch, names go from its cases.
 fn remove_unused_in_switch(
     alloc: Global,
     node: &mut Node,
-    scopes: &Scopes,
+    context: &TraverseCtx,
 ) -> Result<bool, OutOfMemory>
     requires switch { row.is_switch node.old ≡ true }
     requires cases { 1 < count (children node.old) }
-    ensures { IfOk result (λ changed. (q : StmtSeat) → Applied (marked scopes.now) (Stmt q) node.old node.new changed) }
+    ensures { IfOk result (λ changed. (q : StmtSeat) → Applied (allowed context.now) (Stmt q) node.old node.new changed) }
 {
-    remove_in_cases(alloc, node, 0, scopes)
+    remove_in_cases(alloc, node, 0, context)
 }
 
-// A `for` over a `let` or a `const`.
-fn has_head(node: &Node) -> bool
+/// A `for` over a `let` or a `const`.
+pub fn has_head(node: &Node) -> bool
     ensures kind { result ≡ row.has_head node.now }
     ensures parts { result ≡ true → count (children node.now) ≡ 4 }
 {
@@ -500,12 +513,12 @@ fn has_head(node: &Node) -> bool
 }
 
 // Of its declarators the first whose name nothing else in the `for` mentions, and that may go from a list of statements.
-fn unused_in_head(alloc: Global, node: &Node, scopes: &Scopes) -> Option<usize>
+fn unused_in_head(alloc: Global, node: &Node, context: &TraverseCtx) -> Option<usize>
     requires { 0 < count (children node.now) }
-    ensures { UnusedOf (open_in is_nothing (marked scopes.now)) is_nothing (children node.now) 0 result }
+    ensures { UnusedOf (open_in is_nothing (allowed context.now)) is_nothing (children node.now) 0 result }
 {
     let outside = empty_statement(alloc);
-    let found = unused_of(&outside, node.children(), 0, scopes);
+    let found = unused_of(&outside, node.children(), 0, context);
     discard(outside);
     found
 }
@@ -564,12 +577,12 @@ fn drop_idle_in_head(alloc: Global, node: &mut Node, which: usize) -> bool
 }
 
 // Of the head of a `for` such a declarator goes.
-fn remove_in_head(alloc: Global, node: &mut Node, scopes: &Scopes) -> bool
+fn remove_in_head(alloc: Global, node: &mut Node, context: &TraverseCtx) -> bool
     requires head { row.has_head node.old ≡ true }
     requires parts { 0 < count (children node.old) }
     ensures { AppliedInHead node.old node.new result }
 {
-    match unused_in_head(alloc, node, scopes) {
+    match unused_in_head(alloc, node, context) {
         Some(which) => drop_idle_in_head(alloc, node, which),
         None => false,
     }
@@ -582,21 +595,21 @@ fn remove_in_head(alloc: Global, node: &mut Node, scopes: &Scopes) -> bool
 pub fn remove_unused_declaration(
     alloc: Global,
     node: &mut Node,
-    scopes: &Scopes,
+    context: &TraverseCtx,
 ) -> Result<bool, OutOfMemory>
-    ensures { IfOk result (λ changed. (q : StmtSeat) → Applied (marked scopes.now) (Stmt q) node.old node.new changed) }
+    ensures { IfOk result (λ changed. (q : StmtSeat) → Applied (allowed context.now) (Stmt q) node.old node.new changed) }
 {
     if has_head(node) {
-        return Ok(remove_in_head(alloc, node, scopes));
+        return Ok(remove_in_head(alloc, node, context));
     }
     if is_switch(node) {
-        return remove_unused_in_switch(alloc, node, scopes);
+        return remove_unused_in_switch(alloc, node, context);
     }
     if !is_block(node) {
-        return remove_unused_in_function(alloc, node, scopes);
+        return remove_unused_in_function(alloc, node, context);
     }
     let mut list = take_child(node, 0);
-    let changed = remove_in_list(alloc, node, &mut list, scopes);
+    let changed = remove_in_list(alloc, node, &mut list, context);
     put_child(node, 0, list);
     changed
 }
@@ -637,16 +650,16 @@ pub fn has_statements(node: &Node) -> bool
 pub fn remove_unused_in_arrow(
     alloc: Global,
     node: &mut Node,
-    scopes: &Scopes,
+    context: &TraverseCtx,
 ) -> Result<bool, OutOfMemory>
-    ensures { IfOk result (λ changed. (s : Seat) → Applied (marked scopes.now) (Expr s) node.old node.new changed) }
+    ensures { IfOk result (λ changed. (s : Seat) → Applied (allowed context.now) (Expr s) node.old node.new changed) }
 {
     if !has_statements(node) {
-        return remove_unused_in_function(alloc, node, scopes);
+        return remove_unused_in_function(alloc, node, context);
     }
     let mut body = take_child(node, 1);
     let mut list = take_child(&mut body, 0);
-    let changed = remove_in_list(alloc, node, &mut list, scopes);
+    let changed = remove_in_list(alloc, node, &mut list, context);
     put_child(&mut body, 0, list);
     put_child(node, 1, body);
     changed
@@ -671,16 +684,16 @@ pub fn is_function(node: &Node) -> bool
 pub fn remove_unused_in_function(
     alloc: Global,
     node: &mut Node,
-    scopes: &Scopes,
+    context: &TraverseCtx,
 ) -> Result<bool, OutOfMemory>
-    ensures { IfOk result (λ changed. AppliedInFunction (marked scopes.now) node.old node.new changed) }
+    ensures { IfOk result (λ changed. AppliedInFunction (allowed context.now) node.old node.new changed) }
 {
     if !is_function(node) {
         return Ok(false);
     }
     let mut body = take_child(node, 2);
     let mut list = take_child(&mut body, 0);
-    let changed = remove_in_list(alloc, node, &mut list, scopes);
+    let changed = remove_in_list(alloc, node, &mut list, context);
     put_child(&mut body, 0, list);
     put_child(node, 2, body);
     changed
@@ -727,29 +740,29 @@ fn holds_statements(node: &Node) -> bool
 pub fn remove_unused_in_module(
     alloc: Global,
     node: &mut Node,
-    scopes: &Scopes,
+    context: &TraverseCtx,
 ) -> Result<bool, OutOfMemory>
-    ensures { IfOk result (λ changed. Applied (marked scopes.now) Elsewhere node.old node.new changed) }
+    ensures { IfOk result (λ changed. Applied (allowed context.now) Elsewhere node.old node.new changed) }
 {
     if !holds_statements(node) {
-        return remove_unused_in_function(alloc, node, scopes);
+        return remove_unused_in_function(alloc, node, context);
     }
     let mut list = take_child(node, 0);
-    let changed = remove_in_list(alloc, node, &mut list, scopes);
+    let changed = remove_in_list(alloc, node, &mut list, context);
     put_child(node, 0, list);
     changed
 }
 
 /// Rows 71 and 72 as a rule: of each block, those of a `try` among them, and each switch, of each function with statements, of each static block, and of a module. Its context says which names the program
-/// that it knows lets be written.
+/// that it knows lets be written, and its options whether functions and classes keep the names that they get.
 pub struct RemoveUnusedDeclarations;
 
 impl Rule<TraverseCtx> for RemoveUnusedDeclarations {
     ghost gives = { Gives };
 
-    ghost rests = { λ o q. Rests q };
+    ghost rests = { Rests };
 
-    ghost lighter = { λ o q. unused_is_lighter q };
+    ghost lighter = { unused_is_lighter };
 
     #[tactic(auto, using(crate::proofs::Unused::elsewhere))]
     fn apply(
@@ -760,10 +773,10 @@ impl Rule<TraverseCtx> for RemoveUnusedDeclarations {
         context: &mut TraverseCtx,
     ) -> Result<bool, OutOfMemory> {
         match place {
-            Position::Stmt(_) => Ok(remove_unused_declaration(alloc, node, &context.scopes)?),
-            Position::Expr(_) => Ok(remove_unused_in_arrow(alloc, node, &context.scopes)?),
-            Position::Method => Ok(remove_unused_in_function(alloc, node, &context.scopes)?),
-            Position::Elsewhere => Ok(remove_unused_in_module(alloc, node, &context.scopes)?),
+            Position::Stmt(_) => Ok(remove_unused_declaration(alloc, node, &*context)?),
+            Position::Expr(_) => Ok(remove_unused_in_arrow(alloc, node, &*context)?),
+            Position::Method => Ok(remove_unused_in_function(alloc, node, &*context)?),
+            Position::Elsewhere => Ok(remove_unused_in_module(alloc, node, &*context)?),
             _ => Ok(false),
         }
     }

@@ -1,27 +1,47 @@
-//! The rule over them.
+//! What is done at the ends of the ways in whatever holds a body, and the rule that rows 71 and 72 are there.
 
+ghost use Rattle.std.specs.Prelude.{IfOk};
 ghost use Rattle.mini_unused.specs.Lighter.{inside_is_lighter};
-ghost use Rattle.mini_unused.specs.Further.{Gives, Rests};
+ghost use Rattle.mini_unused.specs.Further.{AppliedAt, Gives, Rests};
 
 use crate::bodies::{remove_inside_arrow, remove_inside_function, remove_inside_module};
+use crate::ends::{EndRewrites, UnusedEnds};
 use mini_context::TraverseCtx;
 use mini_model::{OutOfMemory, Position};
 use mini_node::Node;
 use mini_tree::Rule;
 use std::alloc::Global;
 
-/// Rows 71 and 72 of a `var` further inside as a rule: of each function with statements, of each static block, and of a module. Its context
-/// says which names the program that it knows lets be written.
+/// Of what holds a body, as it stands at a place: each function with statements, each static block, and a module. The answer says whether anything was
+/// done; the only error is that memory runs out, and then the node is fit only to be dropped.
+#[tactic(auto, using(crate::proofs::FurtherHolders::nowhere))]
+pub fn remove_inside<E: EndRewrites>(
+    alloc: Global,
+    node: &mut Node,
+    place: Position,
+    ends: &E,
+) -> Result<bool, OutOfMemory>
+    ensures { IfOk result (λ changed. AppliedAt (E.ends ends.now) place node.old node.new changed) }
+{
+    match place {
+        Position::Stmt(_) => remove_inside_function(alloc, node, ends),
+        Position::Expr(_) => remove_inside_arrow(alloc, node, ends),
+        Position::Method => remove_inside_function(alloc, node, ends),
+        Position::Elsewhere => remove_inside_module(alloc, node, ends),
+        _ => Ok(false),
+    }
+}
+
+/// Rows 71 and 72 of a `var` further inside as a rule. Its context says which names the program that it knows lets be written, and its options whether functions and classes keep the names that they get.
 pub struct RemoveInside;
 
 impl Rule<TraverseCtx> for RemoveInside {
-    ghost gives = { λ o q. Gives q };
+    ghost gives = { Gives };
 
-    ghost rests = { λ o q. Rests q };
+    ghost rests = { Rests };
 
-    ghost lighter = { λ o q. inside_is_lighter q };
+    ghost lighter = { inside_is_lighter };
 
-    #[tactic(auto, using(crate::proofs::FurtherHolders::nowhere))]
     fn apply(
         &self,
         alloc: Global,
@@ -29,12 +49,7 @@ impl Rule<TraverseCtx> for RemoveInside {
         place: Position,
         context: &mut TraverseCtx,
     ) -> Result<bool, OutOfMemory> {
-        match place {
-            Position::Stmt(_) => Ok(remove_inside_function(alloc, node, &context.scopes)?),
-            Position::Expr(_) => Ok(remove_inside_arrow(alloc, node, &context.scopes)?),
-            Position::Method => Ok(remove_inside_function(alloc, node, &context.scopes)?),
-            Position::Elsewhere => Ok(remove_inside_module(alloc, node, &context.scopes)?),
-            _ => Ok(false),
-        }
+        let ends = UnusedEnds { context: &*context };
+        remove_inside(alloc, node, place, &ends)
     }
 }

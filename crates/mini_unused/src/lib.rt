@@ -7,6 +7,7 @@ mod calm;
 mod catches;
 mod declarations;
 mod declares;
+mod ends;
 mod evals;
 mod further;
 mod inside;
@@ -26,12 +27,14 @@ pub use calls::{
 };
 pub use catches::{SubstituteCatches, substitute_catch_clause};
 pub use declarations::{
-    RemoveUnusedDeclarations, declares_list, declares_name, has_statements, is_function,
-    is_lexical, is_module, is_static_block, put_child, remove_unused_declaration,
-    remove_unused_in_arrow, remove_unused_in_function, remove_unused_in_module, take_child,
+    RemoveUnusedDeclarations, declares_list, declares_name, has_head, has_statements, is_case_at,
+    is_function, is_lexical, is_module, is_static_block, is_switch, may_declare, put_child,
+    put_statements, remove_unused_declaration, remove_unused_in_arrow, remove_unused_in_function,
+    remove_unused_in_module, take_child, take_statements,
 };
+pub use ends::{EndRewrites, UnusedEnds};
 pub use evals::{either_has_eval, has_eval};
-pub use inside::RemoveInside;
+pub use inside::{RemoveInside, remove_inside};
 pub use mentions::{is_mentioned, is_mentioned_before, is_mentioned_from};
 pub use names::{RemoveUnusedNames, remove_unused_name};
 pub use next_uses::{is_declarator, is_mentioned_beside, is_mentioned_elsewhere, substitute_next};

@@ -6,7 +6,7 @@ ghost use Rattle.std.specs.Prelude.{◌≡◌, ◌+◌, ◌<◌, ◌^◌, true, 
 ghost use Rattle.mini_model.specs.Tree.{children, count};
 ghost use Rattle.mini_node.specs.Children.{names, part, with_part};
 ghost use Rattle.mini_node.specs.Kinds.{is_listed as is_it_listed};
-ghost use Rattle.mini_unused.specs.RemoveUnusedDeclaration.{declares_name as it_declares_name, marked, open_in, UnusedAt};
+ghost use Rattle.mini_unused.specs.RemoveUnusedDeclaration.{declares_name as it_declares_name, allowed, open_in, UnusedAt};
 ghost use Rattle.mini_unused.specs.SubstituteNext as row;
 ghost use Rattle.mini_unused.specs.SubstituteNext.{NextIn, NextOf, NextAt};
 ghost use Rattle.mini_unused.specs.SubstituteSingleUse.{Removed, SingleAt};
@@ -18,7 +18,7 @@ use crate::evals::either_has_eval;
 use crate::mentions::{is_mentioned, is_mentioned_before, is_mentioned_from};
 use crate::single_uses::{may_move, put_named, reads_in};
 use crate::sweeping::sweep;
-use mini_context::Scopes;
+use mini_context::TraverseCtx;
 use mini_model::{Name, OutOfMemory, Shape};
 use mini_node::{Node, Nodes, discard, two};
 use std::alloc::Global;
@@ -100,18 +100,18 @@ fn is_read_by(
     which: usize,
     statements: &Nodes,
     at: usize,
-    scopes: &Scopes,
+    context: &TraverseCtx,
 ) -> bool
     requires next { which + 1 < count declarators.now }
     requires statement { at < count statements.now }
     requires fits { which + 2 < 2 ^ 64 }
     requires fits_too { at + 1 < 2 ^ 64 }
-    ensures { result ≡ row.is_read_by is_free (open_in outside.now (marked scopes.now)) declarator.now next.now outside.now declarators.now which statements.now at }
+    ensures { result ≡ row.is_read_by is_free (open_in outside.now (allowed context.now)) declarator.now next.now outside.now declarators.now which statements.now at }
 {
     declares_name(declarator)
         && is_declarator(next)
-        && may_lose(is_free, declarator.child(0).name(), outside, scopes)
-        && may_move(declarator.child(1))
+        && may_lose(is_free, declarator.child(0).name(), outside, context)
+        && may_move(declarator.child(1), context.options)
         && is_read_then(
             declarator.child(0).name(),
             declarator,
@@ -133,13 +133,13 @@ fn is_read_by_next(
     outside: &Node,
     statements: &Nodes,
     at: usize,
-    scopes: &Scopes,
+    context: &TraverseCtx,
 ) -> bool
     requires next { which + 1 < count (children list.now) }
     requires statement { at < count statements.now }
     requires fits { which + 2 < 2 ^ 64 }
     requires fits_too { at + 1 < 2 ^ 64 }
-    ensures { result ≡ row.is_read_by_next is_free (open_in outside.now (marked scopes.now)) list.now which outside.now statements.now at }
+    ensures { result ≡ row.is_read_by_next is_free (open_in outside.now (allowed context.now)) list.now which outside.now statements.now at }
 {
     let declarator = list.child(which);
     let next = list.child(which + 1);
@@ -153,7 +153,7 @@ fn is_read_by_next(
         which,
         statements,
         at,
-        scopes,
+        context,
     )
 }
 
@@ -165,18 +165,18 @@ fn next_in(
     outside: &Node,
     statements: &Nodes,
     at: usize,
-    scopes: &Scopes,
+    context: &TraverseCtx,
 ) -> Option<usize>
     requires statement { at < count statements.now }
     requires fits { at + 1 < 2 ^ 64 }
-    ensures { NextIn is_free (open_in outside.now (marked scopes.now)) list.now outside.now statements.now at result }
+    ensures { NextIn is_free (open_in outside.now (allowed context.now)) list.now outside.now statements.now at result }
 {
     let count = list.children().len();
     if count == 0 {
         return None;
     }
     for which in 0..count - 1 {
-        if is_read_by_next(is_free, list, which, outside, statements, at, scopes) {
+        if is_read_by_next(is_free, list, which, outside, statements, at, context) {
             return Some(which);
         }
     }
@@ -185,26 +185,33 @@ fn next_in(
 
 // Of the statement, where it is a declaration.
 
-fn next_of(outside: &Node, statements: &Nodes, at: usize, scopes: &Scopes) -> Option<usize>
+fn next_of(outside: &Node, statements: &Nodes, at: usize, context: &TraverseCtx) -> Option<usize>
     requires statement { at < count statements.now }
     requires fits { at + 1 < 2 ^ 64 }
-    ensures { NextOf (open_in outside.now (marked scopes.now)) outside.now statements.now at result }
+    ensures { NextOf (open_in outside.now (allowed context.now)) outside.now statements.now at result }
 {
     let statement = statements.child(at);
     if !may_declare(outside, statement) {
         return None;
     }
     let is_free = is_lexical(statement.shape());
-    next_in(is_free, statement.child(0), outside, statements, at, scopes)
+    next_in(
+        is_free,
+        statement.child(0),
+        outside,
+        statements,
+        at,
+        context,
+    )
 }
 
 /// The first declaration that has a name which its next declarator reads first, and which nothing else mentions, and the declarator's
 /// place in it.
-pub fn next_at(outside: &Node, statements: &Nodes, scopes: &Scopes) -> Option<(usize, usize)>
-    ensures { NextAt (open_in outside.now (marked scopes.now)) outside.now statements.now result }
+pub fn next_at(outside: &Node, statements: &Nodes, context: &TraverseCtx) -> Option<(usize, usize)>
+    ensures { NextAt (open_in outside.now (allowed context.now)) outside.now statements.now result }
 {
     for at in 0..statements.len() {
-        if let Some(which) = next_of(outside, statements, at, scopes) {
+        if let Some(which) = next_of(outside, statements, at, context) {
             return Some((at, which));
         }
     }
@@ -261,20 +268,20 @@ pub fn substitute_next_uses(
     alloc: Global,
     outside: &Node,
     list: &mut Node,
-    scopes: &Scopes,
+    context: &TraverseCtx,
 ) -> Result<bool, OutOfMemory>
     requires list { is_it_listed list.old ≡ true }
-    requires used { UnusedAt (open_in outside.now (marked scopes.now)) outside.now (children list.old) None }
-    requires singles { SingleAt (open_in outside.now (marked scopes.now)) outside.now (children list.old) None }
-    ensures { IfOk result (λ changed. Removed (open_in outside.now (marked scopes.now)) outside.now list.old list.new changed) }
+    requires used { UnusedAt (open_in outside.now (allowed context.now)) outside.now (children list.old) None }
+    requires singles { SingleAt (open_in outside.now (allowed context.now)) outside.now (children list.old) None }
+    ensures { IfOk result (λ changed. Removed (open_in outside.now (allowed context.now)) outside.now list.old list.new changed) }
 {
-    match next_at(outside, list.children(), scopes) {
+    match next_at(outside, list.children(), context) {
         Some((at, which)) => {
             if either_has_eval(outside, list) {
                 return Ok(false);
             }
             substitute_next(list, at, which);
-            sweep(alloc, outside, list, at, scopes)?;
+            sweep(alloc, outside, list, at, context)?;
             Ok(true)
         }
         None => Ok(false),

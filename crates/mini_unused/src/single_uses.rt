@@ -9,7 +9,8 @@ ghost use Rattle.mini_node.specs.Children.{first_children, names, part, with_par
 ghost use Rattle.mini_node.specs.Kinds.{is_absent_part as is_it_absent, is_listed as is_it_listed, is_listed_shape as is_it_listed_shape};
 ghost use Rattle.mini_terms.specs.Folds.{is_effect_free as is_it_effect_free};
 ghost use Rattle.mini_rows.specs.Unused as reading;
-ghost use Rattle.mini_unused.specs.RemoveUnusedDeclaration.{list_at, marked, open_in, UnusedAt};
+ghost use Rattle.mini_unused.specs.Allowed.{switches_of};
+ghost use Rattle.mini_unused.specs.RemoveUnusedDeclaration.{list_at, allowed, open_in, UnusedAt};
 ghost use Rattle.mini_unused.specs.SubstituteNext.{put_named as it_put_named, reads_in as it_reads_in};
 ghost use Rattle.mini_unused.specs.SubstituteSingleUse as row;
 ghost use Rattle.mini_unused.specs.SubstituteSingleUse.{declaration_left, SingleAt, Removed};
@@ -24,13 +25,14 @@ use crate::evals::{either_has_eval, is_eval_callee, is_eval_name};
 use crate::mentions::{is_mentioned, is_mentioned_before, is_mentioned_from, is_same_symbol};
 use crate::next_uses::{is_declarator, substitute_next_uses};
 use crate::sweeping::sweep;
-use mini_context::Scopes;
+use mini_context::TraverseCtx;
 use mini_model::{AssignmentOperator, Name, OutOfMemory, PropertyKind, Shape, UnaryOperator};
 use mini_node::{Node, Nodes, discard, empty_statement, is_absent_part, is_identifier, two};
 use mini_rows::Gathered;
 use mini_terms::{
     is_effect_free, is_item, is_plain_part, is_primitive, is_typed_by_value, kind_of, stands,
 };
+use mini_tree::CompressOptions;
 use std::alloc::Global;
 
 // The units of `__proto__`.
@@ -785,22 +787,23 @@ fn has_no_name(node: &Node) -> bool
     is_absent_part(node.child(0))
 }
 
-// A function or a class without a name of its own gets the variable's.
-fn takes_name(node: &Node) -> bool
-    ensures { result ≡ reading.takes_name (shape_of node.now) (part node.now 0) }
+// A function or a class without a name of its own gets the variable's, which may have to stay.
+fn takes_name(node: &Node, options: CompressOptions) -> bool
+    ensures { result ≡ reading.takes_name (switches_of options) (shape_of node.now) (part node.now 0) }
 {
     match node.shape() {
-        Shape::Function(_, _, _) | Shape::Class(_) => has_no_name(node),
-        Shape::ArrowFunctionExpression(_) => true,
+        Shape::Function(_, _, _) => options.keep_names.function && has_no_name(node),
+        Shape::ArrowFunctionExpression(_) => options.keep_names.function,
+        Shape::Class(_) => options.keep_names.class && has_no_name(node),
         _ => false,
     }
 }
 
-/// What may move: no function and no class that would get the variable's name.
-pub fn may_move(node: &Node) -> bool
-    ensures { result ≡ reading.may_move node.now }
+/// What may move: no function and no class that would get the variable's name, where such names have to stay.
+pub fn may_move(node: &Node, options: CompressOptions) -> bool
+    ensures { result ≡ reading.may_move (switches_of options) node.now }
 {
-    is_plain_part(node) && !takes_name(node)
+    is_plain_part(node) && !takes_name(node, options)
 }
 
 /// Whether the name stands in the initializer, or in a declarator before it.
@@ -911,17 +914,17 @@ fn is_single_declarator(
     outside: &Node,
     statements: &Nodes,
     at: usize,
-    scopes: &Scopes,
+    context: &TraverseCtx,
 ) -> bool
     requires declarator { which < count (children list.now) }
     requires next { at + 1 < count statements.now }
     requires fits { at + 2 < 2 ^ 64 }
-    ensures { result ≡ row.is_single_declarator is_free (open_in outside.now (marked scopes.now)) list.now which outside.now statements.now at }
+    ensures { result ≡ row.is_single_declarator is_free (open_in outside.now (allowed context.now)) list.now which outside.now statements.now at }
 {
     let declarator = list.child(which);
     declares_name(declarator)
-        && may_lose(is_free, declarator.child(0).name(), outside, scopes)
-        && may_move(declarator.child(1))
+        && may_lose(is_free, declarator.child(0).name(), outside, context)
+        && may_move(declarator.child(1), context.options)
         && is_read_once(
             declarator.child(0).name(),
             outside,
@@ -935,10 +938,10 @@ fn is_single_declarator(
 
 // The statement is a declaration, whose last declarator is such a one.
 #[tactic(auto, using(crate::proofs::SingleUses::no_declarator, crate::proofs::SingleUses::last_is))]
-fn is_single(outside: &Node, statements: &Nodes, at: usize, scopes: &Scopes) -> bool
+fn is_single(outside: &Node, statements: &Nodes, at: usize, context: &TraverseCtx) -> bool
     requires next { at + 1 < count statements.now }
     requires fits { at + 2 < 2 ^ 64 }
-    ensures single { result ≡ row.is_single (open_in outside.now (marked scopes.now)) outside.now statements.now at }
+    ensures single { result ≡ row.is_single (open_in outside.now (allowed context.now)) outside.now statements.now at }
     ensures list { result ≡ true → 0 < count (children (child_or_absent statements.now at)) }
     ensures declarators { result ≡ true → 0 < count (children (list_at statements.now at)) }
 {
@@ -952,19 +955,19 @@ fn is_single(outside: &Node, statements: &Nodes, at: usize, scopes: &Scopes) -> 
         return false;
     }
     let is_free = is_lexical(statement.shape());
-    is_single_declarator(is_free, list, count - 1, outside, statements, at, scopes)
+    is_single_declarator(is_free, list, count - 1, outside, statements, at, context)
 }
 
 // The first such statement.
-fn single_at(outside: &Node, statements: &Nodes, scopes: &Scopes) -> Option<usize>
-    ensures { SingleAt (open_in outside.now (marked scopes.now)) outside.now statements.now result }
+fn single_at(outside: &Node, statements: &Nodes, context: &TraverseCtx) -> Option<usize>
+    ensures { SingleAt (open_in outside.now (allowed context.now)) outside.now statements.now result }
 {
     let count = statements.len();
     if count == 0 {
         return None;
     }
     for at in 0..count - 1 {
-        if is_single(outside, statements, at, scopes) {
+        if is_single(outside, statements, at, context) {
             return Some(at);
         }
     }
@@ -1089,22 +1092,22 @@ pub fn substitute_single_uses(
     alloc: Global,
     outside: &Node,
     list: &mut Node,
-    scopes: &Scopes,
+    context: &TraverseCtx,
 ) -> Result<bool, OutOfMemory>
     requires list { is_it_listed list.old ≡ true }
-    requires used { UnusedAt (open_in outside.now (marked scopes.now)) outside.now (children list.old) None }
-    ensures { IfOk result (λ changed. Removed (open_in outside.now (marked scopes.now)) outside.now list.old list.new changed) }
+    requires used { UnusedAt (open_in outside.now (allowed context.now)) outside.now (children list.old) None }
+    ensures { IfOk result (λ changed. Removed (open_in outside.now (allowed context.now)) outside.now list.old list.new changed) }
 {
-    match single_at(outside, list.children(), scopes) {
+    match single_at(outside, list.children(), context) {
         Some(at) => {
             if either_has_eval(outside, list) {
                 return Ok(false);
             }
             let which = last_declarator(list, at);
             substitute_in_list(alloc, list, at, which);
-            sweep(alloc, outside, list, at, scopes)?;
+            sweep(alloc, outside, list, at, context)?;
             Ok(true)
         }
-        None => substitute_next_uses(alloc, outside, list, scopes),
+        None => substitute_next_uses(alloc, outside, list, context),
     }
 }

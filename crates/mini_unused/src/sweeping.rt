@@ -8,7 +8,7 @@ ghost use Rattle.mini_node.specs.Children.{names_of as names, part};
 ghost use Rattle.mini_node.specs.Kinds.{is_listed as is_it_listed};
 ghost use Rattle.mini_unused.specs.Chains.{Chain};
 ghost use Rattle.mini_unused.specs.SubstituteNext.{is_declarator as is_it_declarator, is_read_then as is_it_read_then, NextOf};
-ghost use Rattle.mini_unused.specs.RemoveUnusedDeclaration.{declares_list as it_declares_list, is_alone as is_it_alone, list_at, marked, open_in, UnusedOf};
+ghost use Rattle.mini_unused.specs.RemoveUnusedDeclaration.{declares_list as it_declares_list, is_alone as is_it_alone, list_at, allowed, open_in, UnusedOf};
 ghost use Rattle.mini_unused.specs.SubstituteSingleUse.{is_read_once as is_it_read_once, is_single as is_it_single, Gone};
 ghost use Rattle.mini_unused.specs.Sweep.{may_go_at, may_move_at, Calm, Swept};
 ghost use Rattle.mini_unused.specs.Tallies.{Tallied};
@@ -19,19 +19,25 @@ use crate::declarations::{
 use crate::next_uses::{is_declarator, is_read_then, substitute_next};
 use crate::single_uses::{is_read_once, last_declarator, may_move, reads_next, substitute_in_list};
 use crate::tallies::{Tallies, has_rare_name, is_rarely_read, is_rarely_read_in, tally_list};
-use mini_context::Scopes;
+use mini_context::TraverseCtx;
 use mini_model::OutOfMemory;
 use mini_node::{Node, Nodes};
 use std::alloc::Global;
 
 // The declarator has a name that may go, and so may its initializer.
-fn may_go_there(is_free: bool, list: &Node, which: usize, outside: &Node, scopes: &Scopes) -> bool
+fn may_go_there(
+    is_free: bool,
+    list: &Node,
+    which: usize,
+    outside: &Node,
+    context: &TraverseCtx,
+) -> bool
     requires { which < count (children list.now) }
-    ensures { result ≡ may_go_at is_free (open_in outside.now (marked scopes.now)) list.now which }
+    ensures { result ≡ may_go_at is_free (open_in outside.now (allowed context.now)) list.now which }
 {
     let declarator = list.child(which);
     declares_name(declarator)
-        && may_lose(is_free, declarator.child(0).name(), outside, scopes)
+        && may_lose(is_free, declarator.child(0).name(), outside, context)
         && may_go(declarator.child(1), list)
 }
 
@@ -77,13 +83,13 @@ fn is_unused_there(
     statements: &Nodes,
     at: usize,
     which: usize,
-    scopes: &Scopes,
+    context: &TraverseCtx,
     tallies: &Tallies,
 ) -> bool
     requires statement { at < count statements.now }
     requires fits { at + 1 < 2 ^ 64 }
     requires tallied { Tallied tallies.now outside.now (listed statements.now) }
-    ensures { result ≡ true → UnusedOf (open_in outside.now (marked scopes.now)) outside.now statements.now at (Some which) }
+    ensures { result ≡ true → UnusedOf (open_in outside.now (allowed context.now)) outside.now statements.now at (Some which) }
 {
     let statement = statements.child(at);
     if !may_declare(outside, statement) {
@@ -93,7 +99,7 @@ fn is_unused_there(
     if which >= list.children().len() {
         return false;
     }
-    if !may_go_there(is_lexical(statement.shape()), list, which, outside, scopes) {
+    if !may_go_there(is_lexical(statement.shape()), list, which, outside, context) {
         return false;
     }
     is_alone_there(outside, statements, at, list, which, tallies)
@@ -121,14 +127,20 @@ pub fn declarators_at(list: &Node, at: usize) -> usize {
 }
 
 // The declarator has a name that may go, and its initializer may move.
-fn may_move_there(is_free: bool, list: &Node, which: usize, outside: &Node, scopes: &Scopes) -> bool
+fn may_move_there(
+    is_free: bool,
+    list: &Node,
+    which: usize,
+    outside: &Node,
+    context: &TraverseCtx,
+) -> bool
     requires { which < count (children list.now) }
-    ensures { result ≡ may_move_at is_free (open_in outside.now (marked scopes.now)) list.now which }
+    ensures { result ≡ may_move_at is_free (open_in outside.now (allowed context.now)) list.now which }
 {
     let declarator = list.child(which);
     declares_name(declarator)
-        && may_lose(is_free, declarator.child(0).name(), outside, scopes)
-        && may_move(declarator.child(1))
+        && may_lose(is_free, declarator.child(0).name(), outside, context)
+        && may_move(declarator.child(1), context.options)
 }
 
 // The next statement reads the name first, and nothing else mentions it, as the tables tell, or a look through the list.
@@ -178,14 +190,14 @@ fn is_single_there(
     statements: &Nodes,
     at: usize,
     which: usize,
-    scopes: &Scopes,
+    context: &TraverseCtx,
     tallies: &Tallies,
 ) -> bool
     requires next { at + 1 < count statements.now }
     requires fits { at + 2 < 2 ^ 64 }
     requires fits_too { which + 1 < 2 ^ 64 }
     requires tallied { Tallied tallies.now outside.now (listed statements.now) }
-    ensures single { result ≡ true → is_it_single (open_in outside.now (marked scopes.now)) outside.now statements.now at ≡ true }
+    ensures single { result ≡ true → is_it_single (open_in outside.now (allowed context.now)) outside.now statements.now at ≡ true }
     ensures declarators { result ≡ true → 0 < count (children (list_at statements.now at)) }
     ensures list { result ≡ true → 0 < count (children (child_or_absent statements.now at)) }
 {
@@ -197,7 +209,7 @@ fn is_single_there(
     if which + 1 != list.children().len() {
         return false;
     }
-    if !may_move_there(is_lexical(statement.shape()), list, which, outside, scopes) {
+    if !may_move_there(is_lexical(statement.shape()), list, which, outside, context) {
         return false;
     }
     is_read_there(outside, statements, at, list, which, tallies)
@@ -210,18 +222,18 @@ fn sweep_single(
     list: &mut Node,
     at: usize,
     which: usize,
-    scopes: &Scopes,
+    context: &TraverseCtx,
     tallies: &Tallies,
 )
     requires fits { at + 1 < 2 ^ 64 }
     requires fits_too { which + 1 < 2 ^ 64 }
     requires calm { Calm tallies.now outside.now list.old }
-    ensures { Swept (open_in outside.now (marked scopes.now)) tallies.now outside.now list.old list.new }
+    ensures { Swept (open_in outside.now (allowed context.now)) tallies.now outside.now list.old list.new }
 {
     if !has_next(list, at) {
         return;
     }
-    if !is_single_there(outside, list.children(), at, which, scopes, tallies) {
+    if !is_single_there(outside, list.children(), at, which, context, tallies) {
         return;
     }
     let last = last_declarator(list, at);
@@ -282,14 +294,14 @@ fn is_next_there(
     statements: &Nodes,
     at: usize,
     which: usize,
-    scopes: &Scopes,
+    context: &TraverseCtx,
     tallies: &Tallies,
 ) -> bool
     requires statement { at < count statements.now }
     requires fits { at + 1 < 2 ^ 64 }
     requires fits_too { which + 1 < 2 ^ 64 }
     requires tallied { Tallied tallies.now outside.now (listed statements.now) }
-    ensures { result ≡ true → NextOf (open_in outside.now (marked scopes.now)) outside.now statements.now at (Some which) }
+    ensures { result ≡ true → NextOf (open_in outside.now (allowed context.now)) outside.now statements.now at (Some which) }
 {
     let statement = statements.child(at);
     if !may_declare(outside, statement) {
@@ -299,7 +311,7 @@ fn is_next_there(
     if which + 1 >= list.children().len() {
         return false;
     }
-    if !may_move_there(is_lexical(statement.shape()), list, which, outside, scopes) {
+    if !may_move_there(is_lexical(statement.shape()), list, which, outside, context) {
         return false;
     }
     is_read_next(outside, statements, at, list, which, tallies)
@@ -311,18 +323,18 @@ fn sweep_next(
     list: &mut Node,
     at: usize,
     which: usize,
-    scopes: &Scopes,
+    context: &TraverseCtx,
     tallies: &Tallies,
 )
     requires fits { at + 1 < 2 ^ 64 }
     requires fits_too { which + 1 < 2 ^ 64 }
     requires calm { Calm tallies.now outside.now list.old }
-    ensures { Swept (open_in outside.now (marked scopes.now)) tallies.now outside.now list.old list.new }
+    ensures { Swept (open_in outside.now (allowed context.now)) tallies.now outside.now list.old list.new }
 {
     if at >= list.children().len() {
         return;
     }
-    if !is_next_there(outside, list.children(), at, which, scopes, tallies) {
+    if !is_next_there(outside, list.children(), at, which, context, tallies) {
         return;
     }
     substitute_next(list, at, which);
@@ -335,22 +347,22 @@ fn sweep_declarator(
     list: &mut Node,
     at: usize,
     which: usize,
-    scopes: &Scopes,
+    context: &TraverseCtx,
     tallies: &Tallies,
 ) -> Result<(), OutOfMemory>
     requires fits { at + 1 < 2 ^ 64 }
     requires fits_too { which + 1 < 2 ^ 64 }
     requires calm { Calm tallies.now outside.now list.old }
-    ensures { OnOk result (Swept (open_in outside.now (marked scopes.now)) tallies.now outside.now list.old list.new) }
+    ensures { OnOk result (Swept (open_in outside.now (allowed context.now)) tallies.now outside.now list.old list.new) }
 {
     if at >= list.children().len() {
         return Ok(());
     }
-    if is_unused_there(outside, list.children(), at, which, scopes, tallies) {
+    if is_unused_there(outside, list.children(), at, which, context, tallies) {
         return drop_in_list(alloc, list, at, which);
     }
-    sweep_single(alloc, outside, list, at, which, scopes, tallies);
-    sweep_next(outside, list, at, which, scopes, tallies);
+    sweep_single(alloc, outside, list, at, which, context, tallies);
+    sweep_next(outside, list, at, which, context, tallies);
     Ok(())
 }
 
@@ -360,12 +372,12 @@ fn sweep_statement(
     outside: &Node,
     list: &mut Node,
     at: usize,
-    scopes: &Scopes,
+    context: &TraverseCtx,
     tallies: &Tallies,
 ) -> Result<(), OutOfMemory>
     requires fits { at + 1 < 2 ^ 64 }
     requires calm { Calm tallies.now outside.now list.old }
-    ensures { OnOk result (Swept (open_in outside.now (marked scopes.now)) tallies.now outside.now list.old list.new) }
+    ensures { OnOk result (Swept (open_in outside.now (allowed context.now)) tallies.now outside.now list.old list.new) }
 {
     let count = declarators_at(list, at);
     for passed in 0..count {
@@ -375,7 +387,7 @@ fn sweep_statement(
             list,
             at,
             count - 1 - passed,
-            scopes,
+            context,
             tallies,
         )?;
     }
@@ -397,14 +409,14 @@ fn sweep_from(
     outside: &Node,
     list: &mut Node,
     from: usize,
-    scopes: &Scopes,
+    context: &TraverseCtx,
     tallies: &Tallies,
 ) -> Result<(), OutOfMemory>
     requires { Calm tallies.now outside.now list.old }
-    ensures { OnOk result (Swept (open_in outside.now (marked scopes.now)) tallies.now outside.now list.old list.new) }
+    ensures { OnOk result (Swept (open_in outside.now (allowed context.now)) tallies.now outside.now list.old list.new) }
 {
     for at in from..list.children().len() {
-        sweep_statement(alloc, outside, list, at, scopes, tallies)?;
+        sweep_statement(alloc, outside, list, at, context, tallies)?;
     }
     Ok(())
 }
@@ -415,12 +427,12 @@ pub fn sweep(
     outside: &Node,
     list: &mut Node,
     from: usize,
-    scopes: &Scopes,
+    context: &TraverseCtx,
 ) -> Result<(), OutOfMemory>
     requires list { is_it_listed list.old ≡ true }
     requires unseen { (has_eval outside.now || has_eval list.old) ≡ false }
-    ensures { OnOk result (Chain (Gone (open_in outside.now (marked scopes.now)) outside.now) list.old list.new) }
+    ensures { OnOk result (Chain (Gone (open_in outside.now (allowed context.now)) outside.now) list.old list.new) }
 {
     let tallies = tally_list(alloc, outside, list, count_declarators(list, from))?;
-    sweep_from(alloc, outside, list, from, scopes, &tallies)
+    sweep_from(alloc, outside, list, from, context, &tallies)
 }

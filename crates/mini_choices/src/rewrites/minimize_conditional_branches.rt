@@ -248,7 +248,7 @@ pub fn minimize_conditional_branches(
         assigned(alloc, taken(alloc, node))?
     } else if is_seated(seat) && indexes_either(node) {
         assigned(alloc, taken(alloc, node))?
-    } else if calls_either(node) {
+    } else if calls_either(node, true) {
         called(alloc, taken(alloc, node))?
     } else {
         return Ok(false);

@@ -48,8 +48,8 @@ fn is_shortened(alloc: Global, node: &Node, seat: Seat) -> bool
         && behind_zero_weight(alloc, node.child(0).child(1), seat) < expr_weight(node, seat)
 }
 
-// `0, b` of `a, b`
-fn behind_zero(alloc: Global, node: Node) -> Result<Node, OutOfMemory>
+/// `0, b` of `a, b`
+pub fn behind_zero(alloc: Global, node: Node) -> Result<Node, OutOfMemory>
     ensures { IfOk result (λ w. w ≡ behind_its_zero node) }
 {
     let (first, last) = two(one(node));

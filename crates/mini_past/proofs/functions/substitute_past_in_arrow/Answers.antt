@@ -10,12 +10,12 @@ pub substitute_past-changed-requires : goal.substitute_past-changed-requires
 substitute_past-changed-requires g c = ap is_listed (c.take_child-list.ensures.child ∙ ap (λ b. part b 0) c.take_child-body.ensures.child) ∙ in_arrow c.args.node.now (sym c.if-not-has_statements.ensures.kind)
 
 pub returns-then-not-has_statements : goal.returns-then-not-has_statements
-returns-then-not-has_statements g c = no_arrow (g.S.SteadyNames.sets c.args.steady.now) (g.S.PastNames.writable c.args.steady.now) c.args.node.now (sym c.if-not-has_statements.ensures.kind)
+returns-then-not-has_statements g c = no_arrow (g.S.SteadyNames.sets c.args.steady.now) (g.S.PastNames.lets c.args.steady.now) c.args.node.now (sym c.if-not-has_statements.ensures.kind)
 
 pub returns : goal.returns
 returns g c =
     let S = g.S.SteadyNames.sets c.args.steady.now in
-    let W = g.S.PastNames.writable c.args.steady.now in
+    let W = g.S.PastNames.lets c.args.steady.now in
     let t = c.args.node.now in
     let m = c.substitute_past-changed.new.list in
     let body = part t 1 in

@@ -10,12 +10,12 @@ pub substitute_past-changed-requires : goal.substitute_past-changed-requires
 substitute_past-changed-requires g c = ap is_listed (c.take_child-list.ensures.child ∙ ap (λ b. part b 0) c.take_child-body.ensures.child) ∙ in_function c.args.node.now (sym c.if-not-is_function.ensures.kind)
 
 pub returns-then-not-is_function : goal.returns-then-not-is_function
-returns-then-not-is_function g c = no_function (g.S.SteadyNames.sets c.args.steady.now) (g.S.PastNames.writable c.args.steady.now) c.args.node.now (sym c.if-not-is_function.ensures.kind)
+returns-then-not-is_function g c = no_function (g.S.SteadyNames.sets c.args.steady.now) (g.S.PastNames.lets c.args.steady.now) c.args.node.now (sym c.if-not-is_function.ensures.kind)
 
 pub returns : goal.returns
 returns g c =
     let S = g.S.SteadyNames.sets c.args.steady.now in
-    let W = g.S.PastNames.writable c.args.steady.now in
+    let W = g.S.PastNames.lets c.args.steady.now in
     let t = c.args.node.now in
     let m = c.substitute_past-changed.new.list in
     let body = part t 2 in

@@ -10,12 +10,12 @@ pub substitute_past-changed-requires : goal.substitute_past-changed-requires
 substitute_past-changed-requires g c = ap is_listed c.take_child-list.ensures.child ∙ in_static c.args.node.now (sym c.if-not-is_static_block.ensures.kind)
 
 pub returns-then-not-is_static_block : goal.returns-then-not-is_static_block
-returns-then-not-is_static_block g c = no_static (g.S.SteadyNames.sets c.args.steady.now) (g.S.PastNames.writable c.args.steady.now) c.args.node.now (sym c.if-not-is_static_block.ensures.kind)
+returns-then-not-is_static_block g c = no_static (g.S.SteadyNames.sets c.args.steady.now) (g.S.PastNames.lets c.args.steady.now) c.args.node.now (sym c.if-not-is_static_block.ensures.kind)
 
 pub returns : goal.returns
 returns g c =
     let S = g.S.SteadyNames.sets c.args.steady.now in
-    let W = g.S.PastNames.writable c.args.steady.now in
+    let W = g.S.PastNames.lets c.args.steady.now in
     let t = c.args.node.now in
     let m = c.substitute_past-changed.new.list in
     of_static S W t m c.substitute_past-changed.result (sym c.if-not-is_static_block.ensures.kind)

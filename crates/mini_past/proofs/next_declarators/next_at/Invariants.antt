@@ -4,4 +4,4 @@ use Rattle.mini_past.specs.SubstitutePast.{PastNextOf}
 use Rattle.mini_past.proofs.next_declarators.next_at.Given as goal
 
 abbrev pub invariant-loop-at : goal.invariant-loop-at
-invariant-loop-at g l = SoFar (λ i. PastNextOf (g.S.SteadyNames.sets l.fn.steady l.fn.body) (g.S.PastNames.writable l.fn.steady) l.fn.outside l.fn.statements i None) l.at
+invariant-loop-at g l = SoFar (λ i. PastNextOf (g.S.SteadyNames.sets l.fn.steady l.fn.body) (g.S.PastNames.lets l.fn.steady) l.fn.outside l.fn.statements i None) l.at

@@ -4,4 +4,4 @@ use Rattle.mini_past.specs.SubstitutePast.{is_past}
 use Rattle.mini_past.proofs.searching.past_at.Goals as goal
 
 pub loop-at-preserved : goal.loop-at-preserved
-loop-at-preserved g c = so_far_on (λ i. is_past (g.S.SteadyNames.sets c.args.steady.now c.args.body) (g.S.PastNames.writable c.args.steady.now) c.args.outside.now c.args.statements.now i ≡ false) c.loop-at.at _ (omega arith) (sym c.if-is_past.ensures.past) c.loop-at.invariant
+loop-at-preserved g c = so_far_on (λ i. is_past (g.S.SteadyNames.sets c.args.steady.now c.args.body) (g.S.PastNames.lets c.args.steady.now) c.args.outside.now c.args.statements.now i ≡ false) c.loop-at.at _ (omega arith) (sym c.if-is_past.ensures.past) c.loop-at.invariant

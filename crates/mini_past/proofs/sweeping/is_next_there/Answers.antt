@@ -7,7 +7,7 @@ use Rattle.mini_past.proofs.sweeping.is_next_there.Goals as goal
 
 pub returns : goal.returns
 returns g c = λ e.
-    let one = c.if-not-declares_list.ensures.list refl in
+    let one = c.if-not-may_declare.ensures.list refl in
     let within : c.args.which + 1 < count (children c.child-list.result.now) = omega (arith, c.if-which-len.false, c.len.ensures, ap count c.children.ensures) in
-    of_statement (g.S.SteadyNames.sets c.args.steady.now c.args.body) (g.S.PastNames.writable c.args.steady.now) c.args.outside.now c.args.statements.now c.args.at c.child-statement.result.now c.child-list.result.now c.is_lexical-is_free.result (Some c.args.which)
-    c.child-statement.ensures.value (sym c.if-not-declares_list.ensures.kind) (omega (arith, one)) c.child-list.ensures.value (c.is_lexical-is_free.ensures ∙ ap is_lexical_shape c.shape.ensures) (omega (arith, within), sym c.is_past_by_next.ensures ∙ e)
+    of_statement (g.S.SteadyNames.sets c.args.steady.now c.args.body) (g.S.PastNames.lets c.args.steady.now) c.args.outside.now c.args.statements.now c.args.at c.child-statement.result.now c.child-list.result.now c.is_lexical-is_free.result (Some c.args.which)
+    c.child-statement.ensures.value (sym c.if-not-may_declare.ensures.kind) (omega (arith, one)) c.child-list.ensures.value (c.is_lexical-is_free.ensures ∙ ap is_lexical_shape c.shape.ensures) (omega (arith, within), sym c.is_past_by_next.ensures ∙ e)

@@ -2,4 +2,4 @@ use Rattle.mini_past.specs.SubstitutePast.{Swept}
 use Rattle.mini_past.proofs.sweeping.sweep.Given as goal
 
 abbrev pub invariant-loop-at : goal.invariant-loop-at
-invariant-loop-at g l = Swept (g.S.SteadyNames.sets l.fn.steady l.fn.body) (g.S.PastNames.writable l.fn.steady) l.fn.outside l.fn.list l.list
+invariant-loop-at g l = Swept (g.S.SteadyNames.sets l.fn.steady l.fn.body) (g.S.PastNames.lets l.fn.steady) l.fn.outside l.fn.list l.list

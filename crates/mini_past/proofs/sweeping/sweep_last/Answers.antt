@@ -7,18 +7,18 @@ use Rattle.mini_past.proofs.Swept.{swept_none, swept_one}
 use Rattle.mini_past.proofs.sweeping.sweep_last.Goals as goal
 
 pub returns-then-declarators_at-which : goal.returns-then-declarators_at-which
-returns-then-declarators_at-which g c = swept_none (g.S.SteadyNames.sets c.args.steady.now c.args.body) (g.S.PastNames.writable c.args.steady.now) c.args.outside.now c.args.list.now c.requires.calm
+returns-then-declarators_at-which g c = swept_none (g.S.SteadyNames.sets c.args.steady.now c.args.body) (g.S.PastNames.lets c.args.steady.now) c.args.outside.now c.args.list.now c.requires.calm
 
 pub returns-then-not-has_next : goal.returns-then-not-has_next
-returns-then-not-has_next g c = swept_none (g.S.SteadyNames.sets c.args.steady.now c.args.body) (g.S.PastNames.writable c.args.steady.now) c.args.outside.now c.args.list.now c.requires.calm
+returns-then-not-has_next g c = swept_none (g.S.SteadyNames.sets c.args.steady.now c.args.body) (g.S.PastNames.lets c.args.steady.now) c.args.outside.now c.args.list.now c.requires.calm
 
 pub returns-then-not-is_past : goal.returns-then-not-is_past
-returns-then-not-is_past g c = swept_none (g.S.SteadyNames.sets c.args.steady.now c.args.body) (g.S.PastNames.writable c.args.steady.now) c.args.outside.now c.args.list.now c.requires.calm
+returns-then-not-is_past g c = swept_none (g.S.SteadyNames.sets c.args.steady.now c.args.body) (g.S.PastNames.lets c.args.steady.now) c.args.outside.now c.args.list.now c.requires.calm
 
 pub returns : goal.returns
 returns g c =
     let V = g.S.SteadyNames.sets c.args.steady.now c.args.body in
-    let W = g.S.PastNames.writable c.args.steady.now in
+    let W = g.S.PastNames.lets c.args.steady.now in
     let l = c.args.list.now in
     let at = c.args.at in
     let within = c.if-not-has_next.ensures.next refl in

@@ -1,28 +1,31 @@
 use Rattle.std.proofs.Common.{ap, sym, ◌∙◌, refl, arith}
 use Rattle.mini_model.specs.Tree.{count}
 use Rattle.mini_tree.proofs.Walks.{child_smaller}
-use Rattle.mini_rows.specs.Steady.{lists_lexical}
+use Rattle.mini_rows.specs.Steady.{enters_lexical}
 use Rattle.mini_steady.specs.Declarations.{begun_by, known_there}
 use Rattle.mini_steady.specs.Own.{rows_there}
+use Rattle.mini_unused.specs.Allowed.{switches_of}
 use Rattle.mini_steady.proofs.Begun.{rows_read, applied_same, walked_same, as_was, begun_first, begun_walked, begun_left}
 use Rattle.mini_steady.proofs.Owning.{edited_count, walked_none, walked_child, walked_all, walked_both, walked_closed}
 use Rattle.mini_steady.proofs.own.+own.Goals as goal
 
 pub minimize_own_code-returns-then-not-is_open-clause-walked : goal.minimize_own_code-returns-then-not-is_open-clause-walked
 minimize_own_code-returns-then-not-is_open-clause-walked g t c =
+    let o = switches_of (g.S.SteadyNames.orders c.args.steady.now) in
     let S = g.S.SteadyNames.sets c.args.steady.now in
     let body = c.args.body.now in
-    walked_closed (rows_there g.W.OwnRewrites.rows S body) (rows_read g.W.OwnRewrites.rows g.met.W.OwnRewrites.keeps S body) (λ L. g.met.W.OwnRewrites.opens (known_there S body L)) (begun_by body) c.args.place c.args.node.now (sym c.is_open.ensures ∙ c.if-not-is_open.true)
+    walked_closed (rows_there (g.W.OwnRewrites.rows o) S body) (rows_read (g.W.OwnRewrites.rows o) (g.met.W.OwnRewrites.keeps o) S body) (λ L. g.met.W.OwnRewrites.opens o (known_there S body L)) (begun_by body) c.args.place c.args.node.now (sym c.is_open.ensures ∙ c.if-not-is_open.true)
 
 pub minimize_own_code-returns-then-not-is_open-clause-body : goal.minimize_own_code-returns-then-not-is_open-clause-body
 minimize_own_code-returns-then-not-is_open-clause-body g t c = as_was c.args.body.now
 
 pub minimize_own_code-returns-clause-walked : goal.minimize_own_code-returns-clause-walked
 minimize_own_code-returns-clause-walked g t c =
+    let o = switches_of (g.S.SteadyNames.orders c.args.steady.now) in
     let S = g.S.SteadyNames.sets c.args.steady.now in
     let body = c.args.body.now in
-    walked_both (rows_there g.W.OwnRewrites.rows S body) (rows_read g.W.OwnRewrites.rows g.met.W.OwnRewrites.keeps S body) (begun_by body) _ _ _ _ _ _ c.in_ok-below.ensures.walked
-    (applied_same g.W.OwnRewrites.rows S body c.minimize_parts.new.body c.args.place _ _ _ c.in_ok-below.ensures.body c.in_ok-here.ensures)
+    walked_both (rows_there (g.W.OwnRewrites.rows o) S body) (rows_read (g.W.OwnRewrites.rows o) (g.met.W.OwnRewrites.keeps o) S body) (begun_by body) _ _ _ _ _ _ c.in_ok-below.ensures.walked
+    (applied_same (g.W.OwnRewrites.rows o) S body c.minimize_parts.new.body c.args.place _ _ _ c.in_ok-below.ensures.body c.in_ok-here.ensures)
 
 pub minimize_own_code-returns-clause-body : goal.minimize_own_code-returns-clause-body
 minimize_own_code-returns-clause-body g t c = c.in_ok-below.ensures.body
@@ -35,10 +38,11 @@ minimize_parts-minimize_own_code-requires g t c κs within =
 
 pub minimize_parts-loop-at-init : goal.minimize_parts-loop-at-init
 minimize_parts-loop-at-init g t c =
+    let o = switches_of (g.S.SteadyNames.orders c.args.steady.now) in
     let S = g.S.SteadyNames.sets c.args.steady.now in
     let body = c.args.body.now in (
-      walked_none (rows_there g.W.OwnRewrites.rows S body) (rows_read g.W.OwnRewrites.rows g.met.W.OwnRewrites.keeps S body) (begun_by body) c.args.place c.args.node.now c.requires,
-      begun_first c.args.place c.args.node.now body c.enter_children.new.code c.enter_children.ensures.number c.enter_children.ensures.declared c.enter_children.ensures.begun (c.enter_children.ensures.in_lexical ∙ c.lists_lexical.ensures ∙ ap (λ h. lists_lexical h c.args.place) c.shape.ensures),
+      walked_none (rows_there (g.W.OwnRewrites.rows o) S body) (rows_read (g.W.OwnRewrites.rows o) (g.met.W.OwnRewrites.keeps o) S body) (begun_by body) c.args.place c.args.node.now c.requires,
+      begun_first c.args.place c.args.node.now body c.enter_children.new.code c.enter_children.ensures.number c.enter_children.ensures.declared c.enter_children.ensures.begun (c.enter_children.ensures.in_lexical ∙ c.enters_lexical.ensures ∙ (λ i. enters_lexical (c.is_in_lexical-was_lexical.ensures i) (c.shape.ensures i) c.args.place)),
     )
 
 pub minimize_parts-push_behind-requires : goal.minimize_parts-push_behind-requires
@@ -48,13 +52,14 @@ minimize_parts-push_behind-requires g t c =
 
 pub minimize_parts-loop-at-preserved : goal.minimize_parts-loop-at-preserved
 minimize_parts-loop-at-preserved g t c =
-    let F = g.W.OwnRewrites.rows in
+    let o = switches_of (g.S.SteadyNames.orders c.args.steady.now) in
+    let F = g.W.OwnRewrites.rows o in
     let S = g.S.SteadyNames.sets c.args.steady.now in
     let body = c.args.body.now in
     let now = c.loop-at.body in
     let begun = c.loop-at.invariant.1 in
     let R = rows_there F S body in
-    let reads = rows_read F g.met.W.OwnRewrites.keeps S body in
+    let reads = rows_read F (g.met.W.OwnRewrites.keeps o) S body in
     let walked = walked_same F S body now (begun_by now) (begun_by now) _ _ _ _ begun.number begun.declared refl c.in_ok-part.ensures.walked in
     let counted = c.len-count.ensures ∙ ap count c.children.ensures in
     let next = walked_child R reads (begun_by body) (begun_by now) _ _ _ c.len-count.result c.loop-at.at _ c.loop-at.node _ _ _ c.loop-at.changed _
@@ -64,9 +69,10 @@ minimize_parts-loop-at-preserved g t c =
 
 pub minimize_parts-returns-clause-walked : goal.minimize_parts-returns-clause-walked
 minimize_parts-returns-clause-walked g t c =
+    let o = switches_of (g.S.SteadyNames.orders c.args.steady.now) in
     let S = g.S.SteadyNames.sets c.args.steady.now in
     let body = c.args.body.now in
-    walked_all (rows_there g.W.OwnRewrites.rows S body) (rows_read g.W.OwnRewrites.rows g.met.W.OwnRewrites.keeps S body) (begun_by body) _ c.loop-at.at _ _ c.loop-at.changed (omega (arith, c.len-count.ensures, ap count c.children.ensures, c.loop-at-test.false, c.loop-at.auto)) c.loop-at.invariant.0
+    walked_all (rows_there (g.W.OwnRewrites.rows o) S body) (rows_read (g.W.OwnRewrites.rows o) (g.met.W.OwnRewrites.keeps o) S body) (begun_by body) _ c.loop-at.at _ _ c.loop-at.changed (omega (arith, c.len-count.ensures, ap count c.children.ensures, c.loop-at-test.false, c.loop-at.auto)) c.loop-at.invariant.0
 
 pub minimize_parts-returns-clause-body : goal.minimize_parts-returns-clause-body
 minimize_parts-returns-clause-body g t c =

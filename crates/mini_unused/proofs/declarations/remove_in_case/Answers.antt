@@ -2,14 +2,15 @@ use Rattle.std.proofs.Common.{refl, ◌∙◌, ap, sym, subst₂, arith}
 use Rattle.mini_model.specs.Tree.{absent, children, count}
 use Rattle.mini_node.specs.Children.{part}
 use Rattle.mini_node.specs.Kinds.{is_listed}
-use Rattle.mini_unused.specs.RemoveUnusedDeclaration.{marked, open_in, case_at, with_statements, AppliedInCase}
+use Rattle.mini_unused.specs.Allowed.{switches_of}
+use Rattle.mini_unused.specs.RemoveUnusedDeclaration.{allowed, open_in, case_at, with_statements, AppliedInCase}
 use Rattle.mini_unused.specs.SubstituteSingleUse.{Removed}
 use Rattle.mini_unused.proofs.Holders.{where_ok}
 use Rattle.mini_unused.proofs.Switches.{has_list, still_cases, still_case, still_list, put_again, in_case, no_case}
 use Rattle.mini_unused.proofs.declarations.remove_in_case.Goals as goal
 
 pub returns-then-not-is_case_at : goal.returns-then-not-is_case_at
-returns-then-not-is_case_at c = no_case c.args.node.now c.args.at (sym c.if-not-is_case_at.ensures.kind)
+returns-then-not-is_case_at c = no_case (switches_of c.args.context.now.options) c.args.node.now c.args.at (sym c.if-not-is_case_at.ensures.kind)
 
 pub remove_in_list-changed-requires : goal.remove_in_list-changed-requires
 remove_in_list-changed-requires c = ap is_listed c.take_statements-list.ensures.list ∙ has_list (case_at c.args.node.now c.args.at) (sym c.if-not-is_case_at.ensures.kind)
@@ -29,10 +30,10 @@ pub returns : goal.returns
 returns c =
     let t = c.args.node.now in
     let at = c.args.at in
-    let W = marked c.args.scopes.now in
+    let W = allowed c.args.context.now in
     let m = c.remove_in_list-changed.new.list in
     let emptied = c.take_statements-list.ensures.left in
-    where_ok c.remove_in_list-changed.result (λ changed. Removed (open_in c.take_statements-list.new.node W) c.take_statements-list.new.node c.take_statements-list.result m changed) (λ changed. AppliedInCase t at c.put_statements.new.node changed)
+    where_ok c.remove_in_list-changed.result (λ changed. Removed (open_in c.take_statements-list.new.node W) c.take_statements-list.new.node c.take_statements-list.result m changed) (λ changed. AppliedInCase W.switches t at c.put_statements.new.node changed)
     (λ changed r. in_case t at c.requires.switch c.requires.case (sym c.if-not-is_case_at.ensures.kind) W m changed (subst₂ (λ o l. Removed (open_in o W) o l m changed) emptied c.take_statements-list.ensures.list r) c.put_statements.new.node
     (c.put_statements.ensures ∙ ap (λ u. with_statements u at m) emptied ∙ put_again t at absent m c.requires.cases c.requires.case))
     c.remove_in_list-changed.ensures

@@ -2,7 +2,7 @@ use Rattle.std.proofs.Common.{◌∙◌, ap, sym, subst₂}
 use Rattle.mini_node.specs.Kinds.{is_listed}
 use Rattle.mini_model.specs.declared.place.Position.TheVariants.{Stmt}
 use Rattle.mini_model.specs.declared.seat.StmtSeat.{StmtSeat}
-use Rattle.mini_unused.specs.RemoveUnusedDeclaration.{marked, open_in, Applied, AppliedInFunction}
+use Rattle.mini_unused.specs.RemoveUnusedDeclaration.{allowed, open_in, Applied, AppliedInFunction}
 use Rattle.mini_unused.specs.SubstituteSingleUse.{Removed}
 use Rattle.mini_unused.proofs.Swept.{in_block}
 use Rattle.mini_unused.proofs.Holders.{of_block, as_statement, where_ok, put_back}
@@ -15,14 +15,14 @@ remove_in_list-changed-requires c = ap is_listed c.take_child-list.ensures.child
 pub returns : goal.returns
 returns c =
     let m = c.remove_in_list-changed.new.list in
-    where_ok c.remove_in_list-changed.result (λ changed. Removed (open_in c.take_child-list.new.node (marked c.args.scopes.now)) c.take_child-list.new.node c.take_child-list.result m changed) (λ changed. (q : StmtSeat) → Applied (marked c.args.scopes.now) (Stmt q) c.args.node.now c.put_child.new.node changed)
-    (λ changed r. of_block (marked c.args.scopes.now) c.args.node.now m changed (sym c.if-not-is_block.ensures.kind) (subst₂ (λ o l. Removed (open_in o (marked c.args.scopes.now)) o l m changed) c.take_child-list.ensures.left c.take_child-list.ensures.child r) c.put_child.new.node (put_back c.args.node.now 0 m c.take_child-list.new.node c.put_child.new.node c.take_child-list.ensures.left c.put_child.ensures))
+    where_ok c.remove_in_list-changed.result (λ changed. Removed (open_in c.take_child-list.new.node (allowed c.args.context.now)) c.take_child-list.new.node c.take_child-list.result m changed) (λ changed. (q : StmtSeat) → Applied (allowed c.args.context.now) (Stmt q) c.args.node.now c.put_child.new.node changed)
+    (λ changed r. of_block (allowed c.args.context.now) c.args.node.now m changed (sym c.if-not-is_block.ensures.kind) (subst₂ (λ o l. Removed (open_in o (allowed c.args.context.now)) o l m changed) c.take_child-list.ensures.left c.take_child-list.ensures.child r) c.put_child.new.node (put_back c.args.node.now 0 m c.take_child-list.new.node c.put_child.new.node c.take_child-list.ensures.left c.put_child.ensures))
     c.remove_in_list-changed.ensures
 
 pub returns-then-not-is_block : goal.returns-then-not-is_block
 returns-then-not-is_block c =
-    where_ok c.remove_unused_in_function.result (λ changed. AppliedInFunction (marked c.args.scopes.now) c.args.node.now c.remove_unused_in_function.new.node changed) (λ changed. (q : StmtSeat) → Applied (marked c.args.scopes.now) (Stmt q) c.args.node.now c.remove_unused_in_function.new.node changed)
-    (λ changed r. as_statement (marked c.args.scopes.now) c.args.node.now c.remove_unused_in_function.new.node changed (sym c.if-has_head.ensures.kind) (sym c.if-is_switch.ensures.kind) (sym c.if-not-is_block.ensures.kind) r) c.remove_unused_in_function.ensures
+    where_ok c.remove_unused_in_function.result (λ changed. AppliedInFunction (allowed c.args.context.now) c.args.node.now c.remove_unused_in_function.new.node changed) (λ changed. (q : StmtSeat) → Applied (allowed c.args.context.now) (Stmt q) c.args.node.now c.remove_unused_in_function.new.node changed)
+    (λ changed r. as_statement (allowed c.args.context.now) c.args.node.now c.remove_unused_in_function.new.node changed (sym c.if-has_head.ensures.kind) (sym c.if-is_switch.ensures.kind) (sym c.if-not-is_block.ensures.kind) r) c.remove_unused_in_function.ensures
 
 pub returns-then-has_head : goal.returns-then-has_head
-returns-then-has_head c = λ q. of_head (marked c.args.scopes.now) c.args.node.now c.remove_in_head.new.node c.remove_in_head.result (sym c.if-has_head.ensures.kind) c.remove_in_head.ensures q
+returns-then-has_head c = λ q. of_head (allowed c.args.context.now) c.args.node.now c.remove_in_head.new.node c.remove_in_head.result (sym c.if-has_head.ensures.kind) c.remove_in_head.ensures q

@@ -1,8 +1,8 @@
 use Rattle.std.proofs.Common.{arith}
 use Rattle.std.specs.Prelude.{None}
-use Rattle.mini_unused.specs.RemoveUnusedDeclaration.{marked, open_in, UnusedOf}
+use Rattle.mini_unused.specs.RemoveUnusedDeclaration.{allowed, open_in, UnusedOf}
 use Rattle.mini_unused.proofs.Unused.{so_far_on}
 use Rattle.mini_unused.proofs.declarations.unused_at.Goals as goal
 
 pub loop-at-preserved : goal.loop-at-preserved
-loop-at-preserved c = so_far_on (λ i. UnusedOf (open_in c.args.outside.now (marked c.args.scopes.now)) c.args.outside.now c.args.statements.now i None) c.loop-at.at _ (omega arith) c.in_default.ensures c.loop-at.invariant
+loop-at-preserved c = so_far_on (λ i. UnusedOf (open_in c.args.outside.now (allowed c.args.context.now)) c.args.outside.now c.args.statements.now i None) c.loop-at.at _ (omega arith) c.in_default.ensures c.loop-at.invariant

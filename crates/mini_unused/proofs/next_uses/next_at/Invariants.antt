@@ -1,8 +1,8 @@
 use Rattle.std.specs.Prelude.{None}
-use Rattle.mini_unused.specs.RemoveUnusedDeclaration.{marked, open_in}
+use Rattle.mini_unused.specs.RemoveUnusedDeclaration.{allowed, open_in}
 use Rattle.mini_unused.specs.SubstituteNext.{NextOf}
 use Rattle.mini_unused.proofs.Unused.{SoFar}
 use Rattle.mini_unused.proofs.next_uses.next_at.Given as goal
 
 abbrev pub invariant-loop-at : goal.invariant-loop-at
-invariant-loop-at l = SoFar (λ i. NextOf (open_in l.fn.outside (marked l.fn.scopes)) l.fn.outside l.fn.statements i None) l.at
+invariant-loop-at l = SoFar (λ i. NextOf (open_in l.fn.outside (allowed l.fn.context)) l.fn.outside l.fn.statements i None) l.at

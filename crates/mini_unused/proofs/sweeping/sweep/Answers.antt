@@ -1,5 +1,5 @@
 use Rattle.mini_unused.specs.Chains.{Chain}
-use Rattle.mini_unused.specs.RemoveUnusedDeclaration.{marked, open_in}
+use Rattle.mini_unused.specs.RemoveUnusedDeclaration.{allowed, open_in}
 use Rattle.mini_unused.specs.SubstituteSingleUse.{Gone}
 use Rattle.mini_unused.specs.Sweep.{Swept}
 use Rattle.mini_unused.proofs.Swept.{on_ok}
@@ -10,6 +10,6 @@ sweep_from-requires c = record { is_list = c.requires.list; unseen = c.requires.
 
 pub returns : goal.returns
 returns c =
-    let W = open_in c.args.outside.now (marked c.args.scopes.now) in
+    let W = open_in c.args.outside.now (allowed c.args.context.now) in
     let o = c.args.outside.now in
     on_ok c.sweep_from.result (Swept W c.in_ok-tallies.tallies o c.args.list.now c.sweep_from.new.list) (Chain (Gone W o) c.args.list.now c.sweep_from.new.list) (λ s. s.gone) c.sweep_from.ensures

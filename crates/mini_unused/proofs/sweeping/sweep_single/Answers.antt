@@ -1,19 +1,19 @@
 use Rattle.std.proofs.Common.{◌≡◌, ◌<◌, ◌∙◌, suc, true, ap, subst, refl, inl, inr, arith}
 use Rattle.mini_model.specs.Tree.{children, count}
-use Rattle.mini_unused.specs.RemoveUnusedDeclaration.{marked, open_in, list_at}
+use Rattle.mini_unused.specs.RemoveUnusedDeclaration.{allowed, open_in, list_at}
 use Rattle.mini_unused.specs.SubstituteSingleUse.{is_single, list_single}
 use Rattle.mini_unused.proofs.Swept.{swept_none, swept_one}
 use Rattle.mini_unused.proofs.sweeping.sweep_single.Goals as goal
 
 pub returns-then-not-has_next : goal.returns-then-not-has_next
-returns-then-not-has_next c = swept_none (open_in c.args.outside.now (marked c.args.scopes.now)) c.args.tallies.now c.args.outside.now c.args.list.now c.requires.calm
+returns-then-not-has_next c = swept_none (open_in c.args.outside.now (allowed c.args.context.now)) c.args.tallies.now c.args.outside.now c.args.list.now c.requires.calm
 
 pub returns-then-not-is_single_there : goal.returns-then-not-is_single_there
-returns-then-not-is_single_there c = swept_none (open_in c.args.outside.now (marked c.args.scopes.now)) c.args.tallies.now c.args.outside.now c.args.list.now c.requires.calm
+returns-then-not-is_single_there c = swept_none (open_in c.args.outside.now (allowed c.args.context.now)) c.args.tallies.now c.args.outside.now c.args.list.now c.requires.calm
 
 pub returns : goal.returns
 returns c =
-    let W = open_in c.args.outside.now (marked c.args.scopes.now) in
+    let W = open_in c.args.outside.now (allowed c.args.context.now) in
     let l = c.args.list.now in
     let at = c.args.at in
     let within = c.if-not-has_next.ensures.next refl in

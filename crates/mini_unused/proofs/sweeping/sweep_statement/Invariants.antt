@@ -1,6 +1,6 @@
-use Rattle.mini_unused.specs.RemoveUnusedDeclaration.{marked, open_in}
+use Rattle.mini_unused.specs.RemoveUnusedDeclaration.{allowed, open_in}
 use Rattle.mini_unused.specs.Sweep.{Swept}
 use Rattle.mini_unused.proofs.sweeping.sweep_statement.Given as goal
 
 abbrev pub invariant-loop-passed : goal.invariant-loop-passed
-invariant-loop-passed l = Swept (open_in l.fn.outside (marked l.fn.scopes)) l.fn.tallies l.fn.outside l.fn.list l.list
+invariant-loop-passed l = Swept (open_in l.fn.outside (allowed l.fn.context)) l.fn.tallies l.fn.outside l.fn.list l.list

@@ -9,4 +9,4 @@ pub returns-clause-applied : goal.returns-clause-applied
 returns-clause-applied g c = λ o q k.
     let made = c.substitute_past_in_function in
     subst₂ (λ S W. Applied (PastFunction S W) (RestsPast S W) c.args.place c.args.node.now made.new.node made.result) (g.met.C.SteadyContext.told c.args.context.now o q k) (g.met.C.PastContext.says c.args.context.now o q k)
-    (applied (g.C.SteadyNames.sets c.args.context.now) (g.C.PastNames.writable c.args.context.now) c.args.place c.args.node.now made.new.node made.result (sym c.holds_function.ensures ∙ c.if-not-holds_function.false) made.ensures)
+    (applied (g.C.SteadyNames.sets c.args.context.now) (g.C.PastNames.lets c.args.context.now) c.args.place c.args.node.now made.new.node made.result (sym c.holds_function.ensures ∙ c.if-not-holds_function.false) made.ensures)

@@ -1,0 +1,99 @@
+-- What is done in a list of statements below some nodes.
+use Rattle.std.proofs.Common.{◌≡◌, Bool, true, false, refl, sym, ap, ◌∙◌, subst, inl, inr, true≢false, arith}
+use Rattle.mini_model.specs.Tree.{Tree, Trees, none, ◌▸◌, listed, children, count}
+use Rattle.mini_kept.specs.Without.{BodySets}
+use Rattle.mini_laws.specs.Path.{here}
+use Rattle.mini_node.specs.Kinds.{is_listed}
+use Rattle.mini_node.specs.Made.{listed_is}
+use Rattle.mini_node.specs.Walks.{append_none}
+use Rattle.mini_rows.specs.declared.inside.Way.{Way}
+use Rattle.mini_rows.specs.declared.inside.Way.TheVariants as way
+use Rattle.mini_rows.specs.Past.{PastRow}
+use Rattle.mini_rows.specs.PastInside.{passes_var, PastEnd, past_ends}
+use Rattle.mini_rows.specs.Switches.{Liberties}
+use Rattle.mini_unused.specs.Further.{InStep, HereWalked}
+use Rattle.mini_unused.proofs.Chains.{several_over}
+use Rattle.mini_unused.proofs.FurtherSteps.{no_end}
+use Rattle.mini_past.specs.PastEnds.{known_at}
+use Rattle.mini_past.specs.SubstitutePast.{PastGone, PastRemoved}
+use Rattle.mini_past.proofs.Holders.{Suiting, suiting_of, none_suiting, left_listed}
+
+-- nothing stands at the end of another way
+pub no_past_end : (S : BodySets) (W : Liberties) (a : Trees) (z : Way) (t : Tree) → (z ≡ way.Statements → ⊥) → HereWalked (past_ends S W) a z t t false
+no_past_end S W a z t f = (refl, no_end (past_ends S W) a z t (λ read put is row. no_row a z f read put row))
+  where
+    no_row : (a : Trees) (z : Way) → (z ≡ way.Statements → ⊥) → (read put : Tree) → past_ends S W a z read put → ⊥
+    no_row (o ▸ a) way.Statements f read put row = f refl
+    no_row a z f read put row = absurd row
+
+module _ (S : BodySets) (W : Liberties) (o : Tree) (a : Trees) where
+  abbrev E : Trees → Way → Tree → Tree → Type 0
+  E = past_ends S W
+
+  abbrev out : Tree
+  out = listed (o ▸ a)
+
+  -- what stays a list
+  abbrev IsList : Tree → Type 0
+  IsList t = t ≡ listed (children t)
+
+  end_of : (ts us : Trees) → Suiting (known_at S (o ▸ a)) W out ts us → PastEnd (known_at S (o ▸ a)) W (o ▸ a) (listed ts) (listed us)
+  end_of ts us (inl r, s) = record { list = ts; left = us; row = inl r; var = s; shape = refl; written = refl }
+  end_of ts us (inr r, s) = record { list = ts; left = us; row = inr r; var = s; shape = refl; written = refl }
+
+  gone_here : (t u : Tree) → IsList t → PastGone (known_at S (o ▸ a)) W out t u → InStep E (o ▸ a) way.Statements t u × IsList u
+  gone_here t u is g =
+      let V = known_at S (o ▸ a) in
+      let there = subst (λ v. PastGone V W out v u) is g in
+      let left = left_listed V W out (children t) u there in
+      let row = end_of (children t) (children u) (suiting_of V W out (children t) u there) in (
+        record {
+          place = here;
+          end = way.Statements;
+          read = t;
+          put = u;
+          way = refl;
+          row = subst (λ us. E us way.Statements t u) (sym (append_none (o ▸ a))) (subst (λ v. PastEnd V W (o ▸ a) v u) (sym is) (subst (PastEnd V W (o ▸ a) (listed (children t))) (sym left) row));
+          shape = refl;
+          written = refl;
+          below = λ z. absurd (true≢false (sym z));
+        },
+        left,
+      )
+
+  told : (ts us : Trees) → PastEnd (known_at S (o ▸ a)) W (o ▸ a) (listed ts) (listed us) → (vs : Trees) × Suiting (known_at S (o ▸ a)) W out ts vs
+  told ts us r = (r.left, subst (λ vs. Suiting (known_at S (o ▸ a)) W out vs r.left) (sym (ap children r.shape)) (suiting r.list r.left r.row r.var))
+    where
+      suiting : (vs ws : Trees) (row : PastRow (known_at S (o ▸ a)) W out vs ws) → passes_var row ≡ true → Suiting (known_at S (o ▸ a)) W out vs ws
+      suiting vs ws (inl row) v = (inl row, v)
+      suiting vs ws (inr row) v = (inr row, v)
+
+  here_walked : (t m : Tree) (c : Bool) → IsList t → PastRemoved (known_at S (o ▸ a)) W out t m c → HereWalked E (o ▸ a) way.Statements t m c
+  here_walked t m true is r = several_over (PastGone (known_at S (o ▸ a)) W out) (InStep E (o ▸ a) way.Statements) IsList (λ z. z) gone_here t m is r
+  here_walked t m false is r =
+      let V = known_at S (o ▸ a) in
+      let there = subst (λ v. PastRemoved V W out v m false) is r in
+      (r.0, no_end E (o ▸ a) way.Statements t (λ read put f row. by there (subst (λ v. PastEnd V W (o ▸ a) v put) (sym f ∙ is) row)))
+    where
+      by : PastRemoved (known_at S (o ▸ a)) W out (listed (children t)) m false → {put : Tree} → PastEnd (known_at S (o ▸ a)) W (o ▸ a) (listed (children t)) put → ⊥
+      by there {put} row = let (us, s) = told (children t) row.left (record { list = row.list; left = row.left; row = row.row; var = row.var; shape = row.shape; written = refl }) in none_suiting (known_at S (o ▸ a)) W out (children t) us there.1 s
+
+-- as the code tells
+
+pub no_list : (S : BodySets) (W : Liberties) (a : Trees) (t : Tree) → is_listed t ≡ false → HereWalked (past_ends S W) a way.Statements t t false
+no_list S W a t f = (refl, no_end (past_ends S W) a way.Statements t (λ read put is row. true≢false (sym (list_there a read put row) ∙ sym (ap is_listed is) ∙ f)))
+  where
+    list_there : (a : Trees) (read put : Tree) → past_ends S W a way.Statements read put → is_listed read ≡ true
+    list_there (o ▸ a) read put row = ap is_listed row.shape
+    list_there none read put row = absurd row
+
+pub none_above : (S : BodySets) (W : Liberties) (a : Trees) (t : Tree) → count a ≡ 0 → HereWalked (past_ends S W) a way.Statements t t false
+none_above S W none t e = (refl, no_end (past_ends S W) none way.Statements t (λ read put is row. row))
+none_above S W (o ▸ a) t e = absurd (omega (arith, e))
+
+pub here_past : (S : BodySets) (W : Liberties) (above t m : Tree) (c : Bool) → is_listed above ≡ true → is_listed t ≡ true → (count (children above) ≡ 0 → ⊥) → PastRemoved (known_at S (children above)) W above t m c → HereWalked (past_ends S W) (children above) way.Statements t m c
+here_past S W above t m c e f some r = by (children above) some c (subst (λ o. PastRemoved (known_at S (children above)) W o t m c) (listed_is above e) r)
+  where
+    by : (a : Trees) → (count a ≡ 0 → ⊥) → (c : Bool) → PastRemoved (known_at S a) W (listed a) t m c → HereWalked (past_ends S W) a way.Statements t m c
+    by (o ▸ a) some c r = here_walked S W o a t m c (listed_is t f) r
+    by none some c r = absurd (some refl)

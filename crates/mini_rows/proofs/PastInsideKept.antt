@@ -1,0 +1,219 @@
+-- What stands around a list further inside a body from which a `var` goes behind held names: it keeps all else, and means the same where nobody else
+-- sees that variable, from each start that initialises what is known to be initialised.
+use Rattle.std.specs.Prelude.{◌≡◌, refl, ◌&&◌, not, Bool, true, false, [], Some, None}
+use Rattle.std.proofs.Common.{ap, ◌∙◌, sym, subst, subst₂, inl, inr, arith, true≢false}
+use Rattle.mini_model.specs.declared.name.Name.{Name}
+use Rattle.mini_model.specs.declared.place.Position.TheVariants.{StatementList}
+use Rattle.mini_model.specs.declared.shape.Shape.TheVariants as shape
+use Rattle.mini_model.specs.declared.kind.VariableDeclarationKind.TheVariants.{Let}
+use Rattle.mini_model.specs.Tree.{Tree, Trees, none, ◌▸◌, absent, listed}
+use Rattle.mini_model.specs.Paths.{append}
+use Rattle.mini_laws.specs.declared.names.Declared.TheVariants as declared
+use Rattle.mini_laws.specs.Congruence.{Avoids, AllAvoid, ReadAlike, demand_at, known_at}
+use Rattle.mini_laws.specs.Demand.{Stat}
+use Rattle.mini_laws.specs.Naming.{summary}
+use Rattle.mini_laws.specs.Path.{Path, inside, join, plug}
+use Rattle.mini_laws.specs.Same.{Same}
+use Rattle.mini_laws.specs.Skeleton.{Within}
+use Rattle.mini_laws.specs.State.{Environment}
+use Rattle.mini_laws.specs.Substitution.{alone}
+use Rattle.mini_laws.specs.Value.{Declared, Global, VariableSet}
+use Rattle.mini_laws.proofs.Anywhere.{in_each_tail}
+use Rattle.mini_laws.proofs.Congruent.{congruent_same, weaker}
+use Rattle.mini_laws.proofs.Simulation.{within_refl}
+use Rattle.mini_kept.specs.Without.{Assured, Steadies, Permits}
+use Rattle.mini_rows.specs.declared.inside.Way.TheVariants as way
+use Rattle.mini_rows.specs.Declarations.{declarator}
+use Rattle.mini_rows.specs.Inside.{above, is_way_to}
+use Rattle.mini_rows.specs.Lists.{declaration}
+use Rattle.mini_rows.specs.Past.{any_bind, begun, PastRow}
+use Rattle.mini_rows.specs.PastInside.{initial_below, known_below, passes_var, PastEnd}
+use Rattle.mini_rows.specs.Steady.{bindings, nothing_begun}
+use Rattle.mini_rows.specs.Unused.{resolved, names, any_names, declared_among, declared_left, put_first}
+use Rattle.mini_rows.specs.Switches.{Liberties}
+use Rattle.mini_rows.proofs.HeadKept.{head_names}
+use Rattle.mini_rows.proofs.HeadMeaning.{head_unnamed}
+use Rattle.mini_rows.proofs.InsideKept.{Keeping}
+use Rattle.mini_rows.proofs.InsideLawful.{appended}
+use Rattle.mini_rows.proofs.InsideLoses.{path_avoids, runs_at, leaves, declares, read_there, avoids_there, fits_there, ported_there}
+use Rattle.mini_rows.proofs.InsideNames.{VarThere, no_var, head_vars, next_vars, same_head, Losing, list_keeps}
+use Rattle.mini_rows.proofs.PastInsideKnown.{all_none_bound, wide, begun_there}
+use Rattle.mini_rows.proofs.PastLawful.{list_fits, none_mention}
+use Rattle.mini_rows.proofs.PastStretches.{Behind, behind, of_head, of_next}
+use Rattle.mini_rows.proofs.SteadyLawful.{at_start, known_off}
+use Rattle.mini_rows.proofs.UnusedMeaning.{movable, list_read, all_join}
+use Rattle.mini_rows.proofs.UnusedNames.{or_parts, all_avoided, declared_other}
+
+-- ---- the list
+
+-- the names of the statements that go and of those that are written
+past_vars : (V : Assured) (W : Liberties) (o : Tree) (a b : Trees) (r : PastRow V W o a b) → passes_var r ≡ true → let t = behind V W o a b r in VarThere (resolved t.spelling t.symbol) t.d t.w
+unfolding behind of_head of_next
+past_vars V W o a b (inl r) v =
+    let x = resolved r.spelling r.symbol in
+    let put = put_first x r.init r.head in
+    let same = same_head x r.init r.head put (head_names Let x r.symbol refl none r.init r.head (movable W.switches r.init r.moves) r.once r.initial refl refl) in
+    no_var r.kind (λ K. VarThere x (declared_among K x r.first r.init none ▸ (r.head ▸ none)) (declared_left K r.first ▸ (put ▸ none))) v (head_vars x r.first r.init r.head put r.declared_earlier (declared_other x declared.Hoisted put (head_unnamed x r.head r.once r.init r.initial)) same)
+past_vars V W o a b (inr r) v =
+    let x = resolved r.spelling r.symbol in
+    no_var r.kind (λ K. VarThere x (declared_among K x r.first r.init (declarator r.binds r.value ▸ r.last) ▸ none) (declaration K (append r.first (declarator r.binds (put_first x r.init r.value) ▸ r.last)) ▸ none)) v (next_vars x r.first r.init r.binds r.value (put_first x r.init r.value) r.last r.declared_earlier r.other r.declared_later)
+
+abbrev of_behind : (V : Assured) (W : VariableSet) (o : Tree) (a b : Trees) → Behind V W o a b → Losing a b
+of_behind V W o a b t = record {
+  spelling = t.spelling;
+  symbol = t.symbol;
+  before = t.before;
+  after = t.after;
+  d = t.d;
+  w = t.w;
+  leaves = t.leaves;
+  declares = t.declares;
+  earlier = t.earlier;
+  later = t.later;
+  unmentioned = none_mention V W o a b t;
+  fits = list_fits V W o a b t;
+  read_is = t.read_is;
+  written_is = t.written_is;
+}
+
+joined : (pre : Trees) (c : Tree) (post : Trees) → join pre c post ≡ append pre (c ▸ post)
+joined none c post = refl
+joined (t ▸ pre) c post = ap (λ ts. t ▸ ts) (joined pre c post)
+
+parts : (a b : Bool) → (a && b) ≡ true → (a ≡ true) × (b ≡ true)
+parts true b e = (refl, e)
+parts false b e = absurd (true≢false (sym e))
+
+negated : (b : Bool) → not b ≡ true → b ≡ false
+negated true e = absurd (true≢false (sym e))
+negated false e = refl
+
+-- ---- what stands around it
+
+module _ (V : Assured) (W : Liberties) (o : Tree) (first : Trees) (place : Path) (last : Trees) (n w : Tree) (there : is_way_to way.Statements (Some way.Statement) place ≡ true)
+    (r : PastEnd (known_below (listed (append first (absent ▸ last)) ▸ above place) V) W (o ▸ (listed (append first (absent ▸ last)) ▸ above place)) n w) where
+  abbrev a : Trees
+  a = listed (append first (absent ▸ last)) ▸ above place
+
+  abbrev known : Assured
+  known = known_below a V
+
+  abbrev t : Behind known W.writable (listed (o ▸ a)) r.list r.left
+  t = behind known W (listed (o ▸ a)) r.list r.left r.row
+
+  abbrev x : Name
+  x = resolved t.spelling t.symbol
+
+  abbrev D : VariableSet
+  D = alone (Declared t.symbol)
+
+  abbrev earlier_list : Trees
+  earlier_list = append t.before (append t.d t.after)
+
+  abbrev later_list : Trees
+  later_list = append t.before (append t.w t.after)
+
+  pub holder_free : names x o ≡ false
+  holder_free = (or_parts (names x o) (any_names x a) t.outer).0
+
+  list_free : (any_names x first ≡ false) × (names x absent ≡ false) × (any_names x last ≡ false)
+  list_free = appended x first absent last (or_parts (any_names x (append first (absent ▸ last))) (any_names x (above place)) (or_parts (names x o) (any_names x a) t.outer).1).0
+
+  place_free : any_names x (above place) ≡ false
+  place_free = (or_parts (any_names x (append first (absent ▸ last))) (any_names x (above place)) (or_parts (names x o) (any_names x a) t.outer).1).1
+
+  keeps : Keeping t.spelling t.symbol way.Statements n w
+  keeps = subst₂ (Keeping t.spelling t.symbol way.Statements) (sym r.shape) (sym r.written) (list_keeps r.list r.left (of_behind known W.writable (listed (o ▸ a)) r.list r.left t) (past_vars known W (listed (o ▸ a)) r.list r.left r.row r.var))
+
+  avoids_list : AllAvoid D later_list
+  avoids_list = all_join D t.before (append t.w t.after) (all_avoided x t.symbol refl t.before t.earlier) (all_join D t.w t.after t.avoids (all_avoided x t.symbol refl t.after t.later))
+
+  avoided : Avoids D w
+  avoided = subst (Avoids D) (sym r.written) (tt, subst (AllAvoid D) (sym t.written_is) avoids_list)
+
+  -- ---- it means the same
+
+  -- the list in the list of the body
+  abbrev p : Path
+  p = inside shape.Listed [] 0 first place last
+
+  above_is : a ≡ above p
+  above_is = ap (λ ts. listed ts ▸ above place) (sym (joined first absent last))
+
+  module _ (e : Environment) (u : Permits W.writable D e) (s : Steadies V e) where
+    abbrev c : Tree
+    c = plug p n
+
+    abbrev X : VariableSet
+    X = (at_start c V).initial
+
+    abbrev at_end : VariableSet
+    at_end = known_at p n (Stat None) X
+
+    nearer : Within (begun known r.list) at_end
+    unfolding Within
+    nearer (Declared j) h =
+        let (initial, unbound) = parts (initial_below a V.initial (Declared j)) (not (any_bind j r.list)) h in
+        wide c V.initial way.Statements n way.Statements p there nothing_begun StatementList (Stat None) X refl tt tt (within_refl X) (known_off c V) (λ k. omega arith) (Declared j)
+        (begun_there V.initial p n j (ap (λ us. initial_below us V.initial (Declared j)) (sym above_is) ∙ initial) (omega (arith, ap (bindings j) r.shape, all_none_bound j r.list (negated (any_bind j r.list) unbound))))
+    nearer (Global y) h = absurd (true≢false (sym h))
+
+    known_steady : Steadies known e
+    known_steady = record { steady = s.steady; unshared = s.unshared; has_this = s.has_this }
+
+    list_same : Same e D (begun known r.list) (Stat None) n w
+    list_same = subst₂ (Same e D (begun known r.list) (Stat None)) (sym (r.shape ∙ ap listed t.read_is)) (sym (r.written ∙ ap listed t.written_is)) (t.same e u known_steady)
+
+    read_alike : ReadAlike D e (summary n) (summary w)
+    read_alike = subst₂ (λ i j. ReadAlike D e (summary i) (summary j)) (sym (r.shape ∙ ap listed t.read_is)) (sym (r.written ∙ ap listed t.written_is)) (list_read e t.spelling t.symbol u.unseen t.before t.after t.d t.w t.read)
+
+    free : any_names x (above p) ≡ false
+    free = ap (any_names x) (sym above_is) ∙ (or_parts (names x o) (any_names x a) t.outer).1
+
+    there_same : Same e D at_end (demand_at p n (Stat None)) n w
+    there_same =
+        let (tail, is) = runs_at way.Statements way.Statements p n (Stat None) there (None, refl) in
+        subst (λ q. Same e D at_end q n w) (sym is) (weaker e D D (begun known r.list) at_end (within_refl D) nearer (Stat tail) n w (in_each_tail e D (begun known r.list) n w list_same tail))
+
+    whole_same : Same e D X (Stat None) (plug p n) (plug p w)
+    whole_same = congruent_same e D u.unseen.shared p n w (path_avoids t.spelling t.symbol way.Statements way.Statements p there free) avoided read_alike X (Stat None) (known_off c V) there_same
+
+  -- ---- so the list of the body loses the name
+
+  abbrev whole : Trees
+  whole = append first (plug place n ▸ last)
+
+  abbrev whole_left : Trees
+  whole_left = append first (plug place w ▸ last)
+
+  from_start : Within (at_start (listed whole) V).initial (begun V whole)
+  unfolding Within
+  from_start (Declared j) h = h
+  from_start (Global y) h = absurd (true≢false (sym h))
+
+  body_same : (e : Environment) → Permits W.writable D e → Steadies V e → Same e D (begun V whole) (Stat None) (listed whole) (listed whole_left)
+  body_same e u s =
+      weaker e D D (at_start (listed whole) V).initial (begun V whole) (within_refl D) from_start (Stat None) (listed whole) (listed whole_left)
+      (subst₂ (λ i j. Same e D (at_start i V).initial (Stat None) i j) (ap listed (joined first (plug place n) last)) (ap listed (joined first (plug place w) last)) (whole_same e u s))
+
+  pub inside_behind : (outside : Tree) → names x outside ≡ false → Behind V W.writable outside whole whole_left
+  inside_behind outside f = record {
+    spelling = t.spelling;
+    symbol = t.symbol;
+    before = first;
+    after = last;
+    d = plug place n ▸ none;
+    w = plug place w ▸ none;
+    leaves = leaves t.spelling t.symbol way.Statements refl n w keeps avoided place there place_free;
+    declares = declares t.spelling t.symbol way.Statements refl n w keeps avoided place there place_free;
+    read = read_there t.spelling t.symbol way.Statements refl n w keeps avoided place there place_free;
+    same = body_same;
+    avoids = avoids_there t.spelling t.symbol way.Statements refl n w keeps avoided place there place_free;
+    fits = fits_there t.spelling t.symbol way.Statements refl n w keeps avoided place there place_free;
+    ported = ported_there t.spelling t.symbol way.Statements refl n w keeps avoided place there place_free;
+    outer = f;
+    earlier = list_free.0;
+    later = list_free.2;
+    read_is = refl;
+    written_is = refl;
+  }

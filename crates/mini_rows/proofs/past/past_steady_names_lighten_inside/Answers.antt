@@ -1,0 +1,5 @@
+use Rattle.mini_rows.proofs.PastInsideLawful.{past_inside_lightens}
+use Rattle.mini_rows.proofs.past.past_steady_names_lighten_inside.Goals as goal
+
+pub returns : goal.returns
+returns c = past_inside_lightens
