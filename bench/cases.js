@@ -352,9 +352,8 @@ becomes(
   `import { readFile } from "fs";
   export function load(path, done = () => { path && readFile(path); }) { return path || done(), done || path; }
   class Store { [load ? "b" : "a"]() { this.c ? load() : this.d(); } }
-  const make = key => (key || load(key), () => { key && new Store; });
-  make || load();`,
-  { kept: 10, symbols: 8 },
+  key => (key || load(key), () => { key && new Store; });`,
+  { kept: 10, symbols: [0, 1, 2, 4, 5, 6, 7], passes: 3 },
 );
 
 becomes(
