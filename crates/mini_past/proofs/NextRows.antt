@@ -135,35 +135,35 @@ module _ (V : Assured) (W : Liberties) (o : Tree) (ts : Trees) (i j : ℕ) (h : 
   -- and of a `var`, where a list stands outside
   pub next_row : (r : Row71PastNext V W o ts (children (list_next (listed ts) i j))) × (suits_kind o r.kind ≡ true)
   next_row = (
-      record {
-        before = before;
-        kind = kind;
-        first = first;
-        spelling = one.spelling;
-        symbol = one.symbol;
-        init = init;
-        binds = part n 0;
-        value = value;
-        last = last;
-        after = after;
-        goes = goes;
-        moves = tests.moves;
-        varies = tests.varies;
-        once = reading.once;
-        passed = passed_there;
-        other = reading.other;
-        outer = reading.outer;
-        earlier = reading.earlier;
-        declared_earlier = reading.declared_earlier;
-        initial = reading.initial;
-        declared_later = reading.declared_later;
-        later = reading.later;
-        unseen = unseen;
-        shape = list_is;
-        written = written_is;
-      },
-      kind_told o statement kind ds let_there tests.declares,
-    )
+    record {
+      before = before;
+      kind = kind;
+      first = first;
+      spelling = one.spelling;
+      symbol = one.symbol;
+      init = init;
+      binds = part n 0;
+      value = value;
+      last = last;
+      after = after;
+      goes = goes;
+      moves = tests.moves;
+      varies = tests.varies;
+      once = reading.once;
+      passed = passed_there;
+      other = reading.other;
+      outer = reading.outer;
+      earlier = reading.earlier;
+      declared_earlier = reading.declared_earlier;
+      initial = reading.initial;
+      declared_later = reading.declared_later;
+      later = reading.later;
+      unseen = unseen;
+      shape = list_is;
+      written = written_is;
+    },
+    kind_told o statement kind ds let_there tests.declares,
+  )
 
 -- ---- where nothing is written no row reads it
 

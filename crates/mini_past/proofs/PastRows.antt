@@ -131,31 +131,31 @@ module _ (V : Assured) (W : Liberties) (o : Tree) (ts : Trees) (i : ℕ) (next :
   -- and of a `var`, where a list stands outside
   pub row_there : (r : Row71Past V W o ts (children (list_single (listed ts) i j))) × (suits_kind o r.kind ≡ true)
   row_there = (
-      record {
-        before = before;
-        kind = kind;
-        first = first;
-        spelling = one.spelling;
-        symbol = one.symbol;
-        init = init;
-        head = head;
-        after = after;
-        goes = goes;
-        moves = tests.3;
-        varies = tests.4;
-        once = reading.once;
-        passed = passed_there;
-        outer = reading.outer;
-        earlier = reading.earlier;
-        declared_earlier = reading.declared_earlier;
-        initial = reading.initial;
-        later = reading.later;
-        unseen = unseen;
-        shape = list_is;
-        written = written_is;
-      },
-      kind_told o statement kind ds let_there (and_parts (may_declare o statement) (may_pass_by (is_free_at ts i) W d && once_there) past).0,
-    )
+    record {
+      before = before;
+      kind = kind;
+      first = first;
+      spelling = one.spelling;
+      symbol = one.symbol;
+      init = init;
+      head = head;
+      after = after;
+      goes = goes;
+      moves = tests.3;
+      varies = tests.4;
+      once = reading.once;
+      passed = passed_there;
+      outer = reading.outer;
+      earlier = reading.earlier;
+      declared_earlier = reading.declared_earlier;
+      initial = reading.initial;
+      later = reading.later;
+      unseen = unseen;
+      shape = list_is;
+      written = written_is;
+    },
+    kind_told o statement kind ds let_there (and_parts (may_declare o statement) (may_pass_by (is_free_at ts i) W d && once_there) past).0,
+  )
 
 -- ---- where nothing is written no row reads it
 
