@@ -131,13 +131,13 @@ shared_there s n w (inr (inl (inr r))) small less =
     ap (λ t. is_some (branches.written s t)) r.shape ∙ by_alternate s (conditional x r.b x) (own_there s n w (conditional x r.b x) (logical And x r.b) x r.shape r.written small less)
 shared_there s n w (inr (inr (inl (inl r)))) small less =
     ap (λ t. is_some (branches.written s t)) r.shape
-    ∙ by_assignment s (conditional r.a (assignment r.operator (identifier r.name) r.b) (assignment r.operator (identifier r.name) r.c)) (chosen_passes s r.seated r.operator r.a r.name r.b r.c r.chosen)
+    ∙ by_assignment s (conditional r.a (assignment r.operator (identifier r.name) r.b) (assignment r.operator (identifier r.name) r.c)) (chosen_passes true s r.seated r.operator r.a r.name r.b r.c r.chosen)
 shared_there s n w (inr (inr (inl (inr (inl r))))) small less =
     ap (λ t. is_some (branches.written s t)) r.shape
-    ∙ by_assignment s (conditional r.a (assignment Assign (member_of r.name r.key) r.b) (assignment Assign (member_of r.name r.key) r.c)) (chosen_member_passes s r.seated r.a r.name r.key r.b r.c r.declared r.effect_free)
+    ∙ by_assignment s (conditional r.a (assignment Assign (member_of r.name r.key) r.b) (assignment Assign (member_of r.name r.key) r.c)) (chosen_member_passes true s r.seated r.a r.name r.key r.b r.c r.declared r.effect_free)
 shared_there s n w (inr (inr (inl (inr (inr r))))) small less =
     let t : Tree = computed_member (identifier r.name) r.key in
-    ap (λ t. is_some (branches.written s t)) r.shape ∙ by_indexed s (conditional r.a (assignment Assign t r.b) (assignment Assign t r.c)) (indexed_passes s n w r)
+    ap (λ t. is_some (branches.written s t)) r.shape ∙ by_indexed s (conditional r.a (assignment Assign t r.b) (assignment Assign t r.c)) (indexed_passes true s n w r)
 shared_there s n w (inr (inr (inr r))) small less =
     ap (λ t. is_some (branches.written s t)) r.shape
     ∙ by_called s (conditional r.a (call false r.callee (argument r.is_spread r.p ▸ r.others)) (call false r.callee (argument r.is_spread r.q ▸ r.others))) (called_passes true n w r)

@@ -58,7 +58,7 @@ typeof_said n w e = go (binary_operator n) refl e
 typeof_there : (n w : Tree) → TypeofRow n w → is_some (typeof_written n) ≡ true
 typeof_there n w (inl r) =
     let t : Tree = unary Typeof (identifier r.name) in
-    ap (λ x. is_some (typeof_written x)) r.shape ∙ boolean_first r.operator (is_equality r.operator) (are_types_same t t) (is_never_type (binary r.operator t t)) None r.equality (tree_itself t)
+    ap (λ x. is_some (typeof_written x)) r.shape ∙ boolean_first r.operator (is_equality r.operator) (are_types_same t t) (is_never_type true (binary r.operator t t)) None r.equality (tree_itself t)
 typeof_there n w (inr r) =
     let t : Tree = binary r.operator (unary Typeof r.operand) r.right in
     ap (λ x. is_some (typeof_written x)) r.shape

@@ -14,23 +14,23 @@ use Rattle.mini_node.specs.Equal.{same_tree}
 use Rattle.mini_node.specs.Kinds.{assignment, computed_member, assignment_operator, is_conditional, is_identifier, is_computed_member}
 use Rattle.mini_node.specs.Made.{assignment_is, conditional_is, identifier_is, computed_member_is}
 use Rattle.mini_node.proofs.Equality.{tree_same, tree_itself}
-use Rattle.mini_terms.specs.Folds.{is_effect_free}
-use Rattle.mini_rows.specs.Choices.{Row45Indexed}
+use Rattle.mini_terms.specs.Effects.{ef}
+use Rattle.mini_rows.specs.Choices.{ChosenIndexedRow}
 use Rattle.mini_choices.specs.Assigning.{is_plain, is_declared, is_indexed_name, is_same_indexed}
 use Rattle.mini_choices.specs.MinimizeConditionalBranches as branches
 use Rattle.mini_choices.specs.MinimizeConditionalBranches.{assigns_indexed, indexes_either}
 use Rattle.mini_choices.proofs.Trials.{not_true, both_true}
 
-record OfName (t : Tree) : Type 0 where
+record OfName (asked : Bool) (t : Tree) : Type 0 where
   name : Name
   declared : is_none name.symbol ≡ false
-  idle : is_effect_free (part t 1) ≡ true
+  idle : ef asked (part t 1) ≡ true
   is : t ≡ computed_member (identifier name) (part t 1)
 
-of_name : (t : Tree) → is_indexed_name t ≡ true → OfName t
-of_name t e =
-    let (member, rest) = and_parts (is_computed_member t && is_effect_free (part t 1)) (is_identifier (part t 0) && is_declared (part t 0)) e in
-    let (is, idle) = and_parts (is_computed_member t) (is_effect_free (part t 1)) member in
+of_name : (asked : Bool) (t : Tree) → is_indexed_name asked t ≡ true → OfName asked t
+of_name asked t e =
+    let (member, rest) = and_parts (is_computed_member t && ef asked (part t 1)) (is_identifier (part t 0) && is_declared (part t 0)) e in
+    let (is, idle) = and_parts (is_computed_member t) (ef asked (part t 1)) member in
     let (named, declared) = and_parts (is_identifier (part t 0)) (is_declared (part t 0)) rest in
     let (x, h) = identifier_is (part t 0) named in
     record {
@@ -47,17 +47,17 @@ plain_is t e = by (assignment_operator t) refl e
     by (Some Assign) h e = (h, assignment_is t Assign h)
     by o h e = absurd (cc e)
 
-pub indexed_row : (s : Seat) (n : Tree) → branches.is_seated s && indexes_either n ≡ true → Row45Indexed s n (branches.assigned n)
-indexed_row s n k =
+pub indexed_row : (asked : Bool) (s : Seat) (n : Tree) → branches.is_seated s && indexes_either asked n ≡ true → ChosenIndexedRow asked s n (branches.assigned n)
+indexed_row asked s n k =
     let yes = part n 1 in
     let no = part n 2 in
-    let (seated, e1) = and_parts (branches.is_seated s) (indexes_either n) k in
-    let (chooses, e2) = and_parts (is_conditional n) (assigns_indexed yes no && is_effect_free (part n 0)) e1 in
-    let (both, free) = and_parts (assigns_indexed yes no) (is_effect_free (part n 0)) e2 in
-    let (plain, e3) = and_parts (is_plain (assignment_operator yes)) (is_plain (assignment_operator no) && is_same_indexed (part yes 0) (part no 0)) both in
-    let (second, one) = and_parts (is_plain (assignment_operator no)) (is_same_indexed (part yes 0) (part no 0)) e3 in
-    let (member, same) = and_parts (is_indexed_name (part yes 0)) (same_tree (part yes 0) (part no 0)) one in
-    let t = of_name (part yes 0) member in
+    let (seated, e1) = and_parts (branches.is_seated s) (indexes_either asked n) k in
+    let (chooses, e2) = and_parts (is_conditional n) (assigns_indexed asked yes no && ef asked (part n 0)) e1 in
+    let (both, free) = and_parts (assigns_indexed asked yes no) (ef asked (part n 0)) e2 in
+    let (plain, e3) = and_parts (is_plain (assignment_operator yes)) (is_plain (assignment_operator no) && is_same_indexed asked (part yes 0) (part no 0)) both in
+    let (second, one) = and_parts (is_plain (assignment_operator no)) (is_same_indexed asked (part yes 0) (part no 0)) e3 in
+    let (member, same) = and_parts (is_indexed_name asked (part yes 0)) (same_tree (part yes 0) (part no 0)) one in
+    let t = of_name asked (part yes 0) member in
     let (operator, left) = plain_is yes plain in
     let right = (plain_is no second).1 in
     let other = sym (tree_same (part yes 0) (part no 0) same) in
@@ -75,10 +75,10 @@ indexed_row s n k =
       written = ap (λ o. assignment (unwrap_or o Assign) (part yes 0) (conditional (part n 0) (part yes 1) (part no 1))) operator ∙ ap (λ u. assignment Assign u (conditional (part n 0) (part yes 1) (part no 1))) t.is;
     }
 
-pub indexed_passes : (s : Seat) (n w : Tree) (r : Row45Indexed s n w) → branches.is_seated s && indexes_either (conditional r.a (assignment Assign (computed_member (identifier r.name) r.key) r.b) (assignment Assign (computed_member (identifier r.name) r.key) r.c)) ≡ true
-indexed_passes s n w r =
+pub indexed_passes : (asked : Bool) (s : Seat) (n w : Tree) (r : ChosenIndexedRow asked s n w) → branches.is_seated s && indexes_either asked (conditional r.a (assignment Assign (computed_member (identifier r.name) r.key) r.b) (assignment Assign (computed_member (identifier r.name) r.key) r.c)) ≡ true
+indexed_passes asked s n w r =
     let t = computed_member (identifier r.name) r.key in
     let u = conditional r.a (assignment Assign t r.b) (assignment Assign t r.c) in
-    both_true (branches.is_seated s) (indexes_either u) (ap not r.seated)
-    (both_true (assigns_indexed (assignment Assign t r.b) (assignment Assign t r.c)) (is_effect_free r.a)
-    (both_true (is_indexed_name t) (same_tree t t) (both_true (is_effect_free r.key) (is_declared (identifier r.name)) r.idle (ap not r.declared)) (tree_itself t)) r.effect_free)
+    both_true (branches.is_seated s) (indexes_either asked u) (ap not r.seated)
+    (both_true (assigns_indexed asked (assignment Assign t r.b) (assignment Assign t r.c)) (ef asked r.a)
+    (both_true (is_indexed_name asked t) (same_tree t t) (both_true (ef asked r.key) (is_declared (identifier r.name)) r.idle (ap not r.declared)) (tree_itself t)) r.effect_free)

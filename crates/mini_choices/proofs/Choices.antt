@@ -128,10 +128,10 @@ decided_passes o x b = ap (λ g. decide.written_by (if g then Some o else None) 
 
 -- ---- 45
 
-chosen_row : (s : Seat) (n : Tree) → branches.is_seated s && branches.assigns_either n ≡ true → Row45 s n (branches.assigned n) ⊎ Row45Member s n (branches.assigned n)
-chosen_row s n k =
-    let (seated, either) = and_parts (branches.is_seated s) (branches.assigns_either n) k in
-    let (chooses, alike) = and_parts (is_conditional n) (branches.assigns_alike (assignment_operator yes) test yes no) either in
+pub chosen_row : (asked : Bool) (s : Seat) (n : Tree) → branches.is_seated s && branches.assigns_either asked n ≡ true → ChosenRow asked s n (branches.assigned n) ⊎ ChosenMemberRow asked s n (branches.assigned n)
+chosen_row asked s n k =
+    let (seated, either) = and_parts (branches.is_seated s) (branches.assigns_either asked n) k in
+    let (chooses, alike) = and_parts (is_conditional n) (branches.assigns_alike asked (assignment_operator yes) test yes no) either in
     go seated chooses (assignment_operator yes) refl alike
   where
     test : Tree
@@ -152,9 +152,9 @@ chosen_row s n k =
     value : Tree
     value = conditional test (part yes 1) (part no 1)
 
-    of_name : not (nat_eq s.level conditional_level) ≡ true → is_conditional n ≡ true → (o : AssignmentOperator) → assignment_operator yes ≡ Some o → is_operator o (assignment_operator no) ≡ true → is_same_name x y && may_choose o (is_declared x) (is_effect_free test) ≡ true → Row45 s n (branches.assigned n)
+    of_name : not (nat_eq s.level conditional_level) ≡ true → is_conditional n ≡ true → (o : AssignmentOperator) → assignment_operator yes ≡ Some o → is_operator o (assignment_operator no) ≡ true → is_same_name x y && may_choose o (is_declared x) (ef asked test) ≡ true → ChosenRow asked s n (branches.assigned n)
     of_name seated chooses o h by rest =
-        let (same, may) = and_parts (is_same_name x y) (may_choose o (is_declared x) (is_effect_free test)) rest in
+        let (same, may) = and_parts (is_same_name x y) (may_choose o (is_declared x) (ef asked test)) rest in
         let one = one_name x y same in
         record {
           operator = o;
@@ -162,15 +162,15 @@ chosen_row s n k =
           name = one.name;
           b = part yes 1;
           c = part no 1;
-          chosen = sym (ap (λ t. may_choose o (is_declared t) (is_effect_free test)) one.first) ∙ may;
+          chosen = sym (ap (λ t. may_choose o (is_declared t) (ef asked test)) one.first) ∙ may;
           seated = not_true (nat_eq s.level conditional_level) seated;
           shape = conditional_is n chooses ∙ (λ i. conditional test ((assignment_is yes o h ∙ ap (λ t. assignment o t (part yes 1)) one.first) i) ((operator_is o no by ∙ ap (λ t. assignment o t (part no 1)) one.second) i));
           written = ap (λ p. assignment (unwrap_or p Assign) x value) h ∙ ap (λ t. assignment o t value) one.first;
         }
 
-    of_member : not (nat_eq s.level conditional_level) ≡ true → is_conditional n ≡ true → assignment_operator yes ≡ Some Assign → is_operator Assign (assignment_operator no) ≡ true → is_same_member x y && is_effect_free test ≡ true → Row45Member s n (branches.assigned n)
+    of_member : not (nat_eq s.level conditional_level) ≡ true → is_conditional n ≡ true → assignment_operator yes ≡ Some Assign → is_operator Assign (assignment_operator no) ≡ true → is_same_member x y && ef asked test ≡ true → ChosenMemberRow asked s n (branches.assigned n)
     of_member seated chooses h by rest =
-        let (same, free) = and_parts (is_same_member x y) (is_effect_free test) rest in
+        let (same, free) = and_parts (is_same_member x y) (ef asked test) rest in
         let (member, alike) = and_parts (is_member_of_name x) (same_tree x y) same in
         let one = one_member x member in
         record {
@@ -186,15 +186,15 @@ chosen_row s n k =
           written = ap (λ p. assignment (unwrap_or p Assign) x value) h ∙ ap (λ t. assignment Assign t value) one.is;
         }
 
-    either_of : not (nat_eq s.level conditional_level) ≡ true → is_conditional n ≡ true → (o : AssignmentOperator) → assignment_operator yes ≡ Some o → is_operator o (assignment_operator no) ≡ true → (b : Bool) → is_same_name x y && may_choose o (is_declared x) (is_effect_free test) ≡ b → (b || (is_plain (Some o) && (is_same_member x y && is_effect_free test))) ≡ true → Row45 s n (branches.assigned n) ⊎ Row45Member s n (branches.assigned n)
+    either_of : not (nat_eq s.level conditional_level) ≡ true → is_conditional n ≡ true → (o : AssignmentOperator) → assignment_operator yes ≡ Some o → is_operator o (assignment_operator no) ≡ true → (b : Bool) → is_same_name x y && may_choose o (is_declared x) (ef asked test) ≡ b → (b || (is_plain (Some o) && (is_same_member x y && ef asked test))) ≡ true → ChosenRow asked s n (branches.assigned n) ⊎ ChosenMemberRow asked s n (branches.assigned n)
     either_of seated chooses o h by true k e = inl (of_name seated chooses o h by k)
     either_of seated chooses Assign h by false k e = inr (of_member seated chooses h by e)
     either_of seated chooses o h by false k e = absurd (cc e)
 
-    go : not (nat_eq s.level conditional_level) ≡ true → is_conditional n ≡ true → (o : Option AssignmentOperator) → assignment_operator yes ≡ o → branches.assigns_alike o test yes no ≡ true → Row45 s n (branches.assigned n) ⊎ Row45Member s n (branches.assigned n)
+    go : not (nat_eq s.level conditional_level) ≡ true → is_conditional n ≡ true → (o : Option AssignmentOperator) → assignment_operator yes ≡ o → branches.assigns_alike asked o test yes no ≡ true → ChosenRow asked s n (branches.assigned n) ⊎ ChosenMemberRow asked s n (branches.assigned n)
     go seated chooses (Some o) h e =
-        let (by, may) = and_parts (is_operator o (assignment_operator no)) (branches.may_take o test x y) e in
-        either_of seated chooses o h by (is_same_name x y && may_choose o (is_declared x) (is_effect_free test)) refl may
+        let (by, may) = and_parts (is_operator o (assignment_operator no)) (branches.may_take asked o test x y) e in
+        either_of seated chooses o h by (is_same_name x y && may_choose o (is_declared x) (ef asked test)) refl may
     go seated chooses None h e = absurd (true≢false (sym e))
 
 -- ---- 46
@@ -310,12 +310,12 @@ module _ (s : Seat) (n w : Tree) where
       (tries (Falls SharedRow s n) w (branches.is_own_if_unequal n) (logical Coalesce (part n 1) (part n 2)) (branches.consequent_written s n) (λ h. surely (logical Coalesce (part n 1) (part n 2)) (inr (inl (unequal_row n h))))
       (tries (Falls SharedRow s n) w (branches.is_own_consequent s n) (logical Or (part n 0) (part n 2)) (branches.alternate_written s n) (own_or_row s n)
       (tries (Falls SharedRow s n) w (branches.is_own_alternate s n) (logical And (part n 0) (part n 1)) (branches.assignment_written s n) (own_and_row s n)
-      (tries (Falls SharedRow s n) w (branches.is_seated s && branches.assigns_either n) (branches.assigned n) (branches.indexed_written s n) (λ h. surely (branches.assigned n) (inr (inr (chosen_row s n h))))
-      (tries (Falls SharedRow s n) w (branches.is_seated s && branches.indexes_either n) (branches.assigned n) (branches.called_written n) index_row
+      (tries (Falls SharedRow s n) w (branches.is_seated s && branches.assigns_either true true n) (branches.assigned n) (branches.indexed_written s n) (λ h. surely (branches.assigned n) (inr (inr (chosen_row true s n h))))
+      (tries (Falls SharedRow s n) w (branches.is_seated s && branches.indexes_either true true n) (branches.assigned n) (branches.called_written n) index_row
       (tries (Falls SharedRow s n) w (calls_either true n) (called n) None call_row (λ e. absurd (cc e))))))))
     where
-      index_row : branches.is_seated s && branches.indexes_either n ≡ true → Falls SharedRow s n (branches.assigned n)
-      index_row h = let r = indexed_row s n h in (inr (inr (inl (inr (inr r)))), indexed_lighter s n (branches.assigned n) r)
+      index_row : branches.is_seated s && branches.indexes_either true true n ≡ true → Falls SharedRow s n (branches.assigned n)
+      index_row h = let r = indexed_row true s n h in (inr (inr (inl (inr (inr r)))), indexed_lighter s n (branches.assigned n) r)
 
       call_row : calls_either true n ≡ true → Falls SharedRow s n (called n)
       call_row h = let r = called_row true n h in (inr (inr (inr r)), calls_lighter s n (called n) r)
@@ -345,17 +345,17 @@ module _ (s : Seat) (t : Tree) where
   pub by_alternate : branches.is_own_alternate s t ≡ true → is_some (branches.written s t) ≡ true
   by_alternate h = after_consequent (first_true (branches.is_own_alternate s t) (logical And (part t 0) (part t 1)) (branches.assignment_written s t) h)
 
-  pub by_assignment : branches.is_seated s && branches.assigns_either t ≡ true → is_some (branches.written s t) ≡ true
-  by_assignment h = after_consequent (later_true (branches.is_own_alternate s t) (logical And (part t 0) (part t 1)) (branches.assignment_written s t) (first_true (branches.is_seated s && branches.assigns_either t) (branches.assigned t) (branches.indexed_written s t) h))
+  pub by_assignment : branches.is_seated s && branches.assigns_either true t ≡ true → is_some (branches.written s t) ≡ true
+  by_assignment h = after_consequent (later_true (branches.is_own_alternate s t) (logical And (part t 0) (part t 1)) (branches.assignment_written s t) (first_true (branches.is_seated s && branches.assigns_either true t) (branches.assigned t) (branches.indexed_written s t) h))
 
   after_assignment : is_some (branches.indexed_written s t) ≡ true → is_some (branches.written s t) ≡ true
-  after_assignment h = after_consequent (later_true (branches.is_own_alternate s t) (logical And (part t 0) (part t 1)) (branches.assignment_written s t) (later_true (branches.is_seated s && branches.assigns_either t) (branches.assigned t) (branches.indexed_written s t) h))
+  after_assignment h = after_consequent (later_true (branches.is_own_alternate s t) (logical And (part t 0) (part t 1)) (branches.assignment_written s t) (later_true (branches.is_seated s && branches.assigns_either true t) (branches.assigned t) (branches.indexed_written s t) h))
 
-  pub by_indexed : branches.is_seated s && branches.indexes_either t ≡ true → is_some (branches.written s t) ≡ true
-  by_indexed h = after_assignment (first_true (branches.is_seated s && branches.indexes_either t) (branches.assigned t) (branches.called_written t) h)
+  pub by_indexed : branches.is_seated s && branches.indexes_either true t ≡ true → is_some (branches.written s t) ≡ true
+  by_indexed h = after_assignment (first_true (branches.is_seated s && branches.indexes_either true t) (branches.assigned t) (branches.called_written t) h)
 
   pub by_called : calls_either true t ≡ true → is_some (branches.written s t) ≡ true
-  by_called h = after_assignment (later_true (branches.is_seated s && branches.indexes_either t) (branches.assigned t) (branches.called_written t) (first_true (calls_either true t) (called t) None h))
+  by_called h = after_assignment (later_true (branches.is_seated s && branches.indexes_either true t) (branches.assigned t) (branches.called_written t) (first_true (calls_either true t) (called t) None h))
 
 or_true : (a b : Bool) → b ≡ true → (a || b) ≡ true
 or_true true b e = refl
@@ -364,16 +364,16 @@ or_true false b e = e
 pub declared_passes : (x : Name) → is_none x.symbol ≡ false → same_tree (identifier x) (identifier x) && is_declared (identifier x) ≡ true
 declared_passes x d = both_true (same_tree (identifier x) (identifier x)) (is_declared (identifier x)) (tree_itself (identifier x)) (ap not d)
 
-pub chosen_passes : (s : Seat) → nat_eq s.level conditional_level ≡ false → (o : AssignmentOperator) (a : Tree) (x : Name) (b c : Tree) → may_choose o (not (is_none x.symbol)) (is_effect_free a) ≡ true → branches.is_seated s && branches.assigns_either (conditional a (assignment o (identifier x) b) (assignment o (identifier x) c)) ≡ true
-chosen_passes s seated o a x b c d =
-    both_true (branches.is_seated s) (branches.assigns_either (conditional a (assignment o (identifier x) b) (assignment o (identifier x) c))) (ap not seated)
-    (both_true (is_same_operator o o) _ (tree_itself (leaf (shape.AssignmentExpression o))) (ap (λ g. g || (is_plain (Some o) && (is_same_member (identifier x) (identifier x) && is_effect_free a))) (both_true (same_tree (identifier x) (identifier x)) _ (tree_itself (identifier x)) d)))
+pub chosen_passes : (asked : Bool) (s : Seat) → nat_eq s.level conditional_level ≡ false → (o : AssignmentOperator) (a : Tree) (x : Name) (b c : Tree) → may_choose o (not (is_none x.symbol)) (ef asked a) ≡ true → branches.is_seated s && branches.assigns_either asked (conditional a (assignment o (identifier x) b) (assignment o (identifier x) c)) ≡ true
+chosen_passes asked s seated o a x b c d =
+    both_true (branches.is_seated s) (branches.assigns_either asked (conditional a (assignment o (identifier x) b) (assignment o (identifier x) c))) (ap not seated)
+    (both_true (is_same_operator o o) _ (tree_itself (leaf (shape.AssignmentExpression o))) (ap (λ g. g || (is_plain (Some o) && (is_same_member (identifier x) (identifier x) && ef asked a))) (both_true (same_tree (identifier x) (identifier x)) _ (tree_itself (identifier x)) d)))
 
-pub chosen_member_passes : (s : Seat) → nat_eq s.level conditional_level ≡ false → (a : Tree) (x : Name) (k : Key) (b c : Tree) → is_none x.symbol ≡ false → is_effect_free a ≡ true → branches.is_seated s && branches.assigns_either (conditional a (assignment Assign (member_of x k) b) (assignment Assign (member_of x k) c)) ≡ true
-chosen_member_passes s seated a x k b c d free =
+pub chosen_member_passes : (asked : Bool) (s : Seat) → nat_eq s.level conditional_level ≡ false → (a : Tree) (x : Name) (k : Key) (b c : Tree) → is_none x.symbol ≡ false → ef asked a ≡ true → branches.is_seated s && branches.assigns_either asked (conditional a (assignment Assign (member_of x k) b) (assignment Assign (member_of x k) c)) ≡ true
+chosen_member_passes asked s seated a x k b c d free =
     let m : Tree = member_of x k in
-    both_true (branches.is_seated s) (branches.assigns_either (conditional a (assignment Assign m b) (assignment Assign m c))) (ap not seated)
-    (both_true (is_same_operator Assign Assign) _ (tree_itself (leaf (shape.AssignmentExpression Assign))) (or_true (is_same_name m m && may_choose Assign (is_declared m) (is_effect_free a)) _ (both_true (is_same_member m m) _ (both_true (is_member_of_name m) _ (member_there x d k) (tree_itself m)) free)))
+    both_true (branches.is_seated s) (branches.assigns_either asked (conditional a (assignment Assign m b) (assignment Assign m c))) (ap not seated)
+    (both_true (is_same_operator Assign Assign) _ (tree_itself (leaf (shape.AssignmentExpression Assign))) (or_true (is_same_name m m && may_choose Assign (is_declared m) (ef asked a)) _ (both_true (is_same_member m m) _ (both_true (is_member_of_name m) _ (member_there x d k) (tree_itself m)) free)))
 
 -- ---- all
 
@@ -486,7 +486,7 @@ sure_passes s n w (inr (inl r)) =
 sure_passes s n w (inr (inr (inl r))) = ap (λ t. is_some (written s t)) r.shape ∙ ap is_some (combined_passes r.operator r.combined r.computes r.name r.b)
 sure_passes s n w (inr (inr (inr (inl r)))) = ap (λ t. is_some (written s t)) r.shape ∙ in_branches s (conditional (binary Equality (identifier r.name) null_literal) r.b (identifier r.name)) (by_equal s (conditional (binary Equality (identifier r.name) null_literal) r.b (identifier r.name)) (declared_passes r.name r.declared))
 sure_passes s n w (inr (inr (inr (inr (inl r))))) = ap (λ t. is_some (written s t)) r.shape ∙ in_branches s (conditional (binary Inequality (identifier r.name) null_literal) (identifier r.name) r.b) (by_unequal s (conditional (binary Inequality (identifier r.name) null_literal) (identifier r.name) r.b) (declared_passes r.name r.declared))
-sure_passes s n w (inr (inr (inr (inr (inr (inl r)))))) = ap (λ t. is_some (written s t)) r.shape ∙ in_branches s (conditional r.a (assignment r.operator (identifier r.name) r.b) (assignment r.operator (identifier r.name) r.c)) (by_assignment s (conditional r.a (assignment r.operator (identifier r.name) r.b) (assignment r.operator (identifier r.name) r.c)) (chosen_passes s r.seated r.operator r.a r.name r.b r.c r.chosen))
+sure_passes s n w (inr (inr (inr (inr (inr (inl r)))))) = ap (λ t. is_some (written s t)) r.shape ∙ in_branches s (conditional r.a (assignment r.operator (identifier r.name) r.b) (assignment r.operator (identifier r.name) r.c)) (by_assignment s (conditional r.a (assignment r.operator (identifier r.name) r.b) (assignment r.operator (identifier r.name) r.c)) (chosen_passes true s r.seated r.operator r.a r.name r.b r.c r.chosen))
 sure_passes s n w (inr (inr (inr (inr (inr (inr (inl r))))))) =
     let t : Tree = logical (joining r.equal) (binary (strictly r.equal) (identifier r.name) r.first) (binary (strictly r.equal) (identifier r.name) r.second) in
     ap (λ t. is_some (written s t)) r.shape ∙ in_operands s t (by_nullish t (alone_passes r.equal r.name r.first r.second r.nullish))
@@ -501,7 +501,7 @@ sure_passes s n w (inr (inr (inr (inr (inr (inr (inr (inr (inr (inr (inr (inr r)
     ap (λ t. is_some (written s t)) r.shape ∙ second_there (both.written s t) (first_of (decide_last.written s t) (operands_written t)) (first_there (decide_last.written s t) (operands_written t) (last_passes s r.operator r.name r.first r.others r.b r.seated))
 sure_passes s n w (inr (inr (inr (inr (inr (inr (inr (inr (inr (inr (inr (inl r)))))))))))) =
     let t : Tree = conditional r.a (assignment Assign (member_of r.name r.key) r.b) (assignment Assign (member_of r.name r.key) r.c) in
-    ap (λ t. is_some (written s t)) r.shape ∙ in_branches s t (by_assignment s t (chosen_member_passes s r.seated r.a r.name r.key r.b r.c r.declared r.effect_free))
+    ap (λ t. is_some (written s t)) r.shape ∙ in_branches s t (by_assignment s t (chosen_member_passes true s r.seated r.a r.name r.key r.b r.c r.declared r.effect_free))
 sure_passes s n w (inr (inr (inr (inr (inr (inr (inr (inr (inr (inr (inl r))))))))))) = ap (λ t. is_some (written s t)) r.shape ∙ ap is_some (combined_member_passes r.operator r.combined r.computes r.name r.declared r.key r.b)
 sure_passes s n w (inr (inr (inr (inr (inr (inr (inr (inr (inr (inl r)))))))))) =
     let t : Tree = logical (joining (not r.there)) (ended (joining (not r.there)) r.before (null_compared r.strict (not r.there) r.name)) (asks_object r.there r.name) in
@@ -533,7 +533,7 @@ passes s n w (inr (inr (inr (inr (inr (inr (inr (inr (inr r))))))))) small less 
 passes s n w (inr (inr (inr (inr (inr (inr (inr (inr (inl r))))))))) small less =
     let t : Tree = computed_member (identifier r.name) r.key in
     let u : Tree = conditional r.a (assignment Assign t r.b) (assignment Assign t r.c) in
-    ap (λ t. is_some (written s t)) r.shape ∙ in_branches s u (by_indexed s u (indexed_passes s n w r))
+    ap (λ t. is_some (written s t)) r.shape ∙ in_branches s u (by_indexed s u (indexed_passes true s n w r))
 passes s n w (inr (inr (inr (inr (inl r))))) small less =
     let t : Tree = conditional r.a (call false r.callee (argument r.is_spread r.p ▸ r.others)) (call false r.callee (argument r.is_spread r.q ▸ r.others)) in
     ap (λ t. is_some (written s t)) r.shape ∙ in_branches s t (by_called s t (called_passes true n w r))

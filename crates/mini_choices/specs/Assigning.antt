@@ -9,7 +9,7 @@ use Rattle.mini_model.specs.Tree.{Tree, leaf, shape_of}
 use Rattle.mini_node.specs.Children.{part, names_of, is_bare}
 use Rattle.mini_node.specs.Kinds.{is_identifier, is_static_member, is_computed_member, string, number, assignment_operator}
 use Rattle.mini_node.specs.Equal.{same_tree}
-use Rattle.mini_terms.specs.Folds.{is_effect_free}
+use Rattle.mini_terms.specs.Effects.{ef}
 
 abbrev pub is_plain : Option AssignmentOperator → Bool
 is_plain (Some Assign) = true
@@ -64,13 +64,13 @@ is_same_target t u = (is_identifier t || is_member_of_name t) && same_tree t u
 abbrev pub is_same_member : Tree → Tree → Bool
 is_same_member t u = is_member_of_name t && same_tree t u
 
--- `x[k]`, where a scope declares x and k has no effect
-abbrev pub is_indexed_name : Tree → Bool
-is_indexed_name t = (is_computed_member t && is_effect_free (part t 1)) && (is_identifier (part t 0) && is_declared (part t 0))
+-- `x[k]`, where a scope declares x and k has no effect; `this` has one where it is asked of the world
+abbrev pub is_indexed_name : Bool → Tree → Bool
+is_indexed_name asked t = (is_computed_member t && ef asked (part t 1)) && (is_identifier (part t 0) && is_declared (part t 0))
 
 -- two members of names with keys in brackets that have no effect, and they are one
-abbrev pub is_same_indexed : Tree → Tree → Bool
-is_same_indexed t u = is_indexed_name t && same_tree t u
+abbrev pub is_same_indexed : Bool → Tree → Tree → Bool
+is_same_indexed asked t u = is_indexed_name asked t && same_tree t u
 
 -- two names, and they are one
 abbrev pub is_same_name : Tree → Tree → Bool

@@ -14,7 +14,7 @@ use Rattle.mini_model.specs.Position.{conditional_level}
 use Rattle.mini_model.specs.Weight.{weight, capped}
 use Rattle.mini_node.specs.Children.{part}
 use Rattle.mini_node.specs.Kinds.{assignment, assignment_operator, is_conditional, is_null, binary_operator}
-use Rattle.mini_terms.specs.Folds.{is_effect_free}
+use Rattle.mini_terms.specs.Effects.{ef}
 use Rattle.mini_rows.specs.Choices.{may_choose}
 use Rattle.mini_choices.specs.Assigning.{is_plain, is_operator, is_same_name, is_same_member, is_same_indexed, is_declared}
 use Rattle.mini_choices.specs.Calling.{calls_either, called}
@@ -22,26 +22,26 @@ use Rattle.mini_choices.specs.Calling.{calls_either, called}
 -- ---- 45
 
 -- both are one name, between writes of which by this operator this test may choose after it is read, or one member of a name, which is
--- written after a test without an effect
-abbrev pub may_take : AssignmentOperator → Tree → Tree → Tree → Bool
-may_take o a x y = (is_same_name x y && may_choose o (is_declared x) (is_effect_free a)) || (is_plain (Some o) && (is_same_member x y && is_effect_free a))
+-- written after a test without an effect. `this` has one where it is asked of the world
+abbrev pub may_take : Bool → AssignmentOperator → Tree → Tree → Tree → Bool
+may_take asked o a x y = (is_same_name x y && may_choose o (is_declared x) (ef asked a)) || (is_plain (Some o) && (is_same_member x y && ef asked a))
 
 -- both are assignments to one by this operator
-abbrev pub assigns_alike : Option AssignmentOperator → Tree → Tree → Tree → Bool
-assigns_alike (Some o) a t u = is_operator o (assignment_operator u) && may_take o a (part t 0) (part u 0)
-assigns_alike None a t u = false
+abbrev pub assigns_alike : Bool → Option AssignmentOperator → Tree → Tree → Tree → Bool
+assigns_alike asked (Some o) a t u = is_operator o (assignment_operator u) && may_take asked o a (part t 0) (part u 0)
+assigns_alike asked None a t u = false
 
 -- `a ? x = b : x = c`, `a ? x += b : x += c`, or `a ? x.k = b : x.k = c`
-abbrev pub assigns_either : Tree → Bool
-assigns_either t = is_conditional t && assigns_alike (assignment_operator (part t 1)) (part t 0) (part t 1) (part t 2)
+abbrev pub assigns_either : Bool → Tree → Bool
+assigns_either asked t = is_conditional t && assigns_alike asked (assignment_operator (part t 1)) (part t 0) (part t 1) (part t 2)
 
 -- both are assignments to one member of a name by `=`, whose key in brackets has no effect
-abbrev pub assigns_indexed : Tree → Tree → Bool
-assigns_indexed t u = is_plain (assignment_operator t) && (is_plain (assignment_operator u) && is_same_indexed (part t 0) (part u 0))
+abbrev pub assigns_indexed : Bool → Tree → Tree → Bool
+assigns_indexed asked t u = is_plain (assignment_operator t) && (is_plain (assignment_operator u) && is_same_indexed asked (part t 0) (part u 0))
 
 -- `a ? x[k] = b : x[k] = c`, where evaluating a has no effect
-abbrev pub indexes_either : Tree → Bool
-indexes_either t = is_conditional t && (assigns_indexed (part t 1) (part t 2) && is_effect_free (part t 0))
+abbrev pub indexes_either : Bool → Tree → Bool
+indexes_either asked t = is_conditional t && (assigns_indexed asked (part t 1) (part t 2) && ef asked (part t 0))
 
 -- an assignment stands there as a conditional does
 abbrev pub is_seated : Seat → Bool
@@ -93,10 +93,10 @@ abbrev pub called_written : Tree → Option Tree
 called_written t = if calls_either true t then Some (called t) else None
 
 abbrev pub indexed_written : Seat → Tree → Option Tree
-indexed_written s t = if is_seated s && indexes_either t then Some (assigned t) else called_written t
+indexed_written s t = if is_seated s && indexes_either true t then Some (assigned t) else called_written t
 
 abbrev pub assignment_written : Seat → Tree → Option Tree
-assignment_written s t = if is_seated s && assigns_either t then Some (assigned t) else indexed_written s t
+assignment_written s t = if is_seated s && assigns_either true t then Some (assigned t) else indexed_written s t
 
 abbrev pub alternate_written : Seat → Tree → Option Tree
 alternate_written s t = if is_own_alternate s t then Some (logical And (part t 0) (part t 1)) else assignment_written s t

@@ -14,7 +14,7 @@ use mini_node::{
     Node, assignment_operator, is_computed_member, is_identifier, is_same_tree, is_static_member,
     number, string,
 };
-use mini_terms::has_no_effect;
+use mini_terms::is_effect_free;
 
 /// `x = b`
 pub fn assigns_name(node: &Node) -> bool
@@ -95,21 +95,21 @@ pub fn is_same_member(first: &Node, second: &Node) -> bool
     is_member_of_name(first) && is_same_tree(first, second)
 }
 
-// `x[k]`, where a scope declares x and k has no effect.
-fn is_indexed_name(node: &Node) -> bool
-    ensures { result ≡ is_it_indexed_name node.now }
+// `x[k]`, where a scope declares x and k has no effect. `this` has one where it is asked of the world.
+fn is_indexed_name(node: &Node, asked: bool) -> bool
+    ensures { result ≡ is_it_indexed_name asked node.now }
 {
     is_computed_member(node)
-        && has_no_effect(node.child(1))
+        && is_effect_free(node.child(1), asked)
         && is_identifier(node.child(0))
         && is_declared(node.child(0))
 }
 
 /// Whether they are two members of names with keys in brackets that have no effect, and one.
-pub fn is_same_indexed(first: &Node, second: &Node) -> bool
-    ensures { result ≡ is_it_same_indexed first.now second.now }
+pub fn is_same_indexed(first: &Node, second: &Node, asked: bool) -> bool
+    ensures { result ≡ is_it_same_indexed asked first.now second.now }
 {
-    is_indexed_name(first) && is_same_tree(first, second)
+    is_indexed_name(first, asked) && is_same_tree(first, second)
 }
 
 /// Whether they are two names, or members of names with keys that are written out, and one.

@@ -27,7 +27,7 @@ pub use rewrites::minimize_assigned_comparison::minimize_assigned_comparison;
 pub use rewrites::minimize_assigned_nullish_comparison::minimize_assigned_nullish_comparison;
 pub use rewrites::minimize_choices::MinimizeChoices;
 pub use rewrites::minimize_conditional_branches::{
-    assigned, is_seated, minimize_conditional_branches,
+    assigned, assigns_either, indexes_either, is_seated, minimize_conditional_branches,
 };
 pub use rewrites::minimize_first_part::{behind_zero, minimize_first_part};
 pub use rewrites::minimize_held_branches::{is_pair, minimize_held_branches};

@@ -26,6 +26,7 @@ use Rattle.mini_rows.specs.ChainLinks.{is_lone}
 use Rattle.mini_rows.specs.Booleans.{plus}
 use Rattle.mini_rows.specs.Operators.{deleted, says_equal, is_no_type, makes_numbers, is_bitwise, with_number, is_short, Row2, Row8, Row16, Row17, Row56Left, Row56Right, OperatorRow}
 use Rattle.mini_rows.specs.Spellings.{binary, negated_digit, numeral}
+use Rattle.mini_held.proofs.Types.{typeof_is, never_row}
 use Rattle.mini_fold.specs.FoldOperators.{delete_written, is_typeof_by, is_typeof, are_types_same, is_never_type, told_by, told, is_plus_by, is_plus, is_number_value, drops_left, drops_right, holds_bitwise, number_of, shortened, masked, with_mask, masks_written, mask_written, without_plus, boolean_or, operator_written}
 
 both_true : (b c : Bool) → b ≡ true → c ≡ true → b && c ≡ true
@@ -50,13 +51,6 @@ delete_row n w o h e = nothing e
 
 -- ---- 16 and 17
 
-typeof_is : (t : Tree) → is_typeof t ≡ true → t ≡ unary Typeof (part t 0)
-typeof_is t e = go (unary_operator t) refl e
-  where
-    go : (o : Option UnaryOperator) → unary_operator t ≡ o → is_typeof_by o ≡ true → t ≡ unary Typeof (part t 0)
-    go (Some Typeof) h k = unary_is t Typeof h
-    go o h k = absurd (true≢false (sym k))
-
 same_row : (n : Tree) (o : BinaryOperator) (a b : Tree) → n ≡ binary o a b → is_equality o ≡ true → are_types_same a b ≡ true → Row16 n (negated_digit (says_equal o))
 same_row n o a b is h e =
     let (first, rest) = and_parts (is_typeof a) (is_identifier (part a 0) && same_tree a b) e in
@@ -65,31 +59,12 @@ same_row n o a b is h e =
     let left : a ≡ unary Typeof (identifier x) = typeof_is a first ∙ ap (unary Typeof) name in
     record { operator = o; name = x; equality = h; shape = is ∙ ap (binary o a) (sym (tree_same a b equal)) ∙ ap (λ t. binary o t t) left; written = refl }
 
-never_row : (n : Tree) (o : BinaryOperator) → n ≡ binary o (part n 0) (part n 1) → is_equality o ≡ true → is_never_type n ≡ true → Row17 n (negated_digit (not (says_equal o)))
-never_row n o is h e =
-    let a : Tree = part n 0 in
-    let b : Tree = part n 1 in
-    let (first, r1) = and_parts (is_typeof a) (is_no_type b && (is_effect_free n && leaves_nothing n)) e in
-    let (known, r2) = and_parts (is_no_type b) (is_effect_free n && leaves_nothing n) r1 in
-    let (free, dropped) = and_parts (is_effect_free n) (leaves_nothing n) r2 in
-    let whole : n ≡ binary o (unary Typeof (part a 0)) b = is ∙ ap (λ t. binary o t b) (typeof_is a first) in record {
-      operator = o;
-      operand = part a 0;
-      right = b;
-      equality = h;
-      known = known;
-      effect_free = sym (ap is_effect_free whole) ∙ free;
-      dropped = sym (ap leaves_nothing whole) ∙ dropped;
-      shape = whole;
-      written = refl;
-    }
-
 pub told_row : (n : Tree) (o : BinaryOperator) (c : Bool) → n ≡ binary o (part n 0) (part n 1) → told o n ≡ Some c → Row16 n (negated_digit c) ⊎ Row17 n (negated_digit c)
-told_row n o c is e = go (is_equality o) (are_types_same (part n 0) (part n 1)) (is_never_type n) refl refl refl e
+told_row n o c is e = go (is_equality o) (are_types_same (part n 0) (part n 1)) (is_never_type true n) refl refl refl e
   where
-    go : (b x y : Bool) → is_equality o ≡ b → are_types_same (part n 0) (part n 1) ≡ x → is_never_type n ≡ y → (if b then told_by o x y else None) ≡ Some c → Row16 n (negated_digit c) ⊎ Row17 n (negated_digit c)
+    go : (b x y : Bool) → is_equality o ≡ b → are_types_same (part n 0) (part n 1) ≡ x → is_never_type true n ≡ y → (if b then told_by o x y else None) ≡ Some c → Row16 n (negated_digit c) ⊎ Row17 n (negated_digit c)
     go true true y h k l f = inl (subst (λ d. Row16 n (negated_digit d)) {x = says_equal o} {y = c} (cc f) (same_row n o (part n 0) (part n 1) is h k))
-    go true false true h k l f = inr (subst (λ d. Row17 n (negated_digit d)) {x = not (says_equal o)} {y = c} (cc f) (never_row n o is h l))
+    go true false true h k l f = inr (subst (λ d. Row17 n (negated_digit d)) {x = not (says_equal o)} {y = c} (cc f) (never_row true n o is h l))
     go true false false h k l f = nothing f
     go false x y h k l f = nothing f
 
@@ -234,12 +209,12 @@ boolean_second o false x y u h k = absurd (true≢false (sym h))
 pub same_there : (o : BinaryOperator) (x : Name) → is_equality o ≡ true → (u : Option Tree) → is_some (operator_written o (binary o (unary Typeof (identifier x)) (unary Typeof (identifier x))) u) ≡ true
 same_there o x h u =
     let t : Tree = unary Typeof (identifier x) in
-    boolean_first o (is_equality o) (are_types_same t t) (is_never_type (binary o t t)) (without_plus o t t (mask_written o t t u)) h (tree_itself t)
+    boolean_first o (is_equality o) (are_types_same t t) (is_never_type true (binary o t t)) (without_plus o t t (mask_written o t t u)) h (tree_itself t)
 
 pub never_there : (o : BinaryOperator) (a b : Tree) → is_equality o ≡ true → is_no_type b ≡ true → is_effect_free (binary o (unary Typeof a) b) ≡ true → leaves_nothing (binary o (unary Typeof a) b) ≡ true → (u : Option Tree) → is_some (operator_written o (binary o (unary Typeof a) b) u) ≡ true
 never_there o a b h k e d u =
     let t : Tree = binary o (unary Typeof a) b in
-    boolean_second o (is_equality o) (are_types_same (unary Typeof a) b) (is_never_type t) (without_plus o (unary Typeof a) b (mask_written o (unary Typeof a) b u)) h (both_true (is_no_type b) (is_effect_free t && leaves_nothing t) k (both_true (is_effect_free t) (leaves_nothing t) e d))
+    boolean_second o (is_equality o) (are_types_same (unary Typeof a) b) (is_never_type true t) (without_plus o (unary Typeof a) b (mask_written o (unary Typeof a) b u)) h (both_true (is_no_type b) (is_effect_free t && leaves_nothing t) k (both_true (is_effect_free t) (leaves_nothing t) e d))
 
 after_boolean : (c : Option Bool) (u : Option Tree) → is_some u ≡ true → is_some (boolean_or c u) ≡ true
 after_boolean (Some c) u h = refl

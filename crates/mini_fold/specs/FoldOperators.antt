@@ -15,6 +15,7 @@ use Rattle.mini_terms.specs.Folds.{is_effect_free}
 use Rattle.mini_terms.specs.Kind.{is_number, kind}
 use Rattle.mini_terms.specs.Parts.{leaves_nothing}
 use Rattle.mini_rows.specs.ChainLinks.{is_lone}
+pub use Rattle.mini_held.specs.Types.{is_typeof, is_never_type}
 use Rattle.mini_rows.specs.Operators.{deleted, says_equal, is_no_type, makes_numbers, is_short}
 use Rattle.mini_rows.specs.Spellings.{binary, negated_digit, numeral}
 
@@ -26,20 +27,9 @@ delete_written o a = None
 
 -- ---- 16 and 17
 
-abbrev pub is_typeof_by : Option UnaryOperator → Bool
-is_typeof_by (Some Typeof) = true
-is_typeof_by o = false
-
-abbrev pub is_typeof : Tree → Bool
-is_typeof t = is_typeof_by (unary_operator t)
-
 -- both are `typeof` of one name
 abbrev pub are_types_same : Tree → Tree → Bool
 are_types_same a b = is_typeof a && (is_identifier (part a 0) && same_tree a b)
-
--- `typeof` beside what none of its texts equals
-abbrev pub is_never_type : Tree → Bool
-is_never_type t = is_typeof (part t 0) && (is_no_type (part t 1) && (is_effect_free t && leaves_nothing t))
 
 -- what an equality tells whose sides are equal, or never are
 abbrev pub told_by : BinaryOperator → Bool → Bool → Option Bool
@@ -48,7 +38,7 @@ told_by o false true = Some (not (says_equal o))
 told_by o false false = None
 
 abbrev pub told : BinaryOperator → Tree → Option Bool
-told o t = if is_equality o then told_by o (are_types_same (part t 0) (part t 1)) (is_never_type t) else None
+told o t = if is_equality o then told_by o (are_types_same (part t 0) (part t 1)) (is_never_type true t) else None
 
 -- ---- 56
 

@@ -1,1 +1,2 @@
 pub mod Enclosing
+pub mod Types

@@ -1,5 +1,5 @@
 -- Two assignments to a member of a name whose key stands in brackets, between which a conditional chooses: one assignment chooses its value.
-use Rattle.std.proofs.Common.{◌≡◌, ◌<◌, Bool, true, false, [], refl, sym, ap, subst, ◌∙◌, inl, inr, arith}
+use Rattle.std.proofs.Common.{◌≡◌, ◌<◌, Bool, true, false, [], refl, sym, ap, subst, ◌∙◌, inl, inr, arith, true≢false}
 use Rattle.std.specs.Prelude.{◌&&◌, nat_eq}
 use Rattle.std.proofs.lemmas.Bool.{and_parts}
 use Rattle.mini_model.specs.declared.name.Name.{Name}
@@ -19,15 +19,14 @@ use Rattle.mini_laws.proofs.Runs.{either_cong}
 use Rattle.mini_laws.proofs.Seats.{placed}
 use Rattle.mini_kept.proofs.Bools.{left, both}
 use Rattle.mini_kept.proofs.Expressions.{expression, three_fit}
-use Rattle.mini_terms.specs.Folds.{is_effect_free}
 use Rattle.mini_rows.specs.Arranged.{KeptAt}
 use Rattle.mini_node.specs.Kinds.{computed_member}
-use Rattle.mini_rows.specs.Choices.{Row45Indexed, IndexedLighter}
-use Rattle.mini_rows.specs.Sketches.{Assignment, Conditional, Sketch, part, under, end, ◌▹◌}
+use Rattle.mini_rows.specs.Choices.{Row45Indexed, IndexedLighter, ChosenIndexedRow}
+use Rattle.mini_rows.specs.Sketches.{Assignment, Conditional, Sketch, part, under, end, ◌▹◌, still, Parts}
 use Rattle.mini_rows.specs.Spellings.{assignment}
-use Rattle.mini_rows.proofs.ArrangedExpressions.{expressions_arranged}
+use Rattle.mini_rows.proofs.ArrangedExpressions.{expressions_arranged, CodeKept, code_arranged}
 use Rattle.mini_rows.proofs.ChainRuns.{next}
-use Rattle.mini_rows.proofs.ChoiceFree.{Told, free_told, goes_on_chosen, begins_alike}
+use Rattle.mini_rows.proofs.ChoiceFree.{Told, goes_on_chosen, begins_alike, told_there}
 use Rattle.mini_rows.proofs.ChoiceRuns.{value, reading, conditional_tells, conditional_value, assignment_tells, by_value}
 use Rattle.mini_rows.proofs.ChoiceWeights.{loose_marks}
 use Rattle.mini_rows.proofs.SpellAlike.{SameTree}
@@ -53,10 +52,10 @@ pub member_target : (f k : Tree) (e : Environment) (s : State) → target e (com
 unfolding means meaning step
 member_target f k e s = either_cong (value e f s) _ _ _ _ (λ v z. either_cong (value e k z) _ _ _ _ (λ u y. refl) (λ x y. refl)) (λ x z. refl)
 
-target_told : (x : Name) (k : Tree) → is_effect_free k ≡ true → (e : Environment) (s : State) → Told (target e (computed_member (identifier x) k) s) s
-target_told x k h e s =
+target_told : (x : Name) (k : Tree) (e : Environment) (s : State) → Told (value e k s) s → Told (target e (computed_member (identifier x) k) s) s
+target_told x k e s h =
     subst (λ y. Told y s) (sym (member_target (identifier x) k e s))
-    (told_next (value e (identifier x) s) s (reading e x s) (λ v z. next (value e k z) (λ u y. ok (AMember v (key_value u)) y)) (λ v. told_next (value e k s) s (free_told e k h s) (λ u y. ok (AMember v (key_value u)) y) (λ u. inr (AMember v (key_value u), refl))))
+    (told_next (value e (identifier x) s) s (reading e x s) (λ v z. next (value e k z) (λ u y. ok (AMember v (key_value u)) y)) (λ v. told_next (value e k s) s h (λ u y. ok (AMember v (key_value u)) y) (λ u. inr (AMember v (key_value u), refl))))
 
 -- ---- the assignment
 
@@ -67,7 +66,7 @@ pub assigned_value : (e : Environment) (t b : Tree) (s : State) → value e (ass
 unfolding means meaning step
 assigned_value e t b s = either_cong (target e t s) _ _ _ _ (λ r z. either_cong (value e b z) _ _ _ _ (λ v y. either_cong (means e t Target (Put r v) y) _ _ _ _ (λ u k. refl) (λ x k. refl)) (λ x y. refl)) (λ x z. refl)
 
-module _ (e : Environment) (a t b c : Tree) (free : is_effect_free a ≡ true) (s : State) where
+module _ (e : Environment) (a t b c : Tree) (s : State) (test : Told (value e a s) s) where
   abbrev puts_either : Reference → State → Completion Value
   puts_either r z = puts_to e t r (value e (conditional a b c) z)
 
@@ -76,13 +75,18 @@ module _ (e : Environment) (a t b c : Tree) (free : is_effect_free a ≡ true) (
   nothing_put r = refl
 
   either_put : (r : Reference) → puts_either r s ≡ next (value e a s) (λ v z. choose (truth v) (puts_to e t r (value e b z)) (puts_to e t r (value e c z)))
-  either_put r = ap (puts_to e t r) (conditional_value e a b c s) ∙ goes_on_chosen (puts_to e t r) (nothing_put r) (value e a s) s (free_told e a free s) (λ z. value e b z) (λ z. value e c z)
+  either_put r = ap (puts_to e t r) (conditional_value e a b c s) ∙ goes_on_chosen (puts_to e t r) (nothing_put r) (value e a s) s test (λ z. value e b z) (λ z. value e c z)
 
   chosen_value : Told (target e t s) s → value e (conditional a (assignment Assign t b) (assignment Assign t c)) s ≡ value e (assignment Assign t (conditional a b c)) s
   chosen_value known =
       conditional_value e a (assignment Assign t b) (assignment Assign t c) s
-      ∙ begins_alike s (target e t s) (value e a s) known (free_told e a free s) (λ r z. puts_to e t r (value e b z)) (λ r z. puts_to e t r (value e c z)) puts_either either_put (λ z. value e (assignment Assign t b) z) (λ z. value e (assignment Assign t c) z) (assigned_value e t b s) (assigned_value e t c s)
+      ∙ begins_alike s (target e t s) (value e a s) known test (λ r z. puts_to e t r (value e b z)) (λ r z. puts_to e t r (value e c z)) puts_either either_put (λ z. value e (assignment Assign t b) z) (λ z. value e (assignment Assign t c) z) (assigned_value e t b s) (assigned_value e t c s)
       ∙ sym (assigned_value e t (conditional a b c) s)
+
+-- where `this` is asked of the world only if it has an effect
+pub indexed_there : (e : Environment) (asked : Bool) → (asked ≡ false → e.asks_this ≡ false) → (q : Seat) (n w : Tree) (r : ChosenIndexedRow asked q n w) (s : State) → value e (conditional r.a (assignment Assign (computed_member (identifier r.name) r.key) r.b) (assignment Assign (computed_member (identifier r.name) r.key) r.c)) s ≡ value e (assignment Assign (computed_member (identifier r.name) r.key) (conditional r.a r.b r.c)) s
+indexed_there e asked f q n w r s =
+    chosen_value e r.a (computed_member (identifier r.name) r.key) r.b r.c s (told_there e asked f r.a r.effect_free s) (target_told r.name r.key e s (told_there e asked f r.key r.idle s))
 
 -- 45 of members means the same
 pub indexed_same : (s : Seat) (n w : Tree) → Row45Indexed s n w → SameTree n w
@@ -90,7 +94,7 @@ indexed_same s n w r =
     let t = computed_member (identifier r.name) r.key in
     same_by n w _ _ r.shape r.written
     (by_value _ _ (conditional_tells r.a (assignment Assign t r.b) (assignment Assign t r.c)) (assignment_tells Assign t (conditional r.a r.b r.c)) refl
-    (λ e z. chosen_value e r.a t r.b r.c r.effect_free z (target_told r.name r.key r.idle e z)))
+    (λ e z. indexed_there e true (λ f. absurd (true≢false f)) s n w r z))
 
 -- ---- where it stands
 
@@ -111,9 +115,16 @@ module _ (strict : Bool) where
 abbrev assigns_part : Sketch → Sketch
 assigns_part s = under (Assignment Assign) (part 0 ▹ s ▹ end)
 
-pub indexed_kept : (q : Seat) (n w : Tree) → Row45Indexed q n w → KeptAt (Expr q) n w
-indexed_kept q n w r =
-    expressions_arranged (record { trees = computed_member (identifier r.name) r.key ▸ r.a ▸ r.b ▸ r.c ▸ none; lists = [] }) (under Conditional (part 1 ▹ assigns_part (part 2) ▹ assigns_part (part 3) ▹ end)) (assigns_part (under Conditional (part 1 ▹ part 2 ▹ part 3 ▹ end))) refl q n w r.shape r.written
+abbrev indexed_parts : {asked : Bool} {q : Seat} {n w : Tree} → ChosenIndexedRow asked q n w → Parts
+indexed_parts r = record { trees = computed_member (identifier r.name) r.key ▸ r.a ▸ r.b ▸ r.c ▸ none; lists = [] }
+
+pub indexed_code : (asked : Bool) (q : Seat) (n w : Tree) → ChosenIndexedRow asked q n w → CodeKept n w
+indexed_code asked q n w r =
+    code_arranged still (indexed_parts r) (tt, tt) Conditional (Assignment Assign) (part 1 ▹ assigns_part (part 2) ▹ assigns_part (part 3) ▹ end) (part 0 ▹ under Conditional (part 1 ▹ part 2 ▹ part 3 ▹ end) ▹ end) refl n w r.shape r.written
+
+pub indexed_kept : (asked : Bool) (q : Seat) (n w : Tree) → ChosenIndexedRow asked q n w → KeptAt (Expr q) n w
+indexed_kept asked q n w r =
+    expressions_arranged (indexed_parts r) (under Conditional (part 1 ▹ assigns_part (part 2) ▹ assigns_part (part 3) ▹ end)) (assigns_part (under Conditional (part 1 ▹ part 2 ▹ part 3 ▹ end))) refl q n w r.shape r.written
 
 -- ---- lighter: a member and its `=` go
 

@@ -31,14 +31,14 @@ use Rattle.mini_kept.specs.SameNames.{SameNames, SameScope, NoMoreClash}
 use Rattle.mini_kept.specs.KeepsShapes.{KeepsShapes}
 use Rattle.mini_kept.proofs.Quiet.{no_names, no_body_names, no_body_declarations, no_loop}
 use Rattle.mini_rows.specs.Arranged.{KeptAt, KeptLoosely, Vanishes}
-use Rattle.mini_rows.specs.Sketches.{Unary, Binary, Logical, Conditional, Assignment, Parts, Sketch, part, under, end, ◌▹◌, Free, Null, Sequence, list, no_items, item, items}
+use Rattle.mini_rows.specs.Sketches.{Unary, Binary, Logical, Conditional, Assignment, Parts, Sketch, part, under, end, ◌▹◌, Free, Null, Sequence, list, no_items, item, items, still, Sketches}
 use Rattle.mini_model.specs.Paths.{append}
 use Rattle.mini_rows.specs.Lists.{sequence}
 use Rattle.mini_rows.specs.Spellings.{IsUndefined, void_zero, assignment}
-use Rattle.mini_rows.specs.Choices.{assign, deciding, strictly, loosely, joining, AreNullish, Row37, Row37After, asks_object, null_compared, held, ended, Row57, Row57Null, Key, Named, Spelled, Numbered, member_on, member_of, Row39, Row38, Row35, Row35Member, Row45, Row45Member, Row38Last, ChoiceRow, ChoiceContracts, ChoicesLawful, ChoicesLoose, Row46Equal, Row46Unequal, Row41Or, Row41And, Row42And, Row42Or, Row43Or, Row43And, Row43AndThen, Row43OrThen, Row49, Row13Both, LighterRow, OwnRow, HeldRow}
+use Rattle.mini_rows.specs.Choices.{assign, deciding, strictly, loosely, joining, AreNullish, Row37, Row37After, asks_object, null_compared, held, ended, Row57, Row57Null, Key, Named, Spelled, Numbered, member_on, member_of, Row39, Row38, Row35, Row35Member, Row38Last, ChoiceRow, ChoiceContracts, ChoicesLawful, ChoicesLoose, Row46Equal, Row46Unequal, Row41Or, Row41And, Row42And, Row42Or, Row43Or, Row43And, Row43AndThen, Row43OrThen, Row49, Row13Both, LighterRow, OwnRow, HeldRow, ChosenRow, ChosenMemberRow}
 use Rattle.mini_rows.proofs.ChainLinkLawful.{chains_kept}
 use Rattle.mini_rows.proofs.ChainEndKept.{end_kept}
-use Rattle.mini_rows.proofs.ArrangedExpressions.{expressions_arranged, expressions_arranged_freely}
+use Rattle.mini_rows.proofs.ArrangedExpressions.{expressions_arranged, expressions_arranged_freely, CodeKept, code_arranged}
 use Rattle.mini_rows.proofs.ArrangedLawful.{kept_loosely, fixed_is_lawful, kept_is_loose}
 use Rattle.mini_rows.proofs.ChainLawful.{chain_row_kept}
 use Rattle.mini_rows.proofs.FirstParts.{zero_row_kept}
@@ -176,16 +176,40 @@ computing_member_kept q n w r =
     subst (KeptAt (Expr q) n) (sym r.written)
     (retargeted_tree r.combined member r.b (member_reads (identifier r.name) r.key) q n (expressions_arranged_freely first_dropped (record { trees = member ▸ r.b ▸ none; lists = [] }) (tt, tt, (member_vanishes r.name r.key, tt)) (assigns_first (under (Binary r.operator) (part 0 ▹ part 1 ▹ end))) (assigns_first (part 1)) refl q n (assignment Assign member r.b) r.shape refl))
 
-chosen_kept : (q : Seat) (n w : Tree) → Row45 q n w → KeptAt (Expr q) n w
-chosen_kept q n w r = by r.operator r.shape r.written
+abbrev chosen_parts : {asked : Bool} {q : Seat} {n w : Tree} → ChosenRow asked q n w → Parts
+chosen_parts r = record { trees = identifier r.name ▸ r.a ▸ r.b ▸ r.c ▸ none; lists = [] }
+
+-- `a ? .. : ..`, and the choice that is assigned
+abbrev assigns_each : AssignmentOperator → Sketches
+assigns_each o = part 1 ▹ assigns_part o (part 2) ▹ assigns_part o (part 3) ▹ end
+
+abbrev assigns_choice : Sketches
+assigns_choice = part 0 ▹ under Conditional (part 1 ▹ part 2 ▹ part 3 ▹ end) ▹ end
+
+pub chosen_code : (asked : Bool) (q : Seat) (n w : Tree) → ChosenRow asked q n w → CodeKept n w
+chosen_code asked q n w r = by r.operator r.shape r.written
+  where
+    by : (o : AssignmentOperator) → n ≡ conditional r.a (assignment o (identifier r.name) r.b) (assignment o (identifier r.name) r.c) → w ≡ assignment o (identifier r.name) (conditional r.a r.b r.c) → CodeKept n w
+    by Assign f g = code_arranged still (chosen_parts r) (tt, tt) Conditional (Assignment Assign) (assigns_each Assign) assigns_choice refl n w f g
+    by o f g = code_arranged still (chosen_parts r) (tt, tt) Conditional (Assignment o) (assigns_each o) assigns_choice refl n w f g
+
+pub chosen_kept : (asked : Bool) (q : Seat) (n w : Tree) → ChosenRow asked q n w → KeptAt (Expr q) n w
+chosen_kept asked q n w r = by r.operator r.shape r.written
   where
     by : (o : AssignmentOperator) → n ≡ conditional r.a (assignment o (identifier r.name) r.b) (assignment o (identifier r.name) r.c) → w ≡ assignment o (identifier r.name) (conditional r.a r.b r.c) → KeptAt (Expr q) n w
-    by Assign f g = expressions_arranged (record { trees = identifier r.name ▸ r.a ▸ r.b ▸ r.c ▸ none; lists = [] }) (under Conditional (part 1 ▹ assigns_part Assign (part 2) ▹ assigns_part Assign (part 3) ▹ end)) (assigns_part Assign (under Conditional (part 1 ▹ part 2 ▹ part 3 ▹ end))) refl q n w f g
-    by o f g = expressions_arranged (record { trees = identifier r.name ▸ r.a ▸ r.b ▸ r.c ▸ none; lists = [] }) (under Conditional (part 1 ▹ assigns_part o (part 2) ▹ assigns_part o (part 3) ▹ end)) (assigns_part o (under Conditional (part 1 ▹ part 2 ▹ part 3 ▹ end))) refl q n w f g
+    by Assign f g = expressions_arranged (chosen_parts r) (under Conditional (assigns_each Assign)) (under (Assignment Assign) assigns_choice) refl q n w f g
+    by o f g = expressions_arranged (chosen_parts r) (under Conditional (assigns_each o)) (under (Assignment o) assigns_choice) refl q n w f g
 
-chosen_member_kept : (q : Seat) (n w : Tree) → Row45Member q n w → KeptAt (Expr q) n w
-chosen_member_kept q n w r =
-    expressions_arranged_freely first_dropped (record { trees = member_of r.name r.key ▸ r.a ▸ r.b ▸ r.c ▸ none; lists = [] }) (tt, tt, (member_vanishes r.name r.key, tt)) (under Conditional (part 1 ▹ assigns_part Assign (part 2) ▹ assigns_part Assign (part 3) ▹ end)) (assigns_part Assign (under Conditional (part 1 ▹ part 2 ▹ part 3 ▹ end))) refl q n w r.shape r.written
+abbrev chosen_member_parts : {asked : Bool} {q : Seat} {n w : Tree} → ChosenMemberRow asked q n w → Parts
+chosen_member_parts r = record { trees = member_of r.name r.key ▸ r.a ▸ r.b ▸ r.c ▸ none; lists = [] }
+
+pub chosen_member_code : (asked : Bool) (q : Seat) (n w : Tree) → ChosenMemberRow asked q n w → CodeKept n w
+chosen_member_code asked q n w r =
+    code_arranged first_dropped (chosen_member_parts r) (tt, tt) Conditional (Assignment Assign) (assigns_each Assign) assigns_choice refl n w r.shape r.written
+
+pub chosen_member_kept : (asked : Bool) (q : Seat) (n w : Tree) → ChosenMemberRow asked q n w → KeptAt (Expr q) n w
+chosen_member_kept asked q n w r =
+    expressions_arranged_freely first_dropped (chosen_member_parts r) (tt, tt, (member_vanishes r.name r.key, tt)) (under Conditional (assigns_each Assign)) (under (Assignment Assign) assigns_choice) refl q n w r.shape r.written
 
 -- sketches of a conditional, of a logical expression, and of two parts in order
 abbrev choice : Sketch → Sketch → Sketch → Sketch
@@ -323,13 +347,13 @@ lighter_kept q n w (inr (inl r)) = deciding_kept q n w r
 lighter_kept q n w (inr (inr (inl r))) = computing_kept q n w r
 lighter_kept q n w (inr (inr (inr (inl r)))) = equal_kept q n w r
 lighter_kept q n w (inr (inr (inr (inr (inl r))))) = unequal_kept q n w r
-lighter_kept q n w (inr (inr (inr (inr (inr (inl r)))))) = chosen_kept q n w r
+lighter_kept q n w (inr (inr (inr (inr (inr (inl r)))))) = chosen_kept true q n w r
 lighter_kept q n w (inr (inr (inr (inr (inr (inr (inl r))))))) = nullish_kept q n w r
 lighter_kept q n w (inr (inr (inr (inr (inr (inr (inr (inl r)))))))) = nullish_after_kept q n w r
 lighter_kept q n w (inr (inr (inr (inr (inr (inr (inr (inr (inl r))))))))) = type_kept q n w r
 lighter_kept q n w (inr (inr (inr (inr (inr (inr (inr (inr (inr (inl r)))))))))) = null_type_kept q n w r
 lighter_kept q n w (inr (inr (inr (inr (inr (inr (inr (inr (inr (inr (inl r))))))))))) = computing_member_kept q n w r
-lighter_kept q n w (inr (inr (inr (inr (inr (inr (inr (inr (inr (inr (inr (inl r)))))))))))) = chosen_member_kept q n w r
+lighter_kept q n w (inr (inr (inr (inr (inr (inr (inr (inr (inr (inr (inr (inl r)))))))))))) = chosen_member_kept true q n w r
 lighter_kept q n w (inr (inr (inr (inr (inr (inr (inr (inr (inr (inr (inr (inr r)))))))))))) = last_kept q n w r
 
 own_kept : (q : Seat) (n w : Tree) → OwnRow n w → KeptAt (Expr q) n w
@@ -354,7 +378,7 @@ expression_kept q n w (inr (inr (inr (inr (inl r))))) = kept_loosely (Expr q) n 
 expression_kept q n w (inr (inr (inr (inr (inr (inl r)))))) = kept_loosely (Expr q) n w (chains_kept q n w r)
 expression_kept q n w (inr (inr (inr (inr (inr (inr (inl r))))))) = end_kept q n w r
 expression_kept q n w (inr (inr (inr (inr (inr (inr (inr (inl r)))))))) = kept_loosely (Expr q) n w (both_sides_kept q n w r)
-expression_kept q n w (inr (inr (inr (inr (inr (inr (inr (inr (inl r))))))))) = kept_loosely (Expr q) n w (indexed_kept q n w r)
+expression_kept q n w (inr (inr (inr (inr (inr (inr (inr (inr (inl r))))))))) = kept_loosely (Expr q) n w (indexed_kept true q n w r)
 expression_kept q n w (inr (inr (inr (inr (inr (inr (inr (inr (inr r))))))))) = kept_loosely (Expr q) n w (zero_row_kept q n w r)
 
 kept : (p : Position) (n w : Tree) → ChoiceRow p n w → KeptLoosely p n w

@@ -30,10 +30,9 @@ use Rattle.mini_laws.specs.Rows.{SameAt}
 use Rattle.mini_laws.specs.Rewritten.{MeansSame}
 use Rattle.mini_laws.specs.Targets.{assigns}
 use Rattle.mini_laws.proofs.Runs.{either_cong, either_assoc, either_eta, either_ok, either_stop, either_out, runs}
-use Rattle.mini_terms.specs.Folds.{is_effect_free}
 use Rattle.mini_terms.proofs.Opened.{negation_opened}
 use Rattle.mini_rows.specs.Spellings.{binary, text, assignment}
-use Rattle.mini_rows.specs.Choices.{assign, pair, joined, strictly, loosely, joining, AreNullish, Row37, Row37After, deciding, computing, may_choose, Row45, Row35, Row46Equal, Row46Unequal, asks_object, null_compared, held, ended, Row57, Row57Null, LighterRow, OwnRow, HeldRow, ChoiceRow, ChoiceContracts}
+use Rattle.mini_rows.specs.Choices.{assign, pair, joined, strictly, loosely, joining, AreNullish, Row37, Row37After, deciding, computing, may_choose, Row45, Row35, Row46Equal, Row46Unequal, asks_object, null_compared, held, ended, Row57, Row57Null, LighterRow, OwnRow, HeldRow, ChoiceRow, ChoiceContracts, ChosenRow}
 use Rattle.mini_rows.proofs.ChainLinkMeaning.{chains_same, chains_read}
 use Rattle.mini_rows.proofs.BothSides.{both_sides_same}
 use Rattle.mini_rows.proofs.ChainEnds.{end_same, end_read}
@@ -44,10 +43,11 @@ use Rattle.mini_rows.proofs.ChoiceCalls.{calls_same}
 use Rattle.mini_rows.proofs.ChoiceLast.{last_same}
 use Rattle.mini_rows.proofs.ChoiceMembers.{member_same, member_chosen_same}
 use Rattle.mini_rows.proofs.ChoiceIndexed.{indexed_same}
-use Rattle.mini_rows.proofs.ChoiceFree.{free_told, goes_on_chosen, begins_alike}
+use Rattle.mini_rows.proofs.ChoiceFree.{goes_on_chosen, begins_alike, Told, told_there}
 use Rattle.mini_rows.proofs.SpellAlike.{SameTree}
 use Rattle.mini_rows.proofs.SpellMeaning.{tree_same, same_by}
 use Rattle.mini_rows.proofs.ChoiceRuns.{value, by_value, reading, written_out, operate_free, conditional_tells, logical_tells, binary_tells, strict_told, null_value, undefined_value, assignment_tells, pair_tells, pair_value, by_reading, equal_null, unequal_null, sides, binary_names, binary_value, conditional_value, logical_value, puts, assign_value, deciding_value, computing_value}
+use Rattle.mini_terms.specs.Effects.{ef}
 
 -- 39
 
@@ -205,10 +205,9 @@ computed_value e o c h x b s =
     ∙ written_out e o x b s
     ∙ either_cong (value e f s) _ _ _ _ (λ v z. either_cong (value e b z) _ _ _ _ (λ u y. ap (puts e x) (ap (λ k. run {q = λ i. As Val} e (binary_names o f b) (sides e f b) k y) (computes_it o c h v u) ∙ operate_free e (binary_names o f b) no_names (λ i. As Val) (λ i. As Val) (sides e f b) no_kids o v u y)) (λ x y. refl)) (λ x z. refl)
 
-computed_chosen : (e : Environment) (o : BinaryOperator) (c : AssignmentOperator) → computing o ≡ Some c → (a : Tree) (x : Name) (b d : Tree) → is_effect_free a ≡ true → (s : State) → value e (conditional a (assignment c (identifier x) b) (assignment c (identifier x) d)) s ≡ value e (assignment c (identifier x) (conditional a b d)) s
-computed_chosen e o c h a x b d free s =
+computed_chosen : (e : Environment) (o : BinaryOperator) (c : AssignmentOperator) → computing o ≡ Some c → (a : Tree) (x : Name) (b d : Tree) (s : State) → Told (value e a s) s → value e (conditional a (assignment c (identifier x) b) (assignment c (identifier x) d)) s ≡ value e (assignment c (identifier x) (conditional a b d)) s
+computed_chosen e o c h a x b d s quiet =
     let f : Tree = identifier x in
-    let quiet = free_told e a free s in
     let goes_on : Value → Completion Value → Completion Value = λ v y. next y (λ u z. puts e x (made e o v u z)) in
     let follows : Tree → Value → State → Completion Value = λ t v z. goes_on v (value e t z) in
     conditional_value e a (assignment c f b) (assignment c f d) s
@@ -217,29 +216,33 @@ computed_chosen e o c h a x b d free s =
     (λ z. value e (assignment c f b) z) (λ z. value e (assignment c f d) z) (computed_value e o c h x b s) (computed_value e o c h x d s)
     ∙ sym (computed_value e o c h x (conditional a b d) s)
 
-chosen_by : (o : AssignmentOperator) (a : Tree) (x : Name) (b c : Tree) → may_choose o (not (is_none x.symbol)) (is_effect_free a) ≡ true → (e : Environment) (s : State) → value e (conditional a (assignment o (identifier x) b) (assignment o (identifier x) c)) s ≡ value e (assignment o (identifier x) (conditional a b c)) s
-chosen_by assigning.Assign a x b c h e s = chosen_value a x b c e s
-chosen_by assigning.LogicalOr a x b c h e s = absurd (true≢false (sym h))
-chosen_by assigning.LogicalAnd a x b c h e s = absurd (true≢false (sym h))
-chosen_by assigning.LogicalNullish a x b c h e s = absurd (true≢false (sym h))
-chosen_by assigning.Addition a x b c h e s = computed_chosen e binary_operator.Addition assigning.Addition refl a x b c (and_parts (not (is_none x.symbol)) (is_effect_free a) h).1 s
-chosen_by assigning.Subtraction a x b c h e s = computed_chosen e binary_operator.Subtraction assigning.Subtraction refl a x b c (and_parts (not (is_none x.symbol)) (is_effect_free a) h).1 s
-chosen_by assigning.Multiplication a x b c h e s = computed_chosen e binary_operator.Multiplication assigning.Multiplication refl a x b c (and_parts (not (is_none x.symbol)) (is_effect_free a) h).1 s
-chosen_by assigning.Division a x b c h e s = computed_chosen e binary_operator.Division assigning.Division refl a x b c (and_parts (not (is_none x.symbol)) (is_effect_free a) h).1 s
-chosen_by assigning.Remainder a x b c h e s = computed_chosen e binary_operator.Remainder assigning.Remainder refl a x b c (and_parts (not (is_none x.symbol)) (is_effect_free a) h).1 s
-chosen_by assigning.Exponential a x b c h e s = computed_chosen e binary_operator.Exponential assigning.Exponential refl a x b c (and_parts (not (is_none x.symbol)) (is_effect_free a) h).1 s
-chosen_by assigning.ShiftLeft a x b c h e s = computed_chosen e binary_operator.ShiftLeft assigning.ShiftLeft refl a x b c (and_parts (not (is_none x.symbol)) (is_effect_free a) h).1 s
-chosen_by assigning.ShiftRight a x b c h e s = computed_chosen e binary_operator.ShiftRight assigning.ShiftRight refl a x b c (and_parts (not (is_none x.symbol)) (is_effect_free a) h).1 s
-chosen_by assigning.ShiftRightZeroFill a x b c h e s = computed_chosen e binary_operator.ShiftRightZeroFill assigning.ShiftRightZeroFill refl a x b c (and_parts (not (is_none x.symbol)) (is_effect_free a) h).1 s
-chosen_by assigning.BitwiseAnd a x b c h e s = computed_chosen e binary_operator.BitwiseAnd assigning.BitwiseAnd refl a x b c (and_parts (not (is_none x.symbol)) (is_effect_free a) h).1 s
-chosen_by assigning.BitwiseXor a x b c h e s = computed_chosen e binary_operator.BitwiseXor assigning.BitwiseXor refl a x b c (and_parts (not (is_none x.symbol)) (is_effect_free a) h).1 s
-chosen_by assigning.BitwiseOr a x b c h e s = computed_chosen e binary_operator.BitwiseOr assigning.BitwiseOr refl a x b c (and_parts (not (is_none x.symbol)) (is_effect_free a) h).1 s
+chosen_by : (o : AssignmentOperator) (a : Tree) (x : Name) (b c : Tree) (free : Bool) → may_choose o (not (is_none x.symbol)) free ≡ true → (e : Environment) (s : State) → (free ≡ true → Told (value e a s) s) → value e (conditional a (assignment o (identifier x) b) (assignment o (identifier x) c)) s ≡ value e (assignment o (identifier x) (conditional a b c)) s
+chosen_by assigning.Assign a x b c free h e s t = chosen_value a x b c e s
+chosen_by assigning.LogicalOr a x b c free h e s t = absurd (true≢false (sym h))
+chosen_by assigning.LogicalAnd a x b c free h e s t = absurd (true≢false (sym h))
+chosen_by assigning.LogicalNullish a x b c free h e s t = absurd (true≢false (sym h))
+chosen_by assigning.Addition a x b c free h e s t = computed_chosen e binary_operator.Addition assigning.Addition refl a x b c s (t (and_parts (not (is_none x.symbol)) free h).1)
+chosen_by assigning.Subtraction a x b c free h e s t = computed_chosen e binary_operator.Subtraction assigning.Subtraction refl a x b c s (t (and_parts (not (is_none x.symbol)) free h).1)
+chosen_by assigning.Multiplication a x b c free h e s t = computed_chosen e binary_operator.Multiplication assigning.Multiplication refl a x b c s (t (and_parts (not (is_none x.symbol)) free h).1)
+chosen_by assigning.Division a x b c free h e s t = computed_chosen e binary_operator.Division assigning.Division refl a x b c s (t (and_parts (not (is_none x.symbol)) free h).1)
+chosen_by assigning.Remainder a x b c free h e s t = computed_chosen e binary_operator.Remainder assigning.Remainder refl a x b c s (t (and_parts (not (is_none x.symbol)) free h).1)
+chosen_by assigning.Exponential a x b c free h e s t = computed_chosen e binary_operator.Exponential assigning.Exponential refl a x b c s (t (and_parts (not (is_none x.symbol)) free h).1)
+chosen_by assigning.ShiftLeft a x b c free h e s t = computed_chosen e binary_operator.ShiftLeft assigning.ShiftLeft refl a x b c s (t (and_parts (not (is_none x.symbol)) free h).1)
+chosen_by assigning.ShiftRight a x b c free h e s t = computed_chosen e binary_operator.ShiftRight assigning.ShiftRight refl a x b c s (t (and_parts (not (is_none x.symbol)) free h).1)
+chosen_by assigning.ShiftRightZeroFill a x b c free h e s t = computed_chosen e binary_operator.ShiftRightZeroFill assigning.ShiftRightZeroFill refl a x b c s (t (and_parts (not (is_none x.symbol)) free h).1)
+chosen_by assigning.BitwiseAnd a x b c free h e s t = computed_chosen e binary_operator.BitwiseAnd assigning.BitwiseAnd refl a x b c s (t (and_parts (not (is_none x.symbol)) free h).1)
+chosen_by assigning.BitwiseXor a x b c free h e s t = computed_chosen e binary_operator.BitwiseXor assigning.BitwiseXor refl a x b c s (t (and_parts (not (is_none x.symbol)) free h).1)
+chosen_by assigning.BitwiseOr a x b c free h e s t = computed_chosen e binary_operator.BitwiseOr assigning.BitwiseOr refl a x b c s (t (and_parts (not (is_none x.symbol)) free h).1)
+
+-- where `this` is asked of the world only if it has an effect
+pub chosen_there : (e : Environment) (asked : Bool) → (asked ≡ false → e.asks_this ≡ false) → (q : Seat) (n w : Tree) (r : ChosenRow asked q n w) (s : State) → value e (conditional r.a (assignment r.operator (identifier r.name) r.b) (assignment r.operator (identifier r.name) r.c)) s ≡ value e (assignment r.operator (identifier r.name) (conditional r.a r.b r.c)) s
+chosen_there e asked f q n w r s = chosen_by r.operator r.a r.name r.b r.c (ef asked r.a) r.chosen e s (λ h. told_there e asked f r.a h s)
 
 chosen_same : (s : Seat) (n w : Tree) → Row45 s n w → SameTree n w
 chosen_same s n w r =
     let x : Tree = identifier r.name in
     same_by n w _ _ r.shape r.written
-    (by_value _ _ (conditional_tells r.a (assignment r.operator x r.b) (assignment r.operator x r.c)) (assignment_tells r.operator x (conditional r.a r.b r.c)) refl (chosen_by r.operator r.a r.name r.b r.c r.chosen))
+    (by_value _ _ (conditional_tells r.a (assignment r.operator x r.b) (assignment r.operator x r.c)) (assignment_tells r.operator x (conditional r.a r.b r.c)) refl (λ e y. chosen_there e true (λ f. absurd (true≢false f)) s n w r y))
 
 -- 46
 

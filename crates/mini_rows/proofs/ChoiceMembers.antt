@@ -1,6 +1,6 @@
 -- What an operator makes of a member, and an assignment to it, is what the one assignment of that operator does (35), where the object does
 -- nothing but give a value; and what a test chooses may be assigned to a member of a name (45).
-use Rattle.std.proofs.Common.{◌≡◌, ℕ, Bool, true, false, Option, Some, None, List, [], ◌∷◌, refl, sym, ap, subst, ◌∙◌}
+use Rattle.std.proofs.Common.{◌≡◌, ℕ, Bool, true, false, Option, Some, None, List, [], ◌∷◌, refl, sym, ap, subst, ◌∙◌, true≢false}
 use Rattle.mini_model.specs.declared.name.Name.{Name}
 use Rattle.mini_model.specs.declared.operator.AssignmentOperator.{AssignmentOperator}
 use Rattle.mini_model.specs.declared.operator.AssignmentOperator.TheVariants as assigning
@@ -20,11 +20,10 @@ use Rattle.mini_laws.specs.Expressions.{operate_by}
 use Rattle.mini_laws.specs.Targets.{AssignDemand, put_target, after_read}
 use Rattle.mini_laws.specs.Step.{step, means, meaning}
 use Rattle.mini_laws.proofs.Runs.{either_cong, either_eta, either_assoc, either_out, run_bind}
-use Rattle.mini_terms.specs.Folds.{is_effect_free}
 use Rattle.mini_rows.specs.Spellings.{binary, assignment}
-use Rattle.mini_rows.specs.Choices.{Key, Named, Spelled, Numbered, member_on, member_of, computing, Row35Member, Row45Member}
+use Rattle.mini_rows.specs.Choices.{Key, Named, Spelled, Numbered, member_on, member_of, computing, Row35Member, Row45Member, ChosenMemberRow}
 use Rattle.mini_rows.proofs.ChainRuns.{next}
-use Rattle.mini_rows.proofs.ChoiceFree.{free_told, goes_on_chosen, begins_alike}
+use Rattle.mini_rows.proofs.ChoiceFree.{goes_on_chosen, begins_alike, Told, told_there}
 use Rattle.mini_rows.proofs.ChoiceRuns.{value, by_value, Reading, reading, by_told, operate_free, conditional_tells, conditional_value, assignment_tells, binary_names, binary_value, sides}
 use Rattle.mini_rows.proofs.SpellAlike.{SameTree}
 use Rattle.mini_rows.proofs.SpellMeaning.{same_by}
@@ -166,10 +165,9 @@ member_same n w r =
 
 -- ---- what a test without an effect chooses
 
-chosen_member : (e : Environment) (a : Tree) → is_effect_free a ≡ true → (x : Name) (k : Key) (b c : Tree) (s : State) → value e (conditional a (assignment assigning.Assign (member_of x k) b) (assignment assigning.Assign (member_of x k) c)) s ≡ value e (assignment assigning.Assign (member_of x k) (conditional a b c)) s
-chosen_member e a free x k b c s =
+chosen_member : (e : Environment) (a : Tree) (x : Name) (k : Key) (b c : Tree) (s : State) → Told (value e a s) s → value e (conditional a (assignment assigning.Assign (member_of x k) b) (assignment assigning.Assign (member_of x k) c)) s ≡ value e (assignment assigning.Assign (member_of x k) (conditional a b c)) s
+chosen_member e a x k b c s quiet =
     let m : Tree = member_of x k in
-    let quiet = free_told e a free s in
     let goes_on : Value → Completion Value → Completion Value = λ v y. next y (λ u z. put e (identifier x) k v u z) in
     let follows : Tree → Value → State → Completion Value = λ t v z. goes_on v (value e t z) in
     conditional_value e a (assignment assigning.Assign m b) (assignment assigning.Assign m c) s
@@ -178,8 +176,12 @@ chosen_member e a free x k b c s =
     (λ z. value e (assignment assigning.Assign m b) z) (λ z. value e (assignment assigning.Assign m c) z) (assigned_value e (identifier x) k b s) (assigned_value e (identifier x) k c s)
     ∙ sym (assigned_value e (identifier x) k (conditional a b c) s)
 
+-- where `this` is asked of the world only if it has an effect
+pub member_chosen_there : (e : Environment) (asked : Bool) → (asked ≡ false → e.asks_this ≡ false) → (q : Seat) (n w : Tree) (r : ChosenMemberRow asked q n w) (s : State) → value e (conditional r.a (assignment assigning.Assign (member_of r.name r.key) r.b) (assignment assigning.Assign (member_of r.name r.key) r.c)) s ≡ value e (assignment assigning.Assign (member_of r.name r.key) (conditional r.a r.b r.c)) s
+member_chosen_there e asked f q n w r s = chosen_member e r.a r.name r.key r.b r.c s (told_there e asked f r.a r.effect_free s)
+
 pub member_chosen_same : (s : Seat) (n w : Tree) → Row45Member s n w → SameTree n w
 member_chosen_same s n w r =
     same_by n w _ _ r.shape r.written
     (by_value _ _ (conditional_tells r.a _ _) (assignment_tells assigning.Assign (member_of r.name r.key) (conditional r.a r.b r.c)) refl
-    (λ e s. chosen_member e r.a r.effect_free r.name r.key r.b r.c s))
+    (λ e y. member_chosen_there e true (λ f. absurd (true≢false f)) s n w r y))

@@ -21,7 +21,7 @@ use Rattle.mini_model.specs.Paths.{append}
 use Rattle.mini_rows.specs.Lists.{sequence}
 use Rattle.mini_node.specs.Kinds.{computed_member}
 use Rattle.mini_rows.specs.Spellings.{binary, assignment}
-use Rattle.mini_rows.specs.Choices.{Key, Named, Spelled, Numbered, member_on, member_of, assign, joined, strictly, loosely, joining, asks_object, null_compared, held, ended, deciding, ChoiceRow, pair, argument, CallRow, Row13Both, Row45Indexed, LighterRow, OwnRow, HeldRow}
+use Rattle.mini_rows.specs.Choices.{Key, Named, Spelled, Numbered, member_on, member_of, assign, joined, strictly, loosely, joining, asks_object, null_compared, held, ended, deciding, ChoiceRow, pair, argument, CallRow, Row13Both, LighterRow, OwnRow, HeldRow, ChosenRow, ChosenMemberRow, ChosenIndexedRow}
 use Rattle.mini_rows.proofs.ChainLinkLawful.{chains_fit, chains_asked, chains_slot}
 use Rattle.mini_rows.proofs.ChainEnds.{end_fits, end_asked, end_slot}
 use Rattle.mini_rows.proofs.ChainLawful.{chain_row_fits, chain_row_asked, chain_row_slot}
@@ -154,6 +154,23 @@ module _ (strict : Bool) where
     abbrev Here : Tree → Type 0
     Here t = fits strict s t ≡ true
 
+    pub chosen_fits : (asked : Bool) (q : Seat) (n w : Tree) → ChosenRow asked q n w → Here n → Here w
+    chosen_fits asked q n w r e =
+        let yes : Tree = assignment r.operator (identifier r.name) r.b in
+        let no : Tree = assignment r.operator (identifier r.name) r.c in
+        let (here, (test, first, second)) = of_conditional strict s r.a yes no (subst Here r.shape e) in
+        let (name, b) = of_assignment r.operator r.name r.b first in
+        subst Here (sym r.written) (expression_taken strict s (assignment r.operator (identifier r.name) (conditional r.a r.b r.c)) here (assignment_fits r.operator r.name (conditional r.a r.b r.c) name (three_fit strict r.a r.b r.c test b (of_assignment r.operator r.name r.c second).1)))
+
+    pub chosen_member_fits : (asked : Bool) (q : Seat) (n w : Tree) → ChosenMemberRow asked q n w → Here n → Here w
+    chosen_member_fits asked q n w r e =
+        let member : Tree = member_of r.name r.key in
+        let yes : Tree = assignment Assign member r.b in
+        let no : Tree = assignment Assign member r.c in
+        let (here, (test, first, second)) = of_conditional strict s r.a yes no (subst Here r.shape e) in
+        let (target, b) = of_member_assignment (identifier r.name) r.key r.b first in
+        subst Here (sym r.written) (expression_taken strict s (assignment Assign member (conditional r.a r.b r.c)) here (member_assignment_fits Assign (identifier r.name) r.key (conditional r.a r.b r.c) target (three_fit strict r.a r.b r.c test b (of_member_assignment (identifier r.name) r.key r.c second).1)))
+
     lighter_fits : (q : Seat) (n w : Tree) → LighterRow q n w → Here n → Here w
     lighter_fits q n w (inl r) e =
         let right : Tree = joined r.operator r.b (r.last ▸ r.others) in
@@ -168,12 +185,7 @@ module _ (strict : Bool) where
         let (here, fit) = choice_taken strict s (an_assignment Assign) (identifier r.name ▸ binary r.operator (identifier r.name) r.b ▸ none) refl (subst Here r.shape e) in
         let (first, rest) = of_assignment Assign r.name (binary r.operator (identifier r.name) r.b) fit in
         subst Here (sym r.written) (expression_taken strict s (assignment r.combined (identifier r.name) r.b) here (assignment_fits r.combined r.name r.b first (of_two (identifier r.name) r.b rest).1))
-    lighter_fits q n w (inr (inr (inr (inr (inr (inl r)))))) e =
-        let yes : Tree = assignment r.operator (identifier r.name) r.b in
-        let no : Tree = assignment r.operator (identifier r.name) r.c in
-        let (here, (test, first, second)) = of_conditional strict s r.a yes no (subst Here r.shape e) in
-        let (name, b) = of_assignment r.operator r.name r.b first in
-        subst Here (sym r.written) (expression_taken strict s (assignment r.operator (identifier r.name) (conditional r.a r.b r.c)) here (assignment_fits r.operator r.name (conditional r.a r.b r.c) name (three_fit strict r.a r.b r.c test b (of_assignment r.operator r.name r.c second).1)))
+    lighter_fits q n w (inr (inr (inr (inr (inr (inl r)))))) e = chosen_fits true q n w r e
     lighter_fits q n w (inr (inr (inr (inl r)))) e =
         let (here, (test, branch, last)) = of_conditional strict s (binary binary_operator.Equality (identifier r.name) null_literal) r.b (identifier r.name) (subst Here r.shape e) in
         subst Here (sym r.written) (expression_taken strict s (logical Coalesce (identifier r.name) r.b) here (two_fit strict (identifier r.name) r.b last branch))
@@ -217,13 +229,7 @@ module _ (strict : Bool) where
         let (here, fit) = choice_taken strict s (a_logical r.operator) (identifier r.name ▸ parts ▸ none) refl (subst Here r.shape e) in
         let (name, rest) = of_two (identifier r.name) parts fit in
         subst Here (sym r.written) (expression_taken strict s (assignment (deciding r.operator) (identifier r.name) (sequence (r.first ▸ append r.others (r.b ▸ none)))) here (assignment_fits (deciding r.operator) r.name (sequence (r.first ▸ append r.others (r.b ▸ none))) name (last_fits strict r.first r.others (assign r.name r.b) rest r.b (λ f. (of_assignment Assign r.name r.b f).1))))
-    lighter_fits q n w (inr (inr (inr (inr (inr (inr (inr (inr (inr (inr (inr (inl r)))))))))))) e =
-        let member : Tree = member_of r.name r.key in
-        let yes : Tree = assignment Assign member r.b in
-        let no : Tree = assignment Assign member r.c in
-        let (here, (test, first, second)) = of_conditional strict s r.a yes no (subst Here r.shape e) in
-        let (target, b) = of_member_assignment (identifier r.name) r.key r.b first in
-        subst Here (sym r.written) (expression_taken strict s (assignment Assign member (conditional r.a r.b r.c)) here (member_assignment_fits Assign (identifier r.name) r.key (conditional r.a r.b r.c) target (three_fit strict r.a r.b r.c test b (of_member_assignment (identifier r.name) r.key r.c second).1)))
+    lighter_fits q n w (inr (inr (inr (inr (inr (inr (inr (inr (inr (inr (inr (inl r)))))))))))) e = chosen_member_fits true q n w r e
     lighter_fits q n w (inr (inr (inr (inr (inr (inr (inr (inr (inr (inr (inl r))))))))))) e =
         let member : Tree = member_of r.name r.key in
         let (here, fit) = choice_taken strict s (an_assignment Assign) (member ▸ binary r.operator member r.b ▸ none) refl (subst Here r.shape e) in
@@ -264,28 +270,34 @@ module _ (strict : Bool) where
     pub called_fits : {asked : Bool} (n w : Tree) → CallRow asked n w → Here n → Here w
     called_fits n w r = for_choice n w _ _ _ r.shape (λ x y z. subst Fits (sym r.written) (calls_fit strict r.callee r.is_spread r.a r.p r.q r.others r.first r.second x y z))
 
-    member_fits : (q : Seat) (n w : Tree) → Row45Indexed q n w → Here n → Here w
-    member_fits q n w r = for_choice n w _ _ _ r.shape (λ x y z. subst Fits (sym r.written) (indexed_fit strict (computed_member (identifier r.name) r.key) r.a r.b r.c x y z))
+    pub chosen_indexed_fits : (asked : Bool) (q : Seat) (n w : Tree) → ChosenIndexedRow asked q n w → Here n → Here w
+    chosen_indexed_fits asked q n w r = for_choice n w _ _ _ r.shape (λ x y z. subst Fits (sym r.written) (indexed_fit strict (computed_member (identifier r.name) r.key) r.a r.b r.c x y z))
 
 -- ---- what a parent asks
 
-member_formed : (q : Seat) (n w : Tree) → Row45Indexed q n w → Formed n w
-member_formed q n w r =
+pub chosen_indexed_formed : (asked : Bool) (q : Seat) (n w : Tree) → ChosenIndexedRow asked q n w → Formed n w
+chosen_indexed_formed asked q n w r =
     let t : Tree = computed_member (identifier r.name) r.key in
     record { first = a_conditional; second = an_assignment Assign; parts = r.a ▸ assignment Assign t r.b ▸ assignment Assign t r.c ▸ none; others = t ▸ conditional r.a r.b r.c ▸ none; read = r.shape; made = r.written; optional = λ x. absurd (cc x) }
+
+pub chosen_row_formed : (asked : Bool) (q : Seat) (n w : Tree) → ChosenRow asked q n w → Formed n w
+chosen_row_formed asked q n w r = record { first = a_conditional; second = an_assignment r.operator; parts = r.a ▸ assignment r.operator (identifier r.name) r.b ▸ assignment r.operator (identifier r.name) r.c ▸ none; others = identifier r.name ▸ conditional r.a r.b r.c ▸ none; read = r.shape; made = r.written; optional = λ x. absurd (cc x) }
+
+pub chosen_member_formed : (asked : Bool) (q : Seat) (n w : Tree) → ChosenMemberRow asked q n w → Formed n w
+chosen_member_formed asked q n w r = record { first = a_conditional; second = an_assignment Assign; parts = r.a ▸ assignment Assign (member_of r.name r.key) r.b ▸ assignment Assign (member_of r.name r.key) r.c ▸ none; others = member_of r.name r.key ▸ conditional r.a r.b r.c ▸ none; read = r.shape; made = r.written; optional = λ x. absurd (cc x) }
 
 row_formed : (q : Seat) (n w : Tree) → LighterRow q n w → Formed n w
 row_formed q n w (inl r) = record { first = a_logical r.operator; second = a_logical r.operator; parts = r.a ▸ joined r.operator r.b (r.last ▸ r.others) ▸ none; others = joined r.operator (logical r.operator r.a r.b) r.others ▸ r.last ▸ none; read = r.shape; made = r.written; optional = λ x. absurd (cc x) }
 row_formed q n w (inr (inl r)) = record { first = a_logical r.operator; second = an_assignment (deciding r.operator); parts = identifier r.name ▸ assign r.name r.b ▸ none; others = identifier r.name ▸ r.b ▸ none; read = r.shape; made = r.written; optional = λ x. absurd (cc x) }
 row_formed q n w (inr (inr (inl r))) = record { first = an_assignment Assign; second = an_assignment r.combined; parts = identifier r.name ▸ binary r.operator (identifier r.name) r.b ▸ none; others = identifier r.name ▸ r.b ▸ none; read = r.shape; made = r.written; optional = λ x. absurd (cc x) }
-row_formed q n w (inr (inr (inr (inr (inr (inl r)))))) = record { first = a_conditional; second = an_assignment r.operator; parts = r.a ▸ assignment r.operator (identifier r.name) r.b ▸ assignment r.operator (identifier r.name) r.c ▸ none; others = identifier r.name ▸ conditional r.a r.b r.c ▸ none; read = r.shape; made = r.written; optional = λ x. absurd (cc x) }
+row_formed q n w (inr (inr (inr (inr (inr (inl r)))))) = chosen_row_formed true q n w r
 row_formed q n w (inr (inr (inr (inl r)))) = record { first = a_conditional; second = a_logical Coalesce; parts = binary binary_operator.Equality (identifier r.name) null_literal ▸ r.b ▸ identifier r.name ▸ none; others = identifier r.name ▸ r.b ▸ none; read = r.shape; made = r.written; optional = λ x. absurd (cc x) }
 row_formed q n w (inr (inr (inr (inr (inl r))))) = record { first = a_conditional; second = a_logical Coalesce; parts = binary binary_operator.Inequality (identifier r.name) null_literal ▸ identifier r.name ▸ r.b ▸ none; others = identifier r.name ▸ r.b ▸ none; read = r.shape; made = r.written; optional = λ x. absurd (cc x) }
 row_formed q n w (inr (inr (inr (inr (inr (inr (inl r))))))) = record { first = a_logical (joining r.equal); second = a_binary (loosely r.equal); parts = binary (strictly r.equal) (identifier r.name) r.first ▸ binary (strictly r.equal) (identifier r.name) r.second ▸ none; others = identifier r.name ▸ null_literal ▸ none; read = r.shape; made = r.written; optional = λ x. absurd (cc x) }
 row_formed q n w (inr (inr (inr (inr (inr (inr (inr (inl r)))))))) = record { first = a_logical (joining r.equal); second = a_logical (joining r.equal); parts = logical (joining r.equal) r.before (binary (strictly r.equal) (identifier r.name) r.first) ▸ binary (strictly r.equal) (identifier r.name) r.second ▸ none; others = r.before ▸ binary (loosely r.equal) (identifier r.name) null_literal ▸ none; read = r.shape; made = r.written; optional = λ x. absurd (cc x) }
 row_formed q n w (inr (inr (inr (inr (inr (inr (inr (inr (inl r))))))))) = record { first = a_logical (joining (not r.there)); second = a_logical (joining (not r.there)); parts = ended (joining (not r.there)) r.before (asks_object r.there r.name) ▸ null_compared r.strict (not r.there) r.name ▸ none; others = ended (joining (not r.there)) r.before (asks_object r.there r.name) ▸ held r.there r.name ▸ none; read = r.shape; made = r.written; optional = λ x. absurd (cc x) }
 row_formed q n w (inr (inr (inr (inr (inr (inr (inr (inr (inr (inr (inr (inr r)))))))))))) = record { first = a_logical r.operator; second = an_assignment (deciding r.operator); parts = identifier r.name ▸ sequence (r.first ▸ append r.others (assign r.name r.b ▸ none)) ▸ none; others = identifier r.name ▸ sequence (r.first ▸ append r.others (r.b ▸ none)) ▸ none; read = r.shape; made = r.written; optional = λ x. absurd (cc x) }
-row_formed q n w (inr (inr (inr (inr (inr (inr (inr (inr (inr (inr (inr (inl r)))))))))))) = record { first = a_conditional; second = an_assignment Assign; parts = r.a ▸ assignment Assign (member_of r.name r.key) r.b ▸ assignment Assign (member_of r.name r.key) r.c ▸ none; others = member_of r.name r.key ▸ conditional r.a r.b r.c ▸ none; read = r.shape; made = r.written; optional = λ x. absurd (cc x) }
+row_formed q n w (inr (inr (inr (inr (inr (inr (inr (inr (inr (inr (inr (inl r)))))))))))) = chosen_member_formed true q n w r
 row_formed q n w (inr (inr (inr (inr (inr (inr (inr (inr (inr (inr (inl r))))))))))) = record { first = an_assignment Assign; second = an_assignment r.combined; parts = member_of r.name r.key ▸ binary r.operator (member_of r.name r.key) r.b ▸ none; others = member_of r.name r.key ▸ r.b ▸ none; read = r.shape; made = r.written; optional = λ x. absurd (cc x) }
 row_formed q n w (inr (inr (inr (inr (inr (inr (inr (inr (inr (inl r)))))))))) = record { first = a_logical (joining (not r.there)); second = a_logical (joining (not r.there)); parts = ended (joining (not r.there)) r.before (null_compared r.strict (not r.there) r.name) ▸ asks_object r.there r.name ▸ none; others = ended (joining (not r.there)) r.before (held r.there r.name) ▸ asks_object r.there r.name ▸ none; read = r.shape; made = r.written; optional = λ x. absurd (cc x) }
 
@@ -351,7 +363,7 @@ row_fits (Expr q) n w (inr (inr (inr (inr (inl r))))) strict s e = called_fits s
 row_fits (Expr q) n w (inr (inr (inr (inr (inr (inl r)))))) strict s e = chains_fit q n w r strict s e
 row_fits (Expr q) n w (inr (inr (inr (inr (inr (inr (inl r))))))) strict s e = end_fits q n w r strict s e
 row_fits (Expr q) n w (inr (inr (inr (inr (inr (inr (inr (inl r)))))))) strict s e = both_sides_fit strict s n w r e
-row_fits (Expr q) n w (inr (inr (inr (inr (inr (inr (inr (inr (inl r))))))))) strict s e = member_fits strict s q n w r e
+row_fits (Expr q) n w (inr (inr (inr (inr (inr (inr (inr (inr (inl r))))))))) strict s e = chosen_indexed_fits strict s true q n w r e
 row_fits (Expr q) n w (inr (inr (inr (inr (inr (inr (inr (inr (inr r))))))))) strict s e = zero_row_fits q n w r strict s e
 row_fits p n w r strict s e = absurd r
 
@@ -364,7 +376,7 @@ row_asked (Expr q) n w (inr (inr (inr (inr (inl r))))) = choosing_asked (Expr q)
 row_asked (Expr q) n w (inr (inr (inr (inr (inr (inl r)))))) = chains_asked q n w r
 row_asked (Expr q) n w (inr (inr (inr (inr (inr (inr (inl r))))))) = end_asked q n w r
 row_asked (Expr q) n w (inr (inr (inr (inr (inr (inr (inr (inl r)))))))) = both_sides_asked (Expr q) n w r
-row_asked (Expr q) n w (inr (inr (inr (inr (inr (inr (inr (inr (inl r))))))))) = formed_asked (Expr q) n w (member_formed q n w r)
+row_asked (Expr q) n w (inr (inr (inr (inr (inr (inr (inr (inr (inl r))))))))) = formed_asked (Expr q) n w (chosen_indexed_formed true q n w r)
 row_asked (Expr q) n w (inr (inr (inr (inr (inr (inr (inr (inr (inr r))))))))) = zero_row_asked q n w r
 row_asked p n w r = absurd r
 
@@ -377,6 +389,6 @@ row_slot (Expr q) n w (inr (inr (inr (inr (inl r))))) = formed_slot (Expr q) n n
 row_slot (Expr q) n w (inr (inr (inr (inr (inr (inl r)))))) = chains_slot q n w r
 row_slot (Expr q) n w (inr (inr (inr (inr (inr (inr (inl r))))))) = end_slot q n w r
 row_slot (Expr q) n w (inr (inr (inr (inr (inr (inr (inr (inl r)))))))) = formed_slot (Expr q) n n (both_sides_formed n w r)
-row_slot (Expr q) n w (inr (inr (inr (inr (inr (inr (inr (inr (inl r))))))))) = formed_slot (Expr q) n w (member_formed q n w r)
+row_slot (Expr q) n w (inr (inr (inr (inr (inr (inr (inr (inr (inl r))))))))) = formed_slot (Expr q) n w (chosen_indexed_formed true q n w r)
 row_slot (Expr q) n w (inr (inr (inr (inr (inr (inr (inr (inr (inr r))))))))) = zero_row_slot q n w r
 row_slot p n w r = absurd r

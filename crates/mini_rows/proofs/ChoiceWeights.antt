@@ -208,7 +208,7 @@ loose_marks s o os ps e = let plain = no_awkward s.eq_left s.cond_test s.lifted 
         let level : s.level ≡ 2 = omega (arith, ltb-true _ _ f, ltb-false _ _ g) in
         absurd (true≢false (sym (ap (λ l. nat_eq l 2) level) ∙ e))
 
-chosen_falls : (s : Seat) → nat_eq s.level conditional_level ≡ false → (o : AssignmentOperator) (a : Tree) (x : Name) (b c : Tree) → weight (Expr s) (assignment o (identifier x) (conditional a b c)) < weight (Expr s) (conditional a (assignment o (identifier x) b) (assignment o (identifier x) c))
+pub chosen_falls : (s : Seat) → nat_eq s.level conditional_level ≡ false → (o : AssignmentOperator) (a : Tree) (x : Name) (b c : Tree) → weight (Expr s) (assignment o (identifier x) (conditional a b c)) < weight (Expr s) (conditional a (assignment o (identifier x) b) (assignment o (identifier x) c))
 chosen_falls s e o a x b c =
     let marks = loose_marks s o (outlines (identifier x ▸ conditional a b c ▸ none)) (outlines (a ▸ assignment o (identifier x) b ▸ assignment o (identifier x) c ▸ none)) e in
     let first = placed 0 (branch_seat argument_seat) argument_seat refl (λ h os. omega arith) b in

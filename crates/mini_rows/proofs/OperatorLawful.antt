@@ -18,7 +18,7 @@ use Rattle.mini_terms.specs.Parts.{leaves_nothing}
 use Rattle.mini_rows.specs.Arranged.{KeptAt, Vanishes}
 use Rattle.mini_rows.specs.Booleans.{plus}
 use Rattle.mini_rows.specs.Choices.{pair}
-use Rattle.mini_rows.specs.Operators.{deleted, says_equal, with_number, Row17, OperatorRow}
+use Rattle.mini_rows.specs.Operators.{deleted, says_equal, with_number, OperatorRow, TypeRow}
 use Rattle.mini_rows.specs.Sketches.{Number as NumberHead, Unary, Binary, Sequence, Sketch, part, under, list, end, ◌▹◌, no_items, item, Free}
 use Rattle.mini_rows.specs.Spellings.{binary, negated_digit, numeral}
 use Rattle.mini_rows.proofs.ArrangedExpressions.{expressions_arranged, expressions_arranged_freely}
@@ -50,8 +50,8 @@ told_kept o a b false x y q n w e f = expressions_arranged_freely both_dropped (
 both_vanish : (o : BinaryOperator) (a b : Tree) → leaves_nothing (binary o a b) ≡ true → Vanishes a × Vanishes b
 both_vanish o a b e = let (first, rest) = and_parts (leaves_nothing a) (leaves_nothing b && true) e in (vanishes a first, vanishes b (and_parts (leaves_nothing b) true rest).0)
 
-type_kept : (q : Seat) (n w : Tree) → Row17 n w → KeptAt (Expr q) n w
-type_kept q n w r =
+pub type_kept : (asked : Bool) (q : Seat) (n w : Tree) → TypeRow asked n w → KeptAt (Expr q) n w
+type_kept asked q n w r =
     let (first, second) = both_vanish r.operator (unary Typeof r.operand) r.right r.dropped in
     told_kept r.operator (unary Typeof r.operand) r.right (not (says_equal r.operator)) first second q n w r.shape r.written
 
@@ -65,7 +65,7 @@ masked_kept o false a c d r q n w e f = expressions_arranged (record { trees = a
 pub operator_kept : (q : Seat) (n w : Tree) → OperatorRow q n w → KeptAt (Expr q) n w
 operator_kept q n w (inl r) = deleted_kept r.operand q n w r.shape r.written
 operator_kept q n w (inr (inl r)) = types_kept r.operator r.name q n w r.shape r.written
-operator_kept q n w (inr (inr (inl r))) = type_kept q n w r
+operator_kept q n w (inr (inr (inl r))) = type_kept true q n w r
 operator_kept q n w (inr (inr (inr (inl r)))) = expressions_arranged (record { trees = r.operand ▸ r.right ▸ none; lists = [] }) (under (Binary r.operator) (under (Unary UnaryPlus) (part 0 ▹ end) ▹ part 1 ▹ end)) (under (Binary r.operator) (part 0 ▹ part 1 ▹ end)) refl q n w r.shape r.written
 operator_kept q n w (inr (inr (inr (inr (inr r))))) = masked_kept r.operator r.on_right r.operand r.first r.second r.joined q n w r.shape r.written
 operator_kept q n w (inr (inr (inr (inr (inl r))))) = expressions_arranged (record { trees = r.left ▸ r.operand ▸ none; lists = [] }) (under (Binary r.operator) (part 0 ▹ under (Unary UnaryPlus) (part 1 ▹ end) ▹ end)) (under (Binary r.operator) (part 0 ▹ part 1 ▹ end)) refl q n w r.shape r.written

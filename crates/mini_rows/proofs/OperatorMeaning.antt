@@ -14,7 +14,7 @@ use Rattle.mini_model.specs.Position.{is_equality}
 use Rattle.mini_model.specs.Weight.{same_text}
 use Rattle.mini_node.specs.Kinds.{string}
 use Rattle.mini_node.specs.Made.{string_is}
-use Rattle.mini_laws.specs.Value.{VariableSet, Value, Undefined, Null, Boolean, Number, String, Symbol, Object}
+use Rattle.mini_laws.specs.Value.{VariableSet, nothing, Value, Undefined, Null, Boolean, Number, String, Symbol, Object}
 use Rattle.mini_laws.specs.State.{Completion, ok, stop, halt, out, either, State, Environment}
 use Rattle.mini_laws.specs.Demand.{Want, Val, As, OfType, Deleted, Reference}
 use Rattle.mini_laws.specs.Command.{Naming, ret, bind, Kids, run}
@@ -382,6 +382,20 @@ module _ (o : BinaryOperator) (h : is_equality o ≡ true) (a b : Tree) (k : is_
 
   type_differs : is_effect_free compared ≡ true → SameWanted compared (negated_digit (not (says_equal o)))
   type_differs free = known_same compared (negated_digit (not (says_equal o))) (Boolean (not (says_equal o))) (quiet compared free) differ_all (boolean_value (not (says_equal o)))
+
+value_near : (v : Value) (s : State) (x : Completion Value) → Quiet s x → Gives (λ u. u ≡ v) x → Goes true (λ a. Agree nothing) (Agree nothing) (Agree nothing) x (ok v s)
+unfolding Gives Quiet
+value_near v s (ok u t) q p = subst (λ y. Goes true (λ a. Agree nothing) (Agree nothing) (Agree nothing) y (ok v s)) (sym (ap (λ y. ok y t) p ∙ ap (λ y. ok v y) q)) (goes_refl nothing (ok v s))
+value_near v s (stop u t) q p = absurd q
+value_near v s (halt u t) q p = absurd q
+value_near v s out q p = weak nothing (ok v s)
+
+-- and so in one environment, where the comparison does nothing
+pub type_near : (e : Environment) (o : BinaryOperator) → is_equality o ≡ true → (a b : Tree) → is_no_type b ≡ true → (s : State) → Quiet s (value e (binary o (unary Typeof a) b) s) → Goes true (λ v. Agree nothing) (Agree nothing) (Agree nothing) (value e (binary o (unary Typeof a) b) s) (value e (negated_digit (not (says_equal o))) s)
+type_near e o h a b k s q =
+    let says : Value = Boolean (not (says_equal o)) in
+    subst (Goes true (λ v. Agree nothing) (Agree nothing) (Agree nothing) (value e (binary o (unary Typeof a) b) s)) (sym (boolean_value (not (says_equal o)) e s))
+    (value_near says s (value e (binary o (unary Typeof a) b) s) q (differ_all o h a b k e s))
 
 -- ---- 56
 

@@ -81,7 +81,7 @@ deleted_falls s a false =
 
 -- ---- 16 and 17: `typeof` weighs more than a digit and its `!`
 
-boolean_falls : (s : Seat) (o : BinaryOperator) → is_equality o ≡ true → (a b : Tree) (c : Bool) → weight (Expr s) (negated_digit c) < weight (Expr s) (binary o (unary Typeof a) b)
+pub boolean_falls : (s : Seat) (o : BinaryOperator) → is_equality o ≡ true → (a b : Tree) (c : Bool) → weight (Expr s) (negated_digit c) < weight (Expr s) (binary o (unary Typeof a) b)
 boolean_falls s binary_operator.Equality h a b true = omega (arith, pairs 8 14 (omega arith) s.level (rest_of s), zero_mark s.eq_left s.cond_test s.lifted, digit_text 0 (omega arith))
 boolean_falls s binary_operator.Equality h a b false = omega (arith, pairs 8 14 (omega arith) s.level (rest_of s), zero_mark s.eq_left s.cond_test s.lifted, digit_text 1 (omega arith))
 boolean_falls s binary_operator.Inequality h a b true = omega (arith, pairs 8 14 (omega arith) s.level (rest_of s), zero_mark s.eq_left s.cond_test s.lifted, digit_text 0 (omega arith))

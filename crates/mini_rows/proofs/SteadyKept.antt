@@ -187,10 +187,12 @@ module _ (V : Assured) (X : VariableSet) (holds : (x : Variable) → V.initial x
   idle_more s n w (inl r) = inl (record { before = r.before; idle = r.idle; next = r.next; after = r.after; kept = r.kept; still = r.still; several = r.several; shape = r.shape; written = r.written })
   idle_more s n w (inr r) = inr (record { idle = r.idle; last = r.last; kept = r.kept; still = r.still; seated = r.seated; stays = r.stays; shape = r.shape; written = r.written })
 
-  stills_more : (n w : Tree) → StillRow V n w → StillRow V' n w
-  stills_more n w (inl r) = inl (record { kept = r.kept; row = r.row; heavy = r.heavy })
-  stills_more n w (inr (inl r)) = inr (inl (record { operand = r.operand; kept = r.kept; effect_free = r.effect_free; dropped = r.dropped; heavy = r.heavy; shape = r.shape; written = r.written }))
-  stills_more n w (inr (inr r)) = inr (inr (record { kept = r.kept; row = r.row }))
+  stills_more : (s : Seat) (n w : Tree) → StillRow V s n w → StillRow V' s n w
+  stills_more s n w (inl r) = inl (record { kept = r.kept; row = r.row; heavy = r.heavy })
+  stills_more s n w (inr (inl r)) = inr (inl (record { operand = r.operand; kept = r.kept; effect_free = r.effect_free; dropped = r.dropped; heavy = r.heavy; shape = r.shape; written = r.written }))
+  stills_more s n w (inr (inr (inl r))) = inr (inr (inl (record { kept = r.kept; row = r.row })))
+  stills_more s n w (inr (inr (inr (inl r)))) = inr (inr (inr (inl (record { kept = r.kept; row = r.row }))))
+  stills_more s n w (inr (inr (inr (inr r)))) = inr (inr (inr (inr (record { kept = r.kept; row = r.row }))))
 
   statement_more : (n w : Tree) → IdleStatement V n w → IdleStatement V' n w
   statement_more n w (inl r) = inl (record { expression = r.expression; kept = r.kept; still = r.still; shape = r.shape; written = r.written })
@@ -200,6 +202,6 @@ module _ (V : Assured) (X : VariableSet) (holds : (x : Variable) → V.initial x
 pub steady_more : ReadsMore SteadyRow
 steady_more V X holds (Expr s) n w (inl r) = inl (member_more V X holds s n w r)
 steady_more V X holds (Expr s) n w (inr (inl r)) = inr (inl (idle_more V X holds s n w r))
-steady_more V X holds (Expr s) n w (inr (inr r)) = inr (inr (stills_more V X holds n w r))
+steady_more V X holds (Expr s) n w (inr (inr r)) = inr (inr (stills_more V X holds s n w r))
 steady_more V X holds (Stmt q) n w r = statement_more V X holds n w r
 steady_more V X holds p n w r = absurd r

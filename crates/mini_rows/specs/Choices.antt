@@ -21,7 +21,7 @@ use Rattle.mini_model.specs.Weight.{is_parenthesized, weight}
 use Rattle.mini_node.specs.Kinds.{static_member, computed_member}
 use Rattle.mini_terms.specs.Effects.{ef}
 use Rattle.mini_terms.specs.Exact.{by_value}
-use Rattle.mini_terms.specs.Folds.{is_effect_free, goes_on}
+use Rattle.mini_terms.specs.Folds.{goes_on}
 use Rattle.mini_terms.specs.Parts.{leaves_nothing}
 use Rattle.mini_terms.specs.Reading.{is_item, is_plain_part}
 use Rattle.mini_kept.specs.Lawful.{Lawful}
@@ -206,30 +206,39 @@ may_choose assigning.LogicalNullish declared free = false
 may_choose o declared free = declared && free
 
 -- 45: `a ? x = b : x = c` becomes `x = a ? b : c`, where a scope declares x, or a has no effect; and so of `+=` and the other operators of
--- numbers, where both hold. In a seat of the level of a conditional an assignment would stand in parentheses; a program has none
-pub record Row45 (s : Seat) (n w : Tree) : Type 0 where
+-- numbers, where both hold. In a seat of the level of a conditional an assignment would stand in parentheses; a program has none. `this` has an
+-- effect where it is asked of the world
+pub record ChosenRow (asked : Bool) (s : Seat) (n w : Tree) : Type 0 where
   pub operator : AssignmentOperator
   pub a : Tree
   pub name : Name
   pub b : Tree
   pub c : Tree
-  pub chosen : may_choose operator (not (is_none name.symbol)) (is_effect_free a) ≡ true
+  pub chosen : may_choose operator (not (is_none name.symbol)) (ef asked a) ≡ true
   pub seated : nat_eq s.level conditional_level ≡ false
   pub shape : n ≡ conditional a (assignment operator (identifier name) b) (assignment operator (identifier name) c)
   pub written : w ≡ assignment operator (identifier name) (conditional a b c)
 
+-- wherever it stands
+abbrev pub Row45 : Seat → Tree → Tree → Type 0
+Row45 = ChosenRow true
+
 -- 45: `a ? x.k = b : x.k = c` becomes `x.k = a ? b : c`, where a scope declares x and a has no effect, so that x may be read before it
-pub record Row45Member (s : Seat) (n w : Tree) : Type 0 where
+pub record ChosenMemberRow (asked : Bool) (s : Seat) (n w : Tree) : Type 0 where
   pub a : Tree
   pub name : Name
   pub key : Key
   pub b : Tree
   pub c : Tree
   pub declared : is_none name.symbol ≡ false
-  pub effect_free : is_effect_free a ≡ true
+  pub effect_free : ef asked a ≡ true
   pub seated : nat_eq s.level conditional_level ≡ false
   pub shape : n ≡ conditional a (assignment assigning.Assign (member_of name key) b) (assignment assigning.Assign (member_of name key) c)
   pub written : w ≡ assignment assigning.Assign (member_of name key) (conditional a b c)
+
+-- wherever it stands
+abbrev pub Row45Member : Seat → Tree → Tree → Type 0
+Row45Member = ChosenMemberRow true
 
 -- 46: `x == null ? b : x` becomes `x ?? b`, where a scope declares x, and so does `x != null ? x : b`
 pub record Row46Equal (n w : Tree) : Type 0 where
@@ -403,18 +412,22 @@ pub record Row13Both (n w : Tree) : Type 0 where
 
 -- 45: `a ? x[k] = b : x[k] = c` becomes `x[k] = a ? b : c`, where a scope declares x, and neither a nor k has an effect: what is assigned to
 -- is known before the test as after it
-pub record Row45Indexed (s : Seat) (n w : Tree) : Type 0 where
+pub record ChosenIndexedRow (asked : Bool) (s : Seat) (n w : Tree) : Type 0 where
   pub a : Tree
   pub name : Name
   pub key : Tree
   pub b : Tree
   pub c : Tree
   pub declared : is_none name.symbol ≡ false
-  pub effect_free : is_effect_free a ≡ true
-  pub idle : is_effect_free key ≡ true
+  pub effect_free : ef asked a ≡ true
+  pub idle : ef asked key ≡ true
   pub seated : nat_eq s.level conditional_level ≡ false
   pub shape : n ≡ conditional a (assignment assigning.Assign (computed_member (identifier name) key) b) (assignment assigning.Assign (computed_member (identifier name) key) c)
   pub written : w ≡ assignment assigning.Assign (computed_member (identifier name) key) (conditional a b c)
+
+-- wherever it stands
+abbrev pub Row45Indexed : Seat → Tree → Tree → Type 0
+Row45Indexed = ChosenIndexedRow true
 
 -- 21: `(null, a.b)()` becomes `(0, a.b)()`, as does what 13, 15 and 49 leave of `(null ?? a.b)()`. The first part has no effect, and where the last
 -- one may not stand alone is there that it is read by its value, for which the shortest does. `this` has an effect where it is asked of the world

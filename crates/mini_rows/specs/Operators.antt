@@ -15,6 +15,7 @@ use Rattle.mini_laws.specs.Value.{Number}
 use Rattle.mini_terms.specs.Calculated.{calculated_numbers, operand_value}
 use Rattle.mini_terms.specs.declared.kinds.Kind.{Kind}
 use Rattle.mini_terms.specs.declared.kinds.Kind.TheVariants.{Undefined as IsUndefined, Null as IsNull, Boolean as IsBoolean, Number as IsNumber, BigInt as IsBigInt}
+use Rattle.mini_terms.specs.Effects.{ef}
 use Rattle.mini_terms.specs.Folds.{is_effect_free}
 use Rattle.mini_terms.specs.Kind.{kind}
 use Rattle.mini_terms.specs.Parts.{leaves_nothing}
@@ -106,17 +107,22 @@ pub record Row16 (n w : Tree) : Type 0 where
   pub shape : n ≡ binary operator (unary Typeof (identifier name)) (unary Typeof (identifier name))
   pub written : w ≡ negated_digit (says_equal operator)
 
--- 17: `typeof a == "text"` becomes `!1`, and `typeof a !== null` `!0`: no value of `typeof` equals the right side
-pub record Row17 (n w : Tree) : Type 0 where
+-- 17: `typeof a == "text"` becomes `!1`, and `typeof a !== null` `!0`: no value of `typeof` equals the right side. `this` has an effect where it is
+-- asked of the world
+pub record TypeRow (asked : Bool) (n w : Tree) : Type 0 where
   pub operator : BinaryOperator
   pub operand : Tree
   pub right : Tree
   pub equality : is_equality operator ≡ true
   pub known : is_no_type right ≡ true
-  pub effect_free : is_effect_free (binary operator (unary Typeof operand) right) ≡ true
+  pub effect_free : ef asked (binary operator (unary Typeof operand) right) ≡ true
   pub dropped : leaves_nothing (binary operator (unary Typeof operand) right) ≡ true
   pub shape : n ≡ binary operator (unary Typeof operand) right
   pub written : w ≡ negated_digit (not (says_equal operator))
+
+-- wherever it stands
+abbrev pub Row17 : Tree → Tree → Type 0
+Row17 = TypeRow true
 
 -- 56, on the left: `+a * 2` becomes `a * 2`, and `+a * (1 << 30)` `a * (1 << 30)`: the evaluation of the right side does nothing but give
 -- a number

@@ -34,7 +34,7 @@ use Rattle.mini_rows.specs.Past.{is_binding, is_symbol, binds}
 
 -- a row reads n as w at this place, in a body of which this is known
 abbrev pub SteadyRow : Assured → Position → Tree → Tree → Type 0
-SteadyRow V (Expr s) n w = MemberRow V s n w ⊎ (IdleRow V s n w ⊎ StillRow V n w)
+SteadyRow V (Expr s) n w = MemberRow V s n w ⊎ (IdleRow V s n w ⊎ StillRow V s n w)
 SteadyRow V (Stmt q) n w = IdleStatement V n w
 SteadyRow V _ n w = ⊥
 

@@ -45,8 +45,8 @@ capped_more k = go (nat_lt 3 (capped k)) (nat_lt 3 k) refl refl
 
 -- ---- what is written is what a row says
 
-module _ (V : Assured) (has : V.has_this ≡ true) (n : Tree) where
-  zero_row : follows_idle n ≡ true → StillRow V n (behind_zero n)
+module _ (V : Assured) (has : V.has_this ≡ true) (s : Seat) (n : Tree) where
+  zero_row : follows_idle n ≡ true → StillRow V s n (behind_zero n)
   zero_row h =
       let (two, rest) = and_parts (is_pair n) (is_idle (item n 0) && outweighs_zero passed_part_seat (item n 0)) h in
       let (idle, heavy) = and_parts (is_idle (item n 0)) (outweighs_zero passed_part_seat (item n 0)) rest in
@@ -60,44 +60,99 @@ module _ (V : Assured) (has : V.has_this ≡ true) (n : Tree) where
       go (Some Void) h e = unary_is n Void h
       go o h e = absurd (false≢true e)
 
-  void_row : voids_idle n ≡ true → StillRow V n void_zero
+  void_row : voids_idle n ≡ true → StillRow V s n void_zero
   void_row h =
       let (is, rest) = and_parts (is_void (unary_operator n)) (is_idle (part n 0) && outweighs_zero (unary_operand_seat Void) (part n 0)) h in
       let (idle, heavy) = and_parts (is_idle (part n 0)) (outweighs_zero (unary_operand_seat Void) (part n 0)) rest in
       let (free, dropped) = and_parts (ef false (part n 0)) (leaves_nothing (part n 0)) idle in
       inr (inl (record { operand = part n 0; kept = has; effect_free = free; dropped = dropped; heavy = heavy; shape = voids is; written = refl }))
 
-  call_row : calls_either false n ≡ true → StillRow V n (called n)
-  call_row h = inr (inr (record { kept = has; row = called_row false n h }))
+  call_row : calls_either false n ≡ true → StillRow V s n (called n)
+  call_row h = inr (inr (inl (record { kept = has; row = called_row false n h })))
 
-written_row : (V : Assured) (n w : Tree) → V.has_this ≡ true → written n ≡ Some w → StillRow V n w
-written_row V n w has =
-    tried (StillRow V n) (follows_idle n) (behind_zero n) (void_written n) w (zero_row V has n)
-    (tried (StillRow V n) (voids_idle n) void_zero (call_written n) w (void_row V has n)
-    (tried (StillRow V n) (calls_either false n) (called n) None w (call_row V has n) (λ e. absurd (cc e))))
+  choice_row : assigns_choice s n ≡ true → StillRow V s n (assigned n)
+  choice_row h =
+      let (seated, either) = and_parts (is_seated s) (assigns_either false n || indexes_either false n) h in
+      inr (inr (inr (inr (record { kept = has; row = by seated (assigns_either false n) refl either }))))
+    where
+      of_two : ChosenRow false s n (assigned n) ⊎ ChosenMemberRow false s n (assigned n) → ChosenRow false s n (assigned n) ⊎ (ChosenMemberRow false s n (assigned n) ⊎ ChosenIndexedRow false s n (assigned n))
+      of_two (inl r) = inl r
+      of_two (inr r) = inr (inl r)
+
+      by : is_seated s ≡ true → (b : Bool) → assigns_either false n ≡ b → b || indexes_either false n ≡ true → ChosenRow false s n (assigned n) ⊎ (ChosenMemberRow false s n (assigned n) ⊎ ChosenIndexedRow false s n (assigned n))
+      by seated true k e = of_two (chosen_row false s n (both_true (is_seated s) (assigns_either false n) seated k))
+      by seated false k e = inr (inr (indexed_row false s n (both_true (is_seated s) (indexes_either false n) seated e)))
+
+  type_row : (w : Tree) → type_written n ≡ Some w → StillRow V s n w
+  type_row w e = go (binary_operator n) refl e
+    where
+      by : (o : BinaryOperator) → binary_operator n ≡ Some o → (b : Bool) → never_equal o n ≡ b → (if b then Some (negated_digit (not (says_equal o))) else None) ≡ Some w → StillRow V s n w
+      by o h true k f =
+          let (equality, never) = and_parts (is_equality o) (is_never_type false n) k in
+          subst (StillRow V s n) {x = negated_digit (not (says_equal o))} {y = w} (cc f) (inr (inr (inr (inl (record { kept = has; row = never_row false n o (binary_is n o h) equality never })))))
+      by o h false k f = absurd (cc f)
+
+      go : (o : Option BinaryOperator) → binary_operator n ≡ o → told_by o n ≡ Some w → StillRow V s n w
+      go (Some o) h f = by o h (never_equal o n) refl f
+      go None h f = absurd (cc f)
+
+written_row : (V : Assured) (s : Seat) (n w : Tree) → V.has_this ≡ true → written s n ≡ Some w → StillRow V s n w
+written_row V s n w has =
+    tried (StillRow V s n) (follows_idle n) (behind_zero n) (void_written s n) w (zero_row V has s n)
+    (tried (StillRow V s n) (voids_idle n) void_zero (call_written s n) w (void_row V has s n)
+    (tried (StillRow V s n) (calls_either false n) (called n) (assignment_written s n) w (call_row V has s n)
+    (tried (StillRow V s n) (assigns_choice s n) (assigned n) (type_written n) w (choice_row V has s n) (type_row V has s n w))))
 
 -- ---- and what a row reads is written
 
-passes : (V : Assured) (n w : Tree) → StillRow V n w → is_some (written n) ≡ true
-passes V n w (inl r) =
-    first_true (follows_idle n) (behind_zero n) (void_written n)
+-- behind those that come first
+module _ (s : Seat) (n : Tree) where
+  after_void : is_some (call_written s n) ≡ true → is_some (written s n) ≡ true
+  after_void h = later_true (follows_idle n) (behind_zero n) (void_written s n) (later_true (voids_idle n) void_zero (call_written s n) h)
+
+  after_call : is_some (assignment_written s n) ≡ true → is_some (written s n) ≡ true
+  after_call h = after_void (later_true (calls_either false n) (called n) (assignment_written s n) h)
+
+  by_choice : assigns_choice s n ≡ true → is_some (written s n) ≡ true
+  by_choice h = after_call (first_true (assigns_choice s n) (assigned n) (type_written n) h)
+
+  -- of an assignment
+  by_either : is_seated s && assigns_either false n ≡ true → is_some (written s n) ≡ true
+  by_either h = let (seated, either) = and_parts (is_seated s) (assigns_either false n) h in by_choice (both_true (is_seated s) (assigns_either false n || indexes_either false n) seated (ap (λ b. b || indexes_either false n) either))
+
+  by_indexed : is_seated s && indexes_either false n ≡ true → is_some (written s n) ≡ true
+  by_indexed h = let (seated, either) = and_parts (is_seated s) (indexes_either false n) h in by_choice (both_true (is_seated s) (assigns_either false n || indexes_either false n) seated (or_true (assigns_either false n) (indexes_either false n) either))
+
+passes : (V : Assured) (s : Seat) (n w : Tree) → StillRow V s n w → is_some (written s n) ≡ true
+passes V s n w (inl r) =
+    first_true (follows_idle n) (behind_zero n) (void_written s n)
     (ap follows_idle r.row.shape
     ∙ both_true (is_idle r.row.idle) (outweighs_zero passed_part_seat r.row.idle) (both_true (ef false r.row.idle) (leaves_nothing r.row.idle) r.row.effect_free r.row.dropped) r.heavy)
-passes V n w (inr (inl r)) =
-    later_true (follows_idle n) (behind_zero n) (void_written n) (first_true (voids_idle n) void_zero (call_written n)
+passes V s n w (inr (inl r)) =
+    later_true (follows_idle n) (behind_zero n) (void_written s n) (first_true (voids_idle n) void_zero (call_written s n)
     (ap voids_idle r.shape
     ∙ both_true (is_idle r.operand) (outweighs_zero (unary_operand_seat Void) r.operand) (both_true (ef false r.operand) (leaves_nothing r.operand) r.effect_free r.dropped) r.heavy))
-passes V n w (inr (inr r)) =
-    later_true (follows_idle n) (behind_zero n) (void_written n) (later_true (voids_idle n) void_zero (call_written n) (first_true (calls_either false n) (called n) None
-    (ap (calls_either false) r.row.shape ∙ called_passes false n w r.row)))
+passes V s n w (inr (inr (inl r))) = after_void s n (first_true (calls_either false n) (called n) (assignment_written s n) (ap (calls_either false) r.row.shape ∙ called_passes false n w r.row))
+passes V s n w (inr (inr (inr (inl r)))) =
+    after_call s n (later_true (assigns_choice s n) (assigned n) (type_written n)
+    (ap (λ t. is_some (type_written t)) r.row.shape
+    ∙ ap (λ b. is_some (if b then Some (negated_digit (not (says_equal r.row.operator))) else None)) (both_true (is_equality r.row.operator) _ r.row.equality (never_passes false n w r.row))))
+passes V s n w (inr (inr (inr (inr r)))) = chosen r.row
+  where
+    chosen : ChosenRow false s n w ⊎ (ChosenMemberRow false s n w ⊎ ChosenIndexedRow false s n w) → is_some (written s n) ≡ true
+    chosen (inl c) = by_either s n (ap (λ t. is_seated s && assigns_either false t) c.shape ∙ chosen_passes false s c.seated c.operator c.a c.name c.b c.c c.chosen)
+    chosen (inr (inl c)) = by_either s n (ap (λ t. is_seated s && assigns_either false t) c.shape ∙ chosen_member_passes false s c.seated c.a c.name c.key c.b c.c c.declared c.effect_free)
+    chosen (inr (inr c)) = by_indexed s n (ap (λ t. is_seated s && indexes_either false t) c.shape ∙ indexed_passes false s n w c)
 
-has_it : (V : Assured) (n w : Tree) → StillRow V n w → V.has_this ≡ true
-has_it V n w (inl r) = r.kept
-has_it V n w (inr (inl r)) = r.kept
-has_it V n w (inr (inr r)) = r.kept
+has_it : (V : Assured) (s : Seat) (n w : Tree) → StillRow V s n w → V.has_this ≡ true
+has_it V s n w (inl r) = r.kept
+has_it V s n w (inr (inl r)) = r.kept
+has_it V s n w (inr (inr (inl r))) = r.kept
+has_it V s n w (inr (inr (inr (inl r)))) = r.kept
+has_it V s n w (inr (inr (inr (inr r)))) = r.kept
 
-unread : (V : Assured) (n : Tree) → written_in V n ≡ None → (w : Tree) → StillRow V n w → ⊥
-unread V n e w r = true≢false (sym (chosen V.has_this (written n) (has_it V n w r) (passes V n w r)) ∙ ap is_some e)
+unread : (V : Assured) (s : Seat) (n : Tree) → written_in V s n ≡ None → (w : Tree) → StillRow V s n w → ⊥
+unread V s n e w r = true≢false (sym (chosen V.has_this (written s n) (has_it V s n w r) (passes V s n w r)) ∙ ap is_some e)
 
 -- ---- at an expression in its seat
 
@@ -106,20 +161,20 @@ none_there None f = refl
 none_there (Some w) f = absurd (true≢false (sym f))
 
 -- where no row of members reads it, and no part of it goes
-pub still_applied : (V : Assured) (s : Seat) (t m l u : Tree) (b : Bool) → m ≡ unwrap_or (members.written V s t) t → false ≡ is_some (members.written V s t) → LosesIn V s m l false → u ≡ unwrap_or (written_in V l) l → b ≡ is_some (written_in V l) → AppliedHere (SteadyRow V) (Expr s) t u b
+pub still_applied : (V : Assured) (s : Seat) (t m l u : Tree) (b : Bool) → m ≡ unwrap_or (members.written V s t) t → false ≡ is_some (members.written V s t) → LosesIn V s m l false → u ≡ unwrap_or (written_in V s l) l → b ≡ is_some (written_in V s l) → AppliedHere (SteadyRow V) (Expr s) t u b
 still_applied V s t m l u b e f g h k =
     let absent = none_there (members.written V s t) f in
     let first = e ∙ ap (λ o. unwrap_or o t) absent in
     let same = g.0 ∙ first in
-    go (written_in V t) refl absent (subst (λ x. (w : Tree) → IdleRow V s x w → ⊥) first g.1) (h ∙ ap (λ x. unwrap_or (written_in V x) x) same) (k ∙ ap (λ x. is_some (written_in V x)) same)
+    go (written_in V s t) refl absent (subst (λ x. (w : Tree) → IdleRow V s x w → ⊥) first g.1) (h ∙ ap (λ x. unwrap_or (written_in V s x) x) same) (k ∙ ap (λ x. is_some (written_in V s x)) same)
   where
-    go : (o : Option Tree) → written_in V t ≡ o → members.written V s t ≡ None → ((w : Tree) → IdleRow V s t w → ⊥) → u ≡ unwrap_or (written_in V t) t → b ≡ is_some (written_in V t) → AppliedHere (SteadyRow V) (Expr s) t u b
+    go : (o : Option Tree) → written_in V s t ≡ o → members.written V s t ≡ None → ((w : Tree) → IdleRow V s t w → ⊥) → u ≡ unwrap_or (written_in V s t) t → b ≡ is_some (written_in V s t) → AppliedHere (SteadyRow V) (Expr s) t u b
     go (Some w) p absent rests h k =
-        let (has, made) = chosen_is V.has_this (written t) w p in
-        subst (AppliedHere (SteadyRow V) (Expr s) t u) (sym (k ∙ ap is_some p)) (once t u (inr (inr (subst (StillRow V t) (sym (h ∙ ap (λ o. unwrap_or o t) p)) (written_row V t w has made)))))
+        let (has, made) = chosen_is V.has_this (written s t) w p in
+        subst (AppliedHere (SteadyRow V) (Expr s) t u) (sym (k ∙ ap is_some p)) (once t u (inr (inr (subst (StillRow V s t) (sym (h ∙ ap (λ o. unwrap_or o t) p)) (written_row V s t w has made)))))
     go None p absent rests h k = subst (AppliedHere (SteadyRow V) (Expr s) t u) (sym (k ∙ ap is_some p)) (h ∙ ap (λ o. unwrap_or o t) p, none)
       where
         none : (w : Tree) → SteadyRow V (Expr s) t w → ⊥
         none w (inl r) = unwritten_rests V s t absent w r
         none w (inr (inl r)) = rests w r
-        none w (inr (inr r)) = unread V t p w r
+        none w (inr (inr r)) = unread V s t p w r

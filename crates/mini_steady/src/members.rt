@@ -291,7 +291,7 @@ fn minimize_expression<S: SteadyNames>(
     if drop_idle_parts(alloc, node, seat, body, steady)? {
         return Ok(true);
     }
-    let shortened = shorten_idle_parts(alloc, node, body, steady)?;
+    let shortened = shorten_idle_parts(alloc, node, seat, body, steady)?;
     Ok(shortened)
 }
 

@@ -19,7 +19,7 @@ use mini_node::{
     Node, assignment, assignment_operator, binary_operator, conditional, discard, is_conditional,
     is_null, logical, taken, three, two,
 };
-use mini_terms::has_no_effect;
+use mini_terms::is_effect_free;
 use mini_tree::{expr_weight, logical_weight};
 use std::alloc::Global;
 
@@ -46,32 +46,40 @@ fn is_assign(operator: AssignmentOperator) -> bool
 }
 
 // Whether both are one name, between writes of which by the operator the test may choose after it is read, or one member of a name,
-// which is written after a test without an effect.
-fn may_take(operator: AssignmentOperator, test: &Node, first: &Node, second: &Node) -> bool
-    ensures { result ≡ may_it_take operator test.now first.now second.now }
+// which is written after a test without an effect. `this` has one where it is asked of the world.
+fn may_take(
+    operator: AssignmentOperator,
+    test: &Node,
+    first: &Node,
+    second: &Node,
+    asked: bool,
+) -> bool
+    ensures { result ≡ may_it_take asked operator test.now first.now second.now }
 {
-    is_same_name(first, second) && may_choose(operator, is_declared(first), has_no_effect(test))
-        || is_assign(operator) && is_same_member(first, second) && has_no_effect(test)
+    let free = is_effect_free(test, asked);
+    is_same_name(first, second) && may_choose(operator, is_declared(first), free)
+        || is_assign(operator) && is_same_member(first, second) && free
 }
 
 // Whether both are assignments to one by one operator.
-fn assigns_alike(test: &Node, first: &Node, second: &Node) -> bool
-    ensures { result ≡ they_assign_alike (operator_of first.now) test.now first.now second.now }
+fn assigns_alike(test: &Node, first: &Node, second: &Node, asked: bool) -> bool
+    ensures { result ≡ they_assign_alike asked (operator_of first.now) test.now first.now second.now }
 {
     match assignment_operator(first) {
         Some(operator) => {
             assigns_by(operator, second)
-                && may_take(operator, test, first.child(0), second.child(0))
+                && may_take(operator, test, first.child(0), second.child(0), asked)
         }
         None => false,
     }
 }
 
-// `a ? x = b : x = c`, `a ? x += b : x += c`, or `a ? x.k = b : x.k = c`
-fn assigns_either(node: &Node) -> bool
-    ensures { result ≡ it_assigns_either node.now }
+/// `a ? x = b : x = c`, `a ? x += b : x += c`, or `a ? x.k = b : x.k = c`, where the test may come after what is assigned to is known. It is said whether
+/// `this` has an effect, as it has where it is asked of the world.
+pub fn assigns_either(node: &Node, asked: bool) -> bool
+    ensures { result ≡ it_assigns_either asked node.now }
 {
-    is_conditional(node) && assigns_alike(node.child(0), node.child(1), node.child(2))
+    is_conditional(node) && assigns_alike(node.child(0), node.child(1), node.child(2), asked)
 }
 
 // Whether it is an assignment by `=`.
@@ -86,21 +94,21 @@ fn assigns_plainly(node: &Node) -> bool
 }
 
 // Whether both are assignments to one member of a name by `=`, whose key in brackets has no effect.
-fn assigns_indexed(first: &Node, second: &Node) -> bool
-    ensures { result ≡ they_assign_indexed first.now second.now }
+fn assigns_indexed(first: &Node, second: &Node, asked: bool) -> bool
+    ensures { result ≡ they_assign_indexed asked first.now second.now }
 {
     assigns_plainly(first)
         && assigns_plainly(second)
-        && is_same_indexed(first.child(0), second.child(0))
+        && is_same_indexed(first.child(0), second.child(0), asked)
 }
 
-// `a ? x[k] = b : x[k] = c`, where evaluating a has no effect
-fn indexes_either(node: &Node) -> bool
-    ensures { result ≡ it_indexes_either node.now }
+/// `a ? x[k] = b : x[k] = c`, where evaluating a has no effect. It is said whether `this` has one.
+pub fn indexes_either(node: &Node, asked: bool) -> bool
+    ensures { result ≡ it_indexes_either asked node.now }
 {
     is_conditional(node)
-        && assigns_indexed(node.child(1), node.child(2))
-        && has_no_effect(node.child(0))
+        && assigns_indexed(node.child(1), node.child(2), asked)
+        && is_effect_free(node.child(0), asked)
 }
 
 /// Whether an assignment stands in the seat as a conditional does.
@@ -244,9 +252,9 @@ pub fn minimize_conditional_branches(
         or_alternate(alloc, taken(alloc, node))?
     } else if is_own_alternate(node, seat) {
         and_consequent(alloc, taken(alloc, node))?
-    } else if is_seated(seat) && assigns_either(node) {
+    } else if is_seated(seat) && assigns_either(node, true) {
         assigned(alloc, taken(alloc, node))?
-    } else if is_seated(seat) && indexes_either(node) {
+    } else if is_seated(seat) && indexes_either(node, true) {
         assigned(alloc, taken(alloc, node))?
     } else if calls_either(node, true) {
         called(alloc, taken(alloc, node))?

@@ -20,9 +20,9 @@ ghost use Rattle.mini_fold.specs.FoldOperands.{Gives, Rests};
 ghost use Rattle.mini_fold.specs.Lighter.{operands_lighter};
 
 use crate::rewrites::fold_operators::{
-    UNDEFINED, drops_left, drops_right, fold_delete, holds_bitwise, masked, negated_digit,
-    told_by_types,
+    drops_left, drops_right, fold_delete, holds_bitwise, masked, told_by_types,
 };
+use mini_held::{UNDEFINED, negated_digit};
 use mini_model::{
     BinaryOperator, LogicalOperator, Name, OutOfMemory, Position, Seat, Shape, Text, UnaryOperator,
     decimal,

@@ -5,7 +5,6 @@
 ghost use Rattle.std.specs.Prelude.{◌≡◌, true, is_some, unwrap_or, option_copied, length, OnOk, IfOk};
 ghost use Rattle.std.specs.Fmt.{signed_decimal};
 ghost use Rattle.mini_model.specs.Tree.{children, count};
-ghost use Rattle.mini_model.specs.Position.{is_equality as is_it_equality};
 ghost use Rattle.mini_node.specs.Children.{part};
 ghost use Rattle.mini_node.specs.Kinds.{unary_operator as its_unary_operator, binary_operator as its_binary_operator};
 ghost use Rattle.mini_terms.specs.Kind.{is_number as is_number_of};
@@ -16,43 +15,17 @@ ghost use Rattle.mini_rows.specs.Spellings.{negated_digit as negated_digit_of};
 ghost use Rattle.mini_fold.specs.FoldOperators as tree;
 ghost use Rattle.mini_terms.specs.Values.{value_in};
 
-use mini_model::{BinaryOperator, OutOfMemory, Shape, Text, UnaryOperator, decimal};
+use mini_held::{is_equality, is_never_type, is_typeof, negated_digit, says_equal};
+use mini_model::{BinaryOperator, OutOfMemory, Shape, UnaryOperator, decimal};
 use mini_node::{
-    Node, binary_operator, discard, is_identifier, is_same_tree, negation, number, numeric_literal,
-    of_two, one, sequence, string, taken, unary_operator,
+    Node, binary_operator, discard, is_identifier, is_same_tree, number, of_two, one, sequence,
+    taken, unary_operator,
 };
 use mini_terms::{
     ConstantValue, Kind, calculated_numbers, has_no_effect, kind_of, leaves_nothing, operand_value,
     stands,
 };
 use std::alloc::Global;
-
-// The units of the texts that `typeof` gives, and of one that it gave of old.
-pub const UNDEFINED: [u16; 9] = [117, 110, 100, 101, 102, 105, 110, 101, 100];
-
-const OBJECT: [u16; 6] = [111, 98, 106, 101, 99, 116];
-
-const BOOLEAN: [u16; 7] = [98, 111, 111, 108, 101, 97, 110];
-
-const NUMBER: [u16; 6] = [110, 117, 109, 98, 101, 114];
-
-const STRING: [u16; 6] = [115, 116, 114, 105, 110, 103];
-
-const SYMBOL: [u16; 6] = [115, 121, 109, 98, 111, 108];
-
-const BIG_INT: [u16; 6] = [98, 105, 103, 105, 110, 116];
-
-const FUNCTION: [u16; 8] = [102, 117, 110, 99, 116, 105, 111, 110];
-
-const UNKNOWN: [u16; 7] = [117, 110, 107, 110, 111, 119, 110];
-
-/// `!0` for true, `!1` for false.
-pub fn negated_digit(alloc: Global, truth: bool) -> Result<Node, OutOfMemory>
-    ensures { IfOk result (λ w. w ≡ negated_digit_of truth) }
-{
-    let digit = if truth { 0 } else { 1 };
-    negation(alloc, numeric_literal(alloc, digit))
-}
 
 // `a, !0`
 fn then_true(alloc: Global, operand: Node) -> Result<Node, OutOfMemory>
@@ -98,16 +71,6 @@ pub fn fold_delete(alloc: Global, node: &mut Node) -> Result<bool, OutOfMemory>
     }
 }
 
-fn is_typeof(node: &Node) -> bool
-    ensures kind { result ≡ tree.is_typeof node.now }
-    ensures parts { result ≡ true → count (children node.now) ≡ 1 }
-{
-    match unary_operator(node) {
-        Some(UnaryOperator::Typeof) => true,
-        _ => false,
-    }
-}
-
 // Whether both are `typeof` of one name.
 fn are_types_same(left: &Node, right: &Node) -> bool
     ensures { result ≡ tree.are_types_same left.now right.now }
@@ -115,83 +78,15 @@ fn are_types_same(left: &Node, right: &Node) -> bool
     is_typeof(left) && is_identifier(left.child(0)) && is_same_tree(left, right)
 }
 
-// Whether engines give the text as that of a type.
-fn is_type_text(text: &Text) -> bool
-    ensures { result ≡ row.is_type_text text.now }
-{
-    let units = text.as_slice();
-    units == UNDEFINED.as_slice()
-        || units == OBJECT.as_slice()
-        || units == BOOLEAN.as_slice()
-        || units == NUMBER.as_slice()
-        || units == STRING.as_slice()
-        || units == SYMBOL.as_slice()
-        || units == BIG_INT.as_slice()
-        || units == FUNCTION.as_slice()
-        || units == UNKNOWN.as_slice()
-}
-
-// Whether its values are primitive, and no texts.
-fn is_other_kind(kind: Kind) -> bool
-    ensures { result ≡ row.is_other_kind kind }
-{
-    matches!(
-        kind,
-        Kind::Undefined | Kind::Null | Kind::Boolean | Kind::Number | Kind::BigInt
-    )
-}
-
-// Whether no text that `typeof` gives equals it.
-fn is_no_type(node: &Node) -> bool
-    ensures { result ≡ row.is_no_type node.now }
-{
-    match string(node) {
-        Some(text) => !is_type_text(text),
-        None => is_other_kind(kind_of(node)),
-    }
-}
-
-// Whether `typeof` stands beside what none of its texts equals.
-fn is_never_type(node: &Node) -> bool
-    requires { count (children node.now) ≡ 2 }
-    ensures { result ≡ tree.is_never_type node.now }
-{
-    is_typeof(node.child(0))
-        && is_no_type(node.child(1))
-        && has_no_effect(node)
-        && leaves_nothing(node)
-}
-
-fn is_equality(operator: BinaryOperator) -> bool
-    ensures { result ≡ is_it_equality operator }
-{
-    match operator {
-        BinaryOperator::Equality
-        | BinaryOperator::Inequality
-        | BinaryOperator::StrictEquality
-        | BinaryOperator::StrictInequality => true,
-        _ => false,
-    }
-}
-
-fn says_equal(operator: BinaryOperator) -> bool
-    ensures { result ≡ row.says_equal operator }
-{
-    matches!(
-        operator,
-        BinaryOperator::Equality | BinaryOperator::StrictEquality
-    )
-}
-
 // What an equality tells whose sides are equal, or never are.
 fn told_of(node: &Node, operator: BinaryOperator) -> Option<bool>
     requires { count (children node.now) ≡ 2 }
-    ensures { result ≡ tree.told_by operator (tree.are_types_same (part node.now 0) (part node.now 1)) (tree.is_never_type node.now) }
+    ensures { result ≡ tree.told_by operator (tree.are_types_same (part node.now 0) (part node.now 1)) (tree.is_never_type true node.now) }
 {
     if are_types_same(node.child(0), node.child(1)) {
         return Some(says_equal(operator));
     }
-    if is_never_type(node) {
+    if is_never_type(node, true) {
         return Some(!says_equal(operator));
     }
     None

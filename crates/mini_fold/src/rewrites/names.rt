@@ -18,9 +18,10 @@ use crate::rewrites::fold_operands::{
     tests_bits, tests_enclosed, tests_shift, told, truth_in, zero_told,
 };
 use crate::rewrites::fold_operators::{
-    drops_left, drops_right, fold_delete, negated_digit, told_by_types,
+    drops_left, drops_right, fold_delete, told_by_types,
 };
 use crate::rewrites::minimize_binary::minimize_binary;
+use mini_held::negated_digit;
 use mini_model::{BinaryOperator, LogicalOperator, OutOfMemory, Seat};
 use mini_node::{Node, binary, binary_operator, logical_operator, one, taken, two, unary_operator};
 use std::alloc::Global;
