@@ -1,6 +1,6 @@
 -- Two assignments to a member of a name with a key in brackets: what is written for a choice between them is what a row says, and what a
 -- row reads is written.
-use Rattle.std.proofs.Common.{◌≡◌, true, false, Option, Some, refl, sym, ap, ◌∙◌}
+use Rattle.std.proofs.Common.{◌≡◌, true, false, Option, Some, refl, sym, ap, ◌∙◌, Bool}
 use Rattle.std.specs.Prelude.{◌&&◌, not, nat_eq, is_none, unwrap_or}
 use Rattle.std.proofs.lemmas.Bool.{and_parts}
 use Rattle.mini_model.specs.declared.name.Name.{Name}

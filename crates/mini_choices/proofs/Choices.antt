@@ -23,9 +23,8 @@ use Rattle.mini_node.specs.Kinds.{binary, assignment, computed_member, is_logica
 use Rattle.mini_node.specs.Made.{assignment_is, logical_is, binary_is, conditional_is, null_is}
 use Rattle.mini_node.proofs.Equality.{tree_same, tree_itself}
 use Rattle.mini_terms.specs.Exact.{kept_by_value}
-use Rattle.mini_terms.specs.Folds.{is_effect_free}
 use Rattle.mini_rows.specs.Lists.{sequence}
-use Rattle.mini_rows.specs.Choices.{argument, assign, is_grouped, joined, strictly, joining, asks_object, null_compared, ended, deciding, may_choose, Row39, Row38, Row35, Row35Member, Row45, Row45Member, Key, member_of, Row46Equal, Row46Unequal, Row13Both, Row21Zero, Row41Or, Row41And, LighterRow, OwnRow, ChoiceRow, ChoiceContracts}
+use Rattle.mini_rows.specs.Choices.{argument, assign, is_grouped, joined, strictly, joining, asks_object, null_compared, ended, deciding, may_choose, Row39, Row38, Row35, Row35Member, Row45, Row45Member, Key, member_of, Row46Equal, Row46Unequal, Row13Both, Row21Zero, Row41Or, Row41And, LighterRow, OwnRow, ChoiceRow, ChoiceContracts, ChosenRow, ChosenMemberRow}
 use Rattle.mini_rows.proofs.ChoiceCalls.{calls_lighter}
 use Rattle.mini_rows.proofs.ChoiceIndexed.{indexed_lighter}
 use Rattle.mini_rows.proofs.ChoiceWeights as choice_weights
@@ -62,6 +61,7 @@ use Rattle.mini_choices.proofs.Calls.{called_row, called_passes}
 use Rattle.mini_choices.proofs.AssignedIndexed.{indexed_row, indexed_passes}
 use Rattle.mini_choices.specs.OwnRows.{SharedRow}
 use Rattle.mini_choices.specs.Choices.{first_of, operands_written, written, Gives, Rests, WrittenIsRow, UnwrittenRests}
+use Rattle.mini_terms.specs.Effects.{ef}
 
 -- ---- 39
 
@@ -310,11 +310,11 @@ module _ (s : Seat) (n w : Tree) where
       (tries (Falls SharedRow s n) w (branches.is_own_if_unequal n) (logical Coalesce (part n 1) (part n 2)) (branches.consequent_written s n) (λ h. surely (logical Coalesce (part n 1) (part n 2)) (inr (inl (unequal_row n h))))
       (tries (Falls SharedRow s n) w (branches.is_own_consequent s n) (logical Or (part n 0) (part n 2)) (branches.alternate_written s n) (own_or_row s n)
       (tries (Falls SharedRow s n) w (branches.is_own_alternate s n) (logical And (part n 0) (part n 1)) (branches.assignment_written s n) (own_and_row s n)
-      (tries (Falls SharedRow s n) w (branches.is_seated s && branches.assigns_either true true n) (branches.assigned n) (branches.indexed_written s n) (λ h. surely (branches.assigned n) (inr (inr (chosen_row true s n h))))
-      (tries (Falls SharedRow s n) w (branches.is_seated s && branches.indexes_either true true n) (branches.assigned n) (branches.called_written n) index_row
+      (tries (Falls SharedRow s n) w (branches.is_seated s && branches.assigns_either true n) (branches.assigned n) (branches.indexed_written s n) (λ h. surely (branches.assigned n) (inr (inr (chosen_row true s n h))))
+      (tries (Falls SharedRow s n) w (branches.is_seated s && branches.indexes_either true n) (branches.assigned n) (branches.called_written n) index_row
       (tries (Falls SharedRow s n) w (calls_either true n) (called n) None call_row (λ e. absurd (cc e))))))))
     where
-      index_row : branches.is_seated s && branches.indexes_either true true n ≡ true → Falls SharedRow s n (branches.assigned n)
+      index_row : branches.is_seated s && branches.indexes_either true n ≡ true → Falls SharedRow s n (branches.assigned n)
       index_row h = let r = indexed_row true s n h in (inr (inr (inl (inr (inr r)))), indexed_lighter s n (branches.assigned n) r)
 
       call_row : calls_either true n ≡ true → Falls SharedRow s n (called n)

@@ -26,8 +26,8 @@ use Rattle.mini_rows.specs.ChainLinks.{is_lone}
 use Rattle.mini_rows.specs.Booleans.{plus}
 use Rattle.mini_rows.specs.Operators.{deleted, says_equal, is_no_type, makes_numbers, is_bitwise, with_number, is_short, Row2, Row8, Row16, Row17, Row56Left, Row56Right, OperatorRow}
 use Rattle.mini_rows.specs.Spellings.{binary, negated_digit, numeral}
-use Rattle.mini_held.proofs.Types.{typeof_is, never_row}
-use Rattle.mini_fold.specs.FoldOperators.{delete_written, is_typeof_by, is_typeof, are_types_same, is_never_type, told_by, told, is_plus_by, is_plus, is_number_value, drops_left, drops_right, holds_bitwise, number_of, shortened, masked, with_mask, masks_written, mask_written, without_plus, boolean_or, operator_written}
+use Rattle.mini_held.proofs.NeverEqual.{typeof_is, never_row}
+use Rattle.mini_fold.specs.FoldOperators.{delete_written, is_typeof, are_types_same, is_never_type, told_by, told, is_plus_by, is_plus, is_number_value, drops_left, drops_right, holds_bitwise, number_of, shortened, masked, with_mask, masks_written, mask_written, without_plus, boolean_or, operator_written}
 
 both_true : (b c : Bool) → b ≡ true → c ≡ true → b && c ≡ true
 both_true true c e f = f

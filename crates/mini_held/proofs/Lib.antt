@@ -1,2 +1,2 @@
 pub mod Enclosing
-pub mod Types
+pub mod NeverEqual

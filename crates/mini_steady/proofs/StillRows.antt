@@ -1,22 +1,22 @@
 -- What stands for what has no effect where a body has its `this` is what a row says, and where nothing does no row reads the node.
 use Rattle.std.proofs.Common.{◌≡◌, ℕ, Bool, true, false, Option, Some, None, refl, sym, ap, subst, ◌∙◌, inl, inr, true≢false, arith, ltb-true, ltb-false}
-use Rattle.std.specs.Prelude.{◌&&◌, is_some, unwrap_or, nat_lt}
+use Rattle.std.specs.Prelude.{◌&&◌, is_some, unwrap_or, nat_lt, ◌||◌, not, ◌⊎◌, if◌then◌else◌}
 use Rattle.std.proofs.lemmas.Bool.{and_parts, false≢true}
 use Rattle.mini_model.specs.declared.operator.UnaryOperator.{UnaryOperator}
 use Rattle.mini_model.specs.declared.operator.UnaryOperator.TheVariants.{Void}
 use Rattle.mini_model.specs.declared.place.Position.TheVariants.{Expr}
 use Rattle.mini_model.specs.declared.seat.Seat.{Seat}
 use Rattle.mini_model.specs.Tree.{Tree, unary}
-use Rattle.mini_model.specs.Position.{passed_part_seat, unary_operand_seat}
+use Rattle.mini_model.specs.Position.{passed_part_seat, unary_operand_seat, is_equality}
 use Rattle.mini_model.specs.Weight.{capped}
 use Rattle.mini_terms.specs.Effects.{ef}
 use Rattle.mini_terms.specs.Parts.{leaves_nothing}
 use Rattle.mini_kept.specs.Without.{Assured}
 use Rattle.mini_node.specs.Children.{part}
-use Rattle.mini_node.specs.Kinds.{unary_operator}
-use Rattle.mini_node.specs.Made.{unary_is}
+use Rattle.mini_node.specs.Kinds.{unary_operator, binary_operator}
+use Rattle.mini_node.specs.Made.{unary_is, binary_is}
 use Rattle.mini_rows.specs.Idle.{IdleRow}
-use Rattle.mini_rows.specs.Spellings.{void_zero}
+use Rattle.mini_rows.specs.Spellings.{void_zero, negated_digit}
 use Rattle.mini_rows.specs.Steady.{SteadyRow}
 use Rattle.mini_rows.specs.Still.{outweighs_zero, StillRow}
 use Rattle.mini_choices.specs.Calling.{calls_either, called}
@@ -29,9 +29,17 @@ use Rattle.mini_steady.specs.Chains.{once}
 use Rattle.mini_steady.specs.Idle.{LosesIn}
 use Rattle.mini_steady.specs.Members as members
 use Rattle.mini_steady.specs.Own.{AppliedHere}
-use Rattle.mini_steady.specs.Still.{is_idle, follows_idle, is_void, voids_idle, call_written, void_written, written, written_in}
+use Rattle.mini_steady.specs.Still.{is_idle, follows_idle, is_void, voids_idle, call_written, void_written, written, written_in, never_equal, told_by, assigns_choice, type_written, assignment_written}
 use Rattle.mini_steady.proofs.IdleRows.{tried, chosen, chosen_is}
 use Rattle.mini_steady.proofs.MemberRows.{unwritten_rests}
+use Rattle.mini_model.specs.declared.operator.BinaryOperator.{BinaryOperator}
+use Rattle.mini_rows.specs.Choices.{ChosenRow, ChosenMemberRow, ChosenIndexedRow}
+use Rattle.mini_rows.specs.Operators.{says_equal}
+use Rattle.mini_held.specs.Types.{is_never_type}
+use Rattle.mini_held.proofs.NeverEqual.{never_row, never_passes}
+use Rattle.mini_choices.specs.MinimizeConditionalBranches.{assigns_either, indexes_either, is_seated, assigned}
+use Rattle.mini_choices.proofs.AssignedIndexed.{indexed_row, indexed_passes}
+use Rattle.mini_choices.proofs.Choices.{chosen_row, chosen_passes, chosen_member_passes}
 
 -- a weight that is capped is more than 3 where it is
 pub capped_more : (k : ℕ) → nat_lt 3 (capped k) ≡ nat_lt 3 k
@@ -42,6 +50,10 @@ capped_more k = go (nat_lt 3 (capped k)) (nat_lt 3 k) refl refl
     go false false e f = refl
     go true false e f = absurd (omega (arith, ltb-true 3 (capped k) e, ltb-false 3 k f))
     go false true e f = absurd (omega (arith, ltb-false 3 (capped k) e, ltb-true 3 k f))
+
+or_true : (b c : Bool) → c ≡ true → b || c ≡ true
+or_true true c e = refl
+or_true false c e = e
 
 -- ---- what is written is what a row says
 

@@ -1,5 +1,5 @@
 -- What is done to members of `this` and of steady names, of which V says what is known of the body around: 35, 38 and 45.
-use Rattle.std.specs.Prelude.{◌≡◌, Bool, false, ◌&&◌, ◌||◌, List, [], ◌∷◌, Option, Some, None, is_some, unwrap_or, if◌then◌else◌}
+use Rattle.std.specs.Prelude.{◌≡◌, Bool, true, false, ◌&&◌, ◌||◌, List, [], ◌∷◌, Option, Some, None, is_some, unwrap_or, if◌then◌else◌, ◌⊎◌}
 use Rattle.std.proofs.Common.{ap, inl, inr}
 use Rattle.mini_model.specs.declared.name.Name.{Name}
 use Rattle.mini_model.specs.declared.name.SymbolId.{SymbolId}
@@ -15,7 +15,7 @@ use Rattle.mini_kept.specs.Without.{Assured}
 use Rattle.mini_node.specs.Children.{part, names_of, first_children}
 use Rattle.mini_node.specs.Equal.{same_tree}
 use Rattle.mini_node.specs.Kinds.{assignment_operator, binary_operator, is_computed_member, is_conditional, is_identifier, is_sequence, logical_operator}
-use Rattle.mini_rows.specs.Choices.{keeps_parentheses}
+use Rattle.mini_rows.specs.Choices.{keeps_parentheses, ChosenRow, ChosenMemberRow, ChosenIndexedRow}
 use Rattle.mini_rows.specs.Members.{begins_at, MemberRow}
 use Rattle.mini_rows.specs.Steady.{SteadyRow}
 use Rattle.mini_choices.specs.Assigning.{is_plain, has_written_key}
@@ -146,7 +146,14 @@ members_open V (Expr s) n w (inr (inl (inl r))) = ap is_open r.shape
 members_open V (Expr s) n w (inr (inl (inr r))) = ap is_open r.shape
 members_open V (Expr s) n w (inr (inr (inl r))) = ap is_open r.row.shape
 members_open V (Expr s) n w (inr (inr (inr (inl r)))) = ap is_open r.shape
-members_open V (Expr s) n w (inr (inr (inr (inr r)))) = ap is_open r.row.shape
+members_open V (Expr s) n w (inr (inr (inr (inr (inl r))))) = ap is_open r.row.shape
+members_open V (Expr s) n w (inr (inr (inr (inr (inr (inl r)))))) = ap is_open r.row.shape
+members_open V (Expr s) n w (inr (inr (inr (inr (inr (inr r)))))) = chosen_open r.row
+  where
+    chosen_open : ChosenRow false s n w ⊎ (ChosenMemberRow false s n w ⊎ ChosenIndexedRow false s n w) → is_open n ≡ true
+    chosen_open (inl c) = ap is_open c.shape
+    chosen_open (inr (inl c)) = ap is_open c.shape
+    chosen_open (inr (inr c)) = ap is_open c.shape
 members_open V (Stmt q) n w (inl r) = ap is_open r.shape
 members_open V (Stmt q) n w (inr (inl r)) = ap is_open r.shape
 members_open V (Stmt q) n w (inr (inr r)) = ap is_open r.shape

@@ -11,8 +11,8 @@ ghost use Rattle.mini_steady.specs.Still as row;
 use crate::code::BodyCode;
 use crate::steady::SteadyNames;
 use mini_choices::{
-    assigned, assigns_either, behind_zero, called, calls_either, indexes_either, is_pair, is_seated,
-    void_zero,
+    assigned, assigns_either, behind_zero, called, calls_either, indexes_either, is_pair,
+    is_seated, void_zero,
 };
 use mini_held::{is_equality, is_never_type, negated_digit, says_equal};
 use mini_model::{BinaryOperator, OutOfMemory, Seat, UnaryOperator};

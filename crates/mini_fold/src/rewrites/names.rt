@@ -17,9 +17,7 @@ use crate::rewrites::fold_operands::{
     are_same, digit, fold_bits, fold_kept, fold_middle, fold_whole, is_told, last, loosely,
     tests_bits, tests_enclosed, tests_shift, told, truth_in, zero_told,
 };
-use crate::rewrites::fold_operators::{
-    drops_left, drops_right, fold_delete, told_by_types,
-};
+use crate::rewrites::fold_operators::{drops_left, drops_right, fold_delete, told_by_types};
 use crate::rewrites::minimize_binary::minimize_binary;
 use mini_held::negated_digit;
 use mini_model::{BinaryOperator, LogicalOperator, OutOfMemory, Seat};
