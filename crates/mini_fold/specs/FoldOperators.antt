@@ -3,7 +3,7 @@ use Rattle.std.specs.Prelude.{ℤ, Bool, true, false, not, ◌&&◌, Option, Som
 use Rattle.mini_model.specs.declared.operator.BinaryOperator.{BinaryOperator}
 use Rattle.mini_model.specs.declared.operator.BinaryOperator.TheVariants.{BitwiseAnd, BitwiseXor, BitwiseOr}
 use Rattle.mini_model.specs.declared.operator.UnaryOperator.{UnaryOperator}
-use Rattle.mini_model.specs.declared.operator.UnaryOperator.TheVariants.{Typeof, Delete, UnaryPlus}
+use Rattle.mini_model.specs.declared.operator.UnaryOperator.TheVariants.{Delete, UnaryPlus}
 use Rattle.mini_model.specs.Tree.{Tree}
 use Rattle.mini_model.specs.Position.{is_equality}
 use Rattle.mini_node.specs.Children.{part}
@@ -11,12 +11,10 @@ use Rattle.mini_node.specs.Equal.{same_tree}
 use Rattle.mini_node.specs.Kinds.{unary_operator, binary_operator, is_identifier, number}
 use Rattle.mini_laws.specs.Value.{Value, Number}
 use Rattle.mini_terms.specs.Calculated.{calculated_numbers, operand_value}
-use Rattle.mini_terms.specs.Folds.{is_effect_free}
 use Rattle.mini_terms.specs.Kind.{is_number, kind}
-use Rattle.mini_terms.specs.Parts.{leaves_nothing}
 use Rattle.mini_rows.specs.ChainLinks.{is_lone}
 pub use Rattle.mini_held.specs.Types.{is_typeof, is_never_type}
-use Rattle.mini_rows.specs.Operators.{deleted, says_equal, is_no_type, makes_numbers, is_short}
+use Rattle.mini_rows.specs.Operators.{deleted, says_equal, makes_numbers, is_short}
 use Rattle.mini_rows.specs.Spellings.{binary, negated_digit, numeral}
 
 -- ---- 2
