@@ -1,6 +1,6 @@
 -- What the rows of names that nothing mentions write of the head of a `for` is loosely lawful.
-use Rattle.std.specs.Prelude.{ℕ, ◌≡◌, ◌⊎◌, refl, ◌&&◌, Bool, true, false, [], Contains, Option, None, nat_le}
-use Rattle.std.proofs.Common.{ap, ◌∙◌, sym, subst, inl, inr, true≢false, arith}
+use Rattle.std.specs.Prelude.{ℕ, ◌≡◌, ◌⊎◌, refl, ◌&&◌, Bool, true, false, List, [], Contains, Option, None, nat_le}
+use Rattle.std.proofs.Common.{ap, ◌∙◌, sym, subst₂, inl, inr, true≢false, arith}
 use Rattle.std.proofs.lemmas.Bool.{and_parts, le-leb}
 use Rattle.mini_model.specs.declared.kind.VariableDeclarationKind.{VariableDeclarationKind}
 use Rattle.mini_model.specs.declared.name.Name.{Name}
@@ -46,16 +46,22 @@ use Rattle.mini_kept.proofs.ShownFrames.{kept_shown}
 use Rattle.mini_kept.proofs.WithoutLists.{from_kept}
 use Rattle.mini_rows.specs.Declarations.{binding, declarator}
 use Rattle.mini_rows.specs.Lists.{declaration, for_loop}
-use Rattle.mini_rows.specs.Unused.{resolved, declared_among, declared_left, head_left, names, any_names, ForRow}
+use Rattle.mini_rows.specs.Switches.{Switches}
+use Rattle.mini_rows.specs.Unused.{resolved, declared_among, declared_left, head_left, names, any_names, is_first, put_first, ForRow, ForNextRow, ForHeadRow}
 use Rattle.mini_rows.proofs.DeclaredKept.{idle_leaves, idle_names}
 use Rattle.mini_rows.proofs.ForHeadKept.{for_less, for_kept, for_keeps, for_fixed, for_frames, for_bodies, for_declares}
+use Rattle.mini_rows.proofs.ForHeadMeaning.{for_next_same}
+use Rattle.mini_rows.proofs.ForHeads as heads
 use Rattle.mini_rows.proofs.ListLoops.{for_none_is}
-use Rattle.mini_rows.proofs.ListShapes.{init_declares, append_fits, both_fit, first_fits}
+use Rattle.mini_rows.proofs.ListShapes.{init_declares, declaration_anywhere, append_fits, both_fit, first_fits}
+use Rattle.mini_rows.proofs.NextKept.{next_leaves, next_names}
+use Rattle.mini_rows.proofs.SingleFits.{MayStand}
 use Rattle.mini_rows.proofs.UnusedKept.{LeavesThere, NamesThere}
-use Rattle.mini_rows.proofs.UnusedLawful.{Dropped, in_tails, idle_vanishes}
-use Rattle.mini_rows.proofs.UnusedMeaning.{for_same, never_written}
+use Rattle.mini_rows.proofs.UnusedLawful.{Dropped, in_tails, idle_vanishes, next_fits}
+use Rattle.mini_rows.proofs.UnusedMeaning.{for_same, never_written, movable, lexical_alone}
 use Rattle.mini_rows.proofs.UnusedNames.{or_parts, unmentioned, all_avoided}
 use Rattle.mini_rows.proofs.Weaker.{weaker_goes}
+use Rattle.mini_terms.specs.Reading.{is_plain_part}
 
 -- ---- what is left of the declaration fits where it stood
 
@@ -157,111 +163,163 @@ left_same e D K rest (d ▸ ds) o =
     let this = node shape.ForStatement [] 0 (declaration K (d ▸ ds) ▸ rest) in
     record { by = λ r s i. weaker_goes D (means e this (Stat o) r s) (means e this (Stat o) r s) (inr refl) }
 
+-- where the next declarator reads a name
+pub next_head_fits : (strict : Bool) (k : VariableDeclarationKind) (x : Name) (first : Trees) (init binds value : Tree) (last : Trees) → is_plain_part init ≡ true → is_first x false value ≡ true → MayStand x init value → fits strict (one_or_absent an_init) (declared_among k x first init (declarator binds value ▸ last)) ≡ true
+    → fits strict (one_or_absent an_init) (declaration k (append first (declarator binds (put_first x init value) ▸ last))) ≡ true
+next_head_fits strict k x first init binds value last m once p e =
+    let these = append first (declarator (binding x) init ▸ (declarator binds value ▸ last)) in
+    let those = append first (declarator binds (put_first x init value) ▸ last) in
+    init_declares strict k those ∙ sym (declaration_anywhere strict nested k those) ∙ next_fits strict k x first init binds value last m once p (declaration_anywhere strict nested k these ∙ sym (init_declares strict k these) ∙ e)
+
 -- ---- a name that is dropped
 
-module _ (q : StmtSeat) (n w : Tree) (r : ForRow n w) where
+module _ (q : StmtSeat) (s : List ℕ) (k : ℕ) (d v test update body : Tree) (leaves : LeavesThere (resolved s k) (d ▸ none) (v ▸ none)) (names_there : NamesThere (resolved s k) (d ▸ none) (v ▸ none)) (unread : any_names (resolved s k) (test ▸ (update ▸ (body ▸ none))) ≡ false) where
   abbrev x : Name
-  x = resolved r.spelling r.symbol
+  x = resolved s k
 
   abbrev D : VariableSet
-  D = alone (Declared r.symbol)
-
-  abbrev d : Tree
-  d = declared_among r.kind x r.first r.init r.last
-
-  abbrev v : Tree
-  v = head_left r.kind (append r.first r.last)
+  D = alone (Declared k)
 
   abbrev this : Tree
-  this = for_loop d r.test r.update r.body
+  this = for_loop d test update body
 
   abbrev that : Tree
-  that = for_loop v r.test r.update r.body
+  that = for_loop v test update body
 
-  leaves : LeavesThere x (d ▸ none) (v ▸ none)
-  leaves = left_leaves x r.kind d (append r.first r.last) (idle_leaves r.kind x r.symbol refl r.first r.init r.last (idle_vanishes r.init r.idle) r.declared_earlier r.declared_later)
+  in_test : (names x test ≡ false) × (any_names x (update ▸ (body ▸ none)) ≡ false)
+  in_test = or_parts (names x test) (any_names x (update ▸ (body ▸ none))) unread
 
-  names_there : NamesThere x (d ▸ none) (v ▸ none)
-  names_there = left_names x r.kind d (append r.first r.last) (idle_names r.kind x r.symbol refl r.first r.init r.last (idle_vanishes r.init r.idle) r.declared_earlier r.declared_later r.lexical)
+  in_update : (names x update ≡ false) × (any_names x (body ▸ none) ≡ false)
+  in_update = or_parts (names x update) (any_names x (body ▸ none)) in_test.1
 
-  in_test : (names x r.test ≡ false) × (any_names x (r.update ▸ (r.body ▸ none)) ≡ false)
-  in_test = or_parts (names x r.test) (any_names x (r.update ▸ (r.body ▸ none))) r.later
+  in_body_free : names x body ≡ false
+  in_body_free = (or_parts (names x body) false in_update.1).0
 
-  in_update : (names x r.update ≡ false) × (any_names x (r.body ▸ none) ≡ false)
-  in_update = or_parts (names x r.update) (any_names x (r.body ▸ none)) in_test.1
-
-  in_body_free : names x r.body ≡ false
-  in_body_free = (or_parts (names x r.body) false in_update.1).0
-
-  same : (e : Environment) → Unseen D e → (t : Option Tail) → Same e D nothing (Stat t) this that
-  same e u t =
-      transitive e D nothing (Stat t) this (for_loop (declaration r.kind (append r.first r.last)) r.test r.update r.body) that
-      (for_same e r.spelling r.symbol u r.kind (never_written r.kind e r.symbol r.lexical) r.first r.last r.init r.idle (all_avoided x r.symbol refl r.first r.declared_earlier) (all_avoided x r.symbol refl r.last r.declared_later) (r.test ▸ (r.update ▸ (r.body ▸ none))) (all_avoided x r.symbol refl (r.test ▸ (r.update ▸ (r.body ▸ none))) r.later) t)
-      (left_same e D r.kind (r.test ▸ (r.update ▸ (r.body ▸ none))) (append r.first r.last) t)
-
-  dropped : Dropped (Stmt q) r.symbol this that
-  dropped =
-      let a = unmentioned x r.symbol refl r.test in_test.0 in
-      let b = unmentioned x r.symbol refl r.update in_update.0 in
-      let c = unmentioned x r.symbol refl r.body in_body_free in
+  dropped : ((e : Environment) → Unseen D e → (t : Option Tail) → Same e D nothing (Stat t) this that) → Dropped (Stmt q) k this that
+  dropped same =
+      let a = unmentioned x k refl test in_test.0 in
+      let b = unmentioned x k refl update in_update.0 in
+      let c = unmentioned x k refl body in_body_free in
       record {
-        keeps = in_order (Stmt q) this that (for_keeps x d v leaves names_there r.test r.update r.body a b c q);
+        keeps = in_order (Stmt q) this that (for_keeps x d v leaves names_there test update body a b c q);
         drops = λ K. record {
-          kept = for_kept x d v leaves names_there r.test r.update r.body a b c;
-          less = for_less x d v leaves names_there r.test r.update r.body r.symbol refl;
+          kept = for_kept x d v leaves names_there test update body a b c;
+          less = for_less x d v leaves names_there test update body k refl;
           same = λ e u. in_tails e q D this that (same e u.unseen);
-          fixed = for_fixed x d v leaves names_there r.test r.update r.body;
-          frames = λ strict s g f. kept_shown (gone_from K D) no_key (frames None this) (frames None that) (for_frames x d v leaves names_there r.test r.update r.body);
-          bodies = λ strict s g f o z. from_kept D _ _ (for_bodies x d v leaves names_there r.test r.update r.body o);
+          fixed = for_fixed x d v leaves names_there test update body;
+          frames = λ strict s g f. kept_shown (gone_from K D) no_key (frames None this) (frames None that) (for_frames x d v leaves names_there test update body);
+          bodies = λ strict s g f o z. from_kept D _ _ (for_bodies x d v leaves names_there test update body o);
         };
-        declared_there = for_declares x d v leaves names_there r.test r.update r.body;
+        declared_there = for_declares x d v leaves names_there test update body;
       }
 
-  row_dropped : Dropped (Stmt q) r.symbol n w
-  row_dropped = subst (λ t. Dropped (Stmt q) r.symbol t w) (sym r.shape) (subst (Dropped (Stmt q) r.symbol this) (sym r.written) dropped)
+-- what a row reads of a head, and what it leaves
+record Head (q : StmtSeat) (n w : Tree) : Type 0 where
+  before : Tree
+  after : Tree
+  test : Tree
+  update : Tree
+  body : Tree
+  symbol : ℕ
+  is : n ≡ for_loop before test update body
+  now : w ≡ for_loop after test update body
+  fitting : (strict : Bool) → fits strict (one_or_absent an_init) before ≡ true → fits strict (one_or_absent an_init) after ≡ true
+  gone : Dropped (Stmt q) symbol (for_loop before test update body) (for_loop after test update body)
 
-  in_place : (strict : Bool) (s : Slot) → fits strict s n ≡ true → (fits strict s w ≡ true) × (is_body_slot (Stmt q) s ≡ true)
-  in_place strict s e =
-      let (f, g) = in_slot d v r.test r.update r.body (head_fits r.kind x r.first r.init r.last) strict (Stmt q) s (sym (ap (fits strict s) r.shape) ∙ e) in
-      (ap (fits strict s) r.written ∙ f, g)
+idle_head : (q : StmtSeat) (n w : Tree) → ForRow n w → Head q n w
+idle_head q n w r =
+    let x = resolved r.spelling r.symbol in
+    let d = declared_among r.kind x r.first r.init r.last in
+    let left = append r.first r.last in
+    let rest : Trees = r.test ▸ (r.update ▸ (r.body ▸ none)) in
+    let idle = idle_vanishes r.init r.idle in
+    let first = all_avoided x r.symbol refl r.first r.declared_earlier in
+    let last = all_avoided x r.symbol refl r.last r.declared_later in
+    record {
+      before = d;
+      after = head_left r.kind left;
+      test = r.test;
+      update = r.update;
+      body = r.body;
+      symbol = r.symbol;
+      is = r.shape;
+      now = r.written;
+      fitting = head_fits r.kind x r.first r.init r.last;
+      gone = dropped q r.spelling r.symbol d (head_left r.kind left) r.test r.update r.body (left_leaves x r.kind d left (idle_leaves r.kind x r.symbol refl r.first r.init r.last idle r.declared_earlier r.declared_later))
+          (left_names x r.kind d left (idle_names r.kind x r.symbol refl r.first r.init r.last idle r.declared_earlier r.declared_later r.lexical)) r.later
+          (λ e u t.
+          transitive e (alone (Declared r.symbol)) nothing (Stat t) (for_loop d r.test r.update r.body) (for_loop (declaration r.kind left) r.test r.update r.body) (for_loop (head_left r.kind left) r.test r.update r.body)
+          (for_same e r.spelling r.symbol u r.kind (never_written r.kind e r.symbol r.lexical) r.first r.last r.init r.idle first last rest (all_avoided x r.symbol refl rest r.later) t)
+          (left_same e (alone (Declared r.symbol)) r.kind rest left t));
+    }
+
+next_head : (o : Switches) (q : StmtSeat) (n w : Tree) → ForNextRow o n w → Head q n w
+next_head o q n w r =
+    let c = r.row in
+    let x = heads.named o n w r in
+    let d = heads.read o n w r in
+    let v = heads.left o n w r in
+    record {
+      before = d;
+      after = v;
+      test = r.test;
+      update = r.update;
+      body = r.body;
+      symbol = c.symbol;
+      is = heads.is_read o n w r;
+      now = heads.is_left o n w r;
+      fitting = λ strict. next_head_fits strict c.kind x c.first c.init c.binds c.value c.last (movable o c.init c.moves) c.once (inr c.passed);
+      gone = dropped q c.spelling c.symbol d v r.test r.update r.body (next_leaves c.kind x c.symbol refl c.first c.init c.binds c.value c.last c.once c.declared_earlier c.initial c.other c.declared_later)
+          (next_names c.kind x c.symbol refl c.first c.init c.binds c.value c.last c.once c.declared_earlier c.initial c.other c.declared_later (lexical_alone c.kind c.goes)) (heads.unread o n w r) (for_next_same o n w r);
+    }
+
+head : (o : Switches) (q : StmtSeat) (n w : Tree) → ForHeadRow o n w → Head q n w
+head o q n w (inl r) = idle_head q n w r
+head o q n w (inr r) = next_head o q n w r
+
+-- whatever is told by the shape
+shaped : (q : StmtSeat) (P : Tree → Tree → Type 0) → ((i j t u b : Tree) → P (for_loop i t u b) (for_loop j t u b)) → (n w : Tree) → Head q n w → P n w
+shaped q P f n w h = subst₂ P (sym h.is) (sym h.now) (f h.before h.after h.test h.update h.body)
+
+row_dropped : (q : StmtSeat) (n w : Tree) (h : Head q n w) → Dropped (Stmt q) h.symbol n w
+row_dropped q n w h = subst₂ (Dropped (Stmt q) h.symbol) (sym h.is) (sym h.now) h.gone
+
+in_place : (q : StmtSeat) (n w : Tree) → Head q n w → (strict : Bool) (s : Slot) → fits strict s n ≡ true → (fits strict s w ≡ true) × (is_body_slot (Stmt q) s ≡ true)
+in_place q n w h strict s e =
+    let (f, g) = in_slot h.before h.after h.test h.update h.body h.fitting strict (Stmt q) s (sym (ap (fits strict s) h.is) ∙ e) in
+    (ap (fits strict s) h.now ∙ f, g)
 
 -- ---- all
 
--- whatever is told by the shape
-shaped : (P : Tree → Tree → Type 0) → ((i j t u b : Tree) → P (for_loop i t u b) (for_loop j t u b)) → (n w : Tree) → ForRow n w → P n w
-shaped P f n w r =
-    let before = declared_among r.kind (resolved r.spelling r.symbol) r.first r.init r.last in
-    subst (λ t. P t w) (sym r.shape) (subst (P (for_loop before r.test r.update r.body)) (sym r.written) (f before (head_left r.kind (append r.first r.last)) r.test r.update r.body))
-
 -- of a statement
-abbrev pub OfFor : Position → Tree → Tree → Type 0
-OfFor (Stmt q) n w = ForRow n w
-OfFor p n w = ⊥
+abbrev pub OfFor : Switches → Position → Tree → Tree → Type 0
+OfFor o (Stmt q) n w = ForHeadRow o n w
+OfFor o p n w = ⊥
 
 -- whichever place it is
-at_statement : (P : Position → Tree → Tree → Type 0) → ((q : StmtSeat) (n w : Tree) → ForRow n w → P (Stmt q) n w) → (p : Position) (n w : Tree) → OfFor p n w → P p n w
-at_statement P f (Stmt q) n w c = f q n w c
-at_statement P f p n w c = absurd c
+at_statement : (o : Switches) (P : Position → Tree → Tree → Type 0) → ((q : StmtSeat) (n w : Tree) → Head q n w → P (Stmt q) n w) → (p : Position) (n w : Tree) → OfFor o p n w → P p n w
+at_statement o P f (Stmt q) n w c = f q n w (head o q n w c)
+at_statement o P f p n w c = absurd c
 
-pub heads_loose : (K : Shape → Bool) → LawfulLoosely K OfFor
-heads_loose K = record {
+pub heads_loose : (o : Switches) (K : Shape → Bool) → LawfulLoosely K (OfFor o)
+heads_loose o K = record {
   shapes = record {
-    fitting = at_statement (λ p n w. (strict : Bool) (s : Slot) → fits_place p s ≡ true → fits strict s n ≡ true → fits strict s w ≡ true) (λ q n w r strict s o e. (in_place q n w r strict s e).0);
-    asked = at_statement AskedAlike (λ q. shaped (AskedAlike (Stmt q)) (λ i j t u b. record { absent = λ g. absurd (true≢false (sym g)); body = λ g. absurd (true≢false (sym g)); optional = λ g. absurd (true≢false (sym g)); number = λ g h. refl; spelled = λ r g. absurd (cc g); plain = refl }));
+    fitting = at_statement o (λ p n w. (strict : Bool) (s : Slot) → fits_place p s ≡ true → fits strict s n ≡ true → fits strict s w ≡ true) (λ q n w h strict s o e. (in_place q n w h strict s e).0);
+    asked = at_statement o AskedAlike (λ q. shaped q (AskedAlike (Stmt q)) (λ i j t u b. record { absent = λ g. absurd (true≢false (sym g)); body = λ g. absurd (true≢false (sym g)); optional = λ g. absurd (true≢false (sym g)); number = λ g h. refl; spelled = λ r g. absurd (cc g); plain = refl }));
   };
   places = record {
     names = record {
-      places = at_statement (λ p n w. (is_rewritten_place p ≡ true) ⊎ KeepsRoot p n w) (λ q n w r. inl refl);
-      pieces = at_statement (λ p n w. is_piece (shape_of n) ≡ false) (λ q. shaped (λ n w. is_piece (shape_of n) ≡ false) (λ i j t u b. refl));
-      keeps = at_statement (λ p n w. (strict : Bool) (s : Slot) → fits_place p s ≡ true → fits strict s n ≡ true → KeepsLoosely p n w) (λ q n w r strict s o e. (row_dropped q n w r).keeps);
+      places = at_statement o (λ p n w. (is_rewritten_place p ≡ true) ⊎ KeepsRoot p n w) (λ q n w h. inl refl);
+      pieces = at_statement o (λ p n w. is_piece (shape_of n) ≡ false) (λ q. shaped q (λ n w. is_piece (shape_of n) ≡ false) (λ i j t u b. refl));
+      keeps = at_statement o (λ p n w. (strict : Bool) (s : Slot) → fits_place p s ≡ true → fits strict s n ≡ true → KeepsLoosely p n w) (λ q n w h strict s o e. (row_dropped q n w h).keeps);
     };
-    slots = at_statement (λ p n w. (strict : Bool) (s : Slot) → fits_place p s ≡ true → fits strict s n ≡ true → ((is_body_slot p s ≡ true) ⊎ IsShownAlike s n w) ⊎ KeepsHolder n w) (λ q n w r strict s o e. inl (inl (in_place q n w r strict s e).1));
-    ports = at_statement (λ p n w. (strict : Bool) (d : Depth) → fits strict (one (a_statement d)) n ≡ true → (m : Bool) → NoPort m n w ⊎ KeepsFunction n w) (λ q n w r strict d e m. inl (shaped (NoPort m) (λ i j t u b. (refl, refl)) n w r));
-    listed = λ p n w e c. absurd (at_statement (λ p n w. is_statement_list p ≡ true → ⊥) (λ q n w r e. cc e) p n w c e);
-    exported = at_statement (λ p n w. (strict : Bool) → fits strict (one a_default_export) n ≡ true → NoDeclaration n w ⊎ KeepsFunction n w) (λ q n w r strict e. inl (shaped NoDeclaration (λ i j t u b. (refl, refl)) n w r));
+    slots = at_statement o (λ p n w. (strict : Bool) (s : Slot) → fits_place p s ≡ true → fits strict s n ≡ true → ((is_body_slot p s ≡ true) ⊎ IsShownAlike s n w) ⊎ KeepsHolder n w) (λ q n w h strict s o e. inl (inl (in_place q n w h strict s e).1));
+    ports = at_statement o (λ p n w. (strict : Bool) (d : Depth) → fits strict (one (a_statement d)) n ≡ true → (m : Bool) → NoPort m n w ⊎ KeepsFunction n w) (λ q n w h strict d e m. inl (shaped q (NoPort m) (λ i j t u b. (refl, refl)) n w h));
+    listed = λ p n w e c. absurd (at_statement o (λ p n w. is_statement_list p ≡ true → ⊥) (λ q n w h e. cc e) p n w c e);
+    exported = at_statement o (λ p n w. (strict : Bool) → fits strict (one a_default_export) n ≡ true → NoDeclaration n w ⊎ KeepsFunction n w) (λ q n w h strict e. inl (shaped q NoDeclaration (λ i j t u b. (refl, refl)) n w h));
   };
-  reads = at_statement (λ p n w. summary n ≡ summary w) (λ q. shaped (λ n w. summary n ≡ summary w) (λ i j t u b. refl));
-  kind = at_statement (λ p n w. (strict : Bool) (s : Slot) → fits strict s n ≡ true → arrow_kind (shape_of n) ≡ arrow_kind (shape_of w)) (λ q n w r strict s e. shaped (λ n w. arrow_kind (shape_of n) ≡ arrow_kind (shape_of w)) (λ i j t u b. refl) n w r);
-  declared = at_statement (λ p n w. (y : Name) → Contains (declared w) y → Contains (declared n) y) (λ q n w r. (row_dropped q n w r).declared_there);
-  instances = at_statement (λ p n w. Stays p n w ⊎ ((k : ℕ) × Drops K k p n w)) (λ q n w r. inr (r.symbol, (row_dropped q n w r).drops K));
+  reads = at_statement o (λ p n w. summary n ≡ summary w) (λ q. shaped q (λ n w. summary n ≡ summary w) (λ i j t u b. refl));
+  kind = at_statement o (λ p n w. (strict : Bool) (s : Slot) → fits strict s n ≡ true → arrow_kind (shape_of n) ≡ arrow_kind (shape_of w)) (λ q n w h strict s e. shaped q (λ n w. arrow_kind (shape_of n) ≡ arrow_kind (shape_of w)) (λ i j t u b. refl) n w h);
+  declared = at_statement o (λ p n w. (y : Name) → Contains (declared w) y → Contains (declared n) y) (λ q n w h. (row_dropped q n w h).declared_there);
+  instances = at_statement o (λ p n w. Stays p n w ⊎ ((k : ℕ) × Drops K k p n w)) (λ q n w h. inr (h.symbol, (row_dropped q n w h).drops K));
 }

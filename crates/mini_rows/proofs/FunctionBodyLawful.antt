@@ -337,7 +337,7 @@ OfBody W p n w = OfFunction W p n w ⊎ OfList W p n w
 
 -- of what holds statements and is no body
 abbrev pub OfInner : Switches → Position → Tree → Tree → Type 0
-OfInner o p n w = OfBlock o p n w ⊎ (OfSwitch o p n w ⊎ OfFor p n w)
+OfInner o p n w = OfBlock o p n w ⊎ (OfSwitch o p n w ⊎ OfFor o p n w)
 
 abbrev pub OfUnused : Liberties → Position → Tree → Tree → Type 0
 OfUnused W p n w = OfInner W.switches p n w ⊎ (OfArrow W.writable p n w ⊎ OfBody W.writable p n w)
@@ -360,7 +360,7 @@ either_holder W p n w c = by p c.row
 
 -- each of them
 inner_loose : (o : Switches) (K : Shape → Bool) → LawfulLoosely K (OfInner o)
-inner_loose o K = loose_join (OfBlock o) (λ p n w. OfSwitch o p n w ⊎ OfFor p n w) K nothing (blocks_loose o K) (loose_join (OfSwitch o) OfFor K nothing (switches_loose o K) (heads_loose K))
+inner_loose o K = loose_join (OfBlock o) (λ p n w. OfSwitch o p n w ⊎ OfFor o p n w) K nothing (blocks_loose o K) (loose_join (OfSwitch o) (OfFor o) K nothing (switches_loose o K) (heads_loose o K))
 
 body_loose : (K : Shape → Bool) (W : VariableSet) → LawfulWith K W (OfBody W)
 body_loose K W = loose_join (OfFunction W) (OfList W) K W (functions_loose K W) (loose_join (OfModule W) (OfStaticBlock W) K W (modules_loose K W) (static_blocks_loose K W))

@@ -201,6 +201,7 @@ pub mod FoundReads
 pub mod UnusedKept
 pub mod BlockPlaces
 pub mod UnusedLawful
+pub mod ForHeads
 pub mod UnusedWeights
 pub mod UnusedStretches
 pub mod FunctionBodyKept
@@ -213,6 +214,7 @@ pub mod StaticBlockLawful
 pub mod SwitchKept
 pub mod SwitchLawful
 pub mod ForHeadKept
+pub mod ForHeadMeaning
 pub mod ForHeadLawful
 pub mod FunctionBodyLawful
 pub mod DeMorganMeaning

@@ -1,7 +1,6 @@
 -- What the rows of names that are read behind held names make of the head of a `for` in the code of a body.
 use Rattle.std.specs.Prelude.{ℕ, ◌<◌, ◌≤◌, ◌≡◌, refl, Bool, true, false, [], Option, None}
 use Rattle.std.proofs.Common.{ap, ◌∙◌, sym, subst₂, arith, inl, inr, true≢false}
-use Rattle.std.proofs.lemmas.List.{append-nil}
 use Rattle.mini_model.specs.declared.name.Name.{Name}
 use Rattle.mini_model.specs.declared.place.Position.TheVariants.{Stmt}
 use Rattle.mini_model.specs.declared.seat.StmtSeat.{StmtSeat}
@@ -9,16 +8,15 @@ use Rattle.mini_model.specs.declared.shape.Shape.TheVariants as shape
 use Rattle.mini_model.specs.Tree.{Tree, Trees, none, ◌▸◌, absent, listed, child_or_absent}
 use Rattle.mini_model.specs.Paths.{append}
 use Rattle.mini_model.specs.Weight.{outlines, weight}
-use Rattle.mini_accept.specs.WellShaped.{nested, an_init, one_or_absent, fits}
-use Rattle.mini_laws.specs.Value.{Declared, VariableSet, nothing, is_in}
-use Rattle.mini_laws.specs.State.{State, Environment}
-use Rattle.mini_laws.specs.Demand.{Tail, Stat, LabelSet}
+use Rattle.mini_accept.specs.WellShaped.{an_init, one_or_absent, fits}
+use Rattle.mini_laws.specs.Value.{Declared, VariableSet, nothing}
+use Rattle.mini_laws.specs.State.{Environment}
+use Rattle.mini_laws.specs.Demand.{Tail, Stat}
 use Rattle.mini_laws.specs.Naming.{summary}
-use Rattle.mini_laws.specs.Same.{Goes, Agree, Same}
-use Rattle.mini_laws.specs.Step.{means}
+use Rattle.mini_laws.specs.Same.{Same}
 use Rattle.mini_laws.specs.Skeleton.{Off, hidden}
 use Rattle.mini_laws.specs.Path.{here, inside}
-use Rattle.mini_laws.specs.Congruence.{ReadAlike, only}
+use Rattle.mini_laws.specs.Congruence.{ReadAlike}
 use Rattle.mini_laws.specs.Substitution.{alone}
 use Rattle.mini_laws.proofs.Congruent.{congruent_same, weaker}
 use Rattle.mini_laws.proofs.Simulation.{within_refl}
@@ -32,10 +30,8 @@ use Rattle.mini_rows.specs.PastBlocks.{PastHeadRow}
 use Rattle.mini_rows.specs.Steady.{bindings}
 use Rattle.mini_rows.specs.Unused.{resolved, names, any_names, declared_among, put_first}
 use Rattle.mini_rows.proofs.ForHeadKept.{for_less, for_kept, for_keeps, for_fixed, for_frames, for_bodies, for_declares}
-use Rattle.mini_rows.proofs.ForHeadLawful.{in_slot}
-use Rattle.mini_rows.proofs.ListShapes.{init_declares, declaration_anywhere}
-use Rattle.mini_rows.proofs.ListStretches.{exec_one, listed_is}
-use Rattle.mini_rows.proofs.ListStatements.{declaration_is}
+use Rattle.mini_rows.proofs.ForHeadLawful.{in_slot, next_head_fits}
+use Rattle.mini_rows.proofs.ForHeadMeaning.{head_same, head_read}
 use Rattle.mini_rows.proofs.NextKept.{next_leaves, next_names}
 use Rattle.mini_rows.proofs.NextMeaning.{next_read}
 use Rattle.mini_rows.proofs.PastBound.{rows_bound}
@@ -45,8 +41,7 @@ use Rattle.mini_rows.proofs.PastStretches.{Behind, of_next}
 use Rattle.mini_rows.proofs.SingleFits.{no_number_there}
 use Rattle.mini_rows.proofs.SingleWeights.{next_falls}
 use Rattle.mini_rows.proofs.UnusedKept.{LeavesThere, NamesThere}
-use Rattle.mini_rows.proofs.UnusedLawful.{next_fits}
-use Rattle.mini_rows.proofs.UnusedMeaning.{read_alone, list_read, movable, lexical_alone}
+use Rattle.mini_rows.proofs.UnusedMeaning.{movable, lexical_alone}
 use Rattle.mini_rows.proofs.UnusedNames.{or_parts, unmentioned, all_avoided}
 use Rattle.mini_rows.proofs.UnusedWeights.{own_for}
 
@@ -113,31 +108,15 @@ module _ {options : Switches} (V : Assured) (test update body before after : Tre
     unfolding there of_next
     one_same = subst₂ (λ a b. Same e D H (Stat None) (listed (append a (append (d ▸ none) b))) (listed (append a (append (w ▸ none) b)))) nothing_before nothing_after (there.same e u s)
 
-    -- labels before a declaration do nothing
-    as_head : (ds : Trees) (l : LabelSet) (z : State) → means e (listed (declaration r.kind ds ▸ none)) (Stat None) [] z ≡ means e (declaration r.kind ds) (Stat None) l z
-    as_head ds l z = listed_is e (declaration r.kind ds ▸ none) [] z ∙ exec_one e (declaration r.kind ds) z ∙ declaration_is e r.kind ds [] z ∙ sym (declaration_is e r.kind ds l z)
-
-    head_same : Same e D H (Stat None) d w
-    head_same = record { by = λ l z i. subst₂ (Goes true (λ v. Agree D) (Agree D) (Agree D)) (as_head these l z) (as_head those l z) (one_same.by [] z i) }
-
-    alone_read : ReadAlike D e (summary (listed (d ▸ none))) (summary (listed (w ▸ none)))
-    alone_read = list_read e r.spelling r.symbol u.unseen none none (d ▸ none) (w ▸ none) (read_alone r.symbol d w (next_read r.kind r.spelling r.symbol r.first r.last r.init r.binds r.value (put_first x r.init r.value)))
-
-    head_read : ReadAlike D e (summary d) (summary w)
-    head_read = record {
-      facts = refl;
-      lets = λ y f. ap (is_in y) (sym (append-nil (summary d).lets)) ∙ alone_read.lets y f ∙ ap (is_in y) (append-nil (summary w).lets);
-      shared_lets = ap (only e.shared) (sym (append-nil (summary d).lets)) ∙ alone_read.shared_lets ∙ ap (only e.shared) (append-nil (summary w).lets);
-      name = refl;
-      functions = refl;
-    }
+    alike : ReadAlike D e (summary d) (summary w)
+    alike = head_read e r.spelling r.symbol u.unseen r.kind these those (next_read r.kind r.spelling r.symbol r.first r.last r.init r.binds r.value (put_first x r.init r.value))
 
     module _ (off : Off (hidden (over d)) V.initial) where
       in_tail : (t : Option Tail) → Same e D H (Stat t) (over d) (over w)
       unfolding there of_next
       in_tail t =
-          congruent_same e D u.unseen.shared (inside shape.ForStatement [] 0 none here rest) d w (tt, tt, tt, all_avoided x r.symbol refl rest unread) there.avoids.0 head_read H (Stat t)
-          (off_within (hidden (over d)) H V.initial (held_begins V (before ▸ none) V.initial (λ y h. h)) off) head_same
+          congruent_same e D u.unseen.shared (inside shape.ForStatement [] 0 none here rest) d w (tt, tt, tt, all_avoided x r.symbol refl rest unread) there.avoids.0 alike H (Stat t)
+          (off_within (hidden (over d)) H V.initial (held_begins V (before ▸ none) V.initial (λ y h. h)) off) (head_same e D H r.kind these those one_same)
 
       same : (t : Option Tail) → Same e D V.initial (Stat t) (over d) (over w)
       same t = weaker e D D H V.initial (within_refl D) (held_begins V (before ▸ none) V.initial (λ y h. h)) (Stat t) (over d) (over w) (in_tail t)
@@ -159,11 +138,8 @@ module _ {options : Switches} (V : Assured) (test update body before after : Tre
   in_body_free : names x body ≡ false
   in_body_free = (or_parts (names x body) false in_update.1).0
 
-  head_fits : (strict : Bool) → fits strict (one_or_absent an_init) d ≡ true → fits strict (one_or_absent an_init) w ≡ true
-  head_fits strict e =
-      init_declares strict r.kind those
-      ∙ sym (declaration_anywhere strict nested r.kind those)
-      ∙ next_fits strict r.kind x r.first r.init r.binds r.value r.last (movable options r.init r.moves) r.once (no_number_there x r.init r.value r.varies) (declaration_anywhere strict nested r.kind these ∙ sym (init_declares strict r.kind these) ∙ e)
+  fitting : (strict : Bool) → fits strict (one_or_absent an_init) d ≡ true → fits strict (one_or_absent an_init) w ≡ true
+  fitting strict = next_head_fits strict r.kind x r.first r.init r.binds r.value r.last (movable options r.init r.moves) r.once (no_number_there x r.init r.value r.varies)
 
   stands : (q : StmtSeat) → Stands (Stmt q) (over d) (over w)
   stands q = record {
@@ -184,7 +160,7 @@ module _ {options : Switches} (V : Assured) (test update body before after : Tre
       let c = unmentioned x r.symbol refl body in_body_free in
       record {
         stands = stands q;
-        fitting = λ strict s e. in_slot d w test update body head_fits strict (Stmt q) s e;
+        fitting = λ strict s e. in_slot d w test update body fitting strict (Stmt q) s e;
         keeps = in_order (Stmt q) (over d) (over w) (for_keeps x d w leaves named test update body a b c q);
         kept = for_kept x d w leaves named test update body a b c;
         less = for_less x d w leaves named test update body r.symbol refl;

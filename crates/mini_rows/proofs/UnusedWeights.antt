@@ -18,9 +18,10 @@ use Rattle.mini_laws.proofs.Seats.{moved}
 use Rattle.mini_rows.specs.Declarations.{binding, declarator}
 use Rattle.mini_rows.specs.Cases.{switch_case}
 use Rattle.mini_rows.specs.Lists.{block, switch, declaration}
-use Rattle.mini_rows.specs.Unused.{resolved, declared_among, declared_one, declared_left, head_left, put_first, BlockRow, ArrowBodyRow, FunctionBodyRow, ModuleRow, StaticBlockRow, switch_around, SwitchRow, ForRow, UnusedRow, UnusedLighten, UnusedLighter}
+use Rattle.mini_rows.specs.Unused.{resolved, declared_among, declared_one, declared_left, head_left, put_first, BlockRow, ArrowBodyRow, FunctionBodyRow, ModuleRow, StaticBlockRow, switch_around, SwitchRow, ForRow, ForNextRow, ForHeadRow, UnusedRow, UnusedLighten, UnusedLighter}
 use Rattle.mini_rows.specs.Switches.{Switches, Liberties}
 use Rattle.mini_rows.proofs.BlockPlaces.{elsewhere_weighs}
+use Rattle.mini_rows.proofs.ForHeads as heads
 use Rattle.mini_rows.proofs.SingleWeights.{single_falls, next_falls}
 use Rattle.mini_rows.proofs.ListWeights.{total, list_is, body_is, in_list, comma_list, declarators_append}
 use Rattle.mini_rows.proofs.UnusedMeaning.{movable}
@@ -203,11 +204,28 @@ head_falls p K x (d ▸ first) last init rest = for_falls p K x (d ▸ first) la
 for_lighter : (q : StmtSeat) (n w : Tree) → ForRow n w → weight (Stmt q) w < weight (Stmt q) n
 for_lighter q n w r = omega (arith, head_falls (Stmt q) r.kind (resolved r.spelling r.symbol) r.first r.last r.init (r.test ▸ (r.update ▸ (r.body ▸ none))), ap (weight (Stmt q)) r.shape, ap (weight (Stmt q)) r.written)
 
+-- where the next declarator reads the name, its head weighs less, too
+next_lighter : {o : Switches} (q : StmtSeat) (n w : Tree) → ForNextRow o n w → weight (Stmt q) w < weight (Stmt q) n
+next_lighter {o = o} q n w r =
+    let c = r.row in
+    let rest : Trees = r.test ▸ (r.update ▸ (r.body ▸ none)) in
+    omega (
+      arith,
+      own_for (Stmt q) (outlines (heads.left o n w r ▸ rest)) (outlines (heads.read o n w r ▸ rest)),
+      next_falls c.kind c.spelling c.symbol c.first c.init c.binds c.value c.last (movable o c.init c.moves) c.once,
+      ap (weight (Stmt q)) (heads.is_read o n w r),
+      ap (weight (Stmt q)) (heads.is_left o n w r),
+    )
+
+head_lighter : {o : Switches} (q : StmtSeat) (n w : Tree) → ForHeadRow o n w → weight (Stmt q) w < weight (Stmt q) n
+head_lighter q n w (inl r) = for_lighter q n w r
+head_lighter {o = o} q n w (inr r) = next_lighter {o = o} q n w r
+
 pub unused_lighter : UnusedLighter
 unused_lighter W (Stmt q) n w (inl r) = block_lighter q n w r
 unused_lighter W (Stmt q) n w (inr (inl r)) = function_lighter (Stmt q) n w r
 unused_lighter W (Stmt q) n w (inr (inr (inl r))) = switch_lighter q n w r
-unused_lighter W (Stmt q) n w (inr (inr (inr r))) = for_lighter q n w r
+unused_lighter W (Stmt q) n w (inr (inr (inr r))) = head_lighter {o = W.switches} q n w r
 unused_lighter W (Expr s) n w (inl r) = arrow_lighter s n w r
 unused_lighter W (Expr s) n w (inr r) = function_lighter (Expr s) n w r
 unused_lighter W Method n w r = function_lighter Method n w r
@@ -232,7 +250,8 @@ same_outline : (W : Liberties) (p : Position) (n w : Tree) → UnusedRow W p n w
 same_outline W (Stmt q) n w (inl r) = block_outline n w r
 same_outline W (Stmt q) n w (inr (inl r)) = function_outline n w r
 same_outline W (Stmt q) n w (inr (inr (inl r))) = ap outline r.shape ∙ sym (ap outline r.written)
-same_outline W (Stmt q) n w (inr (inr (inr r))) = ap outline r.shape ∙ sym (ap outline r.written)
+same_outline W (Stmt q) n w (inr (inr (inr (inl r)))) = ap outline r.shape ∙ sym (ap outline r.written)
+same_outline W (Stmt q) n w (inr (inr (inr (inr r)))) = ap outline r.shape ∙ sym (ap outline r.written)
 same_outline W (Expr s) n w (inl r) = ap outline r.shape ∙ sym (ap outline r.written)
 same_outline W (Expr s) n w (inr r) = function_outline n w r
 same_outline W Method n w r = function_outline n w r

@@ -730,13 +730,32 @@ pub record ForRow (n w : Tree) : Type 0 where
   pub shape : n ≡ for_loop (declared_among kind (resolved spelling symbol) first init last) test update body
   pub written : w ≡ for_loop (head_left kind (append first last)) test update body
 
+-- 71 among them: `for (let x = 1, y = g(x); y(); ) y(y);` becomes `for (let y = g(1); y(); ) y(y);`. The head is evaluated once, before the
+-- copies that the turns have of its names (ECMA-262, "ForLoopEvaluation", "CreatePerIterationEnvironment"), so it is read like a declaration
+-- in a block, and all else of the `for` like what stands behind that
+pub record ForNextRow (o : Switches) (n w : Tree) : Type 0 where
+  pub before : Tree
+  pub after : Tree
+  pub test : Tree
+  pub update : Tree
+  pub body : Tree
+  pub row : Row71Next (without_vars o) (block (before ▸ (test ▸ (update ▸ (body ▸ none))))) (block (after ▸ (test ▸ (update ▸ (body ▸ none)))))
+  -- the head is that declaration
+  pub begins : row.before ≡ none
+  pub shape : n ≡ for_loop before test update body
+  pub written : w ≡ for_loop after test update body
+
+-- one of both
+abbrev pub ForHeadRow : Switches → Tree → Tree → Type 0
+ForHeadRow o n w = ForRow n w ⊎ ForNextRow o n w
+
 -- a row reads n as w at this place: a function may be a statement, an expression, the value of a method, or exported, a program stands
 -- nowhere else, and a static block in a class. A block is a statement, or one of the blocks of a `try`, which stand elsewhere: of
 -- `try { let x = a(); b(); } catch (e) { }` the first becomes `{ a(); b(); }`. What a `catch` takes is declared around its block (ECMA-262,
 -- "CatchClauseEvaluation"), like parameters around a body, and stays. A block that is no body and a switch keep each
 -- `var`: its name is seen around it
 abbrev pub UnusedRow : Liberties → Position → Tree → Tree → Type 0
-UnusedRow W (Stmt q) n w = BlockRow (without_vars W.switches) n w ⊎ (FunctionBodyRow W n w ⊎ (SwitchRow W.switches n w ⊎ ForRow n w))
+UnusedRow W (Stmt q) n w = BlockRow (without_vars W.switches) n w ⊎ (FunctionBodyRow W n w ⊎ (SwitchRow W.switches n w ⊎ ForHeadRow W.switches n w))
 UnusedRow W (Expr s) n w = ArrowBodyRow W n w ⊎ FunctionBodyRow W n w
 UnusedRow W Method n w = FunctionBodyRow W n w
 UnusedRow W Elsewhere n w = FunctionBodyRow W n w ⊎ (ModuleRow W n w ⊎ (StaticBlockRow W n w ⊎ BlockRow (without_vars W.switches) n w))

@@ -14,12 +14,14 @@ use Rattle.mini_node.specs.Children.{names_of, part, with_part, without, is_bare
 use Rattle.mini_node.specs.Kinds.{is_block}
 use Rattle.mini_rows.specs.Declarations.{binding, declarator}
 use Rattle.mini_rows.specs.Lists.{block, declaration, declares_nothing, for_loop}
-use Rattle.mini_rows.specs.Unused.{resolved, declared_among, head_left, is_idle, UnusedRow, ForRow}
-use Rattle.mini_rows.specs.Switches.{Liberties, without_vars}
-use Rattle.mini_unused.specs.RemoveUnusedDeclaration.{declares_name, declares_list, is_lexical_shape, is_free_at, may_lose, may_go, is_alone, is_unused_declarator, list_at, is_unused, UnusedOf, open_in, is_function, is_switch, is_for_shape, has_head, is_idle_at, head_without, Applied, AppliedInHead, IdleDropped}
+use Rattle.mini_rows.specs.Unused.{resolved, declared_among, head_left, is_idle, may_move, UnusedRow, ForRow, ForNextRow, ForHeadRow}
+use Rattle.mini_rows.specs.Switches.{Switches, Liberties, without_vars}
+use Rattle.mini_unused.specs.RemoveUnusedDeclaration.{declares_name, declares_list, is_lexical_shape, is_free_at, may_lose, may_go, is_alone, is_unused_declarator, list_at, is_unused, UnusedOf, open_in, is_function, is_switch, is_for_shape, has_head, is_idle_at, head_without, Applied, AppliedIdle, AppliedNext, AppliedInHead, IdleDropped}
+use Rattle.mini_unused.specs.SubstituteNext.{is_declarator, is_read_then, is_read_by_next, is_next, NextOf, declarators_next, list_next}
 use Rattle.mini_unused.specs.Chains.{still}
 use Rattle.mini_unused.proofs.Chains.{several_moves}
 use Rattle.mini_unused.proofs.Unused.{no_outside, and_both, without_is, ds, d, init, first, last, kind, let_there, one, x, unused, statement_is, Read, unused_there, declarator_within, no_block}
+use Rattle.mini_unused.proofs.NextUses.{block_next, next_row, next_begins, next_there, next_within}
 use Rattle.mini_unused.proofs.Holders.{or_none, no_function, no_switch}
 
 -- 72 of a `let` or a `const` reads the same whatever lets a `var` go, and whatever names are kept
@@ -125,7 +127,7 @@ module _ (a b c e : Tree) (lexical : is_lexical_shape (shape_of a) ≡ true) (j 
         written = ap (λ y. for_loop (head_without y j) b c e) (let_there as_block 0 j refl within g closed u unseen) ∙ ap (λ h. for_loop h b c e) (head_left_is k us j g);
       }
 
-dropped_there : (W : Liberties) (t : Tree) (j : ℕ) → has_head t ≡ true → UnusedOf (open_in empty_statement W) empty_statement (children t) 0 (Some j) → (u : Tree) → IdleDropped t j u true → AppliedInHead t u true
+dropped_there : (W : Liberties) (t : Tree) (j : ℕ) → has_head t ≡ true → UnusedOf (open_in empty_statement W) empty_statement (children t) 0 (Some j) → (u : Tree) → IdleDropped t j u true → AppliedIdle t u true
 dropped_there W t j h n u d =
     let r = head t h in
     let a = part t 0 in
@@ -159,7 +161,7 @@ as_read t w r =
       shape = refl;
     }
 
-pub none_there : (W : Liberties) (t : Tree) → has_head t ≡ true → UnusedOf (open_in empty_statement W) empty_statement (children t) 0 None → AppliedInHead t t false
+pub none_there : (W : Liberties) (t : Tree) → has_head t ≡ true → UnusedOf (open_in empty_statement W) empty_statement (children t) 0 None → AppliedIdle t t false
 unfolding as_read
 none_there W t h n = (refl, by)
   where
@@ -173,7 +175,7 @@ none_there W t h n = (refl, by)
         let moved = subst (λ us. UnusedOf (open_in empty_statement W) empty_statement us 0 None) (ap children r.shape) n in
         true≢false (sym (same_test W ts (count r.first) r.lexical ∙ here) ∙ moved (count r.first) inside)
 
-seen_there : (t : Tree) → has_eval t ≡ true → AppliedInHead t t false
+seen_there : (t : Tree) → has_eval t ≡ true → AppliedIdle t t false
 seen_there t e = (refl, λ w r. true≢false (sym e ∙ ap has_eval r.shape ∙ r.unseen))
 
 -- and where something misses the initializer of the first that nothing mentions, it is the only one
@@ -200,7 +202,7 @@ missed_declarator free W o x first v last ts i j inside u f idle =
     let (single, present) = and_parts (is_bare l 1) (declares_nothing z) (sym (ap (λ b. b || (is_bare l 1 && declares_nothing z)) missed) ∙ goes) in
     true≢false (sym idle ∙ sym (ap (λ y. is_idle (part y 1)) (single_there first d last single j inside)) ∙ missed)
 
-missed_there : (W : Liberties) (t : Tree) (j : ℕ) → UnusedOf (open_in empty_statement W) empty_statement (children t) 0 (Some j) → is_idle_at (part (part t 0) 0) j ≡ false → AppliedInHead t t false
+missed_there : (W : Liberties) (t : Tree) (j : ℕ) → UnusedOf (open_in empty_statement W) empty_statement (children t) 0 (Some j) → is_idle_at (part (part t 0) 0) j ≡ false → AppliedIdle t t false
 missed_there W t j n e = (refl, by)
   where
     by : (w : Tree) → ForRow t w → ⊥
@@ -212,18 +214,102 @@ missed_there W t j n e = (refl, by)
         let u = sym (ap (λ us. is_unused (open_in empty_statement W) empty_statement us 0 j) (ap children r.shape)) ∙ n.2 in
         missed_declarator (is_free_at ts 0) (open_in empty_statement W) empty_statement x r.first r.init r.last ts 0 j inside u (sym (ap (λ y. is_idle_at (part (part y 0) 0) j) r.shape) ∙ e) r.idle
 
-pub idle_dropped : (W : Liberties) (t : Tree) (j : ℕ) → has_head t ≡ true → UnusedOf (open_in empty_statement W) empty_statement (children t) 0 (Some j) → (u : Tree) (b : Bool) → IdleDropped t j u b → AppliedInHead t u b
+pub idle_dropped : (W : Liberties) (t : Tree) (j : ℕ) → has_head t ≡ true → UnusedOf (open_in empty_statement W) empty_statement (children t) 0 (Some j) → (u : Tree) (b : Bool) → IdleDropped t j u b → AppliedIdle t u b
 idle_dropped W t j h n u true d = dropped_there W t j h n u d
 idle_dropped W t j h n u false d = by d.1
   where
-    by : (is_idle_at (part (part t 0) 0) j ≡ false) ⊎ (has_eval t ≡ true) → AppliedInHead t u false
+    by : (is_idle_at (part (part t 0) 0) j ≡ false) ⊎ (has_eval t ≡ true) → AppliedIdle t u false
     by (inl e) = (d.0, (missed_there W t j n e).1)
     by (inr e) = (d.0, (seen_there t e).1)
 
+-- ---- a name that the next declarator reads
+
+then_same : (xs : List Name) (d e : Tree) (us : Trees) (j : ℕ) (ts : Trees) (i : ℕ) → is_read_then xs d e empty_statement us j ts i ≡ is_read_then xs d e no_outside us j ts i
+then_same [] d e us j ts i = refl
+then_same (y ∷ xs) d e us j ts i = refl
+
+next_same : (W : Liberties) (ts : Trees) (j : ℕ) → is_lexical_shape (shape_of (child_or_absent ts 0)) ≡ true → is_next (open_in empty_statement W) empty_statement ts 0 j ≡ is_next (without_vars W.switches) no_outside ts 0 j
+next_same W ts j e =
+    let c = child_or_absent ts 0 in
+    let l = list_at ts 0 in
+    let d = part l j in
+    let n = part l (suc j) in
+    ap (λ f. declares_list c && is_read_by_next f (open_in empty_statement W) l j empty_statement ts 0) e
+    ∙ ap (λ b. declares_list c && (declares_name d && (is_declarator n && (true && (may_move W.switches (part d 1) && b))))) (then_same (names_of (part d 0)) d n (children l) j ts 0)
+    ∙ sym (ap (λ f. declares_list c && is_read_by_next f (without_vars W.switches) l j no_outside ts 0) e)
+
+module _ (o : Switches) (a b c e : Tree) (j : ℕ) (g : suc j < count (children (part a 0))) (u : is_next (without_vars o) no_outside (a ▸ (b ▸ (c ▸ (e ▸ none)))) 0 j ≡ true) (v : has_eval (for_loop a b c e) ≡ false) where
+  abbrev next_block : Tree
+  next_block = block (a ▸ (b ▸ (c ▸ (e ▸ none))))
+
+  within_block : 0 < count (children (part next_block 0))
+  within_block = omega arith
+
+  next_unseen : has_eval next_block ≡ false
+  next_unseen = block_evals (children (part next_block 0)) ∙ sym (for_evals a b c e) ∙ v
+
+  next_in_head : ForNextRow o (for_loop a b c e) (for_loop (with_part a 0 (declarators_next (part a 0) j)) b c e)
+  next_in_head = record {
+    before = a;
+    after = with_part a 0 (declarators_next (part a 0) j);
+    test = b;
+    update = c;
+    body = e;
+    row = next_row next_block 0 j refl within_block g (without_vars o) u next_unseen (block_next next_block 0 j) refl;
+    begins = next_begins next_block 0 j refl within_block g (without_vars o) u next_unseen (block_next next_block 0 j) refl;
+    shape = refl;
+    written = refl;
+  }
+
+pub next_gone : (W : Liberties) (t : Tree) (j : ℕ) → has_head t ≡ true → NextOf (open_in empty_statement W) empty_statement (children t) 0 (Some j) → has_eval t ≡ false → (u : Tree) → u ≡ list_next t 0 j → AppliedNext W.switches t u true
+next_gone W t j h n v u f =
+    let r = head t h in
+    let a = part t 0 in
+    let b = part t 1 in
+    let c = part t 2 in
+    let z = part t 3 in
+    let o = W.switches in
+    let ts = ap children r.is in
+    let found = sym (next_same W (a ▸ (b ▸ (c ▸ (z ▸ none)))) j r.lexical) ∙ sym (ap (λ us. is_next (open_in empty_statement W) empty_statement us 0 j) ts) ∙ n.2 in
+    let inside = subst (λ us. suc j < count (children (list_at us 0))) ts n.1 in
+    let row = next_in_head o a b c z j inside found (sym (ap has_eval r.is) ∙ v) in
+    subst (λ y. ForNextRow o y u) (sym r.is) (subst (ForNextRow o (for_loop a b c z)) (sym (f ∙ ap (λ y. list_next y 0 j) r.is)) row)
+
+pub none_by_next : (W : Liberties) (t : Tree) → has_head t ≡ true → NextOf (open_in empty_statement W) empty_statement (children t) 0 None → AppliedNext W.switches t t false
+none_by_next W t h n = (refl, by)
+  where
+    by : (w : Tree) → ForNextRow W.switches t w → ⊥
+    by w r =
+        let V = without_vars W.switches in
+        let c = r.row in
+        let j = count c.first in
+        let ts : Trees = r.before ▸ (r.test ▸ (r.update ▸ (r.body ▸ none))) in
+        let us : Trees = r.after ▸ (r.test ▸ (r.update ▸ (r.body ▸ none))) in
+        let here = subst (λ i. is_next V no_outside ts i j ≡ true) (ap count r.begins) (next_there V (block ts) (block us) c) in
+        let inside = subst (λ i. suc j < count (children (list_at ts i))) (ap count r.begins) (next_within V (block ts) (block us) c) in
+        let moved = subst (λ us. NextOf (open_in empty_statement W) empty_statement us 0 None) (ap children r.shape) n in
+        let lexical = sym (ap (λ y. is_lexical_shape (shape_of (part y 0))) r.shape) ∙ (head t h).lexical in
+        true≢false (sym (next_same W ts j lexical ∙ here) ∙ moved j inside)
+
+pub seen_by_eval : (o : Switches) (t : Tree) → has_eval t ≡ true → AppliedNext o t t false
+seen_by_eval o t e = (refl, by)
+  where
+    by : (w : Tree) → ForNextRow o t w → ⊥
+    by w r = true≢false (sym e ∙ ap has_eval r.shape ∙ for_evals r.before r.test r.update r.body ∙ sym (block_evals (r.before ▸ (r.test ▸ (r.update ▸ (r.body ▸ none))))) ∙ ap has_eval r.row.shape ∙ r.row.unseen)
+
+-- where neither a name goes nor the next declarator reads one, no row reads it
+pub of_both : (o : Switches) (t v u : Tree) (b : Bool) → AppliedIdle t v false → AppliedNext o v u b → AppliedInHead o t u b
+of_both o t v u true f s = inr (subst (λ y. ForNextRow o y u) f.0 s)
+of_both o t v u false f s = (s.0 ∙ f.0, by)
+  where
+    by : (w : Tree) → ForHeadRow o t w → ⊥
+    by w (inl r) = f.1 w r
+    by w (inr r) = subst (λ y. (w : Tree) → ForNextRow o y w → ⊥) f.0 s.1 w r
+
 -- ---- as a statement
 
-pub of_head : (W : Liberties) (t u : Tree) (b : Bool) → has_head t ≡ true → AppliedInHead t u b → (q : StmtSeat) → Applied W (Stmt q) t u b
-of_head W t u true h r q = several_moves W (Stmt q) ForRow (λ t u r. inr (inr (inr r))) t u (record { next = u; first = r; others = still u })
+pub of_head : (W : Liberties) (t u : Tree) (b : Bool) → has_head t ≡ true → AppliedInHead W.switches t u b → (q : StmtSeat) → Applied W (Stmt q) t u b
+of_head W t u true h r q = several_moves W (Stmt q) (ForHeadRow W.switches) (λ t u r. inr (inr (inr r))) t u (record { next = u; first = r; others = still u })
 of_head W t u false h r q = (r.0, by)
   where
     no_other : (t : Tree) → has_head t ≡ true → (is_block t ≡ false) × (is_function t ≡ false) × (is_switch t ≡ false)

@@ -17,7 +17,7 @@ use Rattle.mini_node.specs.Kinds.{is_block, is_listed, is_listed_shape}
 use Rattle.mini_node.specs.Made.{block_is, listed_is}
 use Rattle.mini_laws.specs.Naming as kinds
 use Rattle.mini_rows.specs.Lists.{block}
-use Rattle.mini_rows.specs.Unused.{names, any_names, may_move, statements, arrow_with, ArrowBodyRow, function_with, FunctionBodyRow, ModuleRow, static_block, StaticBlockRow, SwitchRow, ForRow, BlockRow, UnusedRow}
+use Rattle.mini_rows.specs.Unused.{names, any_names, may_move, statements, arrow_with, ArrowBodyRow, function_with, FunctionBodyRow, ModuleRow, static_block, StaticBlockRow, SwitchRow, ForHeadRow, BlockRow, UnusedRow}
 use Rattle.mini_tree.specs.declared.options.CompressOptions.{CompressOptions}
 use Rattle.mini_tree.specs.Rule as rule
 use Rattle.mini_context.specs.declared.context.TraverseCtx.{TraverseCtx}
@@ -29,6 +29,8 @@ use Rattle.mini_unused.specs.SubstituteSingleUse.{last_place, is_declared_over, 
 use Rattle.mini_unused.specs.Chains.{Several}
 use Rattle.mini_unused.proofs.Chains.{several_over, several_moves}
 use Rattle.mini_unused.proofs.Unused.{no_outside, and_both, declared_there, part_twice, row_at, no_row, no_block, all_used, seen_by_eval}
+use Rattle.mini_rows.proofs.ForHeads.{is_read}
+use Rattle.mini_rows.proofs.UnusedMeaning.{lexical_alone}
 use Rattle.mini_rows.proofs.UnusedNames.{or_parts}
 use Rattle.mini_rows.specs.Switches.{Switches, Liberties, without_vars, liberties}
 use Rattle.mini_unused.proofs.SingleUses.{row_there, none_single}
@@ -95,15 +97,17 @@ no_arrow : (W : Liberties) (t : Tree) → has_statements t ≡ false → (w : Tr
 no_arrow W t e w r = true≢false (sym (ap has_statements r.shape) ∙ e)
 
 -- a `for` that a row reads has a head
-row_has_head : (t w : Tree) → ForRow t w → has_head t ≡ true
-row_has_head t w r = ap has_head r.shape ∙ and_both (kinds.is_lexical r.kind) true r.lexical refl
+row_has_head : (o : Switches) (t w : Tree) → ForHeadRow o t w → has_head t ≡ true
+row_has_head o t w (inl r) = ap has_head r.shape ∙ and_both (kinds.is_lexical r.kind) true r.lexical refl
+row_has_head o t w (inr r) = ap has_head (is_read o t w r) ∙ and_both (kinds.is_lexical r.row.kind) true (lexical_alone r.row.kind r.row.goes) refl
 
-pub no_head : (t : Tree) → has_head t ≡ false → (w : Tree) → ForRow t w → ⊥
-no_head t e w r = true≢false (sym (row_has_head t w r) ∙ e)
+pub no_head : (o : Switches) (t : Tree) → has_head t ≡ false → (w : Tree) → ForHeadRow o t w → ⊥
+no_head o t e w r = true≢false (sym (row_has_head o t w r) ∙ e)
 
 -- and is a `for`
-pub no_for : (t : Tree) → is_for_shape (shape_of t) ≡ false → (w : Tree) → ForRow t w → ⊥
-no_for t e w r = true≢false (sym (ap (λ u. is_for_shape (shape_of u)) r.shape) ∙ e)
+pub no_for : (o : Switches) (t : Tree) → is_for_shape (shape_of t) ≡ false → (w : Tree) → ForHeadRow o t w → ⊥
+no_for o t e w (inl r) = true≢false (sym (ap (λ u. is_for_shape (shape_of u)) r.shape) ∙ e)
+no_for o t e w (inr r) = true≢false (sym (ap (λ u. is_for_shape (shape_of u)) r.shape) ∙ e)
 
 pub no_switch : {o : Switches} (t : Tree) → is_switch t ≡ false → (w : Tree) → SwitchRow o t w → ⊥
 no_switch t e w r = true≢false (sym (ap is_switch r.shape) ∙ e)
@@ -128,7 +132,7 @@ of_block W t m c b r u f q = applied_there W (Stmt q) (λ t u b. inl b) by t m c
     by ts w (inl b) = b
     by ts w (inr (inl f)) = absurd (no_function W (block ts) refl w f)
     by ts w (inr (inr (inl s))) = absurd (no_switch (block ts) refl w s)
-    by ts w (inr (inr (inr v))) = absurd (no_for (block ts) refl w v)
+    by ts w (inr (inr (inr v))) = absurd (no_for W.switches (block ts) refl w v)
 
 -- ---- a function: what its statements stand behind is read before them
 
@@ -557,7 +561,7 @@ as_statement W t u false h s e r q = (r.0, by)
     by w (inl b) = no_block (without_vars W.switches) t e w b
     by w (inr (inl f)) = r.1 w f
     by w (inr (inr (inl v))) = no_switch t s w v
-    by w (inr (inr (inr v))) = no_head t h w v
+    by w (inr (inr (inr v))) = no_head W.switches t h w v
 
 pub as_expression : (W : Liberties) (t u : Tree) (c : Bool) → has_statements t ≡ false → AppliedInFunction W t u c → (s : Seat) → Applied W (Expr s) t u c
 as_expression W t u true e r s = several_moves W (Expr s) (FunctionBodyRow W) (λ t u f. inr f) t u r

@@ -230,6 +230,11 @@ module _ (t : Tree) (i j : ℕ) (b : is_block t ≡ true) (h : i < count (childr
     written = written_there u f;
   }
 
+  -- which statement it reads
+  pub next_begins : (u : Tree) (f : u ≡ block_next t i j) → (next_row u f).before ≡ before
+  unfolding next_row
+  next_begins u f = refl
+
   -- whether it is of a `var`
   pub next_told : (u : Tree) (f : u ≡ block_next t i j) → not (kinds.is_lexical (next_row u f).kind) ≡ not (is_lexical_shape (shape_of statement))
   unfolding next_row

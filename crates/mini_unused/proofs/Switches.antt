@@ -229,4 +229,4 @@ of_switch W t u false s r q = (r.0, by)
     by w (inl b) = no_block (without_vars W.switches) t (no_other t s).0 w b
     by w (inr (inl f)) = no_function W t (no_other t s).1 w f
     by w (inr (inr (inl v))) = r.1 w v (omega arith)
-    by w (inr (inr (inr f))) = no_for t (no_other t s).2 w f
+    by w (inr (inr (inr f))) = no_for W.switches t (no_other t s).2 w f

@@ -16,7 +16,7 @@ use Rattle.mini_node.specs.Children.{names_of, like, part, with_part, without, i
 use Rattle.mini_node.specs.Kinds.{is_listed, is_listed_shape, is_named_leaf, is_block}
 use Rattle.mini_rows.specs.Lists.{declares_nothing}
 use Rattle.mini_rows.specs.Switches.{Switches, Liberties, liberties}
-use Rattle.mini_rows.specs.Unused.{names, any_names, is_idle, FunctionBodyRow, SwitchRow, ForRow, UnusedRow, UnusedContracts}
+use Rattle.mini_rows.specs.Unused.{names, any_names, is_idle, FunctionBodyRow, SwitchRow, ForRow, ForNextRow, ForHeadRow, UnusedRow, UnusedContracts}
 pub use Rattle.mini_rows.specs.Unused.{is_declarator_shape, is_variables_shape, declares_list}
 use Rattle.mini_tree.specs.declared.options.CompressOptions.{CompressOptions}
 use Rattle.mini_tree.specs.Rule as rule
@@ -234,10 +234,19 @@ is_idle_at l j = declares_name (part l j) && is_idle (part (part l j) 1)
 abbrev pub head_without : Tree → ℕ → Tree
 head_without t j = if is_bare (part t 0) 1 then absent else let_left t j
 
--- one call of it for the head of a `for`
-abbrev pub AppliedInHead : Tree → Tree → Bool → Type 0
-AppliedInHead t u true = ForRow t u
-AppliedInHead t u false = (u ≡ t) × ((w : Tree) → ForRow t w → ⊥)
+-- one call of it for the head of a `for`: of what drops a name, of what puts it into the next declarator, and of both
+abbrev pub AppliedOnce : (Tree → Tree → Type 0) → Tree → Tree → Bool → Type 0
+AppliedOnce R t u true = R t u
+AppliedOnce R t u false = (u ≡ t) × ((w : Tree) → R t w → ⊥)
+
+abbrev pub AppliedIdle : Tree → Tree → Bool → Type 0
+AppliedIdle = AppliedOnce ForRow
+
+abbrev pub AppliedNext : Switches → Tree → Tree → Bool → Type 0
+AppliedNext o = AppliedOnce (ForNextRow o)
+
+abbrev pub AppliedInHead : Switches → Tree → Tree → Bool → Type 0
+AppliedInHead o = AppliedOnce (ForHeadRow o)
 
 -- the declarator at the place goes from it, or nothing misses its initializer only where a direct eval stands there
 abbrev pub IdleDropped : Tree → ℕ → Tree → Bool → Type 0

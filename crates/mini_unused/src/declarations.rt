@@ -15,11 +15,12 @@ ghost use Rattle.mini_rows.specs.Unused.{is_idle as is_it_idle};
 ghost use Rattle.mini_unused.specs.Allowed.{switches_of};
 ghost use Rattle.mini_unused.specs.Lighter.{unused_is_lighter};
 ghost use Rattle.mini_unused.specs.RemoveUnusedDeclaration as row;
-ghost use Rattle.mini_unused.specs.RemoveUnusedDeclaration.{declares_name as it_declares_name, declares_list as it_declares_list, is_lexical_shape, is_var as is_it_var, may_declare as may_it_declare, is_free_at, let_left, allowed, open_in, case_at, with_statements, UnusedIn, UnusedOf, UnusedAt, Applied, AppliedInCase, AppliedInCases, AppliedInFunction, AppliedInHead, IdleDropped, Gives, Rests};
+ghost use Rattle.mini_unused.specs.RemoveUnusedDeclaration.{declares_name as it_declares_name, declares_list as it_declares_list, is_lexical_shape, is_var as is_it_var, may_declare as may_it_declare, is_free_at, let_left, allowed, open_in, case_at, with_statements, UnusedIn, UnusedOf, UnusedAt, Applied, AppliedInCase, AppliedInCases, AppliedInFunction, AppliedIdle, AppliedInHead, IdleDropped, Gives, Rests};
 ghost use Rattle.mini_unused.specs.SubstituteSingleUse.{Removed};
 
 use crate::declares::declares_nothing;
 use crate::evals::{either_has_eval, has_eval};
+use crate::for_heads::substitute_next_in_head;
 use crate::mentions::{is_mentioned, is_mentioned_before, is_mentioned_from};
 use crate::single_uses::substitute_single_uses;
 use crate::sweeping::sweep;
@@ -577,15 +578,27 @@ fn drop_idle_in_head(alloc: Global, node: &mut Node, which: usize) -> bool
 }
 
 // Of the head of a `for` such a declarator goes.
-fn remove_in_head(alloc: Global, node: &mut Node, context: &TraverseCtx) -> bool
+fn remove_idle_in_head(alloc: Global, node: &mut Node, context: &TraverseCtx) -> bool
     requires head { row.has_head node.old ≡ true }
     requires parts { 0 < count (children node.old) }
-    ensures { AppliedInHead node.old node.new result }
+    ensures { AppliedIdle node.old node.new result }
 {
     match unused_in_head(alloc, node, context) {
         Some(which) => drop_idle_in_head(alloc, node, which),
         None => false,
     }
+}
+
+// Or else one that the next declarator reads, whose initializer goes there.
+fn remove_in_head(alloc: Global, node: &mut Node, context: &TraverseCtx) -> bool
+    requires head { row.has_head node.old ≡ true }
+    requires parts { 0 < count (children node.old) }
+    ensures { AppliedInHead (switches_of context.now.options) node.old node.new result }
+{
+    if remove_idle_in_head(alloc, node, context) {
+        return true;
+    }
+    substitute_next_in_head(alloc, node, context)
 }
 
 /// Of a block, `let x = a();` becomes `a();`, `let x;` and `let x = 1;` become `;`, and `let x, y = b();` becomes `let y = b();`

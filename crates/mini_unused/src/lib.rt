@@ -9,6 +9,7 @@ mod declarations;
 mod declares;
 mod ends;
 mod evals;
+mod for_heads;
 mod further;
 mod inside;
 mod mentions;

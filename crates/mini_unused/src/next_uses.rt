@@ -158,7 +158,6 @@ fn is_read_by_next(
 }
 
 // The first of the list.
-
 fn next_in(
     is_free: bool,
     list: &Node,
@@ -183,9 +182,13 @@ fn next_in(
     None
 }
 
-// Of the statement, where it is a declaration.
-
-fn next_of(outside: &Node, statements: &Nodes, at: usize, context: &TraverseCtx) -> Option<usize>
+/// Of the statement, where it is a declaration.
+pub fn next_of(
+    outside: &Node,
+    statements: &Nodes,
+    at: usize,
+    context: &TraverseCtx,
+) -> Option<usize>
     requires statement { at < count statements.now }
     requires fits { at + 1 < 2 ^ 64 }
     ensures { NextOf (open_in outside.now (allowed context.now)) outside.now statements.now at result }
@@ -244,7 +247,7 @@ fn substitute_in_declarators(list: &mut Node, which: usize)
     discard(binding);
 }
 
-/// Of a list of statements, `let x = a(), y = x.b;` becomes `let y = a().b;`.
+/// Of a list of statements, `let x = a(), y = x.b;` becomes `let y = a().b;`, and so it does at the head of a `for`.
 #[tactic(auto, using(crate::proofs::Unused::same_parts, crate::proofs::Unused::part_twice, crate::proofs::NextUses::two_parts, crate::proofs::NextUses::declarator_parts))]
 pub fn substitute_next(list: &mut Node, at: usize, which: usize)
     requires statement { at < count (children list.old) }

@@ -1,9 +1,18 @@
-use Rattle.mini_unused.specs.RemoveUnusedDeclaration.{allowed}
-use Rattle.mini_unused.proofs.Heads.{idle_dropped, none_there}
+use Rattle.std.proofs.Common.{ap, ◌∙◌, sym, subst, inl, ◌<◌}
+use Rattle.mini_model.specs.Tree.{children, count}
+use Rattle.mini_unused.specs.Allowed.{switches_of}
+use Rattle.mini_unused.specs.RemoveUnusedDeclaration.{has_head}
+use Rattle.mini_unused.proofs.Heads.{of_both}
 use Rattle.mini_unused.proofs.declarations.remove_in_head.Goals as goal
 
-pub returns-in-Some : goal.returns-in-Some
-returns-in-Some c = idle_dropped (allowed c.args.context.now) c.args.node.now c.in-Some.which c.requires.head c.in-Some.ensures c.drop_idle_in_head.new.node c.drop_idle_in_head.result c.drop_idle_in_head.ensures
+pub returns-then-remove_idle_in_head : goal.returns-then-remove_idle_in_head
+returns-then-remove_idle_in_head c = inl c.if-remove_idle_in_head.ensures
 
-pub returns-in-None : goal.returns-in-None
-returns-in-None c = none_there (allowed c.args.context.now) c.args.node.now c.requires.head c.in-None.ensures
+pub substitute_next_in_head-requires-clause-head : goal.substitute_next_in_head-requires-clause-head
+substitute_next_in_head-requires-clause-head c = ap has_head c.if-remove_idle_in_head.ensures.0 ∙ c.requires.head
+
+pub substitute_next_in_head-requires-clause-parts : goal.substitute_next_in_head-requires-clause-parts
+substitute_next_in_head-requires-clause-parts c = subst (λ t. 0 < count (children t)) (sym c.if-remove_idle_in_head.ensures.0) c.requires.parts
+
+pub returns : goal.returns
+returns c = of_both (switches_of c.args.context.now.options) c.args.node.now c.remove_idle_in_head.new.node c.substitute_next_in_head.new.node c.substitute_next_in_head.result c.if-remove_idle_in_head.ensures c.substitute_next_in_head.ensures
