@@ -53,7 +53,7 @@ module _ (options : Switches) (V : Assured) (test update body : Tree) where
       let ts : Trees = part t 0 ▸ none in
       let there = subst (λ v. PastGone V (without_vars options) outside v u) i r in
       let row = row_of V (without_vars options) outside ts u there in
-      let one = one_left V test update body (part t 0) (children u) row in (
+      let one = one_left V (without_vars options) outside (part t 0) (children u) row in (
         record { before = part t 0; after = part u 0; test = test; update = update; body = body; row = subst (PastRow V (without_vars options) outside ts) one row; shape = refl; written = refl },
         left_listed V (without_vars options) outside ts u there ∙ ap listed one,
       )

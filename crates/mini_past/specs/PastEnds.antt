@@ -5,13 +5,14 @@ use Rattle.mini_model.specs.Tree.{Tree, Trees, none, ◌▸◌}
 use Rattle.mini_kept.specs.Without.{Assured, BodySets}
 use Rattle.mini_laws.proofs.Lighter.{any_step_lighter}
 use Rattle.mini_node.specs.Children.{number_of}
+use Rattle.mini_rows.specs.declared.inside.Way.TheVariants as way
 use Rattle.mini_rows.specs.Inside.{EndsLighten}
 use Rattle.mini_rows.specs.PastInside.{is_let_around, known_below, past_ends, PastInside}
 use Rattle.mini_rows.specs.Steady.{all_bindings}
 use Rattle.mini_rows.specs.Switches.{Liberties}
 use Rattle.mini_rows.proofs.PastInsideLawful.{past_inside_lighter, past_inside_lightens}
 use Rattle.mini_tree.specs.Rule.{IsLighter}
-use Rattle.mini_unused.specs.Further.{RestsAt}
+use Rattle.mini_unused.specs.Further.{HereWalked, RestsAt}
 
 -- the first of them holds the body, with its number, and the others stand in it
 abbrev pub holder_number : Trees → ℕ
@@ -28,6 +29,10 @@ begun_below k a = is_let_around k true a && not (nat_lt 1 (all_bindings k a))
 
 abbrev pub known_at : BodySets → Trees → Assured
 known_at S a = known_below (nodes_below a) (S (holder_number a))
+
+-- a `var` in no list, and one that a `for` begins with, lose names, one after another; or none does, and then no row reads one
+abbrev pub OneWalked : BodySets → Liberties → Trees → Tree → Tree → Bool → Type 0
+OneWalked S W a t u c = HereWalked (past_ends S W) a way.Held t u c × HereWalked (past_ends S W) a way.Head t u c
 
 -- no such row reads it
 abbrev pub RestsPastInside : BodySets → Liberties → Position → Tree → Type 0

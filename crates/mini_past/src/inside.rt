@@ -1,5 +1,6 @@
 //! Row 71 past steady names of a `var` further inside a body: `function f(g) { if (g) { var x = a(); return g(x); } }` becomes
-//! `function f(g) { if (g) { ; return g(a()); } }`.
+//! `function f(g) { if (g) { ; return g(a()); } }`, and `function f(g) { for (;;) var x = a(), y = g(x); }` becomes
+//! `function f(g) { for (;;) var y = g(a()); }`.
 
 ghost use Rattle.std.specs.Prelude.{◌≡◌, ◌||◌, ◌&&◌, not, true, IfOk};
 ghost use Rattle.mini_laws.specs.Value.{Declared};
@@ -10,7 +11,8 @@ ghost use Rattle.mini_rows.specs.declared.inside.Way.TheVariants as way;
 ghost use Rattle.mini_rows.specs.Past.{any_bind};
 ghost use Rattle.mini_rows.specs.PastInside.{PastInside, past_ends};
 ghost use Rattle.mini_unused.specs.Further.{HereWalked};
-ghost use Rattle.mini_past.specs.PastEnds.{RestsPastInside, begun_below, holder_number as number_of_holder, known_at, nodes_below as below, past_ends_lighten, past_inside_steps_lighter};
+ghost use Rattle.mini_past.specs.PastEnds.{OneWalked, RestsPastInside, begun_below, holder_number as number_of_holder, known_at, nodes_below as below, past_ends_lighten, past_inside_steps_lighter};
+ghost use Rattle.mini_past.specs.SubstitutePast.{PastRemoved};
 
 use crate::names::{PastContext, PastNames};
 use crate::searching::substitute_past;
@@ -19,7 +21,7 @@ use mini_node::{Node, is_listed};
 use mini_rows::Way;
 use mini_steady::{SteadyNames, are_bound_twice, is_any_bound, is_let_around};
 use mini_tree::{CompressOptions, Rule};
-use mini_unused::{EndRewrites, remove_inside};
+use mini_unused::{EndRewrites, is_var, put_first, remove_inside, take_alone};
 use std::alloc::Global;
 
 // The number of what holds the body, the first of some nodes.
@@ -101,6 +103,23 @@ impl<'a, S: PastNames> PastNames for NamesBelow<'a, S> {
     }
 }
 
+// The names of a list of statements below some nodes.
+fn substitute_past_in<S: PastNames>(
+    alloc: Global,
+    above: &Node,
+    list: &mut Node,
+    steady: &S,
+) -> bool
+    requires { is_it_listed list.old ≡ true }
+    ensures { PastRemoved (known_at (S.sets steady.now) (children above.now)) (S.lets steady.now) above.now list.old list.new result }
+{
+    let names = NamesBelow {
+        names: steady,
+        above,
+    };
+    substitute_past(alloc, above, list, 0, &names)
+}
+
 // In a list of statements, below some nodes.
 fn substitute_past_below<S: PastNames>(
     alloc: Global,
@@ -117,11 +136,29 @@ fn substitute_past_below<S: PastNames>(
     if above.children().len() == 0 {
         return false;
     }
-    let names = NamesBelow {
-        names: steady,
-        above,
-    };
-    substitute_past(alloc, above, list, 0, &names)
+    substitute_past_in(alloc, above, list, steady)
+}
+
+// In a `var` in no list, or that a `for` begins with, which is read like a list of this one statement.
+fn substitute_past_alone<S: PastNames>(
+    alloc: Global,
+    above: &Node,
+    node: &mut Node,
+    steady: &S,
+) -> Result<bool, OutOfMemory>
+    requires { is_it_listed above.now ≡ true }
+    ensures { IfOk result (λ changed. OneWalked (S.sets steady.now) (S.lets steady.now) (children above.now) node.old node.new changed) }
+{
+    if !is_var(node) {
+        return Ok(false);
+    }
+    if above.children().len() == 0 {
+        return Ok(false);
+    }
+    let mut list = take_alone(alloc, node)?;
+    let changed = substitute_past_in(alloc, above, &mut list, steady);
+    put_first(node, list);
+    Ok(changed)
 }
 
 /// Row 71 past steady names at the ends of ways further inside a body.
@@ -143,6 +180,8 @@ impl<'a, S: PastNames> EndRewrites for PastEnds<'a, S> {
     ) -> Result<bool, OutOfMemory> {
         match way {
             Way::Statements => Ok(substitute_past_below(alloc, above, node, self.steady)),
+            Way::Held => substitute_past_alone(alloc, above, node, self.steady),
+            Way::Head => substitute_past_alone(alloc, above, node, self.steady),
             _ => Ok(false),
         }
     }

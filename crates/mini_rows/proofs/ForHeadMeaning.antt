@@ -24,30 +24,16 @@ use Rattle.mini_rows.specs.Unused.{put_first, ForNextRow}
 use Rattle.mini_rows.proofs.ForHeads.{named, read, left, over, unread}
 use Rattle.mini_rows.proofs.ListStretches.{exec_one, listed_is}
 use Rattle.mini_rows.proofs.ListStatements.{declaration_is}
+use Rattle.mini_rows.proofs.OneDeclaration.{one_same, one_alike}
 use Rattle.mini_rows.proofs.NextMeaning.{next_read, next_same, next_avoids}
 use Rattle.mini_rows.proofs.UnusedMeaning.{ReadAs, read_alone, list_read, movable, never_written, lexical_alone}
 use Rattle.mini_rows.proofs.UnusedNames.{avoided, all_avoided}
-
-module _ (e : Environment) (D H : VariableSet) (K : VariableDeclarationKind) (these those : Trees) where
-  -- labels before a declaration do nothing
-  as_head : (ds : Trees) (l : LabelSet) (z : State) → means e (listed (declaration K ds ▸ none)) (Stat None) [] z ≡ means e (declaration K ds) (Stat None) l z
-  as_head ds l z = listed_is e (declaration K ds ▸ none) [] z ∙ exec_one e (declaration K ds) z ∙ declaration_is e K ds [] z ∙ sym (declaration_is e K ds l z)
-
-  pub head_same : Same e D H (Stat None) (listed (declaration K these ▸ none)) (listed (declaration K those ▸ none)) → Same e D H (Stat None) (declaration K these) (declaration K those)
-  head_same one = record { by = λ l z i. subst₂ (Goes true (λ v. Agree D) (Agree D) (Agree D)) (as_head these l z) (as_head those l z) (one.by [] z i) }
 
 pub head_read : (e : Environment) (spelling : List ℕ) (k : ℕ) → Unseen (alone (Declared k)) e → (K : VariableDeclarationKind) (these those : Trees) → ReadAs k (declaration K these) (declaration K those) → ReadAlike (alone (Declared k)) e (summary (declaration K these)) (summary (declaration K those))
 head_read e spelling k u K these those r =
     let d = declaration K these in
     let w = declaration K those in
-    let alone_read = list_read e spelling k u none none (d ▸ none) (w ▸ none) (read_alone k d w r) in
-    record {
-      facts = refl;
-      lets = λ y f. ap (is_in y) (sym (append-nil (summary d).lets)) ∙ alone_read.lets y f ∙ ap (is_in y) (append-nil (summary w).lets);
-      shared_lets = ap (only e.shared) (sym (append-nil (summary d).lets)) ∙ alone_read.shared_lets ∙ ap (only e.shared) (append-nil (summary w).lets);
-      name = refl;
-      functions = refl;
-    }
+    one_alike e (alone (Declared k)) K these those (list_read e spelling k u none none (d ▸ none) (w ▸ none) (read_alone k d w r))
 
 -- ---- a `for` in which the next declarator reads a name
 
@@ -65,4 +51,4 @@ for_next_same o n w r e u t =
     let one = next_same e c.spelling k u c.kind c.init c.binds c.value c.last (movable o c.init c.moves) c.once c.passed id last (never_written c.kind e k (lexical_alone c.kind c.goes)) c.first in
     let alike = head_read e c.spelling k u c.kind _ _ (next_read c.kind c.spelling k c.first c.last c.init c.binds c.value (put_first x c.init c.value)) in
     congruent_same e D u.shared (inside shape.ForStatement [] 0 none here rest) d v (tt, tt, tt, all_avoided x k refl rest (unread o n w r)) (next_avoids x k refl c.kind c.first c.init c.binds c.value c.last c.once c.declared_earlier c.initial c.other c.declared_later) alike nothing (Stat t) (no_off _)
-    (weaker e D D nothing _ (within_refl D) (no_within _) (Stat None) d v (head_same e D nothing c.kind _ _ one))
+    (weaker e D D nothing _ (within_refl D) (no_within _) (Stat None) d v (one_same e D c.kind nothing _ _ one))

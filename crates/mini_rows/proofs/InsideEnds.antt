@@ -8,7 +8,7 @@ use Rattle.mini_model.specs.declared.shape.Shape.{Shape}
 use Rattle.mini_model.specs.declared.shape.Shape.TheVariants as shape
 use Rattle.mini_model.specs.Tree.{Tree, Trees, node, none, ◌▸◌, shape_of, count, child_or_absent, is_absent, expression_statement}
 use Rattle.mini_model.specs.Paths.{append}
-use Rattle.mini_accept.specs.WellShaped.{Depth, a_statement, a_block, one, one_or_absent, fits}
+use Rattle.mini_accept.specs.WellShaped.{Depth, a_statement, a_block, an_init, one, one_or_absent, each, fits, fill}
 use Rattle.mini_laws.specs.declared.names.Declared.TheVariants as declared
 use Rattle.mini_laws.specs.declared.names.Use.{Use}
 use Rattle.mini_laws.specs.declared.names.Use.TheVariants.{Read, Alone}
@@ -39,7 +39,7 @@ use Rattle.mini_rows.proofs.DeclaredKept.{none_after, idle_leaves, idle_declares
 use Rattle.mini_rows.proofs.ForHeadLawful.{left_leaves, head_fits}
 use Rattle.mini_rows.proofs.InsideKept.{Keeping, statement_slot}
 use Rattle.mini_rows.proofs.InsideNames.{VarThere, no_var, idle_vars, row_vars}
-use Rattle.mini_rows.proofs.UnusedKept.{LeavesThere}
+use Rattle.mini_rows.proofs.UnusedKept.{LeavesThere, DeclaresThere}
 use Rattle.mini_rows.proofs.UnusedLawful.{idle_vanishes}
 use Rattle.mini_rows.proofs.UnusedMeaning.{left_avoids}
 use Rattle.mini_rows.proofs.UnusedNames.{all_avoided}
@@ -124,10 +124,10 @@ row_simple W p a b e (inr (inr (inr r))) v =
 -- ---- the only statement of a list
 
 -- where some of it goes, nothing stands beside that
-record Only (before d after : Trees) (s : Tree) : Type 0 where
-  nothing_before : before ≡ none
-  these : d ≡ s ▸ none
-  nothing_after : after ≡ none
+pub record Only (before d after : Trees) (s : Tree) : Type 0 where
+  pub nothing_before : before ≡ none
+  pub these : d ≡ s ▸ none
+  pub nothing_after : after ≡ none
 
 abbrev behind : Trees → Trees
 behind none = none
@@ -138,7 +138,7 @@ no_more none none after f e = f refl
 no_more none (t ▸ d) after f e = let c = ap count e in absurd (omega (arith, c))
 no_more (b ▸ before) d after f e = let c = ap count e in absurd (omega (arith, c))
 
-only : (before d after : Trees) (s : Tree) → (d ≡ none → ⊥) → s ▸ none ≡ append before (append d after) → Only before d after s
+pub only : (before d after : Trees) (s : Tree) → (d ≡ none → ⊥) → s ▸ none ≡ append before (append d after) → Only before d after s
 only none none after s f e = absurd (f refl)
 only none (t ▸ none) none s f e = record { nothing_before = refl; these = sym e; nothing_after = refl }
 only none (t ▸ none) (u ▸ after) s f e = let c = ap count e in absurd (omega (arith, c))
@@ -149,7 +149,7 @@ some_name : (x : Name) (first last : List Name) → [] ≡ first ++ x ∷ last �
 some_name x [] last e = cc e
 some_name x (y ∷ first) last e = cc e
 
-some_there : (x : Name) (d w : Trees) → VarThere x d w → d ≡ none → ⊥
+pub some_there : (x : Name) (d w : Trees) → VarThere x d w → d ≡ none → ⊥
 unfolding names_of
 some_there x d w v e = some_name x v.first v.last (sym (ap (all_names declared.Hoisted) e) ∙ v.names)
 
@@ -159,21 +159,25 @@ is_it_alone : (v : Use) → is_alone v ≡ true → Alone ≡ v
 is_it_alone Alone e = refl
 is_it_alone v e = absurd (cc e)
 
+is_it_read : (v : Use) → is_read v ≡ true → Read ≡ v
+is_it_read Read e = refl
+is_it_read v e = absurd (cc e)
+
 cast : {A B : Type 0} → A ≡ B → A → B
 cast e a = subst (λ X. X) e a
 
 -- of one statement that loses a name
-module _ (W : VariableSet) (sp : List ℕ) (k : ℕ) (s w : Tree) (lost : Loses W sp k (s ▸ none) (w ▸ none)) (vars : VarThere (resolved sp k) (s ▸ none) (w ▸ none)) (f : is_simple s ≡ true) (g : is_simple w ≡ true) where
-  abbrev l : LeavesThere (resolved sp k) (s ▸ none) (w ▸ none)
-  l = lost.leaves
-
+module _ (sp : List ℕ) (k : ℕ) (s w : Tree) (l : LeavesThere (resolved sp k) (s ▸ none) (w ▸ none)) (declares : DeclaresThere (resolved sp k) (s ▸ none) (w ▸ none)) (vars : VarThere (resolved sp k) (s ▸ none) (w ▸ none)) (in_list : (o : Depth) (strict : Bool) → fill strict (each (item_in o)) (s ▸ none) ≡ true → fill strict (each (item_in o)) (w ▸ none) ≡ true) (f : is_simple s ≡ true) (g : is_simple w ≡ true) where
   statement_fits : (strict b m : Bool) (o : Depth) → fits strict (statement_slot b m o) s ≡ true → fits strict (statement_slot b m o) w ≡ true
-  statement_fits strict false false o e = left (fits strict (item_in o) w) true (lost.fits o strict (both (fits strict (item_in o) s) true e refl))
-  statement_fits strict false true o e = as_one strict o w g ∙ left (fits strict (item_in o) w) true (lost.fits o strict (both (fits strict (item_in o) s) true (sym (as_one strict o s f) ∙ e) refl))
+  statement_fits strict false false o e = left (fits strict (item_in o) w) true (in_list o strict (both (fits strict (item_in o) s) true e refl))
+  statement_fits strict false true o e = as_one strict o w g ∙ left (fits strict (item_in o) w) true (in_list o strict (both (fits strict (item_in o) s) true (sym (as_one strict o s f) ∙ e) refl))
   statement_fits strict true m o e = absurd (no_block strict m o s f e)
 
   alone_scoped : (v : Use) (env : Environment) → is_alone v ≡ true → Scoped v env s → Scoped v env w
   alone_scoped v env e = subst (λ u. Scoped u env s → Scoped u env w) (is_it_alone v e) (λ a. cast (sym (same_scoped w (unscoped w g) env)) (l.scoped env (cast (same_scoped s (unscoped s f) env) a, tt)).0)
+
+  held_clash : (o : Bool) → NoMoreClash (as_body o w) (as_body o s)
+  held_clash o = subst (NoMoreClash (as_body o w)) (append-nil (as_body o s)) (subst (λ es. NoMoreClash es (as_body o s ++ [])) (append-nil (as_body o w)) (declares.clash o))
 
   pub held_keeps : Keeping sp k way.Held s w
   unfolding names_of Unmentioned
@@ -200,10 +204,42 @@ module _ (W : VariableSet) (sp : List ℕ) (k : ℕ) (s w : Tree) (lost : Loses 
     fixed = λ y j a. (l.fixed y j (a, tt)).0;
     fixed_back = λ y j o a. (l.fixed_back y j o (a, tt)).0;
     declares = λ all a. (l.declares all (a, tt)).0;
-    clash = λ o. subst (NoMoreClash (as_body o w)) (append-nil (as_body o s)) (subst (λ es. NoMoreClash es (as_body o s ++ [])) (append-nil (as_body o w)) (lost.declares.clash o));
+    clash = held_clash;
     block = λ z. absurd (cc z);
     fits_there = statement_fits;
   }
+
+  -- so it does where a `for` begins with it
+  pub heading_keeps : ((strict : Bool) → fits strict (one_or_absent an_init) s ≡ true → fits strict (one_or_absent an_init) w ≡ true) → Keeping sp k way.Head s w
+  heading_keeps h =
+      let held = held_keeps in
+      record {
+        label = held.label;
+        missing = λ z. absurd (z refl);
+        lexical = held.lexical;
+        first = held.first;
+        last = held.last;
+        hoisted = held.hoisted;
+        left = held.left;
+        others_first = held.others_first;
+        others_last = held.others_last;
+        loop = held.loop;
+        inner = held.inner;
+        scoped = λ v env z. subst (λ v. Scoped v env s → Scoped v env w) (is_it_read v z) (λ a. (l.scoped env (a, tt)).0);
+        unmentioned = held.unmentioned;
+        symbols = λ v y z. subst (λ v. times y (declared_in v w) ≤ times y (declared_in v s)) (is_it_read v z) (let fewer = l.symbols y in omega (arith, fewer));
+        numbered = held.numbered;
+        once = held.once;
+        targets = held.targets;
+        framed = held.framed;
+        bodied = held.bodied;
+        fixed = held.fixed;
+        fixed_back = held.fixed_back;
+        declares = held.declares;
+        clash = held.clash;
+        block = λ z. absurd (cc z);
+        fits_there = λ strict b m o e. h strict e;
+      }
 
 -- what a row says of one statement
 pub record HeldRow (W : VariableSet) (s w : Tree) : Type 0 where
@@ -280,10 +316,6 @@ head_as_body o (t ▸ ts) = refl
 head_avoids : (D : VariableSet) (ts : Trees) → Avoids D (declared_left Var ts) → Avoids D (head_left Var ts)
 head_avoids D none a = (tt, tt)
 head_avoids D (t ▸ ts) a = a
-
-is_it_read : (v : Use) → is_read v ≡ true → Read ≡ v
-is_it_read Read e = refl
-is_it_read v e = absurd (cc e)
 
 module _ (W : Liberties) (o : Trees) (n w : Tree) (r : HeadEnd W o n w) where
   abbrev x : Name

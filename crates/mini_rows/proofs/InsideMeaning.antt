@@ -1,19 +1,19 @@
 -- What stands at the end of a way without a name that nothing else mentions, in what is around it: it means the same but for what that
 -- variable holds, so a statement on the way loses the name.
 use Rattle.std.specs.Prelude.{ℕ, zero, suc, ◌≡◌, refl, ◌||◌, Bool, true, false, List, [], ◌∷◌, Option, Some, None}
-use Rattle.std.proofs.Common.{ap, ◌∙◌, sym, subst, subst₂, inr, true≢false}
+use Rattle.std.proofs.Common.{ap, ◌∙◌, sym, subst, subst₂, inl, inr, true≢false}
 use Rattle.mini_model.specs.declared.kind.VariableDeclarationKind.TheVariants.{Var}
 use Rattle.mini_model.specs.declared.name.Name.{Name}
 use Rattle.mini_model.specs.declared.shape.Shape.{Shape}
 use Rattle.mini_model.specs.declared.shape.Shape.TheVariants as shape
 use Rattle.mini_model.specs.Tree.{Tree, Trees, node, none, ◌▸◌, absent, listed, count}
 use Rattle.mini_model.specs.Paths.{append}
-use Rattle.mini_laws.specs.Asking.{first_demand, do_demand, for_demand, each_demand}
+use Rattle.mini_laws.specs.Asking.{demand, first_demand, do_demand, for_demand, each_demand}
 use Rattle.mini_laws.specs.Command.{Kids, run}
-use Rattle.mini_laws.specs.Congruence.{Avoids, AllAvoid, Apart, ReadAlike}
+use Rattle.mini_laws.specs.Congruence.{Avoids, AllAvoid, Apart, ReadAlike, demand_at, known_at}
 use Rattle.mini_laws.specs.Demand.{Val, Test, Tail, LoopTail, Demand, As, Stat, Request, LabelSet}
 use Rattle.mini_laws.specs.Loops.{while_step, do_step, for_step, for_in_step, for_of_step}
-use Rattle.mini_laws.specs.Naming.{summary}
+use Rattle.mini_laws.specs.Naming.{facts, summary}
 use Rattle.mini_laws.specs.Path.{Path, here, inside, join, plug}
 use Rattle.mini_laws.specs.Replies.{statement}
 use Rattle.mini_laws.specs.Same.{Same}
@@ -24,13 +24,14 @@ use Rattle.mini_laws.specs.Substitution.{alone}
 use Rattle.mini_laws.specs.Tails.{ends_in}
 use Rattle.mini_laws.specs.Value.{Declared, VariableSet, nothing}
 use Rattle.mini_laws.specs.Weights.{is_here}
-use Rattle.mini_laws.proofs.Congruent.{transitive}
+use Rattle.mini_laws.proofs.Congruent.{congruent_same, weaker, no_within, no_off, transitive}
+use Rattle.mini_laws.proofs.Simulation.{within_refl}
 use Rattle.mini_laws.proofs.Stretching.{listed_one}
 use Rattle.mini_laws.proofs.Tailing.{tail_same}
 use Rattle.mini_kept.specs.Without.{Permits}
 use Rattle.mini_rows.specs.declared.inside.Way.{Way}
 use Rattle.mini_rows.specs.declared.inside.Way.TheVariants as way
-use Rattle.mini_rows.specs.Inside.{way_in, above, same_way, is_way_to, ListEnd, HeldEnd, HeadEnd, EndRow}
+use Rattle.mini_rows.specs.Inside.{way_in, above, same_way, is_way_to, ListEnd, HeldEnd, HeadEnd, HeadNextEnd, EndRow}
 use Rattle.mini_rows.specs.Lists.{block, declaration}
 use Rattle.mini_rows.specs.Unused.{resolved, names, any_names, declared_among, head_left}
 use Rattle.mini_rows.specs.Switches.{Liberties}
@@ -41,6 +42,7 @@ use Rattle.mini_rows.proofs.InsideNames.{row_vars, of_stretch, list_keeps}
 use Rattle.mini_rows.proofs.InsideStages.{Stage, Then, Else, While, Doing, For, ForIn, ForOf, Labeled, Heading, from, to, head, before, over, plainly, view}
 use Rattle.mini_rows.proofs.ListHeads.{for_names}
 use Rattle.mini_rows.proofs.ListStatements.{one_unscoped, block_is}
+use Rattle.mini_rows.proofs.NextEnds.{ReadNext, next_heading, next_avoided, next_alike, next_alone, heading_outside, heading_loses, heading_next}
 use Rattle.mini_rows.proofs.UnusedMeaning.{list_read, list_same, all_join, for_same}
 use Rattle.mini_rows.proofs.UnusedNames.{or_parts, all_avoided}
 use Rattle.mini_rows.proofs.UnusedStretches.{Loses, row_stretch}
@@ -48,7 +50,7 @@ use Rattle.mini_rows.proofs.Weaker.{weaker_goes}
 
 -- ---- the last step of a way
 
-same_itself : (w : Way) → same_way w w ≡ true
+pub same_itself : (w : Way) → same_way w w ≡ true
 same_itself way.Statement = refl
 same_itself way.Held = refl
 same_itself way.Statements = refl
@@ -67,9 +69,10 @@ pub record Cut (w : Way) (p : Path) (z : Way) : Type 0 where
   pub goes : way_in end kind (count pre) ≡ Some z
   pub plugs : (t : Tree) → plug p t ≡ plug place (node kind [] 0 (join pre t post))
   pub above_is : above p ≡ append (above place) (node kind [] 0 (join pre absent post) ▸ none)
+  pub demands : (t : Tree) (q : Demand) → demand_at p t q ≡ demand kind (facts (join pre t post)) (demand_at place (node kind [] 0 (join pre t post)) q) (count pre)
 
 cut_here : (w z r : Way) (h : Shape) (pre post : Trees) → way_in w h (count pre) ≡ Some r → same_way z r ≡ true → Cut w (inside h [] zero pre here post) z
-cut_here w z r h pre post e q = record { place = here; end = w; kind = h; pre = pre; post = post; there = same_itself w; goes = e ∙ ap (λ r. Some r) (sym (ways_same z r q)); plugs = λ t. refl; above_is = refl }
+cut_here w z r h pre post e q = record { place = here; end = w; kind = h; pre = pre; post = post; there = same_itself w; goes = e ∙ ap (λ r. Some r) (sym (ways_same z r q)); plugs = λ t. refl; above_is = refl; demands = λ t q. refl }
 
 cut_further : (w z r : Way) (h : Shape) (pre post : Trees) (k : Path) → way_in w h (count pre) ≡ Some r → Cut r k z → Cut w (inside h [] zero pre k post) z
 cut_further w z r h pre post k e c = record {
@@ -82,6 +85,9 @@ cut_further w z r h pre post k e c = record {
   goes = c.goes;
   plugs = λ t. ap (λ u. node h [] 0 (join pre u post)) (c.plugs t);
   above_is = ap (λ us. node h [] 0 (join pre absent post) ▸ us) c.above_is;
+  demands = λ t q.
+      c.demands t (demand h (facts (join pre (plug k t) post)) q (count pre))
+      ∙ ap (λ u. demand c.kind (facts (join c.pre t c.post)) (demand_at c.place (node c.kind [] 0 (join c.pre t c.post)) (demand h (facts (join pre u post)) q (count pre))) (count c.pre)) (c.plugs t);
 }
 
 cut_by : (w z : Way) (h : Shape) (pre : Trees) (k : Path) (post : Trees) (o : Option Way) → way_in w h (count pre) ≡ o → ((r : Way) → is_way_to z (Some r) k ≡ true → is_here k ≡ false → Cut r k z) → is_way_to z o k ≡ true → Cut w (inside h [] zero pre k post) z
@@ -95,12 +101,12 @@ cut w z (inside h [] zero pre k post) q f = cut_by w z h pre k post (way_in w h 
 cut w z (inside h [] (suc n) pre k post) q f = absurd (true≢false (sym q))
 cut w z (inside h (y ∷ ys) n pre k post) q f = absurd (true≢false (sym q))
 
-goes_in : (z : Way) (p : Path) → same_way z way.Statement ≡ false → is_way_to z (Some way.Statement) p ≡ true → is_here p ≡ false
-goes_in z here f q = absurd (true≢false (sym q ∙ f))
-goes_in z (inside h xs n pre k post) f q = refl
+goes_in : (w z : Way) (p : Path) → same_way z w ≡ false → is_way_to z (Some w) p ≡ true → is_here p ≡ false
+goes_in w z here f q = absurd (true≢false (sym q ∙ f))
+goes_in w z (inside h xs n pre k post) f q = refl
 
-pub last_step : (z : Way) (p : Path) → same_way z way.Statement ≡ false → is_way_to z (Some way.Statement) p ≡ true → Cut way.Statement p z
-last_step z p f q = cut way.Statement z p q (goes_in z p f q)
+pub last_step : (w z : Way) (p : Path) → same_way z w ≡ false → is_way_to z (Some w) p ≡ true → Cut w p z
+last_step w z p f q = cut w z p q (goes_in w z p f q)
 
 -- of what stands in no list, and of what a `for` begins with, it goes into a statement
 
@@ -268,6 +274,33 @@ heading_both W o n w r e u Heading h post free =
     }
 heading_both W o n w r e u g h post free = absurd (cc h)
 
+-- it is run there, where it declares variables
+
+heading_demand : (s : List ℕ) (k : ℕ) (n w : Tree) → ReadNext s k n w → (g : Stage) → to g ≡ way.Head → (post : Trees) (q : Demand) → demand (head g) (facts (join (before g) n post)) q (count (before g)) ≡ Stat None
+heading_demand s k n w r Heading h post q = ap (λ t. demand shape.ForStatement (facts (t ▸ post)) q 0) r.shape
+heading_demand s k n w r g h post q = absurd (cc h)
+
+pub heading_runs : (s : List ℕ) (k : ℕ) (n w : Tree) → ReadNext s k n w → (v : Way) (p : Path) → same_way way.Head v ≡ false → is_way_to way.Head (Some v) p ≡ true → (q : Demand) → Runs (demand_at p n q)
+heading_runs s k n w r v p other route q =
+    let c = last_step v way.Head p other route in
+    (None, c.demands n q ∙ by_stage (λ h pre. (q : Demand) → demand h (facts (join pre n c.post)) q (count pre) ≡ Stat None) c.end c.kind c.pre way.Head c.goes (λ g h. heading_demand s k n w r g h c.post) (demand_at c.place (node c.kind [] 0 (join c.pre n c.post)) q))
+
+next_both : (W : Liberties) (o : Trees) (n w : Tree) (r : HeadNextEnd W o n w) (e : Environment) → Permits W.writable (alone (Declared r.row.symbol)) e → (g : Stage) → to g ≡ way.Head → (post : Trees) → any_names (resolved r.row.spelling r.row.symbol) (join (before g) absent post) ≡ false → Both e (alone (Declared r.row.symbol)) (over g n post) (over g w post)
+next_both W o n w r e u Heading h post free =
+    let s = r.row.spelling in
+    let k = r.row.symbol in
+    let D = alone (Declared k) in
+    let next = heading_next W o n w r in
+    let p = inside shape.ForStatement [] 0 none here post in
+    record {
+      read = refl;
+      same = λ t.
+          congruent_same e D u.unseen.shared p n w (tt, tt, tt, all_avoided (resolved s k) k refl post free) (next_avoided s k n w next) (next_alike s k n w next e u.unseen) nothing (Stat t) (no_off _)
+          (subst (λ q. Same e D (known_at p n (Stat t) nothing) q n w) (sym (heading_demand s k n w next Heading refl post (Stat t)))
+          (weaker e D D nothing (known_at p n (Stat t) nothing) (within_refl D) (no_within _) (Stat None) n w (next_alone s k n w next e nothing ((heading_loses W o n w r).same e u))));
+    }
+next_both W o n w r e u g h post free = absurd (cc h)
+
 -- ---- along the way to it
 
 appended : (x : Name) (first : Trees) (t : Tree) → any_names x (append first (t ▸ none)) ≡ false → (any_names x first ≡ false) × (names x t ≡ false)
@@ -287,7 +320,7 @@ module _ (sp : List ℕ) (k : ℕ) (z : Way) (bare : is_bare_end z ≡ true) (ot
 
   end_same : (p : Path) → is_way_to z (Some way.Statement) p ≡ true → any_names x (above p) ≡ false → Same e D nothing (Stat None) (listed (plug p a ▸ none)) (listed (plug p b ▸ none))
   end_same p route free =
-      let c = last_step z p other route in
+      let c = last_step way.Statement z p other route in
       let (place_free, node_free) = appended x (above c.place) (node c.kind [] 0 (join c.pre absent c.post)) (sym (ap (any_names x) c.above_is) ∙ free) in
       let here_both = by_stage (λ h pre. any_names x (join pre absent c.post) ≡ false → Both e D (node h [] 0 (join pre a c.post)) (node h [] 0 (join pre b c.post))) c.end c.kind c.pre z c.goes (λ g h f. both g h c.post f) node_free in
       let (earlier, none_there, later) = joined_unnamed x c.pre absent c.post node_free in
@@ -333,7 +366,7 @@ held_loses W o a b r =
     let t = row_stretch W (listed o) (a ▸ none) (b ▸ none) refl r.row in
     let (h, (same_spelling, same_symbol)) = held_row W (listed o) a b refl r.row r.var in
     let D = alone (Declared h.symbol) in
-    let keeps = held_keeps W.writable h.spelling h.symbol a b h.loses h.vars h.simple h.simple_left in
+    let keeps = held_keeps h.spelling h.symbol a b h.loses.leaves h.loses.declares h.vars h.loses.fits h.simple h.simple_left in
     record {
       spelling = h.spelling;
       symbol = h.symbol;
@@ -351,8 +384,22 @@ head_loses W o a b r = record {
       (λ e u. end_same r.spelling r.symbol way.Head refl refl a b (head_avoided W o a b r) e u.unseen.shared (heading_both W o a b r e u) p route free);
 }
 
+next_loses : (W : Liberties) (o : Trees) (a b : Tree) → HeadNextEnd W o a b → EndLoses W.writable way.Head o a b
+next_loses W o a b r =
+    let s = r.row.spelling in
+    let k = r.row.symbol in
+    let next = heading_next W o a b r in
+    let avoided = next_avoided s k a b next in
+    record {
+      spelling = s;
+      symbol = k;
+      outside = heading_outside W o a b r;
+      loses = λ p route free. loses s k way.Head refl a b (next_heading s k a b next) avoided p route free W.writable (λ e u. end_same s k way.Head refl refl a b avoided e u.unseen.shared (next_both W o a b r e u) p route free);
+    }
+
 pub end_loses : (W : Liberties) (z : Way) (o : Trees) (a b : Tree) → EndRow z W o a b → EndLoses W.writable z o a b
 end_loses W way.Statements o a b r = list_loses W o a b r
 end_loses W way.Held o a b r = held_loses W o a b r
-end_loses W way.Head o a b r = head_loses W o a b r
+end_loses W way.Head o a b (inl r) = head_loses W o a b r
+end_loses W way.Head o a b (inr r) = next_loses W o a b r
 end_loses W z o a b r = absurd r

@@ -29,6 +29,7 @@ use Rattle.mini_rows.proofs.InsideMeaning.{last_step, by_stage}
 use Rattle.mini_rows.proofs.InsideStages.{Stage, Braces, Then, Else, While, Doing, For, ForIn, ForOf, Labeled, Case, Heading, to, head, before, view}
 use Rattle.mini_rows.proofs.InsideStages.{over as over_node}
 use Rattle.mini_rows.proofs.ListWeights.{total, list_is, body_is, in_list}
+use Rattle.mini_rows.proofs.NextEnds.{next_lighter, heading_next}
 use Rattle.mini_rows.proofs.UnusedStretches.{Stretch, stretch, row_stretch}
 use Rattle.mini_rows.proofs.UnusedWeights.{same_choice, same_chooses, block_lighter, head_falls}
 
@@ -150,36 +151,47 @@ list_falls : (W : Liberties) (o : Trees) (a b : Tree) → ListEnd W o a b → (k
 list_falls W o a b r =
     lists_fall r.list r.left (stretched_outline W.writable (listed o) r.list r.left (row_stretch W (listed o) r.list r.left refl r.row) (row_outline W o r.list r.left r.row)) (rows_fall W o r.list r.left r.row) a b r.shape r.written
 
-held_falls : (W : Liberties) (o : Trees) (a b : Tree) → HeldEnd W o a b → (k : Path) → is_way_to way.Held (Some way.Statement) k ≡ true → weight at_item (plug k b) + 1 ≤ weight at_item (plug k a)
-held_falls W o a b r k e =
-    let h = (held_row W (listed o) a b refl r.row r.var).0 in
+-- so does a statement in no list
+pub one_falls : (a b : Tree) → is_simple a ≡ true → is_simple b ≡ true → total (b ▸ none) + 1 ≤ total (a ▸ none) → (k : Path) → is_way_to way.Held (Some way.Statement) k ≡ true → weight at_item (plug k b) + 1 ≤ weight at_item (plug k a)
+one_falls a b simple simple_left less k e =
     let whole = replacement k a b at_item in
-    let above = own_kept k a b at_item (simple_outline a h.simple ∙ sym (simple_outline b h.simple_left)) in
+    let above = own_kept k a b at_item (simple_outline a simple ∙ sym (simple_outline b simple_left)) in
     let (q, there) = end_placed way.Held way.Statement k at_item e tt in
-    let old = ap (λ p. weight p a) there ∙ simple_weight q a h.simple in
-    let new = ap (λ p. weight p b) there ∙ simple_weight q b h.simple_left in
-    omega (arith, whole, above, old, new, rows_fall W o (a ▸ none) (b ▸ none) r.row)
+    let old = ap (λ p. weight p a) there ∙ simple_weight q a simple in
+    let new = ap (λ p. weight p b) there ∙ simple_weight q b simple_left in
+    omega (arith, whole, above, old, new, less)
 
-heading_falls : (W : Liberties) (o : Trees) (a b : Tree) → HeadEnd W o a b → (g : Stage) → to g ≡ way.Head → (post : Trees) (p : Position) → (weight p (over_node g b post) < weight p (over_node g a post)) × (outline (over_node g a post) ≡ outline (over_node g b post))
-heading_falls W o a b r Heading e post p =
-    let less = head_falls p Var (resolved r.spelling r.symbol) r.first r.last r.init post in
-    (omega (arith, less, ap (λ t. weight p (node shape.ForStatement [] 0 (t ▸ post))) r.shape, ap (λ t. weight p (node shape.ForStatement [] 0 (t ▸ post))) r.written), refl)
-heading_falls W o a b r g e post p = absurd (cc e)
+held_falls : (W : Liberties) (o : Trees) (a b : Tree) → HeldEnd W o a b → (k : Path) → is_way_to way.Held (Some way.Statement) k ≡ true → weight at_item (plug k b) + 1 ≤ weight at_item (plug k a)
+held_falls W o a b r = let h = (held_row W (listed o) a b refl r.row r.var).0 in one_falls a b h.simple h.simple_left (rows_fall W o (a ▸ none) (b ▸ none) r.row)
 
-head_end_falls : (W : Liberties) (o : Trees) (a b : Tree) → HeadEnd W o a b → (k : Path) → is_way_to way.Head (Some way.Statement) k ≡ true → weight at_item (plug k b) + 1 ≤ weight at_item (plug k a)
-head_end_falls W o a b r k e =
-    let c = last_step way.Head k refl e in
+-- and what a `for` begins with
+abbrev LighterHead : Tree → Tree → Type 0
+LighterHead a b = (post : Trees) (p : Position) → weight p (node shape.ForStatement [] 0 (b ▸ post)) < weight p (node shape.ForStatement [] 0 (a ▸ post))
+
+at_heading : (a b : Tree) → LighterHead a b → (g : Stage) → to g ≡ way.Head → (post : Trees) (p : Position) → (weight p (over_node g b post) < weight p (over_node g a post)) × (outline (over_node g a post) ≡ outline (over_node g b post))
+at_heading a b less Heading e post p = (less post p, refl)
+at_heading a b less g e post p = absurd (cc e)
+
+pub heading_falls : (a b : Tree) → LighterHead a b → (k : Path) → is_way_to way.Head (Some way.Statement) k ≡ true → weight at_item (plug k b) + 1 ≤ weight at_item (plug k a)
+heading_falls a b lighter k e =
+    let c = last_step way.Statement way.Head k refl e in
     let n = node c.kind [] 0 (join c.pre a c.post) in
     let w = node c.kind [] 0 (join c.pre b c.post) in
-    let (less, same) = by_stage (λ h pre. (weight (position_at c.place at_item) (node h [] 0 (join pre b c.post)) < weight (position_at c.place at_item) (node h [] 0 (join pre a c.post))) × (outline (node h [] 0 (join pre a c.post)) ≡ outline (node h [] 0 (join pre b c.post)))) c.end c.kind c.pre way.Head c.goes (λ g h. heading_falls W o a b r g h c.post (position_at c.place at_item)) in
+    let (less, same) = by_stage (λ h pre. (weight (position_at c.place at_item) (node h [] 0 (join pre b c.post)) < weight (position_at c.place at_item) (node h [] 0 (join pre a c.post))) × (outline (node h [] 0 (join pre a c.post)) ≡ outline (node h [] 0 (join pre b c.post)))) c.end c.kind c.pre way.Head c.goes (λ g h. at_heading a b lighter g h c.post (position_at c.place at_item)) in
     let whole = replacement c.place n w at_item in
     let above = own_kept c.place n w at_item same in
     omega (arith, less, whole, above, ap (weight at_item) (c.plugs a), ap (weight at_item) (c.plugs b))
 
+head_lighter : (W : Liberties) (o : Trees) (a b : Tree) → HeadEnd W o a b → LighterHead a b
+head_lighter W o a b r post p =
+    let less = head_falls p Var (resolved r.spelling r.symbol) r.first r.last r.init post in
+    omega (arith, less, ap (λ t. weight p (node shape.ForStatement [] 0 (t ▸ post))) r.shape, ap (λ t. weight p (node shape.ForStatement [] 0 (t ▸ post))) r.written)
+
 end_falls : (W : Liberties) (z : Way) (o : Trees) (a b : Tree) → EndRow z W o a b → (k : Path) → is_way_to z (Some way.Statement) k ≡ true → weight at_item (plug k b) + 1 ≤ weight at_item (plug k a)
 end_falls W way.Statements o a b r = list_falls W o a b r
 end_falls W way.Held o a b r = held_falls W o a b r
-end_falls W way.Head o a b r = head_end_falls W o a b r
+end_falls W way.Head o a b (inl r) = heading_falls a b (head_lighter W o a b r)
+end_falls W way.Head o a b (inr r) = heading_falls a b (next_lighter r.row.spelling r.row.symbol a b (heading_next W o a b r))
 end_falls W z o a b r = absurd r
 
 -- ---- the body

@@ -309,6 +309,8 @@ pub mod InsideKept
 pub mod InsideNames
 pub mod InsideLoses
 pub mod InsideEnds
+pub mod OneDeclaration
+pub mod NextEnds
 pub mod InsideMeaning
 pub mod InsideLawful
 pub mod InsideWeights

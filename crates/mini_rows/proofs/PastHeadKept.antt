@@ -24,16 +24,17 @@ use Rattle.mini_kept.specs.Without.{Assured, Steadies, Permits}
 use Rattle.mini_kept.proofs.InOrder.{in_order}
 use Rattle.mini_rows.specs.Lists.{declaration, for_loop}
 use Rattle.mini_rows.specs.Declarations.{binding, declarator}
-use Rattle.mini_rows.specs.Switches.{Switches, without_vars}
+use Rattle.mini_rows.specs.Switches.{Switches, Liberties, without_vars}
 use Rattle.mini_rows.specs.Past.{begun, Row71PastNext, PastRow}
 use Rattle.mini_rows.specs.PastBlocks.{PastHeadRow}
 use Rattle.mini_rows.specs.Steady.{bindings}
 use Rattle.mini_rows.specs.Unused.{resolved, names, any_names, declared_among, put_first}
 use Rattle.mini_rows.proofs.ForHeadKept.{for_less, for_kept, for_keeps, for_fixed, for_frames, for_bodies, for_declares}
 use Rattle.mini_rows.proofs.ForHeadLawful.{in_slot, next_head_fits}
-use Rattle.mini_rows.proofs.ForHeadMeaning.{head_same, head_read}
+use Rattle.mini_rows.proofs.ForHeadMeaning.{head_read}
 use Rattle.mini_rows.proofs.NextKept.{next_leaves, next_names}
 use Rattle.mini_rows.proofs.NextMeaning.{next_read}
+use Rattle.mini_rows.proofs.OneDeclaration.{one_same}
 use Rattle.mini_rows.proofs.PastBound.{rows_bound}
 use Rattle.mini_rows.proofs.PastLost.{Stands, Lost, off_within, in_statement}
 use Rattle.mini_rows.proofs.PastMeaning.{held_begins}
@@ -51,17 +52,17 @@ tail : Trees → Trees
 tail none = none
 tail (t ▸ ts) = ts
 
-no_second : (a b : Trees) (t u c : Tree) → c ▸ none ≡ append a (t ▸ (u ▸ b)) → ⊥
+pub no_second : (a b : Trees) (t u c : Tree) → c ▸ none ≡ append a (t ▸ (u ▸ b)) → ⊥
 no_second none b t u c e = cc e
 no_second (d ▸ none) b t u c e = cc e
 no_second (d ▸ (f ▸ a)) b t u c e = cc e
 
-record Alone (a b : Trees) (t c : Tree) : Type 0 where
-  before : a ≡ none
-  after : b ≡ none
-  same : c ≡ t
+pub record Alone (a b : Trees) (t c : Tree) : Type 0 where
+  pub before : a ≡ none
+  pub after : b ≡ none
+  pub same : c ≡ t
 
-alone_there : (a b : Trees) (t c : Tree) → c ▸ none ≡ append a (t ▸ b) → Alone a b t c
+pub alone_there : (a b : Trees) (t c : Tree) → c ▸ none ≡ append a (t ▸ b) → Alone a b t c
 unfolding tail
 alone_there none b t c e = record { before = refl; after = sym (ap tail e); same = ap (λ ts. child_or_absent ts 0) e }
 alone_there (d ▸ none) b t c e = absurd (cc e)
@@ -104,9 +105,9 @@ module _ {options : Switches} (V : Assured) (test update body before after : Tre
     there : Behind V nothing (for_loop absent test update body) (before ▸ none) (after ▸ none)
     there = of_next V (without_vars options) (for_loop absent test update body) (before ▸ none) (after ▸ none) r
 
-    one_same : Same e D H (Stat None) (listed (d ▸ none)) (listed (w ▸ none))
+    alone_same : Same e D H (Stat None) (listed (d ▸ none)) (listed (w ▸ none))
     unfolding there of_next
-    one_same = subst₂ (λ a b. Same e D H (Stat None) (listed (append a (append (d ▸ none) b))) (listed (append a (append (w ▸ none) b)))) nothing_before nothing_after (there.same e u s)
+    alone_same = subst₂ (λ a b. Same e D H (Stat None) (listed (append a (append (d ▸ none) b))) (listed (append a (append (w ▸ none) b)))) nothing_before nothing_after (there.same e u s)
 
     alike : ReadAlike D e (summary d) (summary w)
     alike = head_read e r.spelling r.symbol u.unseen r.kind these those (next_read r.kind r.spelling r.symbol r.first r.last r.init r.binds r.value (put_first x r.init r.value))
@@ -116,7 +117,7 @@ module _ {options : Switches} (V : Assured) (test update body before after : Tre
       unfolding there of_next
       in_tail t =
           congruent_same e D u.unseen.shared (inside shape.ForStatement [] 0 none here rest) d w (tt, tt, tt, all_avoided x r.symbol refl rest unread) there.avoids.0 alike H (Stat t)
-          (off_within (hidden (over d)) H V.initial (held_begins V (before ▸ none) V.initial (λ y h. h)) off) (head_same e D H r.kind these those one_same)
+          (off_within (hidden (over d)) H V.initial (held_begins V (before ▸ none) V.initial (λ y h. h)) off) (one_same e D r.kind H these those alone_same)
 
       same : (t : Option Tail) → Same e D V.initial (Stat t) (over d) (over w)
       same t = weaker e D D H V.initial (within_refl D) (held_begins V (before ▸ none) V.initial (λ y h. h)) (Stat t) (over d) (over w) (in_tail t)
@@ -191,9 +192,9 @@ module _ {options : Switches} (V : Assured) (P : Tree → Tree → Type 0) (f : 
           subst₂ P (sym (r.shape ∙ ap over a.same)) (sym (r.written ∙ ap over b.same)) (f r.test r.update r.body r.before r.after c a.before a.after)
 
 -- what is left of the list is a list of one
-pub one_left : {options : Switches} (V : Assured) (test update body h : Tree) (us : Trees) → PastRow V (without_vars options) (for_loop absent test update body) (h ▸ none) us → us ≡ child_or_absent us 0 ▸ none
-one_left V test update body h us (inl c) = absurd (no_second c.before c.after _ c.head h c.shape)
-one_left V test update body h us (inr c) =
+pub one_left : (V : Assured) (W : Liberties) (q h : Tree) (us : Trees) → PastRow V W q (h ▸ none) us → us ≡ child_or_absent us 0 ▸ none
+one_left V W q h us (inl c) = absurd (no_second c.before c.after _ c.head h c.shape)
+one_left V W q h us (inr c) =
     let a = alone_there c.before c.after _ h c.shape in
     let left = declaration c.kind (append c.first (declarator c.binds (put_first (resolved c.spelling c.symbol) c.init c.value) ▸ c.last)) in
     let there : us ≡ left ▸ none = c.written ∙ (λ i. append (a.before i) (left ▸ a.after i)) in

@@ -1,6 +1,6 @@
 -- What the row of a `var` further inside a body that goes past names that keep their value writes is lighter, and keeps the program where that is so
 -- which is known of the body.
-use Rattle.std.specs.Prelude.{◌+◌, ◌≤◌, ◌≡◌, ◌⊎◌, refl, Bool, true, Some}
+use Rattle.std.specs.Prelude.{◌+◌, ◌≤◌, ◌≡◌, ◌⊎◌, refl, Bool, true}
 use Rattle.std.proofs.Common.{ap, ◌∙◌, sym, inl, inr, arith}
 use Rattle.mini_model.specs.declared.place.Position.{Position}
 use Rattle.mini_model.specs.declared.place.Position.TheVariants.{Expr, Stmt, Method, Elsewhere}
@@ -14,35 +14,25 @@ use Rattle.mini_kept.specs.Without.{Assured, BodySets}
 use Rattle.mini_kept.proofs.Loosely.{steady_join}
 use Rattle.mini_kept.proofs.Rooted.{steady_is_rooted, rooted_join, rooted_narrowed}
 use Rattle.mini_node.specs.Children.{number_of}
-use Rattle.mini_rows.specs.declared.inside.Way.{Way}
 use Rattle.mini_rows.specs.declared.inside.Way.TheVariants as way
 use Rattle.mini_rows.specs.Declarations.{declarator}
-use Rattle.mini_rows.specs.Inside.{above, is_way_to, Holder, Arrow, Function, Module, Static, over, stands_at, EndsLighten}
+use Rattle.mini_rows.specs.Inside.{Holder, Arrow, Function, Module, Static, over, stands_at, EndsLighten}
 use Rattle.mini_rows.specs.Lists.{declaration}
 use Rattle.mini_rows.specs.Past.{PastRow}
-use Rattle.mini_rows.specs.PastInside.{known_below, PastEnd, past_ends, PastInsideRow, PastInside, PastInsideLightens, PastInsideIsLawful}
+use Rattle.mini_rows.specs.PastInside.{known_below, past_ends, PastInsideRow, PastInside, PastInsideLightens, PastInsideIsLawful}
 use Rattle.mini_rows.specs.Unused.{resolved, declared_among, declared_left, put_first}
 use Rattle.mini_rows.specs.Switches.{Liberties}
 use Rattle.mini_rows.proofs.InsideLawful.{front, in_front}
-use Rattle.mini_rows.proofs.InsideWeights.{Falls, one_outline, two_outlines, lists_fall, held_lightens, holders_lighten}
+use Rattle.mini_rows.proofs.InsideWeights.{Falls, one_outline, two_outlines, lists_fall, one_falls, heading_falls, held_lightens, holders_lighten}
 use Rattle.mini_rows.proofs.ListWeights.{total, list_is}
+use Rattle.mini_rows.proofs.NextEnds.{next_simple, next_simple_left, next_lighter}
 use Rattle.mini_rows.proofs.PastArrowLawful.{arrows_lawful}
 use Rattle.mini_rows.proofs.PastHolders.{FunctionsBehind, ArrowsBehind, ModulesBehind, StaticsBehind}
-use Rattle.mini_rows.proofs.PastInsideKept.{holder_free, inside_behind}
+use Rattle.mini_rows.proofs.PastInsideKept.{one_next, inside_behind}
 use Rattle.mini_rows.proofs.PastLawful.{functions_behind_lawful, list_lighter}
 use Rattle.mini_rows.proofs.PastModuleLawful.{modules_lawful}
 use Rattle.mini_rows.proofs.PastStaticLawful.{statics_lawful}
 use Rattle.mini_rows.proofs.PastStretches.{Behind}
-
--- ---- the end of a way
-
-record EndThere (V : Assured) (W : Liberties) (o : Trees) (z : Way) (n w : Tree) : Type 0 where
-  is : z ≡ way.Statements
-  row : PastEnd V W o n w
-
-end_there : (S : BodySets) (W : Liberties) (o : Tree) (a : Trees) (z : Way) (n w : Tree) → past_ends S W (o ▸ a) z n w → EndThere (known_below a (S (number_of o))) W (o ▸ a) z n w
-end_there S W o a way.Statements n w r = record { is = refl; row = r }
-end_there S W o a z n w r = absurd r
 
 -- ---- lighter
 
@@ -60,12 +50,18 @@ total_falls : (S : BodySets) (W : Liberties) (V : Assured) (o : Tree) (ts us : T
 total_falls S W V o ts us r = let less = list_lighter S W V o ts us r in omega (arith, less, list_is ts, list_is us)
 
 past_falls : (S : BodySets) (W : Liberties) → Falls (past_ends S W)
-past_falls S W z none a b r k e = absurd r
-past_falls S W z (o ▸ us) a b r k e =
-    let t = end_there S W o us z a b r in
+past_falls S W way.Statements (o ▸ us) a b r =
     let V = known_below us (S (number_of o)) in
-    let l = t.row in
-    lists_fall l.list l.left (same_outline V W (listed (o ▸ us)) l.list l.left l.row) (total_falls S W V (listed (o ▸ us)) l.list l.left l.row) a b l.shape l.written k (sym (ap (λ z. is_way_to z (Some way.Statement) k) t.is) ∙ e)
+    lists_fall r.list r.left (same_outline V W (listed (o ▸ us)) r.list r.left r.row) (total_falls S W V (listed (o ▸ us)) r.list r.left r.row) a b r.shape r.written
+past_falls S W way.Held (o ▸ us) a b r =
+    let V = known_below us (S (number_of o)) in
+    let t = one_next V W (listed (o ▸ us)) a b r.row r.var in
+    one_falls a b (next_simple t.spelling t.symbol a b t.next) (next_simple_left t.spelling t.symbol a b t.next) (total_falls S W V (listed (o ▸ us)) (a ▸ none) (b ▸ none) r.row)
+past_falls S W way.Head (o ▸ us) a b r =
+    let t = one_next (known_below us (S (number_of o))) W (listed (o ▸ us)) a b r.row r.var in
+    heading_falls a b (next_lighter t.spelling t.symbol a b t.next)
+past_falls S W z none a b r = absurd r
+past_falls S W z (o ▸ us) a b r = absurd r
 
 pub past_inside_lighter : (S : BodySets) (W : Liberties) → EndsLighten (past_ends S W)
 past_inside_lighter S W = held_lightens (past_ends S W) (past_falls S W)
@@ -80,11 +76,7 @@ module _ (S : BodySets) (W : Liberties) where
   Holds p n w = (FunctionsBehind S W.writable p n w ⊎ ArrowsBehind S W.writable p n w) ⊎ (ModulesBehind S W.writable p n w ⊎ StaticsBehind S W.writable p n w)
 
   body_behind : (n w : Tree) (r : PastInsideRow S W n w) → Behind (S (number_of (over r.holder absent))) W.writable (front r.holder) (append r.first (plug r.place r.read ▸ r.last)) (append r.first (plug r.place r.put ▸ r.last))
-  body_behind n w r =
-      let o = over r.holder absent in
-      let t = end_there S W o (listed (append r.first (absent ▸ r.last)) ▸ above r.place) r.end r.read r.put r.row in
-      let there = sym (ap (λ z. is_way_to z (Some way.Statement) r.place) t.is) ∙ r.there in
-      inside_behind (S (number_of o)) W o r.first r.place r.last r.read r.put there t.row (front r.holder) (in_front _ r.holder (holder_free (S (number_of o)) W o r.first r.place r.last r.read r.put there t.row))
+  body_behind n w r = inside_behind S W (over r.holder absent) r.first r.place r.last r.end r.read r.put r.row r.there (front r.holder) (λ y. in_front y r.holder)
 
   held_by : (o : Holder) (p : Position) → stands_at o p ≡ true → {a b : Trees} {n w : Tree} → Behind (S (number_of (over o absent))) W.writable (front o) a b → n ≡ over o (listed a) → w ≡ over o (listed b) → Holds p n w
   held_by (Arrow ds k ps) (Expr s) e {a} {b} t f g = inl (inr (record { directives = ds; number = k; parameters = ps; before = a; after = b; there = t; shape = f; written = g }))

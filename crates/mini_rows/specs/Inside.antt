@@ -1,6 +1,6 @@
 -- Rows 71 and 72 of a `var` that stands further inside the body that it belongs to, with the JavaScript before and after.
 use Rattle.std.proofs.Common.{inl, inr}
-use Rattle.std.specs.Prelude.{◌≡◌, ◌<◌, not, ℕ, zero, suc, Bool, true, false, List, [], Option, Some, None, if◌then◌else◌}
+use Rattle.std.specs.Prelude.{◌≡◌, ◌⊎◌, ◌<◌, not, ℕ, zero, suc, Bool, true, false, List, [], Option, Some, None, if◌then◌else◌}
 use Rattle.mini_model.specs.declared.kind.VariableDeclarationKind.TheVariants.{Var}
 use Rattle.mini_model.specs.declared.place.Position.{Position}
 use Rattle.mini_model.specs.declared.place.Position.TheVariants.{Expr, Stmt, Method, Elsewhere}
@@ -20,7 +20,7 @@ use Rattle.mini_rows.specs.declared.inside.Way.{Way}
 use Rattle.mini_rows.specs.declared.inside.Way.TheVariants as way
 use Rattle.mini_rows.specs.Lists.{block}
 use Rattle.mini_rows.specs.Switches.{Liberties}
-use Rattle.mini_rows.specs.Unused.{resolved, names, any_names, declared_among, head_left, is_idle, BlockRow}
+use Rattle.mini_rows.specs.Unused.{resolved, names, any_names, declared_among, head_left, is_idle, Row71Next, BlockRow}
 
 -- ---- the way to it
 
@@ -183,11 +183,17 @@ pub record HeadEnd (W : Liberties) (o : Trees) (n w : Tree) : Type 0 where
   pub shape : n ≡ declared_among Var (resolved spelling symbol) first init last
   pub written : w ≡ head_left Var (append first last)
 
+-- `for (var x = a(), y = x.b; y(); ) y(y);` becomes `for (var y = a().b; y(); ) y(y);`: a `var` that a `for` begins with, which is read like a list of this
+-- one statement, where the next declarator reads the name. It is evaluated once, before each turn (ECMA-262, "ForLoopEvaluation")
+pub record HeadNextEnd (W : Liberties) (o : Trees) (n w : Tree) : Type 0 where
+  pub row : Row71Next W (block (listed o ▸ (n ▸ none))) (block (listed o ▸ (w ▸ none)))
+  pub var : not (is_lexical row.kind) ≡ true
+
 -- what is read at the end of a way, below these nodes
 abbrev pub EndRow : Way → Liberties → Trees → Tree → Tree → Type 0
 EndRow way.Statements W o n w = ListEnd W o n w
 EndRow way.Held W o n w = HeldEnd W o n w
-EndRow way.Head W o n w = HeadEnd W o n w
+EndRow way.Head W o n w = HeadEnd W o n w ⊎ HeadNextEnd W o n w
 EndRow s W o n w = ⊥
 
 -- what is read at the end of a way, by the nodes above it

@@ -72,9 +72,17 @@ pub record PastEnd (V : Assured) (W : Liberties) (o : Trees) (n w : Tree) : Type
   pub shape : n ≡ listed list
   pub written : w ≡ listed left
 
+-- `for (;;) var x = a(), y = g(x);` becomes `for (;;) var y = g(a());`, and `for (var x = a(), y = g(x); y(); ) y(y);` becomes
+-- `for (var y = g(a()); y(); ) y(y);`: a `var` in no list, and one that a `for` begins with, which are read like a list of this one statement
+pub record PastOneEnd (V : Assured) (W : Liberties) (o : Trees) (n w : Tree) : Type 0 where
+  pub row : PastRow V W (listed o) (n ▸ none) (w ▸ none)
+  pub var : passes_var row ≡ true
+
 -- what is read at the end of a way, below what holds the body and the nodes in it, over what S says of the body with its number
 abbrev pub past_ends : BodySets → Liberties → Ends
 past_ends S W (o ▸ a) way.Statements n w = PastEnd (known_below a (S (number_of o))) W (o ▸ a) n w
+past_ends S W (o ▸ a) way.Held n w = PastOneEnd (known_below a (S (number_of o))) W (o ▸ a) n w
+past_ends S W (o ▸ a) way.Head n w = PastOneEnd (known_below a (S (number_of o))) W (o ▸ a) n w
 past_ends S W o z n w = ⊥
 
 -- `function f(g) { if (g) { var x = a(); return g(x); } }` becomes `function f(g) { if (g) { ; return g(a()); } }`, and in a function

@@ -1,5 +1,5 @@
 -- A list that loses a name, in what holds it: a step of a child is one of the node.
-use Rattle.std.specs.Prelude.{ℕ, zero, suc, ◌≡◌, ◌<◌, ◌||◌, ◌&&◌, not, refl, Bool, true, false, List, [], ◌∷◌, Some, None}
+use Rattle.std.specs.Prelude.{ℕ, zero, suc, ◌≡◌, ◌<◌, ◌⊎◌, ◌||◌, ◌&&◌, not, refl, Bool, true, false, List, [], ◌∷◌, Some, None}
 use Rattle.std.proofs.Common.{ap, ◌∙◌, sym, subst, subst₂, inl, inr, true≢false, arith}
 use Rattle.std.proofs.lemmas.Bool.{and_parts}
 use Rattle.mini_model.specs.declared.kind.VariableDeclarationKind.{VariableDeclarationKind}
@@ -18,19 +18,21 @@ use Rattle.mini_node.specs.Walks.{with_same, append_none}
 use Rattle.mini_rows.specs.declared.inside.Way.{Way}
 use Rattle.mini_rows.specs.declared.inside.Way.TheVariants as way
 use Rattle.mini_rows.specs.Declarations.{binding, declarator}
-use Rattle.mini_rows.specs.Inside.{is_way_to, way_in, above, declares_var, ListEnd, HeldEnd, HeadEnd, EndRow, Ends, unused_ends}
+use Rattle.mini_rows.specs.Inside.{is_way_to, way_in, above, declares_var, ListEnd, HeldEnd, HeadEnd, HeadNextEnd, EndRow, Ends, unused_ends}
 use Rattle.mini_rows.specs.Lists.{block, declaration, declares_nothing}
-use Rattle.mini_rows.specs.Unused.{resolved, names, any_names, declared_among, head_left, is_idle, lets_go, BlockRow}
+use Rattle.mini_rows.specs.Unused.{resolved, names, any_names, declared_among, head_left, is_idle, lets_go, Row71Next, BlockRow}
 use Rattle.mini_rows.proofs.InsideEnds.{single_left}
 use Rattle.mini_rows.proofs.InsideLoses.{no_way, ways_same}
 use Rattle.mini_rows.specs.Switches.{Liberties}
 use Rattle.mini_unused.specs.Chains.{Several, still}
 use Rattle.mini_unused.specs.RemoveUnusedDeclaration.{open_in, declares_list, declares_name, is_lexical_shape, is_var, is_unused, is_idle_at, head_without, UnusedOf}
+use Rattle.mini_unused.specs.Calls.{Within}
+use Rattle.mini_unused.specs.SubstituteNext.{NextGone}
 use Rattle.mini_unused.specs.SubstituteSingleUse.{Gone, Removed}
 use Rattle.mini_unused.proofs.Chains.{chain_joined, several_over}
 use Rattle.mini_unused.proofs.Chains as chains
 use Rattle.mini_unused.proofs.Heads.{head_left_is, missed_declarator}
-use Rattle.mini_unused.proofs.FurtherVars.{unused_back, var_row, no_var_row}
+use Rattle.mini_unused.proofs.FurtherVars.{unused_back, var_next, var_row, no_var_row, no_var_next}
 use Rattle.mini_unused.proofs.Holders.{left_listed, put_back, unused_goes}
 use Rattle.mini_unused.proofs.Unused.{no_outside, kind, first, last, init, let_there, one, goes, statement_is, unused, Read, declarator_within}
 use Rattle.mini_unused.proofs.Unused.{unused_there as read_there}
@@ -303,7 +305,11 @@ no_held_here W a t f = (refl, no_end (unused_ends W) a way.Held t by)
 -- ---- what a `for` begins with
 
 pub no_heading_here : (W : Liberties) (a : Trees) (t : Tree) → is_var t ≡ false → HereWalked (unused_ends W) a way.Head t t false
-no_heading_here W a t f = (refl, no_end (unused_ends W) a way.Head t (λ read put is row. true≢false (sym (ap is_var (is ∙ row.shape)) ∙ f)))
+no_heading_here W a t f = (refl, no_end (unused_ends W) a way.Head t by)
+  where
+    by : (read put : Tree) → t ≡ read → HeadEnd W a read put ⊎ HeadNextEnd W a read put → ⊥
+    by read put is (inl row) = true≢false (sym (ap is_var (is ∙ row.shape)) ∙ f)
+    by read put is (inr row) = true≢false (sym (row_of_var W a read (block (listed a ▸ (put ▸ none))) (inr (inr (inr row.row))) row.var) ∙ ap is_var (sym is) ∙ f)
 
 pub no_such_end : (W : Liberties) (a : Trees) (s : Way) (t : Tree) → ((read put : Tree) → EndRow s W a read put → ⊥) → HereWalked (unused_ends W) a s t t false
 no_such_end W a s t f = (refl, no_end (unused_ends W) a s t (λ read put is row. f read put row))
@@ -440,15 +446,48 @@ heading_gone W o t j e v h u f =
       read = t;
       put = head_without t j;
       way = refl;
-      row = subst (λ us. HeadEnd W us t (head_without t j)) (sym (append_none a)) row;
+      row = subst (λ us. EndRow way.Head W us t (head_without t j)) (sym (append_none a)) (inl row);
       shape = refl;
       written = refl;
       below = λ z. absurd (true≢false (sym z));
     } in
     subst (λ z. Several (InStep (unused_ends W) a way.Head) t z) (sym f) (record { next = head_without t j; first = step; others = still (head_without t j) })
 
-pub heading_rests : (W : Liberties) (o t : Tree) → is_listed o ≡ true → HeadingFound (open_in o W) o t None → (u : Tree) → u ≡ t → HereWalked (unused_ends W) (children o) way.Head t u false
-heading_rests W o t e h u f = (f, no_end (unused_ends W) (children o) way.Head t (λ read put is row. subst (λ z. HeadingFound (open_in z W) z t None) (listed_is o e) h put (subst (λ z. HeadEnd W (children o) z put) (sym is) row)))
+-- where the next declarator reads a name
+
+one_goes : (W : Liberties) (a : Trees) (t m : Tree) → (has_eval (listed a) || has_eval (listed (t ▸ none))) ≡ false → NextGone W (listed a) (listed (t ▸ none)) m → InStep (unused_ends W) a way.Head t (part m 0)
+one_goes W a t m calm g =
+    let (row, var) = var_next W a (t ▸ none) m calm g in
+    let (v, one) = single_left W (listed a) t (children m) refl (inr (inr (inr row))) var in
+    let first : part m 0 ≡ v = ap (λ us. child_or_absent us 0) one in
+    let this : NextRow (part m 0 ▸ none) = subst NextRow (one ∙ ap (λ z. z ▸ none) (sym first)) (row, var) in
+    record {
+      place = here;
+      end = way.Head;
+      read = t;
+      put = part m 0;
+      way = refl;
+      row = subst (λ us. EndRow way.Head W us t (part m 0)) (sym (append_none a)) (inr (record { row = this.0; var = this.1 }));
+      shape = refl;
+      written = refl;
+      below = λ z. absurd (true≢false (sym z));
+    }
+  where
+    NextRow : Trees → Type 0
+    NextRow us = (r : Row71Next W (block (listed a ▸ (t ▸ none))) (block (listed a ▸ us))) × (not (kinds.is_lexical r.kind) ≡ true)
+
+heading_went : (W : Liberties) (a : Trees) (t m : Tree) (c : Bool) → HeadingFound W (listed a) t None → Within W (listed a) (listed (t ▸ none)) m c → HereWalked (unused_ends W) a way.Head t (part m 0) c
+heading_went W a t m true h r = record { next = part m 0; first = one_goes W a t m r.0 r.1; others = still (part m 0) }
+heading_went W a t m false h r = (ap (λ z. part z 0) r.0, no_end (unused_ends W) a way.Head t by)
+  where
+    by : (read put : Tree) → t ≡ read → HeadEnd W a read put ⊎ HeadNextEnd W a read put → ⊥
+    by read put is (inl row) = h put (subst (λ z. HeadEnd W a z put) (sym is) row)
+    by read put is (inr row) = no_var_next W a (read ▸ none) m (subst (λ z. Within W (listed a) (listed (z ▸ none)) m false) is r) (block (listed a ▸ (put ▸ none))) row.row row.var
+
+pub heading_read : (W : Liberties) (o t l m : Tree) (c : Bool) → is_listed o ≡ true → l ≡ listed (t ▸ none) → HeadingFound (open_in o W) o t None → Within (open_in o W) o l m c → (u : Tree) → u ≡ part m 0 → HereWalked (unused_ends W) (children o) way.Head t u c
+heading_read W o t l m c e f h r u g =
+    subst (λ z. HereWalked (unused_ends W) (children o) way.Head t z c) (sym g)
+    (heading_went W (children o) t m c (subst (λ z. HeadingFound (open_in z W) z t None) (listed_is o e) h) (subst₂ (λ z y. Within (open_in z W) z y m c) (listed_is o e) f r))
 
 -- ---- the nodes above
 

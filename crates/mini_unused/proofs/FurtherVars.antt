@@ -10,6 +10,7 @@ use Rattle.mini_rows.specs.Inside.{declares_var}
 use Rattle.mini_rows.specs.Lists.{block}
 use Rattle.mini_rows.specs.Unused.{names, any_names, Row71, Row71Next, BlockRow}
 use Rattle.mini_rows.specs.Switches.{Liberties}
+use Rattle.mini_unused.specs.Calls.{Within}
 use Rattle.mini_unused.specs.RemoveUnusedDeclaration.{declares_list, is_lexical_shape, is_var, is_free_at, is_unused_declarator, list_at, is_unused, UnusedAt}
 use Rattle.mini_unused.specs.SubstituteNext.{is_read_by_next, is_next, NextAt, NextGone}
 use Rattle.mini_unused.specs.SubstituteSingleUse.{last_place, is_single_declarator, is_single, SingleAt, NameGone, ReadGone, Gone, Removed}
@@ -58,7 +59,18 @@ module _ (W : Liberties) (a ts : Trees) where
   abbrev over : Tree → Tree
   over m = held (left W (listed a) a ts mentioned seen m)
 
-  -- the row that a name is lost by
+  -- the row that a name is lost by which the next declarator reads
+  pub var_next : (m : Tree) → (has_eval (listed a) || has_eval (listed ts)) ≡ false → NextGone W (listed a) (listed ts) m → (r : Row71Next W (block behind) (block (listed a ▸ children m))) × (not (kinds.is_lexical r.kind) ≡ true)
+  var_next m calm g =
+      let unseen = block_seen behind ∙ seen_there W (listed a) a ts mentioned seen ∙ calm in
+      let (var, y) = and_parts (is_var (at g.at)) (is_read_by_next (is_free_at ts g.at) W (list_at ts g.at) g.which (listed a) ts g.at) g.there.1.2 in
+      let goes = next_goes W (listed a) a ts mentioned seen g.at g.which g.there.1.2 in
+      let within = next_within g.at (count ts) g.there.0 in
+      let row = next.next_row (block behind) (suc g.at) g.which refl within g.there.1.1 W goes unseen (over m) (ap over g.left) in
+      let told = next.next_told (block behind) (suc g.at) g.which refl within g.there.1.1 W goes unseen (over m) (ap over g.left) in
+      (row, told ∙ (var_parts (at g.at) var).1)
+
+  -- and by which any is
   pub var_row : (m : Tree) → Gone W (listed a) (listed ts) m → (r : BlockRow W (block behind) (block (listed a ▸ children m))) × (declares_var r ≡ true)
   var_row m r = by r.name
     where
@@ -78,13 +90,7 @@ module _ (W : Liberties) (a ts : Trees) where
           let row = single.row_there (block behind) (suc g.at) refl within g.declares W goes unseen (over m) (ap over g.left) in
           let told = single.single_told (block behind) (suc g.at) refl within g.declares W goes unseen (over m) (ap over g.left) in
           (inr (inr (inl row)), told ∙ (var_parts (at g.at) var).1)
-      by (inr (inr g)) =
-          let (var, y) = and_parts (is_var (at g.at)) (is_read_by_next (is_free_at ts g.at) W (list_at ts g.at) g.which (listed a) ts g.at) g.there.1.2 in
-          let goes = next_goes W (listed a) a ts mentioned seen g.at g.which g.there.1.2 in
-          let within = next_within g.at (count ts) g.there.0 in
-          let row = next.next_row (block behind) (suc g.at) g.which refl within g.there.1.1 W goes unseen (over m) (ap over g.left) in
-          let told = next.next_told (block behind) (suc g.at) g.which refl within g.there.1.1 W goes unseen (over m) (ap over g.left) in
-          (inr (inr (inr row)), told ∙ (var_parts (at g.at) var).1)
+      by (inr (inr g)) = let (row, var) = var_next m r.unseen g in (inr (inr (inr row)), var)
 
   -- ---- where nothing is found
 
@@ -131,3 +137,10 @@ module _ (W : Liberties) (a ts : Trees) where
       by : ((has_eval (listed a) || has_eval (listed ts)) ≡ true) ⊎ (UnusedAt W (listed a) ts None × SingleAt W (listed a) ts None × NextAt W (listed a) ts None) → ⊥
       by (inl e) = seen_by_eval W (block behind) (block_seen behind ∙ seen_there W (listed a) a ts mentioned seen ∙ e) w row
       by (inr u) = found u row v
+
+  pub no_var_next : (m : Tree) → Within W (listed a) (listed ts) m false → (w : Tree) (row : Row71Next W (block behind) w) → not (kinds.is_lexical row.kind) ≡ true → ⊥
+  no_var_next m r w row v = by r.1
+    where
+      by : ((has_eval (listed a) || has_eval (listed ts)) ≡ true) ⊎ NextAt W (listed a) ts None → ⊥
+      by (inl e) = seen_by_eval W (block behind) (block_seen behind ∙ seen_there W (listed a) a ts mentioned seen ∙ e) w (inr (inr (inr row)))
+      by (inr u) = none_read_next u w row v

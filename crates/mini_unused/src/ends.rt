@@ -12,6 +12,7 @@ ghost use Rattle.mini_unused.specs.Further.{HereWalked, HeadingFound};
 ghost use Rattle.mini_unused.specs.Lighter.{unused_ends_lighten};
 ghost use Rattle.mini_unused.specs.RemoveUnusedDeclaration.{is_idle_at as is_it_idle_at, is_var as is_it_var, allowed, open_in};
 
+use crate::calls::substitute_within;
 use crate::declarations::{drop_from_head, is_idle_at, is_var, remove_in_list, unused_of};
 use crate::evals::either_has_eval;
 use mini_context::TraverseCtx;
@@ -58,16 +59,16 @@ fn remove_in_statements(
     remove_in_list(alloc, above, node, context)
 }
 
-// The node, taken out of its place, as the only one of a list.
-fn take_alone(alloc: Global, node: &mut Node) -> Result<Node, OutOfMemory>
+/// The node, taken out of its place, as the only one of a list.
+pub fn take_alone(alloc: Global, node: &mut Node) -> Result<Node, OutOfMemory>
     ensures { IfOk result (λ list. list ≡ as_list (node.old ▸ none)) }
 {
     let moved = taken(alloc, node);
     Ok(listed(of_one(alloc, moved)?))
 }
 
-// The first of a list, put into the place.
-fn put_first(node: &mut Node, list: Node)
+/// The first of a list, put into the place.
+pub fn put_first(node: &mut Node, list: Node)
     ensures { node.new ≡ part list 0 }
 {
     discard(mem::replace(node, one(list)));
@@ -122,7 +123,7 @@ fn idle_place(above: &Node, list: &Node, context: &TraverseCtx) -> Option<usize>
     }
 }
 
-// In what a `for` begins with, where that is a `var`.
+// In what a `for` begins with, where that is a `var`: a name that nothing else mentions goes, or one that the next declarator reads.
 fn remove_in_heading(
     alloc: Global,
     above: &Node,
@@ -135,15 +136,18 @@ fn remove_in_heading(
     if !is_var(node) {
         return Ok(false);
     }
-    let list = take_alone(alloc, node)?;
-    let found = idle_place(above, &list, context);
-    put_first(node, list);
-    match found {
+    let mut list = take_alone(alloc, node)?;
+    match idle_place(above, &list, context) {
         Some(which) => {
+            put_first(node, list);
             drop_from_head(alloc, node, which);
             Ok(true)
         }
-        None => Ok(false),
+        None => {
+            let changed = substitute_within(above, &mut list, context);
+            put_first(node, list);
+            Ok(changed)
+        }
     }
 }
 

@@ -29,11 +29,11 @@ pub use calls::{
 pub use catches::{SubstituteCatches, substitute_catch_clause};
 pub use declarations::{
     RemoveUnusedDeclarations, declares_list, declares_name, has_head, has_statements, is_case_at,
-    is_function, is_lexical, is_module, is_static_block, is_switch, may_declare, put_child,
+    is_function, is_lexical, is_module, is_static_block, is_switch, is_var, may_declare, put_child,
     put_statements, remove_unused_declaration, remove_unused_in_arrow, remove_unused_in_function,
     remove_unused_in_module, take_child, take_statements,
 };
-pub use ends::{EndRewrites, UnusedEnds};
+pub use ends::{EndRewrites, UnusedEnds, put_first, take_alone};
 pub use evals::{either_has_eval, has_eval};
 pub use inside::{RemoveInside, remove_inside};
 pub use mentions::{is_mentioned, is_mentioned_before, is_mentioned_from};

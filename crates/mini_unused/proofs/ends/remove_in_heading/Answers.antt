@@ -4,7 +4,7 @@ use Rattle.mini_model.specs.Tree.{children}
 use Rattle.mini_node.specs.Children.{part}
 use Rattle.mini_unused.specs.RemoveUnusedDeclaration.{allowed, open_in, head_without}
 use Rattle.mini_unused.specs.Further.{HeadingFound}
-use Rattle.mini_unused.proofs.FurtherSteps.{no_heading_here, heading_gone, heading_rests}
+use Rattle.mini_unused.proofs.FurtherSteps.{no_heading_here, heading_gone, heading_read}
 use Rattle.mini_unused.proofs.ends.remove_in_heading.Goals as goal
 
 pub returns-then-not-is_var : goal.returns-then-not-is_var
@@ -23,6 +23,5 @@ pub returns-in-None : goal.returns-in-None
 returns-in-None c =
     let W = allowed c.args.context.now in
     let o = c.args.above.now in
-    let first = ap (λ l. part l 0) c.in_ok-list.ensures in
-    let found = subst (λ z. HeadingFound (open_in o W) o z None) first c.in-None.ensures in
-    heading_rests W o c.args.node.now c.requires found c.put_first.new.node (c.put_first.ensures ∙ first)
+    let found = subst (λ z. HeadingFound (open_in o W) o z None) (ap (λ l. part l 0) c.in_ok-list.ensures) c.in-None.ensures in
+    heading_read W o c.args.node.now c.in_ok-list.list c.substitute_within-changed.new.list c.substitute_within-changed.result c.requires c.in_ok-list.ensures found c.substitute_within-changed.ensures c.put_first-in-None.new.node c.put_first-in-None.ensures
