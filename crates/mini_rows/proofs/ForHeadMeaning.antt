@@ -1,19 +1,16 @@
 -- What the head of a `for` means, which is a declaration, is what a list of it alone does; and a `for` in which the next declarator reads a name
 -- means the same without that.
-use Rattle.std.specs.Prelude.{ℕ, ◌≡◌, refl, true, [], List, Option, None}
-use Rattle.std.proofs.Common.{ap, ◌∙◌, sym, subst₂}
-use Rattle.std.proofs.lemmas.List.{append-nil}
+use Rattle.std.specs.Prelude.{ℕ, refl, [], List, Option, None}
 use Rattle.mini_model.specs.declared.kind.VariableDeclarationKind.{VariableDeclarationKind}
 use Rattle.mini_model.specs.declared.shape.Shape.TheVariants as shape
-use Rattle.mini_model.specs.Tree.{Tree, Trees, none, ◌▸◌, listed}
-use Rattle.mini_laws.specs.Value.{Declared, VariableSet, nothing, is_in}
-use Rattle.mini_laws.specs.State.{State, Environment}
-use Rattle.mini_laws.specs.Demand.{Tail, Stat, LabelSet}
+use Rattle.mini_model.specs.Tree.{Tree, Trees, none, ◌▸◌}
+use Rattle.mini_laws.specs.Value.{Declared, nothing}
+use Rattle.mini_laws.specs.State.{Environment}
+use Rattle.mini_laws.specs.Demand.{Tail, Stat}
 use Rattle.mini_laws.specs.Naming.{summary}
-use Rattle.mini_laws.specs.Same.{Goes, Agree, Same}
-use Rattle.mini_laws.specs.Step.{means}
+use Rattle.mini_laws.specs.Same.{Same}
 use Rattle.mini_laws.specs.Path.{here, inside}
-use Rattle.mini_laws.specs.Congruence.{ReadAlike, only}
+use Rattle.mini_laws.specs.Congruence.{ReadAlike}
 use Rattle.mini_laws.specs.Substitution.{alone}
 use Rattle.mini_laws.proofs.Congruent.{congruent_same, weaker, no_off, no_within}
 use Rattle.mini_laws.proofs.Simulation.{within_refl}
@@ -22,8 +19,6 @@ use Rattle.mini_rows.specs.Lists.{declaration}
 use Rattle.mini_rows.specs.Switches.{Switches}
 use Rattle.mini_rows.specs.Unused.{put_first, ForNextRow}
 use Rattle.mini_rows.proofs.ForHeads.{named, read, left, over, unread}
-use Rattle.mini_rows.proofs.ListStretches.{exec_one, listed_is}
-use Rattle.mini_rows.proofs.ListStatements.{declaration_is}
 use Rattle.mini_rows.proofs.OneDeclaration.{one_same, one_alike}
 use Rattle.mini_rows.proofs.NextMeaning.{next_read, next_same, next_avoids}
 use Rattle.mini_rows.proofs.UnusedMeaning.{ReadAs, read_alone, list_read, movable, never_written, lexical_alone}
