@@ -37,8 +37,9 @@ use Rattle.mini_rows.proofs.ListKeptStretch.{items_of, stretched, sum_list}
 use Rattle.mini_rows.proofs.NextKept.{given, next_unnamed, inner_value, fixed_value, among_value, frames_value, bodies_value, scoped_value, once_value, aimed_value, inner_other, fixed_other, among_other, frames_other, bodies_other, scoped_other, once_other, aimed_other, number_sum, symbol_sum}
 use Rattle.mini_rows.proofs.ListKeptHeads.{seated}
 use Rattle.mini_rows.proofs.OpeningKept.{opening_leaves, opening_names, opening_declares}
+use Rattle.mini_rows.proofs.BegunKept.{looped, begun_leaves, begun_names, begun_declares}
 use Rattle.mini_rows.proofs.OverKept.{over_leaves, over_names, over_declares}
-use Rattle.mini_rows.proofs.SingleUse.{Step, led, Well, Spared, Path, path, Initial, Outside, Over, Heads, heads, swapped, taken, swapped_sum, found, swapped_back}
+use Rattle.mini_rows.proofs.SingleUse.{Step, led, Well, Spared, Path, path, Initial, Outside, Over, Begun, Heads, heads, swapped, taken, swapped_sum, found, swapped_back}
 use Rattle.mini_rows.proofs.UnusedKept.{LeavesThere, NamesThere, DeclaresThere}
 use Rattle.mini_rows.proofs.UnusedNames.{Other, all_other}
 
@@ -192,30 +193,40 @@ module _ (K : VariableDeclarationKind) (x : Name) (k : ℕ) (e : x.symbol ≡ sy
       let loops = λ (u : Tree). each_loop t.kind t.left u t.body in
       subst₂ (Written P) (sym (t.is ∙ ap loops p.is)) (sym (t.puts init ∙ ap loops (p.puts init))) (h p.steps p.well p.spared p.read)
 
-  -- of a statement, of a declaration, of what opens a scope, or of a loop over keys or values
-  by_head : (P : Trees → Trees → Type 0) → (reads_first x head ≡ true → Written P head (put_first x init head)) → ((t : Initial x head) → Written P head (put_first x init head)) → ((t : Outside x head) → Written P head (put_first x init head)) → ((t : Over x head) → Written P head (put_first x init head)) → Written P head (put_first x init head)
-  by_head P g h o v = by (heads x head once)
+  begun_along : (t : Begun x head) (P : Trees → Trees → Type 0) → ((ss : List Step) → Well AsValue ss → Spared x ss → (r : Name) → Written P (looped t.binds t.last t.test t.update t.body (found ss (identifier r))) (looped t.binds t.last t.test t.update t.body (led ss init))) → Written P head (put_first x init head)
+  begun_along t P h =
+      let p : Path x AsValue t.value = path x false t.value t.once in
+      let loops = looped t.binds t.last t.test t.update t.body in
+      subst₂ (Written P) (sym (t.is ∙ ap loops p.is)) (sym (t.puts init ∙ ap loops (p.puts init))) (h p.steps p.well p.spared p.read)
+
+  -- of a statement, of a declaration, of what opens a scope, of a loop over keys or values, or of a `for` that begins with a `var`
+  by_head : (P : Trees → Trees → Type 0) → (reads_first x head ≡ true → Written P head (put_first x init head)) → ((t : Initial x head) → Written P head (put_first x init head)) → ((t : Outside x head) → Written P head (put_first x init head)) → ((t : Over x head) → Written P head (put_first x init head)) → ((t : Begun x head) → Written P head (put_first x init head)) → Written P head (put_first x init head)
+  by_head P g h o v b = by (heads x head once)
     where
       by : Heads x head → Written P head (put_first x init head)
       by (inl (z, p)) = g z
       by (inr (inl t)) = h t
       by (inr (inr (inl t))) = o t
-      by (inr (inr (inr t))) = v t
+      by (inr (inr (inr (inl t)))) = v t
+      by (inr (inr (inr (inr t)))) = b t
 
   pub head_leaves : Written (LeavesThere x) head (put_first x init head)
   head_leaves =
       by_head (LeavesThere x) (λ o. single_leaves K x k e first init head plain o i f) (λ t. initial_along t (LeavesThere x) (λ ss w r g. initial_there K x k e first init f t.kind t.binds t.last ss w r g))
       (λ t. outside_along t (LeavesThere x) (λ ss w g r. opening_leaves K x k e first init plain f i t.seat t.beside ss w g r))
       (λ t. over_along t (LeavesThere x) (λ ss w g r. over_leaves K x k e first init plain f i t.kind t.left t.body t.plain t.other t.later ss w g r))
+      (λ t. begun_along t (LeavesThere x) (λ ss w g r. begun_leaves K x k e first init plain f i t.binds t.last t.test t.update t.body t.other t.later t.beside ss w g r))
 
   pub head_names : is_lexical K ≡ true → Written (NamesThere x) head (put_first x init head)
   head_names l =
       by_head (NamesThere x) (λ o. single_names K x k e first init head plain o i f l) (λ t. initial_along t (NamesThere x) (λ ss w r g. initial_names_there K x k e first init f t.kind t.binds t.last ss w r g l))
       (λ t. outside_along t (NamesThere x) (λ ss w g r. opening_names K x k e first init plain f i t.seat t.beside ss w g r l))
       (λ t. over_along t (NamesThere x) (λ ss w g r. over_names K x k e first init plain f i t.kind t.left t.body t.plain t.other t.later ss w g r l))
+      (λ t. begun_along t (NamesThere x) (λ ss w g r. begun_names K x k e first init plain f i t.binds t.last t.test t.update t.body t.other t.later t.beside ss w g r l))
 
   pub head_declares : Written (DeclaresThere x) head (put_first x init head)
   head_declares =
       by_head (DeclaresThere x) (λ o. single_declares K x k e first init head plain o i f) (λ t. initial_along t (DeclaresThere x) (λ ss w r g. initial_declares_there K x k e first init f t.kind t.binds t.last ss w r g))
       (λ t. outside_along t (DeclaresThere x) (λ ss w g r. opening_declares K x k e first init plain f i t.seat t.beside ss w g r))
       (λ t. over_along t (DeclaresThere x) (λ ss w g r. over_declares K x k e first init plain f i t.kind t.left t.body t.plain t.other t.later ss w g r))
+      (λ t. begun_along t (DeclaresThere x) (λ ss w g r. begun_declares K x k e first init plain f i t.binds t.last t.test t.update t.body t.other t.later t.beside ss w g r))

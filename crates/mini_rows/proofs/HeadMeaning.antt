@@ -1,6 +1,7 @@
 -- A name that what stands right after its declaration reads before all else: the initializer may stand there, and the name goes.
 use Rattle.std.specs.Prelude.{◌||◌, Bool, Option}
 use Rattle.std.proofs.Common.{◌≡◌, ℕ, true, false, List, [], ◌∷◌, None, refl, sym, ap, ◌∙◌, subst, subst₂, inl, inr}
+use Rattle.mini_model.specs.declared.kind.VariableDeclarationKind.TheVariants.{Var}
 use Rattle.mini_model.specs.declared.name.Name.{Name}
 use Rattle.mini_model.specs.Tree.{Tree, Trees, node, none, ◌▸◌, identifier, empty_statement}
 use Rattle.mini_laws.specs.Value.{Declared, nothing}
@@ -20,9 +21,9 @@ use Rattle.mini_rows.proofs.FoldMeaning.{plain_read}
 use Rattle.mini_rows.proofs.NextKept.{next_unnamed}
 use Rattle.mini_rows.proofs.FoundReads.{found_same, path_as, path_same, seated_same, loop_same, goes_as}
 use Rattle.mini_rows.proofs.NextMeaning.{initial_goes}
-use Rattle.mini_rows.proofs.SingleUse.{surely, or_true, Lead, Doing, Giving, Raising, Testing, head_of, Step, led, is_end, place, Stands, Well, AllPass, PassedIn, end_of, Initial, heads, statement, unnamed, Outside, Over, Heads, path, found}
+use Rattle.mini_rows.proofs.SingleUse.{surely, or_true, Lead, Doing, Giving, Raising, Testing, head_of, Step, led, is_end, place, Stands, Well, AllPass, PassedIn, end_of, Initial, heads, statement, unnamed, Outside, Over, Begun, Heads, path, found}
 use Rattle.mini_rows.proofs.ListKeptHeads.{Seat, Loop, Choice, seated, rest}
-use Rattle.mini_rows.proofs.OpeningMeaning.{outside_goes}
+use Rattle.mini_rows.proofs.OpeningMeaning.{outside_goes, looped_goes}
 use Rattle.mini_rows.proofs.OverMeaning.{each_goes}
 use Rattle.mini_rows.proofs.ItemReads.{plain_item}
 use Rattle.mini_rows.proofs.ConstantUse.{moves_there}
@@ -63,7 +64,8 @@ head_read x head e init = by (heads x head e)
     by (inl (f, p)) = statement_read x head f init
     by (inr (inl t)) = subst₂ SameRead (sym t.is) (sym (t.puts init)) (initial_read x head t init)
     by (inr (inr (inl t))) = subst₂ SameRead (sym t.is) (sym (t.puts init)) (outside_read t.seat t.value (put_first x init t.value))
-    by (inr (inr (inr t))) = subst₂ SameRead (sym t.is) (sym (t.puts init)) (over_read t.kind t.left t.body t.value (put_first x init t.value))
+    by (inr (inr (inr (inl t)))) = subst₂ SameRead (sym t.is) (sym (t.puts init)) (over_read t.kind t.left t.body t.value (put_first x init t.value))
+    by (inr (inr (inr (inr t)))) = subst₂ SameRead (sym t.is) (sym (t.puts init)) (outside_read (Loop t.test t.update t.body) (declaration Var (declarator t.binds t.value ▸ t.last)) (declaration Var (declarator t.binds (put_first x init t.value) ▸ t.last)))
 
 -- ---- what it does
 
@@ -104,13 +106,20 @@ module _ (e : Environment) (spelling : List ℕ) (k : ℕ) (z : Unseen (alone (D
       (each_goes e k z x refl p.read.spelling init p.steps (λ y. Unit {0})
       (λ y u. moves_there e k z x refl p.read.spelling init (sym (plain_read init moves)) (plain_item init moves) AsValue p.steps p.well p.spared (p.passed_in OfValues init passed) (As Val) tt tt tt tt y) t.kind t.left t.body t.plain t.other t.later s tt))
 
+  begun_goes : (t : Begun x head) → are_passed x init t.value ≡ true → (s : State) → GoesWith e k init head (put_first x init head) s
+  begun_goes t passed s =
+      subst₂ (λ h w. GoesWith e k init h w s) (sym t.is) (sym (t.puts init))
+      (looped_goes e k z x refl init t.test t.update t.body t.beside (declarator t.binds t.value ▸ t.last) (declarator t.binds (put_first x init t.value) ▸ t.last) s
+      (initial_goes e spelling k z Var init t.binds t.value t.last moves t.once passed (avoided x k refl t.binds t.other) (all_avoided x k refl t.last t.later) s))
+
   pub head_goes : reads_head x head ≡ true → are_passed x init (evaluated head) ≡ true → (s : State) → GoesWith e k init head (put_first x init head) s
   head_goes once passed s = by (heads x head once)
     where
       by : Heads x head → GoesWith e k init head (put_first x init head) s
       by (inl (f, p)) = statement_goes f (sym (ap (are_passed x init) p) ∙ passed) s
       by (inr (inr (inl t))) = scope_goes t (sym (ap (are_passed x init) t.evaluates) ∙ passed) s
-      by (inr (inr (inr t))) = loop_goes t (sym (ap (are_passed x init) t.evaluates) ∙ passed) s
+      by (inr (inr (inr (inl t)))) = loop_goes t (sym (ap (are_passed x init) t.evaluates) ∙ passed) s
+      by (inr (inr (inr (inr t)))) = begun_goes t (sym (ap (are_passed x init) t.evaluates) ∙ passed) s
       by (inr (inl t)) = subst₂ (λ h w. GoesWith e k init h w s) (sym t.is) (sym (t.puts init)) (initial_goes e spelling k z t.kind init t.binds t.value t.last moves t.once (sym (ap (are_passed x init) t.evaluates) ∙ passed) (avoided x k refl t.binds t.other) (all_avoided x k refl t.last t.later) s)
 
 -- ---- nothing that is written mentions the name
@@ -136,7 +145,8 @@ head_unnamed x head e init f = by (heads x head e)
   where
     by : Heads x head → names x (put_first x init head) ≡ false
     by (inl (g, p)) = statement_unnamed x head g init f
-    by (inr (inr (inr t))) = let p = path x false t.value t.once in ap (names x) (t.puts init) ∙ over_unnamed x t.kind t.left t.body (put_first x init t.value) t.other (ap (names x) (p.puts init) ∙ unnamed x p.steps p.spared init f) t.later
+    by (inr (inr (inr (inr t)))) = ap (names x) (t.puts init) ∙ seated_unnamed x (Loop t.test t.update t.body) (declaration Var (declarator t.binds (put_first x init t.value) ▸ t.last)) (or_none (any_names x (declarator t.binds (put_first x init t.value) ▸ t.last)) (next_unnamed x t.binds t.value t.once init f t.other t.last t.later)) t.beside
+    by (inr (inr (inr (inl t)))) = let p = path x false t.value t.once in ap (names x) (t.puts init) ∙ over_unnamed x t.kind t.left t.body (put_first x init t.value) t.other (ap (names x) (p.puts init) ∙ unnamed x p.steps p.spared init f) t.later
     by (inr (inr (inl t))) = let p = path x false t.value t.once in ap (names x) (t.puts init) ∙ seated_unnamed x t.seat (put_first x init t.value) (ap (names x) (p.puts init) ∙ unnamed x p.steps p.spared init f) t.beside
     by (inr (inl t)) = ap (names x) (t.puts init) ∙ or_none (any_names x (declarator t.binds (put_first x init t.value) ▸ t.last)) (next_unnamed x t.binds t.value t.once init f t.other t.last t.later)
 

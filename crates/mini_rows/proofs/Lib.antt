@@ -253,6 +253,7 @@ pub mod NextKept
 pub mod NextMeaning
 pub mod OpeningKept
 pub mod OverKept
+pub mod BegunKept
 pub mod HeadKept
 pub mod OpeningMeaning
 pub mod OverMeaning

@@ -68,15 +68,15 @@ Needs P H (Init u v w) a = P a × P absent
 Needs P H (Before h q qs) a = H h × (P (sequence (a ▸ (q ▸ qs))) × P (of_parts q qs))
 
 -- nothing of the statement
-abbrev anything : Holder → Type 0
+abbrev pub anything : Holder → Type 0
 anything h = Unit {0}
 
 -- of what stands in a statement that opens a scope, on the right of a loop, or as a first initializer
-record Spots (Q : Asked → Tree → Type 0) (P : Tree → Type 0) (H : Holder → Type 0) : Type 1 where
-  seats : (s : Seat) (e d : Tree) → P e → P d → Opens Q (seated s) e d
-  loops : (k : Each) (l w : Tree) → H (Going k l w) → (e d : Tree) → P e → P d → Opens Q (λ t. each_loop k l t w) e d
-  firsts : (kind : VariableDeclarationKind) (id : Tree) (ds : Trees) (e d : Tree) → P e → P d → Opens Q (λ t. declaration kind (declarator id t ▸ ds)) e d
-  looped : (id : Tree) (ds : Trees) (u v w e d : Tree) → P e → P d → Opens Q (λ t. for_loop (declaration Var (declarator id t ▸ ds)) u v w) e d
+pub record Spots (Q : Asked → Tree → Type 0) (P : Tree → Type 0) (H : Holder → Type 0) : Type 1 where
+  pub seats : (s : Seat) (e d : Tree) → P e → P d → Opens Q (seated s) e d
+  pub loops : (k : Each) (l w : Tree) → H (Going k l w) → (e d : Tree) → P e → P d → Opens Q (λ t. each_loop k l t w) e d
+  pub firsts : (kind : VariableDeclarationKind) (id : Tree) (ds : Trees) (e d : Tree) → P e → P d → Opens Q (λ t. declaration kind (declarator id t ▸ ds)) e d
+  pub looped : (id : Tree) (ds : Trees) (u v w e d : Tree) → P e → P d → Opens Q (λ t. for_loop (declaration Var (declarator id t ▸ ds)) u v w) e d
 
 -- a declaration stands in the head of a `for` as an expression does
 through : (Q : Asked → Tree → Type 0) → ((t : Tree) → Q AsValue t → Q AsWholeItem t) → ((t : Tree) → Q AsWholeItem t → Q AsValue t) → (f g : Tree → Tree) (e d : Tree) → Opens Q g (f e) (f d) → Opens Q f e d → Opens Q (λ t. g (f t)) e d
@@ -160,11 +160,11 @@ module _ (Q : Asked → Tree → Type 0) (l : Local Any Q) (k : Spots Q (λ t. U
 
 -- ---- sums
 
-record Sums (m : Asked → Tree → ℕ) (P : Tree → Type 0) : Type 0 where
-  seats : (s : Seat) → (c : ℕ) × ((e : Tree) → P e → m AsWholeItem (seated s e) ≡ m AsValue e + c)
-  loops : (k : Each) (l w : Tree) → (c : ℕ) × ((e : Tree) → m AsWholeItem (each_loop k l e w) ≡ m AsValue e + c)
-  firsts : (kind : VariableDeclarationKind) (id : Tree) (ds : Trees) → (c : ℕ) × ((e : Tree) → m AsWholeItem (declaration kind (declarator id e ▸ ds)) ≡ m AsValue e + c)
-  looped : (id : Tree) (ds : Trees) (u v w : Tree) → (c : ℕ) × ((e : Tree) → m AsWholeItem (for_loop (declaration Var (declarator id e ▸ ds)) u v w) ≡ m AsValue e + c)
+pub record Sums (m : Asked → Tree → ℕ) (P : Tree → Type 0) : Type 0 where
+  pub seats : (s : Seat) → (c : ℕ) × ((e : Tree) → P e → m AsWholeItem (seated s e) ≡ m AsValue e + c)
+  pub loops : (k : Each) (l w : Tree) → (c : ℕ) × ((e : Tree) → m AsWholeItem (each_loop k l e w) ≡ m AsValue e + c)
+  pub firsts : (kind : VariableDeclarationKind) (id : Tree) (ds : Trees) → (c : ℕ) × ((e : Tree) → m AsWholeItem (declaration kind (declarator id e ▸ ds)) ≡ m AsValue e + c)
+  pub looped : (id : Tree) (ds : Trees) (u v w : Tree) → (c : ℕ) × ((e : Tree) → m AsWholeItem (for_loop (declaration Var (declarator id e ▸ ds)) u v w) ≡ m AsValue e + c)
 
 module _ (m : Asked → Tree → ℕ) (l : Summed m) (P : Tree → Type 0) (k : Sums m P) where
   held_sum : (h : Holder) → (c : ℕ) × ((e : Tree) → P e → m AsWholeItem (holding h e) ≡ m AsValue e + c)
@@ -349,47 +349,53 @@ Plainly : Holder → Type 0
 Plainly (Going k l w) = lexical_names l ≡ []
 Plainly h = Unit {0}
 
-abbrev Freely : (Asked → Tree → Type 0) → Type 1
+abbrev pub Freely : (Asked → Tree → Type 0) → Type 1
 Freely Q = Spots Q (λ t. Unit {0}) anything
 
-abbrev declared_with : Tree → Trees → Tree → Tree
+abbrev pub declared_with : Tree → Trees → Tree → Tree
 declared_with id ds t = declaration Var (declarator id t ▸ ds)
 
-inner_spots : (b : Bool) → Freely (InnerIf b)
+pub inner_spots : (b : Bool) → Freely (InnerIf b)
 inner_spots b = record { seats = λ s e d p q. inner_seat s e d b; loops = λ k l w n e d p q. spots.inner_loop k l w e d b; firsts = λ kind x ds e d p q. spots.inner_first kind x ds e d b; looped = λ x ds u v w e d p q. through (InnerIf b) (λ t r. r) (λ t r. r) (declared_with x ds) (seated (Loop u v w)) e d (inner_seat (Loop u v w) (declared_with x ds e) (declared_with x ds d) b) (spots.inner_first Var x ds e d b) }
 
-fixed_spots : (z : Variable) (m : ℕ) → Freely (FixedBy z m)
+pub fixed_spots : (z : Variable) (m : ℕ) → Freely (FixedBy z m)
 fixed_spots z m = record { seats = λ s e d p q. fixed_seat s e d z m; loops = λ k l w n e d p q. spots.fixed_loop k l w e d z m; firsts = λ kind x ds e d p q. spots.fixed_first kind x ds e d z m; looped = λ x ds u v w e d p q. through (FixedBy z m) (λ t r. r) (λ t r. r) (declared_with x ds) (seated (Loop u v w)) e d (fixed_seat (Loop u v w) (declared_with x ds e) (declared_with x ds d) z m) (spots.fixed_first Var x ds e d z m) }
 
-declares_spots : (xs : List Name) → Freely (Declares xs)
+pub declares_spots : (xs : List Name) → Freely (Declares xs)
 declares_spots xs = record { seats = λ s e d p q. declares_seat s e d xs; loops = λ k l w n e d p q. spots.declares_loop k l w e d xs; firsts = λ kind x ds e d p q. spots.declares_first kind x ds e d xs; looped = λ x ds u v w e d p q. through (Declares xs) (λ t r. r) (λ t r. r) (declared_with x ds) (seated (Loop u v w)) e d (declares_seat (Loop u v w) (declared_with x ds e) (declared_with x ds d) xs) (spots.declares_first Var x ds e d xs) }
 
-frames_spots : (fs : List Frame) → Freely (HasFrames fs)
+pub frames_spots : (fs : List Frame) → Freely (HasFrames fs)
 frames_spots fs = record { seats = λ s e d p q. frames_seat s e d fs; loops = λ k l w n e d p q. spots.frames_loop k l w e d fs; firsts = λ kind x ds e d p q. spots.frames_first kind x ds e d fs; looped = λ x ds u v w e d p q. through (HasFrames fs) (λ t r. r) (λ t r. r) (declared_with x ds) (seated (Loop u v w)) e d (frames_seat (Loop u v w) (declared_with x ds e) (declared_with x ds d) fs) (spots.frames_first Var x ds e d fs) }
 
-bodies_spots : (bs : List Body) (r : Around) → Freely (HasBodies bs r)
+pub bodies_spots : (bs : List Body) (r : Around) → Freely (HasBodies bs r)
 bodies_spots bs r = record { seats = λ s e d p q. bodies_seat s e d bs r; loops = λ k l w n e d p q. spots.bodies_loop k l w e d bs r; firsts = λ kind x ds e d p q. spots.bodies_first kind x ds e d bs r; looped = λ x ds u v w e d p q. through (HasBodies bs r) (λ t r. r) (λ t r. r) (declared_with x ds) (seated (Loop u v w)) e d (bodies_seat (Loop u v w) (declared_with x ds e) (declared_with x ds d) bs r) (spots.bodies_first Var x ds e d bs r) }
 
-targets_spots : (g : Targets) → Freely (Aimed g)
+pub targets_spots : (g : Targets) → Freely (Aimed g)
 targets_spots g = record { seats = λ s e d p q. targets_seat s e d g; loops = λ k l w n e d p q. spots.targets_loop k l w e d g; firsts = λ kind x ds e d p q. spots.targets_first kind x ds e d g; looped = λ x ds u v w e d p q. through (Aimed g) (λ t r. r) (λ t r. r) (declared_with x ds) (seated (Loop u v w)) e d (targets_seat (Loop u v w) (declared_with x ds e) (declared_with x ds d) g) (spots.targets_first Var x ds e d g) }
 
+pub once_looped : (x : Tree) (ds : Trees) (u v w e d : Tree) → Opens Once (λ t. for_loop (declared_with x ds t) u v w) e d
+once_looped x ds u v w e d = through Once (λ t r. r) (λ t r. r) (declared_with x ds) (seated (Loop u v w)) e d (once_seat (Loop u v w) (declared_with x ds e) (declared_with x ds d) (var_unlexical (declarator x e ▸ ds)) (var_unlexical (declarator x d ▸ ds))) (spots.once_first Var x ds e d)
+
 once_spots : Spots Once Unlexical anything
-once_spots = record { seats = once_seat; loops = λ k l w n e d p q. spots.once_loop k l w e d; firsts = λ kind x ds e d p q. spots.once_first kind x ds e d; looped = λ x ds u v w e d p q. through Once (λ t r. r) (λ t r. r) (declared_with x ds) (seated (Loop u v w)) e d (once_seat (Loop u v w) (declared_with x ds e) (declared_with x ds d) (var_unlexical (declarator x e ▸ ds)) (var_unlexical (declarator x d ▸ ds))) (spots.once_first Var x ds e d) }
+once_spots = record { seats = once_seat; loops = λ k l w n e d p q. spots.once_loop k l w e d; firsts = λ kind x ds e d p q. spots.once_first kind x ds e d; looped = λ x ds u v w e d p q. once_looped x ds u v w e d }
+
+pub scoped_looped : (x : Tree) (ds : Trees) (u v w e d : Tree) (env : Environment) → Opens (ScopedAs Read env) (λ t. for_loop (declared_with x ds t) u v w) e d
+scoped_looped x ds u v w e d env = through (ScopedAs Read env) (λ t r. r) (λ t r. r) (declared_with x ds) (seated (Loop u v w)) e d (scoped_seat (Loop u v w) (declared_with x ds e) (declared_with x ds d) env (var_unlexical (declarator x e ▸ ds)) (var_unlexical (declarator x d ▸ ds))) (spots.scoped_first Var x ds e d env)
 
 scoped_spots : (env : Environment) → Spots (ScopedAs Read env) Unlexical Plainly
 unfolding Plainly
-scoped_spots env = record { seats = λ s e d. scoped_seat s e d env; loops = λ k l w n e d p q. spots.scoped_loop k l w e d (left_scope l n) env; firsts = λ kind x ds e d p q. spots.scoped_first kind x ds e d env; looped = λ x ds u v w e d p q. through (ScopedAs Read env) (λ t r. r) (λ t r. r) (declared_with x ds) (seated (Loop u v w)) e d (scoped_seat (Loop u v w) (declared_with x ds e) (declared_with x ds d) env (var_unlexical (declarator x e ▸ ds)) (var_unlexical (declarator x d ▸ ds))) (spots.scoped_first Var x ds e d env) }
+scoped_spots env = record { seats = λ s e d. scoped_seat s e d env; loops = λ k l w n e d p q. spots.scoped_loop k l w e d (left_scope l n) env; firsts = λ kind x ds e d p q. spots.scoped_first kind x ds e d env; looped = λ x ds u v w e d p q. scoped_looped x ds u v w e d env }
 
 summed_through : (m : Asked → Tree → ℕ) (f g : Tree → Tree) (a : ℕ) → ((e : Tree) → m AsWholeItem (g (f e)) ≡ m AsWholeItem (f e) + a) → (b : ℕ) × ((e : Tree) → m AsWholeItem (f e) ≡ m AsValue e + b) → (c : ℕ) × ((e : Tree) → m AsWholeItem (g (f e)) ≡ m AsValue e + c)
 summed_through m f g a h (b, k) = (b + a, λ e. omega (arith, h e, k e))
 
-symbols_through : (o : Use) (y : Option SymbolId) (x : Tree) (ds : Trees) (u v w : Tree) → (c : ℕ) × ((e : Tree) → symbol_times o y AsWholeItem (for_loop (declared_with x ds e) u v w) ≡ symbol_times o y AsValue e + c)
+pub symbols_through : (o : Use) (y : Option SymbolId) (x : Tree) (ds : Trees) (u v w : Tree) → (c : ℕ) × ((e : Tree) → symbol_times o y AsWholeItem (for_loop (declared_with x ds e) u v w) ≡ symbol_times o y AsValue e + c)
 symbols_through o y x ds u v w =
     let (a, h) = seat_symbols o y (Loop u v w) in
     let (b, k) = spots.symbols_first Var x ds Read y in
     (b + a, λ e. omega (arith, h (declared_with x ds e) (var_unlexical (declarator x e ▸ ds)), k e))
 
-number_sums : (n : ℕ) → Sums (number_times n) (λ t. Unit {0})
+pub number_sums : (n : ℕ) → Sums (number_times n) (λ t. Unit {0})
 number_sums n = record { seats = seat_numbers n; loops = λ k l w. spots.numbers_loop k l w n; firsts = λ kind x ds. spots.numbers_first kind x ds n; looped = λ x ds u v w. summed_through (number_times n) (declared_with x ds) (seated (Loop u v w)) (seat_numbers n (Loop u v w)).0 (λ e. (seat_numbers n (Loop u v w)).1 (declared_with x ds e) tt) (spots.numbers_first Var x ds n) }
 
 symbol_sums : (u : Use) (x : Option SymbolId) → Sums (symbol_times u x) Unlexical
@@ -459,7 +465,7 @@ looped_hoists : (x : Tree) (ds : Trees) (u v w e j : Tree) → names_of declared
 unfolding names_of
 looped_hoists x ds u v w e j = refl
 
-looped_same : (x : Tree) (ds : Trees) (u v w e j : Tree) → Names (for_loop (declared_with x ds e) u v w) (for_loop (declared_with x ds j) u v w)
+pub looped_same : (x : Tree) (ds : Trees) (u v w e j : Tree) → Names (for_loop (declared_with x ds e) u v w) (for_loop (declared_with x ds j) u v w)
 looped_same x ds u v w e j =
     let s = Loop u v w in
     let hoists = looped_hoists x ds u v w e j in

@@ -1,5 +1,6 @@
 -- What a `switch` or a `for` reads before all else may be put there: it is outside of the scope that the statement opens.
 use Rattle.std.proofs.Common.{◌≡◌, ℕ, zero, suc, Bool, true, false, List, [], ◌∷◌, None, Some, refl, sym, ap, ◌∙◌, subst, subst₂}
+use Rattle.mini_model.specs.declared.kind.VariableDeclarationKind.TheVariants.{Var}
 use Rattle.mini_model.specs.declared.name.Name.{Name}
 use Rattle.mini_model.specs.declared.shape.Shape.TheVariants as shape
 use Rattle.mini_model.specs.Tree.{Tree, Trees, node, none, ◌▸◌, absent, identifier}
@@ -18,15 +19,17 @@ use Rattle.mini_laws.proofs.Congruent.{insensitive}
 use Rattle.mini_laws.proofs.Runs.{either_cong, either_assoc, either_stop}
 use Rattle.mini_laws.proofs.Simulation.{goes_either}
 use Rattle.mini_kept.specs.Without.{Unseen}
-use Rattle.mini_rows.specs.Lists.{switch, for_loop}
+use Rattle.mini_rows.specs.Lists.{switch, for_loop, declaration}
 use Rattle.mini_rows.specs.Chains.{is_calm}
 use Rattle.mini_rows.specs.Sketches.{shape_by, AsValue, asked_below}
 use Rattle.mini_rows.specs.Unused.{any_names, resolved}
 use Rattle.mini_rows.proofs.ListHeads.{Nothing, for_rest, for_is, for_absent_is}
 use Rattle.mini_rows.proofs.ListKeptHeads.{Seat, Loop, Choice, seated, rest}
 use Rattle.mini_rows.proofs.SingleUse.{Lead, Not, Plus, Minus, Tilde, Typing, Emptying, Beside, Deciding, Choosing, Passing, Called, Making, Waiting, Member, Keyed, Linking, Holding, Against, Given, Filling, Keying, Interpolating, Following, Branching, Failing, Storing, Targeted, Changing, Gathering, Fielding, Spreading, Bracketing, head_of, before, place, Step, led, is_end, Stands, Well, summary_led}
+use Rattle.mini_rows.proofs.ListLoops.{for_var_is}
 use Rattle.mini_rows.proofs.PastRuns.{reach_goes}
 use Rattle.mini_rows.proofs.SingleMeaning.{Before, Later, later_bind, later_attempt, Reaches, reach_statement, one, next, by_summaries, node_is, stopped}
+use Rattle.mini_rows.proofs.UnusedMeaning.{GoesWith}
 use Rattle.mini_rows.proofs.UnusedNames.{all_avoided}
 
 -- ---- behind what it asks a `switch` asks nothing of that any more
@@ -100,6 +103,29 @@ nothing_led (s ∷ ss) w t n = by s.lead w.0 (λ q. nothing_led ss (subst (λ c.
     by (Fielding g a) s m = record { lets = refl; functions = refl; facts = refl; declared = refl }
     by l s m = absurd s
 
+-- ---- the turns of a `for`, where it has begun
+
+module _ (e : Environment) (k : ℕ) (z : Unseen (alone (Declared k)) e) (x : Name) (named : x.symbol ≡ Some (record { 0 = k })) where
+  abbrev Alike : Completion (Unit {0}) → Completion (Unit {0}) → Type 0
+  Alike a b = Goes true (λ u. Agree (alone (Declared k))) (Agree (alone (Declared k))) (Agree (alone (Declared k))) a b
+
+  turns_go : (test update body : Tree) → any_names x (test ▸ (update ▸ (body ▸ none))) ≡ false → (y y' : State) → Agree (alone (Declared k)) y y' → Alike (for_rest e test update body [] y) (for_rest e test update body [] y')
+  turns_go test update body g y y' a =
+      subst₂ Alike (for_absent_is e test update body [] y) (for_absent_is e test update body [] y')
+      (insensitive e (alone (Declared k)) z.shared (for_loop absent test update body) (tt, ((tt, tt), all_avoided x k named (test ▸ (update ▸ (body ▸ none))) g)) (Stat None) [] y y' a)
+
+  -- one that begins with a `var` does what that does, and then its turns
+  pub looped_goes : (init test update body : Tree) → any_names x (test ▸ (update ▸ (body ▸ none))) ≡ false → (ds es : Trees) (s : State) → GoesWith e k init (declaration Var ds) (declaration Var es) s → GoesWith e k init (for_loop (declaration Var ds) test update body) (for_loop (declaration Var es) test update body) s
+  looped_goes init test update body g ds es s go =
+      let v = means e init (As Val) tt s in
+      let after = λ (p : Value) (y : State). with_vars y (set_var y.vars (Declared k) (Holds p)) in
+      let begun = next v (λ p y. means e (declaration Var ds) (Stat None) [] (after p y)) in
+      subst₂ Alike
+      (sym (either_cong v _ _ _ _ (λ p y. for_var_is e test update body ds [] (after p y)) (λ y p. refl) ∙ sym (either_assoc v _ _ _ _ ∙ either_cong v _ _ _ _ (λ p y. refl) (λ y p. either_stop y p _ _))))
+      (sym (for_var_is e test update body es [] s))
+      (goes_either true (λ p. Agree (alone (Declared k))) (Agree (alone (Declared k))) (Agree (alone (Declared k))) (λ p. Agree (alone (Declared k))) (Agree (alone (Declared k))) begun (means e (declaration Var es) (Stat None) [] s) _ _ _ _ go
+      (λ u y y' a. turns_go test update body g y y' a) (λ c y y' a. stopped e k z (Unit {0}) c y y' a))
+
 -- ---- the statements
 
 module _ (e : Environment) (k : ℕ) (z : Unseen (alone (Declared k)) e) (x : Name) (named : x.symbol ≡ Some (record { 0 = k })) (spelling : List ℕ) (init : Tree) (plain : summary (identifier (resolved spelling k)) ≡ summary init) (ss : List Step) (w : Well AsValue ss) where
@@ -146,14 +172,6 @@ module _ (e : Environment) (k : ℕ) (z : Unseen (alone (Declared k)) e) (x : Na
         (reach_goes e k z init t h (Stat None) is σ none value put ts tt (all_avoided x k named ts g) 0 (λ j b. b) (λ j b. absurd (none_before j b)) false (λ j b r a y v g. tt) (λ r h. absurd h) (λ r o. moves Val r t ready) (step h [] (facts_all is) (Stat None) []) (switch_reaches (is_calm init) (facts_all is)))
 
     module _ (test update body : Tree) (g : any_names x (test ▸ (update ▸ (body ▸ none))) ≡ false) where
-      abbrev turns : State → Completion (Unit {0})
-      turns y = for_rest e test update body [] y
-
-      turns_go : (y y' : State) → Agree D y y' → Go (turns y) (turns y')
-      turns_go y y' a =
-          subst₂ Go (for_absent_is e test update body [] y) (for_absent_is e test update body [] y')
-          (insensitive e D z.shared (for_loop absent test update body) (tt, ((tt, tt), all_avoided x k named (test ▸ (update ▸ (body ▸ none))) g)) (Stat None) [] y y' a)
-
       for_goes : Moves (for_loop value test update body) (for_loop put test update body)
       for_goes t ready =
           let v = means e init (As Val) tt t in
@@ -163,7 +181,7 @@ module _ (e : Environment) (k : ℕ) (z : Unseen (alone (Declared k)) e) (x : Na
           (sym (for_is e test update body put nothing_put [] t))
           (goes_either true (λ p. Agree D) (Agree D) (Agree D) (λ p. Agree D) (Agree D) begun (means e put (As Unused) tt t) _ _ _ _
           (moves Unused tt t ready)
-          (λ u y y' a. turns_go y y' a) (λ c y y' a. stopped e k z (Unit {0}) c y y' a))
+          (λ u y y' a. turns_go e k z x named test update body g y y' a) (λ c y y' a. stopped e k z (Unit {0}) c y y' a))
 
     pub outside_goes : (c : Seat) → any_names x (rest c) ≡ false → Moves (seated c value) (seated c put)
     outside_goes (Choice cases) g = switch_goes cases g

@@ -2,6 +2,7 @@
 use Rattle.std.proofs.Common.{◌≡◌, ℕ, true, false, List, refl, sym, ap, ◌∙◌, subst, subst₂, inl, inr}
 use Rattle.std.specs.Prelude.{◌&&◌, if◌then◌else◌}
 use Rattle.std.proofs.lemmas.Bool.{and_parts}
+use Rattle.mini_model.specs.declared.kind.VariableDeclarationKind.TheVariants.{Var}
 use Rattle.mini_model.specs.declared.name.Name.{Name}
 use Rattle.mini_model.specs.declared.shape.Shape.TheVariants as shape
 use Rattle.mini_model.specs.Tree.{Tree, Trees, none, ◌▸◌, identifier}
@@ -13,6 +14,7 @@ use Rattle.mini_laws.specs.Same.{Goes, Agree, Initialised}
 use Rattle.mini_laws.specs.Step.{means}
 use Rattle.mini_laws.specs.Substitution.{alone}
 use Rattle.mini_kept.specs.Without.{Unseen}
+use Rattle.mini_rows.specs.Declarations.{declarator}
 use Rattle.mini_rows.specs.Lists.{each_loop}
 use Rattle.mini_rows.specs.Past.{Kept, passes_any, is_certain, are_past, all_past}
 use Rattle.mini_rows.specs.Sketches.{AsValue}
@@ -20,7 +22,7 @@ use Rattle.mini_rows.specs.Unused.{resolved, names, any_names, is_first, OfValue
 use Rattle.mini_rows.proofs.FoldMeaning.{plain_read}
 use Rattle.mini_rows.proofs.ItemReads.{plain_item}
 use Rattle.mini_rows.proofs.ListKeptHeads.{Seat, Loop, Choice, seated, rest}
-use Rattle.mini_rows.proofs.OpeningMeaning.{outside_goes}
+use Rattle.mini_rows.proofs.OpeningMeaning.{outside_goes, looped_goes}
 use Rattle.mini_rows.proofs.OverMeaning.{each_goes}
 use Rattle.mini_rows.proofs.PastMeaning.{read_named, statement_goes}
 use Rattle.mini_rows.proofs.PastNext.{initial_goes}
@@ -91,7 +93,11 @@ module _ (e : Environment) (spelling : List ℕ) (k : ℕ) (z : Unseen (alone (D
       by (inr (inr (inl t))) =
           let there = sym (ap (are_past H x init) (t.evaluates ∙ t.is)) ∙ passed in
           subst₂ (λ h w. GoesWith e k init h w s) (sym t.is) (sym (t.puts init)) (scope_goes t.value t.once (seated_past t.seat t.value (mentioned x false t.value t.once) there) t.seat t.beside s ready)
-      by (inr (inr (inr t))) = subst₂ (λ h w. GoesWith e k init h w s) (sym t.is) (sym (t.puts init)) (loop_goes t.value t.once (sym (ap (are_past H x init) t.evaluates) ∙ passed) t refl s ready)
+      by (inr (inr (inr (inl t)))) = subst₂ (λ h w. GoesWith e k init h w s) (sym t.is) (sym (t.puts init)) (loop_goes t.value t.once (sym (ap (are_past H x init) t.evaluates) ∙ passed) t refl s ready)
+      by (inr (inr (inr (inr t)))) =
+          subst₂ (λ h w. GoesWith e k init h w s) (sym t.is) (sym (t.puts init))
+          (looped_goes e k z x refl init t.test t.update t.body t.beside (declarator t.binds t.value ▸ t.last) (declarator t.binds (put_first x init t.value) ▸ t.last) s
+          (initial_goes e spelling k z H still Var init t.binds t.value t.last moves t.once (sym (ap (are_past H x init) t.evaluates) ∙ passed) (avoided x k refl t.binds t.other) (all_avoided x k refl t.last t.later) s ready))
       by (inr (inl t)) =
           subst₂ (λ h w. GoesWith e k init h w s) (sym t.is) (sym (t.puts init))
           (initial_goes e spelling k z H still t.kind init t.binds t.value t.last moves t.once (sym (ap (are_past H x init) t.evaluates) ∙ passed) (avoided x k refl t.binds t.other) (all_avoided x k refl t.last t.later) s ready)

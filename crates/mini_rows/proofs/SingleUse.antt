@@ -4,6 +4,7 @@ use Rattle.std.proofs.Common.{ap, ◌∙◌, sym, subst, subst₂, arith, inl, i
 use Rattle.std.proofs.lemmas.Bool.{and_parts}
 use Rattle.mini_model.specs.declared.kind.PropertyKind.TheVariants.{Init}
 use Rattle.mini_model.specs.declared.kind.VariableDeclarationKind.{VariableDeclarationKind}
+use Rattle.mini_model.specs.declared.kind.VariableDeclarationKind.TheVariants.{Var}
 use Rattle.mini_model.specs.declared.name.Name.{Name}
 use Rattle.mini_model.specs.declared.operator.AssignmentOperator.{AssignmentOperator}
 use Rattle.mini_model.specs.declared.operator.AssignmentOperator.TheVariants.{Assign}
@@ -24,10 +25,10 @@ use Rattle.mini_node.specs.Kinds.{is_identifier}
 use Rattle.mini_terms.specs.Folds.{is_effect_free}
 use Rattle.mini_terms.specs.Reading.{is_typed_by_value}
 use Rattle.mini_rows.specs.Sketches.{Head, AList, Update, target_asked, AsTarget, AsUpdated, Array, Unary, Binary, Logical, Conditional, Sequence, Call, New, StaticMember, ComputedMember, Chain, Yield, Object, Property, Spread, Interpolation, Assignment, OfExpression, Throw, Return, If, shape_by, Asked, AsWholeItem, AsValue, AsValues, asked_below, Leap}
-use Rattle.mini_rows.specs.Lists.{declaration, Each, EachIn, EachOf, each_loop}
+use Rattle.mini_rows.specs.Lists.{declaration, for_loop, is_var_shape, Each, EachIn, EachOf, each_loop}
 use Rattle.mini_rows.specs.Declarations.{declarator}
 use Rattle.mini_rows.specs.Chains.{is_calm}
-use Rattle.mini_rows.specs.Unused.{is_like_one, is_member_shape, is_member, names, any_names, begins, goes_on, may_go_on, has_branches, leads, has_arguments, holds_list, is_childless, is_own_key, can_be_full, in_full, may_hold, reads, is_first, leads_to, put_first, put_among, is_constant, passes_at, is_plain_assignment, is_sure, is_placed, Gathered, OfValues, of_entries, gathered_below, begins_with, is_reached, is_number_shape, is_called_by_value, suits, are_passed_in, are_passed, all_passed, reads_first, is_declarator, declares_list, reads_declarator, reads_declarators, reads_initially, reads_outside, is_open_left, reads_over, reads_head, evaluated}
+use Rattle.mini_rows.specs.Unused.{is_like_one, is_member_shape, is_member, names, any_names, begins, goes_on, may_go_on, has_branches, leads, has_arguments, holds_list, is_childless, is_own_key, can_be_full, in_full, may_hold, reads, is_first, leads_to, put_first, put_among, is_constant, passes_at, is_plain_assignment, is_sure, is_placed, Gathered, OfValues, of_entries, gathered_below, begins_with, is_reached, is_number_shape, is_called_by_value, suits, are_passed_in, are_passed, all_passed, reads_first, is_declarator, declares_list, reads_declarator, reads_declarators, reads_initially, reads_outside, is_open_left, reads_over, has_declarator, first_value, reads_begun, reads_head, evaluated}
 use Rattle.mini_rows.proofs.Arranging.{Plain, Below, sum_below, Local, Summed}
 use Rattle.mini_rows.proofs.ListKeptHeads.{Seat, Loop, Choice, seated, rest}
 
@@ -789,7 +790,7 @@ a_declaration (node (shape.VariableDeclaration k) [] zero (u ▸ none)) e = absu
 a_declaration t e = absurd (true≢false (sym e))
 
 -- the value alone is mentioned there
-put_initially : (x : Name) (k : VariableDeclarationKind) (binds value : Tree) (ds : Trees) → names x binds ≡ false → names x value ≡ true → (r : Tree) → put_first x r (declaration k (declarator binds value ▸ ds)) ≡ declaration k (declarator binds (put_first x r value) ▸ ds)
+pub put_initially : (x : Name) (k : VariableDeclarationKind) (binds value : Tree) (ds : Trees) → names x binds ≡ false → names x value ≡ true → (r : Tree) → put_first x r (declaration k (declarator binds value ▸ ds)) ≡ declaration k (declarator binds (put_first x r value) ▸ ds)
 put_initially x k binds value ds f n r =
     let D = declarator binds value in
     let L : Tree = listed (D ▸ ds) in
@@ -829,6 +830,27 @@ stays x t e =
     by Testing s ts = refl
     by l s ts = absurd s
 
+-- an expression is no declaration
+leads_nowhere : (x : Name) (k : VariableDeclarationKind) (i : ℕ) (ts : Trees) → leads_to x false (shape.VariableDeclaration k) i ts ≡ false
+leads_nowhere x k i none = refl
+leads_nowhere x k i (t ▸ ts) = by i (names x t) (leads_nowhere x k (suc i) ts)
+  where
+    by : (i : ℕ) (c : Bool) → leads_to x false (shape.VariableDeclaration k) (suc i) ts ≡ false → (if c then (leads false (shape.VariableDeclaration k) i t && (is_first x (holds_list (shape.VariableDeclaration k) i) t && not (any_names x ts))) else leads_to x false (shape.VariableDeclaration k) (suc i) ts) ≡ false
+    by zero true h = refl
+    by (suc zero) true h = refl
+    by (suc (suc zero)) true h = refl
+    by (suc (suc (suc i))) true h = refl
+    by i false h = h
+
+no_declaration : (x : Name) (t : Tree) → is_first x false t ≡ true → is_var_shape (shape_of t) ≡ false
+no_declaration x (node (shape.VariableDeclaration k) ys n none) e = absurd (true≢false (sym e))
+no_declaration x (node (shape.VariableDeclaration k) ys n (t ▸ ts)) e = absurd (true≢false (sym (and_parts (may_hold (node (shape.VariableDeclaration k) ys n (t ▸ ts))) (leads_to x false (shape.VariableDeclaration k) 0 (t ▸ ts)) e).1 ∙ leads_nowhere x k 0 (t ▸ ts)))
+no_declaration x (node h ys n ts) e = refl
+
+-- so a `for` begins with no `var`
+begins_with_none : (x : Name) (value u v w : Tree) → is_first x false value ≡ true → evaluated (for_loop value u v w) ≡ for_loop value u v w
+begins_with_none x value u v w e = ap (λ c. if c && has_declarator value then first_value value else for_loop value u v w) (no_declaration x value e)
+
 -- what opens a scope, and reads it outside of that
 pub record Outside (x : Name) (t : Tree) : Type 0 where
   pub seat : Seat
@@ -857,7 +879,7 @@ outside_of x s h value ts full there same evaluates low e =
 
 outside : (x : Name) (t : Tree) → reads_outside x t ≡ true → Outside x t
 outside x (node shape.SwitchStatement [] zero (value ▸ (cases ▸ none))) e = outside_of x (Choice cases) shape.SwitchStatement value (cases ▸ none) refl (λ u. refl) refl refl refl e
-outside x (node shape.ForStatement [] zero (value ▸ (u ▸ (v ▸ (w ▸ none))))) e = outside_of x (Loop u v w) shape.ForStatement value (u ▸ (v ▸ (w ▸ none))) refl (λ u. refl) refl refl refl e
+outside x (node shape.ForStatement [] zero (value ▸ (u ▸ (v ▸ (w ▸ none))))) e = outside_of x (Loop u v w) shape.ForStatement value (u ▸ (v ▸ (w ▸ none))) refl (λ u. refl) refl (begins_with_none x value u v w (and_parts (is_first x false value) (not (any_names x (u ▸ (v ▸ (w ▸ none))))) e).0) refl e
 outside x t e = absurd (true≢false (sym e))
 
 -- a loop over keys or values, and reads it in its right side
@@ -907,18 +929,75 @@ over x (node shape.ForInStatement [] zero (left ▸ (value ▸ (body ▸ none)))
 over x (node shape.ForOfStatement [] zero (left ▸ (value ▸ (body ▸ none)))) e = over_of x EachOf left value body e
 over x t e = absurd (true≢false (sym e))
 
--- a head is a statement, a declaration, opens a scope, or is such a loop
+-- a `for` that begins with a `var`, and reads it in the first initializer
+pub record Begun (x : Name) (t : Tree) : Type 0 where
+  pub binds : Tree
+  pub value : Tree
+  pub last : Trees
+  pub test : Tree
+  pub update : Tree
+  pub body : Tree
+  pub once : is_first x false value ≡ true
+  pub other : names x binds ≡ false
+  pub later : any_names x last ≡ false
+  pub beside : any_names x (test ▸ (update ▸ (body ▸ none))) ≡ false
+  pub is : t ≡ for_loop (declaration Var (declarator binds value ▸ last)) test update body
+  pub puts : (r : Tree) → put_first x r t ≡ for_loop (declaration Var (declarator binds (put_first x r value) ▸ last)) test update body
+  pub evaluates : evaluated t ≡ value
+
+-- which is read like a declaration
+abbrev pub as_initial : (x : Name) (t : Tree) (b : Begun x t) → Initial x (declaration Var (declarator b.binds b.value ▸ b.last))
+as_initial x t b = record { kind = Var; binds = b.binds; value = b.value; last = b.last; once = b.once; other = b.other; later = b.later; is = refl; puts = put_initially x Var b.binds b.value b.last b.other (mentioned x false b.value b.once); evaluates = refl }
+
+a_var : (k : VariableDeclarationKind) → is_var_shape (shape.VariableDeclaration k) ≡ true → k ≡ Var
+a_var Var e = refl
+a_var k e = absurd (true≢false (sym e))
+
+begun_of : (x : Name) (binds value : Tree) (last : Trees) (u v w : Tree) → is_first x false value ≡ true → names x binds ≡ false → any_names x last ≡ false → any_names x (u ▸ (v ▸ (w ▸ none))) ≡ false → Begun x (for_loop (declaration Var (declarator binds value ▸ last)) u v w)
+begun_of x binds value last u v w once other later beside =
+    let head = declaration Var (declarator binds value ▸ last) in
+    let rest : Trees = u ▸ (v ▸ (w ▸ none)) in
+    let n = mentioned x false value once in
+    let there : names x head ≡ true = λ i. ((other i || (n i || false)) || any_names x last) || false in
+    record {
+      binds = binds;
+      value = value;
+      last = last;
+      test = u;
+      update = v;
+      body = w;
+      once = once;
+      other = other;
+      later = later;
+      beside = beside;
+      is = refl;
+      puts = λ r. ap (λ c. node shape.ForStatement [] 0 (if c then put_first x r head ▸ rest else head ▸ put_among x r rest)) there ∙ ap (λ t. for_loop t u v w) (put_initially x Var binds value last other n r);
+      evaluates = refl;
+    }
+
+begun : (x : Name) (t : Tree) → reads_begun x t ≡ true → Begun x t
+begun x (node shape.ForStatement [] zero (head ▸ (u ▸ (v ▸ (w ▸ none))))) e =
+    let rest : Trees = u ▸ (v ▸ (w ▸ none)) in
+    let (a, p) = and_parts (is_var_shape (shape_of head) && has_declarator head) (reads_initially x head && not (any_names x rest)) e in
+    let (b, c) = and_parts (reads_initially x head) (not (any_names x rest)) p in
+    let i = initially x head b in
+    let of_var = a_var i.kind (sym (ap (λ t. is_var_shape (shape_of t)) i.is) ∙ (and_parts (is_var_shape (shape_of head)) (has_declarator head) a).0) in
+    subst (λ t. Begun x (for_loop t u v w)) (sym (i.is ∙ ap (λ k. declaration k (declarator i.binds i.value ▸ i.last)) of_var)) (begun_of x i.binds i.value i.last u v w i.once i.other i.later (not_true (any_names x rest) c))
+begun x t e = absurd (true≢false (sym e))
+
+-- a head is a statement, a declaration, opens a scope, is such a loop, or begins with a `var`
 abbrev pub Heads : Name → Tree → Type 0
-Heads x t = ((reads_first x t ≡ true) × (evaluated t ≡ t)) ⊎ (Initial x t ⊎ (Outside x t ⊎ Over x t))
+Heads x t = ((reads_first x t ≡ true) × (evaluated t ≡ t)) ⊎ (Initial x t ⊎ (Outside x t ⊎ (Over x t ⊎ Begun x t)))
 
 pub heads : (x : Name) (t : Tree) → reads_head x t ≡ true → Heads x t
-heads x t e = by (reads_first x t) (reads_initially x t) (reads_outside x t) refl refl refl
+heads x t e = by (reads_first x t) (reads_initially x t) (reads_outside x t) (reads_over x t) refl refl refl refl
   where
-    by : (a b c : Bool) → reads_first x t ≡ a → reads_initially x t ≡ b → reads_outside x t ≡ c → Heads x t
-    by true b c f g h = inl (f, stays x t f)
-    by false true c f g h = inr (inl (initially x t g))
-    by false false true f g h = inr (inr (inl (outside x t h)))
-    by false false false f g h = inr (inr (inr (over x t (sym (λ i. f i || (g i || (h i || reads_over x t))) ∙ e))))
+    by : (a b c d : Bool) → reads_first x t ≡ a → reads_initially x t ≡ b → reads_outside x t ≡ c → reads_over x t ≡ d → Heads x t
+    by true b c d f g h o = inl (f, stays x t f)
+    by false true c d f g h o = inr (inl (initially x t g))
+    by false false true d f g h o = inr (inr (inl (outside x t h)))
+    by false false false true f g h o = inr (inr (inr (inl (over x t o))))
+    by false false false false f g h o = inr (inr (inr (inr (begun x t (sym (λ i. f i || (g i || (h i || (o i || reads_begun x t)))) ∙ e)))))
 
 -- ---- what holds of it
 

@@ -28,7 +28,7 @@ use Rattle.mini_rows.proofs.BooleanWeights.{moved}
 use Rattle.mini_rows.proofs.ListWeights.{total, in_list, comma_list, declarators_append}
 use Rattle.mini_rows.proofs.ListKeptHeads as opening
 use Rattle.mini_rows.proofs.ListKeptHeads.{Loop, Choice, seated}
-use Rattle.mini_rows.proofs.SingleUse.{Lead, Not, Plus, Minus, Tilde, Typing, Emptying, Beside, Deciding, Choosing, Passing, Called, Making, Waiting, Member, Keyed, Linking, Holding, Against, Given, Filling, Keying, Interpolating, Following, Branching, Failing, Storing, Gathering, Fielding, Spreading, Bracketing, Targeted, Changing, Listing, Doing, Giving, Raising, Testing, target_stands, head_of, before, place, Step, led, is_end, Stands, Well, Initial, heads, path, statement, Outside, Over, Heads, Path, found, found_head, by_front, ends_short}
+use Rattle.mini_rows.proofs.SingleUse.{Lead, Not, Plus, Minus, Tilde, Typing, Emptying, Beside, Deciding, Choosing, Passing, Called, Making, Waiting, Member, Keyed, Linking, Holding, Against, Given, Filling, Keying, Interpolating, Following, Branching, Failing, Storing, Gathering, Fielding, Spreading, Bracketing, Targeted, Changing, Listing, Doing, Giving, Raising, Testing, target_stands, head_of, before, place, Step, led, is_end, Stands, Well, Initial, as_initial, heads, path, statement, Outside, Over, Begun, Heads, Path, found, found_head, by_front, ends_short}
 
 -- ---- where the steps stand
 
@@ -529,6 +529,12 @@ over_falls s k head t r f =
     by EachIn = omega (arith, value_falls whole_seat)
     by EachOf = omega (arith, value_falls argument_seat)
 
+-- a `for` that begins with a `var` weighs what that does
+begun_falls : (s : List ℕ) (k : ℕ) (head : Tree) (t : Begun (resolved s k) head) (r : Tree) → is_plain_part r ≡ true → total (put_first (resolved s k) r head ▸ none) ≤ total (head ▸ none) + (weight (Expr argument_seat) r + 3)
+begun_falls s k head t r f =
+    let falls = initial_falls s k (declaration Var (declarator t.binds t.value ▸ t.last)) (as_initial (resolved s k) head t) r f in
+    omega (arith, falls, ap (λ u. total (u ▸ none)) ((as_initial (resolved s k) head t).puts r), ap (λ u. total (u ▸ none)) t.is, ap (λ u. total (u ▸ none)) (t.puts r))
+
 either_falls : (s : List ℕ) (k : ℕ) (head : Tree) → reads_head (resolved s k) head ≡ true → (r : Tree) → is_plain_part r ≡ true → total (put_first (resolved s k) r head ▸ none) ≤ total (head ▸ none) + (weight (Expr argument_seat) r + 3)
 either_falls s k head e r f = by (heads (resolved s k) head e)
   where
@@ -536,7 +542,8 @@ either_falls s k head e r f = by (heads (resolved s k) head e)
     by (inl (o, p)) = let falls = head_falls s k head o stmt_seat.List r f in omega (arith, falls)
     by (inr (inl t)) = initial_falls s k head t r f
     by (inr (inr (inl t))) = outside_falls s k head t r f
-    by (inr (inr (inr t))) = over_falls s k head t r f
+    by (inr (inr (inr (inl t)))) = over_falls s k head t r f
+    by (inr (inr (inr (inr t)))) = begun_falls s k head t r f
 
 -- ---- the block
 

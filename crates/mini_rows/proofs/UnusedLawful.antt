@@ -4,6 +4,7 @@ use Rattle.std.proofs.Common.{ap, ◌∙◌, sym, subst, inl, inr, true≢false,
 use Rattle.std.proofs.lemmas.Bool.{and_parts, le-leb}
 use Rattle.std.proofs.lemmas.List.{append-nil}
 use Rattle.mini_model.specs.declared.kind.VariableDeclarationKind.{VariableDeclarationKind}
+use Rattle.mini_model.specs.declared.kind.VariableDeclarationKind.TheVariants.{Var}
 use Rattle.mini_model.specs.declared.name.Name.{Name}
 use Rattle.mini_model.specs.declared.place.Position.{Position}
 use Rattle.mini_model.specs.declared.place.Position.TheVariants.{Stmt, Elsewhere}
@@ -58,14 +59,14 @@ use Rattle.mini_rows.specs.Switches.{Switches, without_vars}
 use Rattle.mini_rows.proofs.ArrangedBodies.{quiet}
 use Rattle.mini_rows.proofs.BlockPlaces.{holds_block, no_list, block_placed, block_there, block_asked}
 use Rattle.mini_rows.proofs.FoldLawful.{vanishes}
-use Rattle.mini_rows.proofs.ListShapes.{declaration_anywhere, append_fits, both_fit, first_fits, more_fit}
+use Rattle.mini_rows.proofs.ListShapes.{init_declares, declaration_anywhere, append_fits, both_fit, first_fits, more_fit}
 use Rattle.mini_rows.proofs.UnusedKept.{LeavesThere, NamesThere, DeclaresThere, list_fixed, list_frames, list_bodies, list_declares, block_kept, block_less, block_keeps}
 use Rattle.mini_rows.proofs.DeclaredKept.{value_leaves, value_names, value_declares, idle_leaves, idle_names, idle_declares}
 use Rattle.mini_rows.proofs.HeadKept.{head_leaves, head_names, head_declares}
 use Rattle.mini_rows.proofs.HeadMeaning.{row_71}
 use Rattle.mini_rows.proofs.ModuleKept.{fewer}
 use Rattle.mini_rows.proofs.ListKeptHeads.{Seat, Loop, Choice, seated}
-use Rattle.mini_rows.proofs.SingleUse.{Initial, Outside, Over, Heads, heads}
+use Rattle.mini_rows.proofs.SingleUse.{Initial, Outside, Over, Begun, as_initial, Heads, heads}
 use Rattle.mini_rows.proofs.SingleFits.{MayStand, first_of, second_of, put_fits, put_initial, put_asked, put_begun}
 use Rattle.mini_rows.proofs.UnusedMeaning.{movable, lexical_alone, row_72, row_72_idle}
 use Rattle.mini_rows.proofs.NextKept.{next_leaves, next_names, next_declares}
@@ -214,6 +215,17 @@ each_fits false EachOf l w a b h e = second_of (fits false (one (a_loop_left fal
 over_fits : (strict : Bool) (x : Name) (head : Tree) (t : Over x head) (r : Tree) → MayStand x r t.value → fits strict (one an_expression) r ≡ true → fits strict item head ≡ true → fits strict item (put_first x r head) ≡ true
 over_fits strict x head t r p f e = ap (fits strict item) (t.puts r) ∙ each_fits strict t.kind t.left t.body t.value (put_first x r t.value) (put_asked strict x t.value t.once r p f) (sym (ap (fits strict item) t.is) ∙ e)
 
+-- and a `for` that begins with a `var`
+begun_fits : (strict : Bool) (x : Name) (head : Tree) (t : Begun x head) (r : Tree) → MayStand x r t.value → fits strict (one an_expression) r ≡ true → fits strict item head ≡ true → fits strict item (put_first x r head) ≡ true
+begun_fits strict x head t r p f e =
+    let i = as_initial x head t in
+    let these : Trees = declarator t.binds t.value ▸ t.last in
+    let those : Trees = declarator t.binds (put_first x r t.value) ▸ t.last in
+    ap (fits strict item) (t.puts r)
+    ∙ for_fits strict t.test t.update t.body (declaration Var these) (declaration Var those)
+    (λ h. init_declares strict Var those ∙ sym (declaration_anywhere strict nested Var those) ∙ sym (ap (fits strict item) (i.puts r)) ∙ initial_fits strict x (declaration Var these) i r p f (declaration_anywhere strict nested Var these ∙ sym (init_declares strict Var these) ∙ h))
+    (sym (ap (fits strict item) t.is) ∙ e)
+
 head_fits : (strict : Bool) (x : Name) (head : Tree) → reads_head x head ≡ true → (r : Tree) → MayStand x r (evaluated head) → fits strict (one an_expression) r ≡ true → fits strict item head ≡ true → fits strict item (put_first x r head) ≡ true
 head_fits strict x head once r g f e = by (heads x head once)
   where
@@ -221,7 +233,8 @@ head_fits strict x head once r g f e = by (heads x head once)
     by (inl (o, p)) = put_fits strict x head o r (subst (MayStand x r) p g) f e
     by (inr (inl t)) = initial_fits strict x head t r (subst (MayStand x r) t.evaluates g) f e
     by (inr (inr (inl t))) = outside_fits strict x head t r (subst (MayStand x r) t.evaluates g) f e
-    by (inr (inr (inr t))) = over_fits strict x head t r (subst (MayStand x r) t.evaluates g) f e
+    by (inr (inr (inr (inl t)))) = over_fits strict x head t r (subst (MayStand x r) t.evaluates g) f e
+    by (inr (inr (inr (inr t)))) = begun_fits strict x head t r (subst (MayStand x r) t.evaluates g) f e
 
 pub single_fits : (strict : Bool) (k : VariableDeclarationKind) (x : Name) (first : Trees) (init head : Tree) → is_plain_part init ≡ true → reads_head x head ≡ true → MayStand x init (evaluated head) → fits strict item (declared_among k x first init none) ≡ true → fits strict item head ≡ true → (fits strict item (declared_left k first) ≡ true) × (fits strict item (put_first x init head) ≡ true)
 single_fits strict k x first init head m r p e f =

@@ -4,6 +4,7 @@ use Rattle.mini_model.specs.declared.name.Name.{Name}
 use Rattle.std.specs.Prelude.{ℕ, ◌≡◌, refl, Bool, true, false, List, [], None}
 use Rattle.std.proofs.Common.{ap, ◌∙◌, sym, subst₂, inl, inr, true≢false}
 use Rattle.mini_model.specs.declared.kind.VariableDeclarationKind.{VariableDeclarationKind}
+use Rattle.mini_model.specs.declared.kind.VariableDeclarationKind.TheVariants.{Var}
 use Rattle.mini_model.specs.Tree.{Tree, Trees, node, none, ◌▸◌, listed, shape_of, children, child_or_absent, expression_statement}
 use Rattle.mini_model.specs.Paths.{append}
 use Rattle.mini_accept.specs.WellShaped.{Depth, in_body, nested, a_statement, Slot, one, each, fits, fill}
@@ -179,7 +180,8 @@ stands_there x head once init = by (heads x head once)
     by (inl (f, p)) = statement_there x head f init
     by (inr (inl t)) = subst₂ StandsThere (sym t.is) (sym (t.puts init)) (initial_there t.kind (declarator t.binds t.value ▸ t.last) (declarator t.binds (put_first x init t.value) ▸ t.last))
     by (inr (inr (inl t))) = subst₂ StandsThere (sym t.is) (sym (t.puts init)) (outside_there t.seat t.value (put_first x init t.value))
-    by (inr (inr (inr t))) = subst₂ StandsThere (sym t.is) (sym (t.puts init)) (over_there t.kind t.left t.body t.value (put_first x init t.value))
+    by (inr (inr (inr (inl t)))) = subst₂ StandsThere (sym t.is) (sym (t.puts init)) (over_there t.kind t.left t.body t.value (put_first x init t.value))
+    by (inr (inr (inr (inr t)))) = subst₂ StandsThere (sym t.is) (sym (t.puts init)) (outside_there (Loop t.test t.update t.body) (declaration Var (declarator t.binds t.value ▸ t.last)) (declaration Var (declarator t.binds (put_first x init t.value) ▸ t.last)))
 
 -- ---- the rows
 

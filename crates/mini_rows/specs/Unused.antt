@@ -29,7 +29,7 @@ use Rattle.mini_terms.specs.Reading.{is_item, is_plain_part, is_typed_by_value}
 pub use Rattle.mini_rows.specs.declared.gathered.Gathered.{Gathered}
 pub use Rattle.mini_rows.specs.declared.gathered.Gathered.TheVariants.{Values as OfValues, Entries as OfEntries, Texts as OfTexts}
 use Rattle.mini_rows.specs.Cases.{switch_case}
-use Rattle.mini_rows.specs.Lists.{block, switch, for_loop, declaration, declares_nothing, is_bare_var}
+use Rattle.mini_rows.specs.Lists.{block, switch, for_loop, declaration, declares_nothing, is_var_shape, is_bare_var}
 pub use Rattle.mini_rows.specs.Lists.{resolved}
 use Rattle.mini_rows.specs.Declarations.{binding, declarator}
 use Rattle.mini_rows.specs.Chains.{is_calm}
@@ -530,17 +530,30 @@ goes_over t = is_over_shape (shape_of t) && (is_bare t 3 && is_open_left (part t
 abbrev pub reads_over : Name → Tree → Bool
 reads_over x t = goes_over t && (is_first x false (part t 1) && (not (names x (part t 0)) && not (any_names x (rest_children 2 (children t)))))
 
--- a head: what may stand right after the declaration
-abbrev pub reads_head : Name → Tree → Bool
-reads_head x t = reads_first x t || (reads_initially x t || (reads_outside x t || reads_over x t))
-
--- a declaration with a first declarator
+-- a declaration with a first declarator, and its initializer
 abbrev pub has_declarator : Tree → Bool
 has_declarator t = declares_list t && (not (is_childless (part t 0)) && is_declarator (part (part t 0) 0))
 
--- what a head evaluates: of a declaration the first initializer, and of a loop over keys or values its right side
+abbrev pub first_value : Tree → Tree
+first_value t = part (part (part t 0) 0) 1
+
+-- `for (var i = e; ..; ..) ..`: a `var` is declared around the loop, so that e is evaluated as in a declaration before that (ECMA-262,
+-- "ForLoopEvaluation")
+abbrev pub begins_var : Tree → Bool
+begins_var t = is_for_shape (shape_of t) && (is_bare t 4 && (is_var_shape (shape_of (part t 0)) && has_declarator (part t 0)))
+
+-- it does so in that first initializer
+abbrev pub reads_begun : Name → Tree → Bool
+reads_begun x t = begins_var t && (reads_initially x (part t 0) && not (any_names x (rest_children 1 (children t))))
+
+-- a head: what may stand right after the declaration
+abbrev pub reads_head : Name → Tree → Bool
+reads_head x t = reads_first x t || (reads_initially x t || (reads_outside x t || (reads_over x t || reads_begun x t)))
+
+-- what a head evaluates: of a declaration, and of a `var` that begins a `for`, the first initializer, and of a loop over keys or values its
+-- right side
 abbrev pub evaluated : Tree → Tree
-evaluated t = if has_declarator t then part (part (part t 0) 0) 1 else (if goes_over t then part t 1 else t)
+evaluated t = if has_declarator t then first_value t else (if goes_over t then part t 1 else (if begins_var t then first_value (part t 0) else t))
 
 -- an arrow function, and a function or a class without a name of its own, gets the variable's name (ECMA-262, "NamedEvaluation"): none
 -- of them moves where the names of functions, or of classes, have to stay
@@ -554,8 +567,9 @@ abbrev pub may_move : Switches → Tree → Bool
 may_move o t = is_plain_part t && not (takes_name o (shape_of t) (part t 0))
 
 -- 71: `{ let a, x = b(); return x + c; }` becomes `{ let a; return b() + c; }`, `{ const x = b(); return x; }` `{ ; return b(); }`,
--- `{ let x = a(); const y = x.b; c(y); }` `{ ; const y = a().b; c(y); }`, `{ let x = a(); switch (x.b) { } }` `{ ; switch (a().b) { } }`, and
--- `{ let x = a(); for (c of x.b) d(); }` `{ ; for (c of a().b) d(); }`
+-- `{ let x = a(); const y = x.b; c(y); }` `{ ; const y = a().b; c(y); }`, `{ let x = a(); switch (x.b) { } }` `{ ; switch (a().b) { } }`,
+-- `{ let x = a(); for (c of x.b) d(); }` `{ ; for (c of a().b) d(); }`, and `{ let x = a(); for (var i = x.b; i; ) c(i); }`
+-- `{ ; for (var i = a().b; i; ) c(i); }`
 pub record Row71 (W : Liberties) (n w : Tree) : Type 0 where
   pub before : Trees
   pub kind : VariableDeclarationKind

@@ -14,7 +14,7 @@ use Rattle.mini_node.specs.Kinds.{is_identifier}
 use Rattle.mini_node.specs.Walks.{next_child}
 use Rattle.mini_kept.proofs.SameScopes.{same_texts}
 use Rattle.mini_rows.specs.Declarations.{declarator}
-use Rattle.mini_rows.specs.Unused.{may_hold, resolved, is_like_one, names, any_names, is_idle, leads, holds_list, reads, is_first, leads_to, put_first, put_among, are_passed, is_head_shape, reads_first, reads_head, has_declarator, goes_over, evaluated}
+use Rattle.mini_rows.specs.Unused.{may_hold, resolved, is_like_one, names, any_names, is_idle, leads, holds_list, reads, is_first, leads_to, put_first, put_among, are_passed, is_head_shape, reads_first, reads_head, has_declarator, first_value, begins_var, goes_over, evaluated}
 use Rattle.mini_rows.proofs.ListKeptHeads.{Seat, Loop, Choice, seated}
 use Rattle.mini_rows.specs.Lists.{Each, EachIn, EachOf, each_loop}
 use Rattle.mini_rows.proofs.SingleUse.{Heads, heads}
@@ -242,7 +242,8 @@ head_counted n x t e = by (heads x t e)
     by : Heads x t → 1 ≤ tally (bucket true n) (bucket true n x) t
     by (inl (f, p)) = statement_counted n x t f
     by (inr (inl i)) = let read = first_counted n x false i.value i.once in let whole = ap (tally (bucket true n) (bucket true n x)) i.is in omega (arith, read, whole)
-    by (inr (inr (inr i))) = let read = over_counted i.kind i.left i.body i.value (first_counted n x false i.value i.once) in let whole = ap (tally (bucket true n) (bucket true n x)) i.is in omega (arith, read, whole)
+    by (inr (inr (inr (inr i)))) = let read = first_counted n x false i.value i.once in let whole = ap (tally (bucket true n) (bucket true n x)) i.is in omega (arith, read, whole)
+    by (inr (inr (inr (inl i)))) = let read = over_counted i.kind i.left i.body i.value (first_counted n x false i.value i.once) in let whole = ap (tally (bucket true n) (bucket true n x)) i.is in omega (arith, read, whole)
     by (inr (inr (inl i))) = let read = seated_counted i.seat i.value (first_counted n x false i.value i.once) in let whole = ap (tally (bucket true n) (bucket true n x)) i.is in omega (arith, read, whole)
 
 -- in the buckets of x, of tables so large
@@ -446,16 +447,20 @@ part_spelled x t u b e f h r =
 
 -- what a head evaluates
 pub head_spelled : (x : Name) (t u : Tree) (b : Bool) → u ≡ evaluated t → (b ≡ true → (r : ℕ) → 1 ≤ tally (bucket false r) (bucket false r x) u) → b ≡ true → (r : ℕ) → 1 ≤ tally (bucket false r) (bucket false r x) t
-head_spelled x t u b e f h r = by (has_declarator t) (goes_over t) (let one = f h r in let same = ap (tally (bucket false r) (bucket false r x)) e in omega (arith, one, same))
+head_spelled x t u b e f h r = by (has_declarator t) (goes_over t) (begins_var t) (let one = f h r in let same = ap (tally (bucket false r) (bucket false r x)) e in omega (arith, one, same))
   where
-    by : (c d : Bool) → 1 ≤ tally (bucket false r) (bucket false r x) (if c then part (part (part t 0) 0) 1 else (if d then part t 1 else t)) → 1 ≤ tally (bucket false r) (bucket false r x) t
-    by true d one =
-        let inner = part_of (bucket false r) (bucket false r x) (part (part t 0) 0) 1 in
-        let list = part_of (bucket false r) (bucket false r x) (part t 0) 0 in
-        let whole = part_of (bucket false r) (bucket false r x) t 0 in
+    in_declaration : (d : Tree) → 1 ≤ tally (bucket false r) (bucket false r x) (first_value d) → 1 ≤ tally (bucket false r) (bucket false r x) d
+    in_declaration d one =
+        let inner = part_of (bucket false r) (bucket false r x) (part (part d 0) 0) 1 in
+        let list = part_of (bucket false r) (bucket false r x) (part d 0) 0 in
+        let whole = part_of (bucket false r) (bucket false r x) d 0 in
         omega (arith, one, inner, list, whole)
-    by false true one = let whole = part_of (bucket false r) (bucket false r x) t 1 in omega (arith, one, whole)
-    by false false one = one
+
+    by : (a c d : Bool) → 1 ≤ tally (bucket false r) (bucket false r x) (if a then first_value t else (if c then part t 1 else (if d then first_value (part t 0) else t))) → 1 ≤ tally (bucket false r) (bucket false r x) t
+    by true c d one = in_declaration t one
+    by false true d one = let whole = part_of (bucket false r) (bucket false r x) t 1 in omega (arith, one, whole)
+    by false false true one = let whole = part_of (bucket false r) (bucket false r x) t 0 in omega (arith, in_declaration (part t 0) one, whole)
+    by false false false one = one
 
 pub text_counted : (r : ℕ) (x y : Name) → same_text x.spelling y.spelling ≡ true → 1 ≤ own_tally (bucket false r) (bucket false r x) (y ∷ [])
 text_counted r x y e = let one = counted_there (bucket false r) (bucket false r x) y (sym (bucket_alike r x y (same_texts x.spelling y.spelling e))) in omega (arith, one)

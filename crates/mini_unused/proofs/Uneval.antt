@@ -4,6 +4,7 @@ use Rattle.std.specs.Prelude.{not, ◌&&◌, ◌||◌, ◌⊎◌, if◌then◌el
 use Rattle.std.proofs.lemmas.Bool.{and_parts}
 use Rattle.mini_model.specs.declared.kind.PropertyKind.TheVariants.{Init}
 use Rattle.mini_model.specs.declared.kind.VariableDeclarationKind.{VariableDeclarationKind}
+use Rattle.mini_model.specs.declared.kind.VariableDeclarationKind.TheVariants.{Var}
 use Rattle.mini_model.specs.declared.name.Name.{Name}
 use Rattle.mini_model.specs.declared.shape.Shape.{Shape}
 use Rattle.mini_model.specs.declared.shape.Shape.TheVariants as shape
@@ -20,7 +21,7 @@ use Rattle.mini_rows.specs.Declarations.{declarator}
 use Rattle.mini_unused.specs.SubstituteNext.{reads_then, put_named, is_declarator, is_mentioned_beside, is_mentioned_elsewhere, is_read_then, declarators_next, NextGone}
 use Rattle.mini_unused.specs.SubstituteSingleUse.{declaration_left, last_place, reads_next, is_declared_over, is_mentioned_around, is_read_once, NameGone, ReadGone, Gone}
 use Rattle.mini_rows.proofs.ListKeptHeads.{Seat, Loop, Choice, seated}
-use Rattle.mini_rows.proofs.SingleUse.{Initial, Heads, heads, mentioned}
+use Rattle.mini_rows.proofs.SingleUse.{Initial, as_initial, Heads, heads, mentioned}
 use Rattle.mini_rows.specs.Switches.{Liberties}
 use Rattle.mini_unused.proofs.NextUses.{found, next_child_left}
 use Rattle.mini_unused.proofs.Unused.{a_declaration, declarator_is, declared_there, not_true}
@@ -305,7 +306,11 @@ put_along_head x r t f p e g = by (heads x t f)
     by : Heads x t → has_eval (put_first x r t) ≡ false
     by (inl (o, q)) = put_in_head x r t o (sym (ap (suits_along x r) q) ∙ p) e g
     by (inr (inl i)) = put_in_initial x r t i (sym (ap (suits_along x r) i.evaluates) ∙ p) e g
-    by (inr (inr (inr i))) = ap has_eval (i.puts r) ∙ put_over i.kind i.left i.body i.value (put_first x r i.value) (put_there x false r i.value i.once (sym (ap (suits_along x r) i.evaluates) ∙ p) e) (sym (ap has_eval i.is) ∙ g)
+    by (inr (inr (inr (inr i)))) =
+        let d = as_initial x t i in
+        let there = put_in_initial x r (declaration Var (declarator i.binds i.value ▸ i.last)) d (sym (ap (suits_along x r) i.evaluates) ∙ p) e in
+        ap has_eval (i.puts r) ∙ put_outside (Loop i.test i.update i.body) (declaration Var (declarator i.binds i.value ▸ i.last)) (declaration Var (declarator i.binds (put_first x r i.value) ▸ i.last)) (λ h. sym (ap has_eval (d.puts r)) ∙ there h) (sym (ap has_eval i.is) ∙ g)
+    by (inr (inr (inr (inl i)))) = ap has_eval (i.puts r) ∙ put_over i.kind i.left i.body i.value (put_first x r i.value) (put_there x false r i.value i.once (sym (ap (suits_along x r) i.evaluates) ∙ p) e) (sym (ap has_eval i.is) ∙ g)
     by (inr (inr (inl i))) = ap has_eval (i.puts r) ∙ put_outside i.seat i.value (put_first x r i.value) (put_there x false r i.value i.once (seated_along x r i.seat i.value (mentioned x false i.value i.once) (sym (ap (suits_along x r) (i.evaluates ∙ i.is)) ∙ p)) e) (sym (ap has_eval i.is) ∙ g)
 
 put_there_head : (x : Name) (r t : Tree) → reads_head x t ≡ true → are_passed x r (evaluated t) ≡ true → has_eval r ≡ false → has_eval t ≡ false → has_eval (put_first x r t) ≡ false

@@ -48,13 +48,19 @@ fn are_bare(node: &Node) -> bool
     node.children().len() == 1 && lacks_initializer(node.child(0))
 }
 
+/// A `var`.
+pub fn is_var_shape(shape: &Shape) -> bool
+    ensures { result ≡ list.is_var_shape shape.now }
+{
+    matches!(
+        shape,
+        Shape::VariableDeclaration(VariableDeclarationKind::Var)
+    )
+}
+
 /// `var x`, without an initializer.
 pub fn is_bare_var(node: &Node) -> bool
     ensures { result ≡ list.is_bare_var node.now }
 {
-    matches!(
-        node.shape(),
-        Shape::VariableDeclaration(VariableDeclarationKind::Var)
-    ) && node.children().len() == 1
-        && are_bare(node.child(0))
+    is_var_shape(node.shape()) && node.children().len() == 1 && are_bare(node.child(0))
 }

@@ -20,7 +20,7 @@ use crate::declarations::{
     declares_list, declares_name, is_lexical, may_declare, may_lose, put_child, take_child,
     take_declarator,
 };
-use crate::declares::is_bare_var;
+use crate::declares::{is_bare_var, is_var_shape};
 use crate::evals::{either_has_eval, is_eval_callee, is_eval_name};
 use crate::mentions::{is_mentioned, is_mentioned_before, is_mentioned_from, is_same_symbol};
 use crate::next_uses::{is_declarator, substitute_next_uses};
@@ -766,6 +766,29 @@ fn reads_over(name: &Name, node: &Node) -> bool
         && !is_mentioned_from(name, node.children(), 2)
 }
 
+// A `for` that begins with a `var`, with a first declarator.
+fn begins_var(node: &Node) -> bool
+    ensures value { result ≡ reading.begins_var node.now }
+    ensures begins { result ≡ true → 0 < count (children node.now) }
+    ensures list { result ≡ true → 0 < count (children (part node.now 0)) }
+    ensures some { result ≡ true → 0 < count (children (part (part node.now 0) 0)) }
+    ensures parts { result ≡ true → 1 < count (children (part (part (part node.now 0) 0) 0)) }
+{
+    matches!(node.shape(), Shape::ForStatement)
+        && node.is_bare(4)
+        && is_var_shape(node.child(0).shape())
+        && has_declarator(node.child(0))
+}
+
+// It reads the variable in that declarator.
+fn reads_begun(name: &Name, node: &Node) -> bool
+    ensures { result ≡ reading.reads_begun name.now node.now }
+{
+    begins_var(node)
+        && reads_initially(name, node.child(0))
+        && !is_mentioned_from(name, node.children(), 1)
+}
+
 /// What may stand right after the declaration.
 pub fn reads_head(name: &Name, node: &Node) -> bool
     ensures { result ≡ reading.reads_head name.now node.now }
@@ -774,6 +797,7 @@ pub fn reads_head(name: &Name, node: &Node) -> bool
         || reads_initially(name, node)
         || reads_outside(name, node)
         || reads_over(name, node)
+        || reads_begun(name, node)
 }
 
 // It is absent, or there is none.
@@ -833,14 +857,27 @@ fn has_declarator(node: &Node) -> bool
     declares_list(node) && !is_childless(node.child(0)) && is_declarator(node.child(0).child(0))
 }
 
-/// What a head evaluates: of a declaration the first initializer, and of a loop over keys or values its right side.
+// Its initializer.
+fn first_value(node: &Node) -> &Node
+    requires list { 0 < count (children node.now) }
+    requires some { 0 < count (children (part node.now 0)) }
+    requires parts { 1 < count (children (part (part node.now 0) 0)) }
+    ensures { result.now ≡ reading.first_value node.now }
+{
+    node.child(0).child(0).child(1)
+}
+
+/// What a head evaluates: of a declaration, and of a `var` that begins a `for`, the first initializer, and of a loop over keys or values its
+/// right side.
 pub fn evaluated(node: &Node) -> &Node
     ensures { result.now ≡ reading.evaluated node.now }
 {
     if has_declarator(node) {
-        node.child(0).child(0).child(1)
+        first_value(node)
     } else if goes_over(node) {
         node.child(1)
+    } else if begins_var(node) {
+        first_value(node.child(0))
     } else {
         node
     }
