@@ -25,6 +25,6 @@ returns-in-Head g c =
     let k = c.args.self.now.steady.now in
     let S = g.S.SteadyNames.sets k in
     let W = g.S.PastNames.lets k in
-    let made = c.substitute_past_alone in
+    let made = c.substitute_past_alone-in-Head in
     where_ok made.result (λ changed. OneWalked S W (children c.args.above.now) c.args.node.now made.new.node changed) (λ changed. HereWalked (past_ends S W) (children c.args.above.now) c.args.way c.args.node.now made.new.node changed)
     (λ changed r. subst (λ w. HereWalked (past_ends S W) (children c.args.above.now) w c.args.node.now made.new.node changed) (sym c.in-Head.is) r.1) made.ensures
