@@ -62,7 +62,7 @@ typeof_there n w (inl r) =
 typeof_there n w (inr r) =
     let t : Tree = binary r.operator (unary Typeof r.operand) r.right in
     ap (λ x. is_some (typeof_written x)) r.shape
-    ∙ boolean_second r.operator (is_equality r.operator) (are_types_same (unary Typeof r.operand) r.right) (is_never_type t) None r.equality
+    ∙ boolean_second r.operator (is_equality r.operator) (are_types_same (unary Typeof r.operand) r.right) (is_never_type true t) None r.equality
     (both_true (is_no_type r.right) (is_effect_free t && leaves_nothing t) r.known (both_true (is_effect_free t) (leaves_nothing t) r.effect_free r.dropped))
 
 pub typeof_own : Own typeof_written TypeofRow
