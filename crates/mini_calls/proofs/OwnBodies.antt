@@ -10,6 +10,8 @@ use Rattle.mini_model.specs.Tree.{Tree}
 use Rattle.mini_model.specs.Weight.{weight}
 use Rattle.mini_node.specs.Children.{part}
 use Rattle.mini_rows.specs.Branches.{Row78, Row79}
+use Rattle.mini_rows.specs.Cases.{OneCaseRow}
+use Rattle.mini_rows.specs.DeadCases.{DeadCaseRow}
 use Rattle.mini_rows.specs.Loops.{Row84}
 use Rattle.mini_rows.specs.Decrements.{Row36}
 use Rattle.mini_fold.specs.DecrementCounter as counter
@@ -26,6 +28,10 @@ use Rattle.mini_logic.proofs.MinimizeForStatement as for_law
 use Rattle.mini_logic.proofs.MinimizeIfStatement as if_law
 use Rattle.mini_logic.proofs.MinimizeUnaryExpression as unary_law
 use Rattle.mini_logic.proofs.UnwrapBlock as unwrap_law
+use Rattle.mini_switch.specs.DropUnreachableSwitchCases as dead_cases
+use Rattle.mini_switch.specs.MinimizeSwitchStatements as one_case
+use Rattle.mini_switch.proofs.DeadCaseRows.{row_at, never_dropped}
+use Rattle.mini_switch.proofs.Switches.{row_of, never}
 use Rattle.mini_calls.proofs.OwnOperators.{some_is, nothing}
 use Rattle.mini_calls.specs.OwnRows.{Own, Weighed, Fitting, IdleHeadRow, negated}
 
@@ -56,6 +62,44 @@ block_own = placed_own Row79 unwrap_block.place unwrap_block.unwrapped_at unwrap
 
 pub continue_own : Own last_continue.written Row78
 continue_own = placed_own Row78 last_continue.place last_continue.left_at continue_law.row_at continue_law.misses
+
+-- 80
+
+inlined_said : (n w : Tree) → one_case.written n ≡ Some w → OneCaseRow n w
+inlined_said n w e = go (one_case.inlines n) refl e
+  where
+    go : (b : Bool) → one_case.inlines n ≡ b → (if b then Some (one_case.inlined n) else None) ≡ Some w → OneCaseRow n w
+    go true h f = subst (OneCaseRow n) (some_is (one_case.inlined n) w f) (row_of n h)
+    go false h f = nothing f
+
+inlined_rests : (n : Tree) → one_case.written n ≡ None → (w : Tree) → OneCaseRow n w → ⊥
+inlined_rests n e w r = go (one_case.inlines n) refl e
+  where
+    go : (b : Bool) → one_case.inlines n ≡ b → (if b then Some (one_case.inlined n) else None) ≡ None → ⊥
+    go true h f = absurd (cc f)
+    go false h f = never n w h r
+
+pub switch_own : Own one_case.written OneCaseRow
+switch_own = record { written = inlined_said; unwritten = inlined_rests }
+
+-- 81
+
+dropped_said : (n w : Tree) → dead_cases.written n ≡ Some w → DeadCaseRow n w
+dropped_said n w e = go (dead_cases.place n) refl e
+  where
+    go : (o : Option ℕ) → dead_cases.place n ≡ o → dead_cases.written_by n o ≡ Some w → DeadCaseRow n w
+    go (Some i) h f = subst (DeadCaseRow n) (some_is (dead_cases.dropped_at n i) w f) (row_at n i h)
+    go None h f = nothing f
+
+dropped_rests : (n : Tree) → dead_cases.written n ≡ None → (w : Tree) → DeadCaseRow n w → ⊥
+dropped_rests n e w r = go (dead_cases.place n) refl e
+  where
+    go : (o : Option ℕ) → dead_cases.place n ≡ o → dead_cases.written_by n o ≡ None → ⊥
+    go (Some i) h f = absurd (cc f)
+    go None h f = never_dropped n w h r
+
+pub cases_own : Own dead_cases.written DeadCaseRow
+cases_own = record { written = dropped_said; unwritten = dropped_rests }
 
 for_said : (n w : Tree) → for_statement.written n ≡ Some w → Row84 n w
 for_said n w e = go (for_statement.is_leaving_for n) refl e

@@ -34,6 +34,8 @@ ghost use Rattle.mini_logic.specs.MinimizeIfStatement as if_statement;
 ghost use Rattle.mini_logic.specs.UnwrapBlock as unwrap_block;
 ghost use Rattle.mini_model.specs.Redex.{Row23};
 ghost use Rattle.mini_rows.specs.Branches.{Row78, Row79};
+ghost use Rattle.mini_rows.specs.Cases.{OneCaseRow};
+ghost use Rattle.mini_rows.specs.DeadCases.{DeadCaseRow};
 ghost use Rattle.mini_rows.specs.ChainLinks.{Row64};
 ghost use Rattle.mini_rows.specs.Chains.{Row46Chain};
 ghost use Rattle.mini_rows.specs.Choices.{Row38, Row38Last, Row39};
@@ -45,6 +47,8 @@ ghost use Rattle.mini_rows.specs.Operands.{Row30};
 ghost use Rattle.mini_rows.specs.Operators.{Row2};
 ghost use Rattle.mini_rows.specs.Spellings.{Row19, Row54, Row55Value, Row60Yield, Row65};
 ghost use Rattle.mini_rows.specs.Writes.{Row34, Row37Assigned, Row46Assigned, Row46AssignedChain};
+ghost use Rattle.mini_switch.specs.DropUnreachableSwitchCases as dead_cases;
+ghost use Rattle.mini_switch.specs.MinimizeSwitchStatements as one_case;
 ghost use Rattle.mini_syntax.specs.CompressAssignmentTargetProperty.{compressed, is_doubled};
 ghost use Rattle.mini_syntax.specs.ConvertToDottedProperties as dotted;
 ghost use Rattle.mini_syntax.specs.SubstituteBindingProperty.{declared_bare, declares_brackets};
@@ -133,11 +137,13 @@ pub fn keys_are_own_rows()
     ensures doubled { Changing is_doubled compressed Row53 }
 {}
 
-/// The calls of negations, of `if`, of branches and bodies: 23, 78 of loops, 79, 82, 83 and 84.
+/// The calls of negations, of `if`, of branches, bodies and `switch`: 23, 78 of loops, 79 to 84.
 pub fn bodies_are_own_rows()
     ensures negation { Weighed negated Row23 }
     ensures choice { Fitting if_statement.written if_statement.IsRow }
     ensures block { Own unwrap_block.written Row79 }
     ensures last { Own last_continue.written Row78 }
     ensures leaving { Own for_statement.written Row84 }
+    ensures one_case { Own one_case.written OneCaseRow }
+    ensures dead_cases { Own dead_cases.written DeadCaseRow }
 {}

@@ -340,7 +340,7 @@ switch_is : (t : Tree) → holds_cases t ≡ true → t ≡ switch (part t 0) (l
 switch_is (node shape.SwitchStatement [] zero (d ▸ (cs ▸ none))) e = ap (λ y. node shape.SwitchStatement [] 0 (d ▸ (y ▸ none))) (listed_is cs e)
 switch_is t e = absurd (false≢true e)
 
-row_at : (t : Tree) (i : ℕ) → place t ≡ Some i → DeadCaseRow t (dropped_at t i)
+pub row_at : (t : Tree) (i : ℕ) → place t ≡ Some i → DeadCaseRow t (dropped_at t i)
 row_at t i e = go (is_read t) refl e
   where
     read : is_read t ≡ true → (o : Option Value) → asked (part t 0) ≡ o → place_over (children (part t 1)) o ≡ Some i → DeadCaseRow t (dropped_at t i)
@@ -458,7 +458,7 @@ row_place : (n w : Tree) → DeadCaseRow n w → (i : ℕ) × (place n ≡ Some 
 row_place n w (inl r) = let p = taken_place r.value r.discriminant r.asks r.before r.test r.statements r.after r.taken r.several r.loose r.dropped r.rest_dropped in (p.0, ap place r.shape ∙ p.1)
 row_place n w (inr r) = let p = none_place r.value r.discriminant r.asks r.test r.statements r.after r.missed r.several r.loose r.dropped in (p.0, ap place r.shape ∙ p.1)
 
-never_dropped : (n w : Tree) → place n ≡ None → DeadCaseRow n w → ⊥
+pub never_dropped : (n w : Tree) → place n ≡ None → DeadCaseRow n w → ⊥
 never_dropped n w e r = let p = row_place n w r in cc (sym e ∙ p.1)
 
 -- ---- both rewrites

@@ -1,4 +1,4 @@
-use Rattle.mini_calls.proofs.OwnBodies.{negated_own, if_own, block_own, continue_own, for_own}
+use Rattle.mini_calls.proofs.OwnBodies.{negated_own, if_own, block_own, continue_own, for_own, switch_own, cases_own}
 use Rattle.mini_calls.proofs.laws.bodies_are_own_rows.Goals as goal
 
 pub returns-clause-block : goal.returns-clause-block
@@ -15,3 +15,9 @@ returns-clause-negation c = negated_own
 
 pub returns-clause-choice : goal.returns-clause-choice
 returns-clause-choice c = if_own
+
+pub returns-clause-one_case : goal.returns-clause-one_case
+returns-clause-one_case c = switch_own
+
+pub returns-clause-dead_cases : goal.returns-clause-dead_cases
+returns-clause-dead_cases c = cases_own
