@@ -6,10 +6,11 @@ ghost use Rattle.mini_model.specs.declared.seat.StmtSeat.{StmtSeat};
 ghost use Rattle.mini_model.specs.Tree.{children, count, shape_of};
 ghost use Rattle.mini_node.specs.Kinds.{is_listed as is_it_listed};
 ghost use Rattle.mini_unused.specs.Calls.{Within, is_class, is_function, should_go};
-ghost use Rattle.mini_unused.specs.RemoveUnusedDeclaration.{Applied, AppliedInFunction, UnusedAt, list_at, allowed, open_in};
+ghost use Rattle.mini_unused.specs.RemoveUnusedDeclaration.{UnusedAt, list_at, allowed, open_in};
 ghost use Rattle.mini_unused.specs.RemoveUnusedName.{Applied as AppliedOfRemoveUnusedName, switches_of};
 ghost use Rattle.mini_unused.specs.SubstituteSingleUse.{Removed};
 ghost use Rattle.mini_unused.specs.SubstituteCatchClause.{Applied as AppliedOfSubstituteCatchClause};
+ghost use Rattle.mini_inside.specs.Holding.{Applied, AppliedInFunction};
 ghost use Rattle.std.specs.Prelude.{IfOk, None, false, true, ◌+◌, ◌<◌, ◌≡◌, ◌^◌};
 
 use crate::PeepholeOptimizations;
@@ -29,7 +30,7 @@ impl PeepholeOptimizations {
     ) -> Result<bool, OutOfMemory>
         ensures { IfOk result (λ changed. (q : StmtSeat) → Applied (allowed context.now) (Stmt q) node.old node.new changed) }
     {
-        mini_unused::remove_unused_declaration(alloc, node, context)
+        mini_inside::remove_unused_declaration(alloc, node, context)
     }
 
     /// So do the statements of an arrow function, whose parameters don't mention x either, and those of any other function that stands as an
@@ -42,7 +43,7 @@ impl PeepholeOptimizations {
     ) -> Result<bool, OutOfMemory>
         ensures { IfOk result (λ changed. (s : Seat) → Applied (allowed context.now) (Expr s) node.old node.new changed) }
     {
-        mini_unused::remove_unused_in_arrow(alloc, node, context)
+        mini_inside::remove_unused_in_arrow(alloc, node, context)
     }
 
     /// Of a function that is no arrow function, as `function f(a) { let x = b(); return x + a; }`, whose own name and whose parameters don't
@@ -55,7 +56,7 @@ impl PeepholeOptimizations {
     ) -> Result<bool, OutOfMemory>
         ensures { IfOk result (λ changed. AppliedInFunction (allowed context.now) node.old node.new changed) }
     {
-        mini_unused::remove_unused_in_function(alloc, node, context)
+        mini_inside::remove_unused_in_function(alloc, node, context)
     }
 
     /// Of a module, as `import "a"; const x = f(); g();`, in which nothing else mentions x, of a static block of a class, of each block of a
@@ -68,7 +69,7 @@ impl PeepholeOptimizations {
     ) -> Result<bool, OutOfMemory>
         ensures { IfOk result (λ changed. Applied (allowed context.now) Elsewhere node.old node.new changed) }
     {
-        mini_unused::remove_unused_in_module(alloc, node, context)
+        mini_inside::remove_unused_in_module(alloc, node, context)
     }
 
     /// Of a list of statements in which no name is unused, with what stands outside of them, `let x = a(); return x + b;` becomes

@@ -13,9 +13,11 @@ use mini_node::{Node, negation, numeric_literal, string, unary_operator};
 use mini_terms::{Kind, is_effect_free, kind_of, leaves_nothing};
 use std::alloc::Global;
 
-// The units of the texts that `typeof` gives, and of one that it gave of old.
+/// The UTF-16 units of `undefined`, which `typeof` gives of that value, and of a name that nobody declares (ECMA-262, "The typeof
+/// Operator").
 pub const UNDEFINED: [u16; 9] = [117, 110, 100, 101, 102, 105, 110, 101, 100];
 
+// Those of the other texts that it gives, and of one that it gave of old.
 const OBJECT: [u16; 6] = [111, 98, 106, 101, 99, 116];
 
 const BOOLEAN: [u16; 7] = [98, 111, 111, 108, 101, 97, 110];

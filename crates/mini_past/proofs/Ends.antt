@@ -15,10 +15,10 @@ use Rattle.mini_rows.specs.Switches.{Liberties}
 use Rattle.mini_rows.proofs.InsideMeaning.{same_itself}
 use Rattle.mini_rows.proofs.PastHeadKept.{one_left}
 use Rattle.mini_rows.proofs.PastInsideKept.{one_next}
-use Rattle.mini_unused.specs.Further.{InStep, HereWalked}
 use Rattle.mini_unused.specs.RemoveUnusedDeclaration.{is_var}
 use Rattle.mini_unused.proofs.Chains.{several_over}
-use Rattle.mini_unused.proofs.FurtherSteps.{no_end}
+use Rattle.mini_inside.specs.Further.{InStep, HereWalked}
+use Rattle.mini_inside.proofs.FurtherSteps.{no_end}
 use Rattle.mini_past.specs.PastEnds.{known_at, OneWalked}
 use Rattle.mini_past.specs.SubstitutePast.{PastGone, PastRemoved}
 use Rattle.mini_past.proofs.Holders.{Suiting, suiting_of, none_suiting, left_listed}

@@ -18,12 +18,12 @@ use Rattle.mini_rows.specs.PastStatics.{PastStaticRow}
 use Rattle.mini_rows.specs.Unused.{resolved, names, any_names, arrow_with, function_with, static_block}
 use Rattle.mini_rows.specs.Switches.{Liberties}
 use Rattle.mini_unused.specs.Chains.{Several}
-use Rattle.mini_unused.specs.RemoveUnusedDeclaration.{has_statements, is_function, is_module, is_static_block}
 use Rattle.mini_unused.proofs.Chains.{several_over}
-use Rattle.mini_unused.proofs.Holders.{or_none, arrow_is, function_is, module_is, static_is}
-pub use Rattle.mini_unused.proofs.Holders.{put_back}
-pub use Rattle.mini_unused.proofs.Swept.{in_arrow, in_function}
 pub use Rattle.mini_unused.proofs.Unused.{same_parts, part_twice}
+use Rattle.mini_inside.specs.Holding.{has_statements, is_function, is_module, is_static_block}
+use Rattle.mini_inside.proofs.Holders.{or_none, arrow_is, function_is, module_is, static_is}
+pub use Rattle.mini_inside.proofs.Holders.{put_back}
+pub use Rattle.mini_inside.proofs.Lists.{in_arrow, in_function}
 use Rattle.mini_past.proofs.NextRows.{next_row, none_next}
 use Rattle.mini_past.proofs.PastRows.{row_there, none_past}
 use Rattle.mini_past.proofs.Suiting.{suits_kind}

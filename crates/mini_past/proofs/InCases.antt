@@ -13,9 +13,9 @@ use Rattle.mini_rows.specs.Switches.{Switches, without_vars}
 use Rattle.mini_rows.specs.Unused.{switch_around}
 use Rattle.mini_steady.specs.Chains as walk
 use Rattle.mini_unused.specs.Chains.{Several}
-use Rattle.mini_unused.specs.RemoveUnusedDeclaration.{is_switch, is_case, case_at, with_statements}
-use Rattle.mini_unused.proofs.Switches.{case_over, put, is as switch_there, with_list, list_there, split}
 use Rattle.mini_unused.proofs.Unused.{there_within, there_child}
+use Rattle.mini_inside.specs.Holding.{is_switch, is_case, case_at, with_statements}
+use Rattle.mini_inside.proofs.Switches.{case_over, put, is as switch_there, with_list, list_there, split}
 use Rattle.mini_past.proofs.Holders.{several_held, none_held}
 use Rattle.mini_past.proofs.InBlocks.{in_order}
 use Rattle.mini_past.specs.PastInBlocks.{AppliedPastCase, AppliedPastCases}

@@ -16,8 +16,8 @@ use Rattle.mini_rows.specs.Switches.{Switches, without_vars}
 use Rattle.mini_rows.specs.Unused.{resolved}
 use Rattle.mini_rows.proofs.PastHeadKept.{of_head, one_left}
 use Rattle.mini_rows.proofs.UnusedMeaning.{lexical_alone}
-use Rattle.mini_unused.specs.RemoveUnusedDeclaration.{has_head}
 use Rattle.mini_unused.proofs.Chains.{several_over}
+use Rattle.mini_inside.specs.Holding.{has_head}
 use Rattle.mini_past.proofs.Holders.{row_of, left_listed, none_here}
 use Rattle.mini_past.proofs.InBlocks.{in_order}
 use Rattle.mini_past.specs.PastInBlocks.{AppliedPastHead}

@@ -11,7 +11,7 @@ use Rattle.mini_rows.specs.PastBlocks.{PastBlockRow, PastCaseRow, PastStatementR
 use Rattle.mini_rows.specs.Switches.{Switches}
 use Rattle.mini_steady.specs.Chains.{Several, once, again}
 use Rattle.mini_steady.specs.Own.{AppliedHere}
-use Rattle.mini_unused.specs.RemoveUnusedDeclaration.{is_switch, has_head}
+use Rattle.mini_inside.specs.Holding.{is_switch, has_head}
 use Rattle.mini_past.proofs.InHeads.{no_head}
 use Rattle.mini_past.specs.PastInBlocks.{AppliedPastBlock, AppliedPastCases, AppliedPastHead, AppliedPastStatement}
 

@@ -12,7 +12,7 @@ use Rattle.mini_rows.specs.Steady.{all_bindings}
 use Rattle.mini_rows.specs.Switches.{Liberties}
 use Rattle.mini_rows.proofs.PastInsideLawful.{past_inside_lighter, past_inside_lightens}
 use Rattle.mini_tree.specs.Rule.{IsLighter}
-use Rattle.mini_unused.specs.Further.{HereWalked, RestsAt}
+use Rattle.mini_inside.specs.Further.{HereWalked, RestsAt}
 
 -- the first of them holds the body, with its number, and the others stand in it
 abbrev pub holder_number : Trees → ℕ

@@ -12,10 +12,11 @@ use crate::cases::substitute_past_in_cases;
 use crate::code_names::CodeNames;
 use crate::heads::substitute_past_in_head;
 use crate::searching::substitute_past;
+use mini_inside::{has_head, is_switch};
 use mini_model::{OutOfMemory, Position};
 use mini_node::{Node, is_block};
 use mini_steady::{BodyCode, OwnRewrites, SteadyNames};
-use mini_unused::{has_head, is_switch, put_child, take_child};
+use mini_unused::{put_child, take_child};
 use std::alloc::Global;
 
 /// Of a block in the code of a body, as `{ let x = a(); return g(x); }`, which becomes `{ ; return g(a()); }`. The answer says whether a name

@@ -5,14 +5,14 @@ ghost use Rattle.mini_model.specs.Tree.{children, count};
 ghost use Rattle.mini_node.specs.Children.{part};
 ghost use Rattle.mini_steady.specs.Declarations.{known_of};
 ghost use Rattle.mini_unused.specs.Allowed.{switches_of};
-ghost use Rattle.mini_unused.specs.RemoveUnusedDeclaration as row;
+ghost use Rattle.mini_inside.specs.Holding as row;
 ghost use Rattle.mini_past.specs.PastInBlocks.{AppliedPastCase, AppliedPastCases};
 
 use crate::code_names::CodeNames;
 use crate::searching::substitute_past;
+use mini_inside::{is_case_at, put_statements, take_statements};
 use mini_node::Node;
 use mini_steady::{BodyCode, SteadyNames};
-use mini_unused::{is_case_at, put_statements, take_statements};
 use std::alloc::Global;
 
 // Of a switch in the code of a body, of the case at the index. All else in the switch stands outside of its statements.

@@ -5,8 +5,9 @@ ghost use Rattle.mini_past.specs.SubstitutePast.{AppliedPast, AppliedPastArrow, 
 
 use crate::names::PastNames;
 use crate::searching::substitute_past;
+use mini_inside::{has_statements, is_function, is_module, is_static_block};
 use mini_node::Node;
-use mini_unused::{has_statements, is_function, is_module, is_static_block, put_child, take_child};
+use mini_unused::{put_child, take_child};
 use std::alloc::Global;
 
 /// Of a function with statements that is no arrow function, as `function f(g) { let x = a(); return g(x); }`, which becomes

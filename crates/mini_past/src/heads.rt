@@ -4,7 +4,7 @@ ghost use Rattle.std.specs.Prelude.{◌≡◌, ◌<◌, true, IfOk};
 ghost use Rattle.mini_model.specs.Tree.{children, count};
 ghost use Rattle.mini_steady.specs.Declarations.{known_of};
 ghost use Rattle.mini_unused.specs.Allowed.{switches_of};
-ghost use Rattle.mini_unused.specs.RemoveUnusedDeclaration as row;
+ghost use Rattle.mini_inside.specs.Holding as row;
 ghost use Rattle.mini_past.specs.PastInBlocks.{AppliedPastHead};
 
 use crate::code_names::CodeNames;

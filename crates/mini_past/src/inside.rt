@@ -10,18 +10,19 @@ ghost use Rattle.mini_node.specs.Kinds.{is_listed as is_it_listed};
 ghost use Rattle.mini_rows.specs.declared.inside.Way.TheVariants as way;
 ghost use Rattle.mini_rows.specs.Past.{any_bind};
 ghost use Rattle.mini_rows.specs.PastInside.{PastInside, past_ends};
-ghost use Rattle.mini_unused.specs.Further.{HereWalked};
+ghost use Rattle.mini_inside.specs.Further.{HereWalked};
 ghost use Rattle.mini_past.specs.PastEnds.{OneWalked, RestsPastInside, begun_below, holder_number as number_of_holder, known_at, nodes_below as below, past_ends_lighten, past_inside_steps_lighter};
 ghost use Rattle.mini_past.specs.SubstitutePast.{PastRemoved};
 
 use crate::names::{PastContext, PastNames};
 use crate::searching::substitute_past;
+use mini_inside::{EndRewrites, put_first, remove_inside, take_alone};
 use mini_model::{OutOfMemory, Position, SymbolId};
 use mini_node::{Node, is_listed};
 use mini_rows::Way;
 use mini_steady::{SteadyNames, are_bound_twice, is_any_bound, is_let_around};
 use mini_tree::{CompressOptions, Rule};
-use mini_unused::{EndRewrites, is_var, put_first, remove_inside, take_alone};
+use mini_unused::is_var;
 use std::alloc::Global;
 
 // The number of what holds the body, the first of some nodes.

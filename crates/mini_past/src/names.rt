@@ -68,7 +68,7 @@ pub trait PastContext: SteadyContext + PastNames {
 
 impl PastContext for TraverseCtx {
     ghost use Rattle.mini_unused.specs.Allowed.{allowed_in};
-    ghost use Rattle.mini_unused.proofs.Holders.{told};
+    ghost use Rattle.mini_inside.proofs.Holders.{told};
 
     ghost lets_in = { allowed_in };
 

@@ -28,9 +28,9 @@ use Rattle.mini_rows.specs.Catches.{CatchContracts}
 use Rattle.mini_stmt.specs.MinimizeStatements as lists
 use Rattle.mini_stmt.specs.TurnLoopGuards as loop_guards
 use Rattle.mini_stmt.specs.JoinLets as lets
-use Rattle.mini_unused.specs.RemoveUnusedDeclaration as unused
 use Rattle.mini_unused.specs.RemoveUnusedName as names
 use Rattle.mini_unused.specs.SubstituteCatchClause as catches
+use Rattle.mini_inside.specs.Holding as unused
 use Rattle.mini_steady.specs.Told.{told_in}
 use Rattle.mini_unused.specs.Allowed.{allowed_in}
 use Rattle.mini_peephole.specs.SteadyRows.{SteadyRewrites, IsSteadilySettled}

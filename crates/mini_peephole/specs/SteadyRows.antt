@@ -29,7 +29,7 @@ use Rattle.mini_steady.specs.Told.{told_in}
 use Rattle.mini_past.specs.PastEnds.{RestsPastInside}
 use Rattle.mini_past.specs.SubstitutePast.{RestsPast, RestsPastArrow, RestsPastModule, RestsPastStatic}
 use Rattle.mini_unused.specs.Allowed.{allowed_in}
-use Rattle.mini_unused.specs.Further.{RestsInside}
+use Rattle.mini_inside.specs.Further.{RestsInside}
 
 -- rows of a family in the own code of whatever has a body
 abbrev pub AnyCode : OwnRows → BodySets → Position → Tree → Tree → Type 0

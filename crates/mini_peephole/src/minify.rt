@@ -19,6 +19,7 @@ use mini_choices::{MinimizeChoices, MinimizeWrites};
 use mini_context::{TraverseCtx, resolve};
 use mini_estree::{MinifyError, Numbered, read_program};
 use mini_fold::{FoldConstants, FoldKnown, FoldOperands, FoldSequences, FoldTemplates};
+use mini_inside::{RemoveInside, RemoveUnusedDeclarations};
 use mini_lexical::LexicalNames;
 use mini_logic::{
     MinimizeBodies, MinimizeConditional, MinimizeIf, MinimizeInBooleanContext, MinimizeNegations,
@@ -37,7 +38,7 @@ use mini_syntax::{
     SubstituteReturns, SubstituteSpellings,
 };
 use mini_tree::{CompressOptions, Numbers, OutOfMemory, Position, Program, Then, discard, weight};
-use mini_unused::{RemoveInside, RemoveUnusedDeclarations, RemoveUnusedNames, SubstituteCatches};
+use mini_unused::{RemoveUnusedNames, SubstituteCatches};
 use mini_writer::write_program;
 use serde_json::Value;
 use std::alloc::Global;

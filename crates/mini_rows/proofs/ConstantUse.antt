@@ -3,15 +3,16 @@ use Rattle.std.specs.Prelude.{not, ◌&&◌, codes, length, if◌then◌else◌}
 use Rattle.std.proofs.lemmas.Bool.{and_parts, eq-eqb}
 use Rattle.std.proofs.Common.{◌≡◌, ℕ, suc, Bool, true, false, List, [], ◌∷◌, Some, None, refl, sym, ap, ◌∙◌, subst}
 use Rattle.mini_model.specs.declared.name.Name.{Name}
+use Rattle.mini_model.specs.declared.shape.Shape.{Shape}
 use Rattle.mini_model.specs.declared.shape.Shape.TheVariants as shape
-use Rattle.mini_model.specs.Tree.{Tree, Trees, none, ◌▸◌, count, identifier}
+use Rattle.mini_model.specs.Tree.{Tree, Trees, node, none, ◌▸◌, count, identifier}
 use Rattle.mini_model.specs.Paths.{append}
 use Rattle.mini_model.specs.Weight.{same_text}
 use Rattle.mini_laws.specs.Value.{Value, Declared, VariableSet, Slot, Holds, choose, variable_eq, nothing, variables}
 use Rattle.mini_laws.specs.State.{State, Completion, ok, stop, halt, out, Environment, either, with_vars}
 use Rattle.mini_laws.specs.Demand.{Want, Val, Demand, As, Callee, OfType, AnEntry, Stat, Request, Reply}
 use Rattle.mini_laws.specs.Command.{act, run, read_slot, at_variable, set_var}
-use Rattle.mini_laws.specs.Naming.{EvalName, PlainName, summary, summaries, facts_all, naming}
+use Rattle.mini_laws.specs.Naming.{EvalName, PlainName, summary, summaries, summary_of, facts_all, naming}
 use Rattle.mini_laws.specs.Asking.{demand}
 use Rattle.mini_laws.specs.Replies.{valued}
 use Rattle.mini_laws.specs.Expressions.{get_identifier}
@@ -37,7 +38,7 @@ use Rattle.mini_rows.proofs.CalledReads.{called_read, name_called_read}
 use Rattle.mini_rows.proofs.ItemReads.{item_read}
 use Rattle.mini_rows.proofs.Passing.{value_there}
 use Rattle.mini_rows.proofs.Avoiding.{Without, AllWithout, without, all_without, node_without, spared_by, spares}
-use Rattle.mini_rows.proofs.SingleUse.{head_of, before, place, Step, led, is_end, end_of, Well, Spared, PassedIn, Passed, summaries_led}
+use Rattle.mini_rows.proofs.SingleUse.{head_of, before, place, Step, led, is_end, end_of, Well, Spared, PassedIn, Passed, summaries_put, summaries_led}
 use Rattle.mini_rows.proofs.SingleMeaning.{Before, Opens, Gathers, Suits, suits_below, first_goes}
 use Rattle.mini_rows.proofs.UnusedNames.{all_avoided}
 
@@ -53,9 +54,9 @@ module _ (e : Environment) (k : ℕ) (z : Unseen (alone (Declared k)) e) (v : Va
   own = eq-eqb k k refl
 
   -- states that agree but on the variable, which holds the value in the first
-  record Holding (s t : State) : Type 0 where
-    agree : Agree D s t
-    has : s.vars (Declared k) ≡ Holds v
+  pub record Holding (s t : State) : Type 0 where
+    pub agree : Agree D s t
+    pub has : s.vars (Declared k) ≡ Holds v
 
   abbrev Go : {A : Type 0} → Completion A → Completion A → Type 0
   Go x y = Goes true (λ a. Holding) Holding Holding x y
@@ -74,7 +75,7 @@ module _ (e : Environment) (k : ℕ) (z : Unseen (alone (Declared k)) e) (v : Va
   kept_too out out g h = tt
   kept_too x y g h = absurd g
 
-  abbrev rules : Rules
+  abbrev pub rules : Rules
   rules = record { weak = true; left = e; right = e; A = Holding; N = λ names names'. Alive D e names names' × SparedBy (Declared k) names }
 
   sound : Sound rules
@@ -96,7 +97,7 @@ module _ (e : Environment) (k : ℕ) (z : Unseen (alone (Declared k)) e) (v : Va
   list_goes none t u ts a b X σ g = place_cons rules sound t u ts ts X σ g (rest_self ts b (λ i. X (suc i)) (λ i. σ (suc i)))
   list_goes (p ▸ ps) t u ts a b X σ g = place_cons rules sound p p (append ps (t ▸ ts)) (append ps (u ▸ ts)) X σ (self p a.0 (X 0) (σ 0)) (list_goes ps t u ts a.1 b (λ i. X (suc i)) (λ i. σ (suc i)) g)
 
-  agreeing : {A : Type 0} (x y : Completion A) → Go x y → Goes true (λ a. Agree D) (Agree D) (Agree D) x y
+  pub agreeing : {A : Type 0} (x y : Completion A) → Go x y → Goes true (λ a. Agree D) (Agree D) (Agree D) x y
   unfolding Goes
   agreeing (ok a s) (ok b t) g = (g.0, g.1.agree)
   agreeing (stop a s) (stop b t) g = (g.0, g.1.agree)
@@ -106,6 +107,28 @@ module _ (e : Environment) (k : ℕ) (z : Unseen (alone (Declared k)) e) (v : Va
   agreeing out (halt b t) g = tt
   agreeing out out g = tt
   agreeing x y g = absurd g
+
+  all_joined : (ps : Trees) (t : Tree) (ts : Trees) → AllAvoid D ps → Without k (summary t) → AllAvoid D ts → AllWithout k (summaries (append ps (t ▸ ts)))
+  all_joined none t ts a b c = (b, all_without k ts c)
+  all_joined (p ▸ ps) t ts a b c = (without k p a.0, all_joined ps t ts a.1 b c)
+
+  -- ---- a node with one part that goes
+
+  -- what its parent reads of it
+  pub record Seen (t u : Tree) : Type 0 where
+    pub without : Without k (summary t)
+    pub same : summary t ≡ summary u
+
+  pub seen_in : (h : Shape) (ps : Trees) (t u : Tree) (ts : Trees) → AllAvoid D ps → AllAvoid D ts → Seen t u → Seen (node h [] 0 (append ps (t ▸ ts))) (node h [] 0 (append ps (u ▸ ts)))
+  seen_in h ps t u ts a b s = record { without = node_without k h [] 0 (summaries (append ps (t ▸ ts))) refl (all_joined ps t ts a s.without b); same = ap (summary_of h [] 0) (summaries_put ps t u ts s.same) }
+
+  pub node_goes : (h : Shape) (ps : Trees) (t u : Tree) (ts : Trees) → AllAvoid D ps → AllAvoid D ts → Seen t u → (X : VariableSet) (q : Demand) → ((Y : VariableSet) → TreesGo rules Y (demand h (facts_all (summaries (append ps (t ▸ ts)))) q (count ps)) t u) → TreesGo rules X q (node h [] 0 (append ps (t ▸ ts))) (node h [] 0 (append ps (u ▸ ts)))
+  node_goes h ps t u ts a b s X q g =
+      let kids = append ps (t ▸ ts) in
+      let is = summaries kids in
+      let same = summaries_put ps t u ts s.same in
+      one_node rules sound h [] [] 0 0 kids (append ps (u ▸ ts)) X q (subst (λ js. Alive D e (naming h q [] 0 is) (naming h q [] 0 js)) same (alive_self D e h q [] 0 is tt), spared_by k h q [] 0 is refl (all_joined ps t ts a s.without b)) refl (ap facts_all same)
+      (list_goes ps t u ts a b (needs h q X kids) (demand h (facts_all is) q) (g (needs h q X kids (count ps))))
 
   -- ---- the read
 
@@ -159,11 +182,7 @@ module _ (e : Environment) (k : ℕ) (z : Unseen (alone (Declared k)) e) (v : Va
     -- ---- the path
 
     module _ (x : Name) (named : x.symbol ≡ Some (record { 0 = k })) (plain : summary read ≡ summary init) where
-      all_joined : (ps : Trees) (t : Tree) (ts : Trees) → AllAvoid D ps → Without k (summary t) → AllAvoid D ts → AllWithout k (summaries (append ps (t ▸ ts)))
-      all_joined none t ts a b c = (b, all_without k ts c)
-      all_joined (p ▸ ps) t ts a b c = (without k p a.0, all_joined ps t ts a.1 b c)
-
-      led_without : (ss : List Step) → Spared x ss → Without k (summary (led ss read))
+      pub led_without : (ss : List Step) → Spared x ss → Without k (summary (led ss read))
       led_without [] f = record { lets = refl; name = refl; functions = refl }
       led_without (s ∷ ss) f =
           node_without k (shape_by (head_of s.lead)) [] 0 (summaries (append (before s.lead) (led ss read ▸ s.rest))) refl
@@ -172,7 +191,7 @@ module _ (e : Environment) (k : ℕ) (z : Unseen (alone (Declared k)) e) (v : Va
       kids_without : (s : Step) (ss : List Step) → Spared x (s ∷ ss) → AllWithout k (summaries (append (before s.lead) (led ss read ▸ s.rest)))
       kids_without s ss f = all_joined (before s.lead) (led ss read) s.rest (all_avoided x k named (before s.lead) f.0.0) (led_without ss f.1) (all_avoided x k named s.rest f.0.1)
 
-      path_goes : (m : Gathered) (c : Asked) (ss : List Step) → Well c ss → Spared x ss → PassedIn m init spelling ss → (q : Demand) → Suits c q (end_of spelling init ss) → (X : VariableSet) → TreesGo rules X q (led ss read) (led ss init)
+      pub path_goes : (m : Gathered) (c : Asked) (ss : List Step) → Well c ss → Spared x ss → PassedIn m init spelling ss → (q : Demand) → Suits c q (end_of spelling init ss) → (X : VariableSet) → TreesGo rules X q (led ss read) (led ss init)
       unfolding TreesGo
       path_goes m AsValue [] w f p (As d) u X r l wl ol s t b = value_goes d l s t b
       path_goes m AsValue [] w f p AnEntry u X r l wl ol s t b = entry_goes l s t b
@@ -202,7 +221,7 @@ module _ (e : Environment) (k : ℕ) (z : Unseen (alone (Declared k)) e) (x : Na
   abbrev after : Value → State → State
   after v s = with_vars s (set_var s.vars (Declared k) (Holds v))
 
-  agrees : (v : Value) (s : State) → Agree (alone (Declared k)) (after v s) s
+  pub agrees : (v : Value) (s : State) → Agree (alone (Declared k)) (after v s) s
   agrees v s = record { vars = λ y d. ap (λ c. choose c (Holds v) (s.vars y)) d; self = refl; answers = refl; turns = refl; events = refl }
 
   -- what a tree reads may be put there

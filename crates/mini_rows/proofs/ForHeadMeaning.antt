@@ -1,5 +1,4 @@
--- What the head of a `for` means, which is a declaration, is what a list of it alone does; and a `for` in which the next declarator reads a name
--- means the same without that.
+-- A `for` in which the next declarator of the head reads a name means the same without that.
 use Rattle.std.specs.Prelude.{ℕ, refl, [], List, Option, None}
 use Rattle.mini_model.specs.declared.kind.VariableDeclarationKind.{VariableDeclarationKind}
 use Rattle.mini_model.specs.declared.shape.Shape.TheVariants as shape

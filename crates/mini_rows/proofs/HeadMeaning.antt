@@ -1,14 +1,13 @@
 -- A name that what stands right after its declaration reads before all else: the initializer may stand there, and the name goes.
-use Rattle.std.specs.Prelude.{◌||◌, Bool, Option}
+use Rattle.std.specs.Prelude.{◌||◌, Bool}
 use Rattle.std.proofs.Common.{◌≡◌, ℕ, true, false, List, [], ◌∷◌, None, refl, sym, ap, ◌∙◌, subst, subst₂, inl, inr}
 use Rattle.mini_model.specs.declared.kind.VariableDeclarationKind.TheVariants.{Var}
 use Rattle.mini_model.specs.declared.name.Name.{Name}
 use Rattle.mini_model.specs.Tree.{Tree, Trees, node, none, ◌▸◌, identifier, empty_statement}
-use Rattle.mini_laws.specs.Value.{Declared, nothing}
+use Rattle.mini_laws.specs.Value.{Declared}
 use Rattle.mini_laws.specs.State.{State, Environment}
-use Rattle.mini_laws.specs.Demand.{Tail, Val, As, Stat}
+use Rattle.mini_laws.specs.Demand.{Val, As, Stat}
 use Rattle.mini_laws.specs.Naming.{summary}
-use Rattle.mini_laws.specs.Same.{Same}
 use Rattle.mini_laws.specs.Substitution.{alone}
 use Rattle.mini_kept.specs.Without.{Unseen}
 use Rattle.mini_terms.specs.Folds.{is_effect_free}
@@ -16,7 +15,7 @@ use Rattle.mini_terms.specs.Reading.{is_plain_part}
 use Rattle.mini_rows.specs.Lists.{declaration, Each, EachIn, EachOf, each_loop}
 use Rattle.mini_rows.specs.Declarations.{declarator}
 use Rattle.mini_rows.specs.Sketches.{shape_by, AsValue, AsWholeItem}
-use Rattle.mini_rows.specs.Unused.{is_constant, resolved, names, any_names, declared_among, declared_left, put_first, OfValues, gathered_below, are_passed, reads_first, reads_head, evaluated, Row71}
+use Rattle.mini_rows.specs.Unused.{is_constant, resolved, names, any_names, put_first, OfValues, gathered_below, are_passed, reads_first, reads_head, evaluated}
 use Rattle.mini_rows.proofs.FoldMeaning.{plain_read}
 use Rattle.mini_rows.proofs.NextKept.{next_unnamed}
 use Rattle.mini_rows.proofs.FoundReads.{found_same, path_as, path_same, seated_same, loop_same, goes_as}
@@ -27,9 +26,8 @@ use Rattle.mini_rows.proofs.OpeningMeaning.{outside_goes, looped_goes}
 use Rattle.mini_rows.proofs.OverMeaning.{each_goes}
 use Rattle.mini_rows.proofs.ItemReads.{plain_item}
 use Rattle.mini_rows.proofs.ConstantUse.{moves_there}
-use Rattle.mini_rows.proofs.UnusedMeaning.{SameRead, GoesWith, single_read, single_same, first_avoids, movable, block_same, lexical_alone, never_written}
+use Rattle.mini_rows.proofs.UnusedMeaning.{SameRead, GoesWith}
 use Rattle.mini_rows.proofs.UnusedNames.{avoided, all_avoided}
-use Rattle.mini_rows.specs.Switches.{Switches, without_vars}
 
 -- ---- what is read of it
 
@@ -49,11 +47,11 @@ statement_read x head e init =
 initial_read : (x : Name) (head : Tree) (t : Initial x head) (init : Tree) → SameRead (declaration t.kind (declarator t.binds t.value ▸ t.last)) (declaration t.kind (declarator t.binds (put_first x init t.value) ▸ t.last))
 initial_read x head t init = record { lets = refl; functions = refl; facts = refl; texts = refl }
 
-outside_read : (c : Seat) (a b : Tree) → SameRead (seated c a) (seated c b)
+pub outside_read : (c : Seat) (a b : Tree) → SameRead (seated c a) (seated c b)
 outside_read (Choice cases) a b = record { lets = refl; functions = refl; facts = refl; texts = refl }
 outside_read (Loop u v w) a b = record { lets = refl; functions = refl; facts = refl; texts = refl }
 
-over_read : (c : Each) (l w a b : Tree) → SameRead (each_loop c l a w) (each_loop c l b w)
+pub over_read : (c : Each) (l w a b : Tree) → SameRead (each_loop c l a w) (each_loop c l b w)
 over_read EachIn l w a b = record { lets = refl; functions = refl; facts = refl; texts = refl }
 over_read EachOf l w a b = record { lets = refl; functions = refl; facts = refl; texts = refl }
 
@@ -129,14 +127,14 @@ statement_unnamed x head e init f =
     let t = statement x head e in
     ap (names x) (t.puts init) ∙ ap (λ u. names x u || any_names x t.rest) (t.path.puts init) ∙ ap (λ b. b || any_names x t.rest) (unnamed x t.path.steps t.path.spared init f) ∙ t.free
 
-or_none : (b : Bool) → b ≡ false → (b || false) ≡ false
+pub or_none : (b : Bool) → b ≡ false → (b || false) ≡ false
 or_none b e = ap (λ c. c || false) e
 
-seated_unnamed : (x : Name) (c : Seat) (t : Tree) → names x t ≡ false → any_names x (rest c) ≡ false → names x (seated c t) ≡ false
+pub seated_unnamed : (x : Name) (c : Seat) (t : Tree) → names x t ≡ false → any_names x (rest c) ≡ false → names x (seated c t) ≡ false
 seated_unnamed x (Choice cases) t f g = ap (λ b. b || any_names x (cases ▸ none)) f ∙ g
 seated_unnamed x (Loop u v w) t f g = ap (λ b. b || any_names x (u ▸ (v ▸ (w ▸ none)))) f ∙ g
 
-over_unnamed : (x : Name) (c : Each) (l w t : Tree) → names x l ≡ false → names x t ≡ false → any_names x (w ▸ none) ≡ false → names x (each_loop c l t w) ≡ false
+pub over_unnamed : (x : Name) (c : Each) (l w t : Tree) → names x l ≡ false → names x t ≡ false → any_names x (w ▸ none) ≡ false → names x (each_loop c l t w) ≡ false
 over_unnamed x EachIn l w t f g h = λ i. f i || (g i || h i)
 over_unnamed x EachOf l w t f g h = λ i. f i || (g i || h i)
 
@@ -149,16 +147,3 @@ head_unnamed x head e init f = by (heads x head e)
     by (inr (inr (inr (inl t)))) = let p = path x false t.value t.once in ap (names x) (t.puts init) ∙ over_unnamed x t.kind t.left t.body (put_first x init t.value) t.other (ap (names x) (p.puts init) ∙ unnamed x p.steps p.spared init f) t.later
     by (inr (inr (inl t))) = let p = path x false t.value t.once in ap (names x) (t.puts init) ∙ seated_unnamed x t.seat (put_first x init t.value) (ap (names x) (p.puts init) ∙ unnamed x p.steps p.spared init f) t.beside
     by (inr (inl t)) = ap (names x) (t.puts init) ∙ or_none (any_names x (declarator t.binds (put_first x init t.value) ▸ t.last)) (next_unnamed x t.binds t.value t.once init f t.other t.last t.later)
-
--- ---- the row
-
-pub row_71 : {o : Switches} (e : Environment) (k : ℕ) → Unseen (alone (Declared k)) e → (n w : Tree) (r : Row71 (without_vars o) n w) → k ≡ r.symbol → (t : Option Tail) → Same e (alone (Declared k)) nothing (Stat t) n w
-row_71 {o = o} e k z n w r h t =
-    let x = resolved r.spelling r.symbol in
-    let u : Unseen (alone (Declared r.symbol)) e = subst (λ j. Unseen (alone (Declared j)) e) h z in
-    let D = alone (Declared r.symbol) in
-    let put = put_first x r.init r.head in
-    let same = block_same e r.spelling r.symbol u r.before r.after (declared_among r.kind x r.first r.init none ▸ (r.head ▸ none)) (declared_left r.kind r.first ▸ (put ▸ none)) (single_read r.spelling r.symbol r.kind r.first r.init r.head put (head_read x r.head r.once r.init)) (all_avoided x r.symbol refl r.before r.earlier)
-    (first_avoids D r.kind r.first (all_avoided x r.symbol refl r.first r.declared_earlier), (avoided x r.symbol refl put (head_unnamed x r.head r.once r.init r.initial), tt)) (all_avoided x r.symbol refl r.after r.later)
-    (single_same e r.spelling r.symbol u r.first r.init r.head put (ap (λ i. i.facts.absent) (plain_read r.init (movable o r.init r.moves))) r.kind (never_written r.kind e r.symbol (lexical_alone r.kind r.goes)) (head_goes e r.spelling r.symbol u r.init r.head (movable o r.init r.moves) r.once r.passed)) t in
-    subst (λ j. Same e (alone (Declared j)) nothing (Stat t) n w) (sym h) (subst₂ (Same e D nothing (Stat t)) (sym r.shape) (sym r.written) same)

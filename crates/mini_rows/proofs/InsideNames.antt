@@ -35,8 +35,8 @@ use Rattle.mini_rows.proofs.Arranging.{Any}
 use Rattle.mini_rows.proofs.ArrangedBodies.{HasBodies, bodies_local, HasFrames, frames_local, Declares, declares_local, FixedBy, fixed_local}
 use Rattle.mini_rows.proofs.ArrowBodyLawful.{list_fits, none_mention}
 use Rattle.mini_rows.proofs.FunctionBodyKept.{declared_append}
-use Rattle.mini_rows.proofs.HeadKept.{head_names}
-use Rattle.mini_rows.proofs.HeadMeaning.{head_unnamed}
+use Rattle.mini_rows.proofs.HiddenKept.{taken_names}
+use Rattle.mini_rows.proofs.HiddenMeaning.{taken_unnamed}
 use Rattle.mini_rows.proofs.InsideKept.{Keeping}
 use Rattle.mini_rows.proofs.ListKeptDeclarations.{all_both}
 use Rattle.mini_rows.proofs.ListKeptStretch.{stretched}
@@ -155,8 +155,8 @@ row_vars W p a b e (inr (inl r)) v =
 row_vars W p a b e (inr (inr (inl r))) v =
     let x = resolved r.spelling r.symbol in
     let put = put_first x r.init r.head in
-    let same = same_head x r.init r.head put (head_names Let x r.symbol refl none r.init r.head (movable W.switches r.init r.moves) r.once r.initial refl refl) in
-    no_var r.kind (λ K. VarThere x (declared_among K x r.first r.init none ▸ (r.head ▸ none)) (declared_left K r.first ▸ (put ▸ none))) v (head_vars x r.first r.init r.head put r.declared_earlier (declared_other x declared.Hoisted put (head_unnamed x r.head r.once r.init r.initial)) same)
+    let same = same_head x r.init r.head put (taken_names Let x r.symbol refl none r.init r.head (movable W.switches r.init r.moves) r.initial refl r.taken refl) in
+    no_var r.kind (λ K. VarThere x (declared_among K x r.first r.init none ▸ (r.head ▸ none)) (declared_left K r.first ▸ (put ▸ none))) v (head_vars x r.first r.init r.head put r.declared_earlier (declared_other x declared.Hoisted put (taken_unnamed x r.init r.head r.taken r.initial)) same)
 row_vars W p a b e (inr (inr (inr r))) v =
     let x = resolved r.spelling r.symbol in
     no_var r.kind (λ K. VarThere x (declared_among K x r.first r.init (declarator r.binds r.value ▸ r.last) ▸ none) (declaration K (append r.first (declarator r.binds (put_first x r.init r.value) ▸ r.last)) ▸ none)) v (next_vars x r.first r.init r.binds r.value (put_first x r.init r.value) r.last r.declared_earlier r.other r.declared_later)

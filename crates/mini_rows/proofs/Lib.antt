@@ -1,3 +1,6 @@
+pub mod HiddenHeads
+pub mod HiddenKept
+pub mod HiddenMeaning
 pub mod SpellAlike
 pub mod SpellSymmetry
 pub mod TemplateTexts

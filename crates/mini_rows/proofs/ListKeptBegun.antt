@@ -79,7 +79,7 @@ pub record Spots (Q : Asked → Tree → Type 0) (P : Tree → Type 0) (H : Hold
   pub looped : (id : Tree) (ds : Trees) (u v w e d : Tree) → P e → P d → Opens Q (λ t. for_loop (declaration Var (declarator id t ▸ ds)) u v w) e d
 
 -- a declaration stands in the head of a `for` as an expression does
-through : (Q : Asked → Tree → Type 0) → ((t : Tree) → Q AsValue t → Q AsWholeItem t) → ((t : Tree) → Q AsWholeItem t → Q AsValue t) → (f g : Tree → Tree) (e d : Tree) → Opens Q g (f e) (f d) → Opens Q f e d → Opens Q (λ t. g (f t)) e d
+pub through : (Q : Asked → Tree → Type 0) → ((t : Tree) → Q AsValue t → Q AsWholeItem t) → ((t : Tree) → Q AsWholeItem t → Q AsValue t) → (f g : Tree → Tree) (e d : Tree) → Opens Q g (f e) (f d) → Opens Q f e d → Opens Q (λ t. g (f t)) e d
 through Q as_item as_value f g e d o i = record {
   Beside = i.Beside × o.Beside;
   down = λ q.
@@ -314,22 +314,22 @@ module _ (kind : VariableDeclarationKind) (ds : Trees) (x : Name) (es : Trees) (
 -- ---- in the statements that open a scope
 
 module _ (s : Seat) (e d : Tree) where
-  inner_seat : (b : Bool) → Opens (InnerIf b) (seated s) e d
+  pub inner_seat : (b : Bool) → Opens (InnerIf b) (seated s) e d
   inner_seat b = record { Beside = (any_inner (rest s) || b) ≡ b; down = inner_down b s e; up = inner_up b s d }
 
-  fixed_seat : (x : Variable) (k : ℕ) → Opens (FixedBy x k) (seated s) e d
+  pub fixed_seat : (x : Variable) (k : ℕ) → Opens (FixedBy x k) (seated s) e d
   fixed_seat x k = record { Beside = rank (fixed_by_any (rest s) x) ≤ k; down = fixed_down x k s e; up = fixed_up x k s d }
 
-  declares_seat : (xs : List Name) → Opens (Declares xs) (seated s) e d
+  pub declares_seat : (xs : List Name) → Opens (Declares xs) (seated s) e d
   declares_seat xs = record { Beside = Among xs (declared_all (rest s)); down = declares_down xs s e; up = declares_up xs s d }
 
-  frames_seat : (fs : List Frame) → Opens (HasFrames fs) (seated s) e d
+  pub frames_seat : (fs : List Frame) → Opens (HasFrames fs) (seated s) e d
   frames_seat fs = record { Beside = FramesKept fs (frames_beside s); down = frames_down fs s e; up = frames_up fs s d }
 
-  bodies_seat : (bs : List Body) (r : Around) → Opens (HasBodies bs r) (seated s) e d
+  pub bodies_seat : (bs : List Body) (r : Around) → Opens (HasBodies bs r) (seated s) e d
   bodies_seat bs r = record { Beside = BodiesKept bs (bodies_from (λ i. quiet r) 1 (rest s)); down = bodies_down bs r s e; up = bodies_up bs r s d }
 
-  targets_seat : (g : Targets) → Opens (Aimed g) (seated s) e d
+  pub targets_seat : (g : Targets) → Opens (Aimed g) (seated s) e d
   targets_seat g = record { Beside = jumps_beside g s ≡ []; down = aimed_down g s e; up = aimed_up g s d }
 
   once_seat : Unlexical e → Unlexical d → Opens Once (seated s) e d
@@ -338,7 +338,7 @@ module _ (s : Seat) (e d : Tree) where
   scoped_seat : (env : Environment) → Unlexical e → Unlexical d → Opens (ScopedAs Read env) (seated s) e d
   scoped_seat env p q = record { Beside = ScopedBeside s env; down = scoped_down env s e p; up = scoped_up env s d q }
 
-seat_numbers : (n : ℕ) (s : Seat) → (c : ℕ) × ((e : Tree) → Unit {0} → number_times n AsWholeItem (seated s e) ≡ number_times n AsValue e + c)
+pub seat_numbers : (n : ℕ) (s : Seat) → (c : ℕ) × ((e : Tree) → Unit {0} → number_times n AsWholeItem (seated s e) ≡ number_times n AsValue e + c)
 seat_numbers n s = (count_of n (all_numbers (rest s)), λ e p. omega (arith, ap (count_of n) (numbers_beside s e), both_counts n (numbers e) (all_numbers (rest s))))
 
 seat_symbols : (u : Use) (x : Option SymbolId) (s : Seat) → (c : ℕ) × ((e : Tree) → Unlexical e → symbol_times u x AsWholeItem (seated s e) ≡ symbol_times u x AsValue e + c)
@@ -386,7 +386,7 @@ scoped_spots : (env : Environment) → Spots (ScopedAs Read env) Unlexical Plain
 unfolding Plainly
 scoped_spots env = record { seats = λ s e d. scoped_seat s e d env; loops = λ k l w n e d p q. spots.scoped_loop k l w e d (left_scope l n) env; firsts = λ kind x ds e d p q. spots.scoped_first kind x ds e d env; looped = λ x ds u v w e d p q. scoped_looped x ds u v w e d env }
 
-summed_through : (m : Asked → Tree → ℕ) (f g : Tree → Tree) (a : ℕ) → ((e : Tree) → m AsWholeItem (g (f e)) ≡ m AsWholeItem (f e) + a) → (b : ℕ) × ((e : Tree) → m AsWholeItem (f e) ≡ m AsValue e + b) → (c : ℕ) × ((e : Tree) → m AsWholeItem (g (f e)) ≡ m AsValue e + c)
+pub summed_through : (m : Asked → Tree → ℕ) (f g : Tree → Tree) (a : ℕ) → ((e : Tree) → m AsWholeItem (g (f e)) ≡ m AsWholeItem (f e) + a) → (b : ℕ) × ((e : Tree) → m AsWholeItem (f e) ≡ m AsValue e + b) → (c : ℕ) × ((e : Tree) → m AsWholeItem (g (f e)) ≡ m AsValue e + c)
 summed_through m f g a h (b, k) = (b + a, λ e. omega (arith, h e, k e))
 
 pub symbols_through : (o : Use) (y : Option SymbolId) (x : Tree) (ds : Trees) (u v w : Tree) → (c : ℕ) × ((e : Tree) → symbol_times o y AsWholeItem (for_loop (declared_with x ds e) u v w) ≡ symbol_times o y AsValue e + c)

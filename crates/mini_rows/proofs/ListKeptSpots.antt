@@ -117,7 +117,7 @@ module _ (k : Each) (l e w : Tree) where
       by EachIn = refl
       by EachOf = refl
 
-  to_in : (env : Environment) → Scoped Read env (each_loop k l e w) → Scoped Read env (for_in l e w)
+  pub to_in : (env : Environment) → Scoped Read env (each_loop k l e w) → Scoped Read env (for_in l e w)
   unfolding Scoped scopes_by
   to_in env = by k
     where
@@ -125,7 +125,7 @@ module _ (k : Each) (l e w : Tree) where
       by EachIn q = q
       by EachOf q = q
 
-  of_in : (env : Environment) → Scoped Read env (for_in l e w) → Scoped Read env (each_loop k l e w)
+  pub of_in : (env : Environment) → Scoped Read env (for_in l e w) → Scoped Read env (each_loop k l e w)
   unfolding Scoped scopes_by
   of_in env = by k
     where

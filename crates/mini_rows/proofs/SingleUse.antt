@@ -811,7 +811,7 @@ of_declarators x k (d ▸ ds) e =
     subst (λ u. Initial x (declaration k (u ▸ ds))) (sym (declarator_is d n))
     (record { kind = k; binds = part d 0; value = part d 1; last = ds; once = a; other = other; later = later; is = refl; puts = λ r. put_initially x k (part d 0) (part d 1) ds other (mentioned x false (part d 1) a) r; evaluates = refl })
 
-initially : (x : Name) (t : Tree) → reads_initially x t ≡ true → Initial x t
+pub initially : (x : Name) (t : Tree) → reads_initially x t ≡ true → Initial x t
 initially x t e =
     let (d, s) = and_parts (declares_list t) (reads_declarators x (part t 0)) e in
     let (k, is) = a_declaration t d in
@@ -896,7 +896,7 @@ pub record Over (x : Name) (t : Tree) : Type 0 where
   pub puts : (r : Tree) → put_first x r t ≡ each_loop kind left (put_first x r value) body
   pub evaluates : evaluated t ≡ value
 
-put_over : (x : Name) (k : Each) (left value body : Tree) → names x left ≡ false → names x value ≡ true → (r : Tree) → put_first x r (each_loop k left value body) ≡ each_loop k left (put_first x r value) body
+pub put_over : (x : Name) (k : Each) (left value body : Tree) → names x left ≡ false → names x value ≡ true → (r : Tree) → put_first x r (each_loop k left value body) ≡ each_loop k left (put_first x r value) body
 put_over x EachIn left value body f n r = λ i. node shape.ForInStatement [] 0 (if f i then put_first x r left ▸ (value ▸ (body ▸ none)) else left ▸ (if n i then put_first x r value ▸ (body ▸ none) else value ▸ put_among x r (body ▸ none)))
 put_over x EachOf left value body f n r = λ i. node shape.ForOfStatement [] 0 (if f i then put_first x r left ▸ (value ▸ (body ▸ none)) else left ▸ (if n i then put_first x r value ▸ (body ▸ none) else value ▸ put_among x r (body ▸ none)))
 
@@ -953,27 +953,31 @@ a_var : (k : VariableDeclarationKind) → is_var_shape (shape.VariableDeclaratio
 a_var Var e = refl
 a_var k e = absurd (true≢false (sym e))
 
-begun_of : (x : Name) (binds value : Tree) (last : Trees) (u v w : Tree) → is_first x false value ≡ true → names x binds ≡ false → any_names x last ≡ false → any_names x (u ▸ (v ▸ (w ▸ none))) ≡ false → Begun x (for_loop (declaration Var (declarator binds value ▸ last)) u v w)
-begun_of x binds value last u v w once other later beside =
-    let head = declaration Var (declarator binds value ▸ last) in
+-- what is put there stands in the declaration alone
+pub put_begins : (x : Name) (K : VariableDeclarationKind) (binds value : Tree) (last : Trees) (u v w : Tree) → is_first x false value ≡ true → names x binds ≡ false → (r : Tree) → put_first x r (for_loop (declaration K (declarator binds value ▸ last)) u v w) ≡ for_loop (declaration K (declarator binds (put_first x r value) ▸ last)) u v w
+put_begins x K binds value last u v w once other r =
+    let head = declaration K (declarator binds value ▸ last) in
     let rest : Trees = u ▸ (v ▸ (w ▸ none)) in
     let n = mentioned x false value once in
     let there : names x head ≡ true = λ i. ((other i || (n i || false)) || any_names x last) || false in
-    record {
-      binds = binds;
-      value = value;
-      last = last;
-      test = u;
-      update = v;
-      body = w;
-      once = once;
-      other = other;
-      later = later;
-      beside = beside;
-      is = refl;
-      puts = λ r. ap (λ c. node shape.ForStatement [] 0 (if c then put_first x r head ▸ rest else head ▸ put_among x r rest)) there ∙ ap (λ t. for_loop t u v w) (put_initially x Var binds value last other n r);
-      evaluates = refl;
-    }
+    ap (λ c. node shape.ForStatement [] 0 (if c then put_first x r head ▸ rest else head ▸ put_among x r rest)) there ∙ ap (λ t. for_loop t u v w) (put_initially x K binds value last other n r)
+
+begun_of : (x : Name) (binds value : Tree) (last : Trees) (u v w : Tree) → is_first x false value ≡ true → names x binds ≡ false → any_names x last ≡ false → any_names x (u ▸ (v ▸ (w ▸ none))) ≡ false → Begun x (for_loop (declaration Var (declarator binds value ▸ last)) u v w)
+begun_of x binds value last u v w once other later beside = record {
+  binds = binds;
+  value = value;
+  last = last;
+  test = u;
+  update = v;
+  body = w;
+  once = once;
+  other = other;
+  later = later;
+  beside = beside;
+  is = refl;
+  puts = put_begins x Var binds value last u v w once other;
+  evaluates = refl;
+}
 
 begun : (x : Name) (t : Tree) → reads_begun x t ≡ true → Begun x t
 begun x (node shape.ForStatement [] zero (head ▸ (u ▸ (v ▸ (w ▸ none))))) e =
@@ -1092,7 +1096,7 @@ module _ (m : Asked → Tree → ℕ) (l : Summed m) where
       omega (arith, one, other, full, inner, beside)
 
 -- what a parent reads of it
-summaries_put : (ps : Trees) (t u : Tree) (ts : Trees) → summary t ≡ summary u → summaries (append ps (t ▸ ts)) ≡ summaries (append ps (u ▸ ts))
+pub summaries_put : (ps : Trees) (t u : Tree) (ts : Trees) → summary t ≡ summary u → summaries (append ps (t ▸ ts)) ≡ summaries (append ps (u ▸ ts))
 summaries_put none t u ts e = ap (λ i. i ∷ summaries ts) e
 summaries_put (p ▸ ps) t u ts e = ap (λ is. summary p ∷ is) (summaries_put ps t u ts e)
 

@@ -23,8 +23,9 @@ use Rattle.mini_terms.specs.Reading.{is_plain_part}
 use Rattle.mini_rows.specs.Declarations.{binding, declarator}
 use Rattle.mini_rows.specs.Lists.{block, declaration, Each, EachIn, EachOf, each_loop}
 use Rattle.mini_rows.specs.Sketches.{shape_by, Asked, AsWholeItem, AsValue, AsValues, AsTarget, AsUpdated, asked_below}
-use Rattle.mini_rows.specs.Unused.{resolved, declared_among, declared_left, is_first, put_first, reads_first, reads_head, is_own_key}
+use Rattle.mini_rows.specs.Unused.{resolved, declared_among, declared_left, is_first, put_first, reads_first, reads_head, reads_hidden, takes, is_own_key}
 use Rattle.mini_rows.proofs.BooleanWeights.{moved}
+use Rattle.mini_rows.proofs.HiddenHeads.{for_initial, Hidden, hidden, Taken, taken}
 use Rattle.mini_rows.proofs.ListWeights.{total, in_list, comma_list, declarators_append}
 use Rattle.mini_rows.proofs.ListKeptHeads as opening
 use Rattle.mini_rows.proofs.ListKeptHeads.{Loop, Choice, seated}
@@ -514,20 +515,21 @@ outside_falls s k head t r f =
     by (Loop u v w) = omega (arith, value_falls statement_expression_seat)
 
 -- a loop over keys or values weighs what it goes over
-over_falls : (s : List ℕ) (k : ℕ) (head : Tree) (t : Over (resolved s k) head) (r : Tree) → is_plain_part r ≡ true → total (put_first (resolved s k) r head ▸ none) ≤ total (head ▸ none) + (weight (Expr argument_seat) r + 3)
-over_falls s k head t r f =
-    let there = by t.kind in
-    omega (arith, there, ap (λ u. total (u ▸ none)) t.is, ap (λ u. total (u ▸ none)) (t.puts r))
+each_falls : (s : List ℕ) (k : ℕ) (c : Each) (left value body : Tree) → is_first (resolved s k) false value ≡ true → (r : Tree) → is_plain_part r ≡ true → total (each_loop c left (put_first (resolved s k) r value) body ▸ none) ≤ total (each_loop c left value body ▸ none) + (weight (Expr argument_seat) r + 3)
+each_falls s k c left value body once r f = by c
   where
-    value_falls : (place : Seat) → weight (Expr place) (put_first (resolved s k) r t.value) ≤ weight (Expr place) t.value + (weight (Expr argument_seat) r + 3)
+    value_falls : (place : Seat) → weight (Expr place) (put_first (resolved s k) r value) ≤ weight (Expr place) value + (weight (Expr argument_seat) r + 3)
     value_falls place =
-        let p = path (resolved s k) false t.value t.once in
+        let p = path (resolved s k) false value once in
         let falls = led_falls AsValue p.steps p.well (Expr place) tt r f p.read (some_symbol k p.read.symbol p.same) in
         omega (arith, falls, ap (weight (Expr place)) p.is, ap (weight (Expr place)) (p.puts r))
 
-    by : (c : Each) → total (each_loop c t.left (put_first (resolved s k) r t.value) t.body ▸ none) ≤ total (each_loop c t.left t.value t.body ▸ none) + (weight (Expr argument_seat) r + 3)
+    by : (c : Each) → total (each_loop c left (put_first (resolved s k) r value) body ▸ none) ≤ total (each_loop c left value body ▸ none) + (weight (Expr argument_seat) r + 3)
     by EachIn = omega (arith, value_falls whole_seat)
     by EachOf = omega (arith, value_falls argument_seat)
+
+over_falls : (s : List ℕ) (k : ℕ) (head : Tree) (t : Over (resolved s k) head) (r : Tree) → is_plain_part r ≡ true → total (put_first (resolved s k) r head ▸ none) ≤ total (head ▸ none) + (weight (Expr argument_seat) r + 3)
+over_falls s k head t r f = let falls = each_falls s k t.kind t.left t.value t.body t.once r f in omega (arith, falls, ap (λ u. total (u ▸ none)) t.is, ap (λ u. total (u ▸ none)) (t.puts r))
 
 -- a `for` that begins with a `var` weighs what that does
 begun_falls : (s : List ℕ) (k : ℕ) (head : Tree) (t : Begun (resolved s k) head) (r : Tree) → is_plain_part r ≡ true → total (put_first (resolved s k) r head ▸ none) ≤ total (head ▸ none) + (weight (Expr argument_seat) r + 3)
@@ -545,6 +547,24 @@ either_falls s k head e r f = by (heads (resolved s k) head e)
     by (inr (inr (inr (inl t)))) = over_falls s k head t r f
     by (inr (inr (inr (inr t)))) = begun_falls s k head t r f
 
+-- a loop that hides its names first weighs what it begins with, or goes over
+hidden_falls : (s : List ℕ) (k : ℕ) (head : Tree) → reads_hidden (resolved s k) head ≡ true → (r : Tree) → is_plain_part r ≡ true → total (put_first (resolved s k) r head ▸ none) ≤ total (head ▸ none) + (weight (Expr argument_seat) r + 3)
+hidden_falls s k head e r f = by (hidden (resolved s k) head e)
+  where
+    by : Hidden (resolved s k) head → total (put_first (resolved s k) r head ▸ none) ≤ total (head ▸ none) + (weight (Expr argument_seat) r + 3)
+    by (inl t) =
+        let i = for_initial (resolved s k) head t in
+        let falls = initial_falls s k (declaration t.kind (declarator t.binds t.value ▸ t.last)) i r f in
+        omega (arith, falls, ap (λ u. total (u ▸ none)) (i.puts r), ap (λ u. total (u ▸ none)) t.is, ap (λ u. total (u ▸ none)) (t.puts r))
+    by (inr t) = let falls = each_falls s k t.kind t.left t.value t.body t.once r f in omega (arith, falls, ap (λ u. total (u ▸ none)) t.is, ap (λ u. total (u ▸ none)) (t.puts r))
+
+taken_falls : (s : List ℕ) (k : ℕ) (init head : Tree) → takes (resolved s k) init head ≡ true → is_plain_part init ≡ true → total (put_first (resolved s k) init head ▸ none) ≤ total (head ▸ none) + (weight (Expr argument_seat) init + 3)
+taken_falls s k init head e f = by (taken (resolved s k) init head e)
+  where
+    by : Taken (resolved s k) init head → total (put_first (resolved s k) init head ▸ none) ≤ total (head ▸ none) + (weight (Expr argument_seat) init + 3)
+    by (inl (o, p)) = either_falls s k head o init f
+    by (inr (c, (o, p))) = hidden_falls s k head o init f
+
 -- ---- the block
 
 no_choice : (before after : Trees) (d e v w : Tree) → one_chooses (outlines (append before (d ▸ (e ▸ after)))) ≡ one_chooses (outlines (append before (v ▸ (w ▸ after))))
@@ -552,14 +572,19 @@ no_choice none after d e v w = refl
 no_choice (t ▸ none) after d e v w = refl
 no_choice (t ▸ (u ▸ before)) after d e v w = refl
 
-pub single_falls : (q : StmtSeat) (before : Trees) (K : VariableDeclarationKind) (first : Trees) (s : List ℕ) (k : ℕ) (init head : Tree) (after : Trees) → is_plain_part init ≡ true → reads_head (resolved s k) head ≡ true → weight (Stmt q) (block (append before (declared_left K first ▸ (put_first (resolved s k) init head ▸ after)))) + 1 ≤ weight (Stmt q) (block (append before (declared_among K (resolved s k) first init none ▸ (head ▸ after))))
-single_falls q before K first s k init head after f e =
+pair_falls : (q : StmtSeat) (before : Trees) (K : VariableDeclarationKind) (first : Trees) (s : List ℕ) (k : ℕ) (init head put : Tree) (after : Trees) → total (put ▸ none) ≤ total (head ▸ none) + (weight (Expr argument_seat) init + 3) → weight (Stmt q) (block (append before (declared_left K first ▸ (put ▸ after)))) + 1 ≤ weight (Stmt q) (block (append before (declared_among K (resolved s k) first init none ▸ (head ▸ after))))
+pair_falls q before K first s k init head put after other =
     let x = resolved s k in
     let d = declared_among K x first init none in
     let left = declared_left K first in
     let one = left_falls K x first init in
-    let other = either_falls s k head e init f in
-    let less : total (left ▸ (put_first (resolved s k) init head ▸ none)) + 1 ≤ total (d ▸ (head ▸ none)) = omega (arith, one, other) in
-    let falls = in_list before (d ▸ (head ▸ none)) (left ▸ (put_first (resolved s k) init head ▸ none)) after 1 less in
-    let braces = ap (braces_weight q) (no_choice before after d head left (put_first (resolved s k) init head)) in
+    let less : total (left ▸ (put ▸ none)) + 1 ≤ total (d ▸ (head ▸ none)) = omega (arith, one, other) in
+    let falls = in_list before (d ▸ (head ▸ none)) (left ▸ (put ▸ none)) after 1 less in
+    let braces = ap (braces_weight q) (no_choice before after d head left put) in
     omega (arith, falls, braces)
+
+pub single_falls : (q : StmtSeat) (before : Trees) (K : VariableDeclarationKind) (first : Trees) (s : List ℕ) (k : ℕ) (init head : Tree) (after : Trees) → is_plain_part init ≡ true → reads_head (resolved s k) head ≡ true → weight (Stmt q) (block (append before (declared_left K first ▸ (put_first (resolved s k) init head ▸ after)))) + 1 ≤ weight (Stmt q) (block (append before (declared_among K (resolved s k) first init none ▸ (head ▸ after))))
+single_falls q before K first s k init head after f e = pair_falls q before K first s k init head (put_first (resolved s k) init head) after (either_falls s k head e init f)
+
+pub taken_single_falls : (q : StmtSeat) (before : Trees) (K : VariableDeclarationKind) (first : Trees) (s : List ℕ) (k : ℕ) (init head : Tree) (after : Trees) → is_plain_part init ≡ true → takes (resolved s k) init head ≡ true → weight (Stmt q) (block (append before (declared_left K first ▸ (put_first (resolved s k) init head ▸ after)))) + 1 ≤ weight (Stmt q) (block (append before (declared_among K (resolved s k) first init none ▸ (head ▸ after))))
+taken_single_falls q before K first s k init head after f e = pair_falls q before K first s k init head (put_first (resolved s k) init head) after (taken_falls s k init head e f)

@@ -54,7 +54,7 @@ use Rattle.mini_terms.specs.Reading.{is_plain_part}
 use Rattle.mini_rows.specs.Arranged.{Vanishes}
 use Rattle.mini_rows.specs.Lists.{block, declares_nothing, declaration, Each, EachIn, EachOf, each_loop}
 use Rattle.mini_rows.specs.Declarations.{binding, declarator}
-use Rattle.mini_rows.specs.Unused.{resolved, declared_one, any_names, is_idle, is_first, reads_head, evaluated, BlockRow, declared_among, declared_left, put_first}
+use Rattle.mini_rows.specs.Unused.{resolved, declared_one, any_names, is_idle, is_first, reads_head, evaluated, reads_hidden, evaluated_hidden, takes, BlockRow, declared_among, declared_left, put_first}
 use Rattle.mini_rows.specs.Switches.{Switches, without_vars}
 use Rattle.mini_rows.proofs.ArrangedBodies.{quiet}
 use Rattle.mini_rows.proofs.BlockPlaces.{holds_block, no_list, block_placed, block_there, block_asked}
@@ -62,8 +62,9 @@ use Rattle.mini_rows.proofs.FoldLawful.{vanishes}
 use Rattle.mini_rows.proofs.ListShapes.{init_declares, declaration_anywhere, append_fits, both_fit, first_fits, more_fit}
 use Rattle.mini_rows.proofs.UnusedKept.{LeavesThere, NamesThere, DeclaresThere, list_fixed, list_frames, list_bodies, list_declares, block_kept, block_less, block_keeps}
 use Rattle.mini_rows.proofs.DeclaredKept.{value_leaves, value_names, value_declares, idle_leaves, idle_names, idle_declares}
-use Rattle.mini_rows.proofs.HeadKept.{head_leaves, head_names, head_declares}
-use Rattle.mini_rows.proofs.HeadMeaning.{row_71}
+use Rattle.mini_rows.proofs.HiddenHeads.{for_initial, Hidden, hidden, Taken, taken}
+use Rattle.mini_rows.proofs.HiddenKept.{taken_leaves, taken_names, taken_declares}
+use Rattle.mini_rows.proofs.HiddenMeaning.{row_71}
 use Rattle.mini_rows.proofs.ModuleKept.{fewer}
 use Rattle.mini_rows.proofs.ListKeptHeads.{Seat, Loop, Choice, seated}
 use Rattle.mini_rows.proofs.SingleUse.{Initial, Outside, Over, Begun, as_initial, Heads, heads}
@@ -174,7 +175,7 @@ first_left_fits strict k (t ▸ first) e =
     ∙ both (nat_le 1 (count (t ▸ first))) (fill strict (each (one a_declarator)) (t ▸ first) && true) (le-leb 1 (count (t ▸ first)) (omega arith)) (both (fill strict (each (one a_declarator)) (t ▸ first)) true e refl)
 
 -- so does a declaration whose first initializer has another tree in it
-initial_fits : (strict : Bool) (x : Name) (head : Tree) (t : Initial x head) (r : Tree) → MayStand x r t.value → fits strict (one an_expression) r ≡ true → fits strict item head ≡ true → fits strict item (put_first x r head) ≡ true
+pub initial_fits : (strict : Bool) (x : Name) (head : Tree) (t : Initial x head) (r : Tree) → MayStand x r t.value → fits strict (one an_expression) r ≡ true → fits strict item head ≡ true → fits strict item (put_first x r head) ≡ true
 initial_fits strict x head t r p f e =
     let ds : Trees = declarator t.binds t.value ▸ t.last in
     let d = declarator t.binds (put_first x r t.value) in
@@ -190,7 +191,7 @@ switch_fits : (strict : Bool) (cases a b : Tree) → (fits strict (one an_expres
 switch_fits true cases a b h e = first_of (fits true (one an_expression) a) (fits true (one an_expression) b) _ h e
 switch_fits false cases a b h e = first_of (fits false (one an_expression) a) (fits false (one an_expression) b) _ h e
 
-for_fits : (strict : Bool) (u v w a b : Tree) → (fits strict (one_or_absent an_init) a ≡ true → fits strict (one_or_absent an_init) b ≡ true) → fits strict item (seated (Loop u v w) a) ≡ true → fits strict item (seated (Loop u v w) b) ≡ true
+pub for_fits : (strict : Bool) (u v w a b : Tree) → (fits strict (one_or_absent an_init) a ≡ true → fits strict (one_or_absent an_init) b ≡ true) → fits strict item (seated (Loop u v w) a) ≡ true → fits strict item (seated (Loop u v w) b) ≡ true
 for_fits true u v w a b h e = first_of (fits true (one_or_absent an_init) a) (fits true (one_or_absent an_init) b) _ h e
 for_fits false u v w a b h e = first_of (fits false (one_or_absent an_init) a) (fits false (one_or_absent an_init) b) _ h e
 
@@ -206,7 +207,7 @@ outside_fits strict x head t r p f e = ap (fits strict item) (t.puts r) ∙ by t
     by (Loop u v w) g = for_fits strict u v w t.value (put_first x r t.value) (put_begun strict x t.value t.once r (below p) f) g
 
 -- and a loop over keys or values
-each_fits : (strict : Bool) (c : Each) (l w a b : Tree) → (fits strict (one an_expression) a ≡ true → fits strict (one an_expression) b ≡ true) → fits strict item (each_loop c l a w) ≡ true → fits strict item (each_loop c l b w) ≡ true
+pub each_fits : (strict : Bool) (c : Each) (l w a b : Tree) → (fits strict (one an_expression) a ≡ true → fits strict (one an_expression) b ≡ true) → fits strict item (each_loop c l a w) ≡ true → fits strict item (each_loop c l b w) ≡ true
 each_fits true EachIn l w a b h e = second_of (fits true (one (a_loop_left true)) l) (fits true (one an_expression) a) (fits true (one an_expression) b) _ h e
 each_fits false EachIn l w a b h e = second_of (fits false (one (a_loop_left true)) l) (fits false (one an_expression) a) (fits false (one an_expression) b) _ h e
 each_fits true EachOf l w a b h e = second_of (fits true (one (a_loop_left false)) l) (fits true (one an_expression) a) (fits true (one an_expression) b) _ h e
@@ -236,15 +237,41 @@ head_fits strict x head once r g f e = by (heads x head once)
     by (inr (inr (inr (inl t)))) = over_fits strict x head t r (subst (MayStand x r) t.evaluates g) f e
     by (inr (inr (inr (inr t)))) = begun_fits strict x head t r (subst (MayStand x r) t.evaluates g) f e
 
-pub single_fits : (strict : Bool) (k : VariableDeclarationKind) (x : Name) (first : Trees) (init head : Tree) → is_plain_part init ≡ true → reads_head x head ≡ true → MayStand x init (evaluated head) → fits strict item (declared_among k x first init none) ≡ true → fits strict item head ≡ true → (fits strict item (declared_left k first) ≡ true) × (fits strict item (put_first x init head) ≡ true)
-single_fits strict k x first init head m r p e f =
+-- and a loop that hides its names first
+hidden_fits : (strict : Bool) (x : Name) (head : Tree) → reads_hidden x head ≡ true → (r : Tree) → MayStand x r (evaluated_hidden head) → fits strict (one an_expression) r ≡ true → fits strict item head ≡ true → fits strict item (put_first x r head) ≡ true
+hidden_fits strict x head once r g f e = by (hidden x head once)
+  where
+    by : Hidden x head → fits strict item (put_first x r head) ≡ true
+    by (inl t) =
+        let i = for_initial x head t in
+        let these : Trees = declarator t.binds t.value ▸ t.last in
+        let those : Trees = declarator t.binds (put_first x r t.value) ▸ t.last in
+        ap (fits strict item) (t.puts r)
+        ∙ for_fits strict t.test t.update t.body (declaration t.kind these) (declaration t.kind those)
+        (λ h. init_declares strict t.kind those ∙ sym (declaration_anywhere strict nested t.kind those) ∙ sym (ap (fits strict item) (i.puts r)) ∙ initial_fits strict x (declaration t.kind these) i r (subst (MayStand x r) t.evaluates g) f (declaration_anywhere strict nested t.kind these ∙ sym (init_declares strict t.kind these) ∙ h))
+        (sym (ap (fits strict item) t.is) ∙ e)
+    by (inr t) = ap (fits strict item) (t.puts r) ∙ each_fits strict t.kind t.left t.body t.value (put_first x r t.value) (put_asked strict x t.value t.once r (subst (MayStand x r) t.evaluates g) f) (sym (ap (fits strict item) t.is) ∙ e)
+
+-- where what is left of a declaration fits, and what is written for the head does
+both_stand : (strict : Bool) (k : VariableDeclarationKind) (x : Name) (first : Trees) (init head : Tree) → is_plain_part init ≡ true → (fits strict (one an_expression) init ≡ true → fits strict item head ≡ true → fits strict item (put_first x init head) ≡ true) → fits strict item (declared_among k x first init none) ≡ true → fits strict item head ≡ true → (fits strict item (declared_left k first) ≡ true) × (fits strict item (put_first x init head) ≡ true)
+both_stand strict k x first init head m put e f =
     let ds : Trees = append first (declarator (binding x) init ▸ none) in
     let all = (and_parts (nat_le 1 (count ds)) (fill strict (each (one a_declarator)) ds && true) (sym (declaration_anywhere strict nested k ds) ∙ e)).1 in
     let (g, h) = both_fit strict (one a_declarator) first (declarator (binding x) init ▸ none) (left (fill strict (each (one a_declarator)) ds) true all) in
     let (one_fits, rest) = first_fits strict (one a_declarator) (declarator (binding x) init) none h in
     let (id, value) = and_parts (fits strict (one a_pattern) (binding x)) (fits strict (one_or_absent an_expression) init && true) one_fits in
     let moves = plain_there strict init m (left (fits strict (one_or_absent an_expression) init) true value) in
-    (first_left_fits strict k first g, head_fits strict x head r init p moves f)
+    (first_left_fits strict k first g, put moves f)
+
+pub single_fits : (strict : Bool) (k : VariableDeclarationKind) (x : Name) (first : Trees) (init head : Tree) → is_plain_part init ≡ true → reads_head x head ≡ true → MayStand x init (evaluated head) → fits strict item (declared_among k x first init none) ≡ true → fits strict item head ≡ true → (fits strict item (declared_left k first) ≡ true) × (fits strict item (put_first x init head) ≡ true)
+single_fits strict k x first init head m r p e f = both_stand strict k x first init head m (λ moves h. head_fits strict x head r init p moves h) e f
+
+pub taken_fits : (strict : Bool) (k : VariableDeclarationKind) (x : Name) (first : Trees) (init head : Tree) → is_plain_part init ≡ true → takes x init head ≡ true → fits strict item (declared_among k x first init none) ≡ true → fits strict item head ≡ true → (fits strict item (declared_left k first) ≡ true) × (fits strict item (put_first x init head) ≡ true)
+taken_fits strict k x first init head m t e f = both_stand strict k x first init head m (λ moves h. put (taken x init head t) moves h) e f
+  where
+    put : Taken x init head → fits strict (one an_expression) init ≡ true → fits strict item head ≡ true → fits strict item (put_first x init head) ≡ true
+    put (inl (o, p)) moves h = head_fits strict x head o init (inr p) moves h
+    put (inr (c, (o, p))) moves h = hidden_fits strict x head o init (inr p) moves h
 
 pub next_fits : (strict : Bool) (k : VariableDeclarationKind) (x : Name) (first : Trees) (init binds value : Tree) (last : Trees) → is_plain_part init ≡ true → is_first x false value ≡ true → MayStand x init value → fits strict item (declared_among k x first init (declarator binds value ▸ last)) ≡ true → fits strict item (declaration k (append first (declarator binds (put_first x init value) ▸ last))) ≡ true
 next_fits strict k x first init binds value last m once p e =
@@ -375,8 +402,8 @@ row_dropped {o = o} p h n w (inr (inr (inl r))) =
     let x = resolved r.spelling r.symbol in
     let plain = movable o r.init r.moves in (
       r.symbol,
-      moved p r.symbol n w _ _ r.shape r.written (dropped r.spelling r.symbol r.before r.after (declared_among r.kind x r.first r.init none ▸ (r.head ▸ none)) (declared_left r.kind r.first ▸ (put_first x r.init r.head ▸ none)) (head_leaves r.kind x r.symbol refl r.first r.init r.head plain r.once r.initial r.declared_earlier) (head_names r.kind x r.symbol refl r.first r.init r.head plain r.once r.initial r.declared_earlier (lexical_alone r.kind r.goes)) r.earlier r.later (head_declares r.kind x r.symbol refl r.first r.init r.head plain r.once r.initial r.declared_earlier) p h
-          (λ e z. row_71 {o = o} e r.symbol z _ _ (record { before = r.before; kind = r.kind; first = r.first; spelling = r.spelling; symbol = r.symbol; init = r.init; head = r.head; after = r.after; goes = r.goes; moves = r.moves; once = r.once; passed = r.passed; earlier = r.earlier; declared_earlier = r.declared_earlier; initial = r.initial; later = r.later; unseen = r.unseen; shape = refl; written = refl }) refl)),
+      moved p r.symbol n w _ _ r.shape r.written (dropped r.spelling r.symbol r.before r.after (declared_among r.kind x r.first r.init none ▸ (r.head ▸ none)) (declared_left r.kind r.first ▸ (put_first x r.init r.head ▸ none)) (taken_leaves r.kind x r.symbol refl r.first r.init r.head plain r.initial r.declared_earlier r.taken) (taken_names r.kind x r.symbol refl r.first r.init r.head plain r.initial r.declared_earlier r.taken (lexical_alone r.kind r.goes)) r.earlier r.later (taken_declares r.kind x r.symbol refl r.first r.init r.head plain r.initial r.declared_earlier r.taken) p h
+          (λ e z. row_71 {o = o} e r.symbol z _ _ (record { before = r.before; kind = r.kind; first = r.first; spelling = r.spelling; symbol = r.symbol; init = r.init; head = r.head; after = r.after; goes = r.goes; moves = r.moves; taken = r.taken; earlier = r.earlier; declared_earlier = r.declared_earlier; initial = r.initial; later = r.later; unseen = r.unseen; shape = refl; written = refl }) refl)),
     )
 row_dropped {o = o} p h n w (inr (inr (inr r))) =
     let x = resolved r.spelling r.symbol in (
@@ -410,7 +437,7 @@ row_blocks {o = o} n w (inr (inr (inl r))) =
       second = append r.before (left ▸ (put_first x r.init r.head ▸ r.after));
       before = r.shape;
       after = r.written;
-      fitting = λ strict. two_items strict r.before r.after d r.head left (put_first x r.init r.head) (λ f g. single_fits strict r.kind x r.first r.init r.head (movable o r.init r.moves) r.once (inr r.passed) f g);
+      fitting = λ strict. two_items strict r.before r.after d r.head left (put_first x r.init r.head) (λ f g. taken_fits strict r.kind x r.first r.init r.head (movable o r.init r.moves) r.taken f g);
     }
 row_blocks {o = o} n w (inr (inr (inr r))) =
     let x = resolved r.spelling r.symbol in

@@ -20,19 +20,20 @@ use Rattle.mini_node.specs.Kinds.{is_listed_shape}
 use Rattle.mini_rows.specs.Lists.{block, declares_nothing, declaration, Each, EachIn, EachOf, each_loop}
 use Rattle.mini_rows.specs.Declarations.{binding, declarator}
 use Rattle.mini_rows.specs.Sketches.{shape_by, AsWholeItem}
-use Rattle.mini_rows.specs.Unused.{resolved, names, any_names, declared_one, declared_among, declared_left, is_idle, is_first, reads_first, put_first, are_passed, reads_head, evaluated, lets_go, BlockRow}
+use Rattle.mini_rows.specs.Unused.{resolved, names, any_names, declared_one, declared_among, declared_left, is_idle, is_first, reads_first, put_first, are_passed, reads_head, reads_hidden, takes, lets_go, BlockRow}
 use Rattle.mini_rows.specs.Switches.{Switches, Liberties, without_vars}
 use Rattle.mini_rows.proofs.ListShapes.{declaration_anywhere, first_fits, more_fit}
 use Rattle.mini_rows.proofs.SingleUse.{Lead, Doing, Giving, Raising, Testing, head_of, Stands, statement, Heads, heads}
 use Rattle.mini_rows.proofs.ListKeptHeads.{Seat, Loop, Choice, seated}
-use Rattle.mini_rows.proofs.HeadKept.{head_leaves, head_declares, head_names}
-use Rattle.mini_rows.proofs.HeadMeaning.{head_read, head_goes, head_unnamed}
+use Rattle.mini_rows.proofs.HiddenHeads.{Hidden, hidden, Taken, taken}
+use Rattle.mini_rows.proofs.HiddenKept.{taken_leaves, taken_declares, taken_names}
+use Rattle.mini_rows.proofs.HiddenMeaning.{taken_read, taken_goes, taken_unnamed}
 use Rattle.mini_rows.proofs.FoldMeaning.{plain_read}
 use Rattle.mini_rows.proofs.DeclaredKept.{value_leaves, value_declares, idle_leaves, idle_declares, value_names, idle_names}
 use Rattle.mini_rows.proofs.NextKept.{next_leaves, next_declares, next_names}
 use Rattle.mini_rows.proofs.NextMeaning.{next_read, next_same, next_avoids}
 use Rattle.mini_rows.proofs.UnusedKept.{LeavesThere, NamesThere, DeclaresThere}
-use Rattle.mini_rows.proofs.UnusedLawful.{item, value_fits, left_fits, single_fits, next_fits, idle_vanishes}
+use Rattle.mini_rows.proofs.UnusedLawful.{item, value_fits, left_fits, taken_fits, next_fits, idle_vanishes}
 use Rattle.mini_rows.proofs.UnusedMeaning.{ReadThere, read_alone, value_same, left_same, single_same, one_read, idle_read, left_avoids, single_read, first_avoids, may_write, movable, lexical_alone}
 use Rattle.mini_rows.proofs.UnusedNames.{or_parts, avoided, all_avoided}
 use Rattle.mini_terms.specs.Reading.{is_plain_part}
@@ -165,11 +166,11 @@ statement_there x head once init =
 initial_there : (k : VariableDeclarationKind) (ds es : Trees) → StandsThere (declaration k ds) (declaration k es)
 initial_there k ds es = record { head_in = λ o strict. declaration_in o strict k ds; put_in = λ o strict. declaration_in o strict k es; head_ported = λ rest. refl; put_ported = λ rest. refl }
 
-outside_there : (c : Seat) (a b : Tree) → StandsThere (seated c a) (seated c b)
+pub outside_there : (c : Seat) (a b : Tree) → StandsThere (seated c a) (seated c b)
 outside_there (Choice cases) a b = record { head_in = λ o strict. refl; put_in = λ o strict. refl; head_ported = λ rest. refl; put_ported = λ rest. refl }
 outside_there (Loop u v w) a b = record { head_in = λ o strict. refl; put_in = λ o strict. refl; head_ported = λ rest. refl; put_ported = λ rest. refl }
 
-over_there : (c : Each) (l w a b : Tree) → StandsThere (each_loop c l a w) (each_loop c l b w)
+pub over_there : (c : Each) (l w a b : Tree) → StandsThere (each_loop c l a w) (each_loop c l b w)
 over_there EachIn l w a b = record { head_in = λ o strict. refl; put_in = λ o strict. refl; head_ported = λ rest. refl; put_ported = λ rest. refl }
 over_there EachOf l w a b = record { head_in = λ o strict. refl; put_in = λ o strict. refl; head_ported = λ rest. refl; put_ported = λ rest. refl }
 
@@ -182,6 +183,20 @@ stands_there x head once init = by (heads x head once)
     by (inr (inr (inl t))) = subst₂ StandsThere (sym t.is) (sym (t.puts init)) (outside_there t.seat t.value (put_first x init t.value))
     by (inr (inr (inr (inl t)))) = subst₂ StandsThere (sym t.is) (sym (t.puts init)) (over_there t.kind t.left t.body t.value (put_first x init t.value))
     by (inr (inr (inr (inr t)))) = subst₂ StandsThere (sym t.is) (sym (t.puts init)) (outside_there (Loop t.test t.update t.body) (declaration Var (declarator t.binds t.value ▸ t.last)) (declaration Var (declarator t.binds (put_first x init t.value) ▸ t.last)))
+
+hidden_there : (x : Name) (head : Tree) → reads_hidden x head ≡ true → (init : Tree) → StandsThere head (put_first x init head)
+hidden_there x head once init = by (hidden x head once)
+  where
+    by : Hidden x head → StandsThere head (put_first x init head)
+    by (inl t) = subst₂ StandsThere (sym t.is) (sym (t.puts init)) (outside_there (Loop t.test t.update t.body) (declaration t.kind (declarator t.binds t.value ▸ t.last)) (declaration t.kind (declarator t.binds (put_first x init t.value) ▸ t.last)))
+    by (inr t) = subst₂ StandsThere (sym t.is) (sym (t.puts init)) (over_there t.kind t.left t.body t.value (put_first x init t.value))
+
+taken_there : (x : Name) (init head : Tree) → takes x init head ≡ true → StandsThere head (put_first x init head)
+taken_there x init head e = by (taken x init head e)
+  where
+    by : Taken x init head → StandsThere head (put_first x init head)
+    by (inl (o, p)) = stands_there x head o init
+    by (inr (c, (o, p))) = hidden_there x head o init
 
 -- ---- the rows
 
@@ -218,22 +233,22 @@ module _ (W : VariableSet) (K : VariableDeclarationKind) (s : List ℕ) (k : ℕ
         ported = left_ported K (append first last);
       }
 
-  pub of_71 : (first : Trees) (init head : Tree) → is_plain_part init ≡ true → reads_head x head ≡ true → are_passed x init (evaluated head) ≡ true → names x init ≡ false → any_names x first ≡ false → Loses W s k (declared_among K x first init none ▸ (head ▸ none)) (declared_left K first ▸ (put_first x init head ▸ none))
-  of_71 first init head moves once passed initial earlier =
+  pub of_71 : (first : Trees) (init head : Tree) → is_plain_part init ≡ true → takes x init head ≡ true → names x init ≡ false → any_names x first ≡ false → Loses W s k (declared_among K x first init none ▸ (head ▸ none)) (declared_left K first ▸ (put_first x init head ▸ none))
+  of_71 first init head moves took initial earlier =
       let d = declared_among K x first init none in
       let left = declared_left K first in
       let put = put_first x init head in
-      let there = stands_there x head once init in
+      let there = taken_there x init head took in
       record {
-        leaves = head_leaves K x k refl first init head moves once initial earlier;
-        declares = head_declares K x k refl first init head moves once initial earlier;
-        read = single_read s k K first init head put (head_read x head once init);
-        same = λ e u. single_same e s k u.unseen first init head put (ap (λ i. i.facts.absent) (plain_read init moves)) K (may_write W K e k goes u) (head_goes e s k u.unseen init head moves once passed);
-        avoids = (first_avoids (alone (Declared k)) K first (all_avoided x k refl first earlier), (avoided x k refl put (head_unnamed x head once init initial), tt));
+        leaves = taken_leaves K x k refl first init head moves initial earlier took;
+        declares = taken_declares K x k refl first init head moves initial earlier took;
+        read = single_read s k K first init head put (taken_read x init head took);
+        same = λ e u. single_same e s k u.unseen first init head put (ap (λ i. i.facts.absent) (plain_read init moves)) K (may_write W K e k goes u) (taken_goes e s k u.unseen init head moves took);
+        avoids = (first_avoids (alone (Declared k)) K first (all_avoided x k refl first earlier), (avoided x k refl put (taken_unnamed x init head took initial), tt));
         fits = λ o strict h.
             let (f, g) = first_fits strict (item_in o) d (head ▸ none) h in
             let (i, rest) = first_fits strict (item_in o) head none g in
-            let (v, w) = single_fits strict K x first init head moves once (inr passed) (sym (declaration_in o strict K (append first (declarator (binding x) init ▸ none))) ∙ f) (sym (there.head_in o strict) ∙ i) in
+            let (v, w) = taken_fits strict K x first init head moves took (sym (declaration_in o strict K (append first (declarator (binding x) init ▸ none))) ∙ f) (sym (there.head_in o strict) ∙ i) in
             more_fit strict (item_in o) left (put ▸ none) (left_in o strict K first ∙ v) (more_fit strict (item_in o) put none (there.put_in o strict ∙ w) rest);
         ported = λ rest. there.head_ported rest ∙ sym (there.put_ported rest) ∙ left_ported K first (put ▸ rest);
       }
@@ -263,7 +278,7 @@ row_stretch W p a b e (inr (inl r)) =
     (ap list_of r.written)
 row_stretch W p a b e (inr (inr (inl r))) =
     let x = resolved r.spelling r.symbol in
-    stretch W.writable p a b e r.spelling r.symbol r.before r.after (declared_among r.kind x r.first r.init none) (r.head ▸ none) (declared_left r.kind r.first ▸ (put_first x r.init r.head ▸ none)) refl (of_71 W.writable r.kind r.spelling r.symbol r.goes r.first r.init r.head (movable W.switches r.init r.moves) r.once r.passed r.initial r.declared_earlier) r.earlier r.later (ap list_of r.shape)
+    stretch W.writable p a b e r.spelling r.symbol r.before r.after (declared_among r.kind x r.first r.init none) (r.head ▸ none) (declared_left r.kind r.first ▸ (put_first x r.init r.head ▸ none)) refl (of_71 W.writable r.kind r.spelling r.symbol r.goes r.first r.init r.head (movable W.switches r.init r.moves) r.taken r.initial r.declared_earlier) r.earlier r.later (ap list_of r.shape)
     (ap list_of r.written)
 row_stretch W p a b e (inr (inr (inr r))) =
     let x = resolved r.spelling r.symbol in
@@ -275,5 +290,5 @@ pub row_names : (o : Switches) (p : Tree) (a b : Trees) (e : is_listed_shape (sh
 unfolding row_stretch stretch
 row_names o p a b e (inl r) = value_names r.kind (resolved r.spelling r.symbol) r.symbol refl r.init r.unused.initial (lexical_alone r.kind r.goes)
 row_names o p a b e (inr (inl r)) = idle_names r.kind (resolved r.spelling r.symbol) r.symbol refl r.first r.init r.last (idle_vanishes r.init r.idle) r.unused.declared_earlier r.unused.declared_later (lexical_alone r.kind r.goes)
-row_names o p a b e (inr (inr (inl r))) = head_names r.kind (resolved r.spelling r.symbol) r.symbol refl r.first r.init r.head (movable o r.init r.moves) r.once r.initial r.declared_earlier (lexical_alone r.kind r.goes)
+row_names o p a b e (inr (inr (inl r))) = taken_names r.kind (resolved r.spelling r.symbol) r.symbol refl r.first r.init r.head (movable o r.init r.moves) r.initial r.declared_earlier r.taken (lexical_alone r.kind r.goes)
 row_names o p a b e (inr (inr (inr r))) = next_names r.kind (resolved r.spelling r.symbol) r.symbol refl r.first r.init r.binds r.value r.last r.once r.declared_earlier r.initial r.other r.declared_later (lexical_alone r.kind r.goes)

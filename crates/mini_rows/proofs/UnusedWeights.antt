@@ -22,7 +22,7 @@ use Rattle.mini_rows.specs.Unused.{resolved, declared_among, declared_one, decla
 use Rattle.mini_rows.specs.Switches.{Switches, Liberties}
 use Rattle.mini_rows.proofs.BlockPlaces.{elsewhere_weighs}
 use Rattle.mini_rows.proofs.ForHeads as heads
-use Rattle.mini_rows.proofs.SingleWeights.{single_falls, next_falls}
+use Rattle.mini_rows.proofs.SingleWeights.{taken_single_falls, next_falls}
 use Rattle.mini_rows.proofs.ListWeights.{total, list_is, body_is, in_list, comma_list, declarators_append}
 use Rattle.mini_rows.proofs.UnusedMeaning.{movable}
 
@@ -80,7 +80,7 @@ block_lighter {W = W} q n w (inr (inl r)) =
     let falls = block_falls q r.before r.after (declared_among r.kind (resolved r.spelling r.symbol) r.first r.init r.last) (declared_left r.kind (append r.first r.last)) (same_chooses r.kind (resolved r.spelling r.symbol) r.first r.last r.init) (idle_falls r.kind (resolved r.spelling r.symbol) r.first r.last r.init) in
     omega (arith, falls, ap (weight (Stmt q)) r.shape, ap (weight (Stmt q)) r.written)
 block_lighter {W = W} q n w (inr (inr (inl r))) =
-    let falls = single_falls q r.before r.kind r.first r.spelling r.symbol r.init r.head r.after (movable W.switches r.init r.moves) r.once in
+    let falls = taken_single_falls q r.before r.kind r.first r.spelling r.symbol r.init r.head r.after (movable W.switches r.init r.moves) r.taken in
     omega (arith, falls, ap (weight (Stmt q)) r.shape, ap (weight (Stmt q)) r.written)
 block_lighter {W = W} q n w (inr (inr (inr r))) =
     let x = resolved r.spelling r.symbol in

@@ -21,6 +21,7 @@ use Rattle.mini_rows.specs.declared.inside.Way.TheVariants as way
 use Rattle.mini_rows.specs.Lists.{block}
 use Rattle.mini_rows.specs.Switches.{Liberties}
 use Rattle.mini_rows.specs.Unused.{resolved, names, any_names, declared_among, head_left, is_idle, Row71Next, BlockRow}
+pub use Rattle.mini_rows.specs.Unused.{is_lexical_shape}
 
 -- ---- the way to it
 
@@ -135,11 +136,6 @@ stands_at (Static n) Elsewhere = true
 stands_at o p = false
 
 -- ---- the rows
-
--- a `let` or a `const`
-abbrev pub is_lexical_shape : Shape → Bool
-is_lexical_shape (shape.VariableDeclaration k) = is_lexical k
-is_lexical_shape h = false
 
 -- what goes is a `var`
 abbrev pub declares_var : {W : Liberties} {n w : Tree} → BlockRow W n w → Bool

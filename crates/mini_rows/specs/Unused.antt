@@ -555,6 +555,48 @@ reads_head x t = reads_first x t || (reads_initially x t || (reads_outside x t |
 abbrev pub evaluated : Tree → Tree
 evaluated t = if has_declarator t then first_value t else (if goes_over t then part t 1 else (if begins_var t then first_value (part t 0) else t))
 
+-- a `let` or a `const`
+abbrev pub is_lexical_shape : Shape → Bool
+is_lexical_shape (shape.VariableDeclaration k) = is_lexical k
+is_lexical_shape _ = false
+
+-- `for (let i = e; ..; ..) ..`: e is evaluated where the names that the head declares are in scope, and uninitialised (ECMA-262,
+-- "ForLoopEvaluation")
+abbrev pub begins_let : Tree → Bool
+begins_let t = is_for_shape (shape_of t) && (is_bare t 4 && (is_lexical_shape (shape_of (part t 0)) && has_declarator (part t 0)))
+
+-- it reads the variable in that first initializer
+abbrev pub reads_let : Name → Tree → Bool
+reads_let x t = begins_let t && (reads_initially x (part t 0) && not (any_names x (rest_children 1 (children t))))
+
+-- `for (let i in e) ..` and `for (const i of e) ..`: so is e (ECMA-262, "ForIn/OfHeadEvaluation")
+abbrev pub goes_over_let : Tree → Bool
+goes_over_let t = is_over_shape (shape_of t) && (is_bare t 3 && is_lexical_shape (shape_of (part t 0)))
+
+-- it reads the variable there
+abbrev pub reads_over_let : Name → Tree → Bool
+reads_over_let x t = goes_over_let t && (is_first x false (part t 1) && (not (names x (part t 0)) && not (any_names x (rest_children 2 (children t)))))
+
+-- a loop that hides its names first reads it
+abbrev pub reads_hidden : Name → Tree → Bool
+reads_hidden x t = reads_let x t || reads_over_let x t
+
+-- what such a loop evaluates before all else
+abbrev pub evaluated_hidden : Tree → Tree
+evaluated_hidden t = if begins_let t then first_value (part t 0) else (if goes_over_let t then part t 1 else t)
+
+-- a number, a text, a boolean or null, and nothing in it
+abbrev pub is_literal : Tree → Bool
+is_literal t = is_written_value (shape_of t) && is_bare t 0
+
+-- a constant with nothing else in it: it mentions no name, so that no name around it changes what it is
+abbrev pub is_closed : Tree → Bool
+is_closed t = is_literal t || (is_value_operator (shape_of t) && (is_bare t 1 && is_literal (part t 0)))
+
+-- r may be put in the place of what a head reads: into a loop that hides its names first a constant alone
+abbrev pub takes : Name → Tree → Tree → Bool
+takes x r t = (reads_head x t && are_passed x r (evaluated t)) || (is_closed r && (reads_hidden x t && are_passed x r (evaluated_hidden t)))
+
 -- an arrow function, and a function or a class without a name of its own, gets the variable's name (ECMA-262, "NamedEvaluation"): none
 -- of them moves where the names of functions, or of classes, have to stay
 abbrev pub takes_name : Switches → Shape → Tree → Bool
@@ -568,8 +610,8 @@ may_move o t = is_plain_part t && not (takes_name o (shape_of t) (part t 0))
 
 -- 71: `{ let a, x = b(); return x + c; }` becomes `{ let a; return b() + c; }`, `{ const x = b(); return x; }` `{ ; return b(); }`,
 -- `{ let x = a(); const y = x.b; c(y); }` `{ ; const y = a().b; c(y); }`, `{ let x = a(); switch (x.b) { } }` `{ ; switch (a().b) { } }`,
--- `{ let x = a(); for (c of x.b) d(); }` `{ ; for (c of a().b) d(); }`, and `{ let x = a(); for (var i = x.b; i; ) c(i); }`
--- `{ ; for (var i = a().b; i; ) c(i); }`
+-- `{ let x = a(); for (c of x.b) d(); }` `{ ; for (c of a().b) d(); }`, `{ let x = a(); for (var i = x.b; i; ) c(i); }`
+-- `{ ; for (var i = a().b; i; ) c(i); }`, and `{ let x = 1; for (let i = x; i < 9; ) c(i); }` `{ ; for (let i = 1; i < 9; ) c(i); }`
 pub record Row71 (W : Liberties) (n w : Tree) : Type 0 where
   pub before : Trees
   pub kind : VariableDeclarationKind
@@ -581,8 +623,7 @@ pub record Row71 (W : Liberties) (n w : Tree) : Type 0 where
   pub after : Trees
   pub goes : lets_go W.writable kind symbol ≡ true
   pub moves : may_move W.switches init ≡ true
-  pub once : reads_head (resolved spelling symbol) head ≡ true
-  pub passed : are_passed (resolved spelling symbol) init (evaluated head) ≡ true
+  pub taken : takes (resolved spelling symbol) init head ≡ true
   pub earlier : any_names (resolved spelling symbol) before ≡ false
   pub declared_earlier : any_names (resolved spelling symbol) first ≡ false
   pub initial : names (resolved spelling symbol) init ≡ false

@@ -9,15 +9,5 @@ pub mod Uneval
 pub mod Rare
 pub mod Chains
 pub mod Swept
-pub mod Holders
-pub mod Switches
-pub mod Heads
 pub mod Nameless
 pub mod Catching
-pub mod FurtherPlaces
-pub mod FurtherVars
-pub mod FurtherSteps
-pub mod FurtherWalks
-pub mod FurtherBodies
-pub mod FurtherHolders
-pub mod FurtherStack

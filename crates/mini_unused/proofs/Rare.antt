@@ -14,10 +14,11 @@ use Rattle.mini_node.specs.Kinds.{is_identifier}
 use Rattle.mini_node.specs.Walks.{next_child}
 use Rattle.mini_kept.proofs.SameScopes.{same_texts}
 use Rattle.mini_rows.specs.Declarations.{declarator}
-use Rattle.mini_rows.specs.Unused.{may_hold, resolved, is_like_one, names, any_names, is_idle, leads, holds_list, reads, is_first, leads_to, put_first, put_among, are_passed, is_head_shape, reads_first, reads_head, has_declarator, first_value, begins_var, goes_over, evaluated}
+use Rattle.mini_rows.specs.Unused.{may_hold, resolved, is_like_one, names, any_names, is_idle, leads, holds_list, reads, is_first, leads_to, put_first, put_among, are_passed, is_head_shape, reads_first, reads_head, has_declarator, first_value, begins_var, goes_over, evaluated, reads_hidden, begins_let, goes_over_let, evaluated_hidden, takes}
 use Rattle.mini_rows.proofs.ListKeptHeads.{Seat, Loop, Choice, seated}
 use Rattle.mini_rows.specs.Lists.{Each, EachIn, EachOf, each_loop}
 use Rattle.mini_rows.proofs.SingleUse.{Heads, heads}
+use Rattle.mini_rows.proofs.HiddenHeads.{Hidden, hidden, Taken, taken}
 use Rattle.mini_rows.specs.Switches.{Liberties}
 use Rattle.mini_unused.specs.declared.tallies.Tallies.{Tallies}
 use Rattle.mini_unused.specs.RemoveUnusedDeclaration.{declares_list, is_alone, list_at, let_left, statement_left, list_left}
@@ -228,6 +229,10 @@ statement_counted n x (node h ys k (t ▸ ts)) e =
     let rest = first_counted n x false t (and_parts (is_first x false t) (not (any_names x ts)) q).0 in
     omega (arith, rest)
 
+over_counted : (n : ℕ) (x : Name) (c : Each) (l w v : Tree) → 1 ≤ tally (bucket true n) (bucket true n x) v → 1 ≤ tally (bucket true n) (bucket true n x) (each_loop c l v w)
+over_counted n x EachIn l w v k = omega (arith, k)
+over_counted n x EachOf l w v k = omega (arith, k)
+
 head_counted : (n : ℕ) (x : Name) (t : Tree) → reads_head x t ≡ true → 1 ≤ tally (bucket true n) (bucket true n x) t
 head_counted n x t e = by (heads x t e)
   where
@@ -235,16 +240,26 @@ head_counted n x t e = by (heads x t e)
     seated_counted (Loop u v w) t k = omega (arith, k)
     seated_counted (Choice cases) t k = omega (arith, k)
 
-    over_counted : (c : Each) (l w v : Tree) → 1 ≤ tally (bucket true n) (bucket true n x) v → 1 ≤ tally (bucket true n) (bucket true n x) (each_loop c l v w)
-    over_counted EachIn l w v k = omega (arith, k)
-    over_counted EachOf l w v k = omega (arith, k)
-
     by : Heads x t → 1 ≤ tally (bucket true n) (bucket true n x) t
     by (inl (f, p)) = statement_counted n x t f
     by (inr (inl i)) = let read = first_counted n x false i.value i.once in let whole = ap (tally (bucket true n) (bucket true n x)) i.is in omega (arith, read, whole)
     by (inr (inr (inr (inr i)))) = let read = first_counted n x false i.value i.once in let whole = ap (tally (bucket true n) (bucket true n x)) i.is in omega (arith, read, whole)
-    by (inr (inr (inr (inl i)))) = let read = over_counted i.kind i.left i.body i.value (first_counted n x false i.value i.once) in let whole = ap (tally (bucket true n) (bucket true n x)) i.is in omega (arith, read, whole)
+    by (inr (inr (inr (inl i)))) = let read = over_counted n x i.kind i.left i.body i.value (first_counted n x false i.value i.once) in let whole = ap (tally (bucket true n) (bucket true n x)) i.is in omega (arith, read, whole)
     by (inr (inr (inl i))) = let read = seated_counted i.seat i.value (first_counted n x false i.value i.once) in let whole = ap (tally (bucket true n) (bucket true n x)) i.is in omega (arith, read, whole)
+
+hidden_counted : (n : ℕ) (x : Name) (t : Tree) → reads_hidden x t ≡ true → 1 ≤ tally (bucket true n) (bucket true n x) t
+hidden_counted n x t e = by (hidden x t e)
+  where
+    by : Hidden x t → 1 ≤ tally (bucket true n) (bucket true n x) t
+    by (inl i) = let read = first_counted n x false i.value i.once in let whole = ap (tally (bucket true n) (bucket true n x)) i.is in omega (arith, read, whole)
+    by (inr i) = let read = over_counted n x i.kind i.left i.body i.value (first_counted n x false i.value i.once) in let whole = ap (tally (bucket true n) (bucket true n x)) i.is in omega (arith, read, whole)
+
+taken_counted : (n : ℕ) (x : Name) (r t : Tree) → takes x r t ≡ true → 1 ≤ tally (bucket true n) (bucket true n x) t
+taken_counted n x r t e = by (taken x r t e)
+  where
+    by : Taken x r t → 1 ≤ tally (bucket true n) (bucket true n x) t
+    by (inl (o, p)) = head_counted n x t o
+    by (inr (c, (o, p))) = hidden_counted n x t o
 
 -- in the buckets of x, of tables so large
 module _ (x : Name) (n r : ℕ) where
@@ -376,7 +391,7 @@ module _ (T : Tallies) (o : Tree) (ts : Trees) (i j : ℕ) (h : i < count ts) (d
 
     pub rare_read : IsRare T x 2 → is_read_once (x ∷ []) o init ds j ts i ≡ true
     rare_read rare =
-        let a = once (bucket true n) (within_few true T.by_symbol.items o (listed ts) x 2 (omega arith) told.symbols rare.symbols) (head_counted n x head (and_parts (reads_head x head) (are_passed x init (evaluated head)) reads).0) in
+        let a = once (bucket true n) (within_few true T.by_symbol.items o (listed ts) x 2 (omega arith) told.symbols rare.symbols) (taken_counted n x init head reads) in
         let b = once (bucket false r) (within_few false T.by_spelling.items o (listed ts) x 2 (omega arith) told.spellings rare.spellings) spelled in
         let one_of = unmentioned x n r in
         let all_of = all_unmentioned x n r in
@@ -445,9 +460,9 @@ part_spelled x t u b e f h r =
     let whole = part_of (bucket false r) (bucket false r x) t 0 in
     omega (arith, one, same, whole)
 
--- what a head evaluates
-pub head_spelled : (x : Name) (t u : Tree) (b : Bool) → u ≡ evaluated t → (b ≡ true → (r : ℕ) → 1 ≤ tally (bucket false r) (bucket false r x) u) → b ≡ true → (r : ℕ) → 1 ≤ tally (bucket false r) (bucket false r x) t
-head_spelled x t u b e f h r = by (has_declarator t) (goes_over t) (begins_var t) (let one = f h r in let same = ap (tally (bucket false r) (bucket false r x)) e in omega (arith, one, same))
+-- what a head evaluates, and what a loop does that hides its names first
+pub head_spelled : (x : Name) (t u : Tree) (b : Bool) → u ≡ evaluated (evaluated_hidden t) → (b ≡ true → (r : ℕ) → 1 ≤ tally (bucket false r) (bucket false r x) u) → b ≡ true → (r : ℕ) → 1 ≤ tally (bucket false r) (bucket false r x) t
+head_spelled x t u b e f h r = in_hidden (in_head (evaluated_hidden t) (let one = f h r in let same = ap (tally (bucket false r) (bucket false r x)) e in omega (arith, one, same)))
   where
     in_declaration : (d : Tree) → 1 ≤ tally (bucket false r) (bucket false r x) (first_value d) → 1 ≤ tally (bucket false r) (bucket false r x) d
     in_declaration d one =
@@ -456,11 +471,25 @@ head_spelled x t u b e f h r = by (has_declarator t) (goes_over t) (begins_var t
         let whole = part_of (bucket false r) (bucket false r x) d 0 in
         omega (arith, one, inner, list, whole)
 
-    by : (a c d : Bool) → 1 ≤ tally (bucket false r) (bucket false r x) (if a then first_value t else (if c then part t 1 else (if d then first_value (part t 0) else t))) → 1 ≤ tally (bucket false r) (bucket false r x) t
-    by true c d one = in_declaration t one
-    by false true d one = let whole = part_of (bucket false r) (bucket false r x) t 1 in omega (arith, one, whole)
-    by false false true one = let whole = part_of (bucket false r) (bucket false r x) t 0 in omega (arith, in_declaration (part t 0) one, whole)
-    by false false false one = one
+    in_part : (t : Tree) (i : ℕ) → 1 ≤ tally (bucket false r) (bucket false r x) (part t i) → 1 ≤ tally (bucket false r) (bucket false r x) t
+    in_part t i one = let whole = part_of (bucket false r) (bucket false r x) t i in omega (arith, one, whole)
+
+    in_head : (t : Tree) → 1 ≤ tally (bucket false r) (bucket false r x) (evaluated t) → 1 ≤ tally (bucket false r) (bucket false r x) t
+    in_head t one = by (has_declarator t) (goes_over t) (begins_var t) one
+      where
+        by : (a c d : Bool) → 1 ≤ tally (bucket false r) (bucket false r x) (if a then first_value t else (if c then part t 1 else (if d then first_value (part t 0) else t))) → 1 ≤ tally (bucket false r) (bucket false r x) t
+        by true c d one = in_declaration t one
+        by false true d one = in_part t 1 one
+        by false false true one = in_part t 0 (in_declaration (part t 0) one)
+        by false false false one = one
+
+    in_hidden : 1 ≤ tally (bucket false r) (bucket false r x) (evaluated_hidden t) → 1 ≤ tally (bucket false r) (bucket false r x) t
+    in_hidden one = by (begins_let t) (goes_over_let t) one
+      where
+        by : (a c : Bool) → 1 ≤ tally (bucket false r) (bucket false r x) (if a then first_value (part t 0) else (if c then part t 1 else t)) → 1 ≤ tally (bucket false r) (bucket false r x) t
+        by true c one = in_part t 0 (in_declaration (part t 0) one)
+        by false true one = in_part t 1 one
+        by false false one = one
 
 pub text_counted : (r : ℕ) (x y : Name) → same_text x.spelling y.spelling ≡ true → 1 ≤ own_tally (bucket false r) (bucket false r x) (y ∷ [])
 text_counted r x y e = let one = counted_there (bucket false r) (bucket false r x) y (sym (bucket_alike r x y (same_texts x.spelling y.spelling e))) in omega (arith, one)

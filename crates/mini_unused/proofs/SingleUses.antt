@@ -19,13 +19,13 @@ use Rattle.mini_node.specs.Walks.{next_child}
 use Rattle.mini_terms.specs.Folds.{is_effect_free}
 use Rattle.mini_rows.specs.Lists.{block, declaration}
 use Rattle.mini_rows.specs.Declarations.{binding, declarator}
-use Rattle.mini_rows.specs.Unused.{resolved, declared_among, declared_left, names, any_names, is_own_key, is_short, in_full, may_hold, is_reached, leads, has_arguments, holds_list, is_childless, is_written_value, is_value_operator, is_constant, reads, is_first, leads_to, put_first, put_among, passes_branch, passes_at, is_sure, is_placed, begins_bare, suits, are_passed_in, are_passed, all_passed, is_head_shape, reads_first, reads_head, evaluated, may_move, lets_go, Row71, passes, passes_item, gathered_by, gathered_below}
+use Rattle.mini_rows.specs.Unused.{resolved, declared_among, declared_left, names, any_names, is_own_key, is_short, in_full, may_hold, is_reached, leads, has_arguments, holds_list, is_childless, is_written_value, is_value_operator, is_constant, reads, is_first, leads_to, put_first, put_among, passes_branch, passes_at, is_sure, is_placed, begins_bare, suits, are_passed_in, are_passed, all_passed, is_head_shape, reads_first, takes, may_move, lets_go, Row71, passes, passes_item, gathered_by, gathered_below}
 use Rattle.mini_unused.specs.RemoveUnusedDeclaration.{declares_name, is_lexical_shape, declares_list, may_declare, may_lose, is_free_at, list_at}
 use Rattle.mini_rows.specs.declared.gathered.Gathered.{Gathered}
 use Rattle.mini_rows.specs.declared.gathered.Gathered.TheVariants.{Values as OfValues}
 use Rattle.mini_rows.specs.Switches.{Liberties}
 use Rattle.mini_unused.specs.SubstituteNext.{put_named}
-use Rattle.mini_unused.specs.SubstituteSingleUse.{is_own_name, written_in_full, mention_place, may_lead, all_pass, is_reached_at, may_reach, is_head, reads_here, last_place, is_declared_over, is_mentioned_around, reads_next, is_read_once, is_single_declarator, is_single, declaration_left, list_single}
+use Rattle.mini_unused.specs.SubstituteSingleUse.{is_own_name, written_in_full, mention_place, may_lead, all_pass, is_reached_at, may_reach, is_head, last_place, is_declared_over, is_mentioned_around, reads_next, is_read_once, is_single_declarator, is_single, declaration_left, list_single}
 use Rattle.mini_unused.proofs.Unused.{no_outside, parts_of, there_child, there_first, and_both, Declares, declares, a_declaration, left_is}
 
 -- ---- the part that reads
@@ -441,8 +441,8 @@ pub no_declarator : (free : Bool) (W : Liberties) (l o : Tree) (ts : Trees) (i j
 no_declarator free W (node h xs n none) o ts i j e = refl
 no_declarator free W (node h xs n (t ▸ us)) o ts i j e = absurd (omega (arith, e))
 
-pub read_next : (x : Name) (r : Tree) (ts : Trees) (i : ℕ) → reads_here x r (child_or_absent ts (i + 1)) ≡ reads_next x r ts i
-read_next x r ts i = ap (λ k. reads_here x r (child_or_absent ts k)) (add-one i)
+pub read_next : (x : Name) (r : Tree) (ts : Trees) (i : ℕ) → takes x r (child_or_absent ts (i + 1)) ≡ reads_next x r ts i
+read_next x r ts i = ap (λ k. takes x r (child_or_absent ts k)) (add-one i)
 
 pub single_by : (W : Liberties) (o : Tree) (ts : Trees) (i : ℕ) (statement l : Tree) (n : ℕ) (free r : Bool) → statement ≡ child_or_absent ts i → may_declare o statement ≡ true → l ≡ part statement 0 → n ≡ last_place (children l) → free ≡ is_lexical_shape (shape_of statement) → r ≡ is_single_declarator free W l n o ts i → r ≡ is_single W o ts i
 single_by W o ts i statement l n free r s e f g z h =
@@ -496,8 +496,7 @@ within_there (t ▸ ts) d e us = let within = within_there ts d e us in omega (a
 -- ---- what is written is what the row says
 
 record Once (x : Name) (init : Tree) (ds : Trees) (j : ℕ) (ts : Trees) (i : ℕ) : Type 0 where
-  once : reads_head x (child_or_absent ts (suc i)) ≡ true
-  passed : are_passed x init (evaluated (child_or_absent ts (suc i))) ≡ true
+  taken : takes x init (child_or_absent ts (suc i)) ≡ true
   initial : names x init ≡ false
   declared_earlier : any_names x (first_children j ds) ≡ false
   earlier : any_names x (first_children i ts) ≡ false
@@ -515,8 +514,7 @@ read_once x init ds j ts i e =
     let (r, s) = and_parts (not (is_declared_over x init ds j)) (not (is_mentioned_around x ts i)) q in
     let (t, u) = neither (names x init) (any_names x (first_children j ds)) r in
     let (w, v) = neither (any_names x (rest_children (suc (suc i)) ts)) (any_names x (first_children i ts)) s in
-    let (f, g) = and_parts (reads_head x (child_or_absent ts (suc i))) (are_passed x init (evaluated (child_or_absent ts (suc i)))) p in
-    record { once = f; passed = g; initial = t; declared_earlier = u; earlier = v; later = w }
+    record { taken = p; initial = t; declared_earlier = u; earlier = v; later = w }
 
 abbrev pub block_single : Tree → ℕ → ℕ → Tree
 block_single t i j = with_part t 0 (list_single (part t 0) i j)
@@ -615,8 +613,7 @@ module _ (t : Tree) (i : ℕ) (b : is_block t ≡ true) (next : suc i < count (c
     head = head;
     after = after;
     moves = tests.2;
-    once = reading.once;
-    passed = reading.passed;
+    taken = reading.taken;
     earlier = reading.earlier;
     declared_earlier = reading.declared_earlier;
     initial = reading.initial;
@@ -653,7 +650,7 @@ module _ (W : Liberties) (t w : Tree) (r : Row71 W t w) where
   once_is =
       let y = named in
       let all = λ (a b c d f : Bool). a && (not (b || c) && not (d || f)) in
-      let head_there = ap (reads_here y r.init) (next_there r.before stated r.head r.after) ∙ and_both (reads_head y r.head) (are_passed y r.init (evaluated r.head)) r.once r.passed in
+      let head_there = ap (takes y r.init) (next_there r.before stated r.head r.after) ∙ r.taken in
       let first_ds = ap (any_names y) (there_first r.first declared none) ∙ r.declared_earlier in
       let first_ts = ap (any_names y) (there_first r.before stated (r.head ▸ r.after)) ∙ r.earlier in
       let rest_ts = ap (any_names y) (rest_there r.before stated r.head r.after) ∙ r.later in

@@ -13,7 +13,7 @@ use Rattle.mini_laws.specs.ScopeList.{has_eval, any_has_eval, is_eval, is_eval_c
 use Rattle.mini_node.specs.Children.{names_of, part, with_child, with_part, without, is_bare, is_nameless}
 use Rattle.mini_node.specs.Kinds.{is_listed}
 use Rattle.mini_rows.specs.Lists.{declaration, Each, EachIn, EachOf, each_loop}
-use Rattle.mini_rows.specs.Unused.{is_short, can_be_full, in_full, may_hold, is_idle, any_names, names, begins, goes_on, may_go_on, has_branches, leads, holds_list, is_childless, is_first, leads_to, put_first, put_among, is_reached, passes_at, is_called_by_value, suits, are_passed, are_passed_in, all_passed, is_head_shape, reads_first, reads_head, evaluated, may_move, gathered_below}
+use Rattle.mini_rows.specs.Unused.{is_short, can_be_full, in_full, may_hold, is_idle, any_names, names, begins, goes_on, may_go_on, has_branches, leads, holds_list, is_childless, is_first, leads_to, put_first, put_among, is_reached, passes_at, is_called_by_value, suits, are_passed, are_passed_in, all_passed, is_head_shape, reads_first, reads_head, evaluated, reads_hidden, evaluated_hidden, takes, may_move, gathered_below}
 use Rattle.mini_unused.specs.RemoveUnusedDeclaration.{declares_list, may_declare, declares_name, may_lose, is_free_at, is_unused_declarator, list_at, statement_left, let_left}
 use Rattle.mini_rows.specs.declared.gathered.Gathered.{Gathered}
 use Rattle.mini_rows.specs.declared.gathered.Gathered.TheVariants.{Values as OfValues}
@@ -21,6 +21,7 @@ use Rattle.mini_rows.specs.Declarations.{declarator}
 use Rattle.mini_unused.specs.SubstituteNext.{reads_then, put_named, is_declarator, is_mentioned_beside, is_mentioned_elsewhere, is_read_then, declarators_next, NextGone}
 use Rattle.mini_unused.specs.SubstituteSingleUse.{declaration_left, last_place, reads_next, is_declared_over, is_mentioned_around, is_read_once, NameGone, ReadGone, Gone}
 use Rattle.mini_rows.proofs.ListKeptHeads.{Seat, Loop, Choice, seated}
+use Rattle.mini_rows.proofs.HiddenHeads.{for_initial, Hidden, hidden, Taken, taken}
 use Rattle.mini_rows.proofs.SingleUse.{Initial, as_initial, Heads, heads, mentioned}
 use Rattle.mini_rows.specs.Switches.{Liberties}
 use Rattle.mini_unused.proofs.NextUses.{found, next_child_left}
@@ -313,8 +314,24 @@ put_along_head x r t f p e g = by (heads x t f)
     by (inr (inr (inr (inl i)))) = ap has_eval (i.puts r) ∙ put_over i.kind i.left i.body i.value (put_first x r i.value) (put_there x false r i.value i.once (sym (ap (suits_along x r) i.evaluates) ∙ p) e) (sym (ap has_eval i.is) ∙ g)
     by (inr (inr (inl i))) = ap has_eval (i.puts r) ∙ put_outside i.seat i.value (put_first x r i.value) (put_there x false r i.value i.once (seated_along x r i.seat i.value (mentioned x false i.value i.once) (sym (ap (suits_along x r) (i.evaluates ∙ i.is)) ∙ p)) e) (sym (ap has_eval i.is) ∙ g)
 
-put_there_head : (x : Name) (r t : Tree) → reads_head x t ≡ true → are_passed x r (evaluated t) ≡ true → has_eval r ≡ false → has_eval t ≡ false → has_eval (put_first x r t) ≡ false
-put_there_head x r t f p e g = put_along_head x r t f (passed_along x OfValues r (evaluated t) p) e g
+-- in a loop that hides its names first
+put_hidden_head : (x : Name) (r t : Tree) → reads_hidden x t ≡ true → suits_along x r (evaluated_hidden t) ≡ true → has_eval r ≡ false → has_eval t ≡ false → has_eval (put_first x r t) ≡ false
+put_hidden_head x r t f p e g = by (hidden x t f)
+  where
+    by : Hidden x t → has_eval (put_first x r t) ≡ false
+    by (inl i) =
+        let d = for_initial x t i in
+        let these = declaration i.kind (declarator i.binds i.value ▸ i.last) in
+        let there = put_in_initial x r these d (sym (ap (suits_along x r) i.evaluates) ∙ p) e in
+        ap has_eval (i.puts r) ∙ put_outside (Loop i.test i.update i.body) these (declaration i.kind (declarator i.binds (put_first x r i.value) ▸ i.last)) (λ h. sym (ap has_eval (d.puts r)) ∙ there h) (sym (ap has_eval i.is) ∙ g)
+    by (inr i) = ap has_eval (i.puts r) ∙ put_over i.kind i.left i.body i.value (put_first x r i.value) (put_there x false r i.value i.once (sym (ap (suits_along x r) i.evaluates) ∙ p) e) (sym (ap has_eval i.is) ∙ g)
+
+put_there_head : (x : Name) (r t : Tree) → takes x r t ≡ true → has_eval r ≡ false → has_eval t ≡ false → has_eval (put_first x r t) ≡ false
+put_there_head x r t f e g = by (taken x r t f)
+  where
+    by : Taken x r t → has_eval (put_first x r t) ≡ false
+    by (inl (o, p)) = put_along_head x r t o (passed_along x OfValues r (evaluated t) p) e g
+    by (inr (c, (o, p))) = put_hidden_head x r t o (passed_along x OfValues r (evaluated_hidden t) p) e g
 
 -- ---- a declaration whose declarator has another tree in what it reads first
 
@@ -362,8 +379,7 @@ once_put (x ∷ xs) o init ds j ts i e f g =
     let head = child_or_absent ts (suc i) in
     let (a, p) = and_parts (not (names x o)) (reads_next x init ts i && (not (is_declared_over x init ds j) && not (is_mentioned_around x ts i))) e in
     let read = (and_parts (reads_next x init ts i) (not (is_declared_over x init ds j) && not (is_mentioned_around x ts i)) p).0 in
-    let (reads, passed) = and_parts (reads_head x head) (are_passed x init (evaluated head)) read in
-    put_there_head x init head reads passed f g
+    put_there_head x init head read f g
 
 then_put : (xs : List Name) (d e o : Tree) (ds : Trees) (j : ℕ) (ts : Trees) (i : ℕ) → is_read_then xs d e o ds j ts i ≡ true → has_eval (part d 1) ≡ false → has_eval (part e 1) ≡ false → has_eval (put_named xs (part d 1) (part e 1)) ≡ false
 then_put [] d e o ds j ts i h f g = absurd (true≢false (sym h))

@@ -5,10 +5,6 @@ use Rattle.std.proofs.lemmas.Bool.{and_parts}
 use Rattle.mini_model.specs.declared.kind.VariableDeclarationKind.{VariableDeclarationKind}
 use Rattle.mini_model.specs.declared.name.Name.{Name}
 use Rattle.mini_model.specs.declared.name.SymbolId.{SymbolId}
-use Rattle.mini_model.specs.declared.place.Position.{Position}
-use Rattle.mini_model.specs.declared.place.Position.TheVariants.{Expr, Stmt, Method, Elsewhere}
-use Rattle.mini_model.specs.declared.seat.Seat.{Seat}
-use Rattle.mini_model.specs.declared.seat.StmtSeat.{StmtSeat}
 use Rattle.mini_model.specs.declared.shape.Shape.TheVariants as shape
 use Rattle.mini_model.specs.Tree.{Tree, Trees, node, none, ◌▸◌, absent, listed, shape_of, children, count, child_or_absent, empty_statement, expression_statement}
 use Rattle.mini_model.specs.Paths.{append}
@@ -22,7 +18,7 @@ use Rattle.mini_rows.specs.Declarations.{binding, declarator}
 use Rattle.mini_rows.specs.Inside.{declares_var}
 use Rattle.mini_rows.specs.Unused.{resolved, declared_among, declared_left, names, any_names, is_idle, lets_go, Alone, Row72, Row72Idle, Row71, Row71Next, BlockRow}
 use Rattle.mini_rows.specs.Switches.{Liberties}
-use Rattle.mini_unused.specs.RemoveUnusedDeclaration.{is_resolved_binding, is_declarator_shape, declares_name, is_lexical_shape, declares_list, is_var, may_declare, shows_vars, open_in, may_write, may_write_in, may_lose, is_free_at, may_go, is_alone, is_unused_declarator, list_at, is_unused, UnusedIn, UnusedOf, UnusedAt, let_left, statement_left, list_left, Applied}
+use Rattle.mini_unused.specs.RemoveUnusedDeclaration.{is_resolved_binding, is_declarator_shape, declares_name, is_lexical_shape, declares_list, is_var, may_declare, shows_vars, open_in, may_write, may_write_in, may_lose, is_free_at, may_go, is_alone, is_unused_declarator, list_at, is_unused, UnusedIn, UnusedOf, UnusedAt, let_left, statement_left, list_left}
 
 -- ---- children
 
@@ -428,13 +424,6 @@ all_used W t f r = true≢false (sym (unused_there W t r) ∙ f (count r.before)
 
 pub seen_by_eval : (W : Liberties) (t : Tree) → has_eval t ≡ true → (w : Tree) → BlockRow W t w → ⊥
 seen_by_eval W t e = no_row W t (λ r. true≢false (sym e ∙ ap has_eval r.shape ∙ r.unused.unseen)) (λ w r. true≢false (sym e ∙ ap has_eval r.shape ∙ r.unseen)) (λ w r. true≢false (sym e ∙ ap has_eval r.shape ∙ r.unseen))
-
-pub elsewhere : (W : Liberties) (p : Position) (t : Tree) → ((q : StmtSeat) → p ≡ Stmt q → ⊥) → ((s : Seat) → p ≡ Expr s → ⊥) → (p ≡ Method → ⊥) → (p ≡ Elsewhere → ⊥) → Applied W p t t false
-elsewhere W (Stmt q) t f g h i = absurd (f q refl)
-elsewhere W (Expr s) t f g h i = absurd (g s refl)
-elsewhere W Method t f g h i = absurd (h refl)
-elsewhere W Elsewhere t f g h i = absurd (i refl)
-elsewhere W p t f g h i = (refl, λ w r. absurd r)
 
 -- ---- the first one
 

@@ -8,5 +8,4 @@ pub mod RemoveUnusedName
 pub mod SubstituteCatchClause
 pub mod Tallies
 pub mod Sweep
-pub mod Further
 pub mod Calls

@@ -12,7 +12,7 @@ use Rattle.mini_terms.specs.Folds.{is_effect_free}
 use Rattle.mini_rows.specs.SpellKeys.{is_proto}
 use Rattle.mini_rows.specs.declared.gathered.Gathered.{Gathered}
 use Rattle.mini_rows.specs.Switches.{Liberties}
-use Rattle.mini_rows.specs.Unused.{names, any_names, leads, in_full, may_hold, is_constant, is_head_shape, may_move, passes_at, is_sure, is_placed, suits, are_passed, reads_head, evaluated}
+use Rattle.mini_rows.specs.Unused.{names, any_names, leads, in_full, may_hold, is_constant, is_head_shape, may_move, passes_at, is_sure, is_placed, suits, takes}
 use Rattle.mini_unused.specs.Chains.{Several}
 use Rattle.mini_unused.specs.SubstituteNext.{put_named, NextAt, NextGone}
 use Rattle.mini_unused.specs.RemoveUnusedDeclaration.{declares_name, may_declare, may_lose, is_free_at, list_at, let_left, list_left, UnusedAt}
@@ -67,13 +67,9 @@ is_declared_over x init ds j = names x init || any_names x (first_children j ds)
 abbrev pub is_mentioned_around : Name → Trees → ℕ → Bool
 is_mentioned_around x ts i = any_names x (rest_children (suc (suc i)) ts) || any_names x (first_children i ts)
 
--- a head reads it, after parts that pass the initializer r
-abbrev pub reads_here : Name → Tree → Tree → Bool
-reads_here x r t = reads_head x t && are_passed x r (evaluated t)
-
--- so does the next statement
+-- the next statement reads it, after parts that pass the initializer r, and takes that
 abbrev pub reads_next : Name → Tree → Trees → ℕ → Bool
-reads_next x r ts i = reads_here x r (child_or_absent ts (suc i))
+reads_next x r ts i = takes x r (child_or_absent ts (suc i))
 
 -- the next statement reads the name, and no name like it stands elsewhere in the statements
 abbrev pub is_read_inside : Name → Tree → Trees → ℕ → Trees → ℕ → Bool

@@ -4,7 +4,7 @@ use Rattle.mini_model.specs.declared.name.Name.{Name}
 use Rattle.mini_model.specs.declared.name.SymbolId.{SymbolId}
 use Rattle.mini_model.specs.Tree.{Tree, Trees, node, none, ◌▸◌}
 use Rattle.mini_unused.specs.SubstituteNext.{reads_in}
-use Rattle.mini_unused.specs.SubstituteSingleUse.{reads_here}
+use Rattle.mini_rows.specs.Unused.{takes}
 use Rattle.mini_unused.specs.declared.tallies.Tallies.{Tallies}
 
 abbrev pub hash_from : ℕ → List ℕ → ℕ
@@ -71,7 +71,7 @@ AreRare c xs k = ⊥
 -- and a statement reads it, with its spelling, after parts that pass the initializer: so it and its declaration are the only ones in its
 -- buckets
 abbrev pub AreRead : Tallies → List Name → Tree → Tree → Type 0
-AreRead c (x ∷ []) r t = IsRare c x 2 × (reads_here x r t ≡ true) × (1 ≤ tally (bucket false (length c.by_spelling.items)) (bucket false (length c.by_spelling.items) x) t)
+AreRead c (x ∷ []) r t = IsRare c x 2 × (takes x r t ≡ true) × (1 ≤ tally (bucket false (length c.by_spelling.items)) (bucket false (length c.by_spelling.items) x) t)
 AreRead c xs r t = ⊥
 
 -- or an initializer does

@@ -883,11 +883,91 @@ pub fn evaluated(node: &Node) -> &Node
     }
 }
 
-// A head reads it, after parts that pass the initializer.
-fn reads_here(name: &Name, init: &Node, node: &Node) -> bool
-    ensures { result ≡ row.reads_here name.now init.now node.now }
+// A `for` that begins with a `let` or a `const`, with a first declarator.
+fn begins_let(node: &Node) -> bool
+    ensures value { result ≡ reading.begins_let node.now }
+    ensures begins { result ≡ true → 0 < count (children node.now) }
+    ensures list { result ≡ true → 0 < count (children (part node.now 0)) }
+    ensures some { result ≡ true → 0 < count (children (part (part node.now 0) 0)) }
+    ensures parts { result ≡ true → 1 < count (children (part (part (part node.now 0) 0) 0)) }
 {
-    reads_head(name, node) && are_passed(name, init, evaluated(node))
+    matches!(node.shape(), Shape::ForStatement)
+        && node.is_bare(4)
+        && is_lexical(node.child(0).shape())
+        && has_declarator(node.child(0))
+}
+
+// It reads the variable in that declarator.
+fn reads_let(name: &Name, node: &Node) -> bool
+    ensures { result ≡ reading.reads_let name.now node.now }
+{
+    begins_let(node)
+        && reads_initially(name, node.child(0))
+        && !is_mentioned_from(name, node.children(), 1)
+}
+
+// `for (let l in e) ..` and `for (const l of e) ..`.
+fn goes_over_let(node: &Node) -> bool
+    ensures value { result ≡ reading.goes_over_let node.now }
+    ensures parts { result ≡ true → count (children node.now) ≡ 3 }
+{
+    matches!(node.shape(), Shape::ForInStatement | Shape::ForOfStatement)
+        && node.is_bare(3)
+        && is_lexical(node.child(0).shape())
+}
+
+// It reads the variable in its right side.
+fn reads_over_let(name: &Name, node: &Node) -> bool
+    ensures { result ≡ reading.reads_over_let name.now node.now }
+{
+    goes_over_let(node)
+        && is_first(name, false, node.child(1))
+        && !is_mentioned(name, node.child(0))
+        && !is_mentioned_from(name, node.children(), 2)
+}
+
+// A loop that hides its names first reads it.
+fn reads_hidden(name: &Name, node: &Node) -> bool
+    ensures { result ≡ reading.reads_hidden name.now node.now }
+{
+    reads_let(name, node) || reads_over_let(name, node)
+}
+
+/// What such a loop evaluates before all else.
+pub fn evaluated_hidden(node: &Node) -> &Node
+    ensures { result.now ≡ reading.evaluated_hidden node.now }
+{
+    if begins_let(node) {
+        first_value(node.child(0))
+    } else if goes_over_let(node) {
+        node.child(1)
+    } else {
+        node
+    }
+}
+
+// A number, a text, a boolean or null, and nothing in it.
+fn is_literal(node: &Node) -> bool
+    ensures { result ≡ reading.is_literal node.now }
+{
+    is_written_value(node.shape()) && node.is_bare(0)
+}
+
+// A constant with nothing else in it.
+fn is_closed(node: &Node) -> bool
+    ensures { result ≡ reading.is_closed node.now }
+{
+    is_literal(node)
+        || (is_value_operator(node.shape()) && (node.is_bare(1) && is_literal(node.child(0))))
+}
+
+// A head reads it, after parts that pass the initializer, and takes that: a loop that hides its names first takes a constant alone.
+fn takes(name: &Name, init: &Node, node: &Node) -> bool
+    ensures { result ≡ reading.takes name.now init.now node.now }
+{
+    (reads_head(name, node) && are_passed(name, init, evaluated(node)))
+        || (is_closed(init)
+            && (reads_hidden(name, node) && are_passed(name, init, evaluated_hidden(node))))
 }
 
 /// So does the statement after the place.
@@ -897,7 +977,7 @@ pub fn reads_next(name: &Name, init: &Node, statements: &Nodes, at: usize) -> bo
     requires fits { at + 1 < 2 ^ 64 }
     ensures { result ≡ row.reads_next name.now init.now statements.now at }
 {
-    reads_here(name, init, statements.child(at + 1))
+    takes(name, init, statements.child(at + 1))
 }
 
 // The next statement reads the name first, and nothing else in the statements mentions it.

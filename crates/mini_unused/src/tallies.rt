@@ -7,7 +7,7 @@ ghost use Rattle.mini_node.specs.Children.{names};
 ghost use Rattle.mini_unused.specs.Tallies.{hash_of, number_of, bucket, one_if, own_tally, tally, tallies, Counted, Covers, Tallied, HasFew, IsRare, AreRare, AreRead, AreReadIn};
 
 use crate::mentions::is_same_text;
-use crate::single_uses::{evaluated, reads_in, reads_next};
+use crate::single_uses::{evaluated, evaluated_hidden, reads_in, reads_next};
 use mini_model::{Name, OutOfMemory, SymbolId, Text};
 use mini_node::{Node, Nodes};
 use std::alloc::Global;
@@ -155,12 +155,12 @@ fn is_spelled_first(name: &Name, node: &Node) -> bool
     is_spelled_first(name, node.child(0))
 }
 
-// So does what a head evaluates.
+// So does what a head evaluates, or a loop that hides its names first.
 #[tactic(auto, using(crate::proofs::Rare::head_spelled))]
 fn is_spelled_in_head(name: &Name, node: &Node) -> bool
     ensures { result ≡ true → (r : ℕ) → 1 ≤ tally (bucket false r) (bucket false r name.now) node.now }
 {
-    is_spelled_first(name, evaluated(node))
+    is_spelled_first(name, evaluated(evaluated_hidden(node)))
 }
 
 /// The statement after the place reads a name, after parts that pass the initializer, and the two are the only ones in its buckets.

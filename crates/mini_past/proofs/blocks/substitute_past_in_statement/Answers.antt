@@ -1,7 +1,7 @@
 use Rattle.std.proofs.Common.{sym}
 use Rattle.mini_steady.specs.Declarations.{known_of}
 use Rattle.mini_unused.specs.Allowed.{switches_of}
-use Rattle.mini_unused.proofs.Holders.{where_ok}
+use Rattle.mini_inside.proofs.Holders.{where_ok}
 use Rattle.mini_past.proofs.InStatements.{of_for, of_switch, of_other}
 use Rattle.mini_past.specs.PastInBlocks.{AppliedPastHead, AppliedPastStatement}
 use Rattle.mini_past.proofs.blocks.substitute_past_in_statement.Goals as goal

@@ -5,8 +5,8 @@ use Rattle.mini_node.specs.Kinds.{is_listed}
 use Rattle.mini_rows.specs.Switches.{without_vars}
 use Rattle.mini_steady.specs.Declarations.{known_of}
 use Rattle.mini_unused.specs.Allowed.{switches_of}
-use Rattle.mini_unused.specs.RemoveUnusedDeclaration.{case_at, with_statements}
-use Rattle.mini_unused.proofs.Switches.{has_list, still_cases, still_case, still_list, put_again}
+use Rattle.mini_inside.specs.Holding.{case_at, with_statements}
+use Rattle.mini_inside.proofs.Switches.{has_list, still_cases, still_case, still_list, put_again}
 use Rattle.mini_past.specs.SubstitutePast.{PastRemoved}
 use Rattle.mini_past.proofs.InCases.{in_case, no_case}
 use Rattle.mini_past.proofs.cases.substitute_past_in_case.Goals as goal

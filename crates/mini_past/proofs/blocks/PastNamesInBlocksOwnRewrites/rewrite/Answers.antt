@@ -2,7 +2,7 @@ use Rattle.mini_steady.specs.Declarations.{known_of}
 use Rattle.mini_unused.specs.Allowed.{switches_of}
 use Rattle.mini_steady.specs.Own.{AppliedHere}
 use Rattle.mini_rows.specs.PastBlocks.{PastBlocks}
-use Rattle.mini_unused.proofs.Holders.{where_ok}
+use Rattle.mini_inside.proofs.Holders.{where_ok}
 use Rattle.mini_past.proofs.InBlocks.{elsewhere_applied}
 use Rattle.mini_past.proofs.InStatements.{here_applied}
 use Rattle.mini_past.specs.PastInBlocks.{AppliedPastStatement}

@@ -1,8 +1,8 @@
 use Rattle.std.proofs.Common.{sym, subst}
 use Rattle.mini_model.specs.Tree.{children}
 use Rattle.mini_rows.specs.PastInside.{past_ends}
-use Rattle.mini_unused.specs.Further.{HereWalked}
-use Rattle.mini_unused.proofs.Holders.{where_ok}
+use Rattle.mini_inside.proofs.Holders.{where_ok}
+use Rattle.mini_inside.specs.Further.{HereWalked}
 use Rattle.mini_past.specs.PastEnds.{OneWalked}
 use Rattle.mini_past.proofs.inside.PastEndsEndRewrites.rewrite_end.Goals as goal
 

@@ -2,8 +2,8 @@ use Rattle.std.proofs.Common.{subst₂}
 use Rattle.mini_rows.specs.PastInside.{PastInside, past_ends}
 use Rattle.mini_tree.specs.Context.{ByKnown}
 use Rattle.mini_tree.specs.Rule.{Applied}
-use Rattle.mini_unused.specs.Further.{AppliedAt}
-use Rattle.mini_unused.proofs.Holders.{where_ok}
+use Rattle.mini_inside.proofs.Holders.{where_ok}
+use Rattle.mini_inside.specs.Further.{AppliedAt}
 use Rattle.mini_past.specs.PastEnds.{RestsPastInside}
 use Rattle.mini_past.proofs.inside.SubstitutePastInsideRule.apply.Goals as goal
 

@@ -1,0 +1,12 @@
+pub mod Moves
+pub mod Lists
+pub mod Holders
+pub mod Switches
+pub mod Heads
+pub mod FurtherPlaces
+pub mod FurtherVars
+pub mod FurtherSteps
+pub mod FurtherWalks
+pub mod FurtherBodies
+pub mod FurtherHolders
+pub mod FurtherStack

@@ -1,0 +1,3 @@
+pub mod Holding
+pub mod Lighter
+pub mod Further
