@@ -19,7 +19,7 @@ use Rattle.mini_node.specs.Walks.{next_child}
 use Rattle.mini_terms.specs.Folds.{is_effect_free}
 use Rattle.mini_rows.specs.Lists.{block, declaration}
 use Rattle.mini_rows.specs.Declarations.{binding, declarator}
-use Rattle.mini_rows.specs.Unused.{resolved, declared_among, declared_left, names, any_names, is_own_key, is_short, in_full, may_hold, is_reached, leads, has_arguments, holds_list, is_childless, is_written_value, is_value_operator, is_constant, reads, is_first, leads_to, put_first, put_among, passes_branch, passes_at, is_sure, is_placed, begins_bare, suits, are_passed_in, are_passed, all_passed, is_head_shape, reads_first, takes, may_move, lets_go, Row71, passes, passes_item, gathered_by, gathered_below}
+use Rattle.mini_rows.specs.Unused.{resolved, declared_among, declared_left, names, any_names, is_own_key, is_short, in_full, may_hold, is_reached, leads, has_arguments, holds_list, is_childless, is_written_value, is_value_operator, is_constant, reads, is_first, leads_to, put_first, put_among, passes_branch, passes_at, is_sure, is_placed, begins_bare, suits, are_passed_in, all_passed, is_head_shape, reads_first, takes, may_move, lets_go, Row71, passes, passes_item, gathered_by, gathered_below}
 use Rattle.mini_unused.specs.RemoveUnusedDeclaration.{declares_name, is_lexical_shape, declares_list, may_declare, may_lose, is_free_at, list_at}
 use Rattle.mini_rows.specs.declared.gathered.Gathered.{Gathered}
 use Rattle.mini_rows.specs.declared.gathered.Gathered.TheVariants.{Values as OfValues}

@@ -1,8 +1,8 @@
 -- Names that go from a list one after another.
-use Rattle.std.proofs.Common.{◌≡◌, ℕ, suc, ◌+◌, ◌<◌, Bool, true, false, [], ◌∷◌, sym, ap, ◌∙◌, subst, inl, inr, add-one, arith}
-use Rattle.std.specs.Prelude.{◌&&◌, ◌||◌, Some, Result, Ok, Err, OnOk}
+use Rattle.std.proofs.Common.{◌≡◌, ℕ, zero, suc, ◌+◌, ◌<◌, Bool, true, false, [], ◌∷◌, refl, sym, ap, ◌∙◌, subst, inl, inr, add-one, arith}
+use Rattle.std.specs.Prelude.{◌≤◌, ◌&&◌, ◌||◌, if◌then◌else◌, Some, Result, Ok, Err, OnOk}
 use Rattle.std.proofs.lemmas.Bool.{and_parts}
-use Rattle.mini_model.specs.Tree.{Tree, Trees, listed, shape_of, children, count, child_or_absent}
+use Rattle.mini_model.specs.Tree.{Tree, Trees, node, none, ◌▸◌, absent, listed, shape_of, children, count, child_or_absent}
 use Rattle.mini_laws.specs.ScopeList.{has_eval}
 use Rattle.mini_node.specs.Children.{names_of, part}
 use Rattle.mini_rows.specs.Unused.{resolved, may_move}
@@ -11,7 +11,7 @@ use Rattle.mini_unused.specs.Chains.{Chain, still, Several}
 use Rattle.mini_unused.specs.RemoveUnusedDeclaration.{declares_name, may_lose, may_go, is_alone, declares_list, may_declare, is_lexical_shape, is_free_at, is_unused_declarator, list_at, list_left, UnusedOf, UnusedAt}
 use Rattle.mini_unused.specs.SubstituteNext.{is_declarator, is_read_then, is_read_by_next, list_next, NextOf, NextAt}
 use Rattle.mini_unused.specs.SubstituteSingleUse.{is_read_once, is_single_declarator, is_single, last_place, list_single, SingleAt, Gone}
-use Rattle.mini_unused.specs.Sweep.{may_go_at, may_move_at, Calm, Swept}
+use Rattle.mini_unused.specs.Sweep.{declarators_of, may_go_at, may_move_at, Calm, Swept}
 use Rattle.mini_unused.specs.Tallies.{Tallied, AreRare, AreRead, AreReadIn}
 use Rattle.mini_unused.specs.declared.tallies.Tallies.{Tallies}
 use Rattle.mini_unused.proofs.Chains.{chain_joined, chain_once}
@@ -143,3 +143,17 @@ some_gone W o l k m g s = record { next = k; first = g; others = s }
 pub on_ok : {A E : Type 0} (r : Result A E) (P Q : Type 0) → (P → Q) → OnOk r P → OnOk r Q
 on_ok (Ok a) P Q f p = f p
 on_ok (Err e) P Q f p = p
+
+-- ---- how many declarators a statement has
+
+none_there : (ts : Trees) (i : ℕ) → count ts ≤ i → child_or_absent ts i ≡ absent
+none_there none i h = refl
+none_there (t ▸ ts) zero h = absurd (omega (arith, h))
+none_there (t ▸ ts) (suc i) h = none_there ts i (omega (arith, h))
+
+-- none behind the last
+pub none_behind : (l : Tree) (i : ℕ) → count (children l) ≤ i → declarators_of (part l i) ≡ 0
+none_behind (node h xs n ts) i e = ap declarators_of (none_there ts i e)
+
+pub no_declarators : (t : Tree) → declares_list t ≡ false → declarators_of t ≡ 0
+no_declarators t e = ap (λ b. if b then count (children (part t 0)) else 0) e

@@ -6,7 +6,6 @@ use Rattle.mini_model.specs.declared.name.SymbolId.{SymbolId}
 use Rattle.mini_model.specs.declared.shape.Shape.{Shape}
 use Rattle.mini_model.specs.declared.shape.Shape.TheVariants as shape
 use Rattle.mini_model.specs.Tree.{Tree, Trees, shape_of, count, child_or_absent, empty_statement, expression_statement, children}
-use Rattle.mini_laws.specs.Naming.{is_lexical}
 use Rattle.mini_laws.specs.Value.{Declared}
 use Rattle.mini_node.specs.Children.{names_of, like, part, with_part, without, is_bare, first_children, rest_children}
 use Rattle.mini_node.specs.Kinds.{is_listed_shape, is_named_leaf}

@@ -3,6 +3,7 @@ use Rattle.std.specs.Prelude.{ℕ, ◌+◌, ◌*◌, ◌%◌, ◌<◌, ◌≤◌
 use Rattle.mini_model.specs.declared.name.Name.{Name}
 use Rattle.mini_model.specs.declared.name.SymbolId.{SymbolId}
 use Rattle.mini_model.specs.Tree.{Tree, Trees, node, none, ◌▸◌}
+use Rattle.mini_model.specs.Weight.{same_text}
 use Rattle.mini_unused.specs.SubstituteNext.{reads_in}
 use Rattle.mini_rows.specs.Unused.{takes}
 use Rattle.mini_unused.specs.declared.tallies.Tallies.{Tallies}
@@ -67,6 +68,16 @@ pub record IsRare (c : Tallies) (x : Name) (k : ℕ) : Type 0 where
 abbrev pub AreRare : Tallies → List Name → ℕ → Type 0
 AreRare c (x ∷ []) k = IsRare c x k
 AreRare c xs k = ⊥
+
+-- the first of some names has the spelling of this one
+abbrev pub is_spelled : Name → List Name → Bool
+is_spelled x [] = false
+is_spelled x (y ∷ ys) = same_text x.spelling y.spelling
+
+-- so has what stands at the end of the path of first parts
+abbrev pub is_spelled_first : Name → Tree → Bool
+is_spelled_first x (node h ys n none) = is_spelled x ys
+is_spelled_first x (node h ys n (t ▸ ts)) = is_spelled_first x t
 
 -- and a statement reads it, with its spelling, after parts that pass the initializer: so it and its declaration are the only ones in its
 -- buckets

@@ -8,9 +8,12 @@ mod catches;
 mod declarations;
 mod declares;
 mod evals;
+mod first_reads;
+mod heads;
 mod mentions;
 mod names;
 mod next_uses;
+mod passing;
 mod single_uses;
 mod sweeping;
 mod tallies;
@@ -25,14 +28,18 @@ pub use declarations::{
     remove_in_list, take_child, take_declarator, unused_of,
 };
 pub use evals::{either_has_eval, has_eval};
+pub use first_reads::{is_childless, is_first, is_member};
+pub use heads::{evaluated, reads_head};
 pub use mentions::{is_mentioned, is_mentioned_before, is_mentioned_from};
 pub use names::{RemoveUnusedNames, remove_unused_name};
 pub use next_uses::{
     is_declarator, is_mentioned_beside, is_mentioned_elsewhere, next_of, substitute_next,
 };
+pub use passing::{
+    gathered_below, is_constant, is_field, is_plain_assignment, is_word, of_entries, suits,
+};
 pub use single_uses::{
-    evaluated, gathered_below, is_childless, is_constant, is_declared_over, is_field, is_first,
-    is_member, is_mentioned_around, is_plain_assignment, is_word, last_declarator, may_move,
-    of_entries, reads_head, substitute_in_list, substitute_single_uses, suits,
+    is_declared_over, is_mentioned_around, last_declarator, may_move, substitute_in_list,
+    substitute_single_uses,
 };
 pub use sweeping::{declarators_at, has_next};

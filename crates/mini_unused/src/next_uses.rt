@@ -16,7 +16,8 @@ use crate::declarations::{
 };
 use crate::evals::either_has_eval;
 use crate::mentions::{is_mentioned, is_mentioned_before, is_mentioned_from};
-use crate::single_uses::{may_move, put_named, reads_in};
+use crate::passing::reads_in;
+use crate::single_uses::{may_move, put_named};
 use crate::sweeping::sweep;
 use mini_context::TraverseCtx;
 use mini_model::{Name, OutOfMemory, Shape};

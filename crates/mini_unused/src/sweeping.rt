@@ -1,7 +1,7 @@
 //! Where one name has gone from a list of statements, the others are looked for from there on: each declarator once, so that no look
 //! begins anew.
 
-ghost use Rattle.std.specs.Prelude.{◌≡◌, ◌+◌, ◌<◌, ◌^◌, ◌||◌, true, false, Some, OnOk};
+ghost use Rattle.std.specs.Prelude.{◌≡◌, ◌+◌, ◌<◌, ◌^◌, ◌||◌, nat_lt, true, false, Some, OnOk};
 ghost use Rattle.mini_model.specs.Tree.{child_or_absent, children, count, listed};
 ghost use Rattle.mini_laws.specs.ScopeList.{has_eval};
 ghost use Rattle.mini_node.specs.Children.{names_of as names, part};
@@ -10,7 +10,7 @@ ghost use Rattle.mini_unused.specs.Chains.{Chain};
 ghost use Rattle.mini_unused.specs.SubstituteNext.{is_declarator as is_it_declarator, is_read_then as is_it_read_then, NextOf};
 ghost use Rattle.mini_unused.specs.RemoveUnusedDeclaration.{declares_list as it_declares_list, is_alone as is_it_alone, list_at, allowed, open_in, UnusedOf};
 ghost use Rattle.mini_unused.specs.SubstituteSingleUse.{is_read_once as is_it_read_once, is_single as is_it_single, Gone};
-ghost use Rattle.mini_unused.specs.Sweep.{may_go_at, may_move_at, Calm, Swept};
+ghost use Rattle.mini_unused.specs.Sweep.{declarators_of, may_go_at, may_move_at, Calm, Swept};
 ghost use Rattle.mini_unused.specs.Tallies.{Tallied};
 
 use crate::declarations::{
@@ -108,14 +108,18 @@ fn is_unused_there(
 /// A statement comes after the place.
 pub fn has_next(list: &Node, at: usize) -> bool
     requires { at + 1 < 2 ^ 64 }
+    ensures told { result ≡ nat_lt (at + 1) (count (children list.now)) }
     ensures next { result ≡ true → at + 1 < count (children list.now) }
     ensures fits { result ≡ true → at + 2 < 2 ^ 64 }
 {
     at + 1 < list.children().len()
 }
 
-/// How many declarators the statement at the place has.
-pub fn declarators_at(list: &Node, at: usize) -> usize {
+/// How many declarators the statement at the place has, if it is a declaration.
+#[tactic(auto, using(crate::proofs::Swept::no_declarators, crate::proofs::Swept::none_behind))]
+pub fn declarators_at(list: &Node, at: usize) -> usize
+    ensures { result ≡ declarators_of (part list.now at) }
+{
     if at >= list.children().len() {
         return 0;
     }

@@ -4,10 +4,13 @@
 ghost use Rattle.std.specs.Prelude.{◌≡◌, ◌≤◌, ◌<◌, ◌+◌, ◌^◌, ℕ, suc, nat_eq, true, false, length, replicate, IfOk};
 ghost use Rattle.mini_model.specs.Tree.{child_or_absent, count};
 ghost use Rattle.mini_node.specs.Children.{names};
+ghost use Rattle.mini_unused.specs.Tallies as row;
 ghost use Rattle.mini_unused.specs.Tallies.{hash_of, number_of, bucket, one_if, own_tally, tally, tallies, Counted, Covers, Tallied, HasFew, IsRare, AreRare, AreRead, AreReadIn};
 
+use crate::heads::{evaluated, evaluated_hidden};
 use crate::mentions::is_same_text;
-use crate::single_uses::{evaluated, evaluated_hidden, reads_in, reads_next};
+use crate::passing::reads_in;
+use crate::single_uses::reads_next;
 use mini_model::{Name, OutOfMemory, SymbolId, Text};
 use mini_node::{Node, Nodes};
 use std::alloc::Global;
@@ -107,7 +110,8 @@ fn count_all(by_symbol: bool, counts: &mut Vec<u8>, nodes: &Nodes)
 
 // No more than so many are in the name's bucket.
 fn is_few(by_symbol: bool, counts: &Vec<u8>, name: &Name, most: u8) -> bool
-    ensures { result ≡ true → HasFew by_symbol counts.now.items name.now most }
+    ensures few { result ≡ true → HasFew by_symbol counts.now.items name.now most }
+    ensures told { HasFew by_symbol counts.now.items name.now most → result ≡ true }
 {
     let buckets = counts.len();
     if buckets == 0 {
@@ -118,14 +122,16 @@ fn is_few(by_symbol: bool, counts: &Vec<u8>, name: &Name, most: u8) -> bool
 
 /// No more than so many names are in the buckets of this one.
 pub fn is_rare(tallies: &Tallies, name: &Name, most: u8) -> bool
-    ensures { result ≡ true → IsRare tallies.now name.now most }
+    ensures rare { result ≡ true → IsRare tallies.now name.now most }
+    ensures told { IsRare tallies.now name.now most → result ≡ true }
 {
     is_few(true, &tallies.by_symbol, name, most) && is_few(false, &tallies.by_spelling, name, most)
 }
 
 /// The same of a name that is there.
 pub fn has_rare_name(tallies: &Tallies, name: &Option<Name>, most: u8) -> bool
-    ensures { result ≡ true → AreRare tallies.now (names name.now) most }
+    ensures rare { result ≡ true → AreRare tallies.now (names name.now) most }
+    ensures told { AreRare tallies.now (names name.now) most → result ≡ true }
 {
     match name {
         Some(name) => is_rare(tallies, name, most),
@@ -136,7 +142,8 @@ pub fn has_rare_name(tallies: &Tallies, name: &Option<Name>, most: u8) -> bool
 // It has the spelling of the other.
 #[tactic(auto, using(crate::proofs::Rare::text_counted))]
 fn is_spelled(name: &Name, other: &Option<Name>) -> bool
-    ensures { result ≡ true → (r : ℕ) → 1 ≤ own_tally (bucket false r) (bucket false r name.now) (names other.now) }
+    ensures told { result ≡ row.is_spelled name.now (names other.now) }
+    ensures counted { result ≡ true → (r : ℕ) → 1 ≤ own_tally (bucket false r) (bucket false r name.now) (names other.now) }
 {
     match other {
         Some(other) => is_same_text(&name.spelling, &other.spelling),
@@ -145,9 +152,10 @@ fn is_spelled(name: &Name, other: &Option<Name>) -> bool
 }
 
 // What stands first in the node, at the end of the path of first parts, has the spelling.
-#[tactic(auto, using(crate::proofs::SingleUses::part_smaller, crate::proofs::Rare::leaf_spelled, crate::proofs::Rare::part_spelled))]
+#[tactic(auto, using(crate::proofs::SingleUses::part_smaller, crate::proofs::Rare::leaf_spelled, crate::proofs::Rare::part_spelled, crate::proofs::Rare::leaf_first, crate::proofs::Rare::part_first))]
 fn is_spelled_first(name: &Name, node: &Node) -> bool
-    ensures { result ≡ true → (r : ℕ) → 1 ≤ tally (bucket false r) (bucket false r name.now) node.now }
+    ensures told { result ≡ row.is_spelled_first name.now node.now }
+    ensures counted { result ≡ true → (r : ℕ) → 1 ≤ tally (bucket false r) (bucket false r name.now) node.now }
 {
     if node.children().len() == 0 {
         return is_spelled(name, node.name());

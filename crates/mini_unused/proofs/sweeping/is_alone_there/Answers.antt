@@ -9,7 +9,7 @@ pub returns-then-has_rare_name : goal.returns-then-has_rare_name
 returns-then-has_rare_name c = λ e.
     let there = c.child-declarator.ensures.value in
     let named = subst (λ u. declares_name u ≡ true) there (sym c.if-not-declares_name.ensures.kind) in
-    let rare = subst (λ xs. AreRare c.args.tallies.now xs 1) (c.name.ensures ∙ ap names_of (c.child.ensures.value ∙ ap (λ u. part u 0) there)) (c.if-has_rare_name.ensures refl) in
+    let rare = subst (λ xs. AreRare c.args.tallies.now xs 1) (c.name.ensures ∙ ap names_of (c.child.ensures.value ∙ ap (λ u. part u 0) there)) (c.if-has_rare_name.ensures.rare refl) in
     alone_there c.args.tallies.now c.args.outside.now c.args.statements.now c.args.at c.args.which c.requires.statement c.requires.declares c.requires.tallied c.args.list.now c.requires.list c.requires.declarator named rare
 
 pub returns : goal.returns

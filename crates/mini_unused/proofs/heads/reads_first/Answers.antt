@@ -3,7 +3,7 @@ use Rattle.mini_model.specs.Tree.{children, count}
 use Rattle.mini_node.specs.Children.{rest_children}
 use Rattle.mini_rows.specs.Unused.{any_names, is_first}
 use Rattle.mini_unused.proofs.SingleUses.{head_not_read, head_read_by}
-use Rattle.mini_unused.proofs.single_uses.reads_first.Goals as goal
+use Rattle.mini_unused.proofs.heads.reads_first.Goals as goal
 
 pub returns-then-not-is_first : goal.returns-then-not-is_first
 returns-then-not-is_first c =

@@ -1,7 +1,7 @@
 use Rattle.std.proofs.Common.{◌∙◌, sym, arith}
 use Rattle.mini_unused.proofs.SingleUses.{place_start, place_found, place_end}
 use Rattle.mini_unused.proofs.Standing.{before_step}
-use Rattle.mini_unused.proofs.single_uses.mention_place.Goals as goal
+use Rattle.mini_unused.proofs.first_reads.mention_place.Goals as goal
 
 pub loop-at-init : goal.loop-at-init
 loop-at-init c = place_start c.args.name.now c.args.nodes.now

@@ -1,6 +1,6 @@
 use Rattle.std.proofs.Common.{sym, arith}
 use Rattle.mini_unused.proofs.SingleUses.{all_start, all_step, all_stopped}
-use Rattle.mini_unused.proofs.single_uses.all_pass.Goals as goal
+use Rattle.mini_unused.proofs.passing.all_pass.Goals as goal
 
 pub loop-at-init : goal.loop-at-init
 loop-at-init c = all_start c.args.gathered c.args.init.now c.args.shape.now c.args.nodes.now

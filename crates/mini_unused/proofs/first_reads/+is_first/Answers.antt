@@ -4,7 +4,7 @@ use Rattle.mini_node.specs.Children.{rest_children}
 use Rattle.mini_rows.specs.Unused.{any_names, is_first, holds_list}
 use Rattle.mini_unused.specs.SubstituteSingleUse.{mention_place}
 use Rattle.mini_unused.proofs.SingleUses.{not_mentioned, not_begun, not_read, read_by}
-use Rattle.mini_unused.proofs.single_uses.+is_first.Goals as goal
+use Rattle.mini_unused.proofs.first_reads.+is_first.Goals as goal
 
 pub returns-then-at-len : goal.returns-then-at-len
 returns-then-at-len t c =

@@ -3,7 +3,7 @@ use Rattle.mini_model.specs.Tree.{count}
 use Rattle.mini_rows.specs.Unused.{gathered_below, are_passed_in}
 use Rattle.mini_unused.specs.SubstituteSingleUse.{mention_place}
 use Rattle.mini_unused.proofs.SingleUses.{passed_none, passed_all, passed_below}
-use Rattle.mini_unused.proofs.single_uses.+are_passed_in.Goals as goal
+use Rattle.mini_unused.proofs.passing.+are_passed_in.Goals as goal
 
 pub returns-then-not-may_reach : goal.returns-then-not-may_reach
 returns-then-not-may_reach t c =
