@@ -49,7 +49,7 @@ module _ (D : VariableSet) (R : Position → Tree → Tree → Type 0) (k : Keep
   reaches_fixed (more p t u v s r) x d = step_fixed s x d ∙ reaches_fixed r x d
 
 pub fixities_kept : (R : Position → Tree → Tree → Type 0) → ReachesKeepsFixities R
-fixities_kept R k p t u r strict x = ap (written_in strict) (reaches_fixed nothing R (record { reads = k.reads; fixed = λ p n w c x d. k.fixed p n w c x }) r x refl)
+fixities_kept R k p t u r strict x = ap (written_in strict x) (reaches_fixed nothing R (record { reads = k.reads; fixed = λ p n w c x d. k.fixed p n w c x }) r x refl)
 
 -- ---- nodes that declare nothing that can't be written
 

@@ -224,7 +224,7 @@ module _ (R : Position → Tree → Tree → Type 0) (K : Shape → Bool) (W : V
     names = any_reaches_keep R names l.shapes t u r;
     bodies = reaches_bodies Elsewhere t u r refl e;
     frames = reaches_frames Elsewhere t u r refl e;
-    fixities = λ v d strict x h. ap (written_in strict) (reaches_fixities Elsewhere t u r refl e v d x h);
+    fixities = λ v d strict x h. ap (written_in strict x) (reaches_fixities Elsewhere t u r refl e v d x h);
     declared = reaches_declared R l.declared r;
     root = reaches_root R names refl (keyless_program t e) r;
   }

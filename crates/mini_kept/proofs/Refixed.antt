@@ -6,10 +6,10 @@ use Rattle.std.proofs.lemmas.List.Elements.{Contains-append_cases}
 use Rattle.mini_model.specs.declared.shape.Shape.{Shape}
 use Rattle.mini_model.specs.declared.shape.Shape.TheVariants as shape
 use Rattle.mini_model.specs.Tree.{Tree, Trees, node, none, ◌▸◌, child_or_absent}
-use Rattle.mini_laws.specs.Value.{Variable, Declared, Global, VariableSet, Value, Slot, variables, variable_eq, nth, nothing}
-use Rattle.mini_laws.specs.State.{Label, ThisOf, BindOf, Item, Answer, State, Completion, ok, stop, halt, out, Fixed, Environment}
+use Rattle.mini_laws.specs.Value.{Variable, Declared, Global, VariableSet, Value, Slot, Holds, Missing, Uninitialised, variables, variable_eq, nth, nothing}
+use Rattle.mini_laws.specs.State.{Label, ReferenceError, Raise, ThisOf, BindOf, Item, Answer, State, Completion, ok, stop, halt, out, Writing, Environment}
 use Rattle.mini_laws.specs.Demand.{Demand, Target, Binds, Request}
-use Rattle.mini_laws.specs.Command.{Naming, Op, read, read_typeof, fixity, write, init, init_function, hide, copy, event, bind_names, self, turn, fuel, act, answered, answered_binds, note, number_of, copies, fresh_note, this_of}
+use Rattle.mini_laws.specs.Command.{Naming, Op, read, read_typeof, fixity, write, init, init_function, hide, copy, event, bind_names, self, turn, fuel, act, answered, answered_binds, note, number_of, copies, fresh_note, read_name, this_of}
 use Rattle.mini_laws.specs.Naming.{written_of}
 use Rattle.mini_laws.specs.Step.{means}
 use Rattle.mini_laws.specs.Body.{BodyKind, Outcome, body_demand, body_request, outcome_of_reply, ran, ends_as, start_of, Run}
@@ -87,7 +87,7 @@ module _ (D : VariableSet) where
 
 -- ---- two environments in which other variables are written alike
 
-module _ (e : Environment) (f : Variable → Fixed) (D : VariableSet) (alike : (x : Variable) → D x ≡ false → e.fixed x ≡ f x) where
+module _ (e : Environment) (f : Variable → Writing) (D : VariableSet) (alike : (x : Variable) → D x ≡ false → e.fixed x ≡ f x) where
   abbrev e' : Environment
   e' = record { shared = e.shared; foreign = e.foreign; fixed = f; asks_this = e.asks_this }
 
@@ -117,6 +117,12 @@ module _ (e : Environment) (f : Variable → Fixed) (D : VariableSet) (alike : (
   binds_same xs [] s = refl
   binds_same xs (a ∷ rest) s = refl
 
+  name_same : (x : Variable) (v : Slot) (s : State) → read_name e x v s ≡ read_name e' x v s
+  name_same (Declared n) v s = refl
+  name_same (Global y) (Holds v) s = refl
+  name_same (Global y) Missing s = answered_same (Raise ReferenceError) s.answers (note e (Raise ReferenceError) None [] None s)
+  name_same (Global y) Uninitialised s = refl
+
   this_same : (b : Bool) (s : State) → this_of e b s ≡ this_of e' b s
   unfolding this_of
   this_same true s = answered_same ThisOf s.answers (note e ThisOf None [] None s)
@@ -140,7 +146,7 @@ module _ (e : Environment) (f : Variable → Fixed) (D : VariableSet) (alike : (
 
   acts_same : (names : Naming) → NoneIn D names.written → (o : Op) (s : State) → Go (act e names o s) (act e' names o s)
   unfolding act Goes
-  acts_same names live (read i) s = go_itself (act e names (read i) s)
+  acts_same names live (read i) s = at_goes false Equal (nth names.own i) (λ x. read_name e x (s.vars x) s) (λ x. read_name e' x (s.vars x) s) (λ x u. go_same _ _ (name_same x (s.vars x) s))
   acts_same names live (read_typeof i) s = go_itself (act e names (read_typeof i) s)
   acts_same names live (fixity i) s = at_goes false Equal (nth names.written i) (λ x. ok (e.fixed x) s) (λ x. ok (f x) s) (λ x u. (alike x (none_nth names.written i x live u), refl))
   acts_same names live (write i v) s = go_itself (act e names (write i v) s)

@@ -6,7 +6,7 @@ use Rattle.mini_model.specs.Rewriting.{Step}
 use Rattle.mini_model.specs.Tree.{Tree, shape_of}
 use Rattle.mini_accept.specs.WellShaped.{Slot, fits}
 use Rattle.mini_laws.specs.Value.{Variable, VariableSet, nothing}
-use Rattle.mini_laws.specs.State.{Environment, Writable}
+use Rattle.mini_laws.specs.State.{Environment, Writes}
 use Rattle.mini_laws.specs.Naming.{summary}
 use Rattle.mini_laws.specs.Congruence.{Apart, Avoids}
 use Rattle.mini_laws.specs.Rewritten.{KeepsMeaning}
@@ -24,7 +24,7 @@ pub record Unseen (D : VariableSet) (e : Environment) : Type 0 where
 -- besides, a write of each variable of W writes, as of what no `const` declares (ECMA-262, "SetMutableBinding")
 pub record Permits (W D : VariableSet) (e : Environment) : Type 0 where
   pub unseen : Unseen D e
-  pub writable : (x : Variable) → W x ≡ true → e.fixed x ≡ Writable
+  pub writable : (x : Variable) → W x ≡ true → e.fixed x ≡ Writes
 
 -- what is known of the runs of a body
 pub record Assured : Type 0 where

@@ -3,6 +3,7 @@ use Rattle.std.proofs.Common.{◌≡◌, ℕ, zero, suc, Bool, true, false, List
 use Rattle.std.proofs.lemmas.Bool.{eqb-true, eq-eqb}
 use Rattle.std.specs.Prelude.{◌⊎◌, ◌||◌, ◌&&◌, nat_eq, if◌then◌else◌}
 use Rattle.mini_model.specs.declared.kind.VariableDeclarationKind.{VariableDeclarationKind}
+use Rattle.mini_model.specs.declared.kind.VariableDeclarationKind.TheVariants.{Var}
 use Rattle.mini_model.specs.declared.operator.BinaryOperator.{BinaryOperator}
 use Rattle.mini_model.specs.declared.operator.LogicalOperator.{LogicalOperator}
 use Rattle.mini_model.specs.declared.operator.LogicalOperator.TheVariants.{Or, And, Coalesce}
@@ -229,6 +230,7 @@ class_fits (suc (suc zero)) = tt
 class_fits (suc (suc (suc i))) = tt
 
 each_fits : (p : Position) → Fits p (As Val) → (d : Option Declared) (i : ℕ) → Fits (first_second_rest place.Target p (Stmt stmt_seat.Body) i) (each_demand d i)
+each_fits p f (Some (Variables Var)) zero = tt
 each_fits p f (Some (Variables k)) zero = tt
 each_fits p f (Some AClass) zero = tt
 each_fits p f None zero = tt

@@ -4,7 +4,7 @@ use Rattle.std.proofs.lemmas.Bool.{eq-eqb}
 use Rattle.std.specs.Prelude.{◌⊎◌, codes, pos}
 use Rattle.std.specs.Fmt.{digits}
 use Rattle.mini_laws.specs.Value.{Value, Undefined, Null, Boolean, Number, String, Object, Variable, Declared, Global, Slot, Holds, Missing, Uninitialised, choose, variable_eq}
-use Rattle.mini_laws.specs.State.{Label, GetOf, SetOf, CallOf, DirectEval, Coerce, Create, FreshOf, IteratorOf, NextOf, CloseOf, PlaceOf, BindOf, RaiseTypeError, Entry, Item, Converted, Event, Normal, Answer, either}
+use Rattle.mini_laws.specs.State.{Label, GetOf, SetOf, CallOf, DirectEval, Coerce, Create, FreshOf, IteratorOf, NextOf, CloseOf, PlaceOf, BindOf, TypeError, ReferenceError, Raise, Entry, Item, Converted, Event, Normal, Answer, either}
 use Rattle.mini_laws.specs.Command.{act, at_variable, read_slot, read_any, write_slot, take_turn, answered, answered_binds, heard, this_of}
 use Rattle.mini_laws.specs.Step.{step, means, meaning}
 use Rattle.mini_laws.specs.Body.{Outcome, NormalEnd, ReturnOf, ThrowOf, NoTurnsEnd, NoAnswersEnd, Ran}
@@ -43,7 +43,8 @@ of_label SetOf = 4
 of_label (Coerce hint) = 5
 of_label Create = 6
 of_label FreshOf = 7
-of_label RaiseTypeError = 8
+of_label (Raise TypeError) = 8
+of_label (Raise ReferenceError) = 15
 of_label IteratorOf = 9
 of_label NextOf = 10
 of_label CloseOf = 11
@@ -115,6 +116,10 @@ deleted_name s = told _ _ (s.by start Undefined ([]) 3 (no_init _)) refl refl
 pub missing_name : law.MissingName
 unfolding means meaning step either act at_variable read_slot read_any write_slot take_turn answered answered_binds heard this_of digits
 missing_name s = told _ _ (s.by start Undefined ([]) 3 (no_init _)) refl refl
+
+pub absent_dropped : law.AbsentDropped
+unfolding means meaning step either act at_variable read_slot read_any write_slot take_turn answered answered_binds heard this_of digits
+absent_dropped s = told _ _ (s.by start Undefined (throws Null ∷ []) 3 (no_init _)) refl refl
 
 pub chain_ends : law.ChainEnds
 unfolding means meaning step either act at_variable read_slot read_any write_slot take_turn answered answered_binds heard this_of digits

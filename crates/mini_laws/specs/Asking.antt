@@ -1,13 +1,14 @@
 -- What each shape asks of its children.
 use Rattle.std.specs.Prelude.{ℕ, zero, suc, Bool, true, false, List, length, Option, Some, None}
 use Rattle.mini_model.specs.declared.kind.VariableDeclarationKind.{VariableDeclarationKind}
+use Rattle.mini_model.specs.declared.kind.VariableDeclarationKind.TheVariants.{Var}
 use Rattle.mini_model.specs.declared.operator.LogicalOperator.{LogicalOperator}
 use Rattle.mini_model.specs.declared.operator.LogicalOperator.TheVariants.{Or, And, Coalesce}
 use Rattle.mini_model.specs.declared.operator.UnaryOperator.{UnaryOperator}
 use Rattle.mini_model.specs.declared.operator.UnaryOperator.TheVariants.{LogicalNot, Typeof, Delete}
 use Rattle.mini_model.specs.declared.shape.Shape.{Shape}
 use Rattle.mini_model.specs.declared.shape.Shape.TheVariants as shape
-use Rattle.mini_laws.specs.Demand.{Want, Val, Test, Unused, Tail, LoopTail, FunctionTail, Demand, As, Callee, OfType, Deleted, Target, AnEntry, Items, Parts, Texts, Stat, Declares, Binds, ClassValue, Cases, ACase, Catches}
+use Rattle.mini_laws.specs.Demand.{Want, Val, Test, Unused, Tail, LoopTail, FunctionTail, Demand, As, Callee, OfType, Deleted, Target, AnEntry, Items, Parts, Texts, Stat, Declares, Binds, Heads, ClassValue, Cases, ACase, Catches}
 use Rattle.mini_laws.specs.Naming.{Declared, Variables, AClass, Facts, first_facts, is_lexical}
 
 -- what a part that gives the node's value is asked; where a statement stands no value is
@@ -95,7 +96,8 @@ for_demand d (suc (suc zero)) = As Unused
 for_demand d (suc (suc (suc i))) = Stat (Some LoopTail)
 
 abbrev pub left_demand : Option Declared → Demand
-left_demand (Some (Variables k)) = Binds (is_lexical k)
+left_demand (Some (Variables Var)) = Heads
+left_demand (Some (Variables k)) = Binds true
 left_demand _ = Target
 
 abbrev pub each_demand : Option Declared → ℕ → Demand
@@ -107,6 +109,7 @@ each_demand d (suc (suc i)) = Stat (Some LoopTail)
 
 abbrev pub declaration_demand : VariableDeclarationKind → Demand → Demand
 declaration_demand k (Binds lexical) = Binds lexical
+declaration_demand k Heads = Heads
 declaration_demand k q = Declares (is_lexical k)
 
 abbrev pub lexically : Demand → Bool
@@ -127,6 +130,7 @@ list_demand n (Parts w) = sequence_demand n w
 list_demand n Texts = λ i. As Val
 list_demand n (Declares lexical) = λ i. Declares lexical
 list_demand n (Binds lexical) = λ i. Binds lexical
+list_demand n Heads = λ i. Heads
 list_demand n Cases = λ i. ACase
 list_demand n q = λ i. Stat None
 

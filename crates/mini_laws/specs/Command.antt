@@ -2,7 +2,7 @@
 -- naming, so that the command of a node is the same whatever its variables are.
 use Rattle.std.specs.Prelude.{ℕ, zero, suc, Bool, true, false, List, [], ◌∷◌, Option, Some, None}
 use Rattle.mini_laws.specs.Value.{Value, Undefined, Boolean, Object, Variable, Declared, Global, Slot, Holds, Missing, Uninitialised, choose, variable_eq, is_in, nth}
-use Rattle.mini_laws.specs.State.{Label, Coerce, DeleteOf, NewOf, InOf, InstanceOf, ArrayOf, ObjectOf, Create, NodeOf, PlaceOf, BindOf, ThisOf, IteratorOf, KeysOf, NextOf, YieldOf, RaiseTypeError, FreshOf, ABoolean, AnObject, InChain, Entry, Item, Given, Normal, Throws, Finished, Returning, Shortens, Answer, State, Stop, Thrown, Returned, Short, NoAnswers, NoTurns, Completion, ok, stop, halt, out, Ends, done, ended, either, Fixed, Environment, with_vars, seen, news_of}
+use Rattle.mini_laws.specs.State.{Label, Coerce, DeleteOf, NewOf, InOf, InstanceOf, ArrayOf, ObjectOf, Create, NodeOf, PlaceOf, BindOf, ThisOf, IteratorOf, KeysOf, NextOf, YieldOf, ReferenceError, Raise, FreshOf, ABoolean, AnObject, InChain, Entry, Item, Given, Normal, Throws, Finished, Returning, Shortens, Answer, State, Stop, Thrown, Returned, Short, NoAnswers, NoTurns, Completion, ok, stop, halt, out, Ends, done, ended, either, Writing, Environment, with_vars, seen, news_of}
 use Rattle.mini_laws.specs.Demand.{Demand, Request, Reply}
 
 -- a function that is created where its block or body is entered: its name, if it has one, and its number
@@ -53,7 +53,7 @@ Got l = Value
 abbrev pub Gets : Op → Type 0
 Gets (read i) = Value
 Gets (read_typeof i) = Value
-Gets (fixity i) = Fixed
+Gets (fixity i) = Writing
 Gets (event l t vs) = Got l
 Gets self = Value
 Gets fuel = ℕ
@@ -162,7 +162,7 @@ hear_value IteratorOf v = only_object v
 hear_value KeysOf v = only_object v
 hear_value (NodeOf ABoolean) v = boolean_value v
 hear_value (NodeOf AnObject) v = only_object v
-hear_value RaiseTypeError v = nonsense
+hear_value (Raise error) v = nonsense
 hear_value FreshOf v = nonsense
 hear_value l v = hears v
 
@@ -223,11 +223,21 @@ abbrev pub copies : Environment → List Variable → State → State
 copies e [] s = s
 copies e (x ∷ xs) s = copies e xs (fresh_note e x s)
 
--- ECMA-262, "GetBindingValue"
+-- ECMA-262, "GetBindingValue" of a declared name, which is never absent
 unfoldable pub read_slot : Slot → State → Completion Value
 read_slot (Holds v) s = ok v s
 read_slot Missing s = out
 read_slot Uninitialised s = out
+
+-- ECMA-262, "GetValue" of an unresolved name: where it is absent, a ReferenceError is thrown
+abbrev pub read_global : Environment → Slot → State → Completion Value
+read_global e (Holds v) s = ok v s
+read_global e Missing s = answered e (Raise ReferenceError) s.answers (note e (Raise ReferenceError) None [] None s)
+read_global e Uninitialised s = out
+
+abbrev pub read_name : Environment → Variable → Slot → State → Completion Value
+read_name e (Declared n) v s = read_slot v s
+read_name e (Global t) v s = read_global e v s
 
 -- the same under `typeof`, where an absent name is undefined
 unfoldable pub read_any : Slot → State → Completion Value
@@ -240,11 +250,21 @@ abbrev pub read_type : Variable → Slot → State → Completion Value
 read_type (Declared n) v s = read_slot v s
 read_type (Global t) v s = read_any v s
 
--- ECMA-262, "SetMutableBinding"
+-- ECMA-262, "SetMutableBinding" of a declared name
 unfoldable pub write_slot : Variable → Value → Slot → State → Completion (Unit {0})
 write_slot x v (Holds w) s = ok tt (with_vars s (set_var s.vars x (Holds v)))
 write_slot x v Missing s = out
 write_slot x v Uninitialised s = out
+
+-- ECMA-262, "PutValue" of an unresolved name: an absent one is added
+abbrev pub write_global : Variable → Value → Slot → State → Completion (Unit {0})
+write_global x v (Holds w) s = ok tt (with_vars s (set_var s.vars x (Holds v)))
+write_global x v Missing s = ok tt (with_vars s (set_var s.vars x (Holds v)))
+write_global x v Uninitialised s = out
+
+abbrev pub write_name : Variable → Value → Slot → State → Completion (Unit {0})
+write_name (Declared n) v o s = write_slot (Declared n) v o s
+write_name (Global t) v o s = write_global (Global t) v o s
 
 unfoldable pub at_variable : {A : Type 0} → Option Variable → (Variable → Completion A) → Completion A
 at_variable (Some x) f = f x
@@ -260,10 +280,10 @@ take_turn zero s = halt NoTurns s
 take_turn (suc n) s = ok tt (record s { turns = n })
 
 unfoldable pub act : Environment → Naming → (o : Op) → State → Completion (Gets o)
-act e names (read i) s = at_variable (nth names.own i) (λ x. read_slot (s.vars x) s)
+act e names (read i) s = at_variable (nth names.own i) (λ x. read_name e x (s.vars x) s)
 act e names (read_typeof i) s = at_variable (nth names.own i) (λ x. read_type x (s.vars x) s)
 act e names (fixity i) s = at_variable (nth names.written i) (λ x. ok (e.fixed x) s)
-act e names (write i v) s = at_variable (nth names.written i) (λ x. write_slot x v (s.vars x) s)
+act e names (write i v) s = at_variable (nth names.written i) (λ x. write_name x v (s.vars x) s)
 act e names (init i v) s = at_variable (nth names.written i) (λ x. ok tt (start e true x v s))
 act e names (init_function is_lexical i v) s = at_variable (function_name (nth names.functions i)) (λ x. ok tt (start e is_lexical x v s))
 act e names hide s = ok tt (with_vars s (hide_all names.scope s.vars))

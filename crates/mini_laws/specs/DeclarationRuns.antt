@@ -6,7 +6,7 @@ use Rattle.mini_model.specs.declared.operator.AssignmentOperator.TheVariants as 
 use Rattle.mini_model.specs.declared.shape.Shape.TheVariants as shape
 use Rattle.mini_model.specs.Tree.{Tree, none, ◌▸◌, absent, listed}
 use Rattle.mini_laws.specs.Value.{Undefined, Null, Number, Object, Declared}
-use Rattle.mini_laws.specs.State.{AnObject, CallOf, Create, NodeOf, BindOf, FreshOf, ExportDefaultOf, Item, either, RaiseTypeError, Writable, Constant, KeepsOld}
+use Rattle.mini_laws.specs.State.{AnObject, CallOf, Create, NodeOf, BindOf, FreshOf, ExportDefaultOf, Item, either, TypeError, Raise, Writes, Refuses, Keeps}
 use Rattle.mini_laws.specs.Command.{act, at_variable, read_slot, read_any, write_slot, take_turn, answered, answered_binds, heard, this_of}
 use Rattle.mini_laws.specs.Step.{step, means, meaning}
 use Rattle.mini_laws.specs.Body.{Program, FunctionStatements, NormalEnd, ThrowOf, Run, environment_of}
@@ -89,41 +89,41 @@ unfolding means meaning step either act at_variable read_slot read_any write_slo
 imported = refl
 
 -- what a write does, by the declaration: `const x = 1;`, `let x = 1;`, `import { y as x } from "m";`
-fixed_const : fixed_in false (script (declaration Const (bound 6) (number 1) ▸ none)) (Declared 6) ≡ Constant
+fixed_const : fixed_in false (script (declaration Const (bound 6) (number 1) ▸ none)) (Declared 6) ≡ Refuses
 fixed_const = refl
 
-fixed_let : fixed_in false (script (declaration Let (bound 6) (number 1) ▸ none)) (Declared 6) ≡ Writable
+fixed_let : fixed_in false (script (declaration Let (bound 6) (number 1) ▸ none)) (Declared 6) ≡ Writes
 fixed_let = refl
 
-fixed_import : fixed_in true (one (shape.Program true []) (listed (two shape.ImportDeclaration (listed (two shape.ImportSpecifier (label (codes "y")) (bound 6) ▸ none)) (text (codes "m")) ▸ none))) (Declared 6) ≡ Constant
+fixed_import : fixed_in true (one (shape.Program true []) (listed (two shape.ImportDeclaration (listed (two shape.ImportSpecifier (label (codes "y")) (bound 6) ▸ none)) (text (codes "m")) ▸ none))) (Declared 6) ≡ Refuses
 fixed_import = refl
 
 -- the own name of a function expression, in sloppy and in strict code
-fixed_own : fixed_in false (script (does (function false 1 (bound 6)) ▸ none)) (Declared 6) ≡ KeepsOld
+fixed_own : fixed_in false (script (does (function false 1 (bound 6)) ▸ none)) (Declared 6) ≡ Keeps
 fixed_own = refl
 
-fixed_own_strict : fixed_in true (one (shape.Program false (codes "use strict" ∷ [])) (listed (does (function false 1 (bound 6)) ▸ none))) (Declared 6) ≡ Constant
+fixed_own_strict : fixed_in true (one (shape.Program false (codes "use strict" ∷ [])) (listed (does (function false 1 (bound 6)) ▸ none))) (Declared 6) ≡ Refuses
 fixed_own_strict = refl
 
 -- a pattern of a `const`, and a class expression's name
-fixed_pattern : fixed_in false (script (declaration Const (one shape.ArrayPattern (listed (bound 6 ▸ none))) (number 1) ▸ none)) (Declared 6) ≡ Constant
+fixed_pattern : fixed_in false (script (declaration Const (one shape.ArrayPattern (listed (bound 6 ▸ none))) (number 1) ▸ none)) (Declared 6) ≡ Refuses
 fixed_pattern = refl
 
-fixed_class : fixed_in false (script (does (class false 1 (bound 6) absent) ▸ none)) (Declared 6) ≡ Constant
+fixed_class : fixed_in false (script (does (class false 1 (bound 6) absent) ▸ none)) (Declared 6) ≡ Refuses
 fixed_class = refl
 
 -- `class A {}`: the name that the class holds once more, and the one that it declares
-fixed_inside : fixed_in false (script (class true 1 (bound 6) (bound 4) ▸ none)) (Declared 4) ≡ Constant
+fixed_inside : fixed_in false (script (class true 1 (bound 6) (bound 4) ▸ none)) (Declared 4) ≡ Refuses
 fixed_inside = refl
 
-fixed_outside : fixed_in false (script (class true 1 (bound 6) (bound 4) ▸ none)) (Declared 6) ≡ Writable
+fixed_outside : fixed_in false (script (class true 1 (bound 6) (bound 4) ▸ none)) (Declared 6) ≡ Writes
 fixed_outside = refl
 
 -- `class A { static { A = 2; } }`: the block raises, in the environment of the program
 abbrev writing_block : Tree
 writing_block = numbered 2 shape.StaticBlock (listed (does (assign assignment.Assign (local 4) (number 2)) ▸ none) ▸ none)
 
-class_written_inside : shown (Run (environment_of (script (class_of true 1 (bound 6) (writing_block ▸ none) (bound 4) ▸ none))) FunctionStatements writing_block start Undefined (throws Null ∷ []) 0) ≡ Some (record { events = (RaiseTypeError, (None, [])) ∷ []; outcome = ThrowOf Null })
+class_written_inside : shown (Run (environment_of (script (class_of true 1 (bound 6) (writing_block ▸ none) (bound 4) ▸ none))) FunctionStatements writing_block start Undefined (throws Null ∷ []) 0) ≡ Some (record { events = (Raise TypeError, (None, [])) ∷ []; outcome = ThrowOf Null })
 unfolding means meaning step either act at_variable read_slot read_any write_slot take_turn answered answered_binds heard this_of digits
 class_written_inside = refl
 
@@ -133,7 +133,7 @@ unfolding means meaning step either act at_variable read_slot read_any write_slo
 class_written_outside = refl
 
 -- `const x = 1; x = 2;` raises, in the environment of the program
-const_written : shown (Run (environment_of (script (declaration Const (bound 6) (number 1) ▸ does (assign assignment.Assign (local 6) (number 2)) ▸ none))) Program (script (declaration Const (bound 6) (number 1) ▸ does (assign assignment.Assign (local 6) (number 2)) ▸ none)) start Undefined (throws Null ∷ []) 0) ≡ Some (record { events = (RaiseTypeError, (None, [])) ∷ []; outcome = ThrowOf Null })
+const_written : shown (Run (environment_of (script (declaration Const (bound 6) (number 1) ▸ does (assign assignment.Assign (local 6) (number 2)) ▸ none))) Program (script (declaration Const (bound 6) (number 1) ▸ does (assign assignment.Assign (local 6) (number 2)) ▸ none)) start Undefined (throws Null ∷ []) 0) ≡ Some (record { events = (Raise TypeError, (None, [])) ∷ []; outcome = ThrowOf Null })
 unfolding means meaning step either act at_variable read_slot read_any write_slot take_turn answered answered_binds heard this_of digits
 const_written = refl
 

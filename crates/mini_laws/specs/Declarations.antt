@@ -3,7 +3,7 @@ use Rattle.std.specs.Prelude.{ℕ, Bool, true, false, List, [], ◌∷◌, Optio
 use Rattle.mini_model.specs.declared.kind.VariableDeclarationKind.{VariableDeclarationKind}
 use Rattle.mini_laws.specs.Value.{Value, Undefined}
 use Rattle.mini_laws.specs.State.{NodeOf, AnObject, ExportDefaultOf, Item}
-use Rattle.mini_laws.specs.Demand.{Val, Demand, As, Stat, Declares, Binds, ClassValue, Request, Reply}
+use Rattle.mini_laws.specs.Demand.{Val, Demand, As, Stat, Declares, Binds, Heads, ClassValue, Request, Reply}
 use Rattle.mini_laws.specs.Command.{init, bind_names, Command, ret, stuck, op, kid, then, attempt, bind, emit, emit_mine}
 use Rattle.mini_laws.specs.Naming.{Declared, Variables, AClass, FunctionFact}
 use Rattle.mini_laws.specs.Asking.{first_demand, declaration_demand, lexically, exported_demand}
@@ -33,6 +33,7 @@ binding_pattern q r = stuck
 abbrev pub declaration_step : (k : VariableDeclarationKind) (q : Demand) (r : Request q) → Command (λ i. declaration_demand k q) (Reply q r)
 declaration_step k (Stat t) labels = attempt (kid 0 tt (then ret)) (merged t)
 declaration_step k (Binds lexical) v = kid 0 v (then ret)
+declaration_step k Heads r = kid 0 r (then ret)
 declaration_step k q r = stuck
 
 -- without an initializer a `let` is undefined, and a `var` keeps its value
@@ -44,7 +45,7 @@ abbrev pub declares_by : (lexical : Bool) → Bool → Command (first_demand (Bi
 declares_by lexical true = uninitialised lexical
 declares_by lexical false = kid 1 tt (then (λ v. kid 0 v (then ret)))
 
--- in the head of a `for..in` or `for..of`: one with an initializer is outside the model
+-- a lexical one in the head of a `for..in` or `for..of`, which has no initializer
 abbrev pub takes_by : (lexical : Bool) → Bool → Value → Command (first_demand (Binds lexical) (As Val)) (Unit {0})
 takes_by lexical true v = kid 0 v (then ret)
 takes_by lexical false v = stuck
@@ -52,6 +53,8 @@ takes_by lexical false v = stuck
 abbrev pub declarator_step : (has_no_init : Bool) (q : Demand) (r : Request q) → Command (first_demand (Binds (lexically q)) (As Val)) (Reply q r)
 declarator_step has_no_init (Declares lexical) r = declares_by lexical has_no_init
 declarator_step has_no_init (Binds lexical) v = takes_by lexical has_no_init v
+declarator_step has_no_init Heads (Some v) = kid 0 v (then ret)
+declarator_step has_no_init Heads None = declares_by false has_no_init
 declarator_step has_no_init q r = stuck
 
 -- ECMA-262, "BindingClassDeclarationEvaluation": the world makes the class, and then its name is initialised

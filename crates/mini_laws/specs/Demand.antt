@@ -32,6 +32,8 @@ pub data Demand : Type 0 where
   -- declarators, lexical or not, and what takes a value and binds names to it
   Declares : Bool → Demand
   Binds : Bool → Demand
+  -- a `var` in the head of a `for..in` or `for..of`
+  Heads : Demand
   -- a class that is declared and whose value is asked
   ClassValue : Demand
   -- the cases of a `switch`, one of them, and the handler of a `try`
@@ -64,11 +66,12 @@ pub data CaseRequest : Type 0 where
   AskTest : CaseRequest
   AskBody : CaseRequest
 
--- what a parent tells a child
+-- what a parent tells a child: the head of a loop that its initializer is evaluated, if it has one, or that it takes a value
 abbrev pub Request : Demand → Type 0
 Request Target = TargetRequest
 Request (Stat t) = LabelSet
 Request (Binds lexical) = Value
+Request Heads = Option Value
 Request Cases = Value
 Request ACase = CaseRequest
 Request Catches = Value
@@ -107,6 +110,7 @@ Reply Texts r = List (List ℕ)
 Reply (Stat t) r = Unit {0}
 Reply (Declares lexical) r = Unit {0}
 Reply (Binds lexical) r = Unit {0}
+Reply Heads r = Unit {0}
 Reply ClassValue r = Value
 Reply Cases r = Unit {0}
 Reply ACase r = CaseSays r

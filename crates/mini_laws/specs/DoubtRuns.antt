@@ -11,7 +11,7 @@ use Rattle.mini_model.specs.declared.operator.UpdateOperator.TheVariants.{Increm
 use Rattle.mini_model.specs.declared.shape.Shape.TheVariants as shape
 use Rattle.mini_model.specs.Tree.{Tree, none, ◌▸◌, leaf, absent, listed, identifier}
 use Rattle.mini_laws.specs.Value.{Undefined, Null, Boolean, Number, String, Symbol, Object, Declared}
-use Rattle.mini_laws.specs.State.{ForDefault, ForNumber, ForString, Anything, InChain, GetOf, SetOf, CallOf, Coerce, ArrayOf, ObjectOf, SpreadOf, Create, NodeOf, PlaceOf, BindOf, ThisOf, IteratorOf, KeysOf, NextOf, CloseOf, YieldOf, RaiseTypeError, Item, Converted, Spreaded, Field, Finished, Returning, Shortens, Constant, KeepsOld, either}
+use Rattle.mini_laws.specs.State.{ForDefault, ForNumber, ForString, Anything, InChain, GetOf, SetOf, CallOf, Coerce, ArrayOf, ObjectOf, SpreadOf, Create, NodeOf, PlaceOf, BindOf, ThisOf, IteratorOf, KeysOf, NextOf, CloseOf, YieldOf, TypeError, Raise, Item, Converted, Spreaded, Field, Finished, Returning, Shortens, Refuses, Keeps, either}
 use Rattle.mini_laws.specs.Command.{act, at_variable, read_slot, read_any, write_slot, take_turn, answered, answered_binds, heard, this_of}
 use Rattle.mini_laws.specs.Step.{step, means, meaning}
 use Rattle.mini_laws.specs.Fixity.{fixed_in}
@@ -26,17 +26,17 @@ abbrev quasi : Tree
 quasi = leaf (shape.TemplateElement false [] (Some []))
 
 -- `f() - o`, where f gives a symbol: it is no number, which raises before o is converted
-symbol_first : value_of ((binary operator.Subtraction (called (global (codes "f"))) (global (codes "o")))) (gives (Symbol 1) ∷ throws Null ∷ []) ≡ Some (record { events = (CallOf, (None, Item (Object 4 true) ∷ Item Undefined ∷ [])) ∷ (RaiseTypeError, (None, [])) ∷ []; outcome = ThrowOf Null })
+symbol_first : value_of ((binary operator.Subtraction (called (global (codes "f"))) (global (codes "o")))) (gives (Symbol 1) ∷ throws Null ∷ []) ≡ Some (record { events = (CallOf, (None, Item (Object 4 true) ∷ Item Undefined ∷ [])) ∷ (Raise TypeError, (None, [])) ∷ []; outcome = ThrowOf Null })
 unfolding means meaning step either act at_variable read_slot read_any write_slot take_turn answered answered_binds heard this_of digits
 symbol_first = refl
 
 -- `f() + o`: both are made primitive before
-symbol_plus : value_of ((binary operator.Addition (called (global (codes "f"))) (global (codes "o")))) (gives (Symbol 1) ∷ gives (Number (pos 1)) ∷ throws Null ∷ []) ≡ Some (record { events = (CallOf, (None, Item (Object 4 true) ∷ Item Undefined ∷ [])) ∷ ((Coerce ForDefault), (None, Item (Object 7 false) ∷ [])) ∷ (RaiseTypeError, (None, [])) ∷ []; outcome = ThrowOf Null })
+symbol_plus : value_of ((binary operator.Addition (called (global (codes "f"))) (global (codes "o")))) (gives (Symbol 1) ∷ gives (Number (pos 1)) ∷ throws Null ∷ []) ≡ Some (record { events = (CallOf, (None, Item (Object 4 true) ∷ Item Undefined ∷ [])) ∷ ((Coerce ForDefault), (None, Item (Object 7 false) ∷ [])) ∷ (Raise TypeError, (None, [])) ∷ []; outcome = ThrowOf Null })
 unfolding means meaning step either act at_variable read_slot read_any write_slot take_turn answered answered_binds heard this_of digits
 symbol_plus = refl
 
 -- `f() < o`: so they are where they are compared
-symbol_less : value_of ((binary operator.LessThan (called (global (codes "f"))) (global (codes "o")))) (gives (Symbol 1) ∷ gives (Number (pos 1)) ∷ throws Null ∷ []) ≡ Some (record { events = (CallOf, (None, Item (Object 4 true) ∷ Item Undefined ∷ [])) ∷ ((Coerce ForNumber), (None, Item (Object 7 false) ∷ [])) ∷ (RaiseTypeError, (None, [])) ∷ []; outcome = ThrowOf Null })
+symbol_less : value_of ((binary operator.LessThan (called (global (codes "f"))) (global (codes "o")))) (gives (Symbol 1) ∷ gives (Number (pos 1)) ∷ throws Null ∷ []) ≡ Some (record { events = (CallOf, (None, Item (Object 4 true) ∷ Item Undefined ∷ [])) ∷ ((Coerce ForNumber), (None, Item (Object 7 false) ∷ [])) ∷ (Raise TypeError, (None, [])) ∷ []; outcome = ThrowOf Null })
 unfolding means meaning step either act at_variable read_slot read_any write_slot take_turn answered answered_binds heard this_of digits
 symbol_less = refl
 
@@ -91,7 +91,7 @@ unfolding means meaning step either act at_variable read_slot read_any write_slo
 text_by_number = refl
 
 -- `o in f()`: both sides first, then it raises
-in_after_both : value_of ((binary operator.In (global (codes "o")) (called (global (codes "f"))))) (gives (Number (pos 1)) ∷ throws Null ∷ []) ≡ Some (record { events = (CallOf, (None, Item (Object 4 true) ∷ Item Undefined ∷ [])) ∷ (RaiseTypeError, (None, [])) ∷ []; outcome = ThrowOf Null })
+in_after_both : value_of ((binary operator.In (global (codes "o")) (called (global (codes "f"))))) (gives (Number (pos 1)) ∷ throws Null ∷ []) ≡ Some (record { events = (CallOf, (None, Item (Object 4 true) ∷ Item Undefined ∷ [])) ∷ (Raise TypeError, (None, [])) ∷ []; outcome = ThrowOf Null })
 unfolding means meaning step either act at_variable read_slot read_any write_slot take_turn answered answered_binds heard this_of digits
 in_after_both = refl
 
@@ -145,6 +145,15 @@ no_power : value_of ((binary operator.Exponential (number 0) (number 0))) ([]) �
 unfolding means meaning step either act at_variable read_slot read_any write_slot take_turn answered answered_binds heard this_of digits
 no_power = refl
 
+-- `(-1) ** -3` is -1, and `(-1) ** -2` is 1
+odd_negative_power : value_of ((binary operator.Exponential (leaf (shape.NumericLiteral (negsuc 0))) (leaf (shape.NumericLiteral (negsuc 2))))) ([]) ≡ Some (record { events = []; outcome = ReturnOf (Number (negsuc 0)) })
+unfolding means meaning step either act at_variable read_slot read_any write_slot take_turn answered answered_binds heard this_of digits
+odd_negative_power = refl
+
+even_negative_power : value_of ((binary operator.Exponential (leaf (shape.NumericLiteral (negsuc 0))) (leaf (shape.NumericLiteral (negsuc 1))))) ([]) ≡ Some (record { events = []; outcome = ReturnOf (Number (pos 1)) })
+unfolding means meaning step either act at_variable read_slot read_any write_slot take_turn answered answered_binds heard this_of digits
+even_negative_power = refl
+
 -- `" \t" * 1`: white space alone is 0
 blank_text : value_of ((binary operator.Multiplication (text (32 ∷ 9 ∷ [])) (number 1))) ([]) ≡ Some (record { events = []; outcome = ReturnOf (Number (pos 0)) })
 unfolding means meaning step either act at_variable read_slot read_any write_slot take_turn answered answered_binds heard this_of digits
@@ -191,12 +200,12 @@ unfolding means meaning step either act at_variable read_slot read_any write_slo
 update_member = refl
 
 -- `null.k = f()`: f is called before it raises
-null_target : value_of ((assign assignment.Assign (member null (codes "k")) (called (global (codes "f"))))) (gives Null ∷ throws Null ∷ []) ≡ Some (record { events = (CallOf, (None, Item (Object 4 true) ∷ Item Undefined ∷ [])) ∷ (RaiseTypeError, (None, [])) ∷ []; outcome = ThrowOf Null })
+null_target : value_of ((assign assignment.Assign (member null (codes "k")) (called (global (codes "f"))))) (gives Null ∷ throws Null ∷ []) ≡ Some (record { events = (CallOf, (None, Item (Object 4 true) ∷ Item Undefined ∷ [])) ∷ (Raise TypeError, (None, [])) ∷ []; outcome = ThrowOf Null })
 unfolding means meaning step either act at_variable read_slot read_any write_slot take_turn answered answered_binds heard this_of digits
 null_target = refl
 
 -- `null[f()]`: the key is evaluated before it raises
-null_key : value_of ((two (shape.ComputedMemberExpression false) null (called (global (codes "f"))))) (gives Null ∷ throws Null ∷ []) ≡ Some (record { events = (CallOf, (None, Item (Object 4 true) ∷ Item Undefined ∷ [])) ∷ (RaiseTypeError, (None, [])) ∷ []; outcome = ThrowOf Null })
+null_key : value_of ((two (shape.ComputedMemberExpression false) null (called (global (codes "f"))))) (gives Null ∷ throws Null ∷ []) ≡ Some (record { events = (CallOf, (None, Item (Object 4 true) ∷ Item Undefined ∷ [])) ∷ (Raise TypeError, (None, [])) ∷ []; outcome = ThrowOf Null })
 unfolding means meaning step either act at_variable read_slot read_any write_slot take_turn answered answered_binds heard this_of digits
 null_key = refl
 
@@ -221,12 +230,12 @@ unfolding means meaning step either act at_variable read_slot read_any write_slo
 optional_arguments = refl
 
 -- `(null?.k).l`: the chain ends in its parentheses, and the member raises
-parenthesized_chain : value_of ((member (one shape.ChainExpression (two (shape.StaticMemberExpression true) null (label (codes "k")))) (codes "l"))) (throws Null ∷ []) ≡ Some (record { events = (RaiseTypeError, (None, [])) ∷ []; outcome = ThrowOf Null })
+parenthesized_chain : value_of ((member (one shape.ChainExpression (two (shape.StaticMemberExpression true) null (label (codes "k")))) (codes "l"))) (throws Null ∷ []) ≡ Some (record { events = (Raise TypeError, (None, [])) ∷ []; outcome = ThrowOf Null })
 unfolding means meaning step either act at_variable read_slot read_any write_slot take_turn answered answered_binds heard this_of digits
 parenthesized_chain = refl
 
 -- `delete null.k`
-delete_null : value_of ((one (shape.UnaryExpression unary.Delete) (member null (codes "k")))) (throws Null ∷ []) ≡ Some (record { events = (RaiseTypeError, (None, [])) ∷ []; outcome = ThrowOf Null })
+delete_null : value_of ((one (shape.UnaryExpression unary.Delete) (member null (codes "k")))) (throws Null ∷ []) ≡ Some (record { events = (Raise TypeError, (None, [])) ∷ []; outcome = ThrowOf Null })
 unfolding means meaning step either act at_variable read_slot read_any write_slot take_turn answered answered_binds heard this_of digits
 delete_null = refl
 
@@ -286,7 +295,7 @@ unfolding means meaning step either act at_variable read_slot read_any write_slo
 template_order = refl
 
 -- `` `${f()}` `` of a symbol raises
-template_symbol : value_of ((two shape.TemplateLiteral (listed (quasi ▸ quasi ▸ none)) (listed ((called (global (codes "f"))) ▸ none)))) (gives (Symbol 1) ∷ throws Null ∷ []) ≡ Some (record { events = (CallOf, (None, Item (Object 4 true) ∷ Item Undefined ∷ [])) ∷ (RaiseTypeError, (None, [])) ∷ []; outcome = ThrowOf Null })
+template_symbol : value_of ((two shape.TemplateLiteral (listed (quasi ▸ quasi ▸ none)) (listed ((called (global (codes "f"))) ▸ none)))) (gives (Symbol 1) ∷ throws Null ∷ []) ≡ Some (record { events = (CallOf, (None, Item (Object 4 true) ∷ Item Undefined ∷ [])) ∷ (Raise TypeError, (None, [])) ∷ []; outcome = ThrowOf Null })
 unfolding means meaning step either act at_variable read_slot read_any write_slot take_turn answered answered_binds heard this_of digits
 template_symbol = refl
 
@@ -411,7 +420,7 @@ unfolding means meaning step either act at_variable read_slot read_any write_slo
 labelled_break_runs_finalizer = refl
 
 -- `c ||= f()` of a constant that is undefined: it raises after f is called
-logical_constant : run_of Program (script ((declaration Const (bound 8) absent) ▸ (does (assign assignment.LogicalOr (local 8) (called (global (codes "f"))))) ▸ none)) (gives (Number (pos 1)) ∷ throws Null ∷ []) ≡ Some (record { events = (CallOf, (None, Item (Object 4 true) ∷ Item Undefined ∷ [])) ∷ (RaiseTypeError, (None, [])) ∷ []; outcome = ThrowOf Null })
+logical_constant : run_of Program (script ((declaration Const (bound 8) absent) ▸ (does (assign assignment.LogicalOr (local 8) (called (global (codes "f"))))) ▸ none)) (gives (Number (pos 1)) ∷ throws Null ∷ []) ≡ Some (record { events = (CallOf, (None, Item (Object 4 true) ∷ Item Undefined ∷ [])) ∷ (Raise TypeError, (None, [])) ∷ []; outcome = ThrowOf Null })
 unfolding means meaning step either act at_variable read_slot read_any write_slot take_turn answered answered_binds heard this_of digits
 logical_constant = refl
 
@@ -421,9 +430,9 @@ unfolding means meaning step either act at_variable read_slot read_any write_slo
 var_keeps = refl
 
 -- the own name of a function expression in sloppy code, written by strict code in it: it raises
-own_name_in_strict_code : fixed_in true (script (does (function false 1 (bound 6)) ▸ none)) (Declared 6) ≡ Constant
+own_name_in_strict_code : fixed_in true (script (does (function false 1 (bound 6)) ▸ none)) (Declared 6) ≡ Refuses
 own_name_in_strict_code = refl
 
 -- and by sloppy code it keeps its value
-own_name_in_sloppy_code : fixed_in false (script (does (function false 1 (bound 6)) ▸ none)) (Declared 6) ≡ KeepsOld
+own_name_in_sloppy_code : fixed_in false (script (does (function false 1 (bound 6)) ▸ none)) (Declared 6) ≡ Keeps
 own_name_in_sloppy_code = refl

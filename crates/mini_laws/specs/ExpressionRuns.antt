@@ -9,7 +9,7 @@ use Rattle.mini_model.specs.declared.operator.UnaryOperator.TheVariants as unary
 use Rattle.mini_model.specs.declared.shape.Shape.TheVariants as shape
 use Rattle.mini_model.specs.Tree.{none, ◌▸◌, leaf, absent, listed, logical}
 use Rattle.mini_laws.specs.Value.{Undefined, Null, Boolean, Number, String, Object}
-use Rattle.mini_laws.specs.State.{ForDefault, ForString, Anything, ABoolean, AnObject, InChain, GetOf, DeleteOf, CallOf, NewOf, Coerce, InOf, InstanceOf, ArrayOf, ObjectOf, SpreadOf, Create, NodeOf, YieldOf, RaiseTypeError, Item, Spreaded, Hole, Field, Prototype, Getter, Returning, Shortens, either, ThisOf, Setter}
+use Rattle.mini_laws.specs.State.{ForDefault, ForString, Anything, ABoolean, AnObject, InChain, GetOf, DeleteOf, CallOf, NewOf, Coerce, InOf, InstanceOf, ArrayOf, ObjectOf, SpreadOf, Create, NodeOf, YieldOf, TypeError, Raise, Item, Spreaded, Hole, Field, Prototype, Getter, Returning, Shortens, either, ThisOf, Setter}
 use Rattle.mini_laws.specs.Command.{act, at_variable, read_slot, read_any, write_slot, take_turn, answered, answered_binds, heard, this_of}
 use Rattle.mini_laws.specs.Step.{step, means, meaning}
 use Rattle.mini_laws.specs.Body.{ReturnOf, ThrowOf, InnerValue, ArrowExpression, NormalOf, Run}
@@ -106,7 +106,7 @@ unfolding means meaning step either act at_variable read_slot read_any write_slo
 in_operator = refl
 
 -- `"k" in 1` raises
-in_number : value_of (binary binary.In (text (codes "k")) (number 1)) (throws Null ∷ []) ≡ Some (record { events = (RaiseTypeError, (None, [])) ∷ []; outcome = ThrowOf Null })
+in_number : value_of (binary binary.In (text (codes "k")) (number 1)) (throws Null ∷ []) ≡ Some (record { events = (Raise TypeError, (None, [])) ∷ []; outcome = ThrowOf Null })
 unfolding means meaning step either act at_variable read_slot read_any write_slot take_turn answered answered_binds heard this_of digits
 in_number = refl
 
@@ -191,7 +191,7 @@ unfolding means meaning step either act at_variable read_slot read_any write_slo
 computed_member = refl
 
 -- `null.k` raises
-member_of_null : value_of (member null (codes "k")) (throws Null ∷ []) ≡ Some (record { events = (RaiseTypeError, (None, [])) ∷ []; outcome = ThrowOf Null })
+member_of_null : value_of (member null (codes "k")) (throws Null ∷ []) ≡ Some (record { events = (Raise TypeError, (None, [])) ∷ []; outcome = ThrowOf Null })
 unfolding means meaning step either act at_variable read_slot read_any write_slot take_turn answered answered_binds heard this_of digits
 member_of_null = refl
 

@@ -1,13 +1,13 @@
 -- What a write of each variable does, by its declaration in the program and by whether the code that writes is strict
--- (ECMA-262, "SetMutableBinding"): it writes, it raises, or it keeps what is there.
+-- (ECMA-262, "PutValue" and "SetMutableBinding"): it writes, it raises, or it keeps what is there.
 use Rattle.std.specs.Prelude.{ℕ, Bool, true, false, ◌||◌, List, [], ◌∷◌, codes}
 use Rattle.mini_model.specs.declared.kind.VariableDeclarationKind.TheVariants.{Const}
 use Rattle.mini_model.specs.declared.shape.Shape.{Shape}
 use Rattle.mini_model.specs.declared.shape.Shape.TheVariants as shape
 use Rattle.mini_model.specs.Tree.{Tree, Trees, node, none, ◌▸◌}
 use Rattle.mini_model.specs.Weight.{same_text}
-use Rattle.mini_laws.specs.Value.{Variable, choose, is_in}
-use Rattle.mini_laws.specs.State.{Fixed, Writable, Constant, KeepsOld}
+use Rattle.mini_laws.specs.Value.{Variable, Global, choose, is_in}
+use Rattle.mini_laws.specs.State.{Fixed, Writable, Constant, KeepsOld, Writing, Writes, WritesPresent, Refuses, Keeps}
 use Rattle.mini_laws.specs.Naming.{Summary, lets_all, lets_first, summaries}
 
 -- ECMA-262, "Directive Prologues and the Use Strict Directive"
@@ -61,11 +61,14 @@ abbrev mutual
   fixed_by_any none x = Writable
   fixed_by_any (t ▸ ts) x = stricter (fixed_by t x) (fixed_by_any ts x)
 
--- the own name of a function expression raises where strict code writes it
-abbrev pub written_in : Bool → Fixed → Fixed
-written_in true KeepsOld = Constant
-written_in strict f = f
+-- where strict code writes it, the own name of a function expression raises, and an unresolved name is not added
+abbrev pub written_in : Bool → Variable → Fixed → Writing
+written_in strict x Constant = Refuses
+written_in true x KeepsOld = Refuses
+written_in false x KeepsOld = Keeps
+written_in true (Global s) Writable = WritesPresent
+written_in strict x Writable = Writes
 
 -- a write by strict or sloppy code, of a name of this program
-abbrev pub fixed_in : Bool → Tree → Variable → Fixed
-fixed_in strict t x = written_in strict (fixed_by t x)
+abbrev pub fixed_in : Bool → Tree → Variable → Writing
+fixed_in strict t x = written_in strict x (fixed_by t x)

@@ -26,6 +26,7 @@ pub mod Skeleton
 pub mod Samples
 pub mod ExpressionRuns
 pub mod TargetRuns
+pub mod AbsentRuns
 pub mod StatementRuns
 pub mod LoopRuns
 pub mod DeclarationRuns

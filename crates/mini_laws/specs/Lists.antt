@@ -4,7 +4,7 @@ use Rattle.mini_laws.specs.Value.{Value, choose}
 use Rattle.mini_laws.specs.Conversion.{to_text}
 use Rattle.mini_laws.specs.Operators.{strictly_equal}
 use Rattle.mini_laws.specs.State.{ForString, SpreadOf, Entry, Item, Spreaded}
-use Rattle.mini_laws.specs.Demand.{Want, Val, Tail, Demand, As, AnEntry, Items, Parts, Texts, Stat, Declares, Binds, Cases, ACase, AskTest, AskBody, Request, Reply, Says}
+use Rattle.mini_laws.specs.Demand.{Want, Val, Tail, Demand, As, AnEntry, Items, Parts, Texts, Stat, Declares, Binds, Heads, Cases, ACase, AskTest, AskBody, Request, Reply, Says}
 use Rattle.mini_laws.specs.Command.{Command, ret, stuck, kid, then, attempt, bind, shift, emit}
 use Rattle.mini_laws.specs.Naming.{Facts}
 use Rattle.mini_laws.specs.Asking.{parts_demand, sequence_demand, tail_demand, list_demand}
@@ -43,10 +43,14 @@ abbrev pub declarators : ℕ → (lexical : Bool) → Command (λ i. Declares le
 declarators zero lexical = ret tt
 declarators (suc n) lexical = kid 0 tt (then (λ u. shift {q = λ i. Declares lexical} (declarators n lexical)))
 
--- the one declarator in the head of a loop
+-- the one declarator in the head of a loop, lexical or of a `var`
 abbrev pub the_declarator : ℕ → (lexical : Bool) → Value → Command (λ i. Binds lexical) (Unit {0})
 the_declarator (suc zero) lexical v = kid 0 v (then ret)
 the_declarator n lexical v = stuck
+
+abbrev pub the_head : ℕ → Option Value → Command (λ i. Heads) (Unit {0})
+the_head (suc zero) r = kid 0 r (then ret)
+the_head n r = stuck
 
 -- ECMA-262, "The switch Statement", CaseBlockEvaluation: the tests in order up to one that equals the value, then the
 -- statements from there, or from `default`
@@ -88,5 +92,6 @@ list_step fs (Parts w) r = sequence (length fs) w
 list_step fs Texts r = template_texts (length fs)
 list_step fs (Declares lexical) r = declarators (length fs) lexical
 list_step fs (Binds lexical) v = the_declarator (length fs) lexical v
+list_step fs Heads r = the_head (length fs) r
 list_step fs Cases v = cases fs v
 list_step fs q r = stuck

@@ -68,6 +68,21 @@ for_in_null : run_of Program (script ((three shape.ForInStatement (local 1) null
 unfolding means meaning step either act at_variable read_slot read_any write_slot take_turn answered answered_binds heard this_of digits
 for_in_null = refl
 
+-- `for (var x = f() in o) g(x);` calls f before the keys of o are asked for
+for_in_initialised : run_of Program (script ((three shape.ForInStatement (declaration Var (bound 1) (called (global (codes "f")))) (global (codes "o")) (does (call (global (codes "g")) ((local 1) ▸ none)))) ▸ none)) (gives (Number (pos 1)) ∷ gives (Object 9 false) ∷ gives (String (codes "k")) ∷ gives Null ∷ answer Finished ∷ []) ≡ Some (record { events = (CallOf, (None, Item (Object 4 true) ∷ Item Undefined ∷ [])) ∷ (KeysOf, (None, Item (Object 7 false) ∷ [])) ∷ (NextOf, (None, Item (Object 9 false) ∷ [])) ∷ (CallOf, (None, Item (Object 5 true) ∷ Item Undefined ∷ Item (String (codes "k")) ∷ [])) ∷ (NextOf, (None, Item (Object 9 false) ∷ [])) ∷ []; outcome = NormalEnd })
+unfolding means meaning step either act at_variable read_slot read_any write_slot take_turn answered answered_binds heard this_of digits
+for_in_initialised = refl
+
+-- `for (var x = f() in null); g(x);` calls f, and x has what it gave
+for_in_null_initialised : run_of Program (script ((three shape.ForInStatement (declaration Var (bound 1) (called (global (codes "f")))) null (leaf shape.EmptyStatement)) ▸ (does (call (global (codes "g")) ((local 1) ▸ none))) ▸ none)) (gives (Number (pos 1)) ∷ gives Null ∷ []) ≡ Some (record { events = (CallOf, (None, Item (Object 4 true) ∷ Item Undefined ∷ [])) ∷ (CallOf, (None, Item (Object 5 true) ∷ Item Undefined ∷ Item (Number (pos 1)) ∷ [])) ∷ []; outcome = NormalEnd })
+unfolding means meaning step either act at_variable read_slot read_any write_slot take_turn answered answered_binds heard this_of digits
+for_in_null_initialised = refl
+
+-- `for (var x in o) f(x);`
+for_in_var : run_of Program (script ((three shape.ForInStatement (declaration Var (bound 1) absent) (global (codes "o")) (does (call (global (codes "f")) ((local 1) ▸ none)))) ▸ none)) (gives (Object 9 false) ∷ gives (String (codes "k")) ∷ gives Null ∷ answer Finished ∷ []) ≡ Some (record { events = (KeysOf, (None, Item (Object 7 false) ∷ [])) ∷ (NextOf, (None, Item (Object 9 false) ∷ [])) ∷ (CallOf, (None, Item (Object 4 true) ∷ Item Undefined ∷ Item (String (codes "k")) ∷ [])) ∷ (NextOf, (None, Item (Object 9 false) ∷ [])) ∷ []; outcome = NormalEnd })
+unfolding means meaning step either act at_variable read_slot read_any write_slot take_turn answered answered_binds heard this_of digits
+for_in_var = refl
+
 -- `for (const x of o) f(x);`
 for_of_const : run_of Program (script ((three shape.ForOfStatement (declaration Const (bound 6) absent) (global (codes "o")) (does (call (global (codes "f")) ((local 6) ▸ none)))) ▸ none)) (gives (Object 9 false) ∷ gives (Number (pos 1)) ∷ gives Null ∷ answer Finished ∷ []) ≡ Some (record { events = (IteratorOf, (None, Item (Object 7 false) ∷ [])) ∷ (NextOf, (None, Item (Object 9 false) ∷ [])) ∷ (CallOf, (None, Item (Object 4 true) ∷ Item Undefined ∷ Item (Number (pos 1)) ∷ [])) ∷ (NextOf, (None, Item (Object 9 false) ∷ [])) ∷ []; outcome = NormalEnd })
 unfolding means meaning step either act at_variable read_slot read_any write_slot take_turn answered answered_binds heard this_of digits

@@ -2,7 +2,7 @@
 -- `do`, and each step of an iterator.
 use Rattle.std.specs.Prelude.{ℕ, Bool, true, false, List, [], ◌∷◌, Option, Some, None}
 use Rattle.mini_model.specs.Weight.{same_text}
-use Rattle.mini_model.specs.declared.kind.VariableDeclarationKind.TheVariants.{Let}
+use Rattle.mini_model.specs.declared.kind.VariableDeclarationKind.TheVariants.{Var, Let}
 use Rattle.mini_laws.specs.Value.{Value, choose, is_nullish}
 use Rattle.mini_laws.specs.State.{KeysOf, IteratorOf, NextOf, CloseOf, Item, Thrown, Broken, Continued, Ends, done, ended}
 use Rattle.mini_laws.specs.Demand.{Test, LoopTail, Demand, As, Stat, Prepare, Put, LabelSet}
@@ -60,6 +60,7 @@ for_step d has_no_test labels = scoped (for_head d (for_turns d has_no_test labe
 
 -- ECMA-262, "ForIn/OfBodyEvaluation": the left side takes a value
 abbrev pub give_left : (d : Option Declared) → Value → Command (each_demand d) (Unit {0})
+give_left (Some (Variables Var)) v = kid 0 (Some v) (then ret)
 give_left (Some (Variables k)) v = kid 0 v (then ret)
 give_left (Some AClass) v = kid 0 Prepare (then (λ reference. kid 0 (Put reference v) (then ret)))
 give_left None v = kid 0 Prepare (then (λ reference. kid 0 (Put reference v) (then ret)))
@@ -83,9 +84,14 @@ next_of iterator turn = bind (emit NextOf (Item iterator ∷ [])) (on_next turn)
 abbrev pub keys_in : (d : Option Declared) → LabelSet → Value → Command (each_demand d) (Unit {0})
 keys_in d labels v = choose (is_nullish v) (ret tt) (bind (emit KeysOf (Item v ∷ [])) (λ iterator. loop (next_of iterator (turn_of d labels))))
 
+-- ECMA-262, "Initializers in ForIn Statement Heads": a `var` is initialised before the right side is evaluated
+abbrev pub begin_left : (d : Option Declared) → Command (each_demand d) (Unit {0}) → Command (each_demand d) (Unit {0})
+begin_left (Some (Variables Var)) c = kid 0 None (then (λ u. c))
+begin_left d c = c
+
 -- ECMA-262, "ForIn/OfHeadEvaluation": lexical names of the head are uninitialised while the right side is evaluated
 abbrev pub for_in_step : (d : Option Declared) → LabelSet → Command (each_demand d) (Unit {0})
-for_in_step d labels = scoped (kid 1 tt (then (keys_in d labels)))
+for_in_step d labels = scoped (begin_left d (kid 1 tt (then (keys_in d labels))))
 
 -- ECMA-262, "IteratorClose": after a throw the answer isn't looked at
 abbrev pub closing : {σ : ℕ → Demand} → Value → Ends Bool → Command σ Bool

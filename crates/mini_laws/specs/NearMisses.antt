@@ -82,6 +82,10 @@ DeletedName = Unlike ArrowExpression (one (shape.UnaryExpression unary.Delete) (
 abbrev pub MissingName : Type 0
 MissingName = Unlike ArrowExpression (one (shape.UnaryExpression unary.Typeof) (global (codes "z"))) (one (shape.UnaryExpression unary.Typeof) (sequence (number 0 ▸ global (codes "z") ▸ none)))
 
+-- `z; f();` and `f();`, where z is missing
+abbrev pub AbsentDropped : Type 0
+AbsentDropped = Unlike Program (script (does (global (codes "z")) ▸ does f ▸ none)) (script (does f ▸ none))
+
 -- `null?.k.l` and `(null?.k).l`
 abbrev pub ChainEnds : Type 0
 ChainEnds =

@@ -47,11 +47,10 @@ is_odd n = nat_eq (n % 2) 1
 abbrev pub small_exponent : ℕ → ℕ
 small_exponent n = choose (nat_lt n 54) n (n % 2 + 2)
 
--- ECMA-262, "Number::exponentiate"
+-- ECMA-262, "Number::exponentiate": with a negative exponent only 1 and -1 have powers that are whole
 abbrev pub power : ℤ → ℤ → Made Value
 power a (pos n) = choose (nat_le (nat_abs a) 1 || nat_lt n 54) (number (signed (is_negative a && is_odd n) (nat_abs a ^ small_exponent n))) outside
-power (pos (suc zero)) (negsuc n) = makes (Number (pos 1))
-power a (negsuc n) = outside
+power a (negsuc n) = choose (nat_eq (nat_abs a) 1) (number (signed (is_negative a && is_odd (suc n)) 1)) outside
 
 -- ECMA-262, "ToUint32" and "ToInt32"
 abbrev pub modulo_32 : ℤ → ℕ

@@ -5,9 +5,9 @@ use Rattle.mini_model.specs.declared.operator.BinaryOperator.TheVariants as bina
 use Rattle.mini_laws.specs.Value.{Value, Undefined, choose, is_nullish}
 use Rattle.mini_laws.specs.Conversion.{Made, makes, raises, outside, to_number, known_member}
 use Rattle.mini_laws.specs.Operators.{strictly_equal, loosely_equal, of_numbers, of_primitives}
-use Rattle.mini_laws.specs.State.{Hint, ForDefault, ForNumber, Coerce, GetOf, SetOf, RaiseTypeError, Entry, Item, Returned, Continued, Ends, done, ended, Fixed, Writable, Constant, KeepsOld}
+use Rattle.mini_laws.specs.State.{Hint, ForDefault, ForNumber, Coerce, GetOf, SetOf, TypeError, Raise, Entry, Item, Returned, Continued, Ends, done, ended, Writing, Writes, WritesPresent, Refuses, Keeps}
 use Rattle.mini_laws.specs.Demand.{Tail, LoopTail, FunctionTail, Demand, As, Callee, OfType, Deleted, AnEntry, Stat, LabelSet, AValue, Request, Reply, Says, says, plain_call}
-use Rattle.mini_laws.specs.Command.{fixity, write, event, NoTag, is_object, Command, ret, fails, stuck, op, then, attempt, bind, emit}
+use Rattle.mini_laws.specs.Command.{read, fixity, write, event, NoTag, is_object, Command, ret, fails, stuck, op, then, attempt, bind, emit}
 use Rattle.mini_laws.specs.Asking.{pass}
 
 -- Replies
@@ -67,7 +67,7 @@ statement q r c = stuck
 
 -- ECMA-262, "ThrowCompletion" of a new TypeError
 abbrev pub raise : {σ : ℕ → Demand} {A : Type 0} → Command σ A
-raise = op (event RaiseTypeError NoTag []) (then (λ v. stuck))
+raise = op (event (Raise TypeError) NoTag []) (then (λ v. stuck))
 
 abbrev pub of_made : {σ : ℕ → Demand} {A : Type 0} → Made A → Command σ A
 of_made (makes a) = ret a
@@ -126,11 +126,13 @@ get_member object key = choose (is_nullish object) raise (or_event (known_member
 abbrev pub put_member : {σ : ℕ → Demand} → Value → Entry → Value → Command σ (Unit {0})
 put_member object key v = choose (is_nullish object) raise (bind (emit SetOf (Item object ∷ key ∷ Item v ∷ [])) (λ u. ret tt))
 
-abbrev pub by_fixity : {σ : ℕ → Demand} → Value → Fixed → Command σ (Unit {0})
-by_fixity v Writable = op (write 0 v) (then ret)
-by_fixity v Constant = raise
-by_fixity v KeepsOld = ret tt
+abbrev pub by_fixity : {σ : ℕ → Demand} → Value → Writing → Command σ (Unit {0})
+by_fixity v Writes = op (write 0 v) (then ret)
+by_fixity v WritesPresent = op (read 0) (then (λ old. op (write 0 v) (then ret)))
+by_fixity v Refuses = raise
+by_fixity v Keeps = ret tt
 
--- ECMA-262, "PutValue" of the node's own name: a constant raises
+-- ECMA-262, "PutValue" of the node's own name: a constant raises, and in strict code an unresolved name is first looked for
+-- ("SetMutableBinding" of an object environment record)
 abbrev pub put_own : {σ : ℕ → Demand} → Value → Command σ (Unit {0})
 put_own v = op (fixity 0) (then (by_fixity v))

@@ -9,7 +9,7 @@ use Rattle.mini_model.specs.declared.shape.Shape.{Shape}
 use Rattle.mini_model.specs.declared.shape.Shape.TheVariants as shape
 use Rattle.mini_model.specs.Tree.{Tree, Trees, node, none, ◌▸◌, leaf, absent, listed, identifier, unresolved, expression_statement}
 use Rattle.mini_laws.specs.Value.{Value, Undefined, Null, Object, Variable, Declared, Global, Slot, Holds, Missing, Uninitialised, choose, variable_eq}
-use Rattle.mini_laws.specs.State.{Label, Entry, Event, Normal, Throws, Given, Answer, Fixed, Writable, Constant, KeepsOld, Environment}
+use Rattle.mini_laws.specs.State.{Label, Entry, Event, Normal, Throws, Given, Answer, Writing, Writes, Refuses, Keeps, Environment}
 use Rattle.mini_laws.specs.Body.{Program, BodyKind, ArrowExpression, Outcome, Ran, Run}
 
 -- Trees
@@ -126,8 +126,8 @@ start (Declared n) = choose (nat_lt n 5) (Holds Undefined) Uninitialised
 start (Global s) = known_global (Global s)
 
 -- the symbol 8 is a constant, and 9 the name of a function expression in sloppy code
-abbrev pub fixed : Variable → Fixed
-fixed x = choose (variable_eq x (Declared 8)) Constant (choose (variable_eq x (Declared 9)) KeepsOld Writable)
+abbrev pub fixed : Variable → Writing
+fixed x = choose (variable_eq x (Declared 8)) Refuses (choose (variable_eq x (Declared 9)) Keeps Writes)
 
 -- the symbol 7 is shared
 abbrev pub environment : Environment

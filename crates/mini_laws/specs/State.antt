@@ -15,6 +15,11 @@ pub data Carries : Type 0 where
   AnObject : Carries
   InChain : Carries
 
+-- which error is made and thrown (ECMA-262, "Native Error Types Used in This Standard")
+pub data ErrorKind : Type 0 where
+  TypeError : ErrorKind
+  ReferenceError : ErrorKind
+
 -- what is asked of the world around the program. `Fresh` alone takes no answer: it comes before a shared lexical name is
 -- initialised, and at each copy of one for a turn of a loop. `PlaceOf` is of a private or a `super` member that is called
 -- or assigned to: its parts are evaluated, and the answer is its object
@@ -41,7 +46,7 @@ pub data Label : Type 0 where
   NextOf : Label
   CloseOf : Label
   YieldOf : Bool → Label
-  RaiseTypeError : Label
+  Raise : ErrorKind → Label
   FreshOf : Label
   DebuggerOf : Label
   ExportDefaultOf : Label
@@ -125,18 +130,26 @@ either (stop e s) f h = h e s
 either (halt e s) f h = halt e s
 either out f h = out
 
--- what a write of a variable does: it writes, it raises, or nothing
+-- what a declaration says of a write of its names: it writes, it raises, or nothing
 pub data Fixed : Type 0 where
   Writable : Fixed
   Constant : Fixed
   KeepsOld : Fixed
 
--- what a run rests on besides the text: the variables that an event shows, those that an answer may change, what each is
--- by its declaration, and whether `this` is asked of the world, as in a constructor of a class with a superclass
+-- what a write of a variable does: it writes, also a name that is absent; it writes one that is there, and raises a
+-- ReferenceError where none is; it raises a TypeError; or nothing
+pub data Writing : Type 0 where
+  Writes : Writing
+  WritesPresent : Writing
+  Refuses : Writing
+  Keeps : Writing
+
+-- what a run rests on besides the text: the variables that an event shows, those that an answer may change, what a write
+-- of each does, and whether `this` is asked of the world, as in a constructor of a class with a superclass
 pub record Environment : Type 0 where
   pub shared : VariableSet
   pub foreign : VariableSet
-  pub fixed : Variable → Fixed
+  pub fixed : Variable → Writing
   pub asks_this : Bool
 
 abbrev pub with_vars : State → (Variable → Slot) → State

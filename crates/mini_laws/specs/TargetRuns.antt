@@ -6,7 +6,7 @@ use Rattle.mini_model.specs.declared.operator.UpdateOperator.TheVariants.{Increm
 use Rattle.mini_model.specs.declared.shape.Shape.TheVariants as shape
 use Rattle.mini_model.specs.Tree.{none, ◌▸◌, listed}
 use Rattle.mini_laws.specs.Value.{Undefined, Null, Number, String, Object}
-use Rattle.mini_laws.specs.State.{Anything, GetOf, SetOf, CallOf, PlaceOf, BindOf, RaiseTypeError, Item, either}
+use Rattle.mini_laws.specs.State.{Anything, GetOf, SetOf, CallOf, PlaceOf, BindOf, TypeError, Raise, Item, either}
 use Rattle.mini_laws.specs.Command.{act, at_variable, read_slot, read_any, write_slot, take_turn, answered, answered_binds, heard, this_of}
 use Rattle.mini_laws.specs.Step.{step, means, meaning}
 use Rattle.mini_laws.specs.Body.{ReturnOf, ThrowOf}
@@ -53,7 +53,7 @@ unfolding means meaning step either act at_variable read_slot read_any write_slo
 member_read_first = refl
 
 -- a constant is written to, after the right side
-constant_assigned : value_of (assign assignment.Assign (local 8) (called (global (codes "f")))) (gives Null ∷ throws Null ∷ []) ≡ Some (record { events = (CallOf, (None, Item (Object 4 true) ∷ Item Undefined ∷ [])) ∷ (RaiseTypeError, (None, [])) ∷ []; outcome = ThrowOf Null })
+constant_assigned : value_of (assign assignment.Assign (local 8) (called (global (codes "f")))) (gives Null ∷ throws Null ∷ []) ≡ Some (record { events = (CallOf, (None, Item (Object 4 true) ∷ Item Undefined ∷ [])) ∷ (Raise TypeError, (None, [])) ∷ []; outcome = ThrowOf Null })
 unfolding means meaning step either act at_variable read_slot read_any write_slot take_turn answered answered_binds heard this_of digits
 constant_assigned = refl
 
@@ -82,8 +82,8 @@ decremented : value_of (sequence ((assign assignment.Assign (local 1) (number 1)
 unfolding means meaning step either act at_variable read_slot read_any write_slot take_turn answered answered_binds heard this_of digits
 decremented = refl
 
--- `z = 1`, where z is missing, is outside the model
-missing_assigned : value_of (assign assignment.Assign (global (codes "z")) (number 1)) ([]) ≡ None
+-- `z = 1`, where z is missing, adds z
+missing_assigned : value_of (assign assignment.Assign (global (codes "z")) (number 1)) ([]) ≡ Some (record { events = []; outcome = ReturnOf (Number (pos 1)) })
 unfolding means meaning step either act at_variable read_slot read_any write_slot take_turn answered answered_binds heard this_of digits
 missing_assigned = refl
 

@@ -10,9 +10,11 @@ abbrev pub is_open : Fixed → Bool
 is_open Writable = true
 is_open f = false
 
--- the variables that no declaration of a tree forbids to write
+-- the variables with a symbol that no declaration of a tree forbids to write; what a write of an unresolved name does,
+-- the state says
 abbrev pub writable_by : Tree → VariableSet
-writable_by t x = is_open (fixed_by t x)
+writable_by t (Declared k) = is_open (fixed_by t (Declared k))
+writable_by t (Global s) = false
 
 -- whether some node of a tree has a name of a variable
 abbrev mutual

@@ -17,7 +17,7 @@ use Rattle.mini_laws.proofs.Places.{resolved_distinct}
 use Rattle.mini_laws.proofs.Whole.{scoped}
 use Rattle.mini_scope.specs.Pointers.{early_fault}
 use Rattle.mini_laws.specs.Value.{Variable, Declared, Global}
-use Rattle.mini_laws.specs.State.{Fixed}
+use Rattle.mini_laws.specs.State.{Writing}
 use Rattle.mini_laws.specs.Body.{Run}
 use Rattle.mini_laws.specs.Bodies.{Body, bodies_in, outermost}
 use Rattle.mini_laws.specs.Congruence.{Avoids}
@@ -93,7 +93,7 @@ none_asks n (b ∷ bs) e c zero below at = ap (asks_as n) (sym at) ∙ (or_parts
 none_asks n (b ∷ bs) e c (suc i) below at = none_asks n bs (or_parts (asks_as n b) (list_any (asks_as n) bs) e).1 c i (omega (arith, below)) at
 
 -- what is known of a body of a program is so where it runs
-steadies : (u : Tree) (S : BodySets) → PartEach S (steady_in u) → (b c : Body) → Contains (bodies_in u) c → b.number ≡ c.number → b.asks_this ≡ c.asks_this → (fixed : Variable → Fixed) → Steadies (S b.number) (record { shared = shared_by u c; foreign = foreign_to u c; fixed = fixed; asks_this = b.asks_this })
+steadies : (u : Tree) (S : BodySets) → PartEach S (steady_in u) → (b c : Body) → Contains (bodies_in u) c → b.number ≡ c.number → b.asks_this ≡ c.asks_this → (fixed : Variable → Writing) → Steadies (S b.number) (record { shared = shared_by u c; foreign = foreign_to u c; fixed = fixed; asks_this = b.asks_this })
 steadies u S f b c (i, below, at) e asks fixed =
     let known : Within (S b.number) (steady_in u c.number) = subst (λ n. Within (S b.number) (steady_in u n)) e (f b.number) in
     record {

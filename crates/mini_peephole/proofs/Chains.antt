@@ -10,9 +10,9 @@ use Rattle.mini_model.specs.Rewriting.{Step, Reaches, done}
 use Rattle.mini_accept.specs.WellShaped.{IsWellShaped}
 use Rattle.mini_laws.specs.declared.names.Use.TheVariants.{Read}
 use Rattle.mini_laws.specs.Congruence.{NoneIn, Avoids, AllAvoid}
-use Rattle.mini_laws.specs.Fixity.{fixed_in, written_in}
+use Rattle.mini_laws.specs.Fixity.{fixed_by, fixed_in, written_in}
 use Rattle.mini_laws.specs.Scoped.{Scoped}
-use Rattle.mini_laws.specs.State.{Fixed, Writable, Constant, KeepsOld}
+use Rattle.mini_laws.specs.State.{Fixed, Writable, Constant, KeepsOld, Writing, Writes}
 use Rattle.mini_laws.specs.Substitution.{alone}
 use Rattle.mini_laws.specs.Symbols.{declared_symbols, times, Distinct}
 use Rattle.mini_laws.specs.Value.{Variable, Declared, Global, variable_eq, variables, is_in, choose}
@@ -65,12 +65,22 @@ open_is Writable e = refl
 open_is Constant e = absurd (true≢false (sym e))
 open_is KeepsOld e = absurd (true≢false (sym e))
 
-open_written : (strict : Bool) → written_in strict Writable ≡ Writable
-open_written true = refl
-open_written false = refl
+open_written : (strict : Bool) (k : ℕ) → written_in strict (Declared k) Writable ≡ Writes
+open_written true k = refl
+open_written false k = refl
 
-pub open_in : (strict : Bool) (t : Tree) (x : Variable) → writable_by t x ≡ true → fixed_in strict t x ≡ Writable
-open_in strict t x e = ap (written_in strict) (open_is _ e) ∙ open_written strict
+pub open_in : (strict : Bool) (t : Tree) (x : Variable) → writable_by t x ≡ true → fixed_in strict t x ≡ Writes
+open_in strict t (Declared k) e = ap (written_in strict (Declared k)) (open_is _ e) ∙ open_written strict k
+open_in strict t (Global s) e = absurd (true≢false (sym e))
+
+abbrev is_written : Writing → Bool
+is_written Writes = true
+is_written w = false
+
+written_open : (k : ℕ) (f : Fixed) → is_written (written_in false (Declared k) f) ≡ is_open f
+written_open k Writable = refl
+written_open k Constant = refl
+written_open k KeepsOld = refl
 
 module _ (G : Tree → Position → Tree → Tree → Type 0) (K : Shape → Bool) (T : Tree → BodySets) (S : BodySets) (l : (q : Tree) → LawfulRooted K (writable_in q) (T q) (G q)) (t : Tree) where
   -- what is made of a tree over some program in which nothing can be written that the first forbids to write, and nothing is steady but S
@@ -124,7 +134,7 @@ module _ (G : Tree → Position → Tree → Tree → Type 0) (K : Shape → Boo
         by : Part (writable_in u) (writable_by t)
         by (Declared k) h =
             let (m, f) = and_parts (mentions u (Declared k)) (writable_by u (Declared k)) h in
-            ap is_open (kept.fixities scoped distinct false (Declared k) (mentioned_is_declared u (kept.names.scoped shaped scoped) k m)) ∙ f
+            sym (written_open k (fixed_by t (Declared k))) ∙ ap is_written (kept.fixities scoped distinct false (Declared k) (mentioned_is_declared u (kept.names.scoped shaped scoped) k m)) ∙ written_open k (fixed_by u (Declared k)) ∙ f
         by (Global s) h = absurd (true≢false (sym h))
 
     pub any_reach : {k : ℕ} {s u : Tree} (r : PassesReach G k s u) → EachBegins (λ q. PartEach (T q) S) r → s ≡ t → Reaches Any Elsewhere t u

@@ -4,13 +4,13 @@ use Rattle.mini_model.specs.declared.kind.VariableDeclarationKind.TheVariants.{V
 use Rattle.mini_model.specs.Tree.{Tree, none, ◌▸◌}
 use Rattle.mini_laws.specs.Value.{Value, choose, is_nullish}
 use Rattle.mini_laws.specs.State.{NextOf, KeysOf, IteratorOf, Item, State, Thrown, Returned, Broken, Continued, Short, ok, stop, Ends, done, ended, either, Environment}
-use Rattle.mini_laws.specs.Demand.{Val, Test, Unused, LoopTail, Demand, As, Stat, LabelSet, Request, Reply}
+use Rattle.mini_laws.specs.Demand.{Val, Test, Unused, LoopTail, Demand, As, Stat, Heads, LabelSet, Request, Reply}
 use Rattle.mini_laws.specs.Command.{Naming, hide, Command, ret, fails, op, kid, copy, turn, fuel, then, attempt, bind, repeat, loop, emit, Kids, act, run}
 use Rattle.mini_laws.specs.Naming.{Declared, Variables, AClass, summary}
 use Rattle.mini_laws.specs.Asking.{first_demand, do_demand, for_demand, each_demand}
 use Rattle.mini_laws.specs.Statements.{scoped}
 use Rattle.mini_laws.specs.Replies.{as_ended}
-use Rattle.mini_laws.specs.Loops.{has_label, after_body, while_step, do_step, copied, for_test, for_turn, for_turns, for_head, for_step, give_left, each_turn, turn_of, next_of, on_next, keys_in, for_in_step, closing, values_of, for_of_step}
+use Rattle.mini_laws.specs.Loops.{has_label, after_body, while_step, do_step, copied, for_test, for_turn, for_turns, for_head, for_step, give_left, begin_left, each_turn, turn_of, next_of, on_next, keys_in, for_in_step, closing, values_of, for_of_step}
 use Rattle.mini_laws.specs.Step.{step, means, meaning}
 use Rattle.mini_laws.proofs.Runs.{either_cong, run_bind}
 use Rattle.mini_laws.proofs.Stretching.{run_attempt}
@@ -174,7 +174,7 @@ module _ (e : Environment) (c d : Tree) (same : SameTurn c d) (r : LabelSet) (le
   closing_same iterator (ended (Thrown v)) = λ z. refl
   closing_same iterator (ended x) = λ z. refl
 
-  module _ (give : (v : Value) → Same (give_left k v)) where
+  module _ (give : (v : Value) → Same (give_left k v)) (begin : (x : Command (each_demand k) (Unit {0})) → Same x → Same (begin_left k x)) where
     turn_same : (v : Value) → Same (turn_of k r v)
     turn_same v = scoped_alike e names (each_demand k) (I c) (I d) (each_turn k r v) (binds (give_left k v) (λ u. kid 2 [] (after_body r)) (give v) (λ u. turn_body))
 
@@ -188,7 +188,7 @@ module _ (e : Environment) (c d : Tree) (same : SameTurn c d) (r : LabelSet) (le
 
     for_in_same : Same (for_in_step k r)
     unfolding meaning
-    for_in_same = scoped_alike e names (each_demand k) (I c) (I d) (kid 1 tt (then (keys_in k r))) (λ z. either_cong (means e right (As Val) tt z) _ _ _ _ (λ v y. in_same v y) (λ x y. refl))
+    for_in_same = scoped_alike e names (each_demand k) (I c) (I d) (begin_left k (kid 1 tt (then (keys_in k r)))) (begin (kid 1 tt (then (keys_in k r))) (λ z. either_cong (means e right (As Val) tt z) _ _ _ _ (λ v y. in_same v y) (λ x y. refl)))
 
     for_of_same : Same (for_of_step k r)
     unfolding meaning
@@ -196,9 +196,17 @@ module _ (e : Environment) (c d : Tree) (same : SameTurn c d) (r : LabelSet) (le
 
 give_same : (e : Environment) (c d : Tree) (same : SameTurn c d) (r : LabelSet) (left right : Tree) (k : Option Declared) (names : Naming) (v : Value) → Same e c d same r left right k names (give_left k v)
 unfolding meaning
+give_same e c d same r left right (Some (Variables Var)) names v = λ z. refl
 give_same e c d same r left right (Some (Variables k)) names v = λ z. refl
 give_same e c d same r left right (Some AClass) names v = λ z. refl
 give_same e c d same r left right None names v = λ z. refl
+
+begin_same : (e : Environment) (c d : Tree) (same : SameTurn c d) (r : LabelSet) (left right : Tree) (k : Option Declared) (names : Naming) (x : Command (each_demand k) (Unit {0})) → Same e c d same r left right k names x → Same e c d same r left right k names (begin_left k x)
+unfolding meaning
+begin_same e c d same r left right (Some (Variables Var)) names x h = λ z. either_cong (means e left Heads None z) _ _ _ _ (λ u y. h y) (λ x y. refl)
+begin_same e c d same r left right (Some (Variables k)) names x h = h
+begin_same e c d same r left right (Some AClass) names x h = h
+begin_same e c d same r left right None names x h = h
 
 abbrev N : Naming
 N = record { own = []; written = []; bound = []; number = 0; scope = []; functions = [] }
@@ -232,14 +240,14 @@ module _ (c d : Tree) (same : SameTurn c d) (e : Environment) (r : LabelSet) (s 
   unfolding means step
   in_does left right =
       finished e (FN left) (each_demand (summary left).facts.declared) (I e c d same r left right (summary left).facts.declared (FN left) c) None (for_in_step (summary left).facts.declared r) s ∙ finish_none _
-      ∙ for_in_same e c d same r left right (summary left).facts.declared (FN left) (give_same e c d same r left right (summary left).facts.declared (FN left)) s
+      ∙ for_in_same e c d same r left right (summary left).facts.declared (FN left) (give_same e c d same r left right (summary left).facts.declared (FN left)) (begin_same e c d same r left right (summary left).facts.declared (FN left)) s
       ∙ sym (finished e (FN left) (each_demand (summary left).facts.declared) (I e c d same r left right (summary left).facts.declared (FN left) d) None (for_in_step (summary left).facts.declared r) s ∙ finish_none _)
 
   of_does : (left right : Tree) → means e (around (OfBody left right) c) (Stat None) r s ≡ means e (around (OfBody left right) d) (Stat None) r s
   unfolding means step
   of_does left right =
       finished e (FN left) (each_demand (summary left).facts.declared) (I e c d same r left right (summary left).facts.declared (FN left) c) None (for_of_step (summary left).facts.declared r) s ∙ finish_none _
-      ∙ for_of_same e c d same r left right (summary left).facts.declared (FN left) (give_same e c d same r left right (summary left).facts.declared (FN left)) s
+      ∙ for_of_same e c d same r left right (summary left).facts.declared (FN left) (give_same e c d same r left right (summary left).facts.declared (FN left)) (begin_same e c d same r left right (summary left).facts.declared (FN left)) s
       ∙ sym (finished e (FN left) (each_demand (summary left).facts.declared) (I e c d same r left right (summary left).facts.declared (FN left) d) None (for_of_step (summary left).facts.declared r) s ∙ finish_none _)
 
 -- ---- any of them

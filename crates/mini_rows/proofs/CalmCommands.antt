@@ -1,6 +1,6 @@
 -- Commands that end abruptly in some ways alone, which throws and returns are among: those of expressions, where their children do.
 use Rattle.std.proofs.Common.{◌≡◌, ℕ, zero, suc, Bool, true, false, List, [], ◌∷◌, refl, sym, subst, true≢false}
-use Rattle.mini_laws.proofs.Runs.{type_reads}
+use Rattle.mini_laws.proofs.Runs.{name_reads, name_writes, type_reads}
 use Rattle.std.specs.Prelude.{not, ◌&&◌, Option, Some, None, length}
 use Rattle.mini_model.specs.declared.operator.BinaryOperator.{BinaryOperator}
 use Rattle.mini_model.specs.declared.operator.BinaryOperator.TheVariants as binary
@@ -14,9 +14,9 @@ use Rattle.mini_model.specs.declared.shape.Shape.TheVariants as shape
 use Rattle.mini_laws.specs.Value.{Value, Variable, Slot, Holds, Missing, Uninitialised, Undefined, Null, Boolean, Number, String, choose, truth, is_nullish}
 use Rattle.mini_laws.specs.Conversion.{Made, makes, raises, outside, to_number, to_text, known_member, key_value}
 use Rattle.mini_laws.specs.Operators.{strictly_equal, loosely_equal, of_numbers, of_number, of_primitives, safe_number}
-use Rattle.mini_laws.specs.State.{Hint, ForDefault, ForNumber, ForString, Carries, Anything, ABoolean, AnObject, InChain, Label, GetOf, SetOf, DeleteOf, CallOf, DirectEval, NewOf, Coerce, InOf, InstanceOf, ArrayOf, ObjectOf, Create, NodeOf, PlaceOf, BindOf, ThisOf, IteratorOf, KeysOf, NextOf, YieldOf, Entry, Item, Given, Normal, Throws, Finished, Returning, Shortens, Answer, State, Stop, Thrown, Returned, Short, Completion, ok, stop, halt, out, done, ended, either, Fixed, Writable, Constant, KeepsOld, Environment, news_of}
+use Rattle.mini_laws.specs.State.{ReferenceError, Raise, Hint, ForDefault, ForNumber, ForString, Carries, Anything, ABoolean, AnObject, InChain, Label, GetOf, SetOf, DeleteOf, CallOf, DirectEval, NewOf, Coerce, InOf, InstanceOf, ArrayOf, ObjectOf, Create, NodeOf, PlaceOf, BindOf, ThisOf, IteratorOf, KeysOf, NextOf, YieldOf, Entry, Item, Given, Normal, Throws, Finished, Returning, Shortens, Answer, State, Stop, Thrown, Returned, Short, Completion, ok, stop, halt, out, done, ended, either, Writing, Writes, WritesPresent, Refuses, Keeps, Environment, news_of}
 use Rattle.mini_laws.specs.Demand.{Want, Val, Test, Unused, Demand, As, Callee, OfType, Deleted, Target, AnEntry, Items, Parts, Texts, Stat, Binds, Catches, Reference, AMember, AFetched, AValue, Prepare, Fetch, Put, Called, Request, Reply, Says}
-use Rattle.mini_laws.specs.Command.{Naming, Op, read, read_typeof, fixity, write, init, init_function, hide, copy, event, bind_names, self, turn, fuel, Gets, Command, ret, fails, stuck, op, kid, then, bind, shift, emit, emit_mine, Heard, hears, breaks, nonsense, is_object, hear_value, hear, heard, answered, bound_if, answered_binds, note, read_slot, read_any, read_type, write_slot, at_variable, this_of, take_turn, act, Kids, run}
+use Rattle.mini_laws.specs.Command.{Naming, Op, read, read_typeof, fixity, write, init, init_function, hide, copy, event, bind_names, self, turn, fuel, Gets, Command, ret, fails, stuck, op, kid, then, bind, shift, emit, emit_mine, Heard, hears, breaks, nonsense, is_object, hear_value, hear, heard, answered, bound_if, answered_binds, note, read_slot, read_global, read_name, read_any, read_type, write_slot, write_global, write_name, at_variable, this_of, take_turn, act, Kids, run}
 use Rattle.mini_laws.specs.Naming.{NameKind, PlainName, EvalName, UndefinedName, NumberName, Facts, first_facts}
 use Rattle.mini_laws.specs.Asking.{pass, chained, parts_demand}
 use Rattle.mini_laws.specs.Replies.{reply, valued, passed, passing, raise, of_made, of_option, primitive, hint_of, numeric, is_of_primitives, operate, loosely, or_event, get_member, put_member, by_fixity, put_own}
@@ -145,6 +145,14 @@ module _ (P : Stop → Type 0) (thrown : (v : Value) → P (Thrown v)) (returned
   slot_calm Missing s = tt
   slot_calm Uninitialised s = tt
 
+  global_calm : (e : Environment) (k : Slot) (s : State) → Calm (read_global e k s)
+  global_calm e (Holds v) s = tt
+  global_calm e Missing s = answered_calm e (Raise ReferenceError) s.answers (note e (Raise ReferenceError) None [] None s) tt
+  global_calm e Uninitialised s = tt
+
+  name_calm : (e : Environment) (x : Variable) (v : Slot) (s : State) → Calm (read_name e x v s)
+  name_calm e x v s = name_reads (λ a b. Calm a) e e x v v s s (slot_calm v s) (global_calm e v s)
+
   any_calm : (k : Slot) (s : State) → Calm (read_any k s)
   unfolding read_any
   any_calm (Holds v) s = tt
@@ -159,6 +167,14 @@ module _ (P : Stop → Type 0) (thrown : (v : Value) → P (Thrown v)) (returned
   write_calm x v (Holds w) s = tt
   write_calm x v Missing s = tt
   write_calm x v Uninitialised s = tt
+
+  write_global_calm : (x : Variable) (v : Value) (k : Slot) (s : State) → Calm (write_global x v k s)
+  write_global_calm x v (Holds w) s = tt
+  write_global_calm x v Missing s = tt
+  write_global_calm x v Uninitialised s = tt
+
+  write_name_calm : (x : Variable) (v : Value) (k : Slot) (s : State) → Calm (write_name x v k s)
+  write_name_calm x v k s = name_writes (λ a b. Calm a) x v k k s s (write_calm x v k s) (write_global_calm x v k s)
 
   this_calm : (e : Environment) (b : Bool) (s : State) → Calm (this_of e b s)
   unfolding this_of
@@ -182,10 +198,10 @@ module _ (P : Stop → Type 0) (thrown : (v : Value) → P (Thrown v)) (returned
 
   act_calm : (e : Environment) (names : Naming) (o : Op) (s : State) → FirmOp o → Calm (act e names o s)
   unfolding act
-  act_calm e names (read i) s p = at_calm _ _ (λ x. slot_calm (s.vars x) s)
+  act_calm e names (read i) s p = at_calm _ _ (λ x. name_calm e x (s.vars x) s)
   act_calm e names (read_typeof i) s p = at_calm _ _ (λ x. type_calm x (s.vars x) s)
   act_calm e names (fixity i) s p = at_calm _ _ (λ x. tt)
-  act_calm e names (write i v) s p = at_calm _ _ (λ x. write_calm x v (s.vars x) s)
+  act_calm e names (write i v) s p = at_calm _ _ (λ x. write_name_calm x v (s.vars x) s)
   act_calm e names (init i v) s p = at_calm _ _ (λ x. tt)
   act_calm e names (init_function is_lexical i v) s p = at_calm _ _ (λ x. tt)
   act_calm e names hide s p = tt
@@ -307,10 +323,11 @@ module _ (P : Stop → Type 0) (thrown : (v : Value) → P (Thrown v)) (returned
     put_tidy : (object : Value) (key : Entry) (v : Value) → Neat (put_member object key v)
     put_tidy object key v = tidy_choose b (is_nullish object) raise (bind (emit SetOf (Item object ∷ key ∷ Item v ∷ [])) (λ u. ret tt)) (raise_tidy (Unit {0})) (tt, (λ v. tt, λ y p. p))
 
-    fixed_tidy : (v : Value) (f : Fixed) → Neat (by_fixity v f)
-    fixed_tidy v Writable = (tt, (λ v. tt, λ y p. p))
-    fixed_tidy v Constant = raise_tidy (Unit {0})
-    fixed_tidy v KeepsOld = tt
+    fixed_tidy : (v : Value) (f : Writing) → Neat (by_fixity v f)
+    fixed_tidy v Writes = (tt, (λ v. tt, λ y p. p))
+    fixed_tidy v WritesPresent = (tt, (λ old. (tt, (λ v. tt, λ y p. p)), λ y p. p))
+    fixed_tidy v Refuses = raise_tidy (Unit {0})
+    fixed_tidy v Keeps = tt
 
     own_tidy : (v : Value) → Neat (put_own v)
     own_tidy v = (tt, (λ f. fixed_tidy v f, λ y p. p))

@@ -42,7 +42,7 @@ chain_row_same s n w r =
     let x : Tree = identifier r.name in
     let t : Tree = if_nullish r.equal r.name r.missing (spine false x r.last r.others) in
     subst (λ t. SameAt (Expr s) t w) (sym r.shape) (subst (SameAt (Expr s) t) (sym r.written)
-    (record { by = λ e D X q f. kept_same e D X s t (spine true x r.last r.others) (item_there r.equal r.name r.missing (spine false x r.last r.others)) (if_tells r.equal r.name r.missing (spine false x r.last r.others)) (λ z. chain_same r.equal r.name r.missing r.last r.others (plain_name r.name r.declared r.indirect) r.undefined r.calm e z) q f }))
+    (record { by = λ e D X q f. kept_same e D X s t (spine true x r.last r.others) (item_there r.equal r.name r.missing (spine false x r.last r.others)) (if_tells r.equal r.name r.missing (spine false x r.last r.others)) (λ z. chain_same r.equal r.name r.missing r.last r.others r.declared (plain_name r.name r.declared r.indirect) r.undefined r.calm e z) q f }))
   where
     item_there : (equal : Bool) (x : Name) (a b : Tree) → is_item (if_nullish equal x a b) ≡ true
     item_there true x a b = refl

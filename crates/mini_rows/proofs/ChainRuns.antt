@@ -1,6 +1,6 @@
 -- What members and calls over a name do, and what an optional chain of them does.
 use Rattle.std.proofs.Common.{◌≡◌, ℕ, Bool, true, false, List, [], ◌∷◌, refl, sym, ap, subst, ◌∙◌, inl, inr, true≢false}
-use Rattle.std.specs.Prelude.{not, ◌&&◌, Option, Some, None}
+use Rattle.std.specs.Prelude.{not, ◌&&◌, Option, Some, None, is_none}
 use Rattle.std.proofs.lemmas.Bool.{and_parts}
 use Rattle.mini_model.specs.declared.name.Name.{Name}
 use Rattle.mini_model.specs.declared.operator.BinaryOperator.TheVariants as binary_operator
@@ -313,7 +313,7 @@ if_value e false x a b s =
 
 -- both do the same
 
-module _ (equal : Bool) (x : Name) (m : Tree) (l : Link) (ls : List Link) (d : is_eval (kind_of x) ≡ false) (u : IsUndefined m) (p : are_calm_links l ls ≡ true) (e : Environment) (s : State) where
+module _ (equal : Bool) (x : Name) (m : Tree) (l : Link) (ls : List Link) (declared : is_none x.symbol ≡ false) (d : is_eval (kind_of x) ≡ false) (u : IsUndefined m) (p : are_calm_links l ls ≡ true) (e : Environment) (s : State) where
   abbrev named : Tree
   named = identifier x
 
@@ -351,4 +351,4 @@ module _ (equal : Bool) (x : Name) (m : Tree) (l : Link) (ls : List Link) (d : i
   goes_same (inr (v, k)) = ap asked_of k ∙ chosen_same v (is_nullish v) refl k
 
   pub chain_same : value e (if_nullish equal x m plain_spine) s ≡ value e (chain optional_spine) s
-  chain_same = if_value e equal x m plain_spine s ∙ goes_same (reading e x s) ∙ sym (chain_value e optional_spine s)
+  chain_same = if_value e equal x m plain_spine s ∙ goes_same (reading e x declared s) ∙ sym (chain_value e optional_spine s)

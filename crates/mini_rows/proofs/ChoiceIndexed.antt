@@ -1,6 +1,6 @@
 -- Two assignments to a member of a name whose key stands in brackets, between which a conditional chooses: one assignment chooses its value.
 use Rattle.std.proofs.Common.{◌≡◌, ◌<◌, Bool, true, false, [], refl, sym, ap, subst, ◌∙◌, inl, inr, arith, true≢false}
-use Rattle.std.specs.Prelude.{◌&&◌, nat_eq}
+use Rattle.std.specs.Prelude.{◌&&◌, nat_eq, is_none}
 use Rattle.std.proofs.lemmas.Bool.{and_parts}
 use Rattle.mini_model.specs.declared.name.Name.{Name}
 use Rattle.mini_model.specs.declared.operator.AssignmentOperator.TheVariants.{Assign}
@@ -52,10 +52,10 @@ pub member_target : (f k : Tree) (e : Environment) (s : State) → target e (com
 unfolding means meaning step
 member_target f k e s = either_cong (value e f s) _ _ _ _ (λ v z. either_cong (value e k z) _ _ _ _ (λ u y. refl) (λ x y. refl)) (λ x z. refl)
 
-target_told : (x : Name) (k : Tree) (e : Environment) (s : State) → Told (value e k s) s → Told (target e (computed_member (identifier x) k) s) s
-target_told x k e s h =
+target_told : (x : Name) → is_none x.symbol ≡ false → (k : Tree) (e : Environment) (s : State) → Told (value e k s) s → Told (target e (computed_member (identifier x) k) s) s
+target_told x declared k e s h =
     subst (λ y. Told y s) (sym (member_target (identifier x) k e s))
-    (told_next (value e (identifier x) s) s (reading e x s) (λ v z. next (value e k z) (λ u y. ok (AMember v (key_value u)) y)) (λ v. told_next (value e k s) s h (λ u y. ok (AMember v (key_value u)) y) (λ u. inr (AMember v (key_value u), refl))))
+    (told_next (value e (identifier x) s) s (reading e x declared s) (λ v z. next (value e k z) (λ u y. ok (AMember v (key_value u)) y)) (λ v. told_next (value e k s) s h (λ u y. ok (AMember v (key_value u)) y) (λ u. inr (AMember v (key_value u), refl))))
 
 -- ---- the assignment
 
@@ -86,7 +86,7 @@ module _ (e : Environment) (a t b c : Tree) (s : State) (test : Told (value e a 
 -- where `this` is asked of the world only if it has an effect
 pub indexed_there : (e : Environment) (asked : Bool) → (asked ≡ false → e.asks_this ≡ false) → (q : Seat) (n w : Tree) (r : ChosenIndexedRow asked q n w) (s : State) → value e (conditional r.a (assignment Assign (computed_member (identifier r.name) r.key) r.b) (assignment Assign (computed_member (identifier r.name) r.key) r.c)) s ≡ value e (assignment Assign (computed_member (identifier r.name) r.key) (conditional r.a r.b r.c)) s
 indexed_there e asked f q n w r s =
-    chosen_value e r.a (computed_member (identifier r.name) r.key) r.b r.c s (told_there e asked f r.a r.effect_free s) (target_told r.name r.key e s (told_there e asked f r.key r.idle s))
+    chosen_value e r.a (computed_member (identifier r.name) r.key) r.b r.c s (told_there e asked f r.a r.effect_free s) (target_told r.name r.declared r.key e s (told_there e asked f r.key r.idle s))
 
 -- 45 of members means the same
 pub indexed_same : (s : Seat) (n w : Tree) → Row45Indexed s n w → SameTree n w

@@ -1,6 +1,6 @@
 -- What each row of choices writes means the same.
 use Rattle.std.proofs.Common.{◌≡◌, ℕ, List, [], ◌∷◌, Option, Some, None, Bool, true, false, refl, sym, ap, subst, subst₂, ◌∙◌, inl, inr, true≢false}
-use Rattle.std.specs.Prelude.{◌⊎◌, not, is_none, codes}
+use Rattle.std.specs.Prelude.{◌⊎◌, ◌&&◌, not, is_none, codes}
 use Rattle.std.proofs.lemmas.Bool.{and_parts}
 use Rattle.mini_model.specs.declared.name.Name.{Name}
 use Rattle.mini_model.specs.declared.operator.AssignmentOperator.{AssignmentOperator}
@@ -19,9 +19,9 @@ use Rattle.mini_model.specs.declared.place.Position.{Position}
 use Rattle.mini_model.specs.declared.place.Position.TheVariants.{Expr}
 use Rattle.mini_laws.specs.Operators.{strictly_equal, type_text}
 use Rattle.mini_laws.specs.Value.{Value, Undefined, Null, Boolean, Number, String, Symbol, Object, Variable, Declared, Global, Slot, Holds, Missing, Uninitialised, choose, truth, is_nullish, variable_of}
-use Rattle.mini_laws.specs.State.{State, Completion, ok, stop, out, either, Environment}
+use Rattle.mini_laws.specs.State.{ReferenceError, Raise, State, Completion, ok, stop, out, either, Environment}
 use Rattle.mini_laws.specs.Demand.{Val, Demand, As, OfType, Stat}
-use Rattle.mini_laws.specs.Command.{ret, bind, Kids, read_slot, read_any, read_type, at_variable, act, run}
+use Rattle.mini_laws.specs.Command.{ret, bind, Kids, note, read_slot, read_name, read_any, read_type, at_variable, act, run}
 use Rattle.mini_laws.specs.Naming.{NameKind, UndefinedName, NumberName, summary, naming, kind_of}
 use Rattle.mini_laws.specs.Expressions.{get_identifier, type_identifier, operate_by}
 use Rattle.mini_laws.specs.Step.{step, means, meaning}
@@ -46,7 +46,7 @@ use Rattle.mini_rows.proofs.ChoiceIndexed.{indexed_same}
 use Rattle.mini_rows.proofs.ChoiceFree.{goes_on_chosen, begins_alike, Told, told_there}
 use Rattle.mini_rows.proofs.SpellAlike.{SameTree}
 use Rattle.mini_rows.proofs.SpellMeaning.{tree_same, same_by}
-use Rattle.mini_rows.proofs.ChoiceRuns.{value, by_value, reading, written_out, operate_free, conditional_tells, logical_tells, binary_tells, strict_told, null_value, undefined_value, assignment_tells, pair_tells, pair_value, by_reading, equal_null, unequal_null, sides, binary_names, binary_value, conditional_value, logical_value, puts, assign_value, deciding_value, computing_value}
+use Rattle.mini_rows.proofs.ChoiceRuns.{value, by_value, reading, Breaks, raised_breaks, written_out, operate_free, conditional_tells, logical_tells, binary_tells, strict_told, null_value, undefined_value, assignment_tells, pair_tells, pair_value, by_reading, equal_null, unequal_null, sides, binary_names, binary_value, conditional_value, logical_value, puts, assign_value, deciding_value, computing_value}
 use Rattle.mini_terms.specs.Effects.{ef}
 
 -- 39
@@ -205,13 +205,19 @@ computed_value e o c h x b s =
     ∙ written_out e o x b s
     ∙ either_cong (value e f s) _ _ _ _ (λ v z. either_cong (value e b z) _ _ _ _ (λ u y. ap (puts e x) (ap (λ k. run {q = λ i. As Val} e (binary_names o f b) (sides e f b) k y) (computes_it o c h v u) ∙ operate_free e (binary_names o f b) no_names (λ i. As Val) (λ i. As Val) (sides e f b) no_kids o v u y)) (λ x y. refl)) (λ x z. refl)
 
-computed_chosen : (e : Environment) (o : BinaryOperator) (c : AssignmentOperator) → computing o ≡ Some c → (a : Tree) (x : Name) (b d : Tree) (s : State) → Told (value e a s) s → value e (conditional a (assignment c (identifier x) b) (assignment c (identifier x) d)) s ≡ value e (assignment c (identifier x) (conditional a b d)) s
-computed_chosen e o c h a x b d s quiet =
+not_so : (b : Bool) → not b ≡ true → b ≡ false
+not_so true h = absurd (true≢false (sym h))
+not_so false h = refl
+
+computed_chosen : (e : Environment) (o : BinaryOperator) (c : AssignmentOperator) → computing o ≡ Some c → (a : Tree) (x : Name) (b d : Tree) (s : State) (free : Bool) → not (is_none x.symbol) && free ≡ true → (free ≡ true → Told (value e a s) s) → value e (conditional a (assignment c (identifier x) b) (assignment c (identifier x) d)) s ≡ value e (assignment c (identifier x) (conditional a b d)) s
+computed_chosen e o c h a x b d s free m t =
     let f : Tree = identifier x in
+    let (known, effect_free) = and_parts (not (is_none x.symbol)) free m in
+    let quiet : Told (value e a s) s = t effect_free in
     let goes_on : Value → Completion Value → Completion Value = λ v y. next y (λ u z. puts e x (made e o v u z)) in
     let follows : Tree → Value → State → Completion Value = λ t v z. goes_on v (value e t z) in
     conditional_value e a (assignment c f b) (assignment c f d) s
-    ∙ begins_alike s (value e f s) (value e a s) (reading e x s) quiet (follows b) (follows d) (follows (conditional a b d))
+    ∙ begins_alike s (value e f s) (value e a s) (reading e x (not_so (is_none x.symbol) known) s) quiet (follows b) (follows d) (follows (conditional a b d))
     (λ v. ap (goes_on v) (conditional_value e a b d s) ∙ goes_on_chosen (goes_on v) (either_out _ _) (value e a s) s quiet (λ z. value e b z) (λ z. value e d z))
     (λ z. value e (assignment c f b) z) (λ z. value e (assignment c f d) z) (computed_value e o c h x b s) (computed_value e o c h x d s)
     ∙ sym (computed_value e o c h x (conditional a b d) s)
@@ -221,18 +227,18 @@ chosen_by assigning.Assign a x b c free h e s t = chosen_value a x b c e s
 chosen_by assigning.LogicalOr a x b c free h e s t = absurd (true≢false (sym h))
 chosen_by assigning.LogicalAnd a x b c free h e s t = absurd (true≢false (sym h))
 chosen_by assigning.LogicalNullish a x b c free h e s t = absurd (true≢false (sym h))
-chosen_by assigning.Addition a x b c free h e s t = computed_chosen e binary_operator.Addition assigning.Addition refl a x b c s (t (and_parts (not (is_none x.symbol)) free h).1)
-chosen_by assigning.Subtraction a x b c free h e s t = computed_chosen e binary_operator.Subtraction assigning.Subtraction refl a x b c s (t (and_parts (not (is_none x.symbol)) free h).1)
-chosen_by assigning.Multiplication a x b c free h e s t = computed_chosen e binary_operator.Multiplication assigning.Multiplication refl a x b c s (t (and_parts (not (is_none x.symbol)) free h).1)
-chosen_by assigning.Division a x b c free h e s t = computed_chosen e binary_operator.Division assigning.Division refl a x b c s (t (and_parts (not (is_none x.symbol)) free h).1)
-chosen_by assigning.Remainder a x b c free h e s t = computed_chosen e binary_operator.Remainder assigning.Remainder refl a x b c s (t (and_parts (not (is_none x.symbol)) free h).1)
-chosen_by assigning.Exponential a x b c free h e s t = computed_chosen e binary_operator.Exponential assigning.Exponential refl a x b c s (t (and_parts (not (is_none x.symbol)) free h).1)
-chosen_by assigning.ShiftLeft a x b c free h e s t = computed_chosen e binary_operator.ShiftLeft assigning.ShiftLeft refl a x b c s (t (and_parts (not (is_none x.symbol)) free h).1)
-chosen_by assigning.ShiftRight a x b c free h e s t = computed_chosen e binary_operator.ShiftRight assigning.ShiftRight refl a x b c s (t (and_parts (not (is_none x.symbol)) free h).1)
-chosen_by assigning.ShiftRightZeroFill a x b c free h e s t = computed_chosen e binary_operator.ShiftRightZeroFill assigning.ShiftRightZeroFill refl a x b c s (t (and_parts (not (is_none x.symbol)) free h).1)
-chosen_by assigning.BitwiseAnd a x b c free h e s t = computed_chosen e binary_operator.BitwiseAnd assigning.BitwiseAnd refl a x b c s (t (and_parts (not (is_none x.symbol)) free h).1)
-chosen_by assigning.BitwiseXor a x b c free h e s t = computed_chosen e binary_operator.BitwiseXor assigning.BitwiseXor refl a x b c s (t (and_parts (not (is_none x.symbol)) free h).1)
-chosen_by assigning.BitwiseOr a x b c free h e s t = computed_chosen e binary_operator.BitwiseOr assigning.BitwiseOr refl a x b c s (t (and_parts (not (is_none x.symbol)) free h).1)
+chosen_by assigning.Addition a x b c free h e s t = computed_chosen e binary_operator.Addition assigning.Addition refl a x b c s free h t
+chosen_by assigning.Subtraction a x b c free h e s t = computed_chosen e binary_operator.Subtraction assigning.Subtraction refl a x b c s free h t
+chosen_by assigning.Multiplication a x b c free h e s t = computed_chosen e binary_operator.Multiplication assigning.Multiplication refl a x b c s free h t
+chosen_by assigning.Division a x b c free h e s t = computed_chosen e binary_operator.Division assigning.Division refl a x b c s free h t
+chosen_by assigning.Remainder a x b c free h e s t = computed_chosen e binary_operator.Remainder assigning.Remainder refl a x b c s free h t
+chosen_by assigning.Exponential a x b c free h e s t = computed_chosen e binary_operator.Exponential assigning.Exponential refl a x b c s free h t
+chosen_by assigning.ShiftLeft a x b c free h e s t = computed_chosen e binary_operator.ShiftLeft assigning.ShiftLeft refl a x b c s free h t
+chosen_by assigning.ShiftRight a x b c free h e s t = computed_chosen e binary_operator.ShiftRight assigning.ShiftRight refl a x b c s free h t
+chosen_by assigning.ShiftRightZeroFill a x b c free h e s t = computed_chosen e binary_operator.ShiftRightZeroFill assigning.ShiftRightZeroFill refl a x b c s free h t
+chosen_by assigning.BitwiseAnd a x b c free h e s t = computed_chosen e binary_operator.BitwiseAnd assigning.BitwiseAnd refl a x b c s free h t
+chosen_by assigning.BitwiseXor a x b c free h e s t = computed_chosen e binary_operator.BitwiseXor assigning.BitwiseXor refl a x b c s free h t
+chosen_by assigning.BitwiseOr a x b c free h e s t = computed_chosen e binary_operator.BitwiseOr assigning.BitwiseOr refl a x b c s free h t
 
 -- where `this` is asked of the world only if it has an effect
 pub chosen_there : (e : Environment) (asked : Bool) → (asked ≡ false → e.asks_this ≡ false) → (q : Seat) (n w : Tree) (r : ChosenRow asked q n w) (s : State) → value e (conditional r.a (assignment r.operator (identifier r.name) r.b) (assignment r.operator (identifier r.name) r.c)) s ≡ value e (assignment r.operator (identifier r.name) (conditional r.a r.b r.c)) s
@@ -375,20 +381,20 @@ both_same a b =
 
 -- what `typeof` is given of a name: what reading it gives, unless the name is missing or not initialised
 abbrev Typed : Completion Value → Completion Value → State → Type 0
-Typed y t s = ((y ≡ out) × ((t ≡ out) ⊎ (t ≡ ok Undefined s))) ⊎ (t ≡ y)
+Typed y t s = (Breaks y × ((t ≡ out) ⊎ (t ≡ ok Undefined s))) ⊎ (t ≡ y)
 
-slot_typed : (y : Variable) (k : Slot) (s : State) → Typed (read_slot k s) (read_type y k s) s
+slot_typed : (e : Environment) (y : Variable) (k : Slot) (s : State) → Typed (read_name e y k s) (read_type y k s) s
 unfolding read_slot read_any
-slot_typed (Declared n) k s = inr refl
-slot_typed (Global t) (Holds v) s = inr refl
-slot_typed (Global t) Missing s = inl (refl, inr refl)
-slot_typed (Global t) Uninitialised s = inl (refl, inl refl)
+slot_typed e (Declared n) k s = inr refl
+slot_typed e (Global t) (Holds v) s = inr refl
+slot_typed e (Global t) Missing s = inl (raised_breaks e s.answers (note e (Raise ReferenceError) None [] None s), inr refl)
+slot_typed e (Global t) Uninitialised s = inl (tt, inl refl)
 
 kind_typed : (e : Environment) (y : Variable) (K L : Kids (λ i. Stat None)) (k : NameKind) (s : State) → Typed (run {q = λ i. Stat None} e (naming shape.Identifier (As Val) (y ∷ []) 0 []) K (bind (get_identifier k) (λ v. ret v)) s) (run {q = λ i. Stat None} e (naming shape.Identifier OfType (y ∷ []) 0 []) L (bind (type_identifier k) ret) s) s
 unfolding act at_variable
 kind_typed e y K L UndefinedName s = inr refl
-kind_typed e y K L NumberName s = inl (refl, inl refl)
-kind_typed e y K L k s = subst₂ (λ a b. Typed a b s) (sym (either_eta (read_slot (s.vars y) s))) (sym (either_eta (read_type y (s.vars y) s))) (slot_typed y (s.vars y) s)
+kind_typed e y K L NumberName s = inl (tt, inl refl)
+kind_typed e y K L k s = subst₂ (λ a b. Typed a b s) (sym (either_eta (read_name e y (s.vars y) s))) (sym (either_eta (read_type y (s.vars y) s))) (slot_typed e y (s.vars y) s)
 
 typed : (e : Environment) (x : Name) (s : State) → Typed (value e (identifier x) s) (means e (identifier x) OfType tt s) s
 unfolding means step
@@ -558,7 +564,7 @@ module _ (e : Environment) (there strict : Bool) (x : Name) where
   asks_there v s k = object_value e there x s ∙ by (typed e x s)
     where
       by : Typed (value e (identifier x) s) (means e (identifier x) OfType tt s) s → either (means e (identifier x) OfType tt s) (λ v z. ok (Boolean (told_object there v)) z) (λ y z. stop y z) ≡ ok (Boolean (told_object there v)) s
-      by (inl (q, g)) = absurd (cc (sym q ∙ k))
+      by (inl (q, g)) = absurd (subst Breaks k q)
       by (inr g) = ap (λ c. either c (λ v z. ok (Boolean (told_object there v)) z) (λ y z. stop y z)) (g ∙ k) ∙ either_ok v s _ _
 
   told_then : (t : Tree) (p : Value → Bool) → ((s : State) → value e t s ≡ either (value e (identifier x) s) (λ v z. ok (Boolean (p v)) z) (λ y z. stop y z)) → (s : State) → value e (logical o t asks) s ≡ either (value e (identifier x) s) (λ v z. choose (assigns o (Boolean (p v))) (value e asks z) (ok (Boolean (p v)) z)) (λ y z. stop y z)

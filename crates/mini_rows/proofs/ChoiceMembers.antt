@@ -1,6 +1,7 @@
 -- What an operator makes of a member, and an assignment to it, is what the one assignment of that operator does (35), where the object does
 -- nothing but give a value; and what a test chooses may be assigned to a member of a name (45).
 use Rattle.std.proofs.Common.{◌≡◌, ℕ, Bool, true, false, Option, Some, None, List, [], ◌∷◌, refl, sym, ap, subst, ◌∙◌, true≢false}
+use Rattle.std.specs.Prelude.{is_none}
 use Rattle.mini_model.specs.declared.name.Name.{Name}
 use Rattle.mini_model.specs.declared.operator.AssignmentOperator.{AssignmentOperator}
 use Rattle.mini_model.specs.declared.operator.AssignmentOperator.TheVariants as assigning
@@ -161,24 +162,24 @@ pub member_same : (n w : Tree) → Row35Member n w → SameTree n w
 member_same n w r =
     same_by n w _ _ r.shape r.written
     (by_value _ _ (assignment_tells assigning.Assign (member_of r.name r.key) (binary r.operator (member_of r.name r.key) r.b)) (assignment_tells r.combined (member_of r.name r.key) r.b) refl
-    (λ e s. member_value_same e (identifier r.name) (reading e r.name) r.operator r.combined r.computes r.key r.b s))
+    (λ e s. member_value_same e (identifier r.name) (reading e r.name r.declared) r.operator r.combined r.computes r.key r.b s))
 
 -- ---- what a test without an effect chooses
 
-chosen_member : (e : Environment) (a : Tree) (x : Name) (k : Key) (b c : Tree) (s : State) → Told (value e a s) s → value e (conditional a (assignment assigning.Assign (member_of x k) b) (assignment assigning.Assign (member_of x k) c)) s ≡ value e (assignment assigning.Assign (member_of x k) (conditional a b c)) s
-chosen_member e a x k b c s quiet =
+chosen_member : (e : Environment) (a : Tree) (x : Name) (k : Key) (b c : Tree) (s : State) → is_none x.symbol ≡ false → Told (value e a s) s → value e (conditional a (assignment assigning.Assign (member_of x k) b) (assignment assigning.Assign (member_of x k) c)) s ≡ value e (assignment assigning.Assign (member_of x k) (conditional a b c)) s
+chosen_member e a x k b c s declared quiet =
     let m : Tree = member_of x k in
     let goes_on : Value → Completion Value → Completion Value = λ v y. next y (λ u z. put e (identifier x) k v u z) in
     let follows : Tree → Value → State → Completion Value = λ t v z. goes_on v (value e t z) in
     conditional_value e a (assignment assigning.Assign m b) (assignment assigning.Assign m c) s
-    ∙ begins_alike s (value e (identifier x) s) (value e a s) (reading e x s) quiet (follows b) (follows c) (follows (conditional a b c))
+    ∙ begins_alike s (value e (identifier x) s) (value e a s) (reading e x declared s) quiet (follows b) (follows c) (follows (conditional a b c))
     (λ v. ap (goes_on v) (conditional_value e a b c s) ∙ goes_on_chosen (goes_on v) (either_out _ _) (value e a s) s quiet (λ z. value e b z) (λ z. value e c z))
     (λ z. value e (assignment assigning.Assign m b) z) (λ z. value e (assignment assigning.Assign m c) z) (assigned_value e (identifier x) k b s) (assigned_value e (identifier x) k c s)
     ∙ sym (assigned_value e (identifier x) k (conditional a b c) s)
 
 -- where `this` is asked of the world only if it has an effect
 pub member_chosen_there : (e : Environment) (asked : Bool) → (asked ≡ false → e.asks_this ≡ false) → (q : Seat) (n w : Tree) (r : ChosenMemberRow asked q n w) (s : State) → value e (conditional r.a (assignment assigning.Assign (member_of r.name r.key) r.b) (assignment assigning.Assign (member_of r.name r.key) r.c)) s ≡ value e (assignment assigning.Assign (member_of r.name r.key) (conditional r.a r.b r.c)) s
-member_chosen_there e asked f q n w r s = chosen_member e r.a r.name r.key r.b r.c s (told_there e asked f r.a r.effect_free s)
+member_chosen_there e asked f q n w r s = chosen_member e r.a r.name r.key r.b r.c s r.declared (told_there e asked f r.a r.effect_free s)
 
 pub member_chosen_same : (s : Seat) (n w : Tree) → Row45Member s n w → SameTree n w
 member_chosen_same s n w r =

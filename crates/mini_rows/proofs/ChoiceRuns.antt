@@ -1,7 +1,8 @@
 -- What conditionals, logical expressions and assignments of names do, by the values of their parts.
-use Rattle.std.proofs.Common.{◌≡◌, ℕ, Bool, true, false, List, [], ◌∷◌, Option, refl, sym, ap, subst, ◌∙◌, inl, inr}
-use Rattle.std.specs.Prelude.{◌⊎◌, ◌&&◌, not, Some, None}
+use Rattle.std.proofs.Common.{◌≡◌, ℕ, Bool, true, false, List, [], ◌∷◌, Option, refl, sym, ap, subst, ◌∙◌, inl, inr, true≢false}
+use Rattle.std.specs.Prelude.{◌⊎◌, ◌&&◌, not, Some, None, is_none}
 use Rattle.mini_model.specs.declared.name.Name.{Name}
+use Rattle.mini_model.specs.declared.name.SymbolId.{SymbolId}
 use Rattle.mini_model.specs.declared.operator.AssignmentOperator.{AssignmentOperator}
 use Rattle.mini_model.specs.declared.operator.AssignmentOperator.TheVariants as assigning
 use Rattle.mini_model.specs.declared.operator.BinaryOperator.{BinaryOperator}
@@ -10,10 +11,10 @@ use Rattle.mini_model.specs.declared.operator.LogicalOperator.{LogicalOperator}
 use Rattle.mini_model.specs.declared.operator.LogicalOperator.TheVariants.{Or, And, Coalesce}
 use Rattle.mini_model.specs.declared.shape.Shape.TheVariants as shape
 use Rattle.mini_model.specs.Tree.{Tree, none, ◌▸◌, listed, identifier, logical, conditional, null_literal}
-use Rattle.mini_laws.specs.Value.{Value, Undefined, Null, Boolean, Variable, Slot, Holds, Missing, Uninitialised, choose, truth, is_nullish, variable_of, variables}
-use Rattle.mini_laws.specs.State.{Hint, ForNumber, ForDefault, Coerce, InOf, InstanceOf, Label, Entry, Item, State, Completion, ok, stop, out, either, Environment}
+use Rattle.mini_laws.specs.Value.{Value, Undefined, Null, Boolean, Variable, Declared, Global, Slot, Holds, Missing, Uninitialised, choose, truth, is_nullish, variable_by, variable_of, variables}
+use Rattle.mini_laws.specs.State.{Hint, ForNumber, ForDefault, Coerce, InOf, InstanceOf, Label, ReferenceError, Raise, Entry, Item, Given, Normal, Throws, Finished, Returning, Shortens, Answer, State, Completion, ok, stop, halt, out, either, Environment, news_of}
 use Rattle.mini_laws.specs.Demand.{Val, Test, Unused, Demand, As, Parts, Callee, OfType, Deleted, Target, AnEntry, Stat, AName, AValue, Fetch, Put, Reference, Request, Reply, plain_call}
-use Rattle.mini_laws.specs.Command.{read, Naming, Command, ret, kid, then, bind, emit, is_object, Kids, read_slot, at_variable, act, run}
+use Rattle.mini_laws.specs.Command.{read, Naming, Command, ret, kid, then, bind, emit, is_object, Kids, hear, heard, note, answered, read_slot, read_name, at_variable, act, run}
 use Rattle.mini_laws.specs.Naming.{NameKind, UndefinedName, NumberName, summary, summaries, naming, kind_of}
 use Rattle.mini_laws.specs.Asking.{first_demand, logical_demand}
 use Rattle.mini_laws.specs.Replies.{reply, passed, raise, loosely, of_option, of_made, primitive, numeric, hint_of, is_of_primitives, operate}
@@ -328,15 +329,67 @@ slot_read Uninitialised s = inl refl
 read_again : (y : Completion Value) (s : State) → Reading y s → Reading (either y (λ v z. ok v z) (λ x z. stop x z)) s
 read_again y s r = subst (λ x. Reading x s) (sym (either_eta y)) r
 
-name_read : (e : Environment) (n : Naming) (σ : ℕ → Demand) (K : Kids σ) (y : Variable) → n.own ≡ y ∷ [] → (k : NameKind) (s : State) → Reading (run {q = σ} e n K (bind (get_identifier k) (λ v. ret v)) s) s
+name_read : (e : Environment) (n : Naming) (σ : ℕ → Demand) (K : Kids σ) (y : ℕ) → n.own ≡ Declared y ∷ [] → (k : NameKind) (s : State) → Reading (run {q = σ} e n K (bind (get_identifier k) (λ v. ret v)) s) s
 unfolding act at_variable
 name_read e n σ K y h UndefinedName s = inr (Undefined, refl)
 name_read e n σ K y h NumberName s = inl refl
-name_read e n σ K y h k s = subst (λ ys. Reading (either (act e (record n { own = ys }) (read 0) s) (λ v z. ok v z) (λ x z. stop x z)) s) (sym h) (read_again (read_slot (s.vars y) s) s (slot_read (s.vars y) s))
+name_read e n σ K y h k s = subst (λ ys. Reading (either (act e (record n { own = ys }) (read 0) s) (λ v z. ok v z) (λ x z. stop x z)) s) (sym h) (read_again (read_slot (s.vars (Declared y)) s) s (slot_read (s.vars (Declared y)) s))
 
-pub reading : (e : Environment) (x : Name) (s : State) → Reading (value e (identifier x) s) s
+-- of a name that a scope declares
+pub reading : (e : Environment) (x : Name) → is_none x.symbol ≡ false → (s : State) → Reading (value e (identifier x) s) s
 unfolding means step
-reading e x s = name_read e (naming shape.Identifier (As Val) (variables (x ∷ [])) 0 []) (λ i. Stat None) (λ i r z. meaning e none i (Stat None) r z) (variable_of x) refl (kind_of x) s
+reading e x declared s = by x.symbol refl declared
+  where
+    by : (o : Option SymbolId) → x.symbol ≡ o → is_none o ≡ false → Reading (value e (identifier x) s) s
+    by (Some k) p h = name_read e (naming shape.Identifier (As Val) (variables (x ∷ [])) 0 []) (λ i. Stat None) (λ i r z. meaning e none i (Stat None) r z) k.0 (ap (λ o. variable_by x.spelling o ∷ []) p) (kind_of x) s
+    by None p h = absurd (true≢false h)
+
+-- it gives no value, as of a name that is absent
+abbrev pub Breaks : Completion Value → Type 0
+Breaks (ok v s) = ⊥
+Breaks y = Unit {0}
+
+-- of any name: it gives none, or gives one and changes nothing
+abbrev Reads : Completion Value → State → Type 0
+Reads y s = Breaks y ⊎ ((v : Value) × (y ≡ ok v s))
+
+pub raised_breaks : (e : Environment) (answers : List Answer) (s : State) → Breaks (answered e (Raise ReferenceError) answers s)
+unfolding answered heard
+raised_breaks e [] s = tt
+raised_breaks e (a ∷ rest) s = by a.given
+  where
+    by : (g : Given) → Breaks (heard (hear (Raise ReferenceError) g) (record s { vars = news_of e.foreign s.vars a.news; answers = rest }))
+    by (Normal v) = tt
+    by (Throws v) = tt
+    by Finished = tt
+    by (Returning v) = tt
+    by Shortens = tt
+
+slot_reads : (e : Environment) (y : Variable) (k : Slot) (s : State) → Reads (read_name e y k s) s
+unfolding read_slot
+slot_reads e (Declared n) (Holds v) s = inr (v, refl)
+slot_reads e (Declared n) Missing s = inl tt
+slot_reads e (Declared n) Uninitialised s = inl tt
+slot_reads e (Global t) (Holds v) s = inr (v, refl)
+slot_reads e (Global t) Missing s = inl (raised_breaks e s.answers (note e (Raise ReferenceError) None [] None s))
+slot_reads e (Global t) Uninitialised s = inl tt
+
+name_reads : (e : Environment) (n : Naming) (σ : ℕ → Demand) (K : Kids σ) (y : Variable) → n.own ≡ y ∷ [] → (k : NameKind) (s : State) → Reads (run {q = σ} e n K (bind (get_identifier k) (λ v. ret v)) s) s
+unfolding act at_variable
+name_reads e n σ K y h UndefinedName s = inr (Undefined, refl)
+name_reads e n σ K y h NumberName s = inl tt
+name_reads e n σ K y h k s = subst (λ ys. Reads (either (act e (record n { own = ys }) (read 0) s) (λ v z. ok v z) (λ x z. stop x z)) s) (sym h) (subst (λ x. Reads x s) (sym (either_eta (read_name e y (s.vars y) s))) (slot_reads e y (s.vars y) s))
+
+reads : (e : Environment) (x : Name) (s : State) → Reads (value e (identifier x) s) s
+unfolding means step
+reads e x s = name_reads e (naming shape.Identifier (As Val) (variables (x ∷ [])) 0 []) (λ i. Stat None) (λ i r z. meaning e none i (Stat None) r z) (variable_of x) refl (kind_of x) s
+
+no_value : (y : Completion Value) → Breaks y → (f g : Value → State → Completion Value) → either y f (λ x z. stop x z) ≡ either y g (λ x z. stop x z)
+unfolding either
+no_value (ok v s) b f g = absurd b
+no_value (stop x s) b f g = refl
+no_value (halt x s) b f g = refl
+no_value out b f g = refl
 
 -- so what follows it may know the value
 pub by_told : (y : Completion Value) (s : State) → Reading y s → (f g : Value → State → Completion Value) → ((v : Value) → y ≡ ok v s → f v s ≡ g v s) → either y f (λ x z. stop x z) ≡ either y g (λ x z. stop x z)
@@ -345,7 +398,11 @@ by_told y s (inl o) f g h = ap (λ y. either y f (λ x z. stop x z)) o ∙ sym (
 by_told y s (inr (v, k)) f g h = ap (λ y. either y f (λ x z. stop x z)) k ∙ h v k ∙ sym (ap (λ y. either y g (λ x z. stop x z)) k)
 
 pub by_reading : (e : Environment) (x : Name) (s : State) (f g : Value → State → Completion Value) → ((v : Value) → value e (identifier x) s ≡ ok v s → f v s ≡ g v s) → either (value e (identifier x) s) f (λ x z. stop x z) ≡ either (value e (identifier x) s) g (λ x z. stop x z)
-by_reading e x s = by_told (value e (identifier x) s) s (reading e x s)
+by_reading e x s f g h = by (reads e x s)
+  where
+    by : Reads (value e (identifier x) s) s → either (value e (identifier x) s) f (λ x z. stop x z) ≡ either (value e (identifier x) s) g (λ x z. stop x z)
+    by (inl b) = no_value (value e (identifier x) s) b f g
+    by (inr r) = by_told (value e (identifier x) s) s (inr r) f g h
 
 -- ---- what a strict comparison says of it
 

@@ -165,10 +165,7 @@ remainder_written x (negsuc n) v e = signed_written (is_negative x) (nat_abs x %
 
 power_written : (x y : ℤ) (v : Value) → made (power x y) ≡ Some v → Written v
 power_written x (pos n) v e = chosen_written (nat_le (nat_abs x) 1 || nat_lt n 54) (is_negative x && is_odd n) (nat_abs x ^ small_exponent n) v e
-power_written (pos (suc zero)) (negsuc n) v e = written_by (Number (pos 1)) v e refl
-power_written (pos zero) (negsuc n) v e = nothing e
-power_written (pos (suc (suc m))) (negsuc n) v e = nothing e
-power_written (negsuc m) (negsuc n) v e = nothing e
+power_written x (negsuc n) v e = chosen_written (nat_eq (nat_abs x) 1) (is_negative x && is_odd (suc n)) 1 v e
 
 safe_to : (n : ℕ) → n ≤ 4_294_967_296 → nat_le n max_safe_integer ≡ true
 safe_to n h = le-leb n max_safe_integer (omega (arith, h))

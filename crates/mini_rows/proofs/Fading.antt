@@ -3,8 +3,8 @@ use Rattle.std.proofs.Common.{◌≡◌, ℕ, zero, suc, Bool, true, false, List
 use Rattle.std.specs.Prelude.{◌⊎◌}
 use Rattle.std.proofs.Math.Path.{fun_ext}
 use Rattle.mini_laws.specs.Value.{Variable, Declared, Global, VariableSet, Value, Slot, Holds, Missing, Uninitialised, choose, is_in, nth, variable_eq, nothing}
-use Rattle.mini_laws.specs.State.{Label, BindOf, ThisOf, FreshOf, Entry, Item, Answer, State, Completion, ok, stop, halt, out, Environment, with_vars, refresh, news_of, seen}
-use Rattle.mini_laws.specs.Command.{Naming, Op, read, read_typeof, fixity, write, init, init_function, hide, copy, event, bind_names, self, turn, fuel, act, set_var, hear, Heard, hears, breaks, nonsense, heard, answered, bound_if, answered_binds, number_of, function_name, note, fresh_note, start, copies, read_slot, read_any, read_type, write_slot, this_of, take_turn}
+use Rattle.mini_laws.specs.State.{Label, ReferenceError, Raise, BindOf, ThisOf, FreshOf, Entry, Item, Answer, State, Completion, ok, stop, halt, out, Environment, with_vars, refresh, news_of, seen}
+use Rattle.mini_laws.specs.Command.{Naming, Op, read, read_typeof, fixity, write, init, init_function, hide, copy, event, bind_names, self, turn, fuel, act, set_var, hear, Heard, hears, breaks, nonsense, heard, answered, bound_if, answered_binds, number_of, function_name, note, fresh_note, start, copies, read_slot, read_global, read_name, read_any, read_type, write_slot, write_global, write_name, this_of, take_turn}
 use Rattle.mini_laws.specs.Same.{Goes}
 use Rattle.mini_laws.specs.Skeleton.{Rules, Sound}
 use Rattle.mini_laws.specs.Congruence.{Apart}
@@ -81,6 +81,9 @@ module _ (V : VariableSet) (e : Environment) (apart : Apart e V) where
   answered_fades l [] s t f = (refl, f)
   answered_fades l (a ∷ rest) s t f = heard_fades (hear l a.given) _ _ (news_fade a.news rest s t f)
 
+  event_fades : (l : Label) (n : Option ℕ) (vs : List Entry) (s t : State) → Fades V s t → Go (answered e l s.answers (note e l n vs None s)) (answered e l t.answers (note e l n vs None t))
+  event_fades l n vs s t f = subst (λ rest. Go (answered e l s.answers (note e l n vs None s)) (answered e l rest (note e l n vs None t))) f.answers (answered_fades l s.answers _ _ (note_fades l n vs None s t f))
+
   bound_fades : (xs : List Variable) (values : Variable → Value) (h : Heard Value) (s t : State) → Fades V s t → Go (bound_if h xs values s) (bound_if h xs values t)
   unfolding Goes
   bound_fades xs values (hears v) s t f = (refl, varied s t f _ _ (λ y. overlaid (V y) (is_in y xs) (Holds (values y)) (s.vars y) (t.vars y) (f.vars y)))
@@ -114,6 +117,16 @@ module _ (V : VariableSet) (e : Environment) (apart : Apart e V) where
   read_any_same s t f Missing = (refl, f)
   read_any_same s t f Uninitialised = tt
 
+  read_global_same : Reads (read_global e)
+  unfolding Goes
+  read_global_same s t f (Holds v) = (refl, f)
+  read_global_same s t f Missing = event_fades (Raise ReferenceError) None [] s t f
+  read_global_same s t f Uninitialised = tt
+
+  name_same : (x : Variable) → Reads (read_name e x)
+  name_same (Declared n) = read_same
+  name_same (Global y) = read_global_same
+
   type_same : (x : Variable) → Reads (read_type x)
   type_same (Declared n) = read_same
   type_same (Global y) = read_any_same
@@ -127,13 +140,18 @@ module _ (V : VariableSet) (e : Environment) (apart : Apart e V) where
   unfolding read_any
   any_out s = refl
 
+  name_out : (x : Variable) (s : State) → read_name e x Uninitialised s ≡ out
+  name_out (Declared n) s = slot_out s
+  name_out (Global y) s = refl
+
   type_out : (x : Variable) (s : State) → read_type x Uninitialised s ≡ out
   type_out (Declared n) s = slot_out s
   type_out (Global y) s = any_out s
 
-  write_out : (x : Variable) (v : Value) (s : State) → write_slot x v Uninitialised s ≡ out
+  write_out : (x : Variable) (v : Value) (s : State) → write_name x v Uninitialised s ≡ out
   unfolding write_slot
-  write_out x v s = refl
+  write_out (Declared n) v s = refl
+  write_out (Global y) v s = refl
 
   -- so what goes on from it does so where it does from equal ones
   at_slot : {A : Type 0} (b : Bool) (f g : Slot → Completion A) → ((v : Slot) → Go (f v) (g v)) → f Uninitialised ≡ out → (p q : Slot) → At b p q → Go (f p) (g q)
@@ -146,6 +164,16 @@ module _ (V : VariableSet) (e : Environment) (apart : Apart e V) where
   write_same x v s t f Missing = tt
   write_same x v s t f Uninitialised = tt
 
+  write_global_same : (x : Variable) (v : Value) (s t : State) → Fades V s t → (w : Slot) → Go (write_global x v w s) (write_global x v w t)
+  unfolding Goes
+  write_global_same x v s t f (Holds w) = (refl, set_fades x (Holds v) s t f)
+  write_global_same x v s t f Missing = (refl, set_fades x (Holds v) s t f)
+  write_global_same x v s t f Uninitialised = tt
+
+  write_name_same : (x : Variable) (v : Value) (s t : State) → Fades V s t → (w : Slot) → Go (write_name x v w s) (write_name x v w t)
+  write_name_same (Declared n) v = write_same (Declared n) v
+  write_name_same (Global y) v = write_global_same (Global y) v
+
   turn_fades : (n : ℕ) (s t : State) → Fades V s t → Go (take_turn n s) (take_turn n t)
   unfolding take_turn Goes
   turn_fades zero s t f = (refl, f)
@@ -153,7 +181,7 @@ module _ (V : VariableSet) (e : Environment) (apart : Apart e V) where
 
   this_fades : (b : Bool) (s t : State) → Fades V s t → Go (this_of e b s) (this_of e b t)
   unfolding this_of Goes
-  this_fades true s t f = subst (λ rest. Go (answered e ThisOf s.answers (note e ThisOf None [] None s)) (answered e ThisOf rest (note e ThisOf None [] None t))) f.answers (answered_fades ThisOf s.answers _ _ (note_fades ThisOf None [] None s t f))
+  this_fades true s t f = event_fades ThisOf None [] s t f
   this_fades false s t f = (f.self, f)
 
   pub fading_sound : Sound (fading_rules V e)
@@ -161,10 +189,10 @@ module _ (V : VariableSet) (e : Environment) (apart : Apart e V) where
   fading_sound = record { acts = λ names names' same o s t f. subst (λ m. Go (act e names o s) (act e m o t)) same (go names o s t f) }
     where
       go : (names : Naming) (o : Op) (s t : State) → Fades V s t → Go (act e names o s) (act e names o t)
-      go names (read i) s t f = at_goes true (Fades V) (nth names.own i) _ _ (λ x u. at_slot (V x) (λ v. read_slot v s) (λ v. read_slot v t) (read_same s t f) (slot_out s) (s.vars x) (t.vars x) (f.vars x))
+      go names (read i) s t f = at_goes true (Fades V) (nth names.own i) _ _ (λ x u. at_slot (V x) (λ v. read_name e x v s) (λ v. read_name e x v t) (name_same x s t f) (name_out x s) (s.vars x) (t.vars x) (f.vars x))
       go names (read_typeof i) s t f = at_goes true (Fades V) (nth names.own i) _ _ (λ x u. at_slot (V x) (λ v. read_type x v s) (λ v. read_type x v t) (type_same x s t f) (type_out x s) (s.vars x) (t.vars x) (f.vars x))
       go names (fixity i) s t f = at_goes true (Fades V) (nth names.written i) _ _ (λ x u. (refl, f))
-      go names (write i v) s t f = at_goes true (Fades V) (nth names.written i) _ _ (λ x u. at_slot (V x) (λ w. write_slot x v w s) (λ w. write_slot x v w t) (write_same x v s t f) (write_out x v s) (s.vars x) (t.vars x) (f.vars x))
+      go names (write i v) s t f = at_goes true (Fades V) (nth names.written i) _ _ (λ x u. at_slot (V x) (λ w. write_name x v w s) (λ w. write_name x v w t) (write_name_same x v s t f) (write_out x v s) (s.vars x) (t.vars x) (f.vars x))
       go names (init i v) s t f = at_goes true (Fades V) (nth names.written i) _ _ (λ x u. (refl, start_fades true x v s t f))
       go names (init_function b i v) s t f = at_goes true (Fades V) (function_name (nth names.functions i)) _ _ (λ x u. (refl, start_fades b x v s t f))
       go names hide s t f = (refl, varied s t f _ _ (λ y. overlaid (V y) (is_in y names.scope) Uninitialised (s.vars y) (t.vars y) (f.vars y)))

@@ -2,15 +2,15 @@
 use Rattle.std.proofs.Common.{◌≡◌, ℕ, zero, suc, Bool, true, false, List, [], ◌∷◌, Some, None, refl, subst₂}
 use Rattle.mini_model.specs.Tree.{Tree}
 use Rattle.mini_laws.specs.Value.{Variable, Value, Slot, Holds, Missing, Uninitialised, choose, nth, nothing}
-use Rattle.mini_laws.specs.State.{Label, BindOf, ThisOf, Item, Answer, State, Completion, ok, stop, halt, out, Environment}
+use Rattle.mini_laws.specs.State.{Label, ReferenceError, Raise, BindOf, ThisOf, Item, Answer, State, Completion, ok, stop, halt, out, Environment}
 use Rattle.mini_laws.specs.Demand.{Demand, Request}
-use Rattle.mini_laws.specs.Command.{Naming, Op, read, read_typeof, fixity, write, init, init_function, hide, copy, event, bind_names, self, turn, fuel, act, hear, Heard, hears, breaks, nonsense, heard, answered, bound_if, answered_binds, number_of, function_name, note, fresh_note, start, copies, read_slot, read_any, read_type, write_slot, this_of, take_turn}
+use Rattle.mini_laws.specs.Command.{Naming, Op, read, read_typeof, fixity, write, init, init_function, hide, copy, event, bind_names, self, turn, fuel, act, hear, Heard, hears, breaks, nonsense, heard, answered, bound_if, answered_binds, number_of, function_name, note, fresh_note, start, copies, read_slot, read_global, read_name, read_any, read_type, write_slot, write_global, write_name, this_of, take_turn}
 use Rattle.mini_laws.specs.Step.{means}
 use Rattle.mini_laws.specs.Same.{Goes}
 use Rattle.mini_laws.specs.Skeleton.{Rules, Sound}
 use Rattle.mini_laws.proofs.Dead.{at_goes, self_goes}
 use Rattle.mini_laws.proofs.Congruent.{plain_goes}
-use Rattle.mini_laws.proofs.Runs.{type_reads}
+use Rattle.mini_laws.proofs.Runs.{name_reads, name_writes, type_reads}
 
 abbrev pub KeepsThis : {A : Type 0} → Value → Completion A → Type 0
 KeepsThis v (ok a s) = s.self ≡ v
@@ -75,6 +75,15 @@ module _ (e : Environment) (v : Value) where
   has_read Missing s h = tt
   has_read Uninitialised s h = tt
 
+  has_read_global : (w : Slot) (s : State) → s.self ≡ v → Alone (read_global e w s)
+  unfolding Goes
+  has_read_global (Holds w) s h = (refl, itself s h)
+  has_read_global Missing s h = has_answered (Raise ReferenceError) s.answers (note e (Raise ReferenceError) None [] None s) h
+  has_read_global Uninitialised s h = tt
+
+  has_read_name : (y : Variable) (w : Slot) (s : State) → s.self ≡ v → Alone (read_name e y w s)
+  has_read_name y w s h = name_reads (λ a b. Alone a) e e y w w s s (has_read w s h) (has_read_global w s h)
+
   has_read_any : (w : Slot) (s : State) → s.self ≡ v → Alone (read_any w s)
   unfolding read_any Goes
   has_read_any (Holds w) s h = (refl, itself s h)
@@ -89,6 +98,15 @@ module _ (e : Environment) (v : Value) where
   has_write y w (Holds u) s h = (refl, itself _ h)
   has_write y w Missing s h = tt
   has_write y w Uninitialised s h = tt
+
+  has_write_global : (y : Variable) (w : Value) (o : Slot) (s : State) → s.self ≡ v → Alone (write_global y w o s)
+  unfolding Goes
+  has_write_global y w (Holds u) s h = (refl, itself _ h)
+  has_write_global y w Missing s h = (refl, itself _ h)
+  has_write_global y w Uninitialised s h = tt
+
+  has_write_name : (y : Variable) (w : Value) (o : Slot) (s : State) → s.self ≡ v → Alone (write_name y w o s)
+  has_write_name y w o s h = name_writes (λ a b. Alone a) y w o o s s (has_write y w o s h) (has_write_global y w o s h)
 
   has_this : (b : Bool) (s : State) → s.self ≡ v → Alone (this_of e b s)
   unfolding this_of Goes
@@ -105,10 +123,10 @@ module _ (e : Environment) (v : Value) where
   this_sound = record { acts = λ names names' nr o s t h. subst₂ (λ m t. Goes false (λ a. Stays) Stays Stays (act e names o s) (act e m o t)) nr h.same (go names o s h.has) }
     where
       go : (names : Naming) (o : Op) (s : State) → s.self ≡ v → Alone (act e names o s)
-      go names (read i) s h = at_goes false Stays (nth names.own i) _ _ (λ y u. has_read (s.vars y) s h)
+      go names (read i) s h = at_goes false Stays (nth names.own i) _ _ (λ y u. has_read_name y (s.vars y) s h)
       go names (read_typeof i) s h = at_goes false Stays (nth names.own i) _ _ (λ y u. has_read_type y (s.vars y) s h)
       go names (fixity i) s h = at_goes false Stays (nth names.written i) _ _ (λ y u. (refl, itself s h))
-      go names (write i w) s h = at_goes false Stays (nth names.written i) _ _ (λ y u. has_write y w (s.vars y) s h)
+      go names (write i w) s h = at_goes false Stays (nth names.written i) _ _ (λ y u. has_write_name y w (s.vars y) s h)
       go names (init i w) s h = at_goes false Stays (nth names.written i) _ _ (λ y u. (refl, itself _ (has_start true y w s h)))
       go names (init_function b i w) s h = at_goes false Stays (function_name (nth names.functions i)) _ _ (λ y u. (refl, itself _ (has_start b y w s h)))
       go names hide s h = (refl, itself _ h)

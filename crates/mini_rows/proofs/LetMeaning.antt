@@ -8,7 +8,7 @@ use Rattle.mini_model.specs.declared.place.Position.TheVariants.{StatementList, 
 use Rattle.mini_model.specs.Tree.{Tree, Trees, none, ◌▸◌, absent, expression_statement}
 use Rattle.mini_model.specs.Paths.{append}
 use Rattle.mini_laws.specs.Value.{Value, Undefined, Variable, VariableSet, Declared, Slot, Holds, choose, variable_eq, nothing}
-use Rattle.mini_laws.specs.State.{State, stop, ok, either, Environment, Writable, with_vars}
+use Rattle.mini_laws.specs.State.{State, stop, ok, either, Environment, Writes, with_vars}
 use Rattle.mini_laws.specs.Demand.{Unused, Demand, As, Stat, Declares, Binds}
 use Rattle.mini_laws.specs.Command.{set_var, start, fresh_note, write_slot, at_variable, act}
 use Rattle.mini_laws.specs.Fits.{Fits}
@@ -64,7 +64,7 @@ module _ (e : Environment) (spelling target : List ℕ) (k : ℕ) where
       ∙ starts (value_of l) s
 
   -- where it can be written, an assignment after it leaves what the value would have
-  module _ (free : e.fixed x ≡ Writable) where
+  module _ (free : e.fixed x ≡ Writes) where
     held : (v : Value) (s : State) → (started v s).vars x ≡ Holds v
     held v s = ap (λ b. choose b (Holds v) ((fresh_note e x s).vars x)) (eq-eqb k k refl)
 
@@ -138,7 +138,7 @@ module _ (W : VariableSet) (a b : Trees) (r : Row70Let W a b) where
   apart : SameStretch (old ▸ (whole ▸ none)) (old ▸ (alone ▸ left))
   apart = stretch_after old _ _ (back_same (alone ▸ left) (whole ▸ none) (begun_same r.beginning (resolved r.target r.symbol) (known r.value) r.parts))
 
-  row_does : (e : Environment) → e.fixed (Declared r.symbol) ≡ Writable → (s : State) → exec e a None s ≡ exec e b None s
+  row_does : (e : Environment) → e.fixed (Declared r.symbol) ≡ Writes → (s : State) → exec e a None s ≡ exec e b None s
   row_does e free s =
       ap (λ ts. exec e ts None s) r.shape
       ∙ apart.by e s

@@ -9,7 +9,7 @@ use Rattle.mini_model.specs.Tree.{Tree, Trees, node, none, ◌▸◌, count, abs
 use Rattle.mini_model.specs.Paths.{append}
 use Rattle.mini_model.specs.Weight.{same_text}
 use Rattle.mini_laws.specs.Value.{Value, variables}
-use Rattle.mini_laws.specs.State.{State, Writable, Constant, KeepsOld, Fixed, Completion, ok, stop, either, Environment}
+use Rattle.mini_laws.specs.State.{State, Writes, WritesPresent, Refuses, Keeps, Writing, Completion, ok, stop, either, Environment}
 use Rattle.mini_laws.specs.Demand.{Val, Unused, Demand, As, Target, AName, Prepare, Put, Stat, Declares, Binds}
 use Rattle.mini_laws.specs.Command.{Naming, Kids, fixity, act, run}
 use Rattle.mini_laws.specs.Naming.{EvalName, PlainName, summary, summaries, naming}
@@ -26,10 +26,11 @@ use Rattle.mini_rows.proofs.ListStatements.{expression_is, declare, declare_none
 -- ---- a write, whoever asks for it
 
 module _ (e : Environment) (names : Naming) (q p : ℕ → Demand) (K : Kids q) (L : Kids p) (v : Value) where
-  by_alike : (f : Fixed) (s : State) → run {q = q} e names K (by_fixity v f) s ≡ run {q = p} e names L (by_fixity v f) s
-  by_alike Writable s = refl
-  by_alike Constant s = refl
-  by_alike KeepsOld s = refl
+  by_alike : (f : Writing) (s : State) → run {q = q} e names K (by_fixity v f) s ≡ run {q = p} e names L (by_fixity v f) s
+  by_alike Writes s = refl
+  by_alike WritesPresent s = refl
+  by_alike Refuses s = refl
+  by_alike Keeps s = refl
 
   put_alike : (s : State) → run {q = q} e names K (put_own v) s ≡ run {q = p} e names L (put_own v) s
   put_alike s = either_cong (act e names (fixity 0) s) _ _ _ _ (λ f z. by_alike f z) (λ x z. refl)

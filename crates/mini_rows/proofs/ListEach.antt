@@ -4,11 +4,11 @@ use Rattle.mini_model.specs.declared.kind.VariableDeclarationKind.TheVariants.{V
 use Rattle.mini_model.specs.Tree.{Tree, none, ◌▸◌, absent, listed, identifier}
 use Rattle.mini_laws.specs.Value.{Value, is_nullish}
 use Rattle.mini_laws.specs.State.{NextOf, KeysOf, IteratorOf, Item, Thrown, Returned, Broken, Continued, Short, State, Ends, done, ended, ok, stop, either, Environment}
-use Rattle.mini_laws.specs.Demand.{LoopTail, AName, Target, Put, Stat, Binds, LabelSet}
-use Rattle.mini_laws.specs.Command.{Command, ret, kid, then, attempt, bind, loop, emit, Kids}
+use Rattle.mini_laws.specs.Demand.{LoopTail, AName, Target, Put, Stat, Binds, Heads, LabelSet}
+use Rattle.mini_laws.specs.Command.{Command, ret, kid, then, attempt, bind, loop, emit, Kids, run}
 use Rattle.mini_laws.specs.Naming.{Declared, Variables}
 use Rattle.mini_laws.specs.Asking.{each_demand}
-use Rattle.mini_laws.specs.Loops.{after_body, give_left, each_turn, turn_of, on_next, next_of, keys_in, closing, values_of, for_in_step, for_of_step}
+use Rattle.mini_laws.specs.Loops.{after_body, give_left, begin_left, each_turn, turn_of, on_next, next_of, keys_in, closing, values_of, for_in_step, for_of_step}
 use Rattle.mini_laws.specs.Step.{step, means, meaning}
 use Rattle.mini_laws.proofs.Runs.{either_cong, either_eta, either_ok}
 use Rattle.mini_laws.proofs.Tailing.{finished, finish_none}
@@ -30,12 +30,17 @@ module _ (e : Environment) (spelling target : List ℕ) (k : ℕ) (right body : 
   var = bare_var (resolved spelling k)
 
   -- such a `var` takes a value as its name does
-  var_takes : (v : Value) (s : State) → means e var (Binds false) v s ≡ means e (binding (resolved spelling k)) (Binds false) v s
+  var_takes : (v : Value) (s : State) → means e var Heads (Some v) s ≡ means e (binding (resolved spelling k)) (Binds false) v s
   unfolding means meaning step
   var_takes v s =
-      either_eta (means e (listed (declarator (binding (resolved spelling k)) absent ▸ none)) (Binds false) v s)
-      ∙ either_eta (means e (declarator (binding (resolved spelling k)) absent) (Binds false) v s)
+      either_eta (means e (listed (declarator (binding (resolved spelling k)) absent ▸ none)) Heads (Some v) s)
+      ∙ either_eta (means e (declarator (binding (resolved spelling k)) absent) Heads (Some v) s)
       ∙ either_eta (means e (binding (resolved spelling k)) (Binds false) v s)
+
+  -- and does nothing before
+  var_begins : (s : State) → means e var Heads None s ≡ ok tt s
+  unfolding means meaning step either
+  var_begins s = refl
 
   abbrev K : Kids (each_demand None)
   K i r z = meaning e (x ▸ (right ▸ (body ▸ none))) i (each_demand None i) r z
@@ -53,7 +58,7 @@ module _ (e : Environment) (spelling target : List ℕ) (k : ℕ) (right body : 
       ∙ either_ok AName z _ _
       ∙ either_eta (means e x Target (Put AName v) z)
       ∙ put_is e spelling target k v z
-      ∙ sym (either_eta (means e var (Binds false) v z) ∙ var_takes v z)
+      ∙ sym (either_eta (means e var Heads (Some v) z) ∙ var_takes v z)
 
   body_alike : Both (kid 2 [] (after_body labels)) (kid 2 [] (after_body labels))
   unfolding meaning
@@ -102,7 +107,9 @@ module _ (e : Environment) (spelling target : List ℕ) (k : ℕ) (right body : 
 
   in_alike : Both (for_in_step None labels) (for_in_step a_var labels)
   unfolding meaning
-  in_alike = scoped_alike e (for_names []) (each_demand None) (each_demand a_var) K L (kid 1 tt (then (keys_in None labels))) (kid 1 tt (then (keys_in a_var labels))) (λ z. either_cong (meaning e (x ▸ (right ▸ (body ▸ none))) 1 (each_demand None 1) tt z) _ _ _ _ (λ v w. keys_alike v w) (λ c w. refl))
+  in_alike = scoped_alike e (for_names []) (each_demand None) (each_demand a_var) K L (kid 1 tt (then (keys_in None labels))) (begin_left a_var (kid 1 tt (then (keys_in a_var labels))))
+      (λ z. either_cong (meaning e (x ▸ (right ▸ (body ▸ none))) 1 (each_demand None 1) tt z) _ _ _ _ (λ v w. keys_alike v w) (λ c w. refl)
+      ∙ sym (ap (λ y. either y (λ u w. run {q = each_demand a_var} e (for_names []) L (kid 1 tt (then (keys_in a_var labels))) w) (λ c w. stop c w)) (var_begins z) ∙ either_ok tt z _ _))
 
   of_alike : Both (for_of_step None labels) (for_of_step a_var labels)
   unfolding meaning

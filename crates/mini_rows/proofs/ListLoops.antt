@@ -1,25 +1,25 @@
 -- What a `for..in` does after the expression on its right, and a `for` after a `var` in its head.
-use Rattle.std.proofs.Common.{◌≡◌, ℕ, zero, suc, Bool, true, false, [], ◌∷◌, Option, Some, None, refl, sym, ap, ◌∙◌, inl, inr, ⊎_elim, true≢false}
-use Rattle.std.specs.Prelude.{◌⊎◌, ◌||◌}
-use Rattle.std.proofs.lemmas.Bool.{and_parts}
+use Rattle.std.proofs.Common.{◌≡◌, ◌<◌, ℕ, zero, suc, Bool, true, false, [], ◌∷◌, Option, Some, None, refl, sym, ap, ◌∙◌, inl, inr, ⊎_elim, arith, true≢false}
+use Rattle.std.specs.Prelude.{◌⊎◌, ◌||◌, ◌&&◌, nat_eq}
+use Rattle.std.proofs.lemmas.Bool.{and_parts, eqb-true}
 use Rattle.mini_model.specs.declared.kind.VariableDeclarationKind.{VariableDeclarationKind}
 use Rattle.mini_model.specs.declared.kind.VariableDeclarationKind.TheVariants.{Var, Let, Const}
 use Rattle.mini_model.specs.declared.shape.Shape.TheVariants as shape
-use Rattle.mini_model.specs.Tree.{Tree, Trees, node, none, ◌▸◌, absent, shape_of}
+use Rattle.mini_model.specs.Tree.{Tree, Trees, node, none, ◌▸◌, count, absent, is_absent, shape_of}
 use Rattle.mini_laws.specs.Value.{Value, choose, is_nullish}
 use Rattle.mini_laws.specs.State.{NextOf, KeysOf, IteratorOf, Item, State, Thrown, Returned, Broken, Continued, Short, Completion, ok, stop, Ends, done, ended, either, Environment}
-use Rattle.mini_laws.specs.Demand.{Val, Unused, LoopTail, Demand, As, Stat, LabelSet}
+use Rattle.mini_laws.specs.Demand.{Val, Unused, LoopTail, Demand, As, Stat, Heads, LabelSet}
 use Rattle.mini_laws.specs.Command.{hide, turn, fuel, Naming, Command, ret, fails, op, kid, then, attempt, bind, repeat, loop, emit, Kids, act, run}
 use Rattle.mini_laws.specs.Naming.{Declared, Variables, AClass, is_lexical, summary, facts, nth_absent}
 use Rattle.mini_laws.specs.Asking.{for_demand, each_demand}
 use Rattle.mini_laws.specs.Replies.{as_ended}
 use Rattle.mini_laws.specs.Statements.{scoped}
-use Rattle.mini_laws.specs.Loops.{after_body, has_label, copied, for_test, for_turn, for_turns, for_step, give_left, each_turn, turn_of, next_of, on_next, keys_in, for_in_step, closing, values_of, for_of_step}
+use Rattle.mini_laws.specs.Loops.{after_body, has_label, copied, for_test, for_turn, for_turns, for_step, give_left, begin_left, each_turn, turn_of, next_of, on_next, keys_in, for_in_step, closing, values_of, for_of_step}
 use Rattle.mini_laws.specs.Step.{step, means, meaning}
-use Rattle.mini_laws.proofs.Runs.{either_cong, either_ok, run_bind}
+use Rattle.mini_laws.proofs.Runs.{either_cong, either_eta, either_ok, run_bind}
 use Rattle.mini_laws.proofs.Stretching.{run_attempt}
 use Rattle.mini_laws.proofs.Tailing.{finished, finish_none}
-use Rattle.mini_rows.specs.Lists.{EachOf, each_loop, for_in, for_loop, declaration, declares_nothing, is_var_shape, is_bare_var, is_plain_left}
+use Rattle.mini_rows.specs.Lists.{EachOf, each_loop, for_in, for_loop, declaration, declares_nothing, is_var_shape, is_bare_declarator, are_bare, is_bare_var, is_plain_left}
 use Rattle.mini_rows.proofs.ListHeads.{nothing_by, for_names, for_kids, for_rest, scoped_is, leaving_nothing}
 use Rattle.mini_rows.proofs.ListStatements.{declaration_is, declare_none}
 
@@ -222,22 +222,61 @@ module _ (e : Environment) (left body : Tree) (labels : LabelSet) (d : Option De
 
 give_keyed : (e : Environment) (left body : Tree) (labels : LabelSet) (d : Option Declared) (x y : Tree) (v : Value) → Keyed e left body labels d x y (give_left d v)
 unfolding meaning
+give_keyed e left body labels (Some (Variables Var)) x y v z = refl
 give_keyed e left body labels (Some (Variables k)) x y v z = refl
 give_keyed e left body labels (Some AClass) x y v z = refl
 give_keyed e left body labels None x y v z = refl
+
+-- a left side that does nothing before the right side is evaluated: a `var` has no initializer
+abbrev pub Idle : Environment → Tree → Type 0
+Idle e left = (summary left).facts.declared ≡ Some (Variables Var) → (z : State) → means e left Heads None z ≡ ok tt z
+
+begin_idle : (e : Environment) (left body : Tree) (labels : LabelSet) (d : Option Declared) (x : Tree) → (d ≡ Some (Variables Var) → (z : State) → means e left Heads None z ≡ ok tt z) → (c : Command (each_demand d) (Unit {0})) (z : State) → run {q = each_demand d} e (for_names []) (in_kids e left body labels d x) (begin_left d c) z ≡ run {q = each_demand d} e (for_names []) (in_kids e left body labels d x) c z
+unfolding meaning
+begin_idle e left body labels (Some (Variables Var)) x h c z = ap (λ y. either y (λ u w. run {q = each_demand (Some (Variables Var))} e (for_names []) (in_kids e left body labels (Some (Variables Var)) x) c w) (λ y w. stop y w)) (h refl z) ∙ either_ok tt z _ _
+begin_idle e left body labels (Some (Variables k)) x h c z = refl
+begin_idle e left body labels (Some AClass) x h c z = refl
+begin_idle e left body labels None x h c z = refl
+
+too_many : (m k : ℕ) (b : Bool) → k < m → nat_eq m k && b ≡ true → ⊥
+too_many m k b less h = let same = eqb-true m k (and_parts (nat_eq m k) b h).0 in omega (arith, less, same)
+
+declarator_idle : (e : Environment) (d : Tree) → is_bare_declarator d ≡ true → (z : State) → means e d Heads None z ≡ ok tt z
+unfolding means step
+declarator_idle e (node shape.VariableDeclarator xs n none) h z = absurd (true≢false (sym h))
+declarator_idle e (node shape.VariableDeclarator xs n (a ▸ none)) h z = absurd (true≢false (sym h))
+declarator_idle e (node shape.VariableDeclarator xs n (a ▸ (node shape.Absent ys m us ▸ none))) h z = refl
+declarator_idle e (node shape.VariableDeclarator xs n (a ▸ (node c ys m us ▸ none))) h z = absurd (true≢false (sym h))
+declarator_idle e (node shape.VariableDeclarator xs n (a ▸ (b ▸ (c ▸ ts)))) h z = absurd (too_many (suc (suc (suc (count ts)))) 2 (is_absent b) (omega arith) h)
+declarator_idle e (node c xs n ts) h z = absurd (true≢false (sym h))
+
+declarators_idle : (e : Environment) (ds : Tree) → are_bare ds ≡ true → (z : State) → means e ds Heads None z ≡ ok tt z
+unfolding means meaning step
+declarators_idle e (node shape.Listed xs n none) h z = absurd (true≢false (sym h))
+declarators_idle e (node shape.Listed xs n (d ▸ none)) h z = either_eta (means e d Heads None z) ∙ declarator_idle e d h z
+declarators_idle e (node shape.Listed xs n (d ▸ (c ▸ ts))) h z = absurd (too_many (suc (suc (count ts))) 1 (is_bare_declarator d) (omega arith) h)
+declarators_idle e (node c xs n ts) h z = absurd (true≢false (sym h))
+
+pub var_idle : (e : Environment) (t : Tree) → is_bare_var t ≡ true → (z : State) → means e t Heads None z ≡ ok tt z
+unfolding means meaning step
+var_idle e (node (shape.VariableDeclaration Var) xs n none) h z = absurd (true≢false (sym h))
+var_idle e (node (shape.VariableDeclaration Var) xs n (ds ▸ none)) h z = either_eta (means e ds Heads None z) ∙ declarators_idle e ds h z
+var_idle e (node (shape.VariableDeclaration Var) xs n (ds ▸ (c ▸ ts))) h z = absurd (too_many (suc (suc (count ts))) 1 (are_bare ds) (omega arith) h)
+var_idle e (node c xs n ts) h z = absurd (true≢false (sym h))
 
 module _ (e : Environment) (left body : Tree) (labels : LabelSet) where
   unfoldable pub in_rest : Value → State → Completion (Unit {0})
   in_rest v z = run {q = each_demand (summary left).facts.declared} e (for_names []) (in_kids e left body labels (summary left).facts.declared absent) (keys_in (summary left).facts.declared labels v) z
 
-  pub in_is : (summary left).lets ≡ [] → (x : Tree) (s : State) → means e (for_in left x body) (Stat None) labels s ≡ either (means e x (As Val) tt s) (λ v z. in_rest v z) (λ x z. stop x z)
+  pub in_is : (summary left).lets ≡ [] → Idle e left → (x : Tree) (s : State) → means e (for_in left x body) (Stat None) labels s ≡ either (means e x (As Val) tt s) (λ v z. in_rest v z) (λ x z. stop x z)
   unfolding means meaning step in_rest
-  in_is u x s =
+  in_is u idle x s =
       let d = (summary left).facts.declared in
       finished e (for_names (summary left).lets) (each_demand d) (in_kids e left body labels d x) None (for_in_step d labels) s ∙ finish_none _
       ∙ ap (λ l. run {q = each_demand d} e (for_names l) (in_kids e left body labels d x) (for_in_step d labels) s) u
-      ∙ scoped_is e (for_names []) {q = each_demand d} (kid 1 tt (then (keys_in d labels))) (in_kids e left body labels d x) s
+      ∙ scoped_is e (for_names []) {q = each_demand d} (begin_left d (kid 1 tt (then (keys_in d labels)))) (in_kids e left body labels d x) s
       ∙ leaving_nothing (for_names []) refl _
+      ∙ begin_idle e left body labels d x idle (kid 1 tt (then (keys_in d labels))) s
       ∙ either_cong (means e x (As Val) tt s) _ _ _ _ (λ v z. keys_keyed e left body labels d x absent (give_keyed e left body labels d x absent) v z) (λ y z. refl)
 
   unfoldable pub of_rest : Value → State → Completion (Unit {0})
@@ -265,3 +304,6 @@ var_lets t h = absurd (true≢false (sym h))
 
 pub left_lets : (t : Tree) → is_plain_left t ≡ true → (summary t).lets ≡ []
 left_lets t h = ⊎_elim (λ e. (nothing_by t e).lets) (λ e. var_lets t (and_parts (is_var_shape (shape_of t)) _ e).0) (or_split (declares_nothing t) (is_bare_var t) h)
+
+pub left_idle : (e : Environment) (t : Tree) → is_plain_left t ≡ true → Idle e t
+left_idle e t h = ⊎_elim (λ n p z. absurd (cc (sym (nothing_by t n).declared ∙ p))) (λ b p z. var_idle e t b z) (or_split (declares_nothing t) (is_bare_var t) h)

@@ -31,7 +31,7 @@ use Rattle.mini_rows.proofs.ListStretches.{ReadSame, SameStretch, exec_one, exec
 use Rattle.mini_rows.proofs.ListParts.{joined_is}
 use Rattle.mini_rows.proofs.ListStatements.{expression_is, if_is, absent_is, empty_is, return_is, throw_is, conditional_is, or_void_is, declare, declare_more, declaration_is, declarations_join, declarations_read, one_unscoped, read_nothing, block_is}
 use Rattle.mini_rows.proofs.ListHeads.{Nothing, nothing_by, switch_rest, switch_plain, for_rest, for_is, for_absent_is}
-use Rattle.mini_rows.proofs.ListLoops.{for_var_is, in_rest, in_is, of_rest, of_is, left_lets}
+use Rattle.mini_rows.proofs.ListLoops.{for_var_is, in_rest, in_is, of_rest, of_is, left_lets, left_idle}
 use Rattle.mini_rows.proofs.ListBegun.{initialised, without_value, with_value, assignment_enters}
 use Rattle.mini_rows.proofs.ListEach.{each_enters}
 use Rattle.mini_rows.proofs.BodyLists.{body_same}
@@ -187,7 +187,7 @@ row_67_in : (a b : Trees) → Row67In a b → SameStretch a b
 row_67_in a b r =
     let lets = left_lets r.left r.plain in
     replaced a _ b _ r.shape r.written (into_head r.p r.ps r.q r.qs Val (λ d. for_in r.left d r.body)
-    (record { rest = λ e v z. in_rest e r.left r.body [] v z; before = λ e s. in_is e r.left r.body [] lets (of_parts r.q r.qs) s; after = λ e s. in_is e r.left r.body [] lets (of_parts r.p (append r.ps (r.q ▸ r.qs))) s })
+    (record { rest = λ e v z. in_rest e r.left r.body [] v z; before = λ e s. in_is e r.left r.body [] lets (left_idle e r.left r.plain) (of_parts r.q r.qs) s; after = λ e s. in_is e r.left r.body [] lets (left_idle e r.left r.plain) (of_parts r.p (append r.ps (r.q ▸ r.qs))) s })
     (record { lets = refl; functions = refl; facts = refl; texts = refl }))
 
 -- `var a; for (; b; c) d`
@@ -351,7 +351,7 @@ into_each : (k : Each) (left body : Tree) → is_plain_left left ≡ true → (p
 into_each EachIn left body h p q qs =
     let lets = left_lets left h in
     into_head p none q qs Val (λ d. for_in left d body)
-    (record { rest = λ e v z. in_rest e left body [] v z; before = λ e s. in_is e left body [] lets (of_parts q qs) s; after = λ e s. in_is e left body [] lets (sequence (p ▸ (q ▸ qs))) s })
+    (record { rest = λ e v z. in_rest e left body [] v z; before = λ e s. in_is e left body [] lets (left_idle e left h) (of_parts q qs) s; after = λ e s. in_is e left body [] lets (left_idle e left h) (sequence (p ▸ (q ▸ qs))) s })
     (record { lets = refl; functions = refl; facts = refl; texts = refl })
 into_each EachOf left body h p q qs =
     let lets = left_lets left h in

@@ -221,7 +221,7 @@ module _ (e : Environment) (spelling : List ℕ) (k : ℕ) (still : e.foreign (D
 
   name_remains : Remains e (identifier x) (Spares (Declared k))
   name_remains = record {
-    told = reading e x;
+    told = reading e x refl;
     again = λ n q i r v s h. slot_stays v s h (means e n q r s) (steady e (Declared k) still n q i r s);
   }
 

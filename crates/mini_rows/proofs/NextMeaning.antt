@@ -7,7 +7,7 @@ use Rattle.mini_model.specs.declared.shape.Shape.TheVariants as shape
 use Rattle.mini_model.specs.Tree.{Tree, Trees, node, none, ◌▸◌, listed, identifier}
 use Rattle.mini_model.specs.Paths.{append}
 use Rattle.mini_laws.specs.Value.{Value, Declared, VariableSet, Holds, choose, nothing}
-use Rattle.mini_laws.specs.State.{Stop, State, Completion, stop, either, Writable, Environment, with_vars}
+use Rattle.mini_laws.specs.State.{Stop, State, Completion, stop, either, Writes, Environment, with_vars}
 use Rattle.mini_laws.specs.Demand.{Tail, Val, As, Stat, Declares, Binds}
 use Rattle.mini_laws.specs.Command.{set_var, run}
 use Rattle.mini_laws.specs.Naming.{summary, summaries, lets_all, naming, is_lexical}
@@ -146,7 +146,7 @@ module _ (e : Environment) (spelling : List ℕ) (k : ℕ) (z : Unseen (alone (D
         earlier = either_cong (means e init (As Val) tt s) _ _ _ _ (λ v t. with_others e id value value_there K last (after v t)) (λ y t. refl) ∙ sym (either_assoc (means e init (As Val) tt s) _ _ _ _ ∙ either_cong (means e init (As Val) tt s) _ _ _ _ (λ v t. refl) (λ y t. either_stop y t _ _))
 
     -- in one declaration
-    module _ (permit : is_lexical K ≡ false → e.fixed (Declared k) ≡ Writable) (first : Trees) where
+    module _ (permit : is_lexical K ≡ false → e.fixed (Declared k) ≡ Writes) (first : Trees) where
       next_goes : (s : State) → Go (run_of (declarator (binding x) init ▸ (declarator id value ▸ last)) s) (run_of (declarator id (put_first x init value) ▸ last) s)
       next_goes s =
           subst (λ c. Go c (run_of (declarator id (put_first x init value) ▸ last) s)) (sym (declarations_join e K (declarator (binding x) init ▸ none) (declarator id value ▸ last) s))

@@ -2,6 +2,7 @@
 use Rattle.std.specs.Prelude.{Option, ◌||◌, Bool}
 use Rattle.std.proofs.Common.{◌≡◌, ℕ, zero, suc, true, false, List, [], ◌∷◌, None, Some, refl, sym, true≢false, ◌∙◌, subst₂}
 use Rattle.std.proofs.lemmas.Bool.{and_parts}
+use Rattle.mini_model.specs.declared.kind.VariableDeclarationKind.TheVariants.{Var}
 use Rattle.mini_model.specs.declared.name.Name.{Name}
 use Rattle.mini_model.specs.declared.shape.Shape.TheVariants as shape
 use Rattle.mini_model.specs.Tree.{Tree, node, none, ◌▸◌, absent, identifier, shape_of}
@@ -21,7 +22,7 @@ use Rattle.mini_laws.proofs.Simulation.{goes_either}
 use Rattle.mini_kept.specs.Without.{Unseen}
 use Rattle.mini_rows.specs.Lists.{Each, EachIn, EachOf, each_loop, for_in, is_var_shape, is_bare_var}
 use Rattle.mini_rows.specs.Unused.{names, any_names, resolved, is_target_shape, is_open_left}
-use Rattle.mini_rows.proofs.ListLoops.{in_rest, in_is, of_rest, of_is, var_lets}
+use Rattle.mini_rows.proofs.ListLoops.{Idle, in_rest, in_is, of_rest, of_is, var_lets, var_idle}
 use Rattle.mini_rows.proofs.SingleUse.{Step, led}
 use Rattle.mini_rows.proofs.SingleMeaning.{Later, later_bind, later_attempt, later_choose, next, stopped, later_goes}
 use Rattle.mini_rows.proofs.UnusedNames.{avoided, all_avoided}
@@ -69,6 +70,7 @@ module _ (d : Option DeclaredKind) where
   closing_later iterator (ended Short) = (λ u. tt, λ y. tt)
 
 give_later : (d : Option DeclaredKind) (v : Value) → Rest d (give_left d v)
+give_later (Some (Variables Var)) v = (tt, (λ a. tt, λ y. tt))
 give_later (Some (Variables k)) v = (tt, (λ a. tt, λ y. tt))
 give_later (Some AClass) v = (tt, (λ r. (tt, (λ a. tt, λ y. tt)), λ y. tt))
 give_later None v = (tt, (λ r. (tt, (λ a. tt, λ y. tt)), λ y. tt))
@@ -102,6 +104,21 @@ open_lets t e = by (is_target_shape (shape_of t)) refl e
     by : (b : Bool) → is_target_shape (shape_of t) ≡ b → b || is_bare_var t ≡ true → (summary t).lets ≡ []
     by true f g = target_lets t f
     by false f g = var_lets t (and_parts (is_var_shape (shape_of t)) _ g).0
+
+target_declared : (t : Tree) → is_target_shape (shape_of t) ≡ true → (summary t).facts.declared ≡ None
+target_declared (node shape.Identifier xs n ts) e = refl
+target_declared (node (shape.StaticMemberExpression o) xs n ts) e = refl
+target_declared (node (shape.ComputedMemberExpression o) xs n ts) e = refl
+target_declared (node shape.ObjectAssignmentTarget xs n ts) e = refl
+target_declared (node shape.ArrayAssignmentTarget xs n ts) e = refl
+target_declared t e = absurd (true≢false (sym e))
+
+open_idle : (e : Environment) (t : Tree) → is_open_left t ≡ true → Idle e t
+open_idle e t h = by (is_target_shape (shape_of t)) refl h
+  where
+    by : (b : Bool) → is_target_shape (shape_of t) ≡ b → b || is_bare_var t ≡ true → Idle e t
+    by true f g p z = absurd (cc (sym (target_declared t f) ∙ p))
+    by false f g p z = var_idle e t g z
 
 -- ---- the loops
 
@@ -153,7 +170,10 @@ module _ (e : Environment) (k : ℕ) (z : Unseen (alone (Declared k)) e) (x : Na
           (λ u y y' a. go u y y' a) (λ c y y' a. stopped e k z (Unit {0}) c y y' a))
 
       pub each_goes_by : (c : Each) → is_open_left left ≡ true → Moves (each_loop c left value body) (each_loop c left put body)
-      each_goes_by EachIn o = let lets = open_lets left o in begun_goes (for_in left value body) (for_in left put body) (in_rest e left body []) (λ y. in_is e left body [] lets value y) (λ y. in_is e left body [] lets put y) keys_go
+      each_goes_by EachIn o =
+          let lets = open_lets left o in
+          let idle = open_idle e left o in
+          begun_goes (for_in left value body) (for_in left put body) (in_rest e left body []) (λ y. in_is e left body [] lets idle value y) (λ y. in_is e left body [] lets idle put y) keys_go
       each_goes_by EachOf o = let lets = open_lets left o in begun_goes (each_loop EachOf left value body) (each_loop EachOf left put body) (of_rest e left body []) (λ y. of_is e left body [] lets value y) (λ y. of_is e left body [] lets put y) values_go
 
     pub each_goes : (c : Each) (left body : Tree) → is_open_left left ≡ true → names x left ≡ false → any_names x (body ▸ none) ≡ false → Moves (each_loop c left value body) (each_loop c left put body)

@@ -246,7 +246,7 @@ module _ (F : OwnRows) (keeps : (V : Assured) → KeepsOwn V (F V)) (S : BodySet
         names = any_reaches_keep R own.names own.shapes t u reached;
         bodies = λ v d. more_under W W S S nothing (undeclared u) (part_itself W) (each_itself S) (nothing_part (undeclared u)) (bodies_in t) (bodies_in u) (whole_bodies t u s e);
         frames = λ v d. whole_frames;
-        fixities = λ v d strict x h. ap (written_in strict) (step_fixed nothing R (record { reads = own.reads; fixed = λ q n w r y c. own.fixed q n w r y }) (flat s) x refl);
+        fixities = λ v d strict x h. ap (written_in strict x) (step_fixed nothing R (record { reads = own.reads; fixed = λ q n w r y c. own.fixed q n w r y }) (flat s) x refl);
         declared = reaches_declared R own.declared reached;
         root = root_kept s;
       }

@@ -102,7 +102,7 @@ module _ (F : OwnRows) (keeps : (V : Assured) → KeepsOwn V (F V)) (places : (V
     names = any_reaches_keep Q own.names own.shapes f f' reached;
     bodies = λ v d. more_under W W S S nothing (undeclared f') (part_itself W) (each_itself S) (nothing_part (undeclared f')) (bodies_in f) (bodies_in f') whole_bodies;
     frames = λ v d. whole_frames e;
-    fixities = λ v d strict x h. ap (written_in strict) (step_fixed nothing Q (record { reads = own.reads; fixed = λ q n w r y c. own.fixed q n w r y }) whole x refl);
+    fixities = λ v d strict x h. ap (written_in strict x) (step_fixed nothing Q (record { reads = own.reads; fixed = λ q n w r y c. own.fixed q n w r y }) whole x refl);
     declared = reaches_declared Q own.declared reached;
     root = refl;
   }

@@ -101,7 +101,7 @@ module _ (k : ℕ) (K : Shape → Bool) (W : VariableSet) (S : BodySets) (t u : 
     frames = λ v d.
         all_frames_more (gone_from K D) (gone_from K (undeclared u)) (KeyGiven nothing (bodies_in t)) (KeyGivenUnder W S (undeclared u) (bodies_in t)) (gone_more K D (undeclared u) (undeclared_there k u (gone d))) (given_seldom W S (undeclared u) (bodies_in t)) (frames_in t) (frames_in u)
         (step_frames_but (gone_from K D) R keeps_frames t u s e);
-    fixities = λ v d strict y h. ap (written_in strict) (step_fixed D R (record { reads = loses_read k; fixed = at_lost k (λ p n w. (y : Variable) → D y ≡ false → fixed_by n y ≡ fixed_by w y) (λ V q n w r. r.fixed) }) s y (still_declared k u (gone d) y h));
+    fixities = λ v d strict y h. ap (written_in strict y) (step_fixed D R (record { reads = loses_read k; fixed = at_lost k (λ p n w. (y : Variable) → D y ≡ false → fixed_by n y ≡ fixed_by w y) (λ V q n w r. r.fixed) }) s y (still_declared k u (gone d) y h));
     declared = reaches_declared R (at_lost k (λ p n w. (y : Name) → Contains (declared w) y → Contains (declared n) y) (λ V q n w r. r.declares)) reached;
     root = rooted;
   }

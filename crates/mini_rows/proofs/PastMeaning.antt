@@ -9,7 +9,7 @@ use Rattle.mini_model.specs.Tree.{Tree, Trees, none, ◌▸◌, listed, identifi
 use Rattle.mini_model.specs.Paths.{append}
 use Rattle.mini_model.specs.Weight.{same_text}
 use Rattle.mini_laws.specs.Value.{Variable, Declared, Global, VariableSet, is_in}
-use Rattle.mini_laws.specs.State.{State, stop, either, Writable, Environment}
+use Rattle.mini_laws.specs.State.{State, stop, either, Writes, Environment}
 use Rattle.mini_laws.specs.Demand.{FunctionTail, Stat}
 use Rattle.mini_laws.specs.Naming.{summary, summaries, lets_all, is_lexical}
 use Rattle.mini_laws.specs.Skeleton.{plus, minus, Within, Off, hidden, hidden_all}
@@ -146,7 +146,7 @@ module _ (e : Environment) (D : VariableSet) (apart : Apart e D) (X Y : Variable
 
 -- ---- the statement behind the declaration
 
-module _ (e : Environment) (spelling : List ℕ) (k : ℕ) (z : Unseen (alone (Declared k)) e) (H : VariableSet) (init head put : Tree) (present : (summary init).facts.absent ≡ false) (K : VariableDeclarationKind) (permit : is_lexical K ≡ false → e.fixed (Declared k) ≡ Writable) (goes_with : (s : State) → Initialised H s → GoesWith e k init head put s) where
+module _ (e : Environment) (spelling : List ℕ) (k : ℕ) (z : Unseen (alone (Declared k)) e) (H : VariableSet) (init head put : Tree) (present : (summary init).facts.absent ≡ false) (K : VariableDeclarationKind) (permit : is_lexical K ≡ false → e.fixed (Declared k) ≡ Writes) (goes_with : (s : State) → Initialised H s → GoesWith e k init head put s) where
   abbrev one : Tree
   one = declared_one K (resolved spelling k) init
 

@@ -130,7 +130,7 @@ module _ (S : BodySets) (W : VariableSet) (ds : List (List ℕ)) (a b : Trees) (
     names = names;
     bodies = λ v d. without.more_under W W S S D (undeclared that) (without.part_itself W) (without.each_itself S) (undeclared_there t.symbol that (gone d)) (bodies_in this) (bodies_in that) these_bodies;
     frames = λ v d. kept_shown (gone_from K (undeclared that)) (KeyGivenUnder W S (undeclared that) (bodies_in this)) (frames_in this) (frames_in that) (module_frames this that keeps_module None);
-    fixities = λ v d strict y h. ap (written_in strict) (module_fixed x t.before t.after t.d t.w t.leaves t.declares t.earlier t.later ds y (still_declared t.symbol that (gone d) y h));
+    fixities = λ v d strict y h. ap (written_in strict y) (module_fixed x t.before t.after t.d t.w t.leaves t.declares t.earlier t.later ds y (still_declared t.symbol that (gone d) y h));
     declared = module_declares x t.before t.after t.d t.w t.leaves t.declares t.earlier t.later ds;
     root = refl;
   }

@@ -4,7 +4,7 @@ use Rattle.mini_model.specs.declared.kind.VariableDeclarationKind.{VariableDecla
 use Rattle.mini_model.specs.declared.name.Name.{Name}
 use Rattle.mini_model.specs.Tree.{Tree, Trees, none, ◌▸◌, listed, identifier}
 use Rattle.mini_laws.specs.Value.{Value, Declared, VariableSet, Holds}
-use Rattle.mini_laws.specs.State.{State, Completion, stop, either, Writable, Environment, with_vars}
+use Rattle.mini_laws.specs.State.{State, Completion, stop, either, Writes, Environment, with_vars}
 use Rattle.mini_laws.specs.Demand.{Val, As, Stat, Binds}
 use Rattle.mini_laws.specs.Command.{set_var}
 use Rattle.mini_laws.specs.Naming.{summary, is_lexical}
@@ -97,7 +97,7 @@ module _ (e : Environment) (spelling : List ℕ) (k : ℕ) (z : Unseen (alone (D
         (goes_either true (λ v. Agree D) (Agree D) (Agree D) (λ u. Agree D) (Agree D) (valued s) (means e (put_first x init value) (As Val) tt s) _ _ _ _ (value_goes s ready) on_goes (λ y s t g. stopped (Unit {0}) D y s t g))
 
     -- in one declaration
-    module _ (permit : is_lexical K ≡ false → e.fixed (Declared k) ≡ Writable) where
+    module _ (permit : is_lexical K ≡ false → e.fixed (Declared k) ≡ Writes) where
       abbrev these : Trees
       these = declarator (binding x) init ▸ (declarator id value ▸ last)
 

@@ -294,7 +294,7 @@ module _ (S : BodySets) (W : VariableSet) where
         frames = λ v d.
             all_frames_more (gone_from K E) (gone_from K (undeclared u)) (KeyGiven nothing (bodies_in t)) (KeyGivenUnder W S (undeclared u) (bodies_in t)) (gone_more K E (undeclared u) (undeclared_there k u (gone d))) (given_seldom W S (undeclared u) (bodies_in t)) (frames_in t) (frames_in u)
             (step_frames_but (gone_from K E) Drop keeps_frames t u s e);
-        fixities = λ v d strict y h. ap (written_in strict) (step_fixed E Drop (record { reads = drop_reads; fixed = at_class (λ p n w. (y : Variable) → E y ≡ false → fixed_by n y ≡ fixed_by w y) (λ n w r o. o.fixed) }) s y (still_declared k u (gone d) y h));
+        fixities = λ v d strict y h. ap (written_in strict y) (step_fixed E Drop (record { reads = drop_reads; fixed = at_class (λ p n w. (y : Variable) → E y ≡ false → fixed_by n y ≡ fixed_by w y) (λ n w r o. o.fixed) }) s y (still_declared k u (gone d) y h));
         declared = reaches_declared Drop (at_class (λ p n w. (y : Name) → Contains (declared w) y → Contains (declared n) y) (λ n w r o. o.declares)) reached;
         root = root_kept s;
       }

@@ -6,6 +6,7 @@ use Rattle.mini_model.specs.declared.kind.MethodDefinitionKind.TheVariants as me
 use Rattle.mini_model.specs.declared.kind.PropertyKind.{PropertyKind}
 use Rattle.mini_model.specs.declared.kind.PropertyKind.TheVariants.{Init}
 use Rattle.mini_model.specs.declared.kind.VariableDeclarationKind.{VariableDeclarationKind}
+use Rattle.mini_model.specs.declared.kind.VariableDeclarationKind.TheVariants.{Var}
 use Rattle.mini_model.specs.declared.name.Name.{Name}
 use Rattle.mini_model.specs.declared.place.Position.{Position}
 use Rattle.mini_model.specs.declared.place.Position.TheVariants.{Expr, Stmt, Method, Elsewhere, StatementList, BodyList, CommaList}
@@ -20,7 +21,7 @@ use Rattle.mini_model.specs.Weight.{outline, weight}
 use Rattle.mini_accept.specs.WellShaped.{a_statement, a_default_export, Slot, one, class_of, filling, is_strict_in, fits, fill}
 use Rattle.mini_laws.specs.Value.{Variable, Declared, Global, VariableSet, choose, nothing, variables}
 use Rattle.mini_laws.specs.State.{State, Environment}
-use Rattle.mini_laws.specs.Demand.{Demand, As, Callee, OfType, Deleted, AnEntry, Stat, Declares, Binds, Request}
+use Rattle.mini_laws.specs.Demand.{Demand, As, Callee, OfType, Deleted, AnEntry, Stat, Declares, Binds, Heads, Request}
 use Rattle.mini_laws.specs.Naming.{Facts, Summary, AClass, Declared as What, Variables, first_facts, is_lexical, summary, summary_of, summaries, facts, facts_all, naming, nth_absent, scope_of}
 use Rattle.mini_laws.specs.Step.{step, means}
 use Rattle.mini_laws.specs.Rows.{SameAt}
@@ -269,16 +270,13 @@ body_listed q fit = absurd fit
 
 -- what begins in a head is what that leaves initialised there
 module _ (S : VariableSet) where
-  lexical_kept : (b : Bool) (xs : List Variable) → Within (plus S (choose b xs [])) (plus S (kept (Binds b) xs))
-  lexical_kept true xs = within_refl (plus S xs)
-  lexical_kept false xs = within_refl (plus S [])
-
   stated_kept : (b : Bool) (xs : List Variable) → Within (plus S (choose b xs [])) (plus S xs)
   stated_kept true xs = within_refl (plus S xs)
   stated_kept false xs = within_trans _ S _ (plus_none S) (within_plus S xs)
 
   left_kept : (o : Option What) (xs : List Variable) → Within (plus S (lets_as o xs)) (plus S (kept (left_demand o) xs))
-  left_kept (Some (Variables v)) xs = lexical_kept (is_lexical v) xs
+  left_kept (Some (Variables Var)) xs = within_refl (plus S [])
+  left_kept (Some (Variables v)) xs = within_refl (plus S xs)
   left_kept (Some AClass) xs = within_refl (plus S [])
   left_kept None xs = within_refl (plus S [])
 
@@ -328,16 +326,17 @@ both_list : (u b : Bool) → Lists (u && b) (Declares b)
 both_list true b = kind_lists b
 both_list false b = tt
 
-none_list : (u b l : Bool) → u ≡ false → Lists (u && b) (Binds l)
-none_list true b l e = absurd (true≢false e)
-none_list false b l e = tt
+none_list : (u b : Bool) (q : Demand) → u ≡ false → Lists (u && b) q
+none_list true b q e = absurd (true≢false e)
+none_list false b q e = tt
 
 statement_lists : (v : VariableDeclarationKind) (k : StmtSeat) (q : Demand) → Fits (Stmt k) q → Lists (is_lexical v) (declaration_demand v q)
 statement_lists v k (Stat t) fit = kind_lists (is_lexical v)
 statement_lists v k q fit = absurd fit
 
 head_lists : (v : VariableDeclarationKind) (s : Seat) (q : Demand) → Fits (Expr s) q → Lists (s.unused && is_lexical v) (declaration_demand v q)
-head_lists v s (Binds l) fit = none_list s.unused (is_lexical v) l fit.1
+head_lists v s (Binds l) fit = none_list s.unused (is_lexical v) (Binds l) fit.1
+head_lists v s Heads fit = none_list s.unused (is_lexical v) Heads fit.1
 head_lists v s q fit = both_list s.unused (is_lexical v)
 
 exported_lists : (b : Bool) (v : VariableDeclarationKind) (q : Demand) → Lists b q → Lists (b && is_lexical v) (declaration_demand v q)

@@ -1,9 +1,9 @@
 -- A tree in which no `break` without a label ends what is around it never ends with one.
 use Rattle.std.specs.Prelude.{ℕ, zero, suc, Bool, true, false, not, ◌||◌, ◌&&◌, List, [], ◌∷◌, length, Option, Some, None}
 use Rattle.std.proofs.Common.{◌+◌, ◌≡◌, refl, sym, subst, arith, true≢false}
-use Rattle.mini_laws.proofs.Runs.{type_reads}
+use Rattle.mini_laws.proofs.Runs.{name_reads, name_writes, type_reads}
 use Rattle.mini_model.specs.declared.kind.VariableDeclarationKind.{VariableDeclarationKind}
-use Rattle.mini_model.specs.declared.kind.VariableDeclarationKind.TheVariants.{Let}
+use Rattle.mini_model.specs.declared.kind.VariableDeclarationKind.TheVariants.{Var, Let}
 use Rattle.mini_model.specs.declared.kind.PropertyKind.{PropertyKind}
 use Rattle.mini_model.specs.declared.name.Name.{Name}
 use Rattle.mini_model.specs.declared.operator.AssignmentOperator.{AssignmentOperator}
@@ -23,17 +23,17 @@ use Rattle.mini_laws.specs.Conversion.{Made, makes, raises, outside, to_number, 
 use Rattle.mini_laws.specs.Operators.{loosely_equal, of_numbers, of_primitives, of_number, safe_number}
 use Rattle.mini_laws.specs.State as state
 use Rattle.mini_laws.specs.State.{Label, Given, Normal, Throws, Finished, Returning, Shortens, Hint, ForString, ForNumber, ForDefault, Carries, Answer, Entry, Item, State, Stop, Thrown, Returned, Broken, Continued, Short, Completion, ok, stop, halt, out, Ends, done, ended, either, Environment}
-use Rattle.mini_laws.specs.Demand.{Want, Val, Test, Unused, Tail, LoopTail, FunctionTail, Demand, As, Callee, OfType, Deleted, Target, AnEntry, Items, Parts, Texts, Stat, Declares, Binds, ClassValue, Cases, ACase, Catches, AskTest, AskBody, LabelSet, Reference, AMember, AFetched, AValue, Prepare, Fetch, Put, Called, Request, Reply, Says}
-use Rattle.mini_laws.specs.Command.{Naming, Op, read, read_typeof, fixity, write, init, init_function, hide, copy, event, bind_names, self, turn, fuel, Gets, Command, ret, fails, stuck, op, kid, then, attempt, bind, shift, repeat, loop, emit, emit_mine, is_object, act, Kids, run, Heard, hears, breaks, nonsense, hear, hear_value, only_object, only_primitive, only_boolean, boolean_value, heard, answered, bound_if, answered_binds, read_slot, read_any, read_type, write_slot, at_variable, this_of, take_turn}
+use Rattle.mini_laws.specs.Demand.{Want, Val, Test, Unused, Tail, LoopTail, FunctionTail, Demand, As, Callee, OfType, Deleted, Target, AnEntry, Items, Parts, Texts, Stat, Declares, Binds, Heads, ClassValue, Cases, ACase, Catches, AskTest, AskBody, LabelSet, Reference, AMember, AFetched, AValue, Prepare, Fetch, Put, Called, Request, Reply, Says}
+use Rattle.mini_laws.specs.Command.{Naming, Op, read, read_typeof, fixity, write, init, init_function, hide, copy, event, bind_names, self, turn, fuel, Gets, Command, ret, fails, stuck, op, kid, then, attempt, bind, shift, repeat, loop, emit, emit_mine, is_object, act, Kids, run, Heard, hears, breaks, nonsense, hear, hear_value, only_object, only_primitive, only_boolean, boolean_value, heard, answered, bound_if, answered_binds, read_slot, read_global, read_name, read_any, read_type, write_slot, write_global, write_name, at_variable, this_of, take_turn}
 use Rattle.mini_laws.specs.Naming.{NameKind, PlainName, EvalName, UndefinedName, NumberName, Declared, Variables, AClass, FunctionFact, Named, NamedDefault, BareDefault, Facts, function_facts, first_facts, nth_absent, texts_all, kinds, summaries, facts, naming}
-use Rattle.mini_laws.specs.Asking.{pass, first_demand, parts_demand, tail_demand, do_demand, for_demand, demand, chained}
+use Rattle.mini_laws.specs.Asking.{pass, first_demand, parts_demand, tail_demand, do_demand, for_demand, each_demand, demand, chained}
 use Rattle.mini_laws.specs.Replies as reply
 use Rattle.mini_laws.specs.Replies.{valued, passed, passing, as_ended, merged, statement, of_made, of_option, primitive, numeric, hint_of, is_of_primitives, operate, loosely, or_event, get_member, put_member, by_fixity, put_own}
 use Rattle.mini_laws.specs.Expressions.{get_identifier, type_identifier, first_kind, delete_of, number_step, unary_step, operate_by, binary_step, logical_step, conditional_step, sequence_step, call_event, call_step, new_step, member_step, got, called_member, chain_end, chain_value, chain_step, array_step, object_step, property_key, property_step, template_step, yield_step}
 use Rattle.mini_laws.specs.Targets.{put_identifier, identifier_step, fetched, stored, as_member, carried, carried_target, private_member, super_member, chained_carries, pattern_target, AssignmentKind, Plainly, Computing, Deciding, assignment_kind, assigns, put_target, after_read, assign_by, assignment_step, update_step, changed}
-use Rattle.mini_laws.specs.Lists.{entries, spread_step, parts, sequence, template_texts, each, declarators, the_declarator, is_case, test_cases, default_case, or_default, case_bodies, enter_case, cases, list_step}
+use Rattle.mini_laws.specs.Lists.{entries, spread_step, parts, sequence, template_texts, each, declarators, the_declarator, the_head, is_case, test_cases, default_case, or_default, case_bodies, enter_case, cases, list_step}
 use Rattle.mini_laws.specs.Statements.{scoped, create_function, create_functions, body_step, block_step, block_in, if_step, if_in, unbroken, switch_step, case_step, label_of, continue_step, return_step, throw_step, unlabelled, labelled, label_step, finalized, handled, try_step, catch_in}
-use Rattle.mini_laws.specs.Loops.{has_label, after_body, while_step, do_step, copied, for_test, for_turn, for_turns, for_head, for_step, give_left, each_turn, turn_of as turn_in, on_next, next_of, keys_in, for_in_step, closing, values_of, for_of_step}
+use Rattle.mini_laws.specs.Loops.{has_label, after_body, while_step, do_step, copied, for_test, for_turn, for_turns, for_head, for_step, give_left, begin_left, each_turn, turn_of as turn_in, on_next, next_of, keys_in, for_in_step, closing, values_of, for_of_step}
 use Rattle.mini_laws.specs.Declarations.{binding_name, binding_pattern, declaration_step, declarator_step, class_step, class_declaration, exported, export_value, default_step}
 use Rattle.mini_laws.specs.Step.{absent_step, entry, step, means, meaning}
 use Rattle.mini_laws.specs.Early.{jump_of, label_in, turn_of}
@@ -155,11 +155,12 @@ module _ (q : ℕ → Demand) (σ : ℕ → Bool) where
   unfolding Tame
   tame_put_member a k v = tame_choose σ (is_nullish a) _ _ ((λ v. tt), (λ x n. n)) ((λ v. tt), (λ x n. n))
 
-  tame_fixity : (v : Value) (f : state.Fixed) → Tame {q = q} σ (by_fixity v f)
+  tame_fixity : (v : Value) (f : state.Writing) → Tame {q = q} σ (by_fixity v f)
   unfolding Tame
-  tame_fixity v state.Writable = ((λ u. tt), (λ x n. n))
-  tame_fixity v state.Constant = ((λ u. tt), (λ x n. n))
-  tame_fixity v state.KeepsOld = tt
+  tame_fixity v state.Writes = ((λ u. tt), (λ x n. n))
+  tame_fixity v state.WritesPresent = ((λ old. ((λ u. tt), (λ x n. n))), (λ x n. n))
+  tame_fixity v state.Refuses = ((λ u. tt), (λ x n. n))
+  tame_fixity v state.Keeps = tt
 
   tame_put_own : (v : Value) → Tame {q = q} σ (put_own v)
   unfolding Tame
@@ -493,6 +494,12 @@ tame_the_declarator (suc zero) l v = ((λ u. tt), (λ x n. n))
 tame_the_declarator zero l v = tt
 tame_the_declarator (suc (suc n)) l v = tt
 
+tame_the_head : (n : ℕ) (r : Option Value) → Tame every (the_head n r)
+unfolding Tame
+tame_the_head (suc zero) r = ((λ u. tt), (λ x n. n))
+tame_the_head zero r = tt
+tame_the_head (suc (suc n)) r = tt
+
 tame_tests : (v : Value) (fs : List Facts) (i : ℕ) → Tame every (test_cases v fs i)
 unfolding Tame
 tame_tests v [] i = tt
@@ -521,6 +528,7 @@ tame_list fs (Parts w) r = tame_sequence (length fs) w
 tame_list fs Texts r = tame_texts (length fs)
 tame_list fs (Declares l) r = tame_declarators (length fs) l
 tame_list fs (Binds l) v = tame_the_declarator (length fs) l v
+tame_list fs Heads r = tame_the_head (length fs) r
 tame_list fs Cases v = tame_cases fs v
 tame_list fs d r = tt
 
@@ -542,6 +550,7 @@ tame_declaration : (k : VariableDeclarationKind) (d : Demand) (r : Request d) �
 unfolding Tame
 tame_declaration k (Stat t) r = ((λ u. tt), (λ x n. tame_merged _ every t x n))
 tame_declaration k (Binds l) v = ((λ u. tt), (λ x n. n))
+tame_declaration k Heads r = ((λ u. tt), (λ x n. n))
 tame_declaration k d r = tt
 
 tame_declarator : (b : Bool) (d : Demand) (r : Request d) → Tame every (declarator_step b d r)
@@ -551,6 +560,9 @@ tame_declarator true (Declares false) r = tt
 tame_declarator false (Declares l) r = ((λ v. ((λ u. tt), (λ x n. n))), (λ x n. n))
 tame_declarator true (Binds l) v = ((λ u. tt), (λ x n. n))
 tame_declarator false (Binds l) v = tt
+tame_declarator b Heads (Some v) = ((λ u. tt), (λ x n. n))
+tame_declarator true Heads None = tt
+tame_declarator false Heads None = ((λ v. ((λ u. tt), (λ x n. n))), (λ x n. n))
 tame_declarator b d r = tt
 
 tame_class : Tame every class_step
@@ -728,6 +740,7 @@ each_looked = looked shape.ForInStatement
 
 tame_left : (d : Option Declared) (v : Value) → Tame each_looked (give_left d v)
 unfolding Tame
+tame_left (Some (Variables Var)) v = ((λ u. tt), (λ x n. n))
 tame_left (Some (Variables k)) v = ((λ u. tt), (λ x n. n))
 tame_left (Some AClass) v = ((λ f. ((λ u. tt), (λ x n. n))), (λ x n. n))
 tame_left None v = ((λ f. ((λ u. tt), (λ x n. n))), (λ x n. n))
@@ -745,9 +758,14 @@ tame_keys : (d : Option Declared) (labels : LabelSet) (v : Value) → Tame each_
 unfolding Tame
 tame_keys d labels v = tame_choose each_looked (is_nullish v) _ _ tt ((λ iterator. tame_loop each_looked (next_of iterator (turn_in d labels)) ((λ o. tame_next (turn_in d labels) (tame_turn d labels) o), (λ x n. n))), (λ x n. n))
 
+tame_begin : (d : Option Declared) (c : Command (each_demand d) (Unit {0})) → Tame each_looked c → Tame each_looked (begin_left d c)
+unfolding Tame
+tame_begin (Some (Variables Var)) c h = ((λ u. h), (λ x n. n))
+tame_begin d c h = h
+
 tame_for_in : (d : Option Declared) (labels : LabelSet) → Tame each_looked (for_in_step d labels)
 unfolding Tame
-tame_for_in d labels = tame_scoped _ each_looked (kid 1 tt (then (keys_in d labels))) ((λ v. tame_keys d labels v), (λ x n. n))
+tame_for_in d labels = tame_scoped _ each_looked (begin_left d (kid 1 tt (then (keys_in d labels)))) (tame_begin d (kid 1 tt (then (keys_in d labels))) ((λ v. tame_keys d labels v), (λ x n. n)))
 
 tame_closed : (q : ℕ → Demand) (iterator : Value) (b : Bool) → Tame {q = q} each_looked (closing iterator (done b))
 unfolding Tame
@@ -920,7 +938,7 @@ told_value state.IteratorOf v = told_object v
 told_value state.KeysOf v = told_object v
 told_value (state.NodeOf state.ABoolean) v = told_boolean_value v
 told_value (state.NodeOf state.AnObject) v = told_object v
-told_value state.RaiseTypeError v = tt
+told_value (state.Raise error) v = tt
 told_value state.FreshOf v = tt
 told_value l v = tt
 
@@ -966,6 +984,14 @@ module _ (e : Environment) (names : Naming) where
   unbroken_read Missing s = tt
   unbroken_read Uninitialised s = tt
 
+  unbroken_global : (v : Slot) (s : State) → Unbroken (read_global e v s)
+  unbroken_global (Holds v) s = tt
+  unbroken_global Missing s = unbroken_answer (state.Raise state.ReferenceError) s.answers _
+  unbroken_global Uninitialised s = tt
+
+  unbroken_name : (x : Variable) (v : Slot) (s : State) → Unbroken (read_name e x v s)
+  unbroken_name x v s = name_reads (λ a b. Unbroken a) e e x v v s s (unbroken_read v s) (unbroken_global v s)
+
   unbroken_read_any : (v : Slot) (s : State) → Unbroken (read_any v s)
   unfolding read_any
   unbroken_read_any (Holds v) s = tt
@@ -981,6 +1007,14 @@ module _ (e : Environment) (names : Naming) where
   unbroken_write x v Missing s = tt
   unbroken_write x v Uninitialised s = tt
 
+  unbroken_write_global : (x : Variable) (v : Value) (o : Slot) (s : State) → Unbroken (write_global x v o s)
+  unbroken_write_global x v (Holds w) s = tt
+  unbroken_write_global x v Missing s = tt
+  unbroken_write_global x v Uninitialised s = tt
+
+  unbroken_write_name : (x : Variable) (v : Value) (o : Slot) (s : State) → Unbroken (write_name x v o s)
+  unbroken_write_name x v o s = name_writes (λ a b. Unbroken a) x v o o s s (unbroken_write x v o s) (unbroken_write_global x v o s)
+
   unbroken_this : (b : Bool) (s : State) → Unbroken (this_of e b s)
   unfolding this_of
   unbroken_this true s = unbroken_answer state.ThisOf s.answers _
@@ -993,10 +1027,10 @@ module _ (e : Environment) (names : Naming) where
 
   unbroken_act : (o : Op) (s : State) → Unbroken (act e names o s)
   unfolding act
-  unbroken_act (read i) s = unbroken_at (nth names.own i) _ (λ x. unbroken_read (s.vars x) s)
+  unbroken_act (read i) s = unbroken_at (nth names.own i) _ (λ x. unbroken_name x (s.vars x) s)
   unbroken_act (read_typeof i) s = unbroken_at (nth names.own i) _ (λ x. unbroken_type x (s.vars x) s)
   unbroken_act (fixity i) s = unbroken_at (nth names.written i) _ (λ x. tt)
-  unbroken_act (write i v) s = unbroken_at (nth names.written i) _ (λ x. unbroken_write x v (s.vars x) s)
+  unbroken_act (write i v) s = unbroken_at (nth names.written i) _ (λ x. unbroken_write_name x v (s.vars x) s)
   unbroken_act (init i v) s = unbroken_at (nth names.written i) _ (λ x. tt)
   unbroken_act (init_function b i v) s = unbroken_at _ _ (λ x. tt)
   unbroken_act hide s = tt

@@ -12,7 +12,7 @@ use Rattle.mini_model.specs.declared.shape.Shape.TheVariants as shape
 use Rattle.mini_model.specs.Tree.{Tree, Trees, node, none, ◌▸◌, absent, listed, shape_of, program, empty_statement, expression_statement}
 use Rattle.mini_model.specs.Paths.{append}
 use Rattle.mini_laws.specs.Value.{Value, Undefined, Variable, Declared, VariableSet, Slot, Holds, Missing, Uninitialised, choose, variable_eq, is_in, nothing}
-use Rattle.mini_laws.specs.State.{State, Completion, ok, stop, halt, out, either, Writable, Environment, with_vars}
+use Rattle.mini_laws.specs.State.{State, Completion, ok, stop, halt, out, either, Writes, Environment, with_vars}
 use Rattle.mini_laws.specs.Demand.{Val, Unused, Tail, FunctionTail, Demand, As, Stat, Declares, Binds, LabelSet}
 use Rattle.mini_laws.specs.Command.{set_var, run, note, act, at_variable, write_slot}
 use Rattle.mini_laws.specs.State.{FreshOf}
@@ -121,12 +121,12 @@ module _ (e : Environment) (spelling : List ℕ) (k : ℕ) (z : Unseen (alone (D
   unfolding means meaning step either act at_variable
   lexical_binds v s = ap (λ b. let t = choose b (note e FreshOf None [] (Some (Declared k)) s) s in ok tt (with_vars t (set_var t.vars (Declared k) (Holds v)))) unshared
 
-  var_writes : e.fixed (Declared k) ≡ Writable → (v : Value) (s : State) → means e (binding x) (Binds false) v s ≡ writes (Declared k) v (s.vars (Declared k)) s
+  var_writes : e.fixed (Declared k) ≡ Writes → (v : Value) (s : State) → means e (binding x) (Binds false) v s ≡ writes (Declared k) v (s.vars (Declared k)) s
   unfolding means meaning step either act at_variable
   var_writes h v s =
       ap (λ f. run {q = demand shape.BindingIdentifier [] (Binds false)} e (naming shape.BindingIdentifier (Binds false) (Declared k ∷ []) 0 []) (λ i r z. meaning e none i (demand shape.BindingIdentifier [] (Binds false) i) r z) (by_fixity v f) s) h
 
-  var_binds : e.fixed (Declared k) ≡ Writable → (v : Value) (s : State) → (means e (binding x) (Binds false) v s ≡ ok tt (after v s)) ⊎ (means e (binding x) (Binds false) v s ≡ out)
+  var_binds : e.fixed (Declared k) ≡ Writes → (v : Value) (s : State) → (means e (binding x) (Binds false) v s ≡ ok tt (after v s)) ⊎ (means e (binding x) (Binds false) v s ≡ out)
   var_binds h v s = by (s.vars (Declared k)) refl
     where
       wrote : (o : Slot) → s.vars (Declared k) ≡ o → means e (binding x) (Binds false) v s ≡ writes (Declared k) v o s
@@ -137,7 +137,7 @@ module _ (e : Environment) (spelling : List ℕ) (k : ℕ) (z : Unseen (alone (D
       by Missing q = inr (wrote Missing q ∙ missing (Declared k) v s)
       by Uninitialised q = inr (wrote Uninitialised q ∙ unset (Declared k) v s)
 
-  binds : (l : Bool) → (l ≡ false → e.fixed (Declared k) ≡ Writable) → (v : Value) (s : State) → (means e (binding x) (Binds l) v s ≡ ok tt (after v s)) ⊎ (means e (binding x) (Binds l) v s ≡ out)
+  binds : (l : Bool) → (l ≡ false → e.fixed (Declared k) ≡ Writes) → (v : Value) (s : State) → (means e (binding x) (Binds l) v s ≡ ok tt (after v s)) ⊎ (means e (binding x) (Binds l) v s ≡ out)
   binds true p v s = inl (lexical_binds v s)
   binds false p v s = var_binds (p refl) v s
 
@@ -214,7 +214,7 @@ module _ (e : Environment) (spelling : List ℕ) (k : ℕ) (z : Unseen (alone (D
   bare_one false s = subst (λ c. Go c (ok tt s)) (sym (bare_var s)) (refl, itself s)
 
   -- of a kind of declaration: a `var` is one that may be written
-  module _ (K : VariableDeclarationKind) (permit : is_lexical K ≡ false → e.fixed (Declared k) ≡ Writable) where
+  module _ (K : VariableDeclarationKind) (permit : is_lexical K ≡ false → e.fixed (Declared k) ≡ Writes) where
     declared_is : (init : Tree) (s : State) → means e (declared_one K x init) (Stat None) [] s ≡ means e (declarator (binding x) init) (Declares (is_lexical K)) tt s
     declared_is init s =
         declaration_is e K (declarator (binding x) init ▸ none) [] s ∙ declare_more e (declarator (binding x) init) none (is_lexical K) s
@@ -442,7 +442,7 @@ declared_lets Var k ds first last ys f g = inr (sym g)
 
 -- ---- the head of a `for`
 
-module _ (e : Environment) (spelling : List ℕ) (k : ℕ) (z : Unseen (alone (Declared k)) e) (K : VariableDeclarationKind) (permit : is_lexical K ≡ false → e.fixed (Declared k) ≡ Writable) (first last : Trees) (init : Tree) (h : is_idle init ≡ true) where
+module _ (e : Environment) (spelling : List ℕ) (k : ℕ) (z : Unseen (alone (Declared k)) e) (K : VariableDeclarationKind) (permit : is_lexical K ≡ false → e.fixed (Declared k) ≡ Writes) (first last : Trees) (init : Tree) (h : is_idle init ≡ true) where
   abbrev with_it : Tree
   with_it = declared_among K (resolved spelling k) first init last
 
@@ -519,11 +519,11 @@ lexical_alone Var h = absurd (true≢false (sym h))
 lexical_alone K h = refl
 
 -- a `var` that goes writes
-pub may_write : (W : VariableSet) (K : VariableDeclarationKind) (e : Environment) (k : ℕ) → lets_go W K k ≡ true → Permits W (alone (Declared k)) e → is_lexical K ≡ false → e.fixed (Declared k) ≡ Writable
+pub may_write : (W : VariableSet) (K : VariableDeclarationKind) (e : Environment) (k : ℕ) → lets_go W K k ≡ true → Permits W (alone (Declared k)) e → is_lexical K ≡ false → e.fixed (Declared k) ≡ Writes
 may_write W K e k h u f = u.writable (Declared k) (sym (ap (λ b. b || W (Declared k)) f) ∙ h)
 
 -- a lexical name is not written
-pub never_written : (K : VariableDeclarationKind) (e : Environment) (k : ℕ) → is_lexical K ≡ true → is_lexical K ≡ false → e.fixed (Declared k) ≡ Writable
+pub never_written : (K : VariableDeclarationKind) (e : Environment) (k : ℕ) → is_lexical K ≡ true → is_lexical K ≡ false → e.fixed (Declared k) ≡ Writes
 never_written K e k l f = absurd (true≢false (sym l ∙ f))
 
 -- the block means the same in each tail
@@ -595,7 +595,7 @@ first_avoids D K (t ▸ first) a = (tt, ((tt, a), tt))
 abbrev pub GoesWith : Environment → ℕ → Tree → Tree → Tree → State → Type 0
 GoesWith e k init head put s = Goes true (λ u. Agree (alone (Declared k))) (Agree (alone (Declared k))) (Agree (alone (Declared k))) (either (means e init (As Val) tt s) (λ v t. means e head (Stat None) [] (with_vars t (set_var t.vars (Declared k) (Holds v)))) (λ y t. stop y t)) (means e put (Stat None) [] s)
 
-module _ (e : Environment) (spelling : List ℕ) (k : ℕ) (z : Unseen (alone (Declared k)) e) (first : Trees) (init head put : Tree) (present : (summary init).facts.absent ≡ false) (K : VariableDeclarationKind) (permit : is_lexical K ≡ false → e.fixed (Declared k) ≡ Writable) (goes_with : (s : State) → GoesWith e k init head put s) where
+module _ (e : Environment) (spelling : List ℕ) (k : ℕ) (z : Unseen (alone (Declared k)) e) (first : Trees) (init head put : Tree) (present : (summary init).facts.absent ≡ false) (K : VariableDeclarationKind) (permit : is_lexical K ≡ false → e.fixed (Declared k) ≡ Writes) (goes_with : (s : State) → GoesWith e k init head put s) where
   abbrev single_name : Name
   single_name = resolved spelling k
 

@@ -14,7 +14,7 @@ use Rattle.mini_model.specs.Position.{branch_seat, callee_seat, object_seat}
 use Rattle.mini_model.specs.Weight.{outline, weight}
 use Rattle.mini_accept.specs.WellShaped.{a_link, a_chain, Slot, one, fits, has_optional, is_not_positive_number}
 use Rattle.mini_laws.specs.Value.{Value, Undefined, Variable, VariableSet, Declared, Holds, choose, is_nullish, truth, nothing}
-use Rattle.mini_laws.specs.State.{State, Stop, Halt, Short, Completion, ok, stop, halt, out, either, Environment, Writable}
+use Rattle.mini_laws.specs.State.{State, Stop, Halt, Short, Completion, ok, stop, halt, out, either, Environment, Writes}
 use Rattle.mini_laws.specs.Demand.{Demand, Called, plain_call}
 use Rattle.mini_laws.specs.Expressions.{is_eval}
 use Rattle.mini_laws.specs.Fits.{Fits}
@@ -155,7 +155,7 @@ module _ (e : Environment) where
 
 -- ---- both do the same
 
-module _ (e : Environment) (spelling : List ℕ) (k : ℕ) (free : e.fixed (Declared k) ≡ Writable) (indirect : is_eval (kind_of (resolved spelling k)) ≡ false) (equal : Bool) (a m : Tree) (l : Link) (ls : List Link) (u : IsUndefined m) (calm_value : is_calm a ≡ true) (p : are_calm_links l ls ≡ true) where
+module _ (e : Environment) (spelling : List ℕ) (k : ℕ) (free : e.fixed (Declared k) ≡ Writes) (indirect : is_eval (kind_of (resolved spelling k)) ≡ false) (equal : Bool) (a m : Tree) (l : Link) (ls : List Link) (u : IsUndefined m) (calm_value : is_calm a ≡ true) (p : are_calm_links l ls ≡ true) where
   abbrev x : Name
   x = resolved spelling k
 
@@ -214,7 +214,7 @@ asks W s n w r = if_null r.equal (assign (resolved r.spelling r.symbol) r.a) r.m
 abbrev held : (W : VariableSet) (s : Seat) (n w : Tree) → Row46AssignedChain W s n w → Tree
 held W s n w r = spine true (assign (resolved r.spelling r.symbol) r.a) r.last r.others
 
-pub chained_same : (W : VariableSet) (s : Seat) (n w : Tree) (r : Row46AssignedChain W s n w) (e : Environment) → ((y : Variable) → W y ≡ true → e.fixed y ≡ Writable) → (q : Demand) → Fits (Expr s) q → Same e nothing nothing q n w
+pub chained_same : (W : VariableSet) (s : Seat) (n w : Tree) (r : Row46AssignedChain W s n w) (e : Environment) → ((y : Variable) → W y ≡ true → e.fixed y ≡ Writes) → (q : Demand) → Fits (Expr s) q → Same e nothing nothing q n w
 chained_same W s n w r e z q f =
     let x : Name = resolved r.spelling r.symbol in
     subst (λ t. Same e nothing nothing q t w) (sym r.shape)

@@ -12,7 +12,7 @@ use Rattle.mini_model.specs.declared.shape.Shape.TheVariants as shape
 use Rattle.mini_model.specs.Tree.{Tree, none, identifier, logical, conditional, null_literal}
 use Rattle.mini_model.specs.Weight.{same_text}
 use Rattle.mini_laws.specs.Value.{Value, Null, Boolean, Variable, VariableSet, Declared, Global, Slot, Holds, Missing, Uninitialised, choose, truth, is_nullish, nothing}
-use Rattle.mini_laws.specs.State.{State, Completion, ok, stop, halt, out, either, Environment, Writable, with_vars}
+use Rattle.mini_laws.specs.State.{State, Completion, ok, stop, halt, out, either, Environment, Writes, with_vars}
 use Rattle.mini_laws.specs.Demand.{Demand, Stat, Target, As, Val}
 use Rattle.mini_laws.specs.Command.{Naming, Kids, ret, bind, set_var, read_slot, write_slot, at_variable, act, run}
 use Rattle.mini_laws.specs.Naming.{NameKind, PlainName, EvalName, UndefinedName, NumberName, kind_declared, kind_of, naming, summary}
@@ -88,7 +88,7 @@ module _ (e : Environment) (spelling : List ℕ) (k : ℕ) where
   unfolding means step
   read_value s = read_by (kind_of x) (declared_plain spelling) s ∙ either_eta (read_slot (s.vars (Declared k)) s)
 
-  module _ (free : e.fixed (Declared k) ≡ Writable) where
+  module _ (free : e.fixed (Declared k) ≡ Writes) where
     put_by : (n : NameKind) → is_plain n ≡ true → (v : Value) (s : State) → run {q = λ i. Stat None} e (naming shape.Identifier Target (Declared k ∷ []) 0 []) (λ i r z. meaning e none i (Stat None) r z) (put_identifier n v) s ≡ either (write_slot (Declared k) v (s.vars (Declared k)) s) (λ u z. ok u z) (λ x z. stop x z)
     unfolding act at_variable either
     put_by PlainName h v s = ap (λ f. run {q = λ i. Stat None} e (naming shape.Identifier Target (Declared k ∷ []) 0 []) (λ i r z. meaning e none i (Stat None) r z) (by_fixity v f) s) free
@@ -202,7 +202,7 @@ pub same_where : (e : Environment) (X : VariableSet) (n w : Tree) → Tells n �
 same_where e X n w t u h q =
     record { by = λ r s i. subst (Goes true (λ a. Agree nothing) (Agree nothing) (Agree nothing) (means e n q r s)) (t.by e q r s ∙ ap (asked q r) (h s i) ∙ sym (u.by e q r s)) ((reflexive e nothing X q n).by r s i) }
 
-pub combined_same : (W : VariableSet) (n w : Tree) (r : Row34 W n w) (e : Environment) → ((y : Variable) → W y ≡ true → e.fixed y ≡ Writable) → (q : Demand) → Same e nothing nothing q n w
+pub combined_same : (W : VariableSet) (n w : Tree) (r : Row34 W n w) (e : Environment) → ((y : Variable) → W y ≡ true → e.fixed y ≡ Writes) → (q : Demand) → Same e nothing nothing q n w
 combined_same W n w r e z q =
     let x : Name = resolved r.spelling r.symbol in
     subst (λ t. Same e nothing nothing q t w) (sym r.shape)
@@ -210,7 +210,7 @@ combined_same W n w r e z q =
     (same_there e (assign x (logical r.operator (identifier x) r.b)) (assignment (deciding r.operator) (identifier x) r.b) (assignment_tells Assign (identifier x) (logical r.operator (identifier x) r.b)) (assignment_tells (deciding r.operator) (identifier x) r.b)
     (combined_value e r.spelling r.symbol (z (Declared r.symbol) r.writable) r.operator r.b) q))
 
-pub assigned_same : (W : VariableSet) (n w : Tree) (r : Row46Assigned W n w) (e : Environment) → ((y : Variable) → W y ≡ true → e.fixed y ≡ Writable) → (q : Demand) → Same e nothing nothing q n w
+pub assigned_same : (W : VariableSet) (n w : Tree) (r : Row46Assigned W n w) (e : Environment) → ((y : Variable) → W y ≡ true → e.fixed y ≡ Writes) → (q : Demand) → Same e nothing nothing q n w
 assigned_same W n w r e z q =
     let x : Name = resolved r.spelling r.symbol in
     let before : Tree = if_null r.equal (assign x r.a) r.b (identifier x) in

@@ -17,7 +17,7 @@ use Rattle.mini_model.specs.Position.{left_operand_seat, right_operand_seat, bin
 use Rattle.mini_model.specs.Weight.{outline, outlines, weight, is_parenthesized, is_awkward}
 use Rattle.mini_accept.specs.WellShaped.{Slot, fits}
 use Rattle.mini_laws.specs.Value.{Value, Undefined, Null, Boolean, Variable, VariableSet, Declared, choose, nothing}
-use Rattle.mini_laws.specs.State.{State, ok, stop, either, Environment, Writable}
+use Rattle.mini_laws.specs.State.{State, ok, stop, either, Environment, Writes}
 use Rattle.mini_laws.specs.Demand.{Val, Demand, As}
 use Rattle.mini_laws.specs.Command.{run}
 use Rattle.mini_laws.specs.Expressions.{operate_by}
@@ -64,7 +64,7 @@ loose_value e false t s = unequal_null e t s
 
 -- ---- the name has what was assigned
 
-module _ (e : Environment) (spelling : List ℕ) (k : ℕ) (free : e.fixed (Declared k) ≡ Writable) (a : Tree) where
+module _ (e : Environment) (spelling : List ℕ) (k : ℕ) (free : e.fixed (Declared k) ≡ Writes) (a : Tree) where
   abbrev x : Name
   x = resolved spelling k
 
@@ -111,7 +111,7 @@ before_it equal before x a f g = logical (joining equal) (ended (joining equal) 
 abbrev after_it : Bool → Option Tree → Name → Tree → Tree
 after_it equal before x a = ended (joining equal) before (binary (loosely equal) (assign x a) null_literal)
 
-pub nullish_same : (W : VariableSet) (n w : Tree) (r : Row37Assigned W n w) (e : Environment) → ((y : Variable) → W y ≡ true → e.fixed y ≡ Writable) → (q : Demand) → Same e nothing nothing q n w
+pub nullish_same : (W : VariableSet) (n w : Tree) (r : Row37Assigned W n w) (e : Environment) → ((y : Variable) → W y ≡ true → e.fixed y ≡ Writes) → (q : Demand) → Same e nothing nothing q n w
 nullish_same W n w r e z q =
     let x : Name = resolved r.spelling r.symbol in
     let o = joining r.equal in

@@ -16,6 +16,7 @@ use Rattle.mini_model.specs.Paths.{append}
 use Rattle.mini_model.specs.Weight.{weight, capped}
 use Rattle.mini_laws.specs.declared.names.Declared.TheVariants as declared
 use Rattle.mini_laws.specs.DeclaredNames.{names_of}
+use Rattle.mini_node.specs.Kinds.{is_listed_shape}
 use Rattle.mini_rows.specs.Switches.{Switches}
 use Rattle.mini_terms.specs.Parts.{leaves_nothing}
 
@@ -199,8 +200,15 @@ is_var_shape _ = false
 abbrev pub lacks_initializer : Tree → Bool
 lacks_initializer d = nat_eq (count (children d)) 2 && is_absent (child_or_absent (children d) 1)
 
+abbrev pub is_declarator_shape : Shape → Bool
+is_declarator_shape shape.VariableDeclarator = true
+is_declarator_shape _ = false
+
+abbrev pub is_bare_declarator : Tree → Bool
+is_bare_declarator d = is_declarator_shape (shape_of d) && lacks_initializer d
+
 abbrev pub are_bare : Tree → Bool
-are_bare ds = nat_eq (count (children ds)) 1 && lacks_initializer (child_or_absent (children ds) 0)
+are_bare ds = is_listed_shape (shape_of ds) && (nat_eq (count (children ds)) 1 && is_bare_declarator (child_or_absent (children ds) 0))
 
 abbrev pub is_bare_var : Tree → Bool
 is_bare_var t = is_var_shape (shape_of t) && (nat_eq (count (children t)) 1 && are_bare (child_or_absent (children t) 0))
@@ -554,14 +562,6 @@ pub record Row77Unreached (a b : Trees) : Type 0 where
   pub lighter : is_lighter_left gone ≡ true
   pub shape : a ≡ first ▸ append between (gone ▸ none)
   pub written : b ≡ first ▸ append between (left_behind gone)
-
--- a declarator without an initializer
-abbrev pub is_declarator_shape : Shape → Bool
-is_declarator_shape shape.VariableDeclarator = true
-is_declarator_shape _ = false
-
-abbrev pub is_bare_declarator : Tree → Bool
-is_bare_declarator d = is_declarator_shape (shape_of d) && lacks_initializer d
 
 abbrev pub are_bare_declarators : Trees → Bool
 are_bare_declarators none = true

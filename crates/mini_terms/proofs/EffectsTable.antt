@@ -1,6 +1,6 @@
 -- What is effect-free changes nothing.
 use Rattle.std.proofs.Common.{◌≡◌, ℕ, zero, suc, Bool, true, false, List, length, refl, sym, subst, true≢false}
-use Rattle.std.specs.Prelude.{not, ◌&&◌, ◌||◌, Option, Some, None}
+use Rattle.std.specs.Prelude.{not, ◌&&◌, ◌||◌, [], ◌∷◌, Option, Some, None, is_some}
 use Rattle.mini_model.specs.declared.operator.BinaryOperator.{BinaryOperator}
 use Rattle.mini_model.specs.declared.operator.BinaryOperator.TheVariants as binary
 use Rattle.mini_model.specs.declared.operator.LogicalOperator.TheVariants.{Or, And, Coalesce}
@@ -9,14 +9,15 @@ use Rattle.mini_model.specs.declared.operator.UnaryOperator.TheVariants as unary
 use Rattle.mini_model.specs.declared.shape.Shape.{Shape}
 use Rattle.mini_model.specs.declared.shape.Shape.TheVariants as shape
 use Rattle.mini_model.specs.declared.name.Name.{Name}
+use Rattle.mini_model.specs.declared.name.SymbolId.{SymbolId}
 use Rattle.mini_model.specs.Tree.{Tree, Trees, node, none, ◌▸◌}
-use Rattle.mini_laws.specs.Value.{Variable, Slot, Holds, Missing, Uninitialised, Value, Undefined, Null, Boolean, Number, String, Symbol, Object, choose, truth, is_nullish, variables, nth}
+use Rattle.mini_laws.specs.Value.{Variable, Declared, variable_by, Slot, Holds, Missing, Uninitialised, Value, Undefined, Null, Boolean, Number, String, Symbol, Object, choose, truth, is_nullish, variables, nth}
 use Rattle.mini_laws.specs.Conversion.{Made, makes, raises, outside, to_number, to_text}
 use Rattle.mini_laws.specs.Operators.{of_primitives, of_numbers, loosely_equal, of_number}
 use Rattle.mini_laws.specs.State.{Hint, ForNumber, ForDefault, ForString, done, Completion, ok, stop, halt, out, either, State, Stop, Environment}
 use Rattle.mini_laws.specs.Demand.{Want, Val, Test, Demand, As, OfType, Parts, Texts, Request, Reply}
 use Rattle.mini_laws.specs.Command.{Naming, Op, read, read_typeof, self, Gets, Command, ret, fails, stuck, op, kid, bind, shift, Kids, act, run, at_variable, read_slot, read_any, read_type, this_of, is_object}
-use Rattle.mini_laws.specs.Naming.{NameKind, PlainName, EvalName, UndefinedName, NumberName, kinds, facts, summaries, naming}
+use Rattle.mini_laws.specs.Naming.{NameKind, PlainName, EvalName, UndefinedName, NumberName, kind_of, kinds, facts, summaries, naming}
 use Rattle.mini_laws.specs.Asking.{demand, sequence_demand, operand_demand}
 use Rattle.mini_laws.specs.Replies.{reply, valued, passed, passing, primitive, numeric, of_made, of_option, is_of_primitives, operate, hint_of, loosely}
 use Rattle.mini_laws.specs.Expressions.{first_kind, unary_step, binary_step, operate_by, logical_step, conditional_step, number_step}
@@ -27,16 +28,15 @@ use Rattle.mini_laws.specs.Truth.{told}
 use Rattle.mini_laws.proofs.Runs.{type_reads}
 use Rattle.mini_laws.proofs.Truth.{coherent}
 use Rattle.mini_terms.specs.Kind.{Kind, is_primitive, is_nullish_kind, IsUndefined, IsNull, nth_kind, kind, each_kind, OfKind}
-use Rattle.mini_terms.specs.Effects.{ef, each_ef, ef_unary, ef_operands, nth_true, all_true, all_primitive, primitive_items, each_primitive, is_identifier, each_identifier}
+use Rattle.mini_terms.specs.Effects.{ef, each_ef, ef_unary, ef_operands, ef_names, is_constant_name, is_identifier_shape, nth_true, all_true, all_primitive, primitive_items, each_primitive, is_identifier, each_identifier}
 use Rattle.mini_terms.specs.Sound.{Gives, Quiet, EffectFreeSound}
 use Rattle.mini_terms.proofs.Frame.{fact_at, Claims, trees_give}
 use Rattle.mini_terms.proofs.KindTable.{kind_facts, kind_table, at_kind}
 use Rattle.mini_terms.proofs.Made.{and_left, and_right}
 use Rattle.mini_terms.proofs.Fine.{Fine, IsPrimitive, primitive_of, fine_to_number, fine_to_text, fine_numbers, fine_primitives, fine_of_number}
 
--- the actions that only read
+-- the actions that only read; of an absent name a read throws
 abbrev Reads : Bool → Op → Type 0
-Reads asked (read i) = Unit {0}
 Reads asked (read_typeof i) = Unit {0}
 Reads asked self = asked ≡ false
 Reads asked o = ⊥
@@ -91,7 +91,6 @@ module _ (e : Environment) (names : Naming) where
 
   act_quiet : (asked : Bool) → (asked ≡ false → e.asks_this ≡ false) → (o : Op) (s : State) → Reads asked o → Quiet s (act e names o s)
   unfolding act
-  act_quiet asked f (read i) s h = at_quiet (nth names.own i) _ s (λ y. slot_quiet (s.vars y) s)
   act_quiet asked f (read_typeof i) s h = at_quiet (nth names.own i) _ s (λ y. type_quiet y (s.vars y) s)
   act_quiet asked f self s h = this_quiet e.asks_this s (f h)
   act_quiet asked f o s h = absurd h
@@ -314,13 +313,6 @@ module _ (asked : Bool) where
         (calm_shift asked (λ i. As Val) (λ i. AsksAt asked (t ▸ ts) i (As Val)) (Claims kind_facts (t ▸ ts) (λ i. As Val)) (template_texts (length (facts ts))) (texts_calm ts (and_right (ef asked t) _ e) (and_right (is_primitive (kind t)) _ h))) (λ ss. tt)),
   )
 
-  name_calm : (q : ℕ → Demand) (as' : ℕ → Type 0) (ks : (i : ℕ) (r : Request (q i)) → Reply (q i) r → Type 0) (k : NameKind) → Calm asked as' ks (identifier_step k (As Val) tt)
-  unfolding Calm
-  name_calm q as' ks UndefinedName = tt
-  name_calm q as' ks NumberName = tt
-  name_calm q as' ks PlainName = (tt, λ v. tt)
-  name_calm q as' ks EvalName = (tt, λ v. tt)
-
   type_calm : (q : ℕ → Demand) (as' : ℕ → Type 0) (ks : (i : ℕ) (r : Request (q i)) → Reply (q i) r → Type 0) (k : NameKind) → Calm asked as' ks (identifier_step k OfType tt)
   unfolding Calm
   type_calm q as' ks UndefinedName = tt
@@ -339,26 +331,26 @@ module _ (asked : Bool) where
     abbrev demands : Shape → ℕ → Demand
     demands h = demand h (facts ts) (As Val)
 
-    -- the table
-    value : (h : Shape) → NodeCalm xs n ts (As Val) tt h
+    -- the table, names aside
+    value : (h : Shape) → is_identifier_shape h ≡ false → NodeCalm xs n ts (As Val) tt h
     unfolding Calm step
-    value shape.Listed e = tt
-    value shape.Identifier e = name_calm _ _ _ (first_kind (kinds xs))
-    value (shape.NumericLiteral m) e = tt
-    value (shape.StringLiteral s) e = tt
-    value (shape.BooleanLiteral b) e = tt
-    value shape.NullLiteral e = tt
-    value (shape.BigIntLiteral m) e = tt
-    value shape.ThisExpression e = (not_true asked e, λ v. tt)
-    value (shape.UnaryExpression o) e = replied asked _ _ _ (unary_step o) (unary_calm xs n ts o e)
-    value (shape.BinaryExpression o) e = replied asked _ (may xs n ts (λ i. As Val)) (Claims kind_facts ts (λ i. As Val)) (binary_step o) (at_as ts 0 Val (and_left _ _ (and_right (ef_operands o (nth_kind (each_kind ts) 0) (nth_kind (each_kind ts) 1)) _ e)), λ a p. (at_as ts 1 Val (and_right (nth_true bs 0) _ (and_right (ef_operands o (nth_kind (each_kind ts) 0) (nth_kind (each_kind ts) 1)) _ e)), λ b q. operator_calm xs n ts o (nth_kind (each_kind ts) 0) (nth_kind (each_kind ts) 1) (and_left _ _ e) a b (at_value ts 0 a p) (at_value ts 1 b q)))
-    value (shape.LogicalExpression And) e = handed asked _ (may xs n ts (demands (shape.LogicalExpression And))) (Claims kind_facts ts (demands (shape.LogicalExpression And))) (logical_step And Val) (at_as ts 0 Val (and_left _ _ e), λ a p. choice asked _ _ _ (truth a) _ _ (at_as ts 1 Val (and_right (nth_true bs 0) _ e), λ b q. tt) tt)
-    value (shape.LogicalExpression Or) e = handed asked _ (may xs n ts (demands (shape.LogicalExpression Or))) (Claims kind_facts ts (demands (shape.LogicalExpression Or))) (logical_step Or Val) (at_as ts 0 Val (and_left _ _ e), λ a p. choice asked _ _ _ (truth a) _ _ tt (at_as ts 1 Val (and_right (nth_true bs 0) _ e), λ b q. tt))
-    value (shape.LogicalExpression Coalesce) e = handed asked _ (may xs n ts (demands (shape.LogicalExpression Coalesce))) (Claims kind_facts ts (demands (shape.LogicalExpression Coalesce))) (logical_step Coalesce Val) (at_as ts 0 Val (and_left _ _ e), λ a p. choice asked _ _ _ (is_nullish a) _ _ (at_as ts 1 Val (and_right (nth_true bs 0) _ e), λ b q. tt) tt)
-    value shape.ConditionalExpression e = handed asked _ (may xs n ts (demands shape.ConditionalExpression)) (Claims kind_facts ts (demands shape.ConditionalExpression)) (conditional_step Val) (at_as ts 0 Test (and_left _ _ e), λ a p. choice asked _ _ _ a _ _ (at_as ts 1 Val (and_left _ _ (and_right (nth_true bs 0) _ e)), λ b q. tt) (at_as ts 2 Val (and_right (nth_true bs 1) _ (and_right (nth_true bs 0) _ e)), λ b q. tt))
-    value shape.SequenceExpression e = (at_parts ts 0 e, λ v p. tt)
-    value shape.TemplateLiteral e = (at_texts ts 1 (and_left _ _ e) (and_right (nth_true bs 1) _ e), λ ss p. tt)
-    value h e = absurd (true≢false (sym e))
+    value shape.Identifier k e = absurd (true≢false k)
+    value shape.Listed k e = tt
+    value (shape.NumericLiteral m) k e = tt
+    value (shape.StringLiteral s) k e = tt
+    value (shape.BooleanLiteral b) k e = tt
+    value shape.NullLiteral k e = tt
+    value (shape.BigIntLiteral m) k e = tt
+    value shape.ThisExpression k e = (not_true asked e, λ v. tt)
+    value (shape.UnaryExpression o) k e = replied asked _ _ _ (unary_step o) (unary_calm xs n ts o e)
+    value (shape.BinaryExpression o) k e = replied asked _ (may xs n ts (λ i. As Val)) (Claims kind_facts ts (λ i. As Val)) (binary_step o) (at_as ts 0 Val (and_left _ _ (and_right (ef_operands o (nth_kind (each_kind ts) 0) (nth_kind (each_kind ts) 1)) _ e)), λ a p. (at_as ts 1 Val (and_right (nth_true bs 0) _ (and_right (ef_operands o (nth_kind (each_kind ts) 0) (nth_kind (each_kind ts) 1)) _ e)), λ b q. operator_calm xs n ts o (nth_kind (each_kind ts) 0) (nth_kind (each_kind ts) 1) (and_left _ _ e) a b (at_value ts 0 a p) (at_value ts 1 b q)))
+    value (shape.LogicalExpression And) k e = handed asked _ (may xs n ts (demands (shape.LogicalExpression And))) (Claims kind_facts ts (demands (shape.LogicalExpression And))) (logical_step And Val) (at_as ts 0 Val (and_left _ _ e), λ a p. choice asked _ _ _ (truth a) _ _ (at_as ts 1 Val (and_right (nth_true bs 0) _ e), λ b q. tt) tt)
+    value (shape.LogicalExpression Or) k e = handed asked _ (may xs n ts (demands (shape.LogicalExpression Or))) (Claims kind_facts ts (demands (shape.LogicalExpression Or))) (logical_step Or Val) (at_as ts 0 Val (and_left _ _ e), λ a p. choice asked _ _ _ (truth a) _ _ tt (at_as ts 1 Val (and_right (nth_true bs 0) _ e), λ b q. tt))
+    value (shape.LogicalExpression Coalesce) k e = handed asked _ (may xs n ts (demands (shape.LogicalExpression Coalesce))) (Claims kind_facts ts (demands (shape.LogicalExpression Coalesce))) (logical_step Coalesce Val) (at_as ts 0 Val (and_left _ _ e), λ a p. choice asked _ _ _ (is_nullish a) _ _ (at_as ts 1 Val (and_right (nth_true bs 0) _ e), λ b q. tt) tt)
+    value shape.ConditionalExpression k e = handed asked _ (may xs n ts (demands shape.ConditionalExpression)) (Claims kind_facts ts (demands shape.ConditionalExpression)) (conditional_step Val) (at_as ts 0 Test (and_left _ _ e), λ a p. choice asked _ _ _ a _ _ (at_as ts 1 Val (and_left _ _ (and_right (nth_true bs 0) _ e)), λ b q. tt) (at_as ts 2 Val (and_right (nth_true bs 1) _ (and_right (nth_true bs 0) _ e)), λ b q. tt))
+    value shape.SequenceExpression k e = (at_parts ts 0 e, λ v p. tt)
+    value shape.TemplateLiteral k e = (at_texts ts 1 (and_left _ _ e) (and_right (nth_true bs 1) _ e), λ ss p. tt)
+    value h k e = absurd (true≢false (sym e))
 
     last : (h : Shape) → NodeCalm xs n ts (Parts Val) tt h
     unfolding Calm step
@@ -385,7 +377,7 @@ module _ (asked : Bool) where
     of_type shape.ChainExpression e = absurd (true≢false (sym e))
     of_type (shape.Function b is_generator directives) e = absurd (true≢false (sym e))
     of_type (shape.Class b) e = absurd (true≢false (sym e))
-    of_type h e = value h e
+    of_type h e = value h refl e
 
 -- the induction
 
@@ -405,9 +397,33 @@ module _ (e : Environment) (asked : Bool) (f : asked ≡ false → e.asks_this �
   by_step q r h xs n ts all y s =
       run_quiet e (naming h q (variables xs) n (summaries ts)) asked f {q = demand h (facts ts) q} (λ i r' s'. meaning e ts i (demand h (facts ts) q i) r' s') (may asked xs n ts (demand h (facts ts) q)) (Claims kind_facts ts (demand h (facts ts) q)) (λ i r' z a. all i (demand h (facts ts) q i) r' z a) (λ i r' z. trees_give kind_facts kind_table e ts i (demand h (facts ts) q i) r' z) (step h (kinds xs) (facts ts) q r) y s
 
+  abbrev read_names : List ℕ → List Name → ℕ → Trees → Option SymbolId → Naming
+  read_names spelling xs n ts o = naming shape.Identifier (As Val) (variable_by spelling o ∷ variables xs) n (summaries ts)
+
+  -- a name that has a symbol, or one that is not read
+  name_quiet : (xs : List Name) (n : ℕ) (ts : Trees) (s : State) → ef_names xs ≡ true → Quiet s (means e (node shape.Identifier xs n ts) (As Val) tt s)
+  unfolding means step act at_variable Quiet
+  name_quiet [] n ts s a = absurd (true≢false (sym a))
+  name_quiet (x ∷ xs) n ts s a = go (kind_of x) x.symbol a
+    where
+      declared : (k : SymbolId) → Quiet s (either (act e (read_names x.spelling xs n ts (Some k)) (read 0) s) (λ v t. ok v t) (λ y t. stop y t))
+      declared k = quiet_either (λ v. Unit {0}) s (read_slot (s.vars (Declared k.0)) s) _ _ (slot_quiet e (read_names x.spelling xs n ts (Some k)) (s.vars (Declared k.0)) s) (gives_unit _) (λ v t. refl)
+
+      go : (k : NameKind) (o : Option SymbolId) → is_some o || is_constant_name k ≡ true → Quiet s (run {q = demand shape.Identifier (facts ts) (As Val)} e (read_names x.spelling xs n ts o) (λ i r z. meaning e ts i (demand shape.Identifier (facts ts) (As Val) i) r z) (identifier_step k (As Val) tt) s)
+      go UndefinedName o h = refl
+      go NumberName o h = tt
+      go PlainName (Some k) h = declared k
+      go EvalName (Some k) h = declared k
+      go PlainName None h = absurd (true≢false (sym h))
+      go EvalName None h = absurd (true≢false (sym h))
+
+  by_value : (h : Shape) (xs : List Name) (n : ℕ) (ts : Trees) → AllQuiet ts → (s : State) → Asks asked (node h xs n ts) (As Val) → Quiet s (means e (node h xs n ts) (As Val) tt s)
+  by_value shape.Identifier xs n ts all s a = name_quiet xs n ts s a
+  by_value h xs n ts all s a = by_step (As Val) tt h xs n ts all (value asked xs n ts h refl a) s
+
   by_node : (h : Shape) (xs : List Name) (n : ℕ) (ts : Trees) → AllQuiet ts → (q : Demand) (r : Request q) (s : State) → Asks asked (node h xs n ts) q → Quiet s (means e (node h xs n ts) q r s)
-  by_node h xs n ts all (As Val) r s a = by_step (As Val) tt h xs n ts all (value asked xs n ts h a) s
-  by_node h xs n ts all (As w) r s a = subst (Quiet s) (sym (coherent (node h xs n ts) w e s)) (quiet_told w s _ (by_step (As Val) tt h xs n ts all (value asked xs n ts h a) s))
+  by_node h xs n ts all (As Val) r s a = by_value h xs n ts all s a
+  by_node h xs n ts all (As w) r s a = subst (Quiet s) (sym (coherent (node h xs n ts) w e s)) (quiet_told w s _ (by_value h xs n ts all s a))
   by_node h xs n ts all (Parts Val) r s a = by_step (Parts Val) tt h xs n ts all (last asked xs n ts h a) s
   by_node h xs n ts all Texts r s a = by_step Texts tt h xs n ts all (texts asked xs n ts h a) s
   by_node h xs n ts all OfType r s a = by_step OfType tt h xs n ts all (of_type asked xs n ts h a) s

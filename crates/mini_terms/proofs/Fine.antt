@@ -90,10 +90,7 @@ fine_remainder a (negsuc n) = fine_signed_number (is_negative a) (nat_abs a % su
 fine_power : (a b : ℤ) → Fine (power a b)
 unfolding Fine
 fine_power a (pos n) = fine_or (nat_le (nat_abs a) 1 || nat_lt n 54) (is_negative a && is_odd n) (nat_abs a ^ small_exponent n)
-fine_power (pos zero) (negsuc n) = tt
-fine_power (pos (suc zero)) (negsuc n) = tt
-fine_power (pos (suc (suc m))) (negsuc n) = tt
-fine_power (negsuc m) (negsuc n) = tt
+fine_power a (negsuc n) = fine_or (nat_eq (nat_abs a) 1) (is_negative a && is_odd (suc n)) 1
 
 pub fine_numbers : (o : BinaryOperator) (a b : ℤ) → Fine (of_numbers o a b)
 unfolding Fine

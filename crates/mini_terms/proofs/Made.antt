@@ -72,10 +72,7 @@ remainder_is a (negsuc n) = number_is (signed (is_negative a) (nat_abs a % suc n
 power_is : (a b : ℤ) → Is IsNumber (power a b)
 unfolding MadeIs
 power_is a (pos n) = number_or (nat_le (nat_abs a) 1 || nat_lt n 54) (signed (is_negative a && is_odd n) (nat_abs a ^ small_exponent n))
-power_is (pos zero) (negsuc n) = tt
-power_is (pos (suc zero)) (negsuc n) = tt
-power_is (pos (suc (suc m))) (negsuc n) = tt
-power_is (negsuc m) (negsuc n) = tt
+power_is a (negsuc n) = number_or (nat_eq (nat_abs a) 1) (signed (is_negative a && is_odd (suc n)) 1)
 
 shifted_is : (n k : ℕ) → Is IsNumber (shifted_right n k)
 unfolding MadeIs

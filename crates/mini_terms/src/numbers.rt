@@ -151,7 +151,11 @@ fn power(left: i64, right: i64) -> Option<i64>
 {
     let exponent = right.unsigned_abs();
     if is_negative(right) {
-        return if left == 1 { Some(1) } else { None };
+        return if left.unsigned_abs() == 1 {
+            signed(is_negative(left) && is_odd(exponent), 1)
+        } else {
+            None
+        };
     }
     if left.unsigned_abs() <= 1 || exponent < 54 {
         raised(left, exponent)

@@ -41,11 +41,20 @@ fn lacks_initializer(node: &Node) -> bool
     node.children().len() == 2 && matches!(node.child(1).shape(), Shape::Absent)
 }
 
+// Whether it is a declarator without an initializer.
+fn is_bare_declarator(node: &Node) -> bool
+    ensures { result ≡ list.is_bare_declarator node.now }
+{
+    matches!(node.shape(), Shape::VariableDeclarator) && lacks_initializer(node)
+}
+
 // Whether there is one declarator, without an initializer.
 fn are_bare(node: &Node) -> bool
     ensures { result ≡ list.are_bare node.now }
 {
-    node.children().len() == 1 && lacks_initializer(node.child(0))
+    matches!(node.shape(), Shape::Listed)
+        && node.children().len() == 1
+        && is_bare_declarator(node.child(0))
 }
 
 /// A `var`.

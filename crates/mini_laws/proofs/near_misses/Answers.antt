@@ -22,6 +22,9 @@ returns-clause-deleted_name c = lemma.deleted_name
 pub returns-clause-missing_name : goal.returns-clause-missing_name
 returns-clause-missing_name c = lemma.missing_name
 
+pub returns-clause-absent_dropped : goal.returns-clause-absent_dropped
+returns-clause-absent_dropped c = lemma.absent_dropped
+
 pub returns-clause-chain_ends : goal.returns-clause-chain_ends
 returns-clause-chain_ends c = lemma.chain_ends
 

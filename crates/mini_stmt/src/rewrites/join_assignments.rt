@@ -13,7 +13,7 @@ ghost use Rattle.mini_stmt.specs.MinimizeStatements.{switches_of};
 ghost use Rattle.mini_stmt.specs.JoinAssignments.{AllEntered, Entered, EntersAt, EntersLast, JoinsAssignments, PutEntered, TakesAt};
 
 use crate::rewrites::join_heads::{
-    has_head, is_for, is_for_in, is_plain_left, lacks_initializer, over_child, take_child,
+    has_head, is_bare_declarator, is_for, is_for_in, is_plain_left, over_child, take_child,
 };
 use crate::rewrites::join_vars::{declared_kind, declares};
 use crate::statements::{put_reversed, take_last};
@@ -50,13 +50,6 @@ pub fn declares_bare(declarator: &Node, target: &Node) -> bool
         && declarator.child(0).is_named_leaf()
         && is_same_symbol(declarator.child(0).name(), target.name())
         && is_absent_part(declarator.child(1))
-}
-
-// Whether a declarator has no initializer.
-fn is_bare_declarator(node: &Node) -> bool
-    ensures { result ≡ list.is_bare_declarator node.now }
-{
-    matches!(node.shape(), Shape::VariableDeclarator) && lacks_initializer(node)
 }
 
 // The place of the last declarator of the name, if none from there on has an initializer.

@@ -37,18 +37,27 @@ pub fn is_for_in(node: &Node) -> bool
     matches!(node.shape(), Shape::ForInStatement) && node.is_bare(3)
 }
 
-/// Whether a declarator has no initializer.
-pub fn lacks_initializer(node: &Node) -> bool
+// Whether a declarator has no initializer.
+fn lacks_initializer(node: &Node) -> bool
     ensures { result ≡ list.lacks_initializer node.now }
 {
     node.children().len() == 2 && matches!(node.child(1).shape(), Shape::Absent)
+}
+
+/// Whether it is a declarator without an initializer.
+pub fn is_bare_declarator(node: &Node) -> bool
+    ensures { result ≡ list.is_bare_declarator node.now }
+{
+    matches!(node.shape(), Shape::VariableDeclarator) && lacks_initializer(node)
 }
 
 // Whether there is one declarator, without an initializer.
 fn are_bare(node: &Node) -> bool
     ensures { result ≡ list.are_bare node.now }
 {
-    node.children().len() == 1 && lacks_initializer(node.child(0))
+    matches!(node.shape(), Shape::Listed)
+        && node.children().len() == 1
+        && is_bare_declarator(node.child(0))
 }
 
 // `var x`, without an initializer
