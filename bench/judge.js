@@ -17,6 +17,7 @@
 // the same for all, since it is of the source alone.
 "use strict";
 const vm = require("vm");
+const { isNativeError } = require("util").types;
 const { words, run } = require("./built.js");
 const { isOutside, isUnread, parse } = require("./estree.js");
 const { chosenPieces } = require("./pieces.js");
@@ -41,9 +42,6 @@ const OUTSIDES = [
 // ---- the outside
 
 class CutOff extends Error {}
-
-// An error of this realm or of a script's.
-const isError = (value) => Object.prototype.toString.call(value) === "[object Error]";
 
 class Outside {
   constructor(seed, lacks) {
@@ -74,7 +72,7 @@ class Outside {
   told(value) {
     if (this.labels.has(Object(value))) return this.labels.get(Object(value));
     if (Array.isArray(value)) return `[${value.map((part) => this.told(part)).join(" ")}]`;
-    if (typeof value === "object" && value !== null) return isError(value) ? value.name : "object";
+    if (typeof value === "object" && value !== null) return isNativeError(value) ? value.name : "object";
     if (typeof value === "function") return "function";
     return typeof value === "string" ? JSON.stringify(value) : String(value);
   }
