@@ -10,7 +10,7 @@
 //
 //     BEFORE => AFTER
 //     BEFORE => AFTER // { kept: 2, symbols: [0, 2], passes: 3, settled: false, bound: 1 }
-//     BEFORE => ERROR at POINTER
+//     BEFORE // ERROR at POINTER
 //
 // BEFORE and AFTER are JavaScript, which acorn parses with early errors left aside; BEFORE ends in `;` or `}`. `kept` and
 // `symbols` are numbers in the input, in order, or how many there are where each stays at its place: without the words all of them.
@@ -44,13 +44,13 @@ function answered(source, after, told) {
 
 // The case that a line tells.
 function caseOf(line) {
+  const refusal = /^(.*) \/\/ (\w+) at (\/\S*)$/.exec(line);
   const [programs, told = "{}"] = line.split(/ \/\/ (?={.*}$)/);
-  const [source, after] = programs.split(/(?<=[;}]) =>(?: |$)/);
-  const refusal = /^(\w+) at (\/\S*)$/.exec(after);
-  const said = refusal
-    ? { bound: UNBOUNDED, answer: `${refusal[1]} ${refusal[2]}` }
+  const [source, after] = refusal ? [refusal[1]] : programs.split(/(?<=[;}]) =>(?: |$)/);
+  const { bound, answer } = refusal
+    ? { bound: UNBOUNDED, answer: `${refusal[2]} ${refusal[3]}` }
     : answered(source, after, Function(`return (${told});`)());
-  return { source, line: `answer ${said.bound} ${text(estree(source))}`, answer: said.answer };
+  return { source, line: `answer ${bound} ${text(estree(source))}`, answer };
 }
 
 function casesOf(rows) {
