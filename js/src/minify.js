@@ -88,7 +88,7 @@ function changed(code, options, warnings) {
   const adapted = adapt(isCommonjs ? commonjs.wrap(ast, code) : ast, code, { adapt: options.adapt });
   warnings.push(...adapted.warnings);
   const answer = rewritten(adapted.ast, options);
-  const restored = adapted.restore(answer.program);
+  const restored = adapted.restore(answer);
   const program = isCommonjs ? commonjs.unwrap(restored) : restored;
   const positions = options.sourceMap ? [] : null;
   const text = guarded(program, positions);
