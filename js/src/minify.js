@@ -88,13 +88,14 @@ function changed(code, options, warnings) {
   const adapted = adapt(isCommonjs ? commonjs.wrap(ast, code) : ast, code, { adapt: options.adapt });
   warnings.push(...adapted.warnings);
   const answer = rewritten(adapted.ast, options);
-  const restored = adapted.restore(answer.program);
+  const restored = adapted.restore(answer);
   const program = isCommonjs ? commonjs.unwrap(restored) : restored;
   const positions = options.sourceMap ? [] : null;
   const text = guarded(program, positions);
   const head = headOf(code, comments);
-  const map = options.sourceMap ? mapOf({ code, ast, program, text, positions, head }, options, warnings) : null;
-  const { passes, settled, steady } = answer;
+  const { kept, passes, settled, steady } = answer;
+  const parts = { code, ast, kept, program, text, positions, head };
+  const map = options.sourceMap ? mapOf(parts, options, warnings) : null;
   return { code: head + text, map, stats: { passes, settled, steady } };
 }
 
