@@ -33,8 +33,8 @@ class Refusal extends Error {
 function causeOfLiteral(node) {
   if (node.bigint != null) return `the BigInt ${node.bigint}n is past 2^128 - 1, or a key`;
   if (typeof node.value !== "number") return "a literal of this form isn't read";
-  const whole = Number.isInteger(node.value);
-  return `the number ${node.value} is ${whole ? "past 2^53 - 1" : "not whole"}`;
+  const isFraction = Number.isFinite(node.value) && !Number.isInteger(node.value);
+  return `the number ${node.value} is ${isFraction ? "not whole" : "past 2^53 - 1"}`;
 }
 
 /**

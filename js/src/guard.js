@@ -35,7 +35,7 @@ function under(step, difference) {
 /** What a literal stands for: a kind and a text or value. */
 function meaningOf(node) {
   if (node.regex) return ["regex", `/${node.regex.pattern}/${node.regex.flags}`];
-  if (node.bigint != null) return ["bigint", node.bigint];
+  if (node.bigint != null) return ["bigint", BigInt(node.bigint)];
   return ["value", node.value];
 }
 

@@ -10,7 +10,9 @@ function literal(node) {
     return `{"type":"Literal","regex":{"pattern":${text(node.regex.pattern)},"flags":${text(node.regex.flags)}}}`;
   }
   // JSON has no BigInts: their digits stand beside the value.
-  if (node.bigint != null) return `{"type":"Literal","value":null,"bigint":${text(node.bigint)}}`;
+  if (node.bigint != null) return `{"type":"Literal","value":null,"bigint":"${BigInt(node.bigint)}"}`;
+  // Nor has it what is past the greatest number: the program refuses such a literal for its `raw`.
+  if (node.value === Infinity) return '{"type":"Literal","value":null,"raw":"Infinity"}';
   return `{"type":"Literal","value":${text(node.value)}}`;
 }
 
