@@ -93,8 +93,9 @@ function changed(code, options, warnings) {
   const positions = options.sourceMap ? [] : null;
   const text = guarded(program, positions);
   const head = headOf(code, comments);
-  const map = options.sourceMap ? mapOf({ code, ast, program, text, positions, head }, options, warnings) : null;
-  const { passes, settled, steady } = answer;
+  const { kept, passes, settled, steady } = answer;
+  const parts = { code, ast, kept, program, text, positions, head };
+  const map = options.sourceMap ? mapOf(parts, options, warnings) : null;
   return { code: head + text, map, stats: { passes, settled, steady } };
 }
 

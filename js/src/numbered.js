@@ -42,13 +42,19 @@ const isAlways = () => true;
 const isNever = () => false;
 const isPrivateMember = (node) => isPrivate(node.property) || isSuper(node.object);
 
-function memberParts(node) {
-  if (isPrivate(node.property)) return [inner(node.object)];
-  return isSuper(node.object) ? [innerIf(node.computed, node.property)] : [node.object, node.property];
-}
+const memberParts = (node) => [
+  innerIf(isPrivate(node.property), node.object),
+  innerIf(isSuper(node.object) && node.computed, node.property),
+];
 
-const callParts = (node) =>
-  isSuper(node.callee) ? node.arguments.map(superArgument) : [node.callee, ...node.arguments];
+const callParts = (node) => [
+  node.callee,
+  ...(isSuper(node.callee) ? node.arguments.map(superArgument) : node.arguments),
+];
+
+/** The pieces of a tagged template; the expressions between them are evaluated with the tag. */
+const pieces = (quasi) =>
+  children(quasi).map((part) => innerIf(part.type !== "TemplateElement", part));
 
 const entry = (isNumbered, parts) => ({ isNumbered, parts });
 const FUNCTION = entry(isAlways, functionParts);
@@ -75,12 +81,9 @@ const RULES = {
   CallExpression: entry((node) => isSuper(node.callee), callParts),
   BinaryExpression: entry(
     (node) => isPrivate(node.left),
-    (node) => (isPrivate(node.left) ? [inner(node.right)] : [node.left, node.right]),
+    (node) => [node.left, innerIf(isPrivate(node.left), node.right)],
   ),
-  TaggedTemplateExpression: entry(isAlways, (node) => [
-    inner(node.tag),
-    ...node.quasi.expressions.map(inner),
-  ]),
+  TaggedTemplateExpression: entry(isAlways, (node) => [inner(node.tag), ...pieces(node.quasi)]),
   MetaProperty: entry(isAlways, () => []),
   ImportExpression: entry(isAlways, (node) => [inner(node.source)]),
   Inner: entry(isAlways, ({ node }) => [node]),

@@ -140,11 +140,17 @@ function awaitedResult(node, context) {
   return alternate && { ...node, consequent, alternate };
 }
 
+/** A `return` without a result, after what has to be evaluated before it. */
+function noResult(argument, context) {
+  if (argument.type === "Literal") return result(null);
+  return block(statement(restore(argument, context)), result(null));
+}
+
 /** A `return` of which some results are awaited and others are none: `return a ? void 0 : MARK(b)`. */
 function spreadResult(node, context) {
   const awaited = awaitedResult(node, context);
   if (awaited) return result(restore(awaited, context));
-  if (isVoid(node)) return block(statement(restore(node.argument, context)), result(null));
+  if (isVoid(node)) return noResult(node.argument, context);
   if (node.type === "SequenceExpression") {
     const { last } = lastPart(node);
     const before = node.expressions.slice(0, -1).map((part) => statement(restore(part, context)));
