@@ -22,31 +22,28 @@ const left = [];
 const SHORTER = ["--minify-identifiers", "--minify-whitespace", "--log-level=error", "--charset=utf8"];
 const shorterNames = (code) => execFileSync("esbuild", SHORTER, { input: code, maxBuffer: 1 << 28 }).toString();
 
-// The code of a file, or null where it is refused.
-function made(code, file) {
-  const result = minify(code);
-  if (result.refused) {
-    left.push(`${file}: ${result.refused.code}: ${result.refused.message}`);
-    return null;
-  }
-  return MINIFY === "ours+names" ? shorterNames(result.code) : result.code;
+// What a step makes of a text, or that text where it makes nothing: from the folder of an earlier run, if it is there.
+function cached(step, text, make) {
+  if (MINIFY_CACHE === undefined) return make(text) ?? text;
+  const place = path.join(MINIFY_CACHE, crypto.createHash("sha1").update(`${step}\0${text}`).digest("hex"));
+  if (fs.existsSync(place)) return fs.readFileSync(place, "utf8");
+  const made = make(text);
+  if (made === null) return text;
+  fs.mkdirSync(MINIFY_CACHE, { recursive: true });
+  fs.writeFileSync(place, made);
+  return made;
 }
 
-function cached(code, file) {
-  if (MINIFY_CACHE === undefined) return made(code, file);
-  const place = path.join(MINIFY_CACHE, crypto.createHash("sha1").update(`${MINIFY}\0${code}`).digest("hex"));
-  if (fs.existsSync(place)) return fs.readFileSync(place, "utf8");
-  const text = made(code, file);
-  if (text !== null) {
-    fs.mkdirSync(MINIFY_CACHE, { recursive: true });
-    fs.writeFileSync(place, text);
-  }
-  return text;
+// The code of a file, or null where it is refused.
+function minified(code, file) {
+  const { code: text, refused } = minify(code);
+  if (refused) left.push(`${file}: ${refused.code}: ${refused.message}`);
+  return refused ? null : text;
 }
 
 function loaded(code, file) {
-  const text = cached(code, file);
-  if (text === null) return code;
+  const lighter = cached("ours", code, () => minified(code, file));
+  const text = MINIFY === "ours+names" ? cached("names", lighter, shorterNames) : lighter;
   counts.files += 1;
   counts.before += Buffer.byteLength(code);
   counts.after += Buffer.byteLength(text);
@@ -55,6 +52,10 @@ function loaded(code, file) {
 
 const isBelow = (file) => FOLDERS.some((folder) => fs.realpathSync(file).startsWith(folder));
 
+// The package has its parser from here on; whoever asks for that one later gets a minified one.
+parser();
+for (const file of Object.keys(require.cache)) if (isBelow(file)) delete require.cache[file];
+
 const load = Module._extensions[".js"];
 for (const extension of [".js", ".cjs"]) {
   Module._extensions[extension] = (module, file) => {
@@ -62,10 +63,6 @@ for (const extension of [".js", ".cjs"]) {
     return module._compile(loaded(fs.readFileSync(file, "utf8"), file), file);
   };
 }
-
-// The package has its parser by now; whoever asks for that one gets a minified one.
-parser();
-for (const file of Object.keys(require.cache)) if (isBelow(file)) delete require.cache[file];
 
 process.on("exit", () => {
   console.error(`${MINIFY}: ${counts.files} files, ${counts.before} -> ${counts.after} bytes; ${left.length} left`);
