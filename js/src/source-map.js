@@ -17,7 +17,7 @@ function textOf(leaf) {
     return leaf.bigint != null ? `${leaf.bigint}n` : `${typeof leaf.value} ${leaf.value}`;
   }
   if (leaf.type === "TemplateElement") return `\`${leaf.value.raw}`;
-  return `${leaf.type} ${leaf.name ?? ""}`;
+  return `${leaf.type} ${leaf.name ?? leaf.meta?.name ?? ""}`;
 }
 
 /** Numbers are made anew in many places, as the 0 of `void 0`. */
