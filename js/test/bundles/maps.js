@@ -82,8 +82,8 @@ const linesOf = (text) => text.split("\n");
  * Checks that each segment leads to a place where the same token begins, or one that was renamed.
  * @returns {number} how many segments lead somewhere
  */
-function checkMap(map, code, sources = map.sourcesContent) {
-  const [lines, all] = [linesOf(code), sources.map(linesOf)];
+function checkMap(map, code) {
+  const [lines, all] = [linesOf(code), map.sourcesContent.map(linesOf)];
   let count = 0;
   for (const { line, column, source, sourceLine, sourceColumn, name } of segmentsOf(map)) {
     if (source === undefined) continue;
