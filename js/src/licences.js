@@ -1,7 +1,6 @@
 "use strict";
 
-const isKept = ({ type, value }) =>
-  value.startsWith("!") || (type === "Block" && /@(license|licence|preserve)\b/.test(value)) || /@(license|preserve)\b/.test(value);
+const isKept = ({ value }) => value.startsWith("!") || /@(licen[cs]e|preserve)\b/.test(value);
 
 const textOf = ({ type, value }) => (type === "Block" ? `/*${value}*/` : `//${value}`);
 
