@@ -17,11 +17,11 @@ function textOf(leaf) {
     return leaf.bigint != null ? `${leaf.bigint}n` : `${typeof leaf.value} ${leaf.value}`;
   }
   if (leaf.type === "TemplateElement") return `\`${leaf.value.raw}`;
-  return `${leaf.type} ${leaf.name ?? ""}`;
+  return `${leaf.type} ${leaf.name ?? leaf.meta?.name ?? ""}`;
 }
 
-/** Numbers are made anew in many places, as the 0 of `void 0`. */
-const isNumber = (leaf) => leaf.type === "Literal" && typeof leaf.value === "number";
+/** Whole numbers are made anew in many places, as the 0 of `void 0`. */
+const isMade = (leaf) => leaf.type === "Literal" && Number.isSafeInteger(leaf.value);
 
 /** The numbers of the input's bodies in which a tree's leaves are. */
 function bodiesOf(tree, numberOf) {
@@ -54,13 +54,14 @@ function counted(texts) {
 const RUN = 4; // so many equal leaves in a row are told apart from others
 
 /**
- * The pairs that can be told: of a leaf that is the only one of its text on both sides, and of those that
- * stand in a row with such a leaf, or in a long row.
+ * The pairs that can be told: all, where nothing has gone or come; else those of a leaf that is the only one
+ * of its text on both sides, and of those that stand in a row with such a leaf, or in a long row.
  */
 function certain(pairs, one, other) {
+  if (pairs.length === one.leaves.length && pairs.length === other.leaves.length) return pairs;
   const [mine, yours] = [counted(one.texts), counted(other.texts)];
   const isOnly = ([at]) =>
-    mine.get(one.texts[at]) === 1 && yours.get(one.texts[at]) === 1 && !isNumber(one.leaves[at]);
+    mine.get(one.texts[at]) === 1 && yours.get(one.texts[at]) === 1 && !isMade(one.leaves[at]);
   const found = [];
   let run = [];
   const close = () => {

@@ -149,7 +149,7 @@ function liftForOf(node, context) {
 /** In an async generator `return e` awaits e. */
 function liftReturn(node, context) {
   const result = lifted(node, (child) => lift(child, context));
-  if (!context.frame?.isGenerator || result.argument === null) return result;
+  if (!context.frame?.isGenerator || !result.argument) return result;
   return { ...result, argument: call(context.frame.give, result.argument, node.argument) };
 }
 

@@ -168,7 +168,7 @@ function spreadResult(node, context) {
 }
 
 function restoreReturn(node, context) {
-  if (!context.frame?.isGenerator || node.argument === null) return restored(node, context);
+  if (!context.frame?.isGenerator || !node.argument) return restored(node, context);
   return spreadResult(node.argument, context);
 }
 
@@ -179,7 +179,7 @@ const isMarkIn = (marks) => (node) => marks.has(node.directive);
 /** `{ return e; }` as the body of an arrow function is e. */
 function arrowBody(body) {
   const [only, ...more] = body.body;
-  const isResult = only?.type === "ReturnStatement" && only.argument !== null && more.length === 0;
+  const isResult = only?.type === "ReturnStatement" && only.argument && more.length === 0;
   return isResult ? only.argument : body;
 }
 

@@ -81,18 +81,29 @@ function minified(code, options) {
   return text;
 }
 
-/**
- * The logs of programs before and after. They are minified all at once, each in a function of its own.
- * @param {string[]} programs
- * @returns {Promise<{before: string[], after: string[]}[]>}
- */
-async function logsOf(programs) {
+/** The logs before and after of programs that are minified all at once, each in a function of its own. */
+async function logsOfSome(programs) {
   const all = `const programs = [${programs.map((code) => `function () { ${code}\n}`).join(",\n")}];\n`;
   const text = minified(all);
   const logs = [];
   for (let at = 0; at < programs.length; at++) {
     const before = await logOf(`${all};programs[${at}]()`);
     logs.push({ before, after: await logOf(`${text};programs[${at}]()`) });
+  }
+  return logs;
+}
+
+const AT_ONCE = 50;
+
+/**
+ * The logs of programs before and after.
+ * @param {string[]} programs
+ * @returns {Promise<{before: string[], after: string[]}[]>}
+ */
+async function logsOf(programs) {
+  const logs = [];
+  for (let at = 0; at < programs.length; at += AT_ONCE) {
+    logs.push(...(await logsOfSome(programs.slice(at, at + AT_ONCE))));
   }
   return logs;
 }
