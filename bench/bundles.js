@@ -36,7 +36,8 @@ const WAYS = [
 // What a command makes of a text, and the processor seconds that it takes.
 function timed([command, ...args], text) {
   const script = 'TIMEFORMAT="%U %S"; time "$@"';
-  const ended = spawnSync("bash", ["-c", script, "bash", command, ...args], { input: text, encoding: "utf8", maxBuffer: 1 << 28 });
+  const options = { input: text, encoding: "utf8", maxBuffer: 1 << 28, env: { NODE_PATH: SHARE, ...process.env } };
+  const ended = spawnSync("bash", ["-c", script, "bash", command, ...args], options);
   if (ended.status !== 0) throw new Error(`${command}: ${ended.stderr}`);
   const [user, system] = ended.stderr.trim().split("\n").at(-1).split(" ").map(Number);
   return { text: ended.stdout, seconds: user + system };

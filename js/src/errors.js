@@ -4,7 +4,8 @@
  * Why a file is left as it was. `code` is one of
  *
  * - `Syntax`: the parser takes the text for no JavaScript;
- * - `Unsupported`, `BadShape`, `TooDeep`, `EarlyName`, `EarlyJump`: what the program says of a node;
+ * - `Unsupported`, `BadShape`, `TooDeep`, `EarlyName`, `EarlyJump`: what the program says of a
+ * node;
  * - `NotJson`, `TooLong`, `OutOfMemory`, `ReadFault`, `WriteFault`, `BadWords`: its other statuses;
  * - `NoProgram`: the program isn't there, or was ended;
  * - `Adapter`: what the adapter wrote in place of a form did not come back as it must;
@@ -16,7 +17,8 @@ class Refusal extends Error {
   /**
    * @param {string} code
    * @param {string} message without file and place
-   * @param {{node?: object, line?: number, column?: number, status?: number, pointer?: string}} [more]
+   * @param {{node?: object, line?: number, column?: number, status?: number, pointer?: string}}
+   *   [more]
    */
   constructor(code, message, more = {}) {
     super(message);
@@ -47,9 +49,9 @@ function causeOf(node) {
   if (/^JSX/.test(node.type)) return "JSX isn't read";
   if (/Function/.test(node.type) && node.async) return causeOfAsync(node);
   if (node.type === "Literal") return causeOfLiteral(node);
-  if (node.type === "FunctionDeclaration") return "a function is declared in a block of sloppy code";
   if (node.attributes?.length > 0) return "import attributes aren't read";
   const words = {
+    FunctionDeclaration: "a function is declared in a block of sloppy code",
     AwaitExpression: "`await` isn't read",
     ForOfStatement: "`for await` isn't read",
     WithStatement: "`with` isn't read",

@@ -2,8 +2,8 @@
 /**
  * The node types of ESTree, ES2022: one table that the JSON, the guard and every walk read.
  *
- * A line names a type, its plain fields (texts and flags) and its child fields, these in the order in
- * which they stand in the source text.
+ * A line names a type, its plain fields (texts and flags) and its child fields, these in the order
+ * in which they stand in the source text.
  */
 
 const type = (plain, children) => ({ plain, children });

@@ -2,10 +2,10 @@
 const { NODES, isNode } = require("./estree.js");
 
 /**
- * Compares the tree that was to be printed with the one that the parser gives for the text. Both say the
- * same program where they differ only in what has no meaning: positions, `raw`, the cooked text of
- * templates (which follows from the raw one), empty statements of a list, braces round the first branch of
- * an `if`, and a negative number that is written as a minus and a number.
+ * Compares the tree that was to be printed with the one that the parser gives for the text. Both
+ * say the same program where they differ only in what has no meaning: positions, `raw`, the cooked
+ * text of templates (which follows from the raw one), empty statements of a list, braces round the
+ * first branch of an `if`, and a negative number that is written as a minus and a number.
  */
 
 class Difference {
@@ -84,8 +84,8 @@ function ofLists(one, other) {
 function ofParts(one, other) {
   // An empty list of attributes is as good as none.
   if (one == null || other == null) return ofValues(one ?? listless(other), other ?? listless(one));
-  if (Array.isArray(one)) return Array.isArray(other) ? ofLists(one, other) : new Difference(one, other);
-  return difference(one, other);
+  if (Array.isArray(one) !== Array.isArray(other)) return new Difference(one, other);
+  return Array.isArray(one) ? ofLists(one, other) : difference(one, other);
 }
 
 const listless = (value) => (Array.isArray(value) && value.length === 0 ? value : null);
@@ -129,8 +129,8 @@ const SPECIAL = {
  * Where two trees say different programs.
  * @param {object} first a node of ESTree
  * @param {object} second another
- * @returns {{steps: Array<string | number>, one: unknown, other: unknown} | null} null where they say the
- *   same, else the steps from the difference up to the root, and what stands there
+ * @returns {{steps: Array<string | number>, one: unknown, other: unknown} | null} null where they
+ *   say the same, else the steps from the difference up to the root, and what stands there
  */
 function difference(first, second) {
   const one = inParserForm(first);

@@ -1,24 +1,24 @@
 "use strict";
 const { NODES } = require("./estree.js");
 
-// What the program is given is lean: no positions, no `raw`, no field that says only `false` or `null`.
+// What the program is given is lean: no positions, no `raw`, no field that says only `false` or
+// `null`.
 
 const text = JSON.stringify;
 
 function literal(node) {
-  if (node.regex) {
-    return `{"type":"Literal","regex":{"pattern":${text(node.regex.pattern)},"flags":${text(node.regex.flags)}}}`;
-  }
+  const { regex, bigint } = node;
+  if (regex) return `{"type":"Literal","regex":${text(regex)}}`;
   // JSON has no BigInts: their digits stand beside the value.
-  if (node.bigint != null) return `{"type":"Literal","value":null,"bigint":"${BigInt(node.bigint)}"}`;
+  if (bigint != null) return `{"type":"Literal","value":null,"bigint":"${BigInt(bigint)}"}`;
   // Nor has it what is past the greatest number: the program refuses such a literal for its `raw`.
   if (node.value === Infinity) return '{"type":"Literal","value":null,"raw":"Infinity"}';
   return `{"type":"Literal","value":${text(node.value)}}`;
 }
 
 function templateElement(node) {
-  const { raw, cooked } = node.value;
-  return `{"type":"TemplateElement","tail":${node.tail},"value":{"raw":${text(raw)},"cooked":${text(cooked ?? null)}}}`;
+  const { raw, cooked = null } = node.value;
+  return `{"type":"TemplateElement","tail":${node.tail},"value":${text({ raw, cooked })}}`;
 }
 
 function list(items) {

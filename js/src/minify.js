@@ -11,9 +11,11 @@ const { runProgram } = require("./program.js");
 const { sourceMap } = require("./source-map.js");
 const { wordsOf } = require("./words.js");
 
+const bytes = (text) => Buffer.byteLength(text);
+
 // ---- what the program says
 
-/** The node of a tree that a JSON pointer leads to, and the nearest one above it that has a place. */
+/** The node that a JSON pointer leads to, and the nearest one above it that has a place. */
 function nodeAt(ast, pointer) {
   let value = ast;
   const found = { node: ast, placed: ast };
@@ -42,7 +44,7 @@ const ENDINGS = {
   },
   ReadFault: () => "the program could not read",
   WriteFault: () => "the program could not write",
-  TooLong: (json) => `the tree is too long: its JSON has ${json.length} bytes, and 16,777,216 are read`,
+  TooLong: (json) => `the tree is too long: its JSON has ${bytes(json)} bytes, past 16 MiB`,
   OutOfMemory: () => "the program had too little memory",
 };
 
@@ -85,7 +87,8 @@ function headOf(code, comments) {
 function changed(code, options, warnings) {
   const comments = [];
   const { ast, commonjs: isCommonjs } = parse(code, { module: options.module, comments });
-  const adapted = adapt(isCommonjs ? commonjs.wrap(ast, code) : ast, code, { adapt: options.adapt });
+  const input = isCommonjs ? commonjs.wrap(ast, code) : ast;
+  const adapted = adapt(input, code, { adapt: options.adapt });
   warnings.push(...adapted.warnings);
   const answer = rewritten(adapted.ast, options);
   const restored = adapted.restore(answer);
@@ -112,18 +115,16 @@ function checkCall(code, options) {
   }
 }
 
-const bytes = (text) => Buffer.byteLength(text);
-
 /**
- * Minifies JavaScript: it parses the text, lets the proved program rewrite the tree, and prints what that
- * answers. What was printed is parsed again and compared; where anything goes wrong the text comes back as
- * it was.
+ * Minifies JavaScript: it parses the text, lets the proved program rewrite the tree, and prints
+ * what that answers. What was printed is parsed again and compared; where anything goes wrong the
+ * text comes back as it was.
  *
  * @param {string} code
  * @param {object} [options]
  * @param {boolean} [options.module] whether the code is a module; else it is a script if it is one
- * @param {boolean} [options.adapt=true] whether forms that the program doesn't read are handed to it as
- *   others that it reads (docs/ADAPTER.md)
+ * @param {boolean} [options.adapt=true] whether forms that the program doesn't read are handed to
+ *   it as others that it reads (docs/ADAPTER.md)
  * @param {number} [options.passes] how many passes are made at most
  * @param {number} [options.maxDepth=1000] how deep nodes may nest
  * @param {boolean} [options.sequences=true] whether statements are joined by commas
@@ -134,9 +135,10 @@ const bytes = (text) => Buffer.byteLength(text);
  * @param {object} [options.inputMap] the source map of `code`, with which that is composed
  * @param {string} [options.file] the name of the file, for the source map
  * @param {string} [options.program] where the program is (`MINI_APP`, crates/mini_app/out/mini_app)
- * @returns {{code: string, map: object | null, refused: Refusal | null, warnings: object[], stats: object}}
- *   `refused` says why `code` is as it was; a warning has `code`, `message`, `line` and `column`; `stats`
- *   has `bytesBefore`, `bytesAfter`, and of the answer `passes`, `settled` and `steady`
+ * @returns {{code: string, map: object | null, refused: Refusal | null, warnings: object[], stats:
+ *   object}} `refused` says why `code` is as it was; a warning has `code`, `message`, `line` and
+ *   `column`; `stats` has `bytesBefore`, `bytesAfter`, and of the answer `passes`, `settled` and
+ *   `steady`
  * @throws {TypeError} where the call itself is wrong
  */
 function minify(code, options = {}) {

@@ -13,8 +13,8 @@ function found() {
     }
   }
   throw new Error(
-    "acorn, the parser, isn't here: run `npm install` in js/, or name the folder that has it in NODE_PATH, " +
-      "or use the one inside node by `node --expose-internals`",
+    "acorn, the parser, isn't here: run `npm install` in js/, or name the folder that has it in " +
+      "NODE_PATH, or use the one inside node by `node --expose-internals`",
   );
 }
 
@@ -27,9 +27,8 @@ function parser() {
 }
 
 function syntaxError(error) {
-  const { line, column } = error.loc ?? {};
   const message = error.message.replace(/ \(\d+:\d+\)$/, "");
-  return new Refusal("Syntax", message, { line, column: column === undefined ? undefined : column + 1 });
+  return new Refusal("Syntax", message, { node: { loc: { start: error.loc } } });
 }
 
 function tryParse(code, options) {
@@ -44,8 +43,11 @@ function tryParse(code, options) {
   }
 }
 
+const ALWAYS = { ecmaVersion: "latest", allowHashBang: true, locations: true };
+
 /**
- * How a text may be read: as a script, as one of CommonJS with a `return` outside functions, as a module.
+ * How a text may be read: as a script, as one of CommonJS with a `return` outside functions, as a
+ * module.
  * @param {boolean | undefined} module whether it is a module, where that is known
  */
 function readings(module) {
@@ -58,18 +60,17 @@ function readings(module) {
 /**
  * Parses JavaScript.
  * @param {string} code
- * @param {{module?: boolean, comments?: object[]}} [options] `module`: whether it is a module, else a
- *   script if it is one. `comments`: a list that takes in the comments.
- * @returns {{ast: object, commonjs: boolean}} the ESTree with positions, and whether a `return` stands
- *   outside functions
+ * @param {{module?: boolean, comments?: object[]}} [options] `module`: whether it is a module, else
+ *   a script if it is one. `comments`: a list that takes in the comments.
+ * @returns {{ast: object, commonjs: boolean}} the ESTree with positions, and whether a `return`
+ *   stands outside functions
  * @throws {Refusal} with the code `Syntax`
  */
 function parse(code, { module, comments } = {}) {
   let first = null;
   for (const reading of readings(module)) {
     const notes = [];
-    const options = { ecmaVersion: "latest", allowHashBang: true, locations: true, onComment: notes, ...reading };
-    const { ast, error } = tryParse(code, options);
+    const { ast, error } = tryParse(code, { ...ALWAYS, onComment: notes, ...reading });
     if (ast) {
       comments?.push(...notes);
       return { ast, commonjs: reading.allowReturnOutsideFunction === true };

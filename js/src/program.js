@@ -27,7 +27,8 @@ const programPath = (asked) => asked ?? process.env.MINI_APP ?? BUILT;
 function noProgram(where, ended) {
   const { error, signal } = ended;
   if (error?.code === "ENOENT") {
-    return `there is no program ${where}: build it by \`rt run\` in crates/mini_app, or name it in MINI_APP`;
+    const advice = "build it by `rt run` in crates/mini_app, or name it in MINI_APP";
+    return `there is no program ${where}: ${advice}`;
   }
   return `the program ${where} was ended by ${signal ?? error?.message}`;
 }
@@ -37,9 +38,9 @@ function noProgram(where, ended) {
  * @param {string} json
  * @param {string[]} words its command line
  * @param {{program?: string}} [options] where the program is
- * @returns {{name: string, status: number | null, answer: object | null, note: string}} the name of the
- *   status (`NoProgram` where it didn't run to its end), the answer where it is `Done`, and what was
- *   written on standard error
+ * @returns {{name: string, status: number | null, answer: object | null, note: string}} the name of
+ *   the status (`NoProgram` where it didn't run to its end), the answer where it is `Done`, and
+ *   what was written on standard error
  */
 function runProgram(json, words, { program } = {}) {
   const where = programPath(program);

@@ -23,8 +23,12 @@ function wordsOf(options) {
   for (const [option, word] of Object.entries(NUMBERS)) {
     if (asked[option] !== undefined) words.push(`--${word}=${asked[option]}`);
   }
-  for (const [option, word] of Object.entries(TURNED_OFF)) if (asked[option] === false) words.push(`--${word}`);
-  for (const [option, word] of Object.entries(TURNED_ON)) if (asked[option] === true) words.push(`--${word}`);
+  const flags = (table, value) => {
+    const given = Object.keys(table).filter((option) => asked[option] === value);
+    words.push(...given.map((option) => `--${table[option]}`));
+  };
+  flags(TURNED_OFF, false);
+  flags(TURNED_ON, true);
   return words;
 }
 

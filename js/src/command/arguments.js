@@ -23,14 +23,14 @@ const OWN = {
 /** The words that are handed on to the program. */
 function passedOn() {
   const numbers = Object.values(NUMBERS).map((word) => [word, text()]);
-  const flags = [...Object.values(TURNED_OFF), ...Object.values(TURNED_ON)].map((word) => [word, flag()]);
+  const flags = Object.values({ ...TURNED_OFF, ...TURNED_ON }).map((word) => [word, flag()]);
   return Object.fromEntries([...numbers, ...flags]);
 }
 
 const USAGE = `usage: minify.js [FILE..] [-o OUT] [options]
 
-Minifies JavaScript. Without FILE, or where it is -, standard input is read. Without -o the code goes to
-standard output; of several files, OUT is a folder. A file that is refused is left as it is.
+Minifies JavaScript. Without FILE, or where it is -, standard input is read. Without -o the code
+goes to standard output; of several files, OUT is a folder. A file that is refused is left as it is.
 
   -o, --output OUT        where the code goes: a file, or a folder (of several files it is one)
       --strict            ends with status 1 where a file is refused
@@ -49,30 +49,32 @@ standard output; of several files, OUT is a folder. A file that is refused is le
   --keep-class-names      names of class expressions stay
   --program PATH          the proved program (else MINI_APP, else crates/mini_app/out/mini_app)
 
-It ends with status 0; with 1 where a file is refused and --strict is there; with 2 where the call is
-wrong, a file can't be read or written, or the program isn't there.
+It ends with status 0; with 1 where a file is refused and --strict is there; with 2 where the call
+is wrong, a file can't be read or written, or the program isn't there.
 `;
 
 function numberOf(word, value) {
-  if (!/^(0|[1-9]\d*)$/.test(value)) throw new BadCall(`--${word} wants a number, and not ${value}`);
-  return Number(value);
+  if (/^(0|[1-9]\d*)$/.test(value)) return Number(value);
+  throw new BadCall(`--${word} wants a number, and not ${value}`);
 }
 
 /** The options of `minify` that the words stand for. */
 function optionsOf(values) {
-  const options = { program: values.program, adapt: !values["no-adapt"], sourceMap: values["source-map"] === true };
-  if (values.module) options.module = true;
+  const is = (word) => values[word] === true;
+  const options = { program: values.program, adapt: !is("no-adapt"), sourceMap: is("source-map") };
+  if (is("module")) options.module = true;
   for (const [option, word] of Object.entries(NUMBERS)) {
     if (values[word] !== undefined) options[option] = numberOf(word, values[word]);
   }
-  for (const [option, word] of Object.entries(TURNED_OFF)) if (values[word]) options[option] = false;
-  for (const [option, word] of Object.entries(TURNED_ON)) if (values[word]) options[option] = true;
+  for (const [option, word] of Object.entries(TURNED_OFF)) if (is(word)) options[option] = false;
+  for (const [option, word] of Object.entries(TURNED_ON)) if (is(word)) options[option] = true;
   return options;
 }
 
 function parsed(args) {
+  const options = { ...OWN, ...passedOn() };
   try {
-    return parseArgs({ args, options: { ...OWN, ...passedOn() }, allowPositionals: true, strict: true });
+    return parseArgs({ args, options, allowPositionals: true, strict: true });
   } catch (error) {
     throw new BadCall(error.message.split(". ")[0]);
   }
@@ -88,10 +90,11 @@ function parsed(args) {
 function readArguments(args) {
   const { values, positionals } = parsed(args);
   const files = positionals.length > 0 ? positionals : ["-"];
-  if (files.length > 1 && files.includes("-")) throw new BadCall("standard input goes alone");
-  if (files.length > 1 && values.output === undefined) throw new BadCall("several files want a folder: -o OUT");
-  if (values["source-map"] && values.output === undefined) throw new BadCall("--source-map wants -o OUT");
   const is = (word) => values[word] === true;
+  const hasOutput = values.output !== undefined;
+  if (files.length > 1 && files.includes("-")) throw new BadCall("standard input goes alone");
+  if (files.length > 1 && !hasOutput) throw new BadCall("several files want a folder: -o OUT");
+  if (is("source-map") && !hasOutput) throw new BadCall("--source-map wants -o OUT");
   return {
     files,
     output: values.output,

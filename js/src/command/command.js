@@ -52,7 +52,8 @@ const nameOf = (file) => (file === "-" ? "standard input" : file);
 function minifyFile(file, place, call, streams) {
   const source = read(file);
   const isModule = call.options.module ?? (file.endsWith(".mjs") ? true : undefined);
-  const result = minify(source, { ...call.options, module: isModule, file: path.basename(nameOf(file)) });
+  const name = path.basename(nameOf(file));
+  const result = minify(source, { ...call.options, module: isModule, file: name });
   const { refused, warnings } = result;
   if (refused && FAULTS.has(refused.code)) throw new BadCall(refused.message);
   streams.clear();
@@ -104,7 +105,8 @@ function minifyAll(call, streams) {
  * The command.
  * @param {string[]} args its command line
  * @param {{stdout: object, stderr: object}} streams
- * @returns {number} the exit status: 0, 1 where a file is refused under --strict, 2 for a wrong call
+ * @returns {number} the exit status: 0, 1 where a file is refused under --strict, 2 for a wrong
+ *   call
  */
 function run(args, streams) {
   try {

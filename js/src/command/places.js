@@ -16,8 +16,8 @@ function commonFolder(files) {
 }
 
 /**
- * Where the code of each file goes: into the folder, under its path below the folder that has them all, or
- * to the one file that is named.
+ * Where the code of each file goes: into the folder, under its path below the folder that has them
+ * all, or to the one file that is named.
  * @param {string[]} files
  * @param {string | undefined} output
  * @returns {Array<string | null>} null stands for standard output

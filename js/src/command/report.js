@@ -29,7 +29,7 @@ function noteText(file, code, { message, line, column }) {
 }
 
 const grouped = (number) => number.toLocaleString("en-US");
-const share = (before, after) => (before === 0 ? "0.0" : (((before - after) / before) * 100).toFixed(1));
+const share = (before, after) => ((100 * (before - after)) / Math.max(before, 1)).toFixed(1);
 
 /**
  * The line that sums up a run.

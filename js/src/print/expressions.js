@@ -59,7 +59,8 @@ function pattern(w, node) {
 }
 
 function patternProperty(w, node) {
-  if (node.type === "RestElement" || node.shorthand) return pattern(w, node.shorthand ? node.value : node);
+  if (node.type === "RestElement") return pattern(w, node);
+  if (node.shorthand) return pattern(w, node.value);
   key(w, node);
   w.put(":");
   pattern(w, node.value);
@@ -159,7 +160,7 @@ function classText(w, node) {
 
 // ---- calls and members
 
-/** Whether the arguments of a `new` before it would be taken for those of a call in it: `new (f())()`. */
+/** Whether a call in a callee would take the place of the `new` before it: `new (f())()`. */
 function hasCall(callee) {
   switch (callee.type) {
     case "CallExpression":
@@ -226,7 +227,7 @@ function templateLiteral(w, node) {
 
 const isLogical = (node) => node.type === "LogicalExpression";
 
-/** An operand of `&&`, `||` or `??`: the last doesn't stand beside the others without parentheses. */
+/** An operand of `&&`, `||` or `??`: the last is parted from the others by parentheses. */
 function logicalOperand(w, operator, node, level) {
   const isMixed = isLogical(node) && (operator === "??") !== (node.operator === "??");
   if (isMixed) inParentheses(w, node);
@@ -312,4 +313,14 @@ const EXPRESSIONS = {
   },
 };
 
-module.exports = { assignment, classText, expression, functionText, inBrackets, inParentheses, items, pattern, useStatements };
+module.exports = {
+  assignment,
+  classText,
+  expression,
+  functionText,
+  inBrackets,
+  inParentheses,
+  items,
+  pattern,
+  useStatements,
+};

@@ -60,7 +60,7 @@ function rightLevel(operator) {
   return operator === "**" ? OPERATOR_LEVEL["**"] : OPERATOR_LEVEL[operator] + 1;
 }
 
-/** The part of an expression that is written first, with the level of its place; null where there is none. */
+/** The part that an expression begins with and the level of its place, or null. */
 function firstPart(node) {
   switch (node.type) {
     case "SequenceExpression":

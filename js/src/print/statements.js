@@ -64,9 +64,10 @@ const isLet = (node) => node !== null && node.type === "Identifier" && node.name
 const isText = (node) => node.type === "Literal" && typeof node.value === "string";
 
 function expressionStatement(w, node) {
+  const { expression: value } = node;
   if (typeof node.directive === "string") w.put(directive(node.directive));
-  else if (isText(node.expression) || opensStatement(node.expression)) inParentheses(w, node.expression);
-  else whole(w, node.expression);
+  else if (isText(value) || opensStatement(value)) inParentheses(w, value);
+  else whole(w, value);
   w.endStatement();
 }
 
@@ -113,7 +114,7 @@ function forStatement(w, node) {
   statement(w, node.body);
 }
 
-/** What a loop assigns to: `let` and, before `of`, `async` would be read as words of the language. */
+/** What a loop assigns to: `let` and, before `of`, `async` would be read as keywords. */
 function forLeft(w, node, isAsyncWord) {
   const first = node.type === "VariableDeclaration" ? null : leftmost(node);
   const isAsync = isAsyncWord && node.type === "Identifier" && node.name === "async";

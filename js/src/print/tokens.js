@@ -27,8 +27,8 @@ function escaped(unit, next) {
 const ESCAPED = /[\\\n\r\u2028\u2029\ufeff\0]|[\ud800-\udfff]/gu;
 
 /**
- * A text as a literal, in the quotes that need fewer escapes. `</script` is escaped, so that the code may
- * stand in a page.
+ * A text as a literal, in the quotes that need fewer escapes. `</script` is escaped, so that the
+ * code may stand in a page.
  */
 function quoted(text) {
   const quote = count(text, "'") < count(text, '"') ? "'" : '"';
@@ -48,13 +48,17 @@ function shortest(texts) {
   return texts.reduce((best, text) => (text.length < best.length ? text : best));
 }
 
+// No number whose point is further off is shortest without an exponent.
+const LONG = 25;
+
 /** The forms of a number with these digits and this exponent of ten. */
 function decimalForms(digits, exponent) {
   const scientific = `${digits}e${exponent}`;
   const point = digits.length + exponent;
-  if (exponent >= 0) return exponent > 25 ? [scientific] : [digits + "0".repeat(exponent), scientific];
+  if (Math.abs(point) > LONG) return [scientific];
+  if (exponent >= 0) return [digits + "0".repeat(exponent), scientific];
   if (point > 0) return [`${digits.slice(0, point)}.${digits.slice(point)}`, scientific];
-  return point > -25 ? [`.${"0".repeat(-point)}${digits}`, scientific] : [scientific];
+  return [`.${"0".repeat(-point)}${digits}`, scientific];
 }
 
 /** A number that is not NaN, as a literal. */
@@ -62,16 +66,20 @@ function number(value) {
   if (value < 0 || Object.is(value, -0)) return `-${number(-value)}`;
   if (value === Infinity) return "1e999";
   if (Number.isInteger(value) && value < 1000) return String(value);
-  const [, whole, fraction = "", power] = /^(\d)(?:\.(\d+))?e([+-]\d+)$/.exec(value.toExponential());
+  const parts = /^(\d)(?:\.(\d+))?e([+-]\d+)$/.exec(value.toExponential());
+  const [, whole, fraction = "", power] = parts;
   const forms = decimalForms(whole + fraction, Number(power) - fraction.length);
   if (Number.isInteger(value)) forms.push(`0x${value.toString(16)}`);
   return shortest(forms);
 }
 
+/** The digits of a BigInt. */
+const bigInt = (value) => shortest([value.toString(), `0x${value.toString(16)}`]);
+
 /** Any literal. */
 function literal(node) {
   if (node.regex) return `/${node.regex.pattern}/${node.regex.flags}`;
-  if (node.bigint != null) return `${node.bigint}n`;
+  if (node.bigint != null) return `${bigInt(BigInt(node.bigint))}n`;
   switch (typeof node.value) {
     case "string":
       return quoted(node.value);

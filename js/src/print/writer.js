@@ -3,14 +3,15 @@
 const [PLUS, MINUS, SLASH, LESS, BANG] = [..."+-/<!"].map((unit) => unit.charCodeAt(0));
 const LETTER = "a".charCodeAt(0);
 
-const IN_WORDS = Uint8Array.from({ length: 128 }, (_, code) => Number(/[\w$]/.test(String.fromCharCode(code))));
+const isInWord = (code) => (/[\w$]/.test(String.fromCharCode(code)) ? 1 : 0);
+const IN_WORDS = Uint8Array.from({ length: 128 }, (_, code) => isInWord(code));
 
 // Beyond ASCII only names end or begin with a character.
 const isOfWord = (code) => code >= 128 || IN_WORDS[code] === 1;
 
 /**
- * The text as it grows: puts a space between two tokens only where they would be read as others, and
- * leaves out each semicolon before `}` and the last one.
+ * The text as it grows: puts a space between two tokens only where they would be read as others,
+ * and leaves out each semicolon before `}` and the last one.
  */
 class Writer {
   /** @param {Array<[number, object]> | null} positions takes in where each leaf begins */
@@ -82,7 +83,8 @@ class Writer {
     if (first === PLUS || first === SLASH) return first === this.last;
     if (first !== MINUS) return false;
     // `<!--` begins a comment.
-    return this.last === MINUS || (this.last === BANG && token === "--" && this.text.endsWith("<!"));
+    const wouldComment = this.last === BANG && token === "--" && this.text.endsWith("<!");
+    return this.last === MINUS || wouldComment;
   }
 
   /** Whether an `in` that is written here would be taken for that of `for (x in y)`. */
