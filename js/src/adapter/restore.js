@@ -247,12 +247,13 @@ function restore(node, context) {
 function framesOf(answer, { nodes, standsFor }) {
   const frames = new Map();
   const found = numbered(answer.program);
-  if (found.length !== answer.kept.length) throw changed("the numbers of the answer are others");
+  const isDistinct = new Set(answer.kept).size === answer.kept.length;
+  if (found.length !== answer.kept.length || !isDistinct) {
+    throw changed("the numbers of the answer are others");
+  }
   found.forEach((node, at) => {
     const origin = nodes[answer.kept[at]];
-    if (origin?.type !== node.type || (at > 0 && answer.kept[at] <= answer.kept[at - 1])) {
-      throw changed("the numbers of the answer are others");
-    }
+    if (origin?.type !== node.type) throw changed("the numbers of the answer are others");
     if (isFunction(node) && standsFor.has(origin)) frames.set(node, standsFor.get(origin));
   });
   return frames;

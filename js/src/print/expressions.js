@@ -182,7 +182,16 @@ function newExpression(w, node, level) {
   if (node.arguments.length > 0 || level >= LEVEL.ACCESS) args(w, node.arguments);
 }
 
-const args = (w, list) => inBrackets(w, "(", list, ")", assignment);
+/** V8 refuses `f([a], [b] = c)`, which is JavaScript. So such an argument stands in parentheses. */
+function argument(w, node) {
+  const { type, left } = node.type === "SpreadElement" ? node.argument : node;
+  const isPattern = type === "AssignmentExpression" && /Pattern$/.test(left.type);
+  if (!isPattern) return assignment(w, node);
+  if (node.type === "SpreadElement") w.put("...");
+  inParentheses(w, node.type === "SpreadElement" ? node.argument : node);
+}
+
+const args = (w, list) => inBrackets(w, "(", list, ")", argument);
 
 function callExpression(w, node) {
   link(w, node.callee);

@@ -265,7 +265,7 @@ test("what comes back in another way is refused", () => {
 
 test("other numbers are refused", () => {
   const { program, restore, kept } = adapted(TWO);
-  for (const others of [kept.slice(1), [...kept, 9], [1, 0, 2, 3], [0, 2, 1, 3], [0, 1, 1, 2], [0, 1, 2, 9]]) {
+  for (const others of [kept.slice(1), [...kept, 9], [1, 0, 2, 3], [0, 2, 1, 3], [0, 1, 1, 3], [0, 1, 2, 9]]) {
     assert.throws(() => restore({ program, kept: others }), { code: "Adapter" }, String(others));
   }
 });
