@@ -6,6 +6,8 @@ const os = require("node:os");
 const path = require("node:path");
 const test = require("node:test");
 
+const { run: runHere } = require("../src/command/command.js");
+
 const COMMAND = path.join(__dirname, "..", "bin", "minify.js");
 const folder = fs.mkdtempSync(path.join(os.tmpdir(), "minify-"));
 test.after(() => fs.rmSync(folder, { recursive: true }));
@@ -175,4 +177,17 @@ test("of a long line the part round the place is shown", () => {
   const [, shown, mark] = said.split("\n");
   assert.equal(shown.length, 86);
   assert.equal(shown.slice(mark.indexOf("^")).slice(0, 8), "with (o)");
+});
+
+test("a terminal is told how far it is, where there are more than a few files", () => {
+  const files = ["a", "b", "c", "d"].map((name) => path.join(folder, file(`many/${name}.js`, "a ;")));
+  const said = [];
+  const stderr = { isTTY: true, write: (text) => said.push(text) };
+  const output = path.join(folder, "few");
+  assert.equal(runHere([...files, "-o", output], { stdout: null, stderr }), 0);
+  assert.ok(said.includes(`\r\x1b[K[2/4] ${files[1]}`));
+  assert.match(said.at(-1), /^4 files, 12 -> 8 bytes/);
+  said.length = 0;
+  assert.equal(runHere([...files.slice(1), "-o", output], { stdout: null, stderr }), 0);
+  assert.equal(said.length, 1);
 });
