@@ -90,4 +90,4 @@ function chosenPieces(count, seed) {
   return pieces.slice(0, count);
 }
 
-module.exports = { chances, chosenPieces };
+module.exports = { chances, chosenPieces, filesBelow };
