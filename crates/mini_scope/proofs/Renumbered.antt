@@ -1,6 +1,6 @@
 -- The number that a spelling is given.
 use Rattle.std.specs.Prelude.{ℕ, ◌≡◌, refl, Bool, true, false, List, Option, None, Result, Ok, Err, OnOk, OnErr, if◌then◌else◌}
-use Rattle.std.proofs.Common.{ap, subst, ◌∙◌, sym}
+use Rattle.std.proofs.Common.{ap, ◌∙◌, sym}
 use Rattle.std.specs.BTreeMap.{IsEmpty, IsUnchanged, UpdatesBy, get_by}
 use Rattle.std.specs.Map.{KeepsOthers, IsKeyTest, AreApart, lookup}
 use Rattle.std.specs.Ordering.{nat_cmp, is_eq}

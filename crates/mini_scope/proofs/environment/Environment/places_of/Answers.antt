@@ -1,4 +1,4 @@
-use Rattle.std.proofs.Common.{◌≡◌, ◌∙◌, ap, sym, arith}
+use Rattle.std.proofs.Common.{◌∙◌, ap, sym, arith}
 use Rattle.mini_scope.specs.Spelled.{spelled}
 use Rattle.mini_scope.proofs.Places.{is_bucket, is_nowhere}
 use Rattle.mini_scope.proofs.environment.Environment.places_of.Goals as goal
