@@ -1,6 +1,6 @@
 "use strict";
 const { align } = require("./align.js");
-const { leaves } = require("./estree.js");
+const { leaves, walk } = require("./estree.js");
 const { decode, encode } = require("./mappings.js");
 const { numbered } = require("./numbered.js");
 
@@ -18,6 +18,16 @@ function textOf(leaf) {
   }
   if (leaf.type === "TemplateElement") return `\`${leaf.value.raw}`;
   return `${leaf.type} ${leaf.name ?? leaf.meta?.name ?? ""}`;
+}
+
+/** The leaves that are names of properties: `a` in `b.a` is none in `a`. */
+function propertyNames(tree) {
+  const names = new Set();
+  walk(tree, ({ type, computed, property, key }) => {
+    if (type === "MemberExpression" && !computed) names.add(property);
+    if (key && !computed) names.add(key);
+  });
+  return names;
 }
 
 /** Whole numbers are made anew in many places, as the 0 of `void 0`. */
@@ -77,7 +87,10 @@ function certain(pairs, one, other) {
   return found;
 }
 
-const withTexts = (list) => ({ leaves: list, texts: list.map(textOf) });
+const withTexts = (list, names) => ({
+  leaves: list,
+  texts: list.map((leaf) => (names.has(leaf) ? `.${textOf(leaf)}` : textOf(leaf))),
+});
 
 /**
  * The leaf of the input for each leaf of the answer of which that can be told.
@@ -90,9 +103,10 @@ function origins(ast, program, kept) {
   const isTold = numbered(program).length === kept.length;
   const inputs = byBody(leaves(ast), bodiesOf(ast, (number) => (isTold ? number : 0)));
   const outputs = byBody(leaves(program), bodiesOf(program, (number) => (isTold ? kept[number] : 0)));
+  const [names, others] = [propertyNames(ast), propertyNames(program)];
   const found = new Map();
   for (const [body, list] of outputs) {
-    const [one, other] = [withTexts(inputs.get(body) ?? []), withTexts(list)];
+    const [one, other] = [withTexts(inputs.get(body) ?? [], names), withTexts(list, others)];
     for (const [at, place] of certain(align(one.texts, other.texts), one, other)) {
       found.set(other.leaves[place], one.leaves[at]);
     }
