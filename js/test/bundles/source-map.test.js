@@ -5,13 +5,16 @@ const fs = require("node:fs");
 const path = require("node:path");
 const test = require("node:test");
 const { minify } = require("../../index.js");
+const { adapt } = require("../../src/adapter.js");
 const { align } = require("../../src/align.js");
+const { walk } = require("../../src/estree.js");
+const { toJson } = require("../../src/json.js");
 const { decode, encode } = require("../../src/mappings.js");
 const { numbered } = require("../../src/numbered.js");
 const { parse } = require("../../src/parser.js");
 const { print } = require("../../src/print.js");
-const { programPath } = require("../../src/program.js");
-const { sourceMap } = require("../../src/source-map.js");
+const { programPath, runProgram } = require("../../src/program.js");
+const { origins, sourceMap } = require("../../src/source-map.js");
 const { checkMap, leadsTo, segmentsOf } = require("./maps.js");
 
 const skip = fs.existsSync(programPath()) ? false : "the program isn't built: MINI_APP can name one";
@@ -135,4 +138,53 @@ test("whole files, through the program", { skip }, () => {
     const count = checkMap(result.map, result.code);
     assert.ok(count > 0.8 * places.length, `${file}: ${count} of ${places.length}`);
   }
+});
+
+// ---- the very leaf
+
+const isProperty = ({ type, computed }) => type === "MemberExpression" && !computed;
+const SOURCES = path.join(__dirname, "..", "..", "src");
+
+/** Gives each property that is read by its name a name of its own, and tells how they were named. */
+function tagged(ast) {
+  const names = [];
+  walk(ast, (node) => {
+    if (!isProperty(node) || node.property.type !== "Identifier") return;
+    const { name } = node.property;
+    node.property.name = `${name}$tag${names.push(name) - 1}`;
+  });
+}
+
+/** Takes the tags off again, and gives that of each name. */
+function untagged(tree) {
+  const tags = new Map();
+  walk(tree, (node) => {
+    const [, name, tag] = /^(.*)\$tag(\d+)$/.exec(node.name ?? "") ?? [];
+    if (tag === undefined) return;
+    node.name = name;
+    tags.set(node, tag);
+  });
+  return tags;
+}
+
+test("a name leads to the very one that it was", { skip }, () => {
+  const counts = { right: 0, wrong: 0, none: 0 };
+  for (const name of fs.readdirSync(SOURCES).filter((file) => file.endsWith(".js"))) {
+    const code = fs.readFileSync(path.join(SOURCES, name), "utf8");
+    const { ast } = parse(code);
+    tagged(ast);
+    const { ast: tree, restore } = adapt(ast, code);
+    const { answer } = runProgram(toJson(tree), ["--max-depth=1000"]);
+    const program = restore(answer);
+    const [before, after] = [untagged(ast), untagged(program)];
+    const found = origins(ast, program, answer.kept);
+    for (const [leaf, tag] of after) {
+      const origin = found.get(leaf);
+      if (origin === undefined) counts.none++;
+      else if (before.get(origin) === tag) counts.right++;
+      else counts.wrong++;
+    }
+  }
+  assert.equal(counts.wrong, 0);
+  assert.ok(counts.right > 20 * counts.none, JSON.stringify(counts));
 });
