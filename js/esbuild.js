@@ -60,7 +60,9 @@ function minifyOutput(file, outputs, options, initial) {
     file: path.basename(file.path),
   });
   const said = result.warnings.map((warning) => messageOf(name, parts.code, warning, ""));
-  if (result.refused) return [...said, messageOf(name, parts.code, result.refused, "left as it is: ")];
+  if (result.refused) {
+    return [...said, messageOf(name, parts.code, result.refused, "left as it is: ")];
+  }
   replace(file, parts, result);
   return said;
 }
@@ -80,9 +82,9 @@ function measure({ metafile, outputFiles }) {
 }
 
 /**
- * A plugin of esbuild that minifies each script that it puts out. One that is refused stays as it is, with
- * a warning that tells the cause and its place in the output. esbuild hands outputs on only where it
- * doesn't write them, so where it is to write, the plugin does.
+ * A plugin of esbuild that minifies each script that it puts out. One that is refused stays as it
+ * is, with a warning that tells the cause and its place in the output. esbuild hands outputs on
+ * only where it doesn't write them, so where it is to write, the plugin does.
  * @param {object} [options] those of `minify`
  * @returns {object} the plugin
  */

@@ -9,12 +9,13 @@ const placeOf = (file, { line, column }) => (line === null ? file : `${file}:${l
 /** A warning as rollup takes it; its columns count from 0. */
 function warningOf(file, { code, message, line, column }, kind) {
   const loc = line === null ? {} : { loc: { file, line, column: column - 1 } };
-  return { message: `${placeOf(file, { line, column })}: ${kind}${message}`, pluginCode: code, ...loc };
+  const place = placeOf(file, { line, column });
+  return { message: `${place}: ${kind}${message}`, pluginCode: code, ...loc };
 }
 
 /**
- * A plugin of rollup that minifies each chunk. A chunk that is refused stays as it is, with a warning that
- * tells the cause and its place in the chunk.
+ * A plugin of rollup that minifies each chunk. A chunk that is refused stays as it is, with a
+ * warning that tells the cause and its place in the chunk.
  * @param {object} [options] those of `minify`
  * @returns {object} the plugin
  */
@@ -31,7 +32,8 @@ function minified(options = {}) {
         this.warn(warningOf(file, result.refused, "left as it is: "));
         return null;
       }
-      // An absent map would stand for one that changes no place; an empty one says that none is known.
+      // An absent map would stand for one that changes no place; an empty one says that none is
+      // known.
       const none = hasMap ? { mappings: "" } : null;
       return { code: result.code, map: result.map ?? none };
     },

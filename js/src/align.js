@@ -1,5 +1,6 @@
 "use strict";
-// Which leaves of an answer are which of the input: two lists of texts are laid side by side, in order.
+// Which leaves of an answer are which of the input: two lists of texts are laid side by side, in
+// order.
 
 const MOST_EDITS = 600; // past so many differences a stretch is left without pairs
 
@@ -82,10 +83,9 @@ function fewestEdits(one, other, stretch) {
     const diagonal = x - y;
     const start = furthest(trace[edits], diagonal, edits);
     const isDown = start === (trace[edits].get(diagonal + 1) ?? -1);
-    const [beforeX, beforeY] = isDown ? [start, start - diagonal - 1] : [start - 1, start - diagonal];
     while (x > start) pairs.push([stretch.from + --x, stretch.otherFrom + --y]);
-    x = Math.max(beforeX, 0);
-    y = Math.max(beforeY, 0);
+    x = Math.max(isDown ? start : start - 1, 0);
+    y = Math.max(isDown ? start - diagonal - 1 : start - diagonal, 0);
   }
   return pairs.reverse();
 }
@@ -95,8 +95,9 @@ function trimmed(one, other, stretch) {
   let { from, to, otherFrom, otherTo } = stretch;
   const first = [];
   const last = [];
-  while (from < to && otherFrom < otherTo && one[from] === other[otherFrom]) first.push([from++, otherFrom++]);
-  while (from < to && otherFrom < otherTo && one[to - 1] === other[otherTo - 1]) last.push([--to, --otherTo]);
+  const isLeft = () => from < to && otherFrom < otherTo;
+  while (isLeft() && one[from] === other[otherFrom]) first.push([from++, otherFrom++]);
+  while (isLeft() && one[to - 1] === other[otherTo - 1]) last.push([--to, --otherTo]);
   return { first, last: last.reverse(), rest: { from, to, otherFrom, otherTo } };
 }
 

@@ -1,6 +1,7 @@
 "use strict";
-// The field `mappings` of a source map, version 3: for each line its segments, each with one, four or five
-// numbers: column, source, line and column there, name. All but the columns count from the segment before.
+// The field `mappings` of a source map, version 3: for each line its segments, each with one, four
+// or five numbers: column, source, line and column there, name. All but the columns count from the
+// segment before.
 
 const DIGITS = "ABCDEFGHIJKLMNOPQRSTUVWXYZabcdefghijklmnopqrstuvwxyz0123456789+/";
 

@@ -1,62 +1,14 @@
 "use strict";
-const { adapt } = require("./adapter.js");
+const { answerFor } = require("./answer.js");
 const commonjs = require("./commonjs.js");
-const { Refusal, messageOf } = require("./errors.js");
+const { Refusal } = require("./errors.js");
 const { difference, placeOf } = require("./guard.js");
-const { nesting, toJson } = require("./json.js");
 const { licences } = require("./licences.js");
 const { parse } = require("./parser.js");
 const { print } = require("./print.js");
-const { runProgram } = require("./program.js");
 const { sourceMap } = require("./source-map.js");
-const { wordsOf } = require("./words.js");
 
 const bytes = (text) => Buffer.byteLength(text);
-
-// ---- what the program says
-
-/** The node that a JSON pointer leads to, and the nearest one above it that has a place. */
-function nodeAt(ast, pointer) {
-  let value = ast;
-  const found = { node: ast, placed: ast };
-  for (const step of pointer.split("/").slice(1)) {
-    value = value?.[step];
-    if (typeof value?.type !== "string") continue;
-    found.node = value;
-    if (value.loc) found.placed = value;
-  }
-  return found;
-}
-
-function refusedNode(note, ast, status) {
-  const [, defect, pointer] = /^refused: (\w+) at (.*)$/s.exec(note) ?? [null, "Unsupported", ""];
-  const { node, placed } = nodeAt(ast, pointer);
-  return new Refusal(defect, messageOf(defect, node), { node: placed, status, pointer });
-}
-
-const ENDINGS = {
-  BadWords: () => "an option is none that the program knows",
-  NotJson: (json) => {
-    const depth = nesting(JSON.parse(json));
-    return /\\ud[89a-f]/i.test(json)
-      ? "a text has half of a surrogate pair"
-      : `the tree nests too deep: its JSON has ${depth} levels`;
-  },
-  ReadFault: () => "the program could not read",
-  WriteFault: () => "the program could not write",
-  TooLong: (json) => `the tree is too long: its JSON has ${bytes(json)} bytes, past 16 MiB`,
-  OutOfMemory: () => "the program had too little memory",
-};
-
-/** Hands a tree to the program, and gives its answer. */
-function rewritten(ast, options) {
-  const json = toJson(ast);
-  const ended = runProgram(json, wordsOf(options), options);
-  if (ended.answer) return ended.answer;
-  if (ended.name === "Refused") throw refusedNode(ended.note, ast, ended.status);
-  const message = ENDINGS[ended.name]?.(json) ?? ended.note;
-  throw new Refusal(ended.name, message, { status: ended.status });
-}
 
 // ---- what is printed
 
@@ -88,11 +40,8 @@ function changed(code, options, warnings) {
   const comments = [];
   const { ast, commonjs: isCommonjs } = parse(code, { module: options.module, comments });
   const input = isCommonjs ? commonjs.wrap(ast, code) : ast;
-  const adapted = adapt(input, code, { adapt: options.adapt });
-  warnings.push(...adapted.warnings);
-  const answer = rewritten(adapted.ast, options);
-  const restored = adapted.restore(answer);
-  const program = isCommonjs ? commonjs.unwrap(restored) : restored;
+  const answer = answerFor(input, code, options, warnings);
+  const program = isCommonjs ? commonjs.unwrap(answer.program) : answer.program;
   const positions = options.sourceMap ? [] : null;
   const text = guarded(program, positions);
   const head = headOf(code, comments);

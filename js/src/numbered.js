@@ -2,13 +2,13 @@
 const { children, isNode } = require("./estree.js");
 
 /**
- * The program numbers the nodes that have code of their own: itself, functions, what is evaluated as one
- * (classes, patterns, tagged templates, regular expressions, `super`, private names, `import()` and meta
- * properties), and the expressions inside the latter. The `kept` of an answer tells, for each number of
- * the answer, the number of the same node in the input.
+ * The program numbers the nodes that have code of their own: itself, functions, what is evaluated
+ * as one (classes, patterns, tagged templates, regular expressions, `super`, private names,
+ * `import()` and meta properties), and the expressions inside the latter. The `kept` of an answer
+ * tells, for each number of the answer, the number of the same node in the input.
  */
 
-/** An expression inside a node that is evaluated as one: a body of its own, with a number of its own. */
+/** An expression inside a node that is evaluated as one: a body, with a number of its own. */
 const inner = (node) => ({ type: "Inner", node });
 const innerIf = (condition, node) => (condition ? inner(node) : node);
 
@@ -29,7 +29,7 @@ const parameter = (node) => (node.type === "AssignmentPattern" ? node : target(n
 const keyAndValue = (node, value) => [innerIf(node.computed, node.key), value];
 
 /** The arguments of `super(..)`. */
-const superArgument = (node) => (node.type === "SpreadElement" ? inner(node.argument) : inner(node));
+const superArgument = (node) => inner(node.type === "SpreadElement" ? node.argument : node);
 
 const functionParts = (node) => [node.id, ...node.params.map(parameter), node.body];
 const classParts = (node) => [node.id, node.superClass && inner(node.superClass), node.body];
@@ -94,11 +94,11 @@ const RULES = {
 const plain = entry(isNever, children);
 
 /**
- * The numbered nodes of a program, in the order of their numbers. For an expression inside a node that is
- * evaluated as one it is `{ type: "Inner", node }`.
+ * The numbered nodes of a program, in the order of their numbers. For an expression inside a node
+ * that is evaluated as one it is `{ type: "Inner", node }`.
  * @param {object} program a Program of ESTree
- * @param {(node: object, number: number) => void} [enter] called with each node, and the number of the
- *   innermost numbered node that it is, or is in
+ * @param {(node: object, number: number) => void} [enter] called with each node, and the number of
+ *   the innermost numbered node that it is, or is in
  * @returns {object[]}
  */
 function numbered(program, enter = () => {}) {

@@ -4,9 +4,9 @@ const { leaves, walk } = require("./estree.js");
 const { decode, encode } = require("./mappings.js");
 const { numbered } = require("./numbered.js");
 
-// Names and literals are never renamed, and mostly keep their order. So the leaves of the printed tree are
-// laid beside those of the parser's, body by body: an answer tells which body of the input each of its own
-// was. A leaf for which that tells nothing has no place in the map.
+// Names and literals are never renamed, and mostly keep their order. So the leaves of the printed
+// tree are laid beside those of the parser's, body by body: an answer tells which body of the input
+// each of its own was. A leaf for which that tells nothing has no place in the map.
 
 // ---- which leaf is which
 
@@ -64,8 +64,9 @@ function counted(texts) {
 const RUN = 4; // so many equal leaves in a row are told apart from others
 
 /**
- * The pairs that can be told: all, where nothing has gone or come; else those of a leaf that is the only one
- * of its text on both sides, and of those that stand in a row with such a leaf, or in a long row.
+ * The pairs that can be told: all, where nothing has gone or come; else those of a leaf that is the
+ * only one of its text on both sides, and of those that stand in a row with such a leaf, or in a
+ * long row.
  */
 function certain(pairs, one, other) {
   if (pairs.length === one.leaves.length && pairs.length === other.leaves.length) return pairs;
@@ -101,8 +102,9 @@ const withTexts = (list, names) => ({
  */
 function origins(ast, program, kept) {
   const isTold = numbered(program).length === kept.length;
-  const inputs = byBody(leaves(ast), bodiesOf(ast, (number) => (isTold ? number : 0)));
-  const outputs = byBody(leaves(program), bodiesOf(program, (number) => (isTold ? kept[number] : 0)));
+  const ofInput = bodiesOf(ast, (number) => (isTold ? number : 0));
+  const ofOutput = bodiesOf(program, (number) => (isTold ? kept[number] : 0));
+  const [inputs, outputs] = [byBody(leaves(ast), ofInput), byBody(leaves(program), ofOutput)];
   const [names, others] = [propertyNames(ast), propertyNames(program)];
   const found = new Map();
   for (const [body, list] of outputs) {
@@ -141,13 +143,13 @@ class InputMap {
     this.sources = (map.sourcesContent ?? []).map((text) => text?.split(/\r\n|[\n\r\u2028\u2029]/));
   }
 
-  /** Where a leaf was before: where a segment begins with it, or the source has the same text further on. */
+  /** Where a leaf was before: a segment begins with it, or the source has the same text further on. */
   trace({ line, column }, length) {
     const segment = segmentAt(this.lines[line - 1] ?? [], column);
     if (segment === undefined || segment.length < 4) return null;
-    const [start, source, sourceLine, sourceColumn, name] = segment;
+    const [start, source, sourceLine, sourceColumn] = segment;
     const further = column - start;
-    if (further === 0) return [source, sourceLine, sourceColumn, ...(name === undefined ? [] : [name])];
+    if (further === 0) return segment.slice(1);
     const text = this.code[line - 1]?.slice(column, column + length);
     const place = sourceColumn + further;
     const there = this.sources[source]?.[sourceLine]?.slice(place, place + length);
@@ -161,13 +163,16 @@ class InputMap {
 function placesIn(text) {
   let [line, start, next] = [0, 0, text.indexOf("\n")];
   return (offset) => {
-    while (next >= 0 && next < offset) [line, start, next] = [line + 1, next + 1, text.indexOf("\n", next + 1)];
+    while (next >= 0 && next < offset) {
+      [line, start, next] = [line + 1, next + 1, text.indexOf("\n", next + 1)];
+    }
     return { line, column: offset - start };
   };
 }
 
 /**
- * The segments of the printed leaves: those with an origin lead to it, the first after them to nowhere.
+ * The segments of the printed leaves: those with an origin lead to it, the first after them to
+ * nowhere.
  * @param {(leaf: object) => number[] | null} origin source, line, column and name
  */
 function segmentsOf(text, positions, origin) {
@@ -207,7 +212,8 @@ const nothing = (code, message) => ({
 /** The map that is handed in, if it can be read. */
 function readInputMap(inputMap, code) {
   if (!inputMap) return null;
-  if (inputMap.version !== 3 || typeof inputMap.mappings !== "string" || !Array.isArray(inputMap.sources)) {
+  const { version, mappings, sources } = inputMap;
+  if (version !== 3 || typeof mappings !== "string" || !Array.isArray(sources)) {
     throw new RangeError("it is no source map of version 3 with `mappings` in one text");
   }
   return new InputMap(inputMap, code);
@@ -225,7 +231,8 @@ function readInputMap(inputMap, code) {
  * @param {string} parts.head what stands before it: whole lines
  * @param {string} [parts.file] the name of the source
  * @param {object} [parts.inputMap] the map of `code`: then the map leads to where that leads
- * @returns {{map: object | null, warnings: object[]}} a map of version 3; null where none can be made
+ * @returns {{map: object | null, warnings: object[]}} a map of version 3; null where none can be
+ *   made
  */
 function sourceMap({ code, ast, program, kept, text, positions, head = "", file, inputMap }) {
   let before;
@@ -239,15 +246,16 @@ function sourceMap({ code, ast, program, kept, text, positions, head = "", file,
     const source = from.get(leaf);
     if (source === undefined) return null;
     const { line, column } = first(source);
-    return before ? before.trace({ line, column }, source.end - source.start) : [0, line - 1, column];
+    if (before === null) return [0, line - 1, column];
+    return before.trace({ line, column }, source.end - source.start);
   };
   const lines = segmentsOf(text, positions, origin);
   const map = direct({ code, file, lines, head });
   if (!before) return { map, warnings: [] };
   const { sources, sourcesContent, sourceRoot, names = [] } = inputMap;
-  const rest = { sources, names, ...(sourcesContent && { sourcesContent }), ...(sourceRoot && { sourceRoot }) };
-  if (!sourcesContent) delete map.sourcesContent;
-  return { map: { ...map, ...rest }, warnings: [] };
+  const { version, file: name, mappings } = map;
+  const roots = { ...(sourceRoot && { sourceRoot }), ...(sourcesContent && { sourcesContent }) };
+  return { map: { version, file: name, ...roots, sources, names, mappings }, warnings: [] };
 }
 
 module.exports = { origins, sourceMap };

@@ -2,8 +2,8 @@
 const { NODES, isNode } = require("../estree.js");
 const { call, identifier, isBroken, unread } = require("./marks.js");
 
-// The way in: from a parser's tree to one that the program reads. No node of the parser's tree is changed;
-// what stands for one has its place.
+// The way in: from a parser's tree to one that the program reads. No node of the parser's tree is
+// changed; what stands for one has its place.
 
 const LIMIT = 1n << 128n; // BigInts are read below it
 
@@ -68,7 +68,8 @@ function liftKey(owner, mayCompute, { marks }) {
 
 const liftOwner = (mayCompute) => (node, context) => {
   const owner = node.computed ? node : liftKey(node, mayCompute, context);
-  return lifted(owner, (child) => (child === owner.key && !node.computed ? child : lift(child, context)));
+  const isPlainKey = (child) => child === owner.key && !node.computed;
+  return lifted(owner, (child) => (isPlainKey(child) ? child : lift(child, context)));
 };
 
 function liftObjectPattern(node, context) {
@@ -110,7 +111,9 @@ function liftTagged(node, context) {
 /** What a directive says is its text in the source. */
 function liftExpressionStatement(node, context) {
   if (typeof node.directive !== "string") return lifted(node, (child) => lift(child, context));
-  if (isBroken(node.directive)) throw unread("half of a surrogate pair in a directive isn't read", node);
+  if (isBroken(node.directive)) {
+    throw unread("half of a surrogate pair in a directive isn't read", node);
+  }
   return { ...node, expression: { ...node.expression, value: node.directive } };
 }
 
@@ -233,8 +236,8 @@ function lift(node, context) {
  * A tree that the program reads in place of a parser's.
  * @param {object} ast the parser's tree, which stays as it is
  * @param {import("./marks.js").Marks} marks takes in what stands for what
- * @returns {{program: object, standsFor: Map<object, object>}} the tree, and the frames of its marked
- *   functions and of itself
+ * @returns {{program: object, standsFor: Map<object, object>}} the tree, and the frames of its
+ *   marked functions and of itself
  */
 function liftProgramTree(ast, marks) {
   const standsFor = new Map();

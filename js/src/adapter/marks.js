@@ -15,7 +15,7 @@ function textsOf(node) {
   return [node.name, node.directive];
 }
 
-/** A text that stands in no text and no name of a program, however they are written in the source. */
+/** A text that stands in no text and no name of a program, however they are written. */
 function freshText(ast, code) {
   const texts = [code];
   walk(ast, (node) => texts.push(...textsOf(node).filter((text) => typeof text === "string")));
@@ -25,8 +25,8 @@ function freshText(ast, code) {
 }
 
 /**
- * What stands in the adapted program for what the program doesn't read: global names that nothing else
- * names, and directives. All of them begin with one text that the source doesn't have.
+ * What stands in the adapted program for what the program doesn't read: global names that nothing
+ * else names, and directives. All of them begin with one text that the source doesn't have.
  */
 class Marks {
   constructor(ast, code) {
@@ -35,7 +35,7 @@ class Marks {
     this.literals = new Map();
     /** The name by the kind and the value of the literal: equal literals have one name. */
     this.names = new Map();
-    /** The marked functions, and the module where it waits: the number in their marks is their place. */
+    /** The module and the marked functions: the number in their marks is their place. */
     this.frames = [];
   }
 

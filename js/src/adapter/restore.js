@@ -3,7 +3,8 @@ const { NODES, isNode } = require("../estree.js");
 const { numbered } = require("../numbered.js");
 const { changed } = require("./marks.js");
 
-// The way back: each mark becomes what it stands for. A mark that isn't where it must be is a refusal.
+// The way back: each mark becomes what it stands for. A mark that isn't where it must be is a
+// refusal.
 
 const isFunction = (node) =>
   /^(FunctionDeclaration|FunctionExpression|ArrowFunctionExpression)$/.test(node.type);
@@ -86,7 +87,8 @@ const isCallOf = (node, name) =>
 /** What a mark is called with: one value. */
 function argumentOf(node, { frame }) {
   const [argument, ...more] = node.arguments;
-  if (more.length > 0 || argument === undefined || argument.type === "SpreadElement" || node.optional) {
+  const isOne = argument !== undefined && more.length === 0 && argument.type !== "SpreadElement";
+  if (!isOne || node.optional) {
     throw changed("a mark of the adapter is called in another way", frame?.node);
   }
   return argument;
@@ -146,7 +148,7 @@ function noResult(argument, context) {
   return block(statement(restore(argument, context)), result(null));
 }
 
-/** A `return` of which some results are awaited and others are none: `return a ? void 0 : MARK(b)`. */
+/** A `return` of which some results are awaited and others are none: `a ? void 0 : MARK(b)`. */
 function spreadResult(node, context) {
   const awaited = awaitedResult(node, context);
   if (awaited) return result(restore(awaited, context));
@@ -262,8 +264,8 @@ function framesOf(answer, { nodes, standsFor }) {
 /**
  * The tree that an answer stands for.
  * @param {{program: object, kept: number[]}} answer
- * @param {{marks: import("./marks.js").Marks, program: object, standsFor: Map<object, object>}} adapted
- *   what the program was given
+ * @param {{marks: import("./marks.js").Marks, program: object, standsFor: Map<object, object>}}
+ *   adapted what the program was given
  * @throws {Refusal} with the code `Adapter` where a mark is missing, changed or at another place
  */
 function restoreProgram(answer, { marks, program, standsFor }) {

@@ -1,5 +1,6 @@
 "use strict";
-// The adapter around the program: what programs do before and after, to the turn of the queue of jobs.
+// The adapter around the program: what programs do before and after, to the turn of the queue of
+// jobs.
 const assert = require("node:assert/strict");
 const fs = require("node:fs");
 const test = require("node:test");
@@ -9,7 +10,8 @@ const numbers = require("./numbers.js");
 const { logsOf } = require("./running.js");
 const waiting = require("./waiting.js");
 
-const skip = fs.existsSync(programPath()) ? false : "the program isn't built: MINI_APP can name one";
+const isBuilt = fs.existsSync(programPath());
+const skip = isBuilt ? false : "the program isn't built: MINI_APP can name one";
 const GENERATED = 150;
 
 /** Checks that programs do the same before and after, and that each does something. */

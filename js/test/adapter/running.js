@@ -1,12 +1,14 @@
 "use strict";
-// Runs JavaScript, and tells what it did and when: each line of the log begins with the number of turns that
-// the queue of jobs had taken by then. So two programs with one log wait as often, in one order.
+// Runs JavaScript, and tells what it did and when: each line of the log begins with the number of
+// turns that the queue of jobs had taken by then. So two programs with one log wait as often, in
+// one order.
 const vm = require("node:vm");
 const { minify } = require("../../index.js");
 
 const TURNS = 300;
 
-// What the programs may use. It runs inside their context, so that its promises are those of the context.
+// What the programs may use. It runs inside their context, so that its promises are those of the
+// context.
 const PRELUDE = `
 "use strict";
 var turn = 0;
@@ -23,7 +25,11 @@ function show(value) {
 }
 function log(...values) { lines.push(turn + " " + values.map(show).join(" ")); return values[0]; }
 async function later(value, turns = 1) { while (turns-- > 0) await null; return log(value); }
-async function failing(value, turns = 1) { while (turns-- > 0) await null; log("fails", value); throw value; }
+async function failing(value, turns = 1) {
+  while (turns-- > 0) await null;
+  log("fails", value);
+  throw value;
+}
 function thenable(value) { return { then(done) { log("then", value); done(value); } }; }
 function told(promise, name) {
   return promise.then((value) => log(name, "gives", value), (error) => log(name, "rejects", error));
@@ -35,7 +41,8 @@ function source(name, values, { failAt = -1, failAtEnd = false } = {}) {
     async next() {
       log(name, "next", at);
       if (at === failAt) throw new Error(name + at);
-      return at < values.length ? { value: values[at++], done: false } : { value: undefined, done: true };
+      const done = at >= values.length;
+      return { value: done ? undefined : values[at++], done };
     },
     async return(value) {
       log(name, "return");
@@ -81,9 +88,10 @@ function minified(code, options) {
   return text;
 }
 
-/** The logs before and after of programs that are minified all at once, each in a function of its own. */
+/** The same of programs that are minified all at once, each in a function of its own. */
 async function logsOfSome(programs) {
-  const all = `const programs = [${programs.map((code) => `function () { ${code}\n}`).join(",\n")}];\n`;
+  const functions = programs.map((code) => `function () { ${code}\n}`);
+  const all = `const programs = [${functions.join(",\n")}];\n`;
   const text = minified(all);
   const logs = [];
   for (let at = 0; at < programs.length; at++) {

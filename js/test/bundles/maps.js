@@ -23,7 +23,8 @@ function numbersOf(text) {
 
 /**
  * The segments of a map.
- * @returns {{line: number, column: number, source?: number, sourceLine?: number, sourceColumn?: number, name?: string}[]}
+ * @returns {{line: number, column: number, source?: number, sourceLine?: number, sourceColumn?:
+ *   number, name?: string}[]}
  */
 function segmentsOf(map) {
   assert.equal(map.version, 3);
@@ -37,7 +38,9 @@ function segmentsOf(map) {
       column += numbers[0];
       const segment = { line, column };
       if (numbers.length >= 4) {
-        [source, sourceLine, sourceColumn] = [source + numbers[1], sourceLine + numbers[2], sourceColumn + numbers[3]];
+        source += numbers[1];
+        sourceLine += numbers[2];
+        sourceColumn += numbers[3];
         Object.assign(segment, { source, sourceLine, sourceColumn });
       }
       if (numbers.length === 5) segment.name = map.names[(name += numbers[4])];
@@ -50,7 +53,8 @@ function segmentsOf(map) {
 const TOKENS = [
   ["name", /#?[\p{ID_Start}$_][\p{ID_Continue}$\u200c\u200d]*/uy],
   ["bigint", /(?:0[xX][\da-fA-F_]+|0[bB][01_]+|0[oO][0-7_]+|[\d_]+)n/y],
-  ["number", /0[xX][\da-fA-F_]+|0[bB][01_]+|0[oO][0-7_]+|(?:[\d_]+\.?[\d_]*|\.[\d_]+)(?:[eE][+-]?[\d_]+)?/y],
+  ["number", /0[xX][\da-fA-F_]+|0[bB][01_]+|0[oO][0-7_]+/y],
+  ["number", /(?:[\d_]+\.?[\d_]*|\.[\d_]+)(?:[eE][+-]?[\d_]+)?/y],
   ["text", /"(?:\\[^]|[^"\\])*"|'(?:\\[^]|[^'\\])*'/y],
   ["regex", /\/(?:\\.|\[(?:\\.|[^\]\\\n])*\]|[^/\\[\n])+\/\w*/y],
 ];
@@ -102,7 +106,8 @@ function leadsTo(map, code, token) {
   const at = code.indexOf(token);
   const line = code.slice(0, at).split("\n").length - 1;
   const column = at - (code.lastIndexOf("\n", at) + 1);
-  const found = segmentsOf(map).find((segment) => segment.line === line && segment.column === column);
+  const isThere = (segment) => segment.line === line && segment.column === column;
+  const found = segmentsOf(map).find(isThere);
   if (found?.source === undefined) return null;
   return `${map.sources[found.source]}:${found.sourceLine + 1}:${found.sourceColumn + 1}`;
 }

@@ -31,10 +31,23 @@ const skipped = (bundler, name) => {
   return bundler ? false : `${name} isn't here: NODE_PATH can name the folder that has it`;
 };
 
+const ofRollup = { skip: skipped(rollup, "rollup") };
+const ofEsbuild = { skip: skipped(esbuild, "esbuild") };
+
 const folder = fs.mkdtempSync(path.join(os.tmpdir(), "bundles-"));
 test.after(() => fs.rmSync(folder, { recursive: true }));
 
-const SHAPES = [{ kind: "circle", r: 2 }, null, { w: 2, h: 3 }, { kind: 0.25 }, { get kind() { throw Error("e"); } }];
+const SHAPES = [
+  { kind: "circle", r: 2 },
+  null,
+  { w: 2, h: 3 },
+  { kind: 0.25 },
+  {
+    get kind() {
+      throw new Error("e");
+    },
+  },
+];
 
 /** What the bundle of the project does. */
 async function ran(code, name) {
@@ -49,12 +62,13 @@ const EXPECTED = '[6.28,3,500000000000000000000,"failed: e"]';
 
 async function rolled(input, plugins, output) {
   const warnings = [];
-  const bundle = await rollup.rollup({ input, plugins, onwarn: (warning) => warnings.push(warning) });
+  const onwarn = (warning) => warnings.push(warning);
+  const bundle = await rollup.rollup({ input, plugins, onwarn });
   const { output: chunks } = await bundle.generate({ format: "es", ...output });
   return { chunk: chunks[0], warnings };
 }
 
-test("rollup: a bundle is minified, and does the same", { skip: skipped(rollup, "rollup") }, async () => {
+test("rollup: a bundle is minified, and does the same", ofRollup, async () => {
   const { chunk, warnings } = await rolled(MAIN, [rollupPlugin()], {});
   const plain = await rolled(MAIN, [], {});
   assert.deepEqual(warnings, []);
@@ -64,22 +78,23 @@ test("rollup: a bundle is minified, and does the same", { skip: skipped(rollup, 
   assert.match(chunk.code, /^\/\*! The project/);
 });
 
-test("rollup: its map leads to the modules", { skip: skipped(rollup, "rollup") }, async () => {
+test("rollup: its map leads to the modules", ofRollup, async () => {
   const { chunk } = await rolled(MAIN, [rollupPlugin()], { sourcemap: true });
   assert.ok(checkMap(chunk.map, chunk.code) > 50);
   assert.match(leadsTo(chunk.map, chunk.code, "TypeError"), /queue\.js:6:17$/);
   assert.match(leadsTo(chunk.map, chunk.code, "3.14"), /shapes\.js:4:/);
 });
 
-test("rollup: other formats", { skip: skipped(rollup, "rollup") }, async () => {
-  const { chunk, warnings } = await rolled(MAIN, [rollupPlugin()], { format: "cjs", exports: "named" });
+test("rollup: other formats", ofRollup, async () => {
+  const output = { format: "cjs", exports: "named" };
+  const { chunk, warnings } = await rolled(MAIN, [rollupPlugin()], output);
   assert.deepEqual(warnings, []);
   const module = { exports: {} };
   new Function("module", "exports", chunk.code)(module, module.exports);
   assert.equal(JSON.stringify(await module.exports.main(SHAPES)), EXPECTED);
 });
 
-test("rollup: a chunk that is refused stays as it is", { skip: skipped(rollup, "rollup") }, async () => {
+test("rollup: a chunk that is refused stays as it is", ofRollup, async () => {
   const plain = await rolled(REFUSED, [], { sourcemap: true });
   const { chunk, warnings } = await rolled(REFUSED, [rollupPlugin()], { sourcemap: true });
   assert.equal(chunk.code, plain.chunk.code);
@@ -102,9 +117,10 @@ const built = (entry, options) =>
     ...options,
   });
 
-const outputOf = ({ outputFiles }, end) => outputFiles.find(({ path: name }) => name.endsWith(end)).text;
+const outputOf = ({ outputFiles }, end) =>
+  outputFiles.find(({ path: name }) => name.endsWith(end)).text;
 
-test("esbuild: a bundle is minified, and does the same", { skip: skipped(esbuild, "esbuild") }, async () => {
+test("esbuild: a bundle is minified, and does the same", ofEsbuild, async () => {
   const plain = outputOf(await built(MAIN, {}), "main.js");
   const result = await built(MAIN, { plugins: [esbuildPlugin()], metafile: true });
   const code = outputOf(result, "main.js");
@@ -114,26 +130,28 @@ test("esbuild: a bundle is minified, and does the same", { skip: skipped(esbuild
   assert.equal(Object.values(result.metafile.outputs)[0].bytes, Buffer.byteLength(code));
 });
 
-test("esbuild: names can be mangled before", { skip: skipped(esbuild, "esbuild") }, async () => {
-  const result = await built(MAIN, { plugins: [esbuildPlugin()], minify: true, sourcemap: "external" });
+test("esbuild: names can be mangled before", ofEsbuild, async () => {
+  const options = { minify: true, sourcemap: "external" };
+  const result = await built(MAIN, { plugins: [esbuildPlugin()], ...options });
   const [code, map] = [outputOf(result, "main.js"), JSON.parse(outputOf(result, ".map"))];
   assert.equal(await ran(code, "esbuild-mangled"), EXPECTED);
   assert.match(leadsTo(map, code, "TypeError"), /queue\.js:6:17$/);
   assert.match(leadsTo(map, code, "add("), /(queue|main)\.js:(4|12):/);
 });
 
-test("esbuild: its maps lead to the modules", { skip: skipped(esbuild, "esbuild") }, async () => {
+test("esbuild: its maps lead to the modules", ofEsbuild, async () => {
   const result = await built(MAIN, { plugins: [esbuildPlugin()], sourcemap: "linked" });
   const [code, map] = [outputOf(result, "main.js"), JSON.parse(outputOf(result, ".map"))];
   assert.match(code, /\n\/\/# sourceMappingURL=main\.js\.map\n$/);
   assert.ok(checkMap(map, code) > 50);
   assert.match(leadsTo(map, code, "TypeError"), /queue\.js:6:17$/);
-  const inline = outputOf(await built(MAIN, { plugins: [esbuildPlugin()], sourcemap: "inline" }), "main.js");
+  const again = await built(MAIN, { plugins: [esbuildPlugin()], sourcemap: "inline" });
+  const inline = outputOf(again, "main.js");
   const [, data] = /sourceMappingURL=data:application\/json;base64,(\S+)\n$/.exec(inline);
   assert.equal(JSON.parse(Buffer.from(data, "base64")).mappings, map.mappings);
 });
 
-test("esbuild: what it writes is minified", { skip: skipped(esbuild, "esbuild") }, async () => {
+test("esbuild: what it writes is minified", ofEsbuild, async () => {
   const outdir = path.join(folder, "written");
   await built(MAIN, { plugins: [esbuildPlugin()], outdir, write: true, sourcemap: true });
   const code = fs.readFileSync(path.join(outdir, "main.js"), "utf8");
@@ -141,10 +159,13 @@ test("esbuild: what it writes is minified", { skip: skipped(esbuild, "esbuild") 
   assert.ok(fs.existsSync(path.join(outdir, "main.js.map")));
 });
 
-test("esbuild: an output that is refused stays as it is", { skip: skipped(esbuild, "esbuild") }, async () => {
+test("esbuild: an output that is refused stays as it is", ofEsbuild, async () => {
   const plain = outputOf(await built(REFUSED, {}), "refused.js");
   const said = [];
-  const listen = { name: "listen", setup: (build) => build.onEnd((result) => void said.push(...result.warnings)) };
+  const listen = {
+    name: "listen",
+    setup: (build) => build.onEnd((result) => void said.push(...result.warnings)),
+  };
   const result = await built(REFUSED, { plugins: [esbuildPlugin(), listen] });
   assert.equal(outputOf(result, "refused.js"), plain);
   const warnings = [...said, ...result.warnings];

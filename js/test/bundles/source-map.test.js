@@ -5,18 +5,22 @@ const fs = require("node:fs");
 const path = require("node:path");
 const test = require("node:test");
 const { minify } = require("../../index.js");
+const { adapt } = require("../../src/adapter.js");
 const { align } = require("../../src/align.js");
+const { walk } = require("../../src/estree.js");
+const { toJson } = require("../../src/json.js");
 const { decode, encode } = require("../../src/mappings.js");
 const { numbered } = require("../../src/numbered.js");
 const { parse } = require("../../src/parser.js");
 const { print } = require("../../src/print.js");
-const { programPath } = require("../../src/program.js");
-const { sourceMap } = require("../../src/source-map.js");
+const { programPath, runProgram } = require("../../src/program.js");
+const { origins, sourceMap } = require("../../src/source-map.js");
 const { checkMap, leadsTo, segmentsOf } = require("./maps.js");
 
-const skip = fs.existsSync(programPath()) ? false : "the program isn't built: MINI_APP can name one";
+const isBuilt = fs.existsSync(programPath());
+const skip = isBuilt ? false : "the program isn't built: MINI_APP can name one";
 
-/** The map of a text of which another is the answer, whose functions are the same in number and order. */
+/** The map of a text of which another is the answer, with the same functions. */
 function mapped(code, answer, more = {}) {
   const { ast } = parse(code);
   const program = parse(answer).ast;
@@ -30,11 +34,13 @@ test("numbers are written and read", () => {
   const lines = [[[0, 0, 0, 0], [4], [5, 1, 20, 3, 2]], [], [[1000, 0, 0, 100000]]];
   assert.deepEqual(decode(encode(lines)), lines);
   assert.equal(encode([[[0, 0, 0, 0], [16, 0, 1, 5]]]), "AAAA,gBACK");
-  assert.deepEqual(segmentsOf({ version: 3, names: [], mappings: "AAAA,gBACK;;D" }).map((s) => s.column), [0, 16, -1]);
+  const map = { version: 3, names: [], mappings: "AAAA,gBACK;;D" };
+  assert.deepEqual(segmentsOf(map).map((segment) => segment.column), [0, 16, -1]);
   assert.throws(() => decode("A!"), RangeError);
 });
 
-const pairsOf = (one, other) => align([...one], [...other]).map(([at, place]) => `${one[at]}${at}${place}`);
+const pairsOf = (one, other) =>
+  align([...one], [...other]).map(([at, place]) => `${one[at]}${at}${place}`);
 
 test("lists are laid side by side", () => {
   assert.deepEqual(pairsOf("abc", "abc"), ["a00", "b11", "c22"]);
@@ -81,8 +87,10 @@ test("what can't be told leads nowhere", () => {
 
 test("bodies are told apart", () => {
   const code = "function f() { return x }\nfunction g() { return x }\nfunction h() { return x }";
-  const { text, map } = mapped(code, "function f() { return x } function h() { return x }", { kept: [0, 1, 3] });
-  const places = segmentsOf(map).map(({ sourceLine, sourceColumn }) => `${sourceLine}:${sourceColumn}`);
+  const answer = "function f() { return x } function h() { return x }";
+  const { text, map } = mapped(code, answer, { kept: [0, 1, 3] });
+  const place = ({ sourceLine, sourceColumn }) => `${sourceLine}:${sourceColumn}`;
+  const places = segmentsOf(map).map(place);
   assert.equal(text, "function f(){return x}function h(){return x}");
   assert.deepEqual(places, ["0:9", "0:22", "2:9", "2:22"]);
 });
@@ -110,21 +118,23 @@ test("a map of the input is composed", () => {
   const { text, map } = mapped("if(first)second(third)", "first && second(third)", { inputMap });
   assert.deepEqual(map.sources, ["a.ts", "b.ts"]);
   assert.deepEqual(map.names, ["oldName"]);
-  assert.equal(leadsTo(map, text, "first"), null, "no segment begins there, and other text stands there");
+  assert.equal(leadsTo(map, text, "first"), null, "other text stands there");
   assert.equal(leadsTo(map, text, "second"), "b.ts:1:1");
   assert.equal(leadsTo(map, text, "third"), "b.ts:1:11");
   assert.equal(segmentsOf(map).at(-1).name, "oldName");
 });
 
 test("a map of the input that can't be read", () => {
-  for (const inputMap of [{ version: 3, sections: [] }, { version: 3, sources: [], mappings: "!" }]) {
+  const digitless = { version: 3, sources: [], mappings: "!" };
+  for (const inputMap of [{ version: 3, sections: [] }, digitless]) {
     const { map, warnings } = mapped("x", "x", { inputMap });
     assert.equal(map, null);
     assert.match(warnings[0].message, /source map of the input/);
   }
 });
 
-const files = fs.readdirSync(path.join(__dirname, "project")).map((name) => path.join(__dirname, "project", name));
+const PROJECT = path.join(__dirname, "project");
+const files = fs.readdirSync(PROJECT).map((name) => path.join(PROJECT, name));
 
 test("whole files, through the program", { skip }, () => {
   for (const file of [...files, path.join(__dirname, "..", "..", "..", "examples", "start.js")]) {
@@ -135,4 +145,52 @@ test("whole files, through the program", { skip }, () => {
     const count = checkMap(result.map, result.code);
     assert.ok(count > 0.8 * places.length, `${file}: ${count} of ${places.length}`);
   }
+});
+
+// ---- the very leaf
+
+const isProperty = ({ type, computed }) => type === "MemberExpression" && !computed;
+const SOURCES = path.join(__dirname, "..", "..", "src");
+
+/** Gives each property that is read by its name a name of its own. */
+function tagged(ast) {
+  let count = 0;
+  walk(ast, (node) => {
+    if (!isProperty(node) || node.property.type !== "Identifier") return;
+    node.property.name += `$tag${count++}`;
+  });
+}
+
+/** Takes the tags off again, and gives that of each name. */
+function untagged(tree) {
+  const tags = new Map();
+  walk(tree, (node) => {
+    const [, name, tag] = /^(.*)\$tag(\d+)$/.exec(node.name ?? "") ?? [];
+    if (tag === undefined) return;
+    node.name = name;
+    tags.set(node, tag);
+  });
+  return tags;
+}
+
+test("a name leads to the very one that it was", { skip }, () => {
+  const counts = { right: 0, wrong: 0, none: 0 };
+  for (const name of fs.readdirSync(SOURCES).filter((file) => file.endsWith(".js"))) {
+    const code = fs.readFileSync(path.join(SOURCES, name), "utf8");
+    const { ast } = parse(code);
+    tagged(ast);
+    const { ast: tree, restore } = adapt(ast, code);
+    const { answer } = runProgram(toJson(tree), ["--max-depth=1000"]);
+    const program = restore(answer);
+    const [before, after] = [untagged(ast), untagged(program)];
+    const found = origins(ast, program, answer.kept);
+    for (const [leaf, tag] of after) {
+      const origin = found.get(leaf);
+      if (origin === undefined) counts.none++;
+      else if (before.get(origin) === tag) counts.right++;
+      else counts.wrong++;
+    }
+  }
+  assert.equal(counts.wrong, 0);
+  assert.ok(counts.right > 20 * counts.none, JSON.stringify(counts));
 });
