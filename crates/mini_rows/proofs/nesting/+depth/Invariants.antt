@@ -1,8 +1,8 @@
 use Rattle.std.proofs.Common.{◌≡◌, ◌+◌, ◌*◌}
 use Rattle.mini_model.specs.Tree.{node_count, node_counts}
 use Rattle.mini_node.specs.Children.{rest_children}
-use Rattle.mini_rows.specs.Lists.{are_shallow}
-use Rattle.mini_stmt.proofs.terms.+depth.Given as goal
+use Rattle.mini_rows.specs.Nesting.{are_shallow}
+use Rattle.mini_rows.proofs.nesting.+depth.Given as goal
 
 abbrev pub decreases-are_shallow : goal.decreases-are_shallow
 decreases-are_shallow l = 2 * node_counts l.nodes.now + 1
