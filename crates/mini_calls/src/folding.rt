@@ -81,7 +81,7 @@ impl PeepholeOptimizations {
         mini_fold::fold_static_member_expr(alloc, node, seat)
     }
 
-    /// The same in brackets: `"abc"["length"]` becomes `3`. The answer says whether it did.
+    /// The length of a text that is read with a key in brackets becomes a number: `"abc"["length"]` becomes `3`. The answer says whether it did.
     pub fn fold_computed_member_expr(&self, alloc: Global, node: &mut Node, seat: Seat) -> bool
         ensures tree { node.new ≡ unwrap_or (computed_written seat node.old) node.old }
         ensures said { result ≡ is_some (computed_written seat node.old) }
@@ -271,8 +271,8 @@ impl PeepholeOptimizations {
         mini_fold::fold_unary_expr(alloc, node, seat)
     }
 
-    /// What `try_fold_coalesce` does of `??`, and `try_fold_and_or` of `&&` and `||`. The answer says whether it did; the only error is that
-    /// memory runs out, and then the expression is fit only to be dropped.
+    /// Folds a logical expression with a side that is known: `??` as `try_fold_coalesce` does, `&&` and `||` as `try_fold_and_or` does. The
+    /// answer says whether it did; the only error is that memory runs out, and then the expression is fit only to be dropped.
     pub fn fold_logical_expr(
         &self,
         alloc: Global,

@@ -165,9 +165,9 @@ impl PeepholeOptimizations {
         mini_syntax::substitute_variable_declaration(node, place)
     }
 
-    /// Of each property of an object literal a key in brackets loses them where it is a text or a whole number, a text becomes the
-    /// name or the number that it writes, and `x: x` becomes `x`; a key `__proto__` stays but of a method, a getter or a setter. The
-    /// answer says whether anything changed; the only error is that memory runs out, and then the literal is fit only to be dropped.
+    /// Shortens the keys of an object literal: `{ ["x"]: a }` and `{ "x": a }` become `{ x: a }`, `{ "1": a }` becomes `{ 1: a }`, and
+    /// `{ x: x }` becomes `{ x }`. A key `__proto__` stays, but of a method, a getter or a setter. The answer says whether anything
+    /// changed; the only error is that memory runs out, and then the literal is fit only to be dropped.
     pub fn substitute_object_property(
         &self,
         alloc: Global,
@@ -179,8 +179,8 @@ impl PeepholeOptimizations {
         mini_syntax::substitute_object_property(alloc, node)
     }
 
-    /// Of a property of a pattern, a method or a field of a class a key that is a text becomes the name or the number from 0 that the
-    /// text writes; a key in brackets and a private name stay. The answer says whether it did.
+    /// Shortens the key of a property of a pattern, of a method or of a field: `"x"` becomes `x`, and `"1"` becomes `1`. A key in brackets
+    /// and a private name stay. The answer says whether it did.
     pub fn substitute_property_key(&self, alloc: Global, node: &mut Node) -> bool
         ensures tree { node.new ≡ spelled node.old }
         ensures said { result ≡ is_spelled node.old }
@@ -188,10 +188,9 @@ impl PeepholeOptimizations {
         mini_syntax::substitute_property_key(alloc, node)
     }
 
-    /// Of a property of a pattern, a method or a field a key in brackets loses them where it is a text or a whole number from 0, but of
-    /// a parameter and where `should_keep_as_computed_property`; another key that is a text becomes the name or the number that it
-    /// writes. Of a pattern that is declared the brackets go at what declares it. The answer says whether anything changed; the only error
-    /// is that memory runs out.
+    /// Shortens the key of a property of a pattern, of a method or of a field: `["x"]` and `"x"` become `x`, `[1]` and `"1"` become `1`.
+    /// Brackets stay in a parameter, where `should_keep_as_computed_property`, and in a pattern that is declared, whose declaration
+    /// drops them. The answer says whether anything changed; the only error is that memory runs out.
     pub fn substitute_key(&self, alloc: Global, node: &mut Node) -> Result<bool, OutOfMemory>
         ensures tree { OnOk result (node.new ≡ key_written node.old) }
         ensures said { IfOk result (λ changed. changed ≡ is_key_written node.old) }
@@ -199,9 +198,8 @@ impl PeepholeOptimizations {
         mini_syntax::substitute_key(alloc, node)
     }
 
-    /// Of a property of a pattern that is assigned to (`[{ ["x"]: a } = b]`) a key in brackets loses them where it is a text or a whole number from 0, but where `should_keep_as_computed_property`; another key
-    /// that is a text becomes the name or the number that it writes. The answer says whether anything changed; the only error is that memory
-    /// runs out.
+    /// Shortens the key of a property of a pattern that is assigned to: `[{ ["x"]: a } = b]` becomes `[{ x: a } = b]`. Brackets stay where
+    /// `should_keep_as_computed_property`. The answer says whether anything changed; the only error is that memory runs out.
     pub fn substitute_assignment_target_property_property(
         &self,
         alloc: Global,
@@ -213,9 +211,8 @@ impl PeepholeOptimizations {
         mini_syntax::substitute_assignment_target_property_property(alloc, node)
     }
 
-    /// Of a method of a class a key in brackets loses them where it is a text or a whole number from 0, but where `should_keep_as_computed_property`; another key
-    /// that is a text becomes the name or the number that it writes. The answer says whether anything changed; the only error is that memory
-    /// runs out.
+    /// Shortens the key of a method of a class: `["x"]() {}` and `"x"() {}` become `x() {}`. Brackets stay where
+    /// `should_keep_as_computed_property`. The answer says whether anything changed; the only error is that memory runs out.
     pub fn substitute_method_definition(
         &self,
         alloc: Global,
@@ -227,9 +224,8 @@ impl PeepholeOptimizations {
         mini_syntax::substitute_method_definition(alloc, node)
     }
 
-    /// Of a field of a class a key in brackets loses them where it is a text or a whole number from 0, but where `should_keep_as_computed_property`; another key
-    /// that is a text becomes the name or the number that it writes. The answer says whether anything changed; the only error is that memory
-    /// runs out.
+    /// Shortens the key of a field of a class: `["x"] = a` and `"x" = a` become `x = a`. Brackets stay where
+    /// `should_keep_as_computed_property`. The answer says whether anything changed; the only error is that memory runs out.
     pub fn substitute_property_definition(
         &self,
         alloc: Global,
@@ -254,8 +250,8 @@ impl PeepholeOptimizations {
         mini_syntax::substitute_assignment_target_property(alloc, node)
     }
 
-    /// Of the pattern of a declarator or a `catch` the first key in brackets that is a text or a whole number from 0 loses them. The answer
-    /// says whether there is one; the only error is that memory runs out.
+    /// Drops the brackets of the first key in the pattern of a declarator or a `catch` that is a text or a whole number from 0:
+    /// `let { ["x"]: a } = b` becomes `let { "x": a } = b`. The answer says whether there is one; the only error is that memory runs out.
     pub fn substitute_binding_property(
         &self,
         alloc: Global,
@@ -267,9 +263,9 @@ impl PeepholeOptimizations {
         mini_syntax::substitute_binding_property(alloc, node)
     }
 
-    /// Of what is assigned to a property whose key is the name assigned to becomes the shorthand: `x: x` is `x`, and `x: x = d` is `x = d`
-    /// (ECMA-262, "Destructuring Assignment", AssignmentProperty). The answer says whether it did; the only error is that memory runs
-    /// out, and then the property is fit only to be dropped.
+    /// A property of a pattern that is assigned to becomes the shorthand where its key is the name that is assigned to: `x: x` becomes `x`,
+    /// and `x: x = d` becomes `x = d` (ECMA-262, "Destructuring Assignment", AssignmentProperty). The answer says whether it did; the only
+    /// error is that memory runs out, and then the property is fit only to be dropped.
     pub fn try_compress_assignment_target_property(
         &self,
         alloc: Global,
@@ -294,8 +290,8 @@ impl PeepholeOptimizations {
         mini_switch::minimize_switch_statement(alloc, node)
     }
 
-    /// Of a `switch` over a value that is known one case is left, with the statements that run. The answer says whether others
-    /// went; the only error is that memory runs out.
+    /// A `switch` over a value that is known keeps one case, with the statements that run: `switch (2) { case 1: a(); case 2: b(); }`
+    /// becomes `switch (2) { case 2: b(); }`. The answer says whether cases went; the only error is that memory runs out.
     pub fn drop_unreachable_switch_cases(
         &self,
         alloc: Global,

@@ -19,9 +19,9 @@ use mini_tree::{CompressOptions, Node, OutOfMemory};
 use std::alloc::Global;
 
 impl PeepholeOptimizations {
-    /// Of a block, `let x = a();` becomes `a();`, `let x;` and `let x = 1;` become `;`, and `let x, y = b();` becomes `let y = b();`
-    /// where nothing mentions x, and so do the statements of a function that is declared. The answer says whether one did; the only error
-    /// is that memory runs out.
+    /// Drops or inlines a declaration of a block, or of the body of a function declaration. Where nothing mentions x, `let x = a();`
+    /// becomes `a();`, `let x;` and `let x = 1;` become `;`, and `let x, y = b();` becomes `let y = b();`. The answer says whether a
+    /// declaration changed; the only error is that memory runs out.
     pub fn remove_unused_declaration(
         &self,
         alloc: Global,
@@ -33,8 +33,8 @@ impl PeepholeOptimizations {
         mini_inside::remove_unused_declaration(alloc, node, context)
     }
 
-    /// So do the statements of an arrow function, whose parameters don't mention x either, and those of any other function that stands as an
-    /// expression.
+    /// Drops or inlines a declaration of the body of an arrow function or of another function expression, whose parameters don't mention
+    /// it: `() => { let x = a(); b(); }` becomes `() => { a(); b(); }`.
     pub fn remove_unused_in_arrow(
         &self,
         alloc: Global,
@@ -46,8 +46,9 @@ impl PeepholeOptimizations {
         mini_inside::remove_unused_in_arrow(alloc, node, context)
     }
 
-    /// Of a function that is no arrow function, as `function f(a) { let x = b(); return x + a; }`, whose own name and whose parameters don't
-    /// mention x either, wherever it stands. The answer says whether a name went; the only error is that memory runs out.
+    /// Drops or inlines a declaration of the body of a function that is no arrow function, whose name and parameters don't mention it:
+    /// `function f(a) { let x = b(); return x + a; }` becomes `function f(a) { return b() + a; }`. The answer says whether a name went;
+    /// the only error is that memory runs out.
     pub fn remove_unused_in_function(
         &self,
         alloc: Global,
@@ -59,8 +60,9 @@ impl PeepholeOptimizations {
         mini_inside::remove_unused_in_function(alloc, node, context)
     }
 
-    /// Of a module, as `import "a"; const x = f(); g();`, in which nothing else mentions x, of a static block of a class, of each block of a
-    /// `try`, and of a function that is exported. The answer says whether a name went; the only error is that memory runs out.
+    /// Drops or inlines a declaration of a module, of a static block of a class, of a block of a `try`, or of an exported function:
+    /// `import "a"; const x = f(); g();` becomes `import "a"; f(); g();`. The answer says whether a name went; the only error is that
+    /// memory runs out.
     pub fn remove_unused_in_module(
         &self,
         alloc: Global,
@@ -72,9 +74,9 @@ impl PeepholeOptimizations {
         mini_inside::remove_unused_in_module(alloc, node, context)
     }
 
-    /// Of a list of statements in which no name is unused, with what stands outside of them, `let x = a(); return x + b;` becomes
-    /// `; return a() + b;`, and `let a, x = b(); return x;` becomes `let a; return b();`, as often as there is one. The answer says whether
-    /// there was; the only error is that memory runs out.
+    /// Inlines the names that a list of statements declares and reads once, given what stands outside the list: `let x = a(); return x + b;`
+    /// becomes `; return a() + b;`, and `let a, x = b(); return x;` becomes `let a; return b();`. In the list no name is unused. The answer
+    /// says whether one was inlined; the only error is that memory runs out.
     pub fn substitute_single_use(
         &self,
         alloc: Global,
@@ -109,8 +111,8 @@ impl PeepholeOptimizations {
         mini_unused::should_remove_unused_declarator(outside, list, at, which, context)
     }
 
-    /// Of a list of statements with what stands outside of them, `let x = a(), y = x.b;` becomes `let y = a().b;`, for the first such name; where
-    /// a list stands outside, of a `var` alone. The answer says whether there was one.
+    /// Inlines the first name that a declarator of a list of statements reads and nothing else does: `let x = a(), y = x.b;` becomes
+    /// `let y = a().b;`. Where the list stands further inside a body, only a `var`. The answer says whether there was one.
     pub fn substitute_within(&self, outside: &Node, list: &mut Node, context: &TraverseCtx) -> bool
         requires { is_it_listed list.old ≡ true }
         ensures { Within (open_in outside.now (allowed context.now)) outside.now list.old list.new result }
@@ -126,7 +128,8 @@ impl PeepholeOptimizations {
         mini_unused::remove_unused_name(node, options)
     }
 
-    /// The same of a function alone: `f(function g() {})` becomes `f(function () {})`. What is no function stays.
+    /// A function expression loses its name where nothing in it mentions that and the options let it go: `f(function g() {})` becomes
+    /// `f(function () {})`. Any other expression stays. The answer says whether a name went.
     pub fn try_remove_name_from_functions(&self, node: &mut Node, options: CompressOptions) -> bool
         ensures function { is_function (shape_of node.old) ≡ true → (s : Seat) → AppliedOfRemoveUnusedName (switches_of options) (Expr s) node.old node.new result }
         ensures other { is_function (shape_of node.old) ≡ false → (node.new ≡ node.old) × (result ≡ false) }
@@ -134,7 +137,8 @@ impl PeepholeOptimizations {
         mini_unused::try_remove_name_from_functions(node, options)
     }
 
-    /// The same of a class alone: `f(class C {})` becomes `f(class {})`. What is no class stays.
+    /// A class expression loses its name where nothing in it mentions that and the options let it go: `f(class C {})` becomes
+    /// `f(class {})`. Any other expression stays. The answer says whether a name went.
     pub fn try_remove_name_from_classes(&self, node: &mut Node, options: CompressOptions) -> bool
         ensures class { is_class (shape_of node.old) ≡ true → (s : Seat) → AppliedOfRemoveUnusedName (switches_of options) (Expr s) node.old node.new result }
         ensures other { is_class (shape_of node.old) ≡ false → (node.new ≡ node.old) × (result ≡ false) }

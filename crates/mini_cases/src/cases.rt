@@ -2,6 +2,7 @@
 
 use crate::answer::Answer;
 use crate::depth::{read_deep, write_deep};
+use crate::library::lighter;
 use crate::lists::{change_nodes, change_numbers};
 use crate::literals::{answer_text, join, number_text};
 use crate::memory::{choose, code, run_in_memory, run_on_spaces};
@@ -22,7 +23,11 @@ enum Case {
     Text(TextCase),
     /// A program is read, and asked about.
     Program(Task),
+    /// The library is called as README.md shows it.
+    Lighter,
+    /// What is written of a program reads as that program again.
     Again,
+    /// A program is written.
     Echo,
     /// The weights of what is read are told.
     Weight(Weighed),
@@ -47,13 +52,14 @@ enum NumberCase {
     Nested,
 }
 
-const CASES: [(&str, Case); 27] = [
+const CASES: [(&str, Case); 28] = [
     ("#", Case::Title),
     ("tell", Case::Program(Task::Tell)),
     ("numbers", Case::Program(Task::Numbers)),
     ("sizes", Case::Program(Task::Sizes)),
     ("minify", Case::Program(Task::Minify)),
     ("answer", Case::Program(Task::Answer)),
+    ("lighter", Case::Lighter),
     ("again", Case::Again),
     ("echo", Case::Echo),
     ("expression", Case::Weight(Weighed::Expression)),
@@ -93,6 +99,7 @@ fn answer_case(alloc: Global, case: Case, rest: &str, out: &mut Answer) {
         Case::Title => title(rest, out),
         Case::Text(case) => answer_text(alloc, case, rest, out),
         Case::Program(task) => answer_program(alloc, task, rest, out),
+        Case::Lighter => show_lighter(alloc, rest, out),
         Case::Again => write_again(alloc, rest, out),
         Case::Echo => echo(alloc, rest, out),
         Case::Weight(weighed) => weigh(alloc, weighed, rest, out),
@@ -111,6 +118,13 @@ fn answer_case(alloc: Global, case: Case, rest: &str, out: &mut Answer) {
 fn title(rest: &str, out: &mut Answer) {
     out.text("# ");
     out.text(rest);
+}
+
+fn show_lighter(alloc: Global, json: &str, out: &mut Answer) {
+    match lighter(alloc, json) {
+        Some(program) => out.show(&program),
+        None => out.fail(),
+    }
 }
 
 fn answer_number(alloc: Global, case: NumberCase, text: &str, out: &mut Answer) {

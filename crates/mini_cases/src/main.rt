@@ -2,7 +2,8 @@
 //! compared with what was worked out by hand, or is what acorn gives for some code (`stdin` and `stdout`).
 //!
 //! A line that begins with `#` is a title, and its own answer. Each other one is a word and a value of ESTree as JSON:
-//! `tell` and a depth, `numbers`, `again`, `echo`, `expression`, `statement`, or `minify` or `answer` and a number of passes.
+//! `tell` and a depth, `numbers`, `again`, `echo`, `lighter`, `expression`, `statement`, or `minify` or `answer` and a number of
+//! passes.
 //! The lines of `answer` are those that `bench/cases.js` writes. Or it asks for a whole run over memory (`run` and its like, in
 //! `memory.rt`) or for a part of a library: `text`, `numeral`, `cooked`, `list`, `statements`, `sizes`, `read` and more (`cases.rt`).
 //!
@@ -18,6 +19,7 @@ mod cases;
 mod depth;
 mod echo;
 mod error;
+mod library;
 mod lists;
 mod literals;
 mod memory;

@@ -1,16 +1,21 @@
 // Words and numbers of a line.
 
-/// What is asked of a text.
+/// A question about a text.
 #[derive(Clone, Copy)]
 pub enum TextCase {
+    /// Whether it is an identifier's name.
     Name,
+    /// The text without its last unit, and that unit.
     Shortened,
+    /// The safe number that it is the text of.
     Safe,
+    /// The raw text of a template that cooks to it.
     Escaped,
+    /// The text that it cooks to as the raw text of a template.
     Cooked,
 }
 
-/// What stands beside the text in a table of words.
+/// The value beside a text in a table of words.
 pub fn word_in<A: Copy>(table: &[(&str, A)], text: &str) -> Option<A> {
     match table {
         [] => None,

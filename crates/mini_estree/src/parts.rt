@@ -30,7 +30,9 @@ pub fn down<'v>(step: Step, value: &'v Value) -> Option<&'v Value>
 /// A child, as one part or as a list.
 #[derive(Clone, Copy)]
 pub enum Form<'v> {
+    /// One part.
     One(Part),
+    /// A list: how its items are read, the field that holds it, and the values of the items.
     Many(Items, &'static str, &'v [Value]),
 }
 

@@ -17,7 +17,9 @@ use std::alloc::Global;
 /// The tree of a program, and how many of its nodes have a number.
 #[derive(Drop)]
 pub struct Numbered {
+    /// The tree.
     pub root: Node,
+    /// How many of its nodes have a number, the program among them.
     pub numbers: u32,
 }
 

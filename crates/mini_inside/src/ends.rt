@@ -173,6 +173,7 @@ fn remove_here(
 /// Rows 71 and 72, over the names that can be written and the options.
 #[derive(Drop)]
 pub struct UnusedEnds<'a> {
+    /// Which names can be written, and the options.
     pub context: &'a TraverseCtx,
 }
 

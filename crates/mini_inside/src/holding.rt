@@ -293,8 +293,8 @@ pub fn has_statements(node: &Node) -> bool
         && are_statements(node.child(1))
 }
 
-/// So do the statements of an arrow function, whose parameters don't mention x either, and those of any other function that stands as an
-/// expression.
+/// Drops or inlines a declaration of the body of an arrow function or of another function expression, whose parameters don't mention it:
+/// `() => { let x = a(); b(); }` becomes `() => { a(); b(); }`.
 #[tactic(auto, using(mini_unused::proofs::Unused::same_parts, mini_unused::proofs::Unused::part_twice))]
 pub fn remove_unused_in_arrow(
     alloc: Global,

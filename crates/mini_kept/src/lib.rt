@@ -43,7 +43,7 @@ pub fn rows_keep_names()
     ensures { RowsKeepNames }
 {}
 
-/// So do any number of rewrites at any places of a program.
+/// Any number of rewrites at any places of a program keep its names, symbols and numbers, and it has no early error if it had none.
 pub fn rewriting_keeps_names()
     ensures { ReachesKeepsNames }
 {}
@@ -139,8 +139,8 @@ pub fn loose_rules_join<R: Rewrites, S: Rewrites>()
     ensures wider { LooseWider R.gives }
 {}
 
-/// So do those of a relation that rests on it that some names are steady in some bodies, that is, that no answer changes them while such a
-/// body runs: then each body of the later program runs as before where these are. What is loosely lawful is so, whichever are steady.
+/// Any number of steps keep all of a program, too, where the relation rests on it that some names are steady in some bodies, that is, that
+/// no answer changes them while such a body runs: then each body of the later program runs as before where these are. What is loosely lawful is so, whichever are steady.
 pub fn steady_rewriting_keeps<R: Rewrites>()
     ensures keeps { SteadilyKeeps R.gives }
     ensures loose { LooseIsSteady R.gives }
@@ -153,8 +153,8 @@ pub fn steady_rules_join<R: Rewrites, S: Rewrites>()
     ensures wider { SteadyWider R.gives }
 {}
 
-/// So do those of a relation that may give a whole program other statements by what is known of its body: no node asks a program, so that
-/// it has to keep no meaning at a place. What is lawful at each node is so.
+/// Any number of steps keep all of a program, too, where the relation may give a whole program other statements by what is known of its
+/// body: no node asks a program, so that it has to keep no meaning at a place. What is lawful at each node is so.
 pub fn rooted_rewriting_keeps<R: Rewrites>()
     ensures keeps { RootedKeeps R.gives }
     ensures steady { SteadyIsRooted R.gives }

@@ -210,7 +210,7 @@ fn copied_shape(alloc: Global, shape: &Shape) -> Result<Shape, OutOfMemory>
     }
 }
 
-/// The same tree once more. The only error is that memory runs out.
+/// A copy of a tree. The only error is that memory runs out.
 #[cycle(copies)]
 pub fn copied(alloc: Global, node: &Node) -> Result<Node, OutOfMemory>
     ensures { IfOk result (λ copy. copy ≡ node.now) }

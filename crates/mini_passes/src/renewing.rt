@@ -15,7 +15,7 @@ pub trait Renews: Context {
     /// That what is known of the bodies of one program is known of those of another.
     ghost stays: { Tree → Tree → Type 0 };
 
-    /// So it is from program to program.
+    /// If it stays from one program to a second and from that to a third, it stays from the first to the third.
     ghost goes_on: { (p q r : Tree) → stays p q → stays q r → stays p r };
 
     /// Looks at a program, and then knows it. True says that what was known stays so. The only error is that memory runs out, and then

@@ -15,7 +15,9 @@ use mini_unused::may_move;
 /// What is known at the place of a scope in the code of a body, of whichever number it is asked; of such a scope no `var` goes.
 #[derive(Drop)]
 pub struct CodeNames<'a, S: SteadyNames> {
+    /// What is known of all bodies.
     pub names: &'a S,
+    /// The body, and the symbols that are declared in its code and before the place.
     pub code: &'a BodyCode,
 }
 

@@ -165,6 +165,7 @@ fn substitute_past_alone<S: PastNames>(
 /// Row 71 past steady names at the ends of ways further inside a body.
 #[derive(Drop)]
 pub struct PastEnds<'a, S: PastNames> {
+    /// Which names are steady in each body, and which can be written.
     pub steady: &'a S,
 }
 

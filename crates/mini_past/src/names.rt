@@ -62,7 +62,7 @@ pub trait PastContext: SteadyContext + PastNames {
     /// Of options and a program, the variables that can be written in it, and what the minifier may do.
     ghost lets_in: { CompressOptions → Tree → Liberties };
 
-    /// It tells those of the program that it knows.
+    /// What the context tells of what can be written and done is that of the program that it knows, under its options.
     ghost says: { (c : Self) (o : CompressOptions) (q : Tree) → Self.knows c o q → Self.lets c ≡ lets_in o q };
 }
 

@@ -266,7 +266,7 @@ fn passes_any_item<S: SteadyNames>(
     }
 }
 
-/// So may what stands before the read, in a node of such a shape.
+/// Whether the initializer may go past what stands before the read in a node of this shape.
 pub fn passes_any_at<S: SteadyNames>(
     gathered: Gathered,
     init: &Node,

@@ -63,7 +63,7 @@ fn holds_arrow(place: Position) -> bool
     matches!(place, Position::Expr(_))
 }
 
-/// The same of each arrow function with statements.
+/// Row 71 past steady names as a rule: of each arrow function with statements.
 pub struct SubstitutePastArrows;
 
 impl<C: PastContext> Rule<C> for SubstitutePastArrows {
@@ -94,7 +94,7 @@ fn holds_program(place: Position) -> bool
     matches!(place, Position::Elsewhere)
 }
 
-/// The same of a module.
+/// Row 71 past steady names as a rule: of a module.
 pub struct SubstitutePastModules;
 
 impl<C: PastContext> Rule<C> for SubstitutePastModules {
@@ -118,7 +118,7 @@ impl<C: PastContext> Rule<C> for SubstitutePastModules {
     }
 }
 
-/// The same of a static block.
+/// Row 71 past steady names as a rule: of each static block.
 pub struct SubstitutePastStatics;
 
 impl<C: PastContext> Rule<C> for SubstitutePastStatics {

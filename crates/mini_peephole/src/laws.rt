@@ -11,8 +11,8 @@ pub fn lawful_passes_are_faithful<C: Context, R: Rule<C>>()
     ensures { LawfulPassesFaithful R.gives R.rests }
 {}
 
-/// So do passes of a rule whose steps rest on it that names are steady in a body, where those are steady in the last program that were so
-/// as any of the passes began.
+/// Passes of a rule whose steps rest on facts about a body, as that no answer of the outside changes some names while it runs, give a
+/// faithful answer too, where the facts of each program at which a pass began are facts of the last program.
 pub fn steady_passes_are_faithful<C: Context, R: Rule<C>>()
     ensures { SteadyPassesFaithful R.gives R.rests }
 {}

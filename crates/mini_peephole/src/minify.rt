@@ -43,7 +43,7 @@ use mini_writer::write_program;
 use serde_json::Value;
 use std::alloc::Global;
 
-/// What the minifier answers.
+/// The answer of the minifier to a program.
 #[derive(Drop)]
 pub struct Minified {
     /// The lighter program, as ESTree.
@@ -61,11 +61,14 @@ pub struct Minified {
     pub steady: bool,
 }
 
-// An answer, and what its program weighed before and after.
+/// An answer, and what its program weighs before and after.
 #[derive(Drop)]
 pub struct Weighed {
+    /// The answer.
     pub minified: Minified,
+    /// What the input weighs, each name with its symbol.
     pub before: u64,
+    /// What the program of the answer weighs.
     pub after: u64,
 }
 
@@ -411,7 +414,8 @@ pub fn minify_estree(
     minify_read(alloc, read, options)
 }
 
-/// The same of a value that is given away: it is let go as soon as it is read, so that all that comes after has its memory.
+/// Minifies a value that is given away, as `minify_estree` minifies one that is borrowed. It is dropped as soon as it is read, so that all
+/// that comes after has its memory.
 #[tactic(auto, using(crate::proofs::Refused::refused_by_table))]
 pub fn minify_value(
     alloc: Global,

@@ -23,17 +23,17 @@ use std::sync::ledger::{Blank, Ledger};
 pub enum Status {
     /// The whole answer was written.
     Done,
-    /// The words are none that a run takes.
+    /// A word is none that a run takes, or stands twice.
     BadWords,
-    /// The bytes are no JSON.
+    /// The bytes are no UTF-8 or no JSON, or nest too deep.
     NotJson,
-    /// The program has a defect, or a form that isn't read.
+    /// The JSON is no program that is read, or one with an early error.
     Refused,
     /// The source failed.
     ReadFault,
     /// The sink failed.
     WriteFault,
-    /// The source gave too many bytes.
+    /// The source gave more than 16,777,216 bytes.
     TooLong,
     /// No memory was left.
     OutOfMemory,
@@ -57,7 +57,7 @@ impl Status {
     }
 }
 
-/// What a whole input comes to.
+/// The outcome of a whole input: its answer's text, or why there is none.
 #[derive(Drop)]
 pub enum Outcome {
     /// The answer's text.

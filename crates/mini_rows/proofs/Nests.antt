@@ -8,7 +8,7 @@ use Rattle.mini_model.specs.declared.operator.LogicalOperator.TheVariants.{Or, A
 use Rattle.mini_model.specs.declared.operator.UnaryOperator.TheVariants.{LogicalNot}
 use Rattle.mini_model.specs.declared.shape.Shape.{Shape}
 use Rattle.mini_model.specs.declared.shape.Shape.TheVariants as shape
-use Rattle.mini_model.specs.Tree.{Tree, Trees, node, none, ◌▸◌, children, count, child_or_absent, node_count, node_counts, absent, is_absent, listed, if_else, if_alone, conditional, negation, logical}
+use Rattle.mini_model.specs.Tree.{Tree, Trees, node, none, ◌▸◌, children, count, child_or_absent, node_count, node_counts, absent, is_absent, if_else, if_alone, conditional, negation, logical}
 use Rattle.mini_model.specs.Paths.{append}
 use Rattle.mini_node.specs.Children.{rest_children}
 use Rattle.mini_node.specs.Walks.{from_first, next_child, no_rest}

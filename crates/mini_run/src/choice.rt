@@ -8,7 +8,7 @@ ghost use Rattle.mini_run.specs.declared.choice.Choice.{Choice};
 use crate::words::Words;
 use mini_tree::{CompressOptions, KeepNames};
 
-/// What one word chooses.
+/// The choice that one word of the command line makes.
 #[derive(Clone, Copy, PartialEq, Eq, Debug)]
 pub enum Choice {
     /// `--no-sequences`
@@ -31,7 +31,7 @@ pub enum Choice {
     Generate(u32),
 }
 
-/// What good words ask for.
+/// The orders that good words give.
 #[derive(Clone, Copy)]
 pub struct Orders {
     /// The options of the minifier.

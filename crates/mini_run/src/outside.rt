@@ -13,7 +13,7 @@ use std::sync::ledger::Ledger;
 #[derive(Clone, Copy)]
 pub struct Failed;
 
-/// What gives bytes.
+/// A source of bytes, such as standard input.
 pub trait Source {
     // the bytes still to come, where it tells them
     ghost left: { Self → Option (List ℕ) };
@@ -28,7 +28,7 @@ pub trait Source {
         ensures cause { HasCause (faults self.old) (faults self.new) result };
 }
 
-/// What takes bytes.
+/// A sink of bytes, such as standard output.
 pub trait Sink {
     // the bytes that it took, where it tells them
     ghost written: { Self → Option (List ℕ) };

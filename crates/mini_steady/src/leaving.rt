@@ -74,7 +74,7 @@ fn leaves_name(name: &Option<Name>, node: &Node) -> bool
     }
 }
 
-/// The same of the object, if it is one.
+/// Whether a node neither declares nor writes the object, a name that a scope declares; an object that is no name is left alone by every node.
 pub fn leaves_object(object: &Node, node: &Node) -> bool
     ensures { result ≡ row.leaves_object object.now node.now }
 {

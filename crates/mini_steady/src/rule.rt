@@ -32,10 +32,10 @@ pub trait SteadyContext: Context + SteadyNames {
     /// Of a program, by the number of a body, what is known of it.
     ghost steady: { Tree → BodySets };
 
-    /// It tells that of the program that it knows.
+    /// What the context tells of bodies is that of the program that it knows.
     ghost told: { (c : Self) (o : CompressOptions) (q : Tree) → Self.knows c o q → Self.sets c ≡ steady q };
 
-    /// And its options are what it says that the minifier may do.
+    /// What the context says that the minifier may do are its options.
     ghost ordered: { (c : Self) (o : CompressOptions) (q : Tree) → Self.knows c o q → Self.orders c ≡ o };
 }
 
@@ -60,9 +60,9 @@ fn holds_function(place: Position) -> bool
     )
 }
 
-/// Rows of the own code of a body as a rule: of each function that is no arrow function. Its context says what is known of its body.
+/// The rule that makes a family of rows in the own code of each function that is no arrow function. The context says what is known of its body.
 pub struct InFunctions<W> {
-    /// Whose rows they are.
+    /// The family of rows.
     pub rewrites: W,
 }
 
@@ -94,9 +94,9 @@ fn holds_arrow(place: Position) -> bool
     matches!(place, Position::Expr(_))
 }
 
-/// The same of each arrow function.
+/// The rule that makes a family of rows in the own code of each arrow function.
 pub struct InArrows<W> {
-    /// Whose rows they are.
+    /// The family of rows.
     pub rewrites: W,
 }
 
@@ -128,9 +128,9 @@ fn holds_program(place: Position) -> bool
     matches!(place, Position::Elsewhere)
 }
 
-/// The same of the program itself.
+/// The rule that makes a family of rows in the own code of the program.
 pub struct InPrograms<W> {
-    /// Whose rows they are.
+    /// The family of rows.
     pub rewrites: W,
 }
 
@@ -155,9 +155,9 @@ impl<C: SteadyContext, W: OwnRewrites<C>> Rule<C> for InPrograms<W> {
     }
 }
 
-/// The same of static blocks and of inner expressions, as the values of fields, wherever they stand.
+/// The rule that makes a family of rows in the own code of each static block and each inner expression, such as the value of a field.
 pub struct InParts<W> {
-    /// Whose rows they are.
+    /// The family of rows.
     pub rewrites: W,
 }
 

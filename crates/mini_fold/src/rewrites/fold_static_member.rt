@@ -151,7 +151,7 @@ fn asks_computed(node: &Node, seat: Seat) -> bool
     is_computed_member(node) && says_length(node.child(1)) && takes_length(seat)
 }
 
-/// The same in brackets: `"abc"["length"]` becomes `3`. The answer says whether it did.
+/// The length of a text that is read with a key in brackets becomes a number: `"abc"["length"]` becomes `3`. The answer says whether it did.
 pub fn fold_computed_member_expr(alloc: Global, node: &mut Node, seat: Seat) -> bool
     ensures tree { node.new ≡ unwrap_or (computed_written seat node.old) node.old }
     ensures said { result ≡ is_some (computed_written seat node.old) }

@@ -47,7 +47,7 @@ fn is_idle_end(node: &Node) -> bool
     goes_on(node) || ends_going(node)
 }
 
-/// Those before the last one.
+/// Drops the last statement of a list.
 #[tactic(auto, using(crate::proofs::LastContinue::popped, crate::proofs::LastContinue::none_popped))]
 pub fn drop_last(statements: &mut Nodes)
     ensures { statements.new ≡ before_last statements.old }

@@ -71,10 +71,12 @@ pub fn substitute_property_key(alloc: Global, node: &mut Node) -> bool
     respell(alloc, node.children_mut().child_mut(0))
 }
 
-/// What of a class has a key: a method (an accessor among them) or a field.
+/// A part of a class that has a key.
 #[derive(Clone, Copy)]
 pub enum ClassPropertyKeyParentType {
+    /// A method or an accessor.
     MethodDefinition,
+    /// A field.
     PropertyDefinition,
 }
 
@@ -87,7 +89,9 @@ fn is_method(kind: ClassPropertyKeyParentType) -> bool
 /// A method or a field of a class, and whether it is static.
 #[derive(Clone, Copy)]
 pub struct ClassPropertyKeyParent {
+    /// Whether it is a method or a field.
     pub kind: ClassPropertyKeyParentType,
+    /// Whether it is static.
     pub is_static: bool,
 }
 
