@@ -1,15 +1,17 @@
 // Sends every JavaScript file below some folders through the package js/, and counts what came of it.
 //
-//     node --expose-internals bench/census.js [--no-adapt] [--part=K/N] [--most=BYTES] [--log=FILE] [FOLDER..]
+//     node --expose-internals bench/census.js [--no-adapt] [--print] [--part=K/N] [--most=BYTES] [--log=FILE] [FOLDER..]
 //
 // The folders are those of Debian's node packages unless they are given. Files of the same text count once; `--part=2/4` takes the
 // second of four parts of them, `--most` leaves out longer ones, and `--log` writes a line of JSON for each. What is told: how
 // many files and bytes the parser reads, how many are answered, refused by cause, or printed as another program; the bytes of
-// those that are answered as they were, printed without a rewrite, and minified; the passes.
+// those that are answered as they were, printed without a rewrite, and minified; the passes. With `--print` nothing is rewritten: each
+// file is only printed and compared, which is quick and wants no program.
 "use strict";
 const crypto = require("crypto");
 const fs = require("fs");
 const { minify } = require("../js");
+const { difference, placeOf } = require("../js/src/guard.js");
 const { parse } = require("../js/src/parser.js");
 const { print } = require("../js/src/print.js");
 const { filesBelow } = require("./pieces.js");
@@ -17,11 +19,12 @@ const { filesBelow } = require("./pieces.js");
 const FOLDERS = ["/usr/share/nodejs", "/usr/share/javascript"];
 
 function readWords(words) {
-  const asked = { adapt: true, part: 1, parts: 1, most: Infinity, log: null, folders: [] };
+  const asked = { adapt: true, print: false, part: 1, parts: 1, most: Infinity, log: null, folders: [] };
   for (const word of words) {
     const [, name, value] = /^--([a-z-]+)(?:=(.*))?$/.exec(word) ?? [];
     if (name === undefined) asked.folders.push(word);
     else if (name === "no-adapt") asked.adapt = false;
+    else if (name === "print") asked.print = true;
     else if (name === "part") [asked.part, asked.parts] = value.split("/").map(Number);
     else if (name === "most") asked.most = Number(value);
     else if (name === "log") asked.log = fs.openSync(value, "w");
@@ -48,6 +51,23 @@ function* distinct({ folders, most }) {
 // What the printer makes of a file that nothing rewrites.
 const printedBytes = (code) => Buffer.byteLength(print(parse(code).ast));
 
+// Prints a file as it is; gives what is wrong with the text, as `minify` would.
+function printAlone(code, module) {
+  const { ast } = parse(code, { module });
+  const text = print(ast);
+  const found = difference(ast, parse(text, { module: ast.sourceType === "module" }).ast);
+  if (found) return { refused: { code: "Guard", message: placeOf(found), line: null, column: null }, stats: {} };
+  return { refused: null, stats: { bytesAfter: Buffer.byteLength(text), passes: 0, settled: true } };
+}
+
+function printed(code, { module }) {
+  try {
+    return printAlone(code, module);
+  } catch (refused) {
+    return { refused, stats: {} };
+  }
+}
+
 // What a file came to: a cause without the parts of it that differ from file to file.
 function causeOf({ code, message }) {
   return `${code}: ${message.replace(/ (of )?\d[\d.e+,]*/g, " N").replace(/'[^']*'/g, "'..'")}`;
@@ -72,10 +92,10 @@ class Census {
   }
 
   // Counts a file; gives what is logged of it.
-  take({ file, code }, adapt) {
+  take({ file, code }, { adapt, print: isPrintOnly }) {
     const bytes = Buffer.byteLength(code);
     const module = file.endsWith(".mjs") ? true : undefined;
-    const { refused, stats } = minify(code, { adapt, module });
+    const { refused, stats } = (isPrintOnly ? printed : minify)(code, { adapt, module });
     if (refused?.code === "Syntax") add(this.unread, bytes);
     else add(this.read, bytes);
     if (!refused) this.answer(code, bytes, stats);
@@ -120,7 +140,7 @@ function main() {
   for (const item of distinct(asked)) {
     at += 1;
     if (at % asked.parts !== asked.part % asked.parts) continue;
-    const line = census.take(item, asked.adapt);
+    const line = census.take(item, asked);
     if (asked.log !== null) fs.writeSync(asked.log, `${JSON.stringify(line)}\n`);
   }
   console.log(census.lines().join("\n"));

@@ -8,6 +8,7 @@
  * node;
  * - `NotJson`, `TooLong`, `OutOfMemory`, `ReadFault`, `WriteFault`, `BadWords`: its other statuses;
  * - `NoProgram`: the program isn't there, or was ended;
+ * - `NoParser`: the parser isn't there;
  * - `Adapter`: what the adapter wrote in place of a form did not come back as it must;
  * - `Guard`: what was printed is another program than what was answered.
  *

@@ -12,7 +12,8 @@ function found() {
       if (error.code !== "MODULE_NOT_FOUND") throw error;
     }
   }
-  throw new Error(
+  throw new Refusal(
+    "NoParser",
     "acorn, the parser, isn't here: run `npm install` in js/, or name the folder that has it in " +
       "NODE_PATH, or use the one inside node by `node --expose-internals`",
   );

@@ -158,6 +158,14 @@ test("a wrong call ends with 2", () => {
   }
 });
 
+test("so does one where the parser isn't there", () => {
+  const options = { cwd: folder, input: "a", encoding: "utf8", env: { ...process.env, NODE_PATH: "" } };
+  const isThere = spawnSync(process.execPath, ["-e", "require('acorn')"], { ...options, cwd: __dirname }).status === 0;
+  const { status, stderr } = spawnSync(process.execPath, [COMMAND], options);
+  assert.equal(status, isThere ? 0 : 2);
+  assert.equal(stderr.startsWith("acorn, the parser, isn't here: run `npm install` in js/"), !isThere);
+});
+
 test("MINI_APP names the program", () => {
   const { status, said } = run([], "a", { MINI_APP: "/none" });
   assert.equal(status, 2);

@@ -50,7 +50,7 @@ goes to standard output; of several files, OUT is a folder. A file that is refus
   --program PATH          the proved program (else MINI_APP, else crates/mini_app/out/mini_app)
 
 It ends with status 0; with 1 where a file is refused and --strict is there; with 2 where the call
-is wrong, a file can't be read or written, or the program isn't there.
+is wrong, a file can't be read or written, or the program or the parser isn't there.
 `;
 
 function numberOf(word, value) {

@@ -14,7 +14,7 @@ const STANDARD_INPUT = 0;
 const FEW = 3;
 
 // Refusals that no file is to blame for.
-const FAULTS = new Set(["NoProgram", "BadWords"]);
+const FAULTS = new Set(["NoProgram", "NoParser", "BadWords"]);
 
 function read(file) {
   try {
