@@ -5,15 +5,19 @@
 //
 // PROGRAM is crates/mini_app/out/mini_app of this repository unless it is given: `rt run` in crates/mini_app makes it. COUNT
 // scripts (200) are generated (generate.js), and as many pieces of installed code are taken that something is rewritten in
-// (pieces.js). Each is run three times, with an outside that answers otherwise each time.
+// (pieces.js). Each is run six times, with an outside that answers otherwise each time: three times one that has every name, and
+// three times one that lacks some of them.
 //
 // Every name that a script doesn't declare is the outside's: writing one, calling, and what is done to the objects that it hands
 // out, is an event with its operands. It calls the functions that it is handed, and those that a script
 // declares. A run ends by itself, by a throw, or after EVENTS events. The events must be the same in order, and how it ends.
+// A name that the outside lacks is absent: node throws a ReferenceError where it is read, and where strict code writes it; sloppy
+// code that writes it adds it to the global object, and each event shows what was added so.
 // The outside answers by what was asked before, so that two runs part no sooner than their events do. The text of a function is
 // the same for all, since it is of the source alone.
 "use strict";
 const vm = require("vm");
+const { isNativeError } = require("util").types;
 const { words, run } = require("./built.js");
 const { isOutside, isUnread, parse } = require("./estree.js");
 const { chosenPieces } = require("./pieces.js");
@@ -24,15 +28,29 @@ const { program, count, seed } = words(200);
 const EVENTS = 400;
 const SECONDS = 2;
 const OWN = ["undefined", "NaN", "Infinity", "arguments", "eval"];
+const GIVEN = ["names", "self", "judge"];
+// An outside answers by its salt, and lacks none of the names or one in so many.
+const OUTSIDES = [
+  { salt: 1, lacks: 0 },
+  { salt: 2, lacks: 0 },
+  { salt: 3, lacks: 0 },
+  { salt: 4, lacks: 3 },
+  { salt: 5, lacks: 5 },
+  { salt: 6, lacks: 8 },
+];
 
 // ---- the outside
 
 class CutOff extends Error {}
 
 class Outside {
-  constructor(seed) {
+  constructor(seed, lacks) {
     this.events = [];
     this.state = seed;
+    this.seed = seed;
+    this.lacks = lacks;
+    this.context = vm.createContext({ names: this.names(), self: null, judge: (value) => this.enter(value) });
+    this.builtIn = new Set(vm.runInContext("Object.getOwnPropertyNames(globalThis)", this.context));
     this.labels = new WeakMap();
     this.depth = 0;
   }
@@ -44,7 +62,7 @@ class Outside {
   }
 
   record(...event) {
-    const text = event.map((part) => this.told(part)).join(" ");
+    const text = [...event.map((part) => this.told(part)), ...this.added()].join(" ");
     for (const unit of text) this.state = (Math.imul(this.state, 31) + unit.codePointAt(0)) >>> 0;
     this.events.push(text);
     if (this.events.length >= EVENTS) throw new CutOff();
@@ -54,7 +72,7 @@ class Outside {
   told(value) {
     if (this.labels.has(Object(value))) return this.labels.get(Object(value));
     if (Array.isArray(value)) return `[${value.map((part) => this.told(part)).join(" ")}]`;
-    if (typeof value === "object" && value !== null) return value instanceof Error ? value.name : "object";
+    if (typeof value === "object" && value !== null) return isNativeError(value) ? value.name : "object";
     if (typeof value === "function") return "function";
     return typeof value === "string" ? JSON.stringify(value) : String(value);
   }
@@ -140,12 +158,26 @@ class Outside {
     this.record("threw", error);
   }
 
+  // Whether a name is absent, by its text and the seed.
+  isAbsent(name) {
+    if (this.lacks === 0 || this.builtIn.has(name)) return false;
+    let mixed = this.seed;
+    for (const unit of name) mixed = Math.imul(mixed ^ unit.codePointAt(0), 0x01000193) >>> 0;
+    return (mixed >>> 4) % this.lacks === 0;
+  }
+
+  // The absent names that sloppy code has added to the global object, with what they hold.
+  added() {
+    const names = Object.keys(this.context).filter((name) => !GIVEN.includes(name));
+    return names.sort().map((name) => `${name}=${this.told(this.context[name])}`);
+  }
+
   // The names of the outside, as the object of a `with`. That one is read is no event, since no accessor stands on the global
   // object (docs/MODEL.md); what it holds is another object after each event, so that it is seen where a read moves past one.
   names() {
     const values = new Map();
     return new Proxy(Object.create(null), {
-      has: (_, key) => typeof key === "string" && !OWN.includes(key) && key !== "judge",
+      has: (_, key) => typeof key === "string" && !OWN.includes(key) && key !== "judge" && !this.isAbsent(key),
       get: (_, key) => {
         if (key === Symbol.unscopables) return undefined;
         const held = values.get(key);
@@ -183,16 +215,19 @@ function textOf(tree) {
 }
 
 // The events of a run, and how it ended.
-function eventsOf(tree, seed) {
-  const outside = new Outside(seed);
-  const context = vm.createContext({ names: outside.names(), self: outside.object("this"), judge: (value) => outside.enter(value) });
+function eventsOf(tree, seed, lacks) {
+  const outside = new Outside(seed, lacks);
+  const { context } = outside;
+  context.self = outside.object("this");
   vm.runInContext('Function.prototype.toString = () => "function";', context);
   try {
     vm.runInContext(textOf(tree), context, { timeout: SECONDS * 1000, displayErrors: false });
-    outside.events.push("ended");
+    outside.events.push(["ended", ...outside.added()].join(" "));
   } catch (error) {
     if (error && /timed out/.test(String(error.message))) return null;
-    if (!(error instanceof CutOff)) outside.events.push(`threw ${error && error.name ? error.name : outside.told(error)}`);
+    if (error instanceof CutOff) return outside.events;
+    const thrown = error && error.name ? error.name : outside.told(error);
+    outside.events.push(["threw", thrown, ...outside.added()].join(" "));
   }
   return outside.events;
 }
@@ -205,17 +240,18 @@ function minified(tree) {
 
 // ---- all of them
 
-const total = { scripts: 0, changed: 0, runs: 0, events: 0, "too long": 0, wrong: 0 };
+const total = { scripts: 0, changed: 0, runs: 0, events: 0, "ended by an absent name": 0, "too long": 0, wrong: 0 };
 
 function compare(before, after) {
-  for (const salt of [1, 2, 3]) {
-    const [first, second] = [before, after].map((tree) => eventsOf(tree, seed * 1000 + salt));
+  for (const { salt, lacks } of OUTSIDES) {
+    const [first, second] = [before, after].map((tree) => eventsOf(tree, seed * 1000 + salt, lacks));
     total.runs += 1;
     if (first === null || second === null) {
       total["too long"] += 1;
       continue;
     }
     total.events += first.length;
+    total["ended by an absent name"] += lacks > 0 && /^threw ReferenceError/.test(first.at(-1)) ? 1 : 0;
     if (first.join("\n") === second.join("\n")) continue;
     total.wrong += 1;
     const at = first.findIndex((event, index) => event !== second[index]);

@@ -79,15 +79,24 @@ function chances(seed) {
   };
 }
 
-// So many of the pieces, chosen by a seed, each with the name of its package.
-function chosenPieces(count, seed) {
-  const pieces = allPieces();
+// So many of a list, chosen by a seed.
+function chosen(list, count, seed) {
   const chance = chances(seed);
-  for (let at = pieces.length - 1; at > 0; at--) {
+  for (let at = list.length - 1; at > 0; at--) {
     const other = chance(at + 1);
-    [pieces[at], pieces[other]] = [pieces[other], pieces[at]];
+    [list[at], list[other]] = [list[other], list[at]];
   }
-  return pieces.slice(0, count);
+  return list.slice(0, count);
 }
 
-module.exports = { chances, chosenPieces };
+// So many of the pieces, each with the name of its package.
+const chosenPieces = (count, seed) => chosen(allPieces(), count, seed);
+
+// The texts of whole files of at least and at most so many units, in an order that a seed chooses, each with the name of its package.
+function chosenFiles(least, most, seed) {
+  const found = new Map();
+  for (const [from, text] of sources()) if (text?.length >= least && text.length <= most) found.set(text, from);
+  return chosen([...found].map(([text, from]) => [from, text]), found.size, seed);
+}
+
+module.exports = { chances, chosenFiles, chosenPieces, filesBelow };

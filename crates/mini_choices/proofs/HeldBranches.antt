@@ -15,6 +15,7 @@ use Rattle.mini_node.specs.Kinds.{sequence, is_logical, is_conditional, is_seque
 use Rattle.mini_node.specs.Made.{and_is, or_is, conditional_is, sequence_is}
 use Rattle.mini_node.proofs.Equality.{tree_same, tree_itself}
 use Rattle.mini_rows.specs.Choices.{pair, HeldRow, ChoiceContracts}
+use Rattle.mini_rows.specs.Nesting.{may_join}
 use Rattle.mini_choices.specs.MinimizeConditionalBranches.{is_lighter}
 use Rattle.mini_choices.specs.MinimizeHeldBranches as held
 use Rattle.mini_choices.specs.MinimizeHeldBranches.{item}
@@ -57,15 +58,17 @@ module _ (s : Seat) (n : Tree) (chooses : is_conditional n ≡ true) where
 
   consequent_chosen_row : held.is_consequent_chosen s n ≡ true → Contracts (held.consequent_chosen n)
   consequent_chosen_row h =
-      let (reads, less) = and_parts (held.chooses (part n 1) 2 (part n 2)) (is_lighter s (held.consequent_chosen n) n) h in
+      let (chosen, shallow) = and_parts (held.chooses (part n 1) 2 (part n 2) && is_lighter s (held.consequent_chosen n) n) (may_join (part n 0) (part (part n 1) 0)) h in
+      let (reads, less) = and_parts (held.chooses (part n 1) 2 (part n 2)) (is_lighter s (held.consequent_chosen n) n) chosen in
       let (kind, same) = and_parts (is_conditional (part n 1)) (same_tree (part (part n 1) 2) (part n 2)) reads in
-      weighed (held.consequent_chosen n) (inl (record { a = part n 0; b = part (part n 1) 0; c = part (part n 1) 1; d = part n 2; shape = consequent_is (conditional (part (part n 1) 0) (part (part n 1) 1) (part n 2)) (conditional_is (part n 1) kind ∙ ap (conditional (part (part n 1) 0) (part (part n 1) 1)) (tree_same (part (part n 1) 2) (part n 2) same)); written = refl })) less
+      weighed (held.consequent_chosen n) (inl (record { a = part n 0; b = part (part n 1) 0; c = part (part n 1) 1; d = part n 2; shallow = shallow; shape = consequent_is (conditional (part (part n 1) 0) (part (part n 1) 1) (part n 2)) (conditional_is (part n 1) kind ∙ ap (conditional (part (part n 1) 0) (part (part n 1) 1)) (tree_same (part (part n 1) 2) (part n 2) same)); written = refl })) less
 
   alternate_chosen_row : held.is_alternate_chosen s n ≡ true → Contracts (held.alternate_chosen n)
   alternate_chosen_row h =
-      let (reads, less) = and_parts (held.chooses (part n 2) 1 (part n 1)) (is_lighter s (held.alternate_chosen n) n) h in
+      let (chosen, shallow) = and_parts (held.chooses (part n 2) 1 (part n 1) && is_lighter s (held.alternate_chosen n) n) (may_join (part n 0) (part (part n 2) 0)) h in
+      let (reads, less) = and_parts (held.chooses (part n 2) 1 (part n 1)) (is_lighter s (held.alternate_chosen n) n) chosen in
       let (kind, same) = and_parts (is_conditional (part n 2)) (same_tree (part (part n 2) 1) (part n 1)) reads in
-      weighed (held.alternate_chosen n) (inr (inl (record { a = part n 0; b = part (part n 2) 0; c = part n 1; d = part (part n 2) 2; shape = alternate_is (conditional (part (part n 2) 0) (part n 1) (part (part n 2) 2)) (conditional_is (part n 2) kind ∙ ap (λ t. conditional (part (part n 2) 0) t (part (part n 2) 2)) (tree_same (part (part n 2) 1) (part n 1) same)); written = refl }))) less
+      weighed (held.alternate_chosen n) (inr (inl (record { a = part n 0; b = part (part n 2) 0; c = part n 1; d = part (part n 2) 2; shallow = shallow; shape = alternate_is (conditional (part (part n 2) 0) (part n 1) (part (part n 2) 2)) (conditional_is (part n 2) kind ∙ ap (λ t. conditional (part (part n 2) 0) t (part (part n 2) 2)) (tree_same (part (part n 2) 1) (part n 1) same)); written = refl }))) less
 
   consequent_decided_row : held.is_consequent_decided s n ≡ true → Contracts (held.consequent_decided n)
   consequent_decided_row h =
@@ -166,10 +169,10 @@ module _ (s : Seat) (n w : Tree) (small : weight (Expr s) n < 2 ^ 64) (less : we
   pub held_passes : HeldRow n w → is_some (held.written s n) ≡ true
   held_passes (inl r) =
       let t : Tree = conditional r.a (conditional r.b r.c r.d) r.d in
-      ap (λ t. is_some (held.written s t)) r.shape ∙ by_consequent_chosen s t (held_passes_as t (held.consequent_chosen t) r.d r.shape r.written)
+      ap (λ t. is_some (held.written s t)) r.shape ∙ by_consequent_chosen s t (both_true (same_tree r.d r.d && is_lighter s (held.consequent_chosen t) t) (may_join r.a r.b) (held_passes_as t (held.consequent_chosen t) r.d r.shape r.written) r.shallow)
   held_passes (inr (inl r)) =
       let t : Tree = conditional r.a r.c (conditional r.b r.c r.d) in
-      ap (λ t. is_some (held.written s t)) r.shape ∙ by_alternate_chosen s t (held_passes_as t (held.alternate_chosen t) r.c r.shape r.written)
+      ap (λ t. is_some (held.written s t)) r.shape ∙ by_alternate_chosen s t (both_true (same_tree r.c r.c && is_lighter s (held.alternate_chosen t) t) (may_join r.a r.b) (held_passes_as t (held.alternate_chosen t) r.c r.shape r.written) r.shallow)
   held_passes (inr (inr (inl r))) =
       let t : Tree = conditional r.a (logical Or r.b r.c) r.c in
       ap (λ t. is_some (held.written s t)) r.shape ∙ by_consequent_decided s t (held_passes_as t (held.consequent_decided t) r.c r.shape r.written)

@@ -10,6 +10,7 @@ use Rattle.mini_node.specs.Children.{part, has_count}
 use Rattle.mini_node.specs.Kinds.{is_conditional, is_logical, is_sequence}
 use Rattle.mini_node.specs.Equal.{same_tree}
 use Rattle.mini_rows.specs.Choices.{pair}
+use Rattle.mini_rows.specs.Nesting.{may_join}
 use Rattle.mini_choices.specs.MinimizeConditionalBranches.{is_lighter}
 
 -- ---- what stands in a branch, and what is written
@@ -62,13 +63,13 @@ alternate_followed t = pair (logical Or (part t 0) (item (part t 2) 0)) (part t 
 abbrev pub both_followed : Tree → Tree
 both_followed t = pair (part t 0) (part t 1)
 
--- ---- whether it does, and is lighter
+-- ---- whether it does, and is lighter; where an operator joins two tests, it may be put deeper
 
 abbrev pub is_consequent_chosen : Seat → Tree → Bool
-is_consequent_chosen s t = chooses (part t 1) 2 (part t 2) && is_lighter s (consequent_chosen t) t
+is_consequent_chosen s t = (chooses (part t 1) 2 (part t 2) && is_lighter s (consequent_chosen t) t) && may_join (part t 0) (part (part t 1) 0)
 
 abbrev pub is_alternate_chosen : Seat → Tree → Bool
-is_alternate_chosen s t = chooses (part t 2) 1 (part t 1) && is_lighter s (alternate_chosen t) t
+is_alternate_chosen s t = (chooses (part t 2) 1 (part t 1) && is_lighter s (alternate_chosen t) t) && may_join (part t 0) (part (part t 2) 0)
 
 abbrev pub is_consequent_decided : Seat → Tree → Bool
 is_consequent_decided s t = decides Or (part t 1) (part t 2) && is_lighter s (consequent_decided t) t

@@ -14,7 +14,7 @@ use Rattle.mini_laws.specs.declared.names.Declared.{Declared}
 use Rattle.mini_laws.specs.declared.names.Use.TheVariants.{Read}
 use Rattle.mini_laws.specs.DeclaredNames.{all_names, names_of, is_spelled}
 use Rattle.mini_laws.specs.Shared.{own_caught, spelled_among}
-use Rattle.mini_scope.specs.Buckets.{has_name}
+use Rattle.mini_scope.specs.Spelled.{has_name}
 use Rattle.mini_scope.specs.ScopeAt.{bound}
 use Rattle.mini_context.specs.Tables.{Marked}
 use Rattle.mini_context.proofs.Marking.{marks_add}

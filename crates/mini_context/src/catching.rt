@@ -7,7 +7,7 @@ ghost use Rattle.mini_laws.specs.DeclaredNames.{all_names, bound_names, is_spell
 ghost use Rattle.mini_laws.specs.declared.names.Declared.TheVariants as declared;
 ghost use Rattle.mini_laws.specs.declared.names.Use.TheVariants as variant;
 ghost use Rattle.mini_laws.specs.Shared.{own_caught, spelled_among};
-ghost use Rattle.mini_scope.specs.Buckets.{has_name};
+ghost use Rattle.mini_scope.specs.Spelled.{has_name};
 ghost use Rattle.mini_context.specs.Own.{is_catch_shape};
 ghost use Rattle.mini_context.specs.Tables.{Marked};
 
@@ -47,7 +47,7 @@ fn hoisted_names(alloc: Global, nodes: &[Node]) -> Result<Vec<Name>, OutOfMemory
 fn table_of(alloc: Global, names: Vec<Name>) -> Result<Environment, OutOfMemory>
     ensures { IfOk result (λ table. (s : List ℕ) → has_name variant.Read s table ≡ is_spelled s names.items) }
 {
-    let mut table = Environment::new(alloc, names.len().max(1))?;
+    let mut table = Environment::new(alloc);
     add_all(&mut table, names, true)?;
     Ok(table)
 }

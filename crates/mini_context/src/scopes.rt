@@ -36,9 +36,6 @@ use std::alloc::Global;
 use std::marker::{Brand, Model};
 use std::sync::ledger::{Blank, Ledger};
 
-/// At most how many buckets there are for the names in scope, but for one.
-const BUCKETS: usize = 65535;
-
 /// The number of a scope: the scopes of a program are numbered in the order in which they are entered.
 #[derive(Clone, Copy)]
 pub struct ScopeId(pub u32);
@@ -138,7 +135,7 @@ fn list_program(
 {
     open_scopes(alloc, symbols, scopes)?;
     *given = no_mentions(alloc, symbols)?;
-    let mut environment = Environment::new(alloc, (symbols as usize).min(BUCKETS) + 1)?;
+    let mut environment = Environment::new(alloc);
     list_scopes(
         alloc,
         scopes,

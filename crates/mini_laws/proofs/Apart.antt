@@ -6,12 +6,12 @@ use Rattle.mini_model.specs.declared.shape.Shape.TheVariants as shape
 use Rattle.mini_model.specs.Tree.{Tree, Trees, node, none, ◌▸◌}
 use Rattle.mini_laws.specs.Value.{Value, Undefined, variables}
 use Rattle.mini_laws.specs.State.{Ends, done, ended, State, Continued, Returned, either, Environment, Carries, Anything, ABoolean, AnObject, NodeOf, PlaceOf, Label, Create}
-use Rattle.mini_laws.specs.Demand.{Tail, LoopTail, FunctionTail, Demand, As, Callee, OfType, Deleted, Target, AnEntry, Stat, Binds, ClassValue, Prepare, Fetch, Put, Request, Reply}
+use Rattle.mini_laws.specs.Demand.{Tail, LoopTail, FunctionTail, Demand, As, Callee, OfType, Deleted, Target, AnEntry, Stat, Binds, ClassValue, Reference, Prepare, Fetch, Put, Request, Reply}
 use Rattle.mini_laws.specs.Command.{Naming, Gets, Command, ret, fails, stuck, op, kid, attempt, bind, Kids, act, run, then, emit_mine, self, bind_names}
 use Rattle.mini_laws.specs.Naming.{kinds, no_facts, first_facts, summary, summary_of, summaries, facts, facts_all, naming}
 use Rattle.mini_laws.specs.Asking.{demand}
-use Rattle.mini_laws.specs.Replies.{statement, merged, valued}
-use Rattle.mini_laws.specs.Targets.{carried, put_carried, called_with, carried_target, private_member, super_member, pattern_target}
+use Rattle.mini_laws.specs.Replies.{statement, merged, valued, raise_reference}
+use Rattle.mini_laws.specs.Targets.{carried, put_carried, called_with, carried_target, private_member, deleted_super, super_member, pattern_target}
 use Rattle.mini_laws.specs.Declarations.{binding_pattern, pattern_takes, class_step, class_declaration}
 use Rattle.mini_laws.specs.Step.{step, means, meaning}
 use Rattle.mini_laws.specs.Body.{body_demand, body_request, start_of, ends_as, outcome_of_reply}
@@ -153,8 +153,18 @@ unfolding Asks
 self_quiet σ (done this) = called_quiet σ this
 self_quiet σ (ended x) = tt
 
+raised_quiet : (σ : ℕ → Demand) → Quiet {q = σ} {A = Reference} raise_reference
+unfolding Asks
+raised_quiet σ (done v) = tt
+raised_quiet σ (ended x) = tt
+
+deleted_quiet : (σ : ℕ → Demand) → Quiet {q = σ} deleted_super
+unfolding Asks
+deleted_quiet σ = bind_asks (λ i. ⊥) {q = σ} (emit_mine (PlaceOf Anything) []) _ (event_quiet σ (PlaceOf Anything)) (λ v. raised_quiet σ)
+
 super_quiet : (σ : ℕ → Demand) (q : Demand) (r : Request q) → Quiet {q = σ} (super_member q r)
 super_quiet σ Callee r = self_quiet σ
+super_quiet σ Deleted r = deleted_quiet σ
 super_quiet σ q r = target_quiet σ Anything q r
 
 pattern_quiet : (σ : ℕ → Demand) (q : Demand) (r : Request q) → Quiet {q = σ} (pattern_target q r)

@@ -121,6 +121,10 @@ pub absent_dropped : law.AbsentDropped
 unfolding means meaning step either act at_variable read_slot read_any write_slot take_turn answered answered_binds heard this_of digits
 absent_dropped s = told _ _ (s.by start Undefined (throws Null ∷ []) 3 (no_init _)) refl refl
 
+pub absent_part_dropped : law.AbsentPartDropped
+unfolding means meaning step either act at_variable read_slot read_any write_slot take_turn answered answered_binds heard this_of digits
+absent_part_dropped s = told _ _ (s.by start Undefined (throws Null ∷ []) 3 (no_init _)) refl refl
+
 pub chain_ends : law.ChainEnds
 unfolding means meaning step either act at_variable read_slot read_any write_slot take_turn answered answered_binds heard this_of digits
 chain_ends s = told _ _ (s.by start Undefined (throws Null ∷ []) 3 (no_init _)) refl refl

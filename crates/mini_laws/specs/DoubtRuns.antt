@@ -11,7 +11,7 @@ use Rattle.mini_model.specs.declared.operator.UpdateOperator.TheVariants.{Increm
 use Rattle.mini_model.specs.declared.shape.Shape.TheVariants as shape
 use Rattle.mini_model.specs.Tree.{Tree, none, ◌▸◌, leaf, absent, listed, identifier}
 use Rattle.mini_laws.specs.Value.{Undefined, Null, Boolean, Number, String, Symbol, Object, Declared}
-use Rattle.mini_laws.specs.State.{ForDefault, ForNumber, ForString, Anything, InChain, GetOf, SetOf, CallOf, Coerce, ArrayOf, ObjectOf, SpreadOf, Create, NodeOf, PlaceOf, BindOf, ThisOf, IteratorOf, KeysOf, NextOf, CloseOf, YieldOf, TypeError, Raise, Item, Converted, Spreaded, Field, Finished, Returning, Shortens, Refuses, Keeps, either}
+use Rattle.mini_laws.specs.State.{ForDefault, ForNumber, ForString, Anything, InChain, GetOf, SetOf, CallOf, Coerce, ArrayOf, ObjectOf, SpreadOf, Create, NodeOf, PlaceOf, BindOf, ThisOf, IteratorOf, KeysOf, NextOf, CloseOf, YieldOf, TypeError, ReferenceError, Raise, Item, Converted, Spreaded, Field, Finished, Returning, Shortens, Refuses, Keeps, either}
 use Rattle.mini_laws.specs.Command.{act, at_variable, read_slot, read_any, write_slot, take_turn, answered, answered_binds, heard, this_of}
 use Rattle.mini_laws.specs.Step.{step, means, meaning}
 use Rattle.mini_laws.specs.Fixity.{fixed_in}
@@ -283,6 +283,16 @@ super_call_asks = refl
 super_target : value_of ((assign assignment.Assign (numbered 2 shape.SuperComputedMemberExpression none) (called (global (codes "f"))))) (gives Null ∷ gives (Number (pos 1)) ∷ gives Null ∷ []) ≡ Some (record { events = ((PlaceOf Anything), (Some 2, [])) ∷ (CallOf, (None, Item (Object 4 true) ∷ Item Undefined ∷ [])) ∷ (BindOf, (Some 2, Item (Number (pos 1)) ∷ [])) ∷ []; outcome = ReturnOf (Number (pos 1)) })
 unfolding means meaning step either act at_variable read_slot read_any write_slot take_turn answered answered_binds heard this_of digits
 super_target = refl
+
+-- `delete super.k`, with the number 2: its parts are evaluated, and a ReferenceError is made
+super_deleted : value_of (one (shape.UnaryExpression unary.Delete) (numbered 2 shape.SuperStaticMemberExpression none)) (gives Null ∷ throws (Number (pos 1)) ∷ []) ≡ Some (record { events = ((PlaceOf Anything), (Some 2, [])) ∷ (Raise ReferenceError, (None, [])) ∷ []; outcome = ThrowOf (Number (pos 1)) })
+unfolding means meaning step either act at_variable read_slot read_any write_slot take_turn answered answered_binds heard this_of digits
+super_deleted = refl
+
+-- `delete o.#k`, which no program has, is outside the model
+private_deleted : value_of (one (shape.UnaryExpression unary.Delete) (numbered 2 (shape.PrivateFieldExpression false) none)) (gives Null ∷ throws Null ∷ []) ≡ None
+unfolding means meaning step either act at_variable read_slot read_any write_slot take_turn answered answered_binds heard this_of digits
+private_deleted = refl
 
 -- `o.#k += f()`, with the number 2: its parts, its value, the right side, the write
 private_added : value_of ((assign assignment.Addition (numbered 2 (shape.PrivateFieldExpression false) none) (called (global (codes "f"))))) (gives (Object 7 false) ∷ gives (Number (pos 1)) ∷ gives (Number (pos 2)) ∷ gives Null ∷ []) ≡ Some (record { events = ((PlaceOf Anything), (Some 2, [])) ∷ ((NodeOf Anything), (Some 2, [])) ∷ (CallOf, (None, Item (Object 4 true) ∷ Item Undefined ∷ [])) ∷ (BindOf, (Some 2, Item (Number (pos 3)) ∷ [])) ∷ []; outcome = ReturnOf (Number (pos 3)) })

@@ -52,8 +52,8 @@ not_step = kid 0 tt (then (λ b. ret (Boolean (not b))))
 abbrev pub typeof_step : Command (λ i. OfType) Value
 typeof_step = kid 0 tt (then (λ v. ret (String (type_text v))))
 
--- ECMA-262, "The delete Operator": what is no reference gives true. Of a name, of a `super` member or of a private one it is
--- outside the model
+-- ECMA-262, "The delete Operator": what is no reference gives true. Of a name it is outside the model; of a private member
+-- it is an early error ("Static Semantics: Early Errors" there), and so has no meaning
 abbrev pub delete_of : {σ : ℕ → Demand} → Reference → Command σ Value
 delete_of (AMember object key) = choose (is_nullish object) raise (bind (emit DeleteOf (Item object ∷ Item key ∷ [])) (λ b. ret (Boolean b)))
 delete_of (AValue v) = ret (Boolean true)

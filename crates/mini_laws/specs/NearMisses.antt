@@ -86,6 +86,10 @@ MissingName = Unlike ArrowExpression (one (shape.UnaryExpression unary.Typeof) (
 abbrev pub AbsentDropped : Type 0
 AbsentDropped = Unlike Program (script (does (global (codes "z")) ▸ does f ▸ none)) (script (does f ▸ none))
 
+-- `z, f();` and `f();`, where z is missing
+abbrev pub AbsentPartDropped : Type 0
+AbsentPartDropped = Unlike Program (script (does (sequence (global (codes "z") ▸ f ▸ none)) ▸ none)) (script (does f ▸ none))
+
 -- `null?.k.l` and `(null?.k).l`
 abbrev pub ChainEnds : Type 0
 ChainEnds =

@@ -5,7 +5,7 @@ use Rattle.mini_model.specs.declared.operator.BinaryOperator.TheVariants as bina
 use Rattle.mini_laws.specs.Value.{Value, Undefined, choose, is_nullish}
 use Rattle.mini_laws.specs.Conversion.{Made, makes, raises, outside, to_number, known_member}
 use Rattle.mini_laws.specs.Operators.{strictly_equal, loosely_equal, of_numbers, of_primitives}
-use Rattle.mini_laws.specs.State.{Hint, ForDefault, ForNumber, Coerce, GetOf, SetOf, TypeError, Raise, Entry, Item, Returned, Continued, Ends, done, ended, Writing, Writes, WritesPresent, Refuses, Keeps}
+use Rattle.mini_laws.specs.State.{Hint, ForDefault, ForNumber, Coerce, GetOf, SetOf, TypeError, ReferenceError, Raise, Entry, Item, Returned, Continued, Ends, done, ended, Writing, Writes, WritesPresent, Refuses, Keeps}
 use Rattle.mini_laws.specs.Demand.{Tail, LoopTail, FunctionTail, Demand, As, Callee, OfType, Deleted, AnEntry, Stat, LabelSet, AValue, Request, Reply, Says, says, plain_call}
 use Rattle.mini_laws.specs.Command.{read, fixity, write, event, NoTag, is_object, Command, ret, fails, stuck, op, then, attempt, bind, emit}
 use Rattle.mini_laws.specs.Asking.{pass}
@@ -69,6 +69,10 @@ statement q r c = stuck
 abbrev pub raise : {σ : ℕ → Demand} {A : Type 0} → Command σ A
 raise = op (event (Raise TypeError) NoTag []) (then (λ v. stuck))
 
+-- the same of a new ReferenceError
+abbrev pub raise_reference : {σ : ℕ → Demand} {A : Type 0} → Command σ A
+raise_reference = op (event (Raise ReferenceError) NoTag []) (then (λ v. stuck))
+
 abbrev pub of_made : {σ : ℕ → Demand} {A : Type 0} → Made A → Command σ A
 of_made (makes a) = ret a
 of_made raises = raise
@@ -126,13 +130,13 @@ get_member object key = choose (is_nullish object) raise (or_event (known_member
 abbrev pub put_member : {σ : ℕ → Demand} → Value → Entry → Value → Command σ (Unit {0})
 put_member object key v = choose (is_nullish object) raise (bind (emit SetOf (Item object ∷ key ∷ Item v ∷ [])) (λ u. ret tt))
 
+-- in strict code an unresolved name is read first, which raises where it is absent
 abbrev pub by_fixity : {σ : ℕ → Demand} → Value → Writing → Command σ (Unit {0})
 by_fixity v Writes = op (write 0 v) (then ret)
 by_fixity v WritesPresent = op (read 0) (then (λ old. op (write 0 v) (then ret)))
 by_fixity v Refuses = raise
 by_fixity v Keeps = ret tt
 
--- ECMA-262, "PutValue" of the node's own name: a constant raises, and in strict code an unresolved name is first looked for
--- ("SetMutableBinding" of an object environment record)
+-- ECMA-262, "PutValue" of the node's own name
 abbrev pub put_own : {σ : ℕ → Demand} → Value → Command σ (Unit {0})
 put_own v = op (fixity 0) (then (by_fixity v))

@@ -22,7 +22,7 @@ pub data ErrorKind : Type 0 where
 
 -- what is asked of the world around the program. `Fresh` alone takes no answer: it comes before a shared lexical name is
 -- initialised, and at each copy of one for a turn of a loop. `PlaceOf` is of a private or a `super` member that is called
--- or assigned to: its parts are evaluated, and the answer is its object
+-- or assigned to, and of a `super` member that is deleted: its parts are evaluated, and the answer is its object
 pub data Label : Type 0 where
   GetOf : Label
   SetOf : Label
@@ -136,8 +136,8 @@ pub data Fixed : Type 0 where
   Constant : Fixed
   KeepsOld : Fixed
 
--- what a write of a variable does: it writes, also a name that is absent; it writes one that is there, and raises a
--- ReferenceError where none is; it raises a TypeError; or nothing
+-- what a write of a variable does (ECMA-262, "PutValue"): it writes, and adds the name where that is absent; it writes a name
+-- that is there, and raises a ReferenceError where it is absent; it raises a TypeError; or it keeps the old value
 pub data Writing : Type 0 where
   Writes : Writing
   WritesPresent : Writing

@@ -15,7 +15,7 @@ use Rattle.mini_laws.specs.Demand.{Val, Demand, As, Callee, OfType, Deleted, Tar
 use Rattle.mini_laws.specs.Command.{event, self, Mine, is_object, Command, ret, stuck, op, kid, then, bind, emit_mine}
 use Rattle.mini_laws.specs.Naming.{NameKind, UndefinedName, NumberName}
 use Rattle.mini_laws.specs.Asking.{first_demand}
-use Rattle.mini_laws.specs.Replies.{valued, of_made, numeric, operate, get_member, put_member, put_own}
+use Rattle.mini_laws.specs.Replies.{valued, raise_reference, of_made, numeric, operate, get_member, put_member, put_own}
 use Rattle.mini_laws.specs.Expressions.{get_identifier, type_identifier, is_eval, got, called_member}
 
 -- Names (ECMA-262, "Identifiers")
@@ -78,9 +78,14 @@ abbrev pub private_member : {σ : ℕ → Demand} → Carries → (q : Demand) (
 private_member what Callee r = bind (emit_mine (PlaceOf what) []) (λ this. bind (emit_mine (NodeOf Anything) []) (called_with this))
 private_member what q r = carried_target what q r
 
+-- ECMA-262, "The delete Operator": of a `super` member it raises, once the parts of that are evaluated
+abbrev pub deleted_super : {σ : ℕ → Demand} → Command σ Reference
+deleted_super = bind (emit_mine (PlaceOf Anything) []) (λ v. raise_reference)
+
 -- a `super` member: where it is called, the `this` of the code around is (ECMA-262, "The super Keyword")
 abbrev pub super_member : {σ : ℕ → Demand} → (q : Demand) (r : Request q) → Command σ (Reply q r)
 super_member Callee r = op self (then (λ this. bind (emit_mine (NodeOf Anything) []) (called_with this)))
+super_member Deleted r = deleted_super
 super_member q r = carried_target Anything q r
 
 -- a private member ends the chain that it stands in where it or a link in its object is optional

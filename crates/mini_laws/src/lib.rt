@@ -18,7 +18,7 @@ ghost use Rattle.mini_laws.specs.Congruence.{Insensitive, Congruence, CongruentS
 ghost use Rattle.mini_laws.specs.Renaming.{RenamedSame};
 ghost use Rattle.mini_laws.specs.Sameness.{Reflexive, Transitive, Weaker, BodyReflexive, BodyTransitive, BodySame};
 ghost use Rattle.mini_laws.specs.Differences.{UnswappedDiffers, ValueDiffers, OneSideDiffers, OrDiffers, TestDroppedDiffers};
-ghost use Rattle.mini_laws.specs.NearMisses.{ConversionMoves, OperandsSwap, ReadMoves, EqualitySharpens, ThisAppears, DeletedName, MissingName, AbsentDropped, ChainEnds, KeyConvertsTwice, TargetReadLate, ConstantWritten, PrivateTargetMoves, WriteMoves, FinalizerLost, FinalizerReplaces, CaseSkipped, DefaultMoves, ContinueDropped, BreakDropped, FreshLost, CopyLost, CloseLost, FunctionLate, LexicalLost};
+ghost use Rattle.mini_laws.specs.NearMisses.{ConversionMoves, OperandsSwap, ReadMoves, EqualitySharpens, ThisAppears, DeletedName, MissingName, AbsentDropped, AbsentPartDropped, ChainEnds, KeyConvertsTwice, TargetReadLate, ConstantWritten, PrivateTargetMoves, WriteMoves, FinalizerLost, FinalizerReplaces, CaseSkipped, DefaultMoves, ContinueDropped, BreakDropped, FreshLost, CopyLost, CloseLost, FunctionLate, LexicalLost};
 ghost use Rattle.mini_laws.specs.Fewer.{Fewer, FewerSame, FewerBody};
 ghost use Rattle.mini_laws.specs.Returns.{ReturnsSame};
 ghost use Rattle.mini_laws.specs.Rewritten.{StepKeeps, StepReads, AnyStepSame, AnyReachesSame, AnyBodySame, AnyFrameKept, StepSame, ReachesSame, ProgramSame, FrameKept};
@@ -230,6 +230,7 @@ pub fn near_misses()
     ensures deleted_name { DeletedName }
     ensures missing_name { MissingName }
     ensures absent_dropped { AbsentDropped }
+    ensures absent_part_dropped { AbsentPartDropped }
     ensures chain_ends { ChainEnds }
     ensures key_converts_twice { KeyConvertsTwice }
     ensures target_read_late { TargetReadLate }

@@ -8,6 +8,7 @@ use Rattle.mini_model.specs.Tree.{Tree, Trees, node, none, ◌▸◌, children, 
 use Rattle.mini_kept.specs.Without.{Assured}
 use Rattle.mini_laws.specs.ScopeList.{has_eval}
 use Rattle.mini_node.specs.Children.{names_of, part, with_part}
+use Rattle.mini_rows.proofs.Sunk.{value_past}
 use Rattle.mini_rows.specs.Past.{Kept, passes_any_at, is_certain, are_past_in, are_past, all_past}
 use Rattle.mini_rows.specs.declared.gathered.Gathered.{Gathered}
 use Rattle.mini_rows.specs.declared.gathered.Gathered.TheVariants.{Values as OfValues}
@@ -47,7 +48,7 @@ once_put V (x ∷ xs) o init ds j ts i e f g =
     let (first, p) = and_parts (reads_head x head) (not (names x o) && (a && around)) e in
     let (n, q) = and_parts (not (names x o)) (a && around) p in
     let (past, r) = and_parts a around q in
-    put_along_head x init head first (past_along (held_at V ts i ds j) x OfValues init (evaluated head) past) f g
+    put_along_head x init head first (past_along (held_at V ts i ds j) x OfValues init (evaluated head) (value_past (held_at V ts i ds j) x init (evaluated head) past)) f g
 
 then_put : (V : Assured) (xs : List Name) (d e o : Tree) (ds : Trees) (j : ℕ) (ts : Trees) (i : ℕ) → is_read_past_then V xs d e o ds j ts i ≡ true → has_eval (part d 1) ≡ false → has_eval (part e 1) ≡ false → has_eval (put_named xs (part d 1) (part e 1)) ≡ false
 then_put V [] d e o ds j ts i h f g = absurd (true≢false (sym h))
@@ -55,7 +56,7 @@ then_put V (x ∷ xs) d e o ds j ts i h f g =
     let reads = reads_past_in (held_at V ts i ds j) x (part d 1) (part e 1) in
     let (read, q) = and_parts reads (not (is_mentioned_beside x d e ds j) && (not (names x o) && not (is_mentioned_elsewhere x ts i))) h in
     let (first, past) = and_parts (is_first x false (part e 1)) (are_past (held_at V ts i ds j) x (part d 1) (part e 1)) read in
-    put_there x false (part d 1) (part e 1) first (past_along (held_at V ts i ds j) x OfValues (part d 1) (part e 1) past) f g
+    put_there x false (part d 1) (part e 1) first (past_along (held_at V ts i ds j) x OfValues (part d 1) (part e 1) (value_past (held_at V ts i ds j) x (part d 1) (part e 1) past)) f g
 
 module _ (V : Assured) (W : Liberties) (o l m : Tree) (c : Unseen o l) where
   read_gone : ReadPast V W o l m → Unseen o m

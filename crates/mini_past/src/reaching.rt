@@ -9,7 +9,7 @@ ghost use Rattle.mini_past.specs.SubstitutePast.{held_at};
 use crate::passing::passes_any_at;
 use mini_model::{Name, Shape};
 use mini_node::{Node, Nodes};
-use mini_rows::Gathered;
+use mini_rows::{Gathered, fits_in};
 use mini_steady::SteadyNames;
 use mini_unused::{gathered_below, is_mentioned, is_plain_assignment, of_entries, suits};
 
@@ -148,7 +148,7 @@ fn all_past<S: SteadyNames>(
     true
 }
 
-/// So it is, where a value is asked.
+/// So it is, where a value is asked and both nest so that one may be put into the other.
 pub fn are_past<S: SteadyNames>(
     name: &Name,
     init: &Node,
@@ -175,5 +175,5 @@ pub fn are_past<S: SteadyNames>(
         which,
         body,
         steady,
-    )
+    ) && fits_in(init, node)
 }

@@ -394,6 +394,7 @@ module _ (P : Stop → Type 0) (thrown : (v : Value) → P (Thrown v)) (returned
 
     super_tidy : (q : Demand) (r : Request q) → Neat (super_member q r)
     super_tidy Callee r = (tt, (λ v. (tt, (λ v. tt, λ y p. p)), λ y p. p))
+    super_tidy Deleted r = (tt, (λ v. (tt, (λ v. tt, λ y p. p)), λ y p. p))
     super_tidy q r = carried_tidy Anything tt q r
 
     pub private_tidy : (what : Carries) → FirmLabel (NodeOf what) → FirmLabel (PlaceOf what) → (q : Demand) (r : Request q) → Neat (private_member what q r)

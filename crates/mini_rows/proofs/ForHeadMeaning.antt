@@ -14,6 +14,7 @@ use Rattle.mini_laws.specs.Substitution.{alone}
 use Rattle.mini_laws.proofs.Congruent.{congruent_same, weaker, no_off, no_within}
 use Rattle.mini_laws.proofs.Simulation.{within_refl}
 use Rattle.mini_kept.specs.Without.{Unseen}
+use Rattle.mini_rows.proofs.Sunk.{value_passed}
 use Rattle.mini_rows.specs.Lists.{declaration}
 use Rattle.mini_rows.specs.Switches.{Switches}
 use Rattle.mini_rows.specs.Unused.{put_first, ForNextRow}
@@ -42,7 +43,7 @@ for_next_same o n w r e u t =
     let rest : Trees = r.test ▸ (r.update ▸ (r.body ▸ none)) in
     let id = avoided x k refl c.binds c.other in
     let last = all_avoided x k refl c.last c.declared_later in
-    let one = next_same e c.spelling k u c.kind c.init c.binds c.value c.last (movable o c.init c.moves) c.once c.passed id last (never_written c.kind e k (lexical_alone c.kind c.goes)) c.first in
+    let one = next_same e c.spelling k u c.kind c.init c.binds c.value c.last (movable o c.init c.moves) c.once (value_passed x c.init c.value c.passed) id last (never_written c.kind e k (lexical_alone c.kind c.goes)) c.first in
     let alike = head_read e c.spelling k u c.kind _ _ (next_read c.kind c.spelling k c.first c.last c.init c.binds c.value (put_first x c.init c.value)) in
     congruent_same e D u.shared (inside shape.ForStatement [] 0 none here rest) d v (tt, tt, tt, all_avoided x k refl rest (unread o n w r)) (next_avoids x k refl c.kind c.first c.init c.binds c.value c.last c.once c.declared_earlier c.initial c.other c.declared_later) alike nothing (Stat t) (no_off _)
     (weaker e D D nothing _ (within_refl D) (no_within _) (Stat None) d v (one_same e D c.kind nothing _ _ one))

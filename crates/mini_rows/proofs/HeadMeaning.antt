@@ -15,7 +15,7 @@ use Rattle.mini_terms.specs.Reading.{is_plain_part}
 use Rattle.mini_rows.specs.Lists.{declaration, Each, EachIn, EachOf, each_loop}
 use Rattle.mini_rows.specs.Declarations.{declarator}
 use Rattle.mini_rows.specs.Sketches.{shape_by, AsValue, AsWholeItem}
-use Rattle.mini_rows.specs.Unused.{is_constant, resolved, names, any_names, put_first, OfValues, gathered_below, are_passed, reads_first, reads_head, evaluated}
+use Rattle.mini_rows.specs.Unused.{is_constant, resolved, names, any_names, put_first, OfValues, gathered_below, are_passed_by_value, reads_first, reads_head, evaluated}
 use Rattle.mini_rows.proofs.FoldMeaning.{plain_read}
 use Rattle.mini_rows.proofs.NextKept.{next_unnamed}
 use Rattle.mini_rows.proofs.FoundReads.{found_same, path_as, path_same, seated_same, loop_same, goes_as}
@@ -71,7 +71,7 @@ module _ (e : Environment) (spelling : List ℕ) (k : ℕ) (z : Unseen (alone (D
   abbrev x : Name
   x = resolved spelling k
 
-  statement_goes : reads_first x head ≡ true → are_passed x init head ≡ true → (s : State) → GoesWith e k init head (put_first x init head) s
+  statement_goes : reads_first x head ≡ true → are_passed_by_value x init head ≡ true → (s : State) → GoesWith e k init head (put_first x init head) s
   statement_goes once passed s =
       let t = statement x head once in
       let step : Step = record { lead = t.lead; rest = t.rest; is_short = false } in
@@ -85,7 +85,7 @@ module _ (e : Environment) (spelling : List ℕ) (k : ℕ) (z : Unseen (alone (D
       (goes_as e k init (found steps (identifier (resolved reading.spelling k))) (led steps (identifier (resolved reading.spelling k))) (found_same steps (identifier (resolved reading.spelling k))) (led steps init) s
       (moves_there e k z x refl reading.spelling init (sym (plain_read init moves)) (plain_item init moves) AsWholeItem steps (t.stands (is_end t.path.steps), subst (λ c. Well c t.path.steps) (sym (t.below AsWholeItem)) t.path.well) ((ap (any_names x) t.front, t.free), t.path.spared) ((beside, or_true (is_constant init) (surely OfValues (is_effect_free init) t.lead) (t.steady (is_effect_free init)), t.allows_any (end_of reading.spelling init t.path.steps), t.whole_any init), subst (λ m. PassedIn m init reading.spelling t.path.steps) (sym (ap (λ us. gathered_below OfValues (shape_by (head_of t.lead)) (place 0 us)) t.front ∙ t.low)) (t.path.passed_in OfValues init (t.passed init passed))) (Stat None) tt tt [] tt s))
 
-  scope_goes : (t : Outside x head) → are_passed x init head ≡ true → (s : State) → GoesWith e k init head (put_first x init head) s
+  scope_goes : (t : Outside x head) → are_passed_by_value x init head ≡ true → (s : State) → GoesWith e k init head (put_first x init head) s
   scope_goes t passed s =
       let p = path x false t.value t.once in
       let there = led p.steps (identifier (resolved p.read.spelling k)) in
@@ -94,7 +94,7 @@ module _ (e : Environment) (spelling : List ℕ) (k : ℕ) (z : Unseen (alone (D
       (outside_goes e k z x refl p.read.spelling init (sym (plain_read init moves)) p.steps p.well (λ y. Unit {0})
       (λ v r y u. moves_there e k z x refl p.read.spelling init (sym (plain_read init moves)) (plain_item init moves) AsValue p.steps p.well p.spared (p.passed_in OfValues init (t.passed init passed)) (As v) tt tt r tt y) t.seat t.beside s tt))
 
-  loop_goes : (t : Over x head) → are_passed x init t.value ≡ true → (s : State) → GoesWith e k init head (put_first x init head) s
+  loop_goes : (t : Over x head) → are_passed_by_value x init t.value ≡ true → (s : State) → GoesWith e k init head (put_first x init head) s
   loop_goes t passed s =
       let p = path x false t.value t.once in
       let there = led p.steps (identifier (resolved p.read.spelling k)) in
@@ -104,21 +104,21 @@ module _ (e : Environment) (spelling : List ℕ) (k : ℕ) (z : Unseen (alone (D
       (each_goes e k z x refl p.read.spelling init p.steps (λ y. Unit {0})
       (λ y u. moves_there e k z x refl p.read.spelling init (sym (plain_read init moves)) (plain_item init moves) AsValue p.steps p.well p.spared (p.passed_in OfValues init passed) (As Val) tt tt tt tt y) t.kind t.left t.body t.plain t.other t.later s tt))
 
-  begun_goes : (t : Begun x head) → are_passed x init t.value ≡ true → (s : State) → GoesWith e k init head (put_first x init head) s
+  begun_goes : (t : Begun x head) → are_passed_by_value x init t.value ≡ true → (s : State) → GoesWith e k init head (put_first x init head) s
   begun_goes t passed s =
       subst₂ (λ h w. GoesWith e k init h w s) (sym t.is) (sym (t.puts init))
       (looped_goes e k z x refl init t.test t.update t.body t.beside (declarator t.binds t.value ▸ t.last) (declarator t.binds (put_first x init t.value) ▸ t.last) s
       (initial_goes e spelling k z Var init t.binds t.value t.last moves t.once passed (avoided x k refl t.binds t.other) (all_avoided x k refl t.last t.later) s))
 
-  pub head_goes : reads_head x head ≡ true → are_passed x init (evaluated head) ≡ true → (s : State) → GoesWith e k init head (put_first x init head) s
+  pub head_goes : reads_head x head ≡ true → are_passed_by_value x init (evaluated head) ≡ true → (s : State) → GoesWith e k init head (put_first x init head) s
   head_goes once passed s = by (heads x head once)
     where
       by : Heads x head → GoesWith e k init head (put_first x init head) s
-      by (inl (f, p)) = statement_goes f (sym (ap (are_passed x init) p) ∙ passed) s
-      by (inr (inr (inl t))) = scope_goes t (sym (ap (are_passed x init) t.evaluates) ∙ passed) s
-      by (inr (inr (inr (inl t)))) = loop_goes t (sym (ap (are_passed x init) t.evaluates) ∙ passed) s
-      by (inr (inr (inr (inr t)))) = begun_goes t (sym (ap (are_passed x init) t.evaluates) ∙ passed) s
-      by (inr (inl t)) = subst₂ (λ h w. GoesWith e k init h w s) (sym t.is) (sym (t.puts init)) (initial_goes e spelling k z t.kind init t.binds t.value t.last moves t.once (sym (ap (are_passed x init) t.evaluates) ∙ passed) (avoided x k refl t.binds t.other) (all_avoided x k refl t.last t.later) s)
+      by (inl (f, p)) = statement_goes f (sym (ap (are_passed_by_value x init) p) ∙ passed) s
+      by (inr (inr (inl t))) = scope_goes t (sym (ap (are_passed_by_value x init) t.evaluates) ∙ passed) s
+      by (inr (inr (inr (inl t)))) = loop_goes t (sym (ap (are_passed_by_value x init) t.evaluates) ∙ passed) s
+      by (inr (inr (inr (inr t)))) = begun_goes t (sym (ap (are_passed_by_value x init) t.evaluates) ∙ passed) s
+      by (inr (inl t)) = subst₂ (λ h w. GoesWith e k init h w s) (sym t.is) (sym (t.puts init)) (initial_goes e spelling k z t.kind init t.binds t.value t.last moves t.once (sym (ap (are_passed_by_value x init) t.evaluates) ∙ passed) (avoided x k refl t.binds t.other) (all_avoided x k refl t.last t.later) s)
 
 -- ---- nothing that is written mentions the name
 

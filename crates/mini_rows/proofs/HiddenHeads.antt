@@ -12,9 +12,10 @@ use Rattle.mini_laws.specs.Resolved.{Environment}
 use Rattle.mini_laws.specs.Scoped.{Scoped}
 use Rattle.mini_laws.specs.declared.names.Use.TheVariants.{Read}
 use Rattle.mini_node.specs.Children.{part, is_bare, rest_children}
+use Rattle.mini_rows.proofs.Sunk.{value_passed}
 use Rattle.mini_rows.specs.Lists.{declaration, for_loop, Each, EachIn, EachOf, each_loop}
 use Rattle.mini_rows.specs.Declarations.{declarator}
-use Rattle.mini_rows.specs.Unused.{names, any_names, is_first, put_first, is_written_value, is_value_operator, is_constant, are_passed, has_declarator, reads_initially, reads_head, evaluated, is_lexical_shape, reads_let, reads_over_let, reads_hidden, evaluated_hidden, is_literal, is_closed, takes}
+use Rattle.mini_rows.specs.Unused.{names, any_names, is_first, put_first, is_written_value, is_value_operator, is_constant, are_passed, are_passed_by_value, has_declarator, reads_initially, reads_head, evaluated, is_lexical_shape, reads_let, reads_over_let, reads_hidden, evaluated_hidden, is_literal, is_closed, takes}
 use Rattle.mini_rows.proofs.SingleUse.{Initial, initially, mentioned, put_initially, put_begins, put_over}
 
 not_true : (b : Bool) → not b ≡ true → b ≡ false
@@ -172,11 +173,14 @@ hidden x t e = by (reads_let x t) refl e
 
 -- what may be put into a head, by what that is
 abbrev pub Taken : Name → Tree → Tree → Type 0
-Taken x r t = ((reads_head x t ≡ true) × (are_passed x r (evaluated t) ≡ true)) ⊎ ((is_closed r ≡ true) × ((reads_hidden x t ≡ true) × (are_passed x r (evaluated_hidden t) ≡ true)))
+Taken x r t = ((reads_head x t ≡ true) × (are_passed_by_value x r (evaluated t) ≡ true)) ⊎ ((is_closed r ≡ true) × ((reads_hidden x t ≡ true) × (are_passed_by_value x r (evaluated_hidden t) ≡ true)))
 
 pub taken : (x : Name) (r t : Tree) → takes x r t ≡ true → Taken x r t
 taken x r t e = by (reads_head x t && are_passed x r (evaluated t)) refl e
   where
     by : (b : Bool) → reads_head x t && are_passed x r (evaluated t) ≡ b → b || (is_closed r && (reads_hidden x t && are_passed x r (evaluated_hidden t))) ≡ true → Taken x r t
-    by true f g = inl (and_parts (reads_head x t) (are_passed x r (evaluated t)) f)
-    by false f g = let (c, p) = and_parts (is_closed r) (reads_hidden x t && are_passed x r (evaluated_hidden t)) g in inr (c, and_parts (reads_hidden x t) (are_passed x r (evaluated_hidden t)) p)
+    by true f g = let (reads, passed) = and_parts (reads_head x t) (are_passed x r (evaluated t)) f in inl (reads, value_passed x r (evaluated t) passed)
+    by false f g =
+        let (c, p) = and_parts (is_closed r) (reads_hidden x t && are_passed x r (evaluated_hidden t)) g in
+        let (reads, passed) = and_parts (reads_hidden x t) (are_passed x r (evaluated_hidden t)) p in
+        inr (c, (reads, value_passed x r (evaluated_hidden t) passed))

@@ -24,7 +24,7 @@ use Rattle.mini_rows.specs.Lists.{declaration, for_loop, Each, EachIn, EachOf, e
 use Rattle.mini_rows.specs.Declarations.{declarator}
 use Rattle.mini_rows.specs.Sketches.{AsValue}
 use Rattle.mini_rows.specs.Switches.{Switches, without_vars}
-use Rattle.mini_rows.specs.Unused.{names, any_names, resolved, declared_among, declared_left, put_first, is_constant, is_closed, OfValues, are_passed, reads_hidden, evaluated_hidden, takes, Row71}
+use Rattle.mini_rows.specs.Unused.{names, any_names, resolved, declared_among, declared_left, put_first, is_constant, is_closed, OfValues, are_passed_by_value, reads_hidden, evaluated_hidden, takes, Row71}
 use Rattle.mini_rows.proofs.ConstantUse.{rules, Seen, seen_in, node_goes, path_goes, led_without, agreeing, agrees}
 use Rattle.mini_rows.proofs.FoldMeaning.{plain_read}
 use Rattle.mini_rows.proofs.FoundReads.{among_same, path_same, goes_as}
@@ -125,7 +125,7 @@ module _ (e : Environment) (spelling : List ℕ) (k : ℕ) (z : Unseen (alone (D
   over_same EachIn left a b body h = among_same shape.ForInStatement (left ▸ none) a b (body ▸ none) h
   over_same EachOf left a b body h = among_same shape.ForOfStatement (left ▸ none) a b (body ▸ none) h
 
-  pub hidden_goes : is_closed init ≡ true → reads_hidden x head ≡ true → are_passed x init (evaluated_hidden head) ≡ true → (s : State) → GoesWith e k init head (put_first x init head) s
+  pub hidden_goes : is_closed init ≡ true → reads_hidden x head ≡ true → are_passed_by_value x init (evaluated_hidden head) ≡ true → (s : State) → GoesWith e k init head (put_first x init head) s
   hidden_goes is_closed_init once passed s = by (hidden x head once)
     where
       constant : is_constant init ≡ true
@@ -137,7 +137,7 @@ module _ (e : Environment) (spelling : List ℕ) (k : ℕ) (z : Unseen (alone (D
           let S = p.read.spelling in
           let there = led p.steps (identifier (resolved S k)) in
           let loops = λ (u : Tree). for_loop (declaration t.kind (declarator t.binds u ▸ t.last)) t.test t.update t.body in
-          let passes = p.passed_in OfValues init (sym (ap (are_passed x init) t.evaluates) ∙ passed) in
+          let passes = p.passed_in OfValues init (sym (ap (are_passed_by_value x init) t.evaluates) ∙ passed) in
           subst₂ (λ h w. GoesWith e k init h w s) (sym t.is) (sym (t.puts init ∙ ap loops (p.puts init)))
           (goes_as e k init (loops t.value) (loops there) (headed t.kind t.binds t.last t.test t.update t.body t.value there (path_same x k refl AsValue t.value p)) (loops (led p.steps init)) s
           (constant_there e k z x refl S init (plain_there S) (plain_item init moves) constant (loops there) (loops (led p.steps init))
@@ -147,7 +147,7 @@ module _ (e : Environment) (spelling : List ℕ) (k : ℕ) (z : Unseen (alone (D
           let S = p.read.spelling in
           let there = led p.steps (identifier (resolved S k)) in
           let loops = λ (u : Tree). each_loop t.kind t.left u t.body in
-          let passes = p.passed_in OfValues init (sym (ap (are_passed x init) t.evaluates) ∙ passed) in
+          let passes = p.passed_in OfValues init (sym (ap (are_passed_by_value x init) t.evaluates) ∙ passed) in
           subst₂ (λ h w. GoesWith e k init h w s) (sym t.is) (sym (t.puts init ∙ ap loops (p.puts init)))
           (goes_as e k init (loops t.value) (loops there) (over_same t.kind t.left t.value there t.body (path_same x k refl AsValue t.value p)) (loops (led p.steps init)) s
           (constant_there e k z x refl S init (plain_there S) (plain_item init moves) constant (loops there) (loops (led p.steps init))

@@ -26,6 +26,8 @@ pub mod DeclaredKeyParts
 pub mod DeclaredKeyLawful
 pub mod ShorthandLawful
 pub mod KeysJoined
+pub mod Nests
+pub mod Sunk
 pub mod BodyLists
 pub mod ListStretches
 pub mod ListParts

@@ -18,6 +18,7 @@ use Rattle.mini_laws.specs.State.{Environment}
 use Rattle.mini_laws.specs.Substitution.{alone}
 use Rattle.mini_laws.specs.Value.{Declared, VariableSet}
 use Rattle.mini_kept.specs.Without.{Unseen}
+use Rattle.mini_rows.proofs.Sunk.{value_passed}
 use Rattle.mini_rows.specs.declared.inside.Way.TheVariants as way
 use Rattle.mini_rows.specs.Declarations.{binding, declarator}
 use Rattle.mini_rows.specs.Inside.{HeadNextEnd}
@@ -174,7 +175,7 @@ module _ (W : Liberties) (o : Trees) (n w : Tree) (r : HeadNextEnd W o n w) wher
         last = q.last;
         moves = movable W.switches q.init q.moves;
         once = q.once;
-        stands = inr q.passed;
+        stands = inr (value_passed x q.init q.value q.passed);
         other = q.other;
         earlier = q.declared_earlier;
         initial = q.initial;

@@ -22,10 +22,11 @@ use Rattle.mini_laws.proofs.Runs.{either_cong, either_eta, either_assoc, either_
 use Rattle.mini_laws.proofs.Simulation.{goes_either}
 use Rattle.mini_kept.specs.Loosely.{symbol}
 use Rattle.mini_kept.specs.Without.{Unseen}
+use Rattle.mini_rows.proofs.Sunk.{value_passed}
 use Rattle.mini_rows.specs.Lists.{declaration}
 use Rattle.mini_rows.specs.Declarations.{binding, declarator}
 use Rattle.mini_rows.specs.Sketches.{shape_by, AsValue}
-use Rattle.mini_rows.specs.Unused.{resolved, names, any_names, declared_among, OfValues, is_first, put_first, are_passed, Row71Next}
+use Rattle.mini_rows.specs.Unused.{resolved, names, any_names, declared_among, OfValues, is_first, put_first, are_passed_by_value, Row71Next}
 use Rattle.mini_rows.proofs.FoldMeaning.{plain_read}
 use Rattle.mini_rows.proofs.FoundReads.{path_same, read_there}
 use Rattle.mini_rows.proofs.ListStretches.{lets_append}
@@ -82,7 +83,7 @@ module _ (e : Environment) (id v : Tree) (there : (summary v).facts.absent ≡ f
         ∙ ap (λ c. either c (λ u z. others e id K last z) (λ x z. stop x z)) (alone_is s ∙ given (is_lexical K) s)
         ∙ either_assoc (means e v (As Val) tt s) _ _ _ _ ∙ either_cong (means e v (As Val) tt s) _ _ _ _ (λ a z. refl) (λ x z. either_stop x z _ _)
 
-module _ (e : Environment) (spelling : List ℕ) (k : ℕ) (z : Unseen (alone (Declared k)) e) (K : VariableDeclarationKind) (init id value : Tree) (last : Trees) (moves : is_plain_part init ≡ true) (once : is_first (resolved spelling k) false value ≡ true) (passed : are_passed (resolved spelling k) init value ≡ true) where
+module _ (e : Environment) (spelling : List ℕ) (k : ℕ) (z : Unseen (alone (Declared k)) e) (K : VariableDeclarationKind) (init id value : Tree) (last : Trees) (moves : is_plain_part init ≡ true) (once : is_first (resolved spelling k) false value ≡ true) (passed : are_passed_by_value (resolved spelling k) init value ≡ true) where
   abbrev x : Name
   x = resolved spelling k
 
@@ -181,5 +182,5 @@ row_71_next {o = o} e k z n w r h t =
     let last = all_avoided x r.symbol refl r.last r.declared_later in
     let id = avoided x r.symbol refl r.binds r.other in
     let same = block_same e r.spelling r.symbol u r.before r.after (d ▸ none) (left ▸ none) (read_alone r.symbol d left (next_read r.kind r.spelling r.symbol r.first r.last r.init r.binds r.value (put_first x r.init r.value))) (all_avoided x r.symbol refl r.before r.earlier) (next_avoids x r.symbol refl r.kind r.first r.init r.binds r.value r.last r.once r.declared_earlier r.initial r.other r.declared_later, tt) (all_avoided x r.symbol refl r.after r.later)
-    (next_same e r.spelling r.symbol u r.kind r.init r.binds r.value r.last (movable o r.init r.moves) r.once r.passed id last (never_written r.kind e r.symbol (lexical_alone r.kind r.goes)) r.first) t in
+    (next_same e r.spelling r.symbol u r.kind r.init r.binds r.value r.last (movable o r.init r.moves) r.once (value_passed (resolved r.spelling r.symbol) r.init r.value r.passed) id last (never_written r.kind e r.symbol (lexical_alone r.kind r.goes)) r.first) t in
     subst (λ j. Same e (alone (Declared j)) nothing (Stat t) n w) (sym h) (subst₂ (Same e D nothing (Stat t)) (sym r.shape) (sym r.written) same)

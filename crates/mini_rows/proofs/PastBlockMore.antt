@@ -17,6 +17,7 @@ use Rattle.mini_node.specs.Children.{names_of, part}
 use Rattle.mini_terms.specs.Folds.{is_effect_free}
 use Rattle.mini_node.specs.Kinds.{is_identifier}
 use Rattle.mini_terms.specs.Kind.{is_primitive, kind as kind_of}
+use Rattle.mini_rows.proofs.Sunk.{past_others}
 use Rattle.mini_rows.specs.Past.{any_bind, is_let, begun, Kept, held, leaves, is_held_symbol, is_held_name, is_held, is_this, keeps_value, passes_any, passes_any_word, passes_any_member, passes_any_target, passes_any_item, passes_any_at, is_certain, are_past, are_past_in, all_past, PastRow}
 use Rattle.mini_rows.specs.Lists.{for_loop}
 use Rattle.mini_rows.specs.PastBlocks.{PastBlockRow, PastCaseRow, PastHeadRow, PastBlocksReadMore}
@@ -102,7 +103,7 @@ module _ (H G : Kept) (more : (x : Variable) → H.variables x ≡ true → G.va
         (both_more (passes_any_at H m r h t) (all_past H x m r h (suc i) ts) (passes_any_at G m r h t) (all_past G x m r h (suc i) ts) (at_more m r h t) (all_more x m r h (suc i) ts)) e
 
   past_more : (x : Name) (r t : Tree) → are_past H x r t ≡ true → are_past G x r t ≡ true
-  past_more x r t = past_in_more x OfValues r t
+  past_more x r t = past_others H G x r t (past_in_more x OfValues r t)
 
 -- ---- what is held
 

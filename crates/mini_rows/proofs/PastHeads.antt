@@ -16,7 +16,7 @@ use Rattle.mini_laws.specs.Substitution.{alone}
 use Rattle.mini_kept.specs.Without.{Unseen}
 use Rattle.mini_rows.specs.Declarations.{declarator}
 use Rattle.mini_rows.specs.Lists.{each_loop}
-use Rattle.mini_rows.specs.Past.{Kept, passes_any, is_certain, are_past, all_past}
+use Rattle.mini_rows.specs.Past.{Kept, passes_any, is_certain, are_past_by_value, all_past}
 use Rattle.mini_rows.specs.Sketches.{AsValue}
 use Rattle.mini_rows.specs.Unused.{resolved, names, any_names, is_first, OfValues, put_first, reads_head, evaluated}
 use Rattle.mini_rows.proofs.FoldMeaning.{plain_read}
@@ -48,7 +48,7 @@ module _ (e : Environment) (spelling : List ℕ) (k : ℕ) (z : Unseen (alone (D
   abbrev after : Value → State → State
   after v s = with_vars s (set_var s.vars (Declared k) (Holds v))
 
-  module _ (value : Tree) (once : is_first x false value ≡ true) (passed : are_past H x init value ≡ true) where
+  module _ (value : Tree) (once : is_first x false value ≡ true) (passed : are_past_by_value H x init value ≡ true) where
     reading : Path x AsValue value
     reading = path x false value once
 
@@ -61,7 +61,7 @@ module _ (e : Environment) (spelling : List ℕ) (k : ℕ) (z : Unseen (alone (D
     value_goes : (v : Want) (r : Request (As v)) (s : State) → Initialised H.variables s → Go (either (means e init (As Val) tt s) (λ p t. means e (led reading.steps (identifier (resolved reading.read.spelling k))) (As v) r (after p t)) (λ y t. stop y t)) (means e (led reading.steps init) (As v) r s)
     value_goes v r s ready =
         past_goes e k z init s x refl reading.read.spelling (sym (plain_read init moves)) (plain_item init moves) OfValues AsValue reading.steps reading.well reading.spared
-        (path_held e k z init s H still ready x refl OfValues reading.steps (resolved reading.read.spelling k) (read_named spelling k reading.read.spelling) (subst (λ y. Indirect (identifier (record { spelling = reading.read.spelling; symbol = y })) reading.steps) (same_symbol k reading.read.symbol reading.same) reading.direct) reading.spared (sym (ap (are_past H x init) (path_as x k refl AsValue value reading)) ∙ passed)) (As v) tt tt r tt
+        (path_held e k z init s H still ready x refl OfValues reading.steps (resolved reading.read.spelling k) (read_named spelling k reading.read.spelling) (subst (λ y. Indirect (identifier (record { spelling = reading.read.spelling; symbol = y })) reading.steps) (same_symbol k reading.read.symbol reading.same) reading.direct) reading.spared (sym (ap (are_past_by_value H x init) (path_as x k refl AsValue value reading)) ∙ passed)) (As v) tt tt r tt
 
     scope_goes : (c : Seat) → any_names x (rest c) ≡ false → (s : State) → Initialised H.variables s → GoesWith e k init (seated c value) (seated c (put_first x init value)) s
     scope_goes c beside s ready =
@@ -77,27 +77,27 @@ module _ (e : Environment) (spelling : List ℕ) (k : ℕ) (z : Unseen (alone (D
         (each_goes e k z x refl reading.read.spelling init reading.steps (Initialised H.variables) (value_goes Val tt) t.kind t.left t.body t.plain t.other t.later s ready))
 
   -- what a statement that opens a scope evaluates before all else
-  seated_past : (c : Seat) (value : Tree) → names x value ≡ true → are_past H x init (seated c value) ≡ true → are_past H x init value ≡ true
+  seated_past : (c : Seat) (value : Tree) → names x value ≡ true → are_past_by_value H x init (seated c value) ≡ true → are_past_by_value H x init value ≡ true
   seated_past (Choice cases) value n p =
       let ts : Trees = value ▸ (cases ▸ none) in
-      sym (ap (λ b. if b then are_past H x init value else (passes_any H init value && all_past H x OfValues init shape.SwitchStatement 1 (cases ▸ none))) n) ∙ (and_parts (is_certain x OfValues init shape.SwitchStatement ts) (all_past H x OfValues init shape.SwitchStatement 0 ts) p).1
+      sym (ap (λ b. if b then are_past_by_value H x init value else (passes_any H init value && all_past H x OfValues init shape.SwitchStatement 1 (cases ▸ none))) n) ∙ (and_parts (is_certain x OfValues init shape.SwitchStatement ts) (all_past H x OfValues init shape.SwitchStatement 0 ts) p).1
   seated_past (Loop u v w) value n p =
       let ts : Trees = value ▸ (u ▸ (v ▸ (w ▸ none))) in
-      sym (ap (λ b. if b then are_past H x init value else (passes_any H init value && all_past H x OfValues init shape.ForStatement 1 (u ▸ (v ▸ (w ▸ none))))) n) ∙ (and_parts (is_certain x OfValues init shape.ForStatement ts) (all_past H x OfValues init shape.ForStatement 0 ts) p).1
+      sym (ap (λ b. if b then are_past_by_value H x init value else (passes_any H init value && all_past H x OfValues init shape.ForStatement 1 (u ▸ (v ▸ (w ▸ none))))) n) ∙ (and_parts (is_certain x OfValues init shape.ForStatement ts) (all_past H x OfValues init shape.ForStatement 0 ts) p).1
 
-  pub head_goes : reads_head x head ≡ true → are_past H x init (evaluated head) ≡ true → (s : State) → Initialised H.variables s → GoesWith e k init head (put_first x init head) s
+  pub head_goes : reads_head x head ≡ true → are_past_by_value H x init (evaluated head) ≡ true → (s : State) → Initialised H.variables s → GoesWith e k init head (put_first x init head) s
   head_goes once passed s ready = by (heads x head once)
     where
       by : Heads x head → GoesWith e k init head (put_first x init head) s
-      by (inl (f, p)) = statement_goes e spelling k z H still init head moves f (sym (ap (are_past H x init) p) ∙ passed) s ready
+      by (inl (f, p)) = statement_goes e spelling k z H still init head moves f (sym (ap (are_past_by_value H x init) p) ∙ passed) s ready
       by (inr (inr (inl t))) =
-          let there = sym (ap (are_past H x init) (t.evaluates ∙ t.is)) ∙ passed in
+          let there = sym (ap (are_past_by_value H x init) (t.evaluates ∙ t.is)) ∙ passed in
           subst₂ (λ h w. GoesWith e k init h w s) (sym t.is) (sym (t.puts init)) (scope_goes t.value t.once (seated_past t.seat t.value (mentioned x false t.value t.once) there) t.seat t.beside s ready)
-      by (inr (inr (inr (inl t)))) = subst₂ (λ h w. GoesWith e k init h w s) (sym t.is) (sym (t.puts init)) (loop_goes t.value t.once (sym (ap (are_past H x init) t.evaluates) ∙ passed) t refl s ready)
+      by (inr (inr (inr (inl t)))) = subst₂ (λ h w. GoesWith e k init h w s) (sym t.is) (sym (t.puts init)) (loop_goes t.value t.once (sym (ap (are_past_by_value H x init) t.evaluates) ∙ passed) t refl s ready)
       by (inr (inr (inr (inr t)))) =
           subst₂ (λ h w. GoesWith e k init h w s) (sym t.is) (sym (t.puts init))
           (looped_goes e k z x refl init t.test t.update t.body t.beside (declarator t.binds t.value ▸ t.last) (declarator t.binds (put_first x init t.value) ▸ t.last) s
-          (initial_goes e spelling k z H still Var init t.binds t.value t.last moves t.once (sym (ap (are_past H x init) t.evaluates) ∙ passed) (avoided x k refl t.binds t.other) (all_avoided x k refl t.last t.later) s ready))
+          (initial_goes e spelling k z H still Var init t.binds t.value t.last moves t.once (sym (ap (are_past_by_value H x init) t.evaluates) ∙ passed) (avoided x k refl t.binds t.other) (all_avoided x k refl t.last t.later) s ready))
       by (inr (inl t)) =
           subst₂ (λ h w. GoesWith e k init h w s) (sym t.is) (sym (t.puts init))
-          (initial_goes e spelling k z H still t.kind init t.binds t.value t.last moves t.once (sym (ap (are_past H x init) t.evaluates) ∙ passed) (avoided x k refl t.binds t.other) (all_avoided x k refl t.last t.later) s ready)
+          (initial_goes e spelling k z H still t.kind init t.binds t.value t.last moves t.once (sym (ap (are_past_by_value H x init) t.evaluates) ∙ passed) (avoided x k refl t.binds t.other) (all_avoided x k refl t.last t.later) s ready)

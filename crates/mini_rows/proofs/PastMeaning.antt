@@ -28,7 +28,7 @@ use Rattle.mini_laws.proofs.Simulation.{within_refl}
 use Rattle.mini_kept.specs.AlikeBodies.{RunsAs}
 use Rattle.mini_kept.specs.Without.{Assured, Steadies, Begins, Unseen}
 use Rattle.mini_rows.specs.Lists.{declaration}
-use Rattle.mini_rows.specs.Past.{any_bind, is_let, begun, Kept, held, are_past}
+use Rattle.mini_rows.specs.Past.{any_bind, is_let, begun, Kept, held, are_past_by_value}
 use Rattle.mini_rows.specs.Sketches.{AsWholeItem, AsValue}
 use Rattle.mini_rows.specs.Unused.{resolved, names, any_names, declared_one, declared_left, statements, static_block, OfValues, put_first, reads_first}
 use Rattle.mini_rows.proofs.FoldMeaning.{plain_read}
@@ -76,7 +76,7 @@ module _ (e : Environment) (spelling : List ℕ) (k : ℕ) (z : Unseen (alone (D
   abbrev x : Name
   x = resolved spelling k
 
-  pub statement_goes : reads_first x head ≡ true → are_past H x init head ≡ true → (s : State) → Initialised H.variables s → GoesWith e k init head (put_first x init head) s
+  pub statement_goes : reads_first x head ≡ true → are_past_by_value H x init head ≡ true → (s : State) → Initialised H.variables s → GoesWith e k init head (put_first x init head) s
   statement_goes once passed s ready =
       let t = statement x head once in
       let step : Step = record { lead = t.lead; rest = t.rest; is_short = false } in
@@ -87,7 +87,7 @@ module _ (e : Environment) (spelling : List ℕ) (k : ℕ) (z : Unseen (alone (D
       let there : head ≡ found steps (identifier (resolved reading.spelling k)) = t.is ∙ t.along t.inner ∙ ap one (path_as x k refl AsValue t.inner t.path) in
       let put : put_first x init head ≡ led steps init = t.puts init ∙ t.along (put_first x init t.inner) ∙ ap one (t.path.puts init) in
       let spared : Spared x steps = ((ap (any_names x) t.front, t.free), t.path.spared) in
-      let past = path_held e k z init s H still ready x refl OfValues steps (resolved reading.spelling k) (read_named spelling k reading.spelling) (t.direct (found t.path.steps (identifier (resolved reading.spelling k))), subst (λ u. Indirect u t.path.steps) read_as t.path.direct) spared (sym (ap (are_past H x init) there) ∙ passed) in
+      let past = path_held e k z init s H still ready x refl OfValues steps (resolved reading.spelling k) (read_named spelling k reading.spelling) (t.direct (found t.path.steps (identifier (resolved reading.spelling k))), subst (λ u. Indirect u t.path.steps) read_as t.path.direct) spared (sym (ap (are_past_by_value H x init) there) ∙ passed) in
       subst₂ (λ h w. GoesWith e k init h w s) (sym there) (sym put)
       (goes_as e k init (found steps (identifier (resolved reading.spelling k))) (led steps (identifier (resolved reading.spelling k))) (found_same steps (identifier (resolved reading.spelling k))) (led steps init) s
       (past_goes e k z init s x refl reading.spelling (sym (plain_read init moves)) (plain_item init moves) OfValues AsWholeItem steps (t.stands (is_end t.path.steps), subst (λ c. Well c t.path.steps) (sym (t.below AsWholeItem)) t.path.well) spared past (Stat None) tt tt [] tt))

@@ -18,7 +18,7 @@ use Rattle.mini_laws.proofs.Simulation.{goes_either}
 use Rattle.mini_kept.specs.Without.{Unseen}
 use Rattle.mini_rows.specs.Lists.{declaration}
 use Rattle.mini_rows.specs.Declarations.{binding, declarator}
-use Rattle.mini_rows.specs.Past.{Kept, are_past}
+use Rattle.mini_rows.specs.Past.{Kept, are_past_by_value}
 use Rattle.mini_rows.specs.Sketches.{AsValue}
 use Rattle.mini_rows.specs.Unused.{resolved, is_first, OfValues, put_first}
 use Rattle.mini_rows.proofs.FoldMeaning.{plain_read}
@@ -35,7 +35,7 @@ use Rattle.mini_rows.proofs.SpellAlike.{SameTree}
 use Rattle.mini_rows.proofs.UnusedMeaning.{declared_then, same_symbol}
 use Rattle.mini_terms.specs.Reading.{is_plain_part}
 
-module _ (e : Environment) (spelling : List ℕ) (k : ℕ) (z : Unseen (alone (Declared k)) e) (H : Kept) (still : Still H e) (K : VariableDeclarationKind) (init id value : Tree) (last : Trees) (moves : is_plain_part init ≡ true) (once : is_first (resolved spelling k) false value ≡ true) (passed : are_past H (resolved spelling k) init value ≡ true) where
+module _ (e : Environment) (spelling : List ℕ) (k : ℕ) (z : Unseen (alone (Declared k)) e) (H : Kept) (still : Still H e) (K : VariableDeclarationKind) (init id value : Tree) (last : Trees) (moves : is_plain_part init ≡ true) (once : is_first (resolved spelling k) false value ≡ true) (passed : are_past_by_value H (resolved spelling k) init value ≡ true) where
   abbrev x : Name
   x = resolved spelling k
 
@@ -64,7 +64,7 @@ module _ (e : Environment) (spelling : List ℕ) (k : ℕ) (z : Unseen (alone (D
   value_goes s ready =
       subst₂ Go (read_there e k init value there same_there (As Val) tt s) (ap (λ w. means e w (As Val) tt s) (sym (reading.puts init)))
       (past_goes e k z init s x refl reading.read.spelling plain (plain_item init moves) OfValues AsValue reading.steps reading.well reading.spared
-      (path_held e k z init s H still ready x refl OfValues reading.steps (resolved reading.read.spelling k) (read_named spelling k reading.read.spelling) (subst (λ y. Indirect (identifier (record { spelling = reading.read.spelling; symbol = y })) reading.steps) (same_symbol k reading.read.symbol reading.same) reading.direct) reading.spared (sym (ap (are_past H x init) (path_as x k refl AsValue value reading)) ∙ passed)) (As Val) tt tt tt tt)
+      (path_held e k z init s H still ready x refl OfValues reading.steps (resolved reading.read.spelling k) (read_named spelling k reading.read.spelling) (subst (λ y. Indirect (identifier (record { spelling = reading.read.spelling; symbol = y })) reading.steps) (same_symbol k reading.read.symbol reading.same) reading.direct) reading.spared (sym (ap (are_past_by_value H x init) (path_as x k refl AsValue value reading)) ∙ passed)) (As Val) tt tt tt tt)
 
   value_there : (summary value).facts.absent ≡ false
   value_there = ap (λ i. i.facts.absent) same_there.read ∙ led_there reading.steps (identifier (resolved reading.read.spelling k)) refl

@@ -19,6 +19,7 @@ use Rattle.mini_laws.proofs.Congruent.{transitive}
 use Rattle.mini_kept.specs.AlikeBodies.{RunsAs}
 use Rattle.mini_kept.specs.Frames.{ports}
 use Rattle.mini_kept.specs.Without.{Assured, Steadies, Begins, Permits}
+use Rattle.mini_rows.proofs.Sunk.{value_past}
 use Rattle.mini_rows.specs.Lists.{declaration}
 use Rattle.mini_rows.specs.Declarations.{binding, declarator}
 use Rattle.mini_rows.specs.Past.{binds, any_bind, begun, held, Row71Past, Row71PastNext, PastRow, PastRunsAlike}
@@ -116,7 +117,7 @@ of_head V W outside ts us r =
       same = λ e u s.
           let off = behind_off V r.before K r.first (declarator (binding x) r.init ▸ none) (r.head ▸ r.after) ts r.shape in
           let moved = behind_same e D u.unseen.shared X H.variables pre (one ▸ (r.head ▸ none)) (put ▸ none) r.after (all_avoided x k refl r.after r.later) off (held_there V ts r.before K r.first off)
-          (pair_same e r.spelling k u.unseen H.variables r.init r.head put (ap (λ i. i.facts.absent) (plain_read r.init (movable W.switches r.init r.moves))) K (may_write W.writable K e k r.goes u) (head_goes e r.spelling k u.unseen H (held_still V ts r.before (is_lexical K) r.first e s) r.init r.head (movable W.switches r.init r.moves) r.once r.passed)) in
+          (pair_same e r.spelling k u.unseen H.variables r.init r.head put (ap (λ i. i.facts.absent) (plain_read r.init (movable W.switches r.init r.moves))) K (may_write W.writable K e k r.goes u) (head_goes e r.spelling k u.unseen H (held_still V ts r.before (is_lexical K) r.first e s) r.init r.head (movable W.switches r.init r.moves) r.once (value_past H (resolved r.spelling k) r.init (evaluated r.head) r.passed))) in
           transitive e D X (Stat None) (listed (append r.before (d ▸ (r.head ▸ r.after)))) (listed (append pre (one ▸ (r.head ▸ r.after)))) (listed (append r.before (left ▸ (put ▸ r.after)))) (in_two e K r.first (declarator (binding x) r.init ▸ none) D X r.before (r.head ▸ r.after))
           (subst (λ us. Same e D X (Stat None) (listed (append pre (one ▸ (r.head ▸ r.after)))) (listed us)) (append_twice r.before (left ▸ none) (put ▸ r.after)) moved);
       avoids = (first_avoids (alone (Declared k)) K r.first (all_avoided x k refl r.first r.declared_earlier), (avoided x k refl put (head_unnamed x r.head r.once r.init r.initial), tt));
@@ -160,7 +161,7 @@ of_next V W outside ts us r =
       same = λ e u s.
           let off = behind_off V r.before K r.first these r.after ts r.shape in
           let moved = behind_same e D u.unseen.shared X H.variables pre (declaration K these ▸ none) (declaration K those ▸ none) r.after (all_avoided x k refl r.after r.later) off (held_there V ts r.before K r.first off)
-          (next_past e r.spelling k u.unseen H (held_still V ts r.before (is_lexical K) r.first e s) K r.init r.binds r.value r.last (movable W.switches r.init r.moves) r.once r.passed (avoided x k refl r.binds r.other) (all_avoided x k refl r.last r.declared_later) (may_write W.writable K e k r.goes u)) in
+          (next_past e r.spelling k u.unseen H (held_still V ts r.before (is_lexical K) r.first e s) K r.init r.binds r.value r.last (movable W.switches r.init r.moves) r.once (value_past H (resolved r.spelling k) r.init r.value r.passed) (avoided x k refl r.binds r.other) (all_avoided x k refl r.last r.declared_later) (may_write W.writable K e k r.goes u)) in
           transitive e D X (Stat None) (listed (append r.before (d ▸ r.after))) (listed (append pre (declaration K these ▸ r.after))) (listed (append r.before (w ▸ r.after))) (in_two e K r.first these D X r.before r.after)
           (transitive e D X (Stat None) (listed (append pre (declaration K these ▸ r.after))) (listed (append pre (declaration K those ▸ r.after))) (listed (append r.before (w ▸ r.after))) moved (in_one e K r.first those D X r.before r.after));
       avoids = (next_avoids x k refl K r.first r.init r.binds r.value r.last r.once r.declared_earlier r.initial r.other r.declared_later, tt);

@@ -12,7 +12,7 @@ use Rattle.mini_accept.specs.WellShaped.{nested, a_statement, an_init, an_expres
 use Rattle.mini_kept.proofs.Bools.{both}
 use Rattle.mini_kept.proofs.Expressions.{refused_here, expression_taken}
 use Rattle.mini_rows.specs.Sketches.{shape_by, Asked, AsWholeItem, AsValue, AsValues, AsTarget, AsUpdated, asked_below}
-use Rattle.mini_rows.specs.Unused.{is_number_shape, OfValues, is_constant, is_first, put_first, are_passed, reads_first}
+use Rattle.mini_rows.specs.Unused.{is_number_shape, OfValues, is_constant, is_first, put_first, are_passed_by_value, reads_first}
 use Rattle.mini_rows.proofs.SingleUse.{Lead, Not, Plus, Minus, Tilde, Typing, Emptying, Beside, Deciding, Choosing, Passing, Called, Making, Waiting, Member, Keyed, Linking, Holding, Against, Given, Filling, Keying, Interpolating, Following, Branching, Failing, Storing, Gathering, Fielding, Spreading, Bracketing, Targeted, Changing, Listing, Doing, Giving, Raising, Testing, target_stands, head_of, before, place, Step, led, is_end, Stands, Well, suited, Suited, Path, path, statement, found, found_head, by_front, ends_short}
 
 -- r is no number that stands right under a minus
@@ -443,7 +443,7 @@ module _ (strict : Bool) where
 
 -- what may stand in the place of what a tree reads: no number, or what its parts pass
 abbrev pub MayStand : Name → Tree → Tree → Type 0
-MayStand x r t = (is_number_shape (shape_of r) ≡ false) ⊎ (are_passed x r t ≡ true)
+MayStand x r t = (is_number_shape (shape_of r) ≡ false) ⊎ (are_passed_by_value x r t ≡ true)
 
 unsigned_lead : (r : Tree) → is_number_shape (shape_of r) ≡ false → (l : Lead) (b : Bool) → unsigned r l b ≡ true
 unsigned_lead r n Minus true = ap (λ c. not c) n

@@ -28,7 +28,7 @@ use Rattle.mini_rows.specs.Sketches.{Head, AList, Update, target_asked, AsTarget
 use Rattle.mini_rows.specs.Lists.{declaration, for_loop, is_var_shape, Each, EachIn, EachOf, each_loop}
 use Rattle.mini_rows.specs.Declarations.{declarator}
 use Rattle.mini_rows.specs.Chains.{is_calm}
-use Rattle.mini_rows.specs.Unused.{is_like_one, is_member_shape, is_member, names, any_names, begins, goes_on, may_go_on, has_branches, leads, has_arguments, holds_list, is_childless, is_own_key, can_be_full, in_full, may_hold, reads, is_first, leads_to, put_first, put_among, is_constant, passes_at, is_plain_assignment, is_sure, is_placed, Gathered, OfValues, of_entries, gathered_below, begins_with, is_reached, is_number_shape, is_called_by_value, suits, are_passed_in, are_passed, all_passed, reads_first, is_declarator, declares_list, reads_declarator, reads_declarators, reads_initially, reads_outside, is_open_left, reads_over, has_declarator, first_value, reads_begun, reads_head, evaluated}
+use Rattle.mini_rows.specs.Unused.{is_like_one, is_member_shape, is_member, names, any_names, begins, goes_on, may_go_on, has_branches, leads, has_arguments, holds_list, is_childless, is_own_key, can_be_full, in_full, may_hold, reads, is_first, leads_to, put_first, put_among, is_constant, passes_at, is_plain_assignment, is_sure, is_placed, Gathered, OfValues, of_entries, gathered_below, begins_with, is_reached, is_number_shape, is_called_by_value, suits, are_passed_in, are_passed_by_value, all_passed, reads_first, is_declarator, declares_list, reads_declarator, reads_declarators, reads_initially, reads_outside, is_open_left, reads_over, has_declarator, first_value, reads_begun, reads_head, evaluated}
 use Rattle.mini_rows.proofs.Arranging.{Plain, Below, sum_below, Local, Summed}
 use Rattle.mini_rows.proofs.ListKeptHeads.{Seat, Loop, Choice, seated, rest}
 
@@ -723,7 +723,7 @@ pub record Statement (x : Name) (t : Tree) : Type 0 where
   pub is : t ≡ node (shape_by (head_of lead)) [] 0 (inner ▸ rest)
   pub puts : (r : Tree) → put_first x r t ≡ node (shape_by (head_of lead)) [] 0 (put_first x r inner ▸ rest)
   pub along : (u : Tree) → node (shape_by (head_of lead)) [] 0 (u ▸ rest) ≡ led (record { lead = lead; rest = rest; is_short = false } ∷ []) u
-  pub passed : (r : Tree) → are_passed x r t ≡ true → are_passed x r inner ≡ true
+  pub passed : (r : Tree) → are_passed_by_value x r t ≡ true → are_passed_by_value x r inner ≡ true
 
 -- nothing that leads there is shorthand, but as it is found
 full_head : (l : Lead) → in_full (shape_by (head_of l)) ≡ shape_by (head_of l)
@@ -860,7 +860,7 @@ pub record Outside (x : Name) (t : Tree) : Type 0 where
   pub is : t ≡ seated seat value
   pub puts : (r : Tree) → put_first x r t ≡ seated seat (put_first x r value)
   pub evaluates : evaluated t ≡ t
-  pub passed : (r : Tree) → are_passed x r t ≡ true → are_passed x r value ≡ true
+  pub passed : (r : Tree) → are_passed_by_value x r t ≡ true → are_passed_by_value x r value ≡ true
 
 outside_of : (x : Name) (s : Seat) (h : Shape) (value : Tree) (ts : Trees) → in_full h ≡ h → ((u : Tree) → seated s u ≡ node h [] 0 (u ▸ ts)) → rest s ≡ ts → evaluated (seated s value) ≡ seated s value → gathered_below OfValues h 0 ≡ OfValues → is_first x false value && not (any_names x (rest_children 0 ts)) ≡ true → Outside x (seated s value)
 outside_of x s h value ts full there same evaluates low e =
@@ -874,7 +874,7 @@ outside_of x s h value ts full there same evaluates low e =
       is = refl;
       puts = λ r. ap (put_first x r) (there value) ∙ ap (λ h. node h [] 0 (put_among x r (value ▸ ts))) full ∙ ap (λ c. node h [] 0 (if c then put_first x r value ▸ ts else value ▸ put_among x r ts)) n ∙ sym (there (put_first x r value));
       evaluates = evaluates;
-      passed = λ r e. sym (ap (λ m. are_passed_in x m r value) low) ∙ sym (ap (λ c. if c then are_passed_in x (gathered_below OfValues h 0) r value else (passes_at OfValues r h 0 value && all_passed x OfValues r h 1 ts)) n) ∙ (parted x OfValues r h (value ▸ ts) (sym (ap (are_passed x r) (there value)) ∙ e)).all;
+      passed = λ r e. sym (ap (λ m. are_passed_in x m r value) low) ∙ sym (ap (λ c. if c then are_passed_in x (gathered_below OfValues h 0) r value else (passes_at OfValues r h 0 value && all_passed x OfValues r h 1 ts)) n) ∙ (parted x OfValues r h (value ▸ ts) (sym (ap (are_passed_by_value x r) (there value)) ∙ e)).all;
     }
 
 outside : (x : Name) (t : Tree) → reads_outside x t ≡ true → Outside x t

@@ -285,6 +285,7 @@ module _ (q : ℕ → Demand) (σ : ℕ → Bool) where
   tame_super : (d : Demand) (r : Request d) → Tame {q = q} σ (super_member d r)
   unfolding Tame
   tame_super Callee r = ((λ v. ((λ u. tt), (λ x n. n))), (λ x n. n))
+  tame_super Deleted r = ((λ v. ((λ u. tt), (λ x n. n))), (λ x n. n))
   tame_super d r = tame_carried_target state.Anything d r
 
   tame_pattern_target : (d : Demand) (r : Request d) → Tame {q = q} σ (pattern_target d r)

@@ -51,6 +51,7 @@ use Rattle.mini_node.specs.Made.{absent_is}
 use Rattle.mini_terms.specs.Folds.{is_effect_free}
 use Rattle.mini_terms.specs.Parts.{leaves_nothing}
 use Rattle.mini_terms.specs.Reading.{is_plain_part}
+use Rattle.mini_rows.proofs.Sunk.{value_passed}
 use Rattle.mini_rows.specs.Arranged.{Vanishes}
 use Rattle.mini_rows.specs.Lists.{block, declares_nothing, declaration, Each, EachIn, EachOf, each_loop}
 use Rattle.mini_rows.specs.Declarations.{binding, declarator}
@@ -443,7 +444,7 @@ row_blocks {o = o} n w (inr (inr (inr r))) =
     let x = resolved r.spelling r.symbol in
     let d = declared_among r.kind x r.first r.init (declarator r.binds r.value ▸ r.last) in
     let left = declaration r.kind (append r.first (declarator r.binds (put_first x r.init r.value) ▸ r.last)) in
-    record { first = append r.before (d ▸ r.after); second = append r.before (left ▸ r.after); before = r.shape; after = r.written; fitting = λ strict. one_item strict r.before r.after d left (next_fits strict r.kind x r.first r.init r.binds r.value r.last (movable o r.init r.moves) r.once (inr r.passed)) }
+    record { first = append r.before (d ▸ r.after); second = append r.before (left ▸ r.after); before = r.shape; after = r.written; fitting = λ strict. one_item strict r.before r.after d left (next_fits strict r.kind x r.first r.init r.binds r.value r.last (movable o r.init r.moves) r.once (inr (value_passed (resolved r.spelling r.symbol) r.init r.value r.passed))) }
 
 -- of two blocks, whatever is told by their shape
 shaped : (n w : Tree) (P : Tree → Tree → Type 0) → ((first_list second_list : Trees) → P (block first_list) (block second_list)) → Blocks n w → P n w

@@ -17,10 +17,11 @@ use Rattle.mini_laws.specs.Congruence.{AllAvoid}
 use Rattle.mini_kept.specs.Frames.{ports}
 use Rattle.mini_kept.specs.Without.{Permits}
 use Rattle.mini_node.specs.Kinds.{is_listed_shape}
+use Rattle.mini_rows.proofs.Sunk.{value_passed}
 use Rattle.mini_rows.specs.Lists.{block, declares_nothing, declaration, Each, EachIn, EachOf, each_loop}
 use Rattle.mini_rows.specs.Declarations.{binding, declarator}
 use Rattle.mini_rows.specs.Sketches.{shape_by, AsWholeItem}
-use Rattle.mini_rows.specs.Unused.{resolved, names, any_names, declared_one, declared_among, declared_left, is_idle, is_first, reads_first, put_first, are_passed, reads_head, reads_hidden, takes, lets_go, BlockRow}
+use Rattle.mini_rows.specs.Unused.{resolved, names, any_names, declared_one, declared_among, declared_left, is_idle, is_first, reads_first, put_first, are_passed_by_value, reads_head, reads_hidden, takes, lets_go, BlockRow}
 use Rattle.mini_rows.specs.Switches.{Switches, Liberties, without_vars}
 use Rattle.mini_rows.proofs.ListShapes.{declaration_anywhere, first_fits, more_fit}
 use Rattle.mini_rows.proofs.SingleUse.{Lead, Doing, Giving, Raising, Testing, head_of, Stands, statement, Heads, heads}
@@ -253,7 +254,7 @@ module _ (W : VariableSet) (K : VariableDeclarationKind) (s : List ℕ) (k : ℕ
         ported = λ rest. there.head_ported rest ∙ sym (there.put_ported rest) ∙ left_ported K first (put ▸ rest);
       }
 
-  pub of_next : (first : Trees) (init binds value : Tree) (last : Trees) → is_plain_part init ≡ true → is_first x false value ≡ true → are_passed x init value ≡ true → names x binds ≡ false → names x init ≡ false → any_names x first ≡ false → any_names x last ≡ false → Loses W s k (declared_among K x first init (declarator binds value ▸ last) ▸ none) (declaration K (append first (declarator binds (put_first x init value) ▸ last)) ▸ none)
+  pub of_next : (first : Trees) (init binds value : Tree) (last : Trees) → is_plain_part init ≡ true → is_first x false value ≡ true → are_passed_by_value x init value ≡ true → names x binds ≡ false → names x init ≡ false → any_names x first ≡ false → any_names x last ≡ false → Loses W s k (declared_among K x first init (declarator binds value ▸ last) ▸ none) (declaration K (append first (declarator binds (put_first x init value) ▸ last)) ▸ none)
   of_next first init binds value last moves once passed other initial earlier later =
       let d = declared_among K x first init (declarator binds value ▸ last) in
       let w = declaration K (append first (declarator binds (put_first x init value) ▸ last)) in
@@ -282,7 +283,7 @@ row_stretch W p a b e (inr (inr (inl r))) =
     (ap list_of r.written)
 row_stretch W p a b e (inr (inr (inr r))) =
     let x = resolved r.spelling r.symbol in
-    stretch W.writable p a b e r.spelling r.symbol r.before r.after (declared_among r.kind x r.first r.init (declarator r.binds r.value ▸ r.last)) none (declaration r.kind (append r.first (declarator r.binds (put_first x r.init r.value) ▸ r.last)) ▸ none) refl (of_next W.writable r.kind r.spelling r.symbol r.goes r.first r.init r.binds r.value r.last (movable W.switches r.init r.moves) r.once r.passed r.other r.initial r.declared_earlier r.declared_later) r.earlier r.later (ap list_of r.shape)
+    stretch W.writable p a b e r.spelling r.symbol r.before r.after (declared_among r.kind x r.first r.init (declarator r.binds r.value ▸ r.last)) none (declaration r.kind (append r.first (declarator r.binds (put_first x r.init r.value) ▸ r.last)) ▸ none) refl (of_next W.writable r.kind r.spelling r.symbol r.goes r.first r.init r.binds r.value r.last (movable W.switches r.init r.moves) r.once (value_passed (resolved r.spelling r.symbol) r.init r.value r.passed) r.other r.initial r.declared_earlier r.declared_later) r.earlier r.later (ap list_of r.shape)
     (ap list_of r.written)
 
 -- in a block, or in a switch, what is declared is a lexical name

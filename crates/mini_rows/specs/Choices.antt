@@ -28,6 +28,7 @@ use Rattle.mini_kept.specs.Lawful.{Lawful}
 use Rattle.mini_kept.specs.Loosely.{LawfulLoosely}
 use Rattle.mini_rows.specs.Arranged.{WhereFixed}
 use Rattle.mini_rows.specs.Lists.{sequence}
+use Rattle.mini_rows.specs.Nesting.{may_join}
 use Rattle.mini_rows.specs.Spellings.{IsUndefined, binary, text, assignment}
 use Rattle.mini_rows.specs.Chains.{Row46Chain}
 use Rattle.mini_rows.specs.ChainLinks.{ChainRow}
@@ -311,21 +312,23 @@ pub record Row41And (n w : Tree) : Type 0 where
   pub shape : n ≡ conditional (identifier name) b (identifier name)
   pub written : w ≡ logical And (identifier name) b
 
--- 42: `a ? b ? c : d : d` becomes `a && b ? c : d`
+-- 42: `a ? b ? c : d : d` becomes `a && b ? c : d`, where `a && b` nests no deeper than may be put deeper
 pub record Row42And (n w : Tree) : Type 0 where
   pub a : Tree
   pub b : Tree
   pub c : Tree
   pub d : Tree
+  pub shallow : may_join a b ≡ true
   pub shape : n ≡ conditional a (conditional b c d) d
   pub written : w ≡ conditional (logical And a b) c d
 
--- 42: `a ? c : b ? c : d` becomes `a || b ? c : d`
+-- 42: `a ? c : b ? c : d` becomes `a || b ? c : d`, where `a || b` does so
 pub record Row42Or (n w : Tree) : Type 0 where
   pub a : Tree
   pub b : Tree
   pub c : Tree
   pub d : Tree
+  pub shallow : may_join a b ≡ true
   pub shape : n ≡ conditional a c (conditional b c d)
   pub written : w ≡ conditional (logical Or a b) c d
 

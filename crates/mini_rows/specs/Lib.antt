@@ -2,6 +2,7 @@ pub mod Switches
 pub mod Spellings
 pub mod SpellKeys
 pub mod KeyHolders
+pub mod Nesting
 pub mod Lists
 pub mod Declarations
 pub mod ListLaws

@@ -18,6 +18,7 @@ use Rattle.mini_laws.specs.declared.names.Declared.TheVariants as declared
 use Rattle.mini_laws.specs.DeclaredNames.{names_of}
 use Rattle.mini_node.specs.Kinds.{is_listed_shape}
 use Rattle.mini_rows.specs.Switches.{Switches}
+use Rattle.mini_rows.specs.Nesting.{may_sink, may_all_sink, may_join}
 use Rattle.mini_terms.specs.Parts.{leaves_nothing}
 
 -- Nodes, one function a node
@@ -67,29 +68,6 @@ void_zero = unary Void (leaf (shape.NumericLiteral (pos 0)))
 -- an argument that may be absent, as a value
 abbrev pub or_void : Tree → Tree
 or_void a = if is_absent a then void_zero else a
-
-abbrev pub is_conditional_shape : Shape → Bool
-is_conditional_shape shape.ConditionalExpression = true
-is_conditional_shape _ = false
-
-abbrev pub has_third : Trees → Bool
-has_third (a ▸ (b ▸ (c ▸ ts))) = true
-has_third _ = false
-
--- the chain of alternates begins with so many conditionals, as `a ? b : c ? d : e` with two
-unfoldable pub has_alternates : ℕ → Tree → Bool
-has_alternates zero t = true
-has_alternates (suc n) t = is_conditional_shape (shape_of t) && (has_third (children t) && has_alternates n (child_or_absent (children t) 2))
-
--- it nests at most so many nodes deep, itself and lists among them: `a` one, `-a` two, `{ a; }` four
-unfoldable mutual
-  pub is_shallow : ℕ → Tree → Bool
-  is_shallow zero t = false
-  is_shallow (suc levels) (node h xs n ts) = are_shallow levels ts
-
-  pub are_shallow : ℕ → Trees → Bool
-  are_shallow levels none = true
-  are_shallow levels (t ▸ ts) = is_shallow levels t && are_shallow levels ts
 
 -- What is declared
 
@@ -272,14 +250,14 @@ pub record Row79 (a b : Trees) : Type 0 where
   pub written : b ≡ statements
 
 -- 73, of the jumps `return` and `throw`: `if (a) return b; return c;` becomes `return a ? b : c;`, where an absent b is
--- `void 0`, and c is no long chain of conditionals
+-- `void 0`, and c nests no deeper than may be put deeper, as no long chain of conditionals does
 pub record Row73 (jump : Tree → Tree) (a b : Trees) : Type 0 where
   pub test : Tree
   pub left : Tree
   pub right : Tree
   pub whole : (left ≡ absent) ⊎ (is_absent left ≡ false)
   pub present : is_absent right ≡ false
-  pub short : has_alternates 500 right ≡ false
+  pub shallow : may_sink right ≡ true
   pub shape : a ≡ if_alone test (jump left) ▸ (jump right ▸ none)
   pub written : b ≡ jump (conditional test (or_void left) right) ▸ none
 
@@ -363,15 +341,15 @@ pub record Row76 (a b : Trees) : Type 0 where
   pub shape : a ≡ if_else test s u ▸ none
   pub written : b ≡ if_alone test s ▸ (u ▸ none)
 
--- 74: `if (a) s; if (b) s;` becomes `if (a || b) s`, where s ends in a jump, and a nests no deeper than 64; the second may have
--- an `else`, which stays
+-- 74: `if (a) s; if (b) s;` becomes `if (a || b) s`, where s ends in a jump, and `a || b` nests no deeper than may be put deeper;
+-- the second may have an `else`, which stays
 pub record Row74 (a b : Trees) : Type 0 where
   pub left : Tree
   pub right : Tree
   pub s : Tree
   pub u : Tree
   pub terminated : is_terminated s ≡ true
-  pub shallow : is_shallow 64 left ≡ true
+  pub shallow : may_join left right ≡ true
   pub shape : a ≡ if_alone left s ▸ (if_else right s u ▸ none)
   pub written : b ≡ if_else (logical Or left right) s u ▸ none
 
@@ -657,12 +635,12 @@ pub record Row78 (jump : Tree) (a b : Trees) : Type 0 where
   pub shape : a ≡ jump ▸ none
   pub written : b ≡ none
 
--- 75: `if (a) return; b; c;` becomes `if (!a) { b; c; }`, where b and c nest no deeper than 64
+-- 75: `if (a) return; b; c;` becomes `if (!a) { b; c; }`, where b and c nest no deeper than may be put deeper
 pub record Row75 (jump : Tree) (a b : Trees) : Type 0 where
   pub test : Tree
   pub rest : Trees
   pub unscoped : are_unscoped rest ≡ true
-  pub shallow : are_shallow 64 rest ≡ true
+  pub shallow : may_all_sink rest ≡ true
   pub shape : a ≡ if_alone test jump ▸ rest
   pub written : b ≡ if_alone (negation test) (block rest) ▸ none
 
@@ -678,7 +656,7 @@ pub record Row75Block (jump : Tree) (a b : Trees) : Type 0 where
   pub rest : Trees
   pub loose : are_unscoped body ≡ true
   pub unscoped : are_unscoped rest ≡ true
-  pub shallow : are_shallow 64 rest ≡ true
+  pub shallow : may_all_sink rest ≡ true
   pub shape : a ≡ if_alone test (block (append body (jump ▸ none))) ▸ rest
   pub written : b ≡ if_else test (block body) (alternate_of rest) ▸ none
 

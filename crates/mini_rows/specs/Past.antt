@@ -29,6 +29,7 @@ use Rattle.mini_rows.specs.Lists.{block, declaration}
 use Rattle.mini_rows.specs.Declarations.{declarator}
 use Rattle.mini_rows.specs.Inside.{is_lexical_shape}
 use Rattle.mini_rows.specs.Switches.{Liberties}
+use Rattle.mini_rows.specs.Nesting.{fits_in}
 use Rattle.mini_rows.specs.Unused.{resolved, names, any_names, declared_among, declared_left, lets_go, begins_with, suits, is_sure, is_placed, is_first, put_first, is_constant, is_plain_assignment, is_word, is_member, is_field, Gathered, OfValues, OfTexts, of_entries, gathered_below, reads_head, evaluated, is_declarator, declares_list, is_childless, may_move, statements, function_with}
 
 -- ---- what may be evaluated before the initializer
@@ -199,8 +200,12 @@ abbrev mutual
   all_past H x gathered r h i (t ▸ ts) = if names x t then are_past_in H x (gathered_below gathered h i) r t else (passes_any_at H gathered r h t && all_past H x gathered r h (suc i) ts)
 
 -- of which a value is asked
+abbrev pub are_past_by_value : Kept → Name → Tree → Tree → Bool
+are_past_by_value H x = are_past_in H x OfValues
+
+-- and r may be put in the place of what is read, by how deep both nest
 abbrev pub are_past : Kept → Name → Tree → Tree → Bool
-are_past H x = are_past_in H x OfValues
+are_past H x r t = are_past_by_value H x r t && fits_in r t
 
 -- ---- in the statements of a body
 

@@ -31,6 +31,7 @@ pub use Rattle.mini_rows.specs.declared.gathered.Gathered.TheVariants.{Values as
 use Rattle.mini_rows.specs.Cases.{switch_case}
 use Rattle.mini_rows.specs.Lists.{block, switch, for_loop, declaration, declares_nothing, is_var_shape, is_bare_var}
 pub use Rattle.mini_rows.specs.Lists.{resolved}
+use Rattle.mini_rows.specs.Nesting.{fits_in}
 use Rattle.mini_rows.specs.Declarations.{binding, declarator}
 use Rattle.mini_rows.specs.Chains.{is_calm}
 use Rattle.mini_rows.specs.ChainLinks.{is_lone_by}
@@ -443,8 +444,12 @@ abbrev mutual
   all_passed x gathered r h i (t ▸ ts) = if names x t then are_passed_in x (gathered_below gathered h i) r t else (passes_at gathered r h i t && all_passed x gathered r h (suc i) ts)
 
 -- of which a value is asked
+abbrev pub are_passed_by_value : Name → Tree → Tree → Bool
+are_passed_by_value x = are_passed_in x OfValues
+
+-- and r may be put in the place of what is read, by how deep both nest
 abbrev pub are_passed : Name → Tree → Tree → Bool
-are_passed x = are_passed_in x OfValues
+are_passed x r t = are_passed_by_value x r t && fits_in r t
 
 abbrev pub is_head_shape : Shape → Bool
 is_head_shape shape.ExpressionStatement = true

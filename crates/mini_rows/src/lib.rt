@@ -20,6 +20,7 @@ mod lists;
 mod loop_guards;
 mod names;
 mod negations;
+mod nesting;
 mod operands;
 mod parts;
 mod past;
@@ -51,6 +52,9 @@ pub use lexical::{
 pub use loop_guards::{loop_guards_are_lawful, loop_guards_lighten, loop_guards_mean_the_same};
 pub use names::{names_are_lawful, names_lighten};
 pub use negations::{negations_are_lawful, negations_lighten, negations_mean_the_same};
+pub use nesting::{
+    are_shallow, fits_in, is_shallow, may_all_sink, may_join, may_sink, rows_keep_their_depth,
+};
 pub use operands::{operands_are_lawful, operands_are_lighter, operands_mean_the_same};
 pub use parts::{own_parts_are_lawful, own_parts_lighten};
 pub use past::{

@@ -4,7 +4,7 @@ use Rattle.std.proofs.Common.{ap, ◌∙◌, sym, arith, append_assoc}
 use Rattle.std.proofs.lemmas.List.{append-nil, map-append}
 use Rattle.mini_model.specs.Weight.{same_text}
 use Rattle.mini_laws.specs.declared.names.Binding.{Binding}
-use Rattle.mini_scope.specs.Buckets.{has_name}
+use Rattle.mini_scope.specs.Spelled.{has_name}
 use Rattle.mini_laws.specs.declared.names.Declaration.{Declaration}
 use Rattle.mini_laws.specs.Early.{clashes_any, clashing}
 use Rattle.mini_scope.specs.Paths.{use_for}

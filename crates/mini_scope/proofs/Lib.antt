@@ -3,6 +3,7 @@ mod Opened
 mod Walk
 mod Refused
 mod Places
+mod Renumbered
 mod Earlier
 mod EarlyWalk
 mod Folds

@@ -7,7 +7,7 @@ use Rattle.mini_model.specs.Weight.{same_text}
 use Rattle.mini_laws.specs.declared.names.Use.TheVariants.{Read}
 use Rattle.mini_laws.specs.declared.names.Binding.{Binding}
 use Rattle.mini_laws.specs.DeclaredNames.{is_spelled, with_name, with_names}
-use Rattle.mini_scope.specs.Buckets.{has_name}
+use Rattle.mini_scope.specs.Spelled.{has_name}
 use Rattle.mini_scope.specs.ScopeAt.{bound}
 
 pub has_spelled : (h : Bool) (s : List ℕ) (xs : List Name) → has_name Read s (bound h xs) ≡ is_spelled s xs

@@ -1,5 +1,5 @@
 pub mod ScopeAt
 pub mod Pointers
-pub mod Buckets
+pub mod Spelled
 pub mod Paths
 pub mod Errors

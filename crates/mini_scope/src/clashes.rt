@@ -40,7 +40,7 @@ pub fn push_clashing(
     if declarations.len() < 2 {
         return Ok(());
     }
-    let mut earlier = Environment::new(alloc, declarations.len() / 2 + 1)?;
+    let mut earlier = Environment::new(alloc);
     for declaration in declarations {
         let Declaration {
             spelling,

@@ -62,7 +62,7 @@ pub fn scope_of(
     if count == 0 && names.len() == 1 {
         return bindings_of(alloc, names, hoists);
     }
-    let mut scope = Environment::new(alloc, names.len() / 2 + 1)?;
+    let mut scope = Environment::new(alloc);
     add_all(&mut scope, given, hoists)?;
     add_distinct(&mut scope, names, hoists)?;
     let mut bindings = scope.into_bindings();

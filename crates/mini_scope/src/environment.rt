@@ -2,33 +2,34 @@
 
 ghost use Rattle.std.specs.Prelude.{◌≡◌, ◌+◌, ◌-◌, ◌^◌, ◌<◌, ◌++◌, ◌∷◌, [], length, take, IfOk, OnOk};
 ghost use Rattle.mini_laws.specs.Resolved.{symbol_of, own_symbol, or_else, is_for as is_binding_for, numbered};
-ghost use Rattle.mini_scope.specs.Buckets.{AreEmpty, has_name};
+ghost use Rattle.mini_scope.specs.Spelled.{has_name, spelled};
 
-use crate::hash::bucket_of;
+use crate::numbers::{number_of, number_or_new};
 use mini_laws::{Binding, Use};
 use mini_model::{OutOfMemory, SymbolId, Text};
 use std::alloc::Global;
+use std::collections::BTreeMap;
 use std::marker::Model;
 
 /// The names that the scopes around a place declare, the outermost first. A contract sees the list.
 #[derive(Drop)]
 pub struct Environment {
+    alloc: Global,
     bindings: Vec<Binding>,
+    numbers: BTreeMap<Vec<u16>, usize>,
     buckets: Vec<Vec<usize>>,
 }
 
 impl Model for Environment {
-    ghost use Rattle.std.specs.Prelude.{ℕ, List, ◌<◌, ◌≡◌, length, slice_index_or};
-    ghost use Rattle.std.specs.declared.vec.Vec.{Vec};
-    ghost use Rattle.std.specs.declared.alloc.Global.{Global};
+    ghost use Rattle.std.specs.Prelude.{List};
     ghost use Rattle.mini_laws.specs.declared.names.Binding.{Binding};
-    ghost use Rattle.mini_scope.specs.Buckets.{places};
+    ghost use Rattle.mini_scope.specs.Spelled.{Holds};
 
     ghost Value = { List Binding };
 
     ghost view = { λ e. e.bindings.items };
 
-    ghost invariant = { λ e. (0 < length e.buckets.items) × ((k : ℕ) (d : Vec ℕ Global) → k < length e.buckets.items → (slice_index_or e.buckets.items k d).items ≡ places (length e.buckets.items) k 0 e.bindings.items) };
+    ghost invariant = { λ e. Holds e.numbers e.buckets.items e.bindings.items };
 }
 
 fn is_for(usage: Use, spelling: &Text, binding: &Binding) -> bool
@@ -59,30 +60,17 @@ fn later(
     }
 }
 
-fn empty_buckets(alloc: Global, count: usize) -> Result<Vec<Vec<usize>>, OutOfMemory>
-    ensures count { IfOk result (λ buckets. length buckets.items ≡ count) }
-    ensures empty { IfOk result (λ buckets. AreEmpty buckets.items) }
-{
-    let mut buckets = Vec::new(alloc);
-    for done in 0..count {
-        match buckets.push(Vec::new(alloc)) {
-            Ok(()) => {}
-            Err(_) => return Err(OutOfMemory),
-        }
-    }
-    Ok(buckets)
-}
-
 impl Environment {
-    /// No scope, with so many buckets for the names to come.
-    pub fn new(alloc: Global, buckets: usize) -> Result<Environment, OutOfMemory>
-        requires { 0 < buckets }
-        ensures { IfOk result (λ environment. environment ≡ []) }
+    /// No scope.
+    pub fn new(alloc: Global) -> Environment
+        ensures { result ≡ [] }
     {
-        Ok(Environment {
+        Environment {
+            alloc,
             bindings: Vec::new(alloc),
-            buckets: empty_buckets(alloc, buckets)?,
-        })
+            numbers: BTreeMap::new(alloc),
+            buckets: Vec::new(alloc),
+        }
     }
 
     /// Goes into a scope: its names get symbols from a number on. The number after them.
@@ -116,13 +104,22 @@ impl Environment {
         self.bindings.len()
     }
 
+    // The places of the names with this spelling.
+    fn places_of(&self, spelling: &Text) -> &[usize]
+        ensures { result.now ≡ spelled spelling.now 0 self.now }
+    {
+        match number_of(&self.numbers, spelling) {
+            Some(number) => self.buckets[number].as_slice(),
+            None => &[],
+        }
+    }
+
     /// The symbol of the innermost name with this spelling, if there is one.
     pub fn symbol_of(&self, usage: Use, spelling: &Text) -> Option<SymbolId>
         ensures { result ≡ symbol_of usage spelling.now self.now }
     {
         let mut found = None;
-        let bucket = bucket_of(self.buckets.len(), spelling);
-        for place in self.buckets[bucket].as_slice() {
+        for place in self.places_of(spelling) {
             found = later(found, usage, spelling, &self.bindings[*place]);
         }
         found
@@ -132,8 +129,7 @@ impl Environment {
     pub fn has(&self, usage: Use, spelling: &Text) -> bool
         ensures { result ≡ has_name usage spelling.now self.now }
     {
-        let bucket = bucket_of(self.buckets.len(), spelling);
-        for place in self.buckets[bucket].as_slice() {
+        for place in self.places_of(spelling) {
             if is_for(usage, spelling, &self.bindings[*place]) {
                 return true;
             }
@@ -153,7 +149,8 @@ impl Environment {
         ensures { OnOk result (self.new ≡ self.old ++ binding ∷ []) }
     {
         let place = self.bindings.len();
-        let bucket = bucket_of(self.buckets.len(), &binding.name.spelling);
+        let spelling = &binding.name.spelling;
+        let bucket = number_or_new(self.alloc, &mut self.numbers, &mut self.buckets, spelling)?;
         match self.bindings.push(binding) {
             Ok(()) => {}
             Err(_) => return Err(OutOfMemory),
@@ -174,9 +171,10 @@ impl Environment {
         ensures { self.new ≡ take (length self.old - 1) self.old }
     {
         if let Some(binding) = self.bindings.pop() {
-            let bucket = bucket_of(self.buckets.len(), &binding.name.spelling);
-            let places = &mut self.buckets[bucket];
-            places.pop();
+            if let Some(bucket) = number_of(&self.numbers, &binding.name.spelling) {
+                let places = &mut self.buckets[bucket];
+                places.pop();
+            }
         }
     }
 }

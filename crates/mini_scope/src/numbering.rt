@@ -93,15 +93,12 @@ fn resolve_nodes(
     Ok(next)
 }
 
-/// The number of buckets for the names in scope.
-const BUCKETS: usize = 65536;
-
 /// Gives the names of a program their symbols, and says how many there are.
 pub fn resolve_program(alloc: Global, program: &mut Node) -> Result<u32, OutOfMemory>
     requires { symbols variant.Read program.old < 2 ^ 32 }
     ensures count { IfOk result (λ count. count ≡ symbols variant.Read program.old) }
     ensures resolved { IfOk result (λ count. program.new ≡ resolved_program program.old) }
 {
-    let mut environment = Environment::new(alloc, BUCKETS)?;
+    let mut environment = Environment::new(alloc);
     resolve_node(alloc, &mut environment, 0, Use::Read, program)
 }

@@ -19,7 +19,8 @@ use Rattle.mini_model.specs.declared.memory.OutOfMemory.{OutOfMemory}
 use Rattle.mini_tree.specs.Rule.{Moves}
 use Rattle.mini_rows.specs.Switches.{Switches}
 use Rattle.mini_rows.specs.Branches.{bare_continue}
-use Rattle.mini_rows.specs.Lists.{return_statement, are_unscoped, is_unscoped, is_shallow, are_shallow, alternate_of, bare_return, AtEnd, EndRow, ListRow, ListContracts}
+use Rattle.mini_rows.specs.Nesting.{are_shallow, may_sink, may_all_sink}
+use Rattle.mini_rows.specs.Lists.{return_statement, are_unscoped, is_unscoped, alternate_of, bare_return, AtEnd, EndRow, ListRow, ListContracts}
 use Rattle.mini_rows.proofs.ListWeights.{lists_lighter}
 use Rattle.mini_stmt.specs.JoinGuards.{last_after}
 use Rattle.mini_stmt.specs.JoinJumps.{returns_nothing}
@@ -71,8 +72,8 @@ parts_there (t ▸ none) zero h = refl
 parts_there (t ▸ (u ▸ ts)) zero h = refl
 parts_there (t ▸ ts) (suc i) h = ap (λ us. t ▸ us) (parts_there ts i (omega (arith, h)))
 
-pub nests : (ts : Trees) → are_unscoped ts ≡ true → are_shallow 64 ts ≡ true → may_nest ts ≡ true
-nests ts e f = ap (λ b. b && are_shallow 64 ts) e ∙ f
+pub nests : (ts : Trees) → are_unscoped ts ≡ true → may_all_sink ts ≡ true → may_nest ts ≡ true
+nests ts e f = ap (λ b. b && may_all_sink ts) e ∙ f
 
 module _ (exit : Bool) where
   with_return : (ts : Trees) → are_unscoped ts ≡ true → are_unscoped (append ts (jump_at exit ▸ none)) ≡ true
@@ -97,7 +98,7 @@ module _ (exit : Bool) where
   pub bare_turned : (guard : Tree) (rest : Trees) → leaves exit guard ≡ true → may_nest rest ≡ true → (made : Tree) → made ≡ if_alone (negation (part guard 0)) (block rest) → Turned exit guard rest made
   bare_turned guard rest e f made g =
       let (alone, bare) = and_parts (is_if_alone guard) (is_jump exit (part guard 1)) e in
-      let (loose, shallow) = and_parts (are_unscoped rest) (are_shallow 64 rest) f in
+      let (loose, shallow) = and_parts (are_unscoped rest) (may_all_sink rest) f in
       inl (record { test = part guard 0; rest = rest; unscoped = loose; shallow = shallow; shape = ap (λ t. t ▸ rest) (if_alone_is guard alone ∙ ap (if_alone (part guard 0)) (bare_is exit (part guard 1) bare)); written = ap (λ t. t ▸ none) g })
 
   pub block_ends_bare : (guard : Tree) → leaves_by_block exit guard ≡ true → ends_bare exit (body_of (part guard 1)) ≡ true
@@ -111,7 +112,7 @@ module _ (exit : Bool) where
       let (alone, inner) = and_parts (is_if_alone guard) (is_block (part guard 1) && (ends_bare exit (body_of (part guard 1)) && are_unscoped (body_of (part guard 1)))) e in
       let (is, list) = and_parts (is_block (part guard 1)) (ends_bare exit (body_of (part guard 1)) && are_unscoped (body_of (part guard 1))) inner in
       let (bare, free) = and_parts (ends_bare exit (body_of (part guard 1))) (are_unscoped (body_of (part guard 1))) list in
-      let (loose, shallow) = and_parts (are_unscoped rest) (are_shallow 64 rest) f in
+      let (loose, shallow) = and_parts (are_unscoped rest) (may_all_sink rest) f in
       let whole = d.is ∙ ap (λ t. append body (t ▸ none)) (bare_is exit d.last d.bare) in
       inr (record {
         test = part guard 0;
@@ -282,8 +283,8 @@ module _ (exit : Bool) where
       let there = subst (Passed ts) e p in
       (ap are_unscoped next ∙ ap (λ b. b && are_unscoped (rest_children (suc i) ts)) u ∙ there.0, ap (leaves_early exit) next ∙ ap (λ b. (b && may_nest (rest_children (suc i) ts)) || leaves_early exit (rest_children (suc i) ts)) l ∙ there.1)
 
-  pub passed_early : (ts : Trees) (i k j : ℕ) → i < count ts → k ≡ suc i → j ≡ suc i → is_guard exit (child_or_absent ts i) ≡ true → are_shallow 64 (rest_children j ts) ≡ true → Passed ts k → EarlyAt exit ts (Some i)
-  passed_early ts i k j h e f l d p = (h, l, nests (rest_children (suc i) ts) (subst (Passed ts) e p).0 (sym (ap (λ m. are_shallow 64 (rest_children m ts)) f) ∙ d))
+  pub passed_early : (ts : Trees) (i k j : ℕ) → i < count ts → k ≡ suc i → j ≡ suc i → is_guard exit (child_or_absent ts i) ≡ true → may_all_sink (rest_children j ts) ≡ true → Passed ts k → EarlyAt exit ts (Some i)
+  passed_early ts i k j h e f l d p = (h, l, nests (rest_children (suc i) ts) (subst (Passed ts) e p).0 (sym (ap (λ m. may_all_sink (rest_children m ts)) f) ∙ d))
 
   -- before statements of which one is scoped, or which nest too deep, none leaves
   stays : (a b c d : Bool) → b && d ≡ false → (a && b) && (c && d) ≡ false
@@ -298,22 +299,22 @@ module _ (exit : Bool) where
   nest_stops (t ▸ ts) zero u e = (e, u)
   nest_stops (t ▸ ts) (suc i) u e =
       let (early, loose) = nest_stops ts i u e in
-      (ap (λ b. (is_guard exit t && b) || leaves_early exit ts) loose ∙ ap (λ b. b || leaves_early exit ts) (never (is_guard exit t)) ∙ early, stays (is_unscoped t) (are_unscoped ts) (is_shallow 64 t) (are_shallow 64 ts) loose)
+      (ap (λ b. (is_guard exit t && b) || leaves_early exit ts) loose ∙ ap (λ b. b || leaves_early exit ts) (never (is_guard exit t)) ∙ early, stays (is_unscoped t) (are_unscoped ts) (may_sink t) (may_all_sink ts) loose)
     where
       never : (b : Bool) → b && false ≡ false
       never true = refl
       never false = refl
 
-  pub passed_deep : (ts : Trees) (i k j : ℕ) → k ≡ suc i → j ≡ suc i → are_shallow 64 (rest_children j ts) ≡ false → Passed ts k → EarlyAt exit ts None
+  pub passed_deep : (ts : Trees) (i k j : ℕ) → k ≡ suc i → j ≡ suc i → may_all_sink (rest_children j ts) ≡ false → Passed ts k → EarlyAt exit ts None
   passed_deep ts i k j e f d p =
       let there = subst (Passed ts) e p in
-      (nest_stops ts (suc i) (ap (λ b. b && are_shallow 64 (rest_children (suc i) ts)) there.0 ∙ sym (ap (λ m. are_shallow 64 (rest_children m ts)) f) ∙ d) there.1).0
+      (nest_stops ts (suc i) (ap (λ b. b && may_all_sink (rest_children (suc i) ts)) there.0 ∙ sym (ap (λ m. may_all_sink (rest_children m ts)) f) ∙ d) there.1).0
 
   pub passed_stops : (ts : Trees) (i k : ℕ) → i < count ts → k ≡ suc i → is_unscoped (child_or_absent ts i) ≡ false → is_guard exit (child_or_absent ts i) ≡ false → Passed ts k → EarlyAt exit ts None
   passed_stops ts i k h e u l p =
       let next = next_child ts i h in
       let there = subst (Passed ts) e p in
-      (nest_stops ts i (ap may_nest next ∙ ap (λ b. (b && are_unscoped (rest_children (suc i) ts)) && are_shallow 64 (child_or_absent ts i ▸ rest_children (suc i) ts)) u) (ap (leaves_early exit) next ∙ ap (λ b. (b && may_nest (rest_children (suc i) ts)) || leaves_early exit (rest_children (suc i) ts)) l ∙ there.1)).0
+      (nest_stops ts i (ap may_nest next ∙ ap (λ b. (b && are_unscoped (rest_children (suc i) ts)) && may_all_sink (child_or_absent ts i ▸ rest_children (suc i) ts)) u) (ap (leaves_early exit) next ∙ ap (λ b. (b && may_nest (rest_children (suc i) ts)) || leaves_early exit (rest_children (suc i) ts)) l ∙ there.1)).0
 
   pub passed_all : (ts : Trees) (k : ℕ) → k ≡ 0 → Passed ts k → EarlyAt exit ts None
   passed_all ts k e p = sym (ap (leaves_early exit) (from_first ts)) ∙ (subst (Passed ts) e p).1

@@ -11,7 +11,8 @@ use Rattle.mini_node.specs.Children.{part, with_part, is_bare}
 use Rattle.mini_node.specs.Kinds.{is_sequence_shape, is_sequence, is_absent_part, is_listed, is_return_statement, is_throw_statement, is_if_statement, is_if_alone, is_expression_statement, is_empty_statement}
 use Rattle.mini_node.specs.Made.{absent_is, sequence_is, expression_statement_is, empty_statement_is, block_is, if_statement_is, if_alone_is, return_statement_is, throw_statement_is}
 use Rattle.mini_rows.specs.Switches.{Switches}
-use Rattle.mini_rows.specs.Lists.{of_parts, is_one_part, are_parts, sequence, return_statement, switch, for_loop, for_in, is_plain_left, declaration, has_alternates, are_unscoped, is_unscoped, is_terminated, Head, If, Switch, For, with_head, StretchRow}
+use Rattle.mini_rows.specs.Nesting.{may_sink}
+use Rattle.mini_rows.specs.Lists.{of_parts, is_one_part, are_parts, sequence, return_statement, switch, for_loop, for_in, is_plain_left, declaration, are_unscoped, is_unscoped, is_terminated, Head, If, Switch, For, with_head, StretchRow}
 use Rattle.mini_rows.specs.Lists as list
 use Rattle.mini_stmt.specs.declared.lead.Lead.{Lead}
 use Rattle.mini_stmt.specs.declared.lead.Lead.TheVariants.{Expression, Declaration, Return, Throw, Nothing}
@@ -317,17 +318,17 @@ declaration_joins o k t u e h = ⊎_elim same loop (or_split (o.join_vars && dec
 whole_argument : (b : Tree) → is_whole b ≡ true → (b ≡ absent) ⊎ (is_absent b ≡ false)
 whole_argument b h = ⊎_elim (λ e. inl (absent_is b e)) (λ e. inr (not_true (is_absent b) e)) (or_split (is_absent_part b) (not (is_absent b)) h)
 
-answer_parts : (c : Tree) → is_answer c ≡ true → (is_absent c ≡ false) × (has_alternates 500 c ≡ false)
-answer_parts c h = let (there, short) = and_parts (not (is_absent c)) (not (has_alternates 500 c)) h in (not_true _ there, not_true _ short)
+answer_parts : (c : Tree) → is_answer c ≡ true → (is_absent c ≡ false) × (may_sink c ≡ true)
+answer_parts c h = let (there, shallow) = and_parts (not (is_absent c)) (may_sink c) h in (not_true _ there, shallow)
 
 returns_join : (o : Switches) (t u : Tree) → o.sequences ≡ true → guards_return t ≡ true → returns_answer u ≡ true → Joins o t u (joined_returns t u)
 returns_join o t u s e f =
     let (alone, guarded) = and_parts (is_if_alone t) (is_return_statement (part t 1) && is_whole (part (part t 1) 0)) e in
     let (jump, whole) = and_parts (is_return_statement (part t 1)) (is_whole (part (part t 1) 0)) guarded in
     let (is, answer) = and_parts (is_return_statement u) (is_answer (part u 0)) f in
-    let (there, short) = answer_parts (part u 0) answer in
+    let (there, shallow) = answer_parts (part u 0) answer in
     record {
-      row = inr (inr (inr (s, inr (inl (record { test = part t 0; left = part (part t 1) 0; right = part u 0; whole = whole_argument (part (part t 1) 0) whole; present = there; short = short; shape = two _ _ _ _ (if_alone_is t alone ∙ ap (if_alone (part t 0)) (return_statement_is (part t 1) jump)) (return_statement_is u is); written = refl })))));
+      row = inr (inr (inr (s, inr (inl (record { test = part t 0; left = part (part t 1) 0; right = part u 0; whole = whole_argument (part (part t 1) 0) whole; present = there; shallow = shallow; shape = two _ _ _ _ (if_alone_is t alone ∙ ap (if_alone (part t 0)) (return_statement_is (part t 1) jump)) (return_statement_is u is); written = refl })))));
       rests = λ r. and_none o.sequences;
     }
 
@@ -336,9 +337,9 @@ throws_join o t u s e f =
     let (alone, guarded) = and_parts (is_if_alone t) (is_throw_statement (part t 1) && is_whole (part (part t 1) 0)) e in
     let (jump, whole) = and_parts (is_throw_statement (part t 1)) (is_whole (part (part t 1) 0)) guarded in
     let (is, answer) = and_parts (is_throw_statement u) (is_answer (part u 0)) f in
-    let (there, short) = answer_parts (part u 0) answer in
+    let (there, shallow) = answer_parts (part u 0) answer in
     record {
-      row = inr (inr (inr (s, inr (inr (inl (record { test = part t 0; left = part (part t 1) 0; right = part u 0; whole = whole_argument (part (part t 1) 0) whole; present = there; short = short; shape = two _ _ _ _ (if_alone_is t alone ∙ ap (if_alone (part t 0)) (throw_statement_is (part t 1) jump)) (throw_statement_is u is); written = refl }))))));
+      row = inr (inr (inr (s, inr (inr (inl (record { test = part t 0; left = part (part t 1) 0; right = part u 0; whole = whole_argument (part (part t 1) 0) whole; present = there; shallow = shallow; shape = two _ _ _ _ (if_alone_is t alone ∙ ap (if_alone (part t 0)) (throw_statement_is (part t 1) jump)) (throw_statement_is u is); written = refl }))))));
       rests = λ r. and_none o.sequences;
     }
 

@@ -17,7 +17,8 @@ use Rattle.mini_node.specs.Walks.{from_first, next_child, no_rest, append_one}
 use Rattle.mini_node.proofs.Equality.{tree_same, tree_itself}
 use Rattle.mini_model.specs.declared.memory.OutOfMemory.{OutOfMemory}
 use Rattle.mini_rows.specs.Switches.{Switches}
-use Rattle.mini_rows.specs.Lists.{is_terminated, is_shallow, Row74, StretchRow, GuardsRow, NeighbourRow, InList, EntersRow, Saying, AsStatement, AsReturn, AsThrow, says, Row77, Leap, Breaks, Continues, leap, Row77Leap, Row77Unreached}
+use Rattle.mini_rows.specs.Nesting.{may_join}
+use Rattle.mini_rows.specs.Lists.{is_terminated, Row74, StretchRow, GuardsRow, NeighbourRow, InList, EntersRow, Saying, AsStatement, AsReturn, AsThrow, says, Row77, Leap, Breaks, Continues, leap, Row77Leap, Row77Unreached}
 use Rattle.mini_stmt.specs.MinimizeStatements as list
 use Rattle.mini_stmt.specs.MinimizeStatements.{Changes, StretchRests, JoinsStatements}
 use Rattle.mini_stmt.specs.JoinGuards.{are_guards, both_guards, is_leap_shape, leaps, is_idle, may_go, ends_before, meets, met, meet_first, are_apart, is_apart, last_after, meets_last, Changed, PutJoined, Joined, Settled, Rests, JoinsGuards, JoinsOthers}
@@ -43,10 +44,10 @@ record Pair (a : Trees) : Type 0 where
 
 guards_row : (t u : Tree) → are_guards t u ≡ true → Row74 (t ▸ (u ▸ none)) (both_guards t u ▸ none)
 guards_row t u e =
-    let (first, x) = and_parts (is_if_alone t) (is_terminated (part t 1) && (is_if_statement u && (same_tree (part t 1) (part u 1) && is_shallow 64 (part t 0)))) e in
-    let (ends, y) = and_parts (is_terminated (part t 1)) (is_if_statement u && (same_tree (part t 1) (part u 1) && is_shallow 64 (part t 0))) x in
-    let (second, z) = and_parts (is_if_statement u) (same_tree (part t 1) (part u 1) && is_shallow 64 (part t 0)) y in
-    let (same, shallow) = and_parts (same_tree (part t 1) (part u 1)) (is_shallow 64 (part t 0)) z in
+    let (first, x) = and_parts (is_if_alone t) (is_terminated (part t 1) && (is_if_statement u && (same_tree (part t 1) (part u 1) && may_join (part t 0) (part u 0)))) e in
+    let (ends, y) = and_parts (is_terminated (part t 1)) (is_if_statement u && (same_tree (part t 1) (part u 1) && may_join (part t 0) (part u 0))) x in
+    let (second, z) = and_parts (is_if_statement u) (same_tree (part t 1) (part u 1) && may_join (part t 0) (part u 0)) y in
+    let (same, shallow) = and_parts (same_tree (part t 1) (part u 1)) (may_join (part t 0) (part u 0)) z in
     let branch = tree_same (part t 1) (part u 1) same in
     record {
       left = part t 0;
@@ -119,9 +120,9 @@ always true = refl
 always false = refl
 
 -- a row reads what meets
-guards_meet : (left right s u : Tree) → is_terminated s ≡ true → is_shallow 64 left ≡ true → meets (if_alone left s) (if_else right s u) ≡ true
+guards_meet : (left right s u : Tree) → is_terminated s ≡ true → may_join left right ≡ true → meets (if_alone left s) (if_else right s u) ≡ true
 guards_meet left right s u e f =
-    ap (λ b. ends_before (if_alone left s) (if_else right s u) || b) (ap (λ b. b && (same_tree s s && is_shallow 64 left)) e ∙ ap (λ b. b && is_shallow 64 left) (tree_itself s) ∙ f)
+    ap (λ b. ends_before (if_alone left s) (if_else right s u) || b) (ap (λ b. b && (same_tree s s && may_join left right)) e ∙ ap (λ b. b && may_join left right) (tree_itself s) ∙ f)
     ∙ always (ends_before (if_alone left s) (if_else right s u))
 
 says_go : (k : Saying) (e : Tree) → leaves_nothing e ≡ true → may_go (says k e) ≡ true

@@ -15,7 +15,7 @@ use Rattle.mini_node.specs.Made.{block_is}
 use Rattle.mini_tree.specs.Rule.{Applied}
 use Rattle.mini_tree.proofs.Reaching.{moves_once}
 use Rattle.mini_rows.specs.Switches.{Switches}
-use Rattle.mini_rows.specs.Lists.{are_shallow}
+use Rattle.mini_rows.specs.Nesting.{are_shallow}
 use Rattle.mini_rows.specs.Branches.{Surrounding, Consequent, Alternate, WhileBody, DoBody, ForBody, InBody, OfBody, around, is_loop, bare_continue}
 use Rattle.mini_rows.specs.LoopGuards.{TurnsGuard, TurnsRow, LoopGuardRow, LoopGuardContracts}
 use Rattle.mini_rows.proofs.LoopGuardWeights.{loop_guards_lighter}

@@ -7,7 +7,7 @@ use Rattle.mini_model.specs.declared.shape.Shape.TheVariants as shape
 use Rattle.mini_model.specs.Tree.{Tree, Trees, node, none, ◌▸◌, shape_of, children, count, child_or_absent, node_count, node_counts}
 use Rattle.mini_node.specs.Children.{part, with_part, with_child, rest_children}
 use Rattle.mini_node.specs.Walks.{from_first, next_child, no_rest}
-use Rattle.mini_rows.specs.Lists.{any, is_unscoped, are_unscoped, is_terminated, are_terminated, declares_nothing, has_alternates, is_shallow, are_shallow}
+use Rattle.mini_rows.specs.Lists.{any, is_unscoped, are_unscoped, is_terminated, are_terminated, declares_nothing}
 
 pub not_false : (b : Bool) → not b ≡ false → b ≡ true
 not_false true e = refl
@@ -96,60 +96,6 @@ pub no_operand : (t : Tree) → shape_of t ≡ shape.UnaryExpression LogicalNot 
 no_operand (node (shape.UnaryExpression LogicalNot) xs n none) s e = refl
 no_operand (node (shape.UnaryExpression LogicalNot) xs n (a ▸ ts)) s e = absurd (omega (arith, e))
 no_operand t s e = absurd (cc s)
-
--- ---- chains of alternates
-
-pub no_alternates : (t : Tree) → has_alternates 0 t ≡ true
-unfolding has_alternates
-no_alternates t = refl
-
-pub more_alternates : (k : ℕ) (t : Tree) → (k ≡ 0 → ⊥) → shape_of t ≡ shape.ConditionalExpression → 2 < count (children t) → has_alternates k t ≡ has_alternates (k - 1) (part t 2)
-unfolding has_alternates
-more_alternates zero t k s e = absurd (k refl)
-more_alternates (suc k) (node shape.ConditionalExpression xs n none) z s e = absurd (omega (arith, e))
-more_alternates (suc k) (node shape.ConditionalExpression xs n (a ▸ none)) z s e = absurd (omega (arith, e))
-more_alternates (suc k) (node shape.ConditionalExpression xs n (a ▸ (b ▸ none))) z s e = absurd (omega (arith, e))
-more_alternates (suc k) (node shape.ConditionalExpression xs n (a ▸ (b ▸ (c ▸ ts)))) z s e = let same : suc k - 1 ≡ k = omega arith in sym (ap (λ j. has_alternates j c) same)
-more_alternates (suc k) t z s e = absurd (cc s)
-
-pub two_parts : (k : ℕ) (t : Tree) → (k ≡ 0 → ⊥) → shape_of t ≡ shape.ConditionalExpression → count (children t) ≤ 2 → has_alternates k t ≡ false
-unfolding has_alternates
-two_parts zero t k s e = absurd (k refl)
-two_parts (suc k) (node shape.ConditionalExpression xs n none) z s e = refl
-two_parts (suc k) (node shape.ConditionalExpression xs n (a ▸ none)) z s e = refl
-two_parts (suc k) (node shape.ConditionalExpression xs n (a ▸ (b ▸ none))) z s e = refl
-two_parts (suc k) (node shape.ConditionalExpression xs n (a ▸ (b ▸ (c ▸ ts)))) z s e = absurd (omega (arith, e))
-two_parts (suc k) t z s e = absurd (cc s)
-
-pub other_alternates : (k : ℕ) (t : Tree) → (k ≡ 0 → ⊥) → (shape_of t ≡ shape.ConditionalExpression → ⊥) → has_alternates k t ≡ false
-unfolding has_alternates
-other_alternates zero t k s = absurd (k refl)
-other_alternates (suc k) (node shape.ConditionalExpression xs n ts) z s = absurd (s refl)
-other_alternates (suc k) (node h xs n ts) z s = refl
-
--- ---- how deep nodes nest
-
-pub none_shallow : (t : Tree) → is_shallow 0 t ≡ false
-unfolding is_shallow
-none_shallow t = refl
-
-pub shallow_below : (k : ℕ) (t : Tree) → (k ≡ 0 → ⊥) → is_shallow k t ≡ are_shallow (k - 1) (rest_children 0 (children t))
-unfolding is_shallow
-shallow_below zero t z = absurd (z refl)
-shallow_below (suc k) (node h xs n ts) z = let same : suc k - 1 ≡ k = omega arith in sym (ap (λ j. are_shallow j (rest_children 0 ts)) same ∙ ap (are_shallow k) (from_first ts))
-
-module _ (k : ℕ) (ts : Trees) (b : Bool) where
-  pub shallow_stops : (i : ℕ) → i < count ts → is_shallow k (child_or_absent ts i) ≡ false → are_shallow k (rest_children i ts) ≡ b → false ≡ b
-  unfolding are_shallow
-  shallow_stops i h e inv = sym (ap (λ c. c && are_shallow k (rest_children (suc i) ts)) e) ∙ sym (ap (are_shallow k) (next_child ts i h)) ∙ inv
-
-  pub shallow_goes_on : (i : ℕ) → i < count ts → is_shallow k (child_or_absent ts i) ≡ true → are_shallow k (rest_children i ts) ≡ b → are_shallow k (rest_children (i + 1) ts) ≡ b
-  unfolding are_shallow
-  shallow_goes_on i h e inv = let next : i + 1 ≡ suc i = omega arith in ap (λ j. are_shallow k (rest_children j ts)) next ∙ sym (ap (λ c. c && are_shallow k (rest_children (suc i) ts)) e) ∙ sym (ap (are_shallow k) (next_child ts i h)) ∙ inv
-
-  pub shallow_ends : (i : ℕ) → count ts ≤ i → are_shallow k (rest_children i ts) ≡ b → true ≡ b
-  unfolding are_shallow
-  shallow_ends i h inv = sym (ap (are_shallow k) (no_rest ts i h)) ∙ inv
 
 -- ---- parts
 

@@ -13,7 +13,8 @@ use Rattle.mini_node.specs.Children.{part, rest_children}
 use Rattle.mini_node.specs.Kinds.{is_sequence_shape, is_sequence, is_absent_part}
 use Rattle.mini_node.specs.Walks.{from_first, next_child, no_rest}
 use Rattle.mini_rows.specs.Switches.{Switches}
-use Rattle.mini_rows.specs.Lists.{of_parts, is_one_part, are_parts, return_statement, throw_statement, for_loop, for_in, is_plain_left, is_unscoped, is_terminated, has_alternates, Head, If, Switch, For, with_head, SequencesRow, LoopRow, JoinRow, StretchRow, InList}
+use Rattle.mini_rows.specs.Nesting.{may_sink}
+use Rattle.mini_rows.specs.Lists.{of_parts, is_one_part, are_parts, return_statement, throw_statement, for_loop, for_in, is_plain_left, is_unscoped, is_terminated, Head, If, Switch, For, with_head, SequencesRow, LoopRow, JoinRow, StretchRow, InList}
 use Rattle.mini_rows.specs.Lists as list
 use Rattle.mini_stmt.specs.declared.lead.Lead.{Lead}
 use Rattle.mini_stmt.specs.declared.lead.Lead.TheVariants.{Expression, Declaration, Return, Throw, Nothing}
@@ -240,14 +241,14 @@ return_lead a b h = ap (λ c. if c then Return (is_absent_part b) else Nothing) 
 throw_lead : (a b : Tree) → is_whole b ≡ true → lead_of (if_alone a (throw_statement b)) ≡ Throw
 throw_lead a b h = ap (λ c. if c then Throw else Nothing) h
 
-answered : (o : Switches) (c : Tree) → o.sequences ≡ true → is_absent c ≡ false → has_alternates 500 c ≡ false → o.sequences && (not (is_absent c) && not (has_alternates 500 c)) ≡ true
-answered o c s e f = ap (λ b. b && (not (is_absent c) && not (has_alternates 500 c))) s ∙ ap (λ b. not b && not (has_alternates 500 c)) e ∙ ap not f
+answered : (o : Switches) (c : Tree) → o.sequences ≡ true → is_absent c ≡ false → may_sink c ≡ true → o.sequences && (not (is_absent c) && may_sink c) ≡ true
+answered o c s e f = ap (λ b. b && (not (is_absent c) && may_sink c)) s ∙ ap (λ b. not b && may_sink c) e ∙ f
 
 sequences_told : (o : Switches) (l : Lead) (a b : Trees) → o.sequences ≡ true → SequencesRow a b → Told o l a
 sequences_told o l a b s (inl r) =
     subst (Told o l) (sym r.shape) (inr (inl (ap (λ m. joins o m (expression_statement (of_parts r.q r.qs))) (expression_lead (of_parts r.p r.ps) (joinable_parts r.p r.ps r.first)) ∙ ap (λ b. b && (is_joinable (of_parts r.q r.qs) || false)) s ∙ or_none _ ∙ joinable_parts r.q r.qs r.second)))
-sequences_told o l a b s (inr (inl r)) = subst (Told o l) (sym r.shape) (inr (inl (ap (λ m. joins o m (return_statement r.right)) (return_lead r.test r.left (whole_is r.left r.whole)) ∙ answered o r.right s r.present r.short)))
-sequences_told o l a b s (inr (inr (inl r))) = subst (Told o l) (sym r.shape) (inr (inl (ap (λ m. joins o m (throw_statement r.right)) (throw_lead r.test r.left (whole_is r.left r.whole)) ∙ answered o r.right s r.present r.short)))
+sequences_told o l a b s (inr (inl r)) = subst (Told o l) (sym r.shape) (inr (inl (ap (λ m. joins o m (return_statement r.right)) (return_lead r.test r.left (whole_is r.left r.whole)) ∙ answered o r.right s r.present r.shallow)))
+sequences_told o l a b s (inr (inr (inl r))) = subst (Told o l) (sym r.shape) (inr (inl (ap (λ m. joins o m (throw_statement r.right)) (throw_lead r.test r.left (whole_is r.left r.whole)) ∙ answered o r.right s r.present r.shallow)))
 sequences_told o l a b s (inr (inr (inr (inl r)))) = subst (Told o l) (sym r.shape) (inr (inr (ap (λ b. b && true) s)))
 sequences_told o l a b s (inr (inr (inr (inr (inl r))))) = subst (Told o l) (sym r.shape) (inr (inl (ap (λ m. joins o m (with_head r.head (of_parts r.q r.qs))) (expression_lead (of_parts r.p r.ps) (joinable_parts r.p r.ps r.first)) ∙ takes_head o r.head (of_parts r.q r.qs) s (joinable_parts r.q r.qs r.second))))
 sequences_told o l a b s (inr (inr (inr (inr (inr (inl r)))))) = subst (Told o l) (sym r.shape) (inr (inl (ap (λ m. joins o m (for_loop absent r.test r.update r.body)) (expression_lead (of_parts r.p r.ps) (joinable_parts r.p r.ps r.first)) ∙ ap (λ b. b && true) s)))

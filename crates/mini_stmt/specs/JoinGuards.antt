@@ -13,13 +13,14 @@ use Rattle.mini_node.specs.Kinds.{is_absent_part, is_expression_statement, is_if
 use Rattle.mini_terms.specs.Parts.{leaves_nothing}
 use Rattle.mini_tree.specs.Rule as rule
 use Rattle.mini_rows.specs.Switches.{Switches}
-use Rattle.mini_rows.specs.Lists.{is_terminated, is_shallow, GuardsRow, InList, ListContracts}
+use Rattle.mini_rows.specs.Lists.{is_terminated, GuardsRow, InList, ListContracts}
+use Rattle.mini_rows.specs.Nesting.{may_join}
 use Rattle.mini_stmt.specs.MinimizeStatements.{Changes, StretchRests}
 use Rattle.mini_stmt.specs.DropUnreached.{is_reached}
 
--- `if (a) s`, and then an `if` with the branch s, where a nests no deeper than 64
+-- `if (a) s`, and then an `if (b)` with the branch s, where `a || b` may be put deeper
 abbrev pub are_guards : Tree → Tree → Bool
-are_guards t u = is_if_alone t && (is_terminated (part t 1) && (is_if_statement u && (same_tree (part t 1) (part u 1) && is_shallow 64 (part t 0))))
+are_guards t u = is_if_alone t && (is_terminated (part t 1) && (is_if_statement u && (same_tree (part t 1) (part u 1) && may_join (part t 0) (part u 0))))
 
 -- `break;` or `continue;`
 abbrev pub is_leap_shape : Shape → Bool

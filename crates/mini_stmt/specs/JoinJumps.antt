@@ -4,7 +4,8 @@ use Rattle.std.specs.Prelude.{Bool, not, ◌&&◌, ◌||◌}
 use Rattle.mini_model.specs.Tree.{Tree, is_absent, conditional, expression_statement}
 use Rattle.mini_node.specs.Children.{part}
 use Rattle.mini_node.specs.Kinds.{is_absent_part, is_if_alone, is_return_statement, is_throw_statement, return_statement, throw_statement}
-use Rattle.mini_rows.specs.Lists.{has_alternates, or_void}
+use Rattle.mini_rows.specs.Lists.{or_void}
+use Rattle.mini_rows.specs.Nesting.{may_sink}
 
 -- an argument; or none, and nothing in its place
 abbrev pub is_whole : Tree → Bool
@@ -20,7 +21,7 @@ guards_throw t = is_if_alone t && (is_throw_statement (part t 1) && is_whole (pa
 
 -- an argument that the other one may be joined to
 abbrev pub is_answer : Tree → Bool
-is_answer c = not (is_absent c) && not (has_alternates 500 c)
+is_answer c = not (is_absent c) && may_sink c
 
 -- `return c;`
 abbrev pub returns_answer : Tree → Bool

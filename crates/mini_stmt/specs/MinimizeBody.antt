@@ -12,7 +12,8 @@ use Rattle.mini_node.specs.Kinds.{is_if_alone, is_block, is_absent_part}
 use Rattle.mini_tree.specs.Rule as rule
 use Rattle.mini_rows.specs.Switches.{Switches}
 use Rattle.mini_rows.specs.Branches.{bare_continue}
-use Rattle.mini_rows.specs.Lists.{are_unscoped, are_shallow, bare_return, Row75, Row75Block, AtEnd, EndRow, ListContracts}
+use Rattle.mini_rows.specs.Nesting.{may_all_sink}
+use Rattle.mini_rows.specs.Lists.{are_unscoped, bare_return, Row75, Row75Block, AtEnd, EndRow, ListContracts}
 use Rattle.mini_stmt.specs.JoinGuards.{last_after, is_apart}
 use Rattle.mini_stmt.specs.JoinAssignments.{are_entered}
 use Rattle.mini_stmt.specs.JoinJumps.{returns_nothing}
@@ -53,7 +54,7 @@ is_guard x t = leaves x t || leaves_by_block x t
 
 -- what follows may go into a block
 abbrev pub may_nest : Trees → Bool
-may_nest ts = are_unscoped ts && are_shallow 64 ts
+may_nest ts = are_unscoped ts && may_all_sink ts
 
 -- a guard after which all may
 abbrev pub leaves_early : Bool → Trees → Bool

@@ -2,7 +2,6 @@
 
 ghost use Rattle.std.specs.Prelude.{◌≡◌, true, not, IfOk};
 ghost use Rattle.mini_model.specs.Tree.{children, count};
-ghost use Rattle.mini_node.specs.Children.{rest_children};
 ghost use Rattle.mini_rows.specs.Lists as list;
 ghost use Rattle.mini_stmt.specs.Terms as term;
 
@@ -174,45 +173,4 @@ pub fn join_sequence(alloc: Global, first: Node, second: Node) -> Result<Node, O
     let mut others = parts_of(alloc, second)?;
     parts.append(&mut others)?;
     sequence(alloc, parts)
-}
-
-/// Whether the node nests at most so many nodes deep, itself among them.
-#[cycle(depth)]
-#[tactic(auto, using(crate::proofs::Parts::none_shallow, crate::proofs::Parts::shallow_below, crate::proofs::Parts::below))]
-pub fn is_shallow(node: &Node, levels: u32) -> bool
-    ensures { result ≡ list.is_shallow levels node.now }
-{
-    if levels == 0 {
-        return false;
-    }
-    are_shallow(node.children(), 0, levels - 1)
-}
-
-/// Whether the nodes from a place on do so.
-#[cycle(depth)]
-pub fn are_shallow(nodes: &Nodes, from: usize, levels: u32) -> bool
-    ensures { result ≡ list.are_shallow levels (rest_children from nodes.now) }
-{
-    for at in from..nodes.len() {
-        if !is_shallow(nodes.child(at), levels) {
-            return false;
-        }
-    }
-    true
-}
-
-/// Whether the chain of alternates begins with so many conditionals.
-#[tactic(auto, using(crate::proofs::Parts::no_alternates, crate::proofs::Parts::more_alternates, crate::proofs::Parts::two_parts, crate::proofs::Parts::other_alternates))]
-pub fn has_alternates(node: &Node, conditionals: u32) -> bool
-    ensures { result ≡ list.has_alternates conditionals node.now }
-{
-    if conditionals == 0 {
-        return true;
-    }
-    match node.shape() {
-        Shape::ConditionalExpression => {
-            node.children().len() > 2 && has_alternates(node.child(2), conditionals - 1)
-        }
-        _ => false,
-    }
 }

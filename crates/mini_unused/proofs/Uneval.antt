@@ -20,6 +20,7 @@ use Rattle.mini_rows.specs.declared.gathered.Gathered.TheVariants.{Values as OfV
 use Rattle.mini_rows.specs.Declarations.{declarator}
 use Rattle.mini_unused.specs.SubstituteNext.{reads_then, put_named, is_declarator, is_mentioned_beside, is_mentioned_elsewhere, is_read_then, declarators_next, NextGone}
 use Rattle.mini_unused.specs.SubstituteSingleUse.{declaration_left, last_place, reads_next, is_declared_over, is_mentioned_around, is_read_once, NameGone, ReadGone, Gone}
+use Rattle.mini_rows.proofs.Sunk.{value_passed}
 use Rattle.mini_rows.proofs.ListKeptHeads.{Seat, Loop, Choice, seated}
 use Rattle.mini_rows.proofs.HiddenHeads.{for_initial, Hidden, hidden, Taken, taken}
 use Rattle.mini_rows.proofs.SingleUse.{Initial, as_initial, Heads, heads, mentioned}
@@ -386,7 +387,7 @@ then_put [] d e o ds j ts i h f g = absurd (true≢false (sym h))
 then_put (x ∷ xs) d e o ds j ts i h f g =
     let read = (and_parts (reads_then x (part d 1) e) (not (is_mentioned_beside x d e ds j) && (not (names x o) && not (is_mentioned_elsewhere x ts i))) h).0 in
     let (first, passed) = and_parts (is_first x false (part e 1)) (are_passed x (part d 1) (part e 1)) read in
-    put_there x false (part d 1) (part e 1) first (passed_along x OfValues (part d 1) (part e 1) passed) f g
+    put_there x false (part d 1) (part e 1) first (passed_along x OfValues (part d 1) (part e 1) (value_passed x (part d 1) (part e 1) passed)) f g
 
 module _ (W : Liberties) (o l m : Tree) (c : Unseen o l) where
   name_gone : NameGone W o l m → Unseen o m

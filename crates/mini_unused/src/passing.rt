@@ -15,7 +15,7 @@ use crate::first_reads::{is_childless, is_first, is_listed_shape, is_member, men
 use crate::mentions::is_mentioned;
 use mini_model::{AssignmentOperator, Name, PropertyKind, Shape, UnaryOperator};
 use mini_node::{Node, Nodes, is_identifier};
-use mini_rows::Gathered;
+use mini_rows::{Gathered, fits_in};
 use mini_terms::{is_effect_free, is_item, is_primitive, is_typed_by_value, kind_of, stands};
 
 /// A number, a text, a boolean or null.
@@ -370,11 +370,11 @@ fn are_passed_in(name: &Name, gathered: Gathered, init: &Node, node: &Node) -> b
     )
 }
 
-/// Of which a value is asked.
+/// Of which a value is asked, where both nest so that one may be put into the other.
 pub fn are_passed(name: &Name, init: &Node, node: &Node) -> bool
     ensures { result ≡ reading.are_passed name.now init.now node.now }
 {
-    are_passed_in(name, Gathered::Values, init, node)
+    are_passed_in(name, Gathered::Values, init, node) && fits_in(init, node)
 }
 
 /// An expression reads the variable, after parts that pass the initializer.

@@ -12,6 +12,7 @@ use mini_node::{
     Node, Nodes, conditional, discard, is_conditional, is_logical, is_same_tree, is_sequence,
     logical, of_two, one, sequence, taken, three, two,
 };
+use mini_rows::may_join;
 use mini_tree::expr_weight;
 use std::alloc::Global;
 
@@ -59,7 +60,7 @@ fn follows(branch: &Node, other: &Node) -> bool
     is_pair(branch) && is_same_tree(branch.child(0).child(1), other)
 }
 
-// `a ? b ? c : d : d`, where `a && b ? c : d` is lighter
+// `a ? b ? c : d : d`, where `a && b ? c : d` is lighter and `a && b` may be put deeper
 fn is_consequent_chosen(node: &Node, seat: Seat) -> bool
     requires { count (children node.now) ≡ 3 }
     ensures { result ≡ is_its_consequent_chosen seat node.now }
@@ -74,9 +75,10 @@ fn is_consequent_chosen(node: &Node, seat: Seat) -> bool
             node.child(2),
             seat,
         ) < expr_weight(node, seat)
+        && may_join(node.child(0), branch.child(0))
 }
 
-// `a ? c : b ? c : d`, where `a || b ? c : d` is lighter
+// `a ? c : b ? c : d`, where `a || b ? c : d` is lighter and `a || b` may be put deeper
 fn is_alternate_chosen(node: &Node, seat: Seat) -> bool
     requires { count (children node.now) ≡ 3 }
     ensures { result ≡ is_its_alternate_chosen seat node.now }
@@ -91,6 +93,7 @@ fn is_alternate_chosen(node: &Node, seat: Seat) -> bool
             branch.child(2),
             seat,
         ) < expr_weight(node, seat)
+        && may_join(node.child(0), branch.child(0))
 }
 
 // `a ? b || c : c`, where `a && b || c` is lighter

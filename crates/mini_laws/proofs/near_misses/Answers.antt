@@ -25,6 +25,9 @@ returns-clause-missing_name c = lemma.missing_name
 pub returns-clause-absent_dropped : goal.returns-clause-absent_dropped
 returns-clause-absent_dropped c = lemma.absent_dropped
 
+pub returns-clause-absent_part_dropped : goal.returns-clause-absent_part_dropped
+returns-clause-absent_part_dropped c = lemma.absent_part_dropped
+
 pub returns-clause-chain_ends : goal.returns-clause-chain_ends
 returns-clause-chain_ends c = lemma.chain_ends
 

@@ -10,19 +10,20 @@ ghost use Rattle.mini_stmt.specs.MinimizeStatements.{switches_of};
 
 use crate::rewrites::drop_unreached::drop_unreached;
 use crate::statements::{put_reversed, take_last};
-use crate::terms::{is_shallow, is_terminated};
+use crate::terms::is_terminated;
 use mini_model::{LogicalOperator, OutOfMemory, Shape};
 use mini_node::{
     Node, Nodes, discard, if_statement, is_absent_part, is_expression_statement, is_if_alone,
     is_if_statement, is_listed, is_return_statement, is_same_tree, is_throw_statement, logical,
     one, three,
 };
+use mini_rows::may_join;
 use mini_terms::leaves_nothing;
 use mini_tree::CompressOptions;
 use std::alloc::Global;
 use std::mem;
 
-// Whether it is `if (a) s`, and then an `if` with the branch s, where a isn't too deep.
+// Whether it is `if (a) s`, and then an `if (b)` with the branch s, where `a || b` may be put deeper.
 fn are_guards(first: &Node, next: &Node) -> bool
     ensures { result ≡ row.are_guards first.now next.now }
 {
@@ -30,7 +31,7 @@ fn are_guards(first: &Node, next: &Node) -> bool
         && is_terminated(first.child(1))
         && is_if_statement(next)
         && is_same_tree(first.child(1), next.child(1))
-        && is_shallow(first.child(0), 64)
+        && may_join(first.child(0), next.child(0))
 }
 
 // `if (a || b) s`, with the `else` of the second

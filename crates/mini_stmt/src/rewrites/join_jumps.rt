@@ -7,13 +7,13 @@ ghost use Rattle.mini_node.specs.Children.{part};
 ghost use Rattle.mini_rows.specs.Lists.{or_void as a_value};
 ghost use Rattle.mini_stmt.specs.JoinJumps as row;
 
-use crate::terms::has_alternates;
 use mini_model::{OutOfMemory, Shape, UnaryOperator};
 use mini_node::{
     Node, conditional, discard, expression_statement, is_absent_part, is_if_alone,
     is_return_statement, is_throw_statement, numeric_literal, one, return_statement, three,
     throw_statement, unary,
 };
+use mini_rows::may_sink;
 use std::alloc::Global;
 
 // Whether there is no node.
@@ -50,7 +50,7 @@ pub fn guards_throw(node: &Node) -> bool
 fn is_answer(node: &Node) -> bool
     ensures { result ≡ row.is_answer node.now }
 {
-    !is_missing(node) && !has_alternates(node, 500)
+    !is_missing(node) && may_sink(node)
 }
 
 /// `return c;`

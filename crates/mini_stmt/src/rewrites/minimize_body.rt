@@ -10,12 +10,13 @@ ghost use Rattle.mini_stmt.specs.MinimizeStatements.{switches_of};
 use crate::rewrites::join_jumps::returns_nothing;
 use crate::rewrites::spread_block::body_of;
 use crate::statements::{minimize_statements, take_last};
-use crate::terms::{are_shallow, are_unscoped, statement_cares_about_scope};
+use crate::terms::{are_unscoped, statement_cares_about_scope};
 use mini_model::{OutOfMemory, Shape};
 use mini_node::{
     Node, Nodes, absent, block, discard, if_statement, is_absent_part, is_block, is_if_alone,
     is_listed, negation, three,
 };
+use mini_rows::may_all_sink;
 use mini_tree::CompressOptions;
 use std::alloc::Global;
 
@@ -83,7 +84,7 @@ pub(crate) fn early_at(in_loop: bool, list: &Nodes) -> Option<usize>
         let at = count - 1 - back;
         let node = list.child(at);
         if is_guard(in_loop, node) {
-            return if are_shallow(list, at + 1, 64) {
+            return if may_all_sink(list, at + 1) {
                 Some(at)
             } else {
                 None

@@ -100,7 +100,7 @@ fn turn_in_body(alloc: Global, node: &mut Node, at: usize) -> Result<bool, OutOf
     }
 }
 
-/// The last guard in the body of a loop that goes on with the next turn takes in what follows it, where that nests no deeper than 64, or nothing where it is the body:
+/// The last guard in the body of a loop that goes on with the next turn takes in what follows it, where that nests no deeper than 500 nodes, or nothing where it is the body:
 /// where the body ends the loop goes on by itself (ECMA-262, "LoopContinues"). The answer says whether there was one; the only error
 /// is that memory runs out, and then the statement is fit only to be dropped.
 pub fn turn_loop_guard(alloc: Global, node: &mut Node) -> Result<bool, OutOfMemory>

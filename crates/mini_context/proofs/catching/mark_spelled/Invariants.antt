@@ -3,7 +3,7 @@ use Rattle.mini_model.specs.declared.name.Name.{Name}
 use Rattle.mini_laws.specs.declared.names.Use.TheVariants as variant
 use Rattle.mini_laws.specs.DeclaredNames.{is_spelled}
 use Rattle.mini_laws.specs.Shared.{spelled_among}
-use Rattle.mini_scope.specs.Buckets.{has_name}
+use Rattle.mini_scope.specs.Spelled.{has_name}
 use Rattle.mini_context.specs.Tables.{Marked}
 use Rattle.mini_context.proofs.catching.mark_spelled.Given as goal
 

@@ -1,6 +1,6 @@
 use Rattle.std.proofs.Common.{◌∙◌, ap, sym, arith, ◌++◌, ◌∷◌, []}
 use Rattle.std.specs.Vec.Iter.{into_iter_items}
-use Rattle.mini_scope.specs.Buckets.{has_name}
+use Rattle.mini_scope.specs.Spelled.{has_name}
 use Rattle.mini_laws.specs.Early.{clashing}
 use Rattle.mini_scope.specs.Paths.{use_for}
 use Rattle.mini_scope.proofs.Earlier.{as_binding, clash_turn, bind_last, none_clashes}

@@ -19,12 +19,12 @@ returns-then-len-eq1 c =
 pub split_off-requires : goal.split_off-requires
 split_off-requires c =
     let seen = c.args.given.items in
-    let whole = c.into_bindings-bindings.ensures ∙ c.in_ok-add_distinct.ensures seen (c.in_ok-add_all.ensures ∙ ap (λ r. r ++ bound c.args.hoists seen) c.in_ok-scope.ensures) in
+    let whole = c.into_bindings-bindings.ensures ∙ c.in_ok-add_distinct.ensures seen (c.in_ok-add_all.ensures ∙ ap (λ r. r ++ bound c.args.hoists seen) c.new-scope.ensures) in
     omega (arith, ap length whole, bound_length c.args.hoists (with_names seen c.args.names.items), longer seen c.args.names.items)
 
 pub returns-in-Ok : goal.returns-in-Ok
 returns-in-Ok c =
     let seen = c.args.given.items in
-    let whole = c.into_bindings-bindings.ensures ∙ c.in_ok-add_distinct.ensures seen (c.in_ok-add_all.ensures ∙ ap (λ r. r ++ bound c.args.hoists seen) c.in_ok-scope.ensures) in
+    let whole = c.into_bindings-bindings.ensures ∙ c.in_ok-add_distinct.ensures seen (c.in_ok-add_all.ensures ∙ ap (λ r. r ++ bound c.args.hoists seen) c.new-scope.ensures) in
     let count : c.len-count.result ≡ length seen = omega arith in
     c.in-Ok.ensures.tail ∙ ap (λ k. drop k c.into_bindings-bindings.result.items) count ∙ ap (drop (length seen)) whole ∙ drop-map _ (length seen) (with_names seen c.args.names.items)

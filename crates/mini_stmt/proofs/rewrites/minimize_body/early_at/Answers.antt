@@ -10,15 +10,15 @@ use Rattle.mini_stmt.proofs.rewrites.minimize_body.early_at.Goals as goal
 pub loop-back-init : goal.loop-back-init
 loop-back-init c = passed_start c.args.in_loop c.args.list.now (count c.args.list.now - 0) (omega arith)
 
-pub returns-then-are_shallow : goal.returns-then-are_shallow
-returns-then-are_shallow c =
+pub returns-then-may_all_sink : goal.returns-then-may_all_sink
+returns-then-may_all_sink c =
     passed_early c.args.in_loop c.args.list.now (c.len-count.result - 1 - c.loop-back.back) (count c.args.list.now - c.loop-back.back) (c.len-count.result - 1 - c.loop-back.back + 1) (omega (arith, c.len-count.ensures)) (omega (arith, c.len-count.ensures)) (omega arith)
-    (sym (c.is_guard.ensures ∙ ap (is_guard c.args.in_loop) c.child-node.ensures.value) ∙ c.if-is_guard.true) (sym c.are_shallow.ensures ∙ c.if-are_shallow.true) c.loop-back.invariant
+    (sym (c.is_guard.ensures ∙ ap (is_guard c.args.in_loop) c.child-node.ensures.value) ∙ c.if-is_guard.true) (sym c.may_all_sink.ensures ∙ c.if-may_all_sink.true) c.loop-back.invariant
 
-pub returns-else-are_shallow : goal.returns-else-are_shallow
-returns-else-are_shallow c =
+pub returns-else-may_all_sink : goal.returns-else-may_all_sink
+returns-else-may_all_sink c =
     passed_deep c.args.in_loop c.args.list.now (c.len-count.result - 1 - c.loop-back.back) (count c.args.list.now - c.loop-back.back) (c.len-count.result - 1 - c.loop-back.back + 1) (omega (arith, c.len-count.ensures)) (omega arith)
-    (sym c.are_shallow.ensures ∙ c.if-are_shallow.false) c.loop-back.invariant
+    (sym c.may_all_sink.ensures ∙ c.if-may_all_sink.false) c.loop-back.invariant
 
 pub returns-then-statement_cares_about_scope : goal.returns-then-statement_cares_about_scope
 returns-then-statement_cares_about_scope c =

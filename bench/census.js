@@ -1,0 +1,129 @@
+// Sends every JavaScript file below some folders through the package js/, and counts what came of it.
+//
+//     node --expose-internals bench/census.js [--no-adapt] [--part=K/N] [--most=BYTES] [--log=FILE] [FOLDER..]
+//
+// The folders are those of Debian's node packages unless they are given. Files of the same text count once; `--part=2/4` takes the
+// second of four parts of them, `--most` leaves out longer ones, and `--log` writes a line of JSON for each. What is told: how
+// many files and bytes the parser reads, how many are answered, refused by cause, or printed as another program; the bytes of
+// those that are answered as they were, printed without a rewrite, and minified; the passes.
+"use strict";
+const crypto = require("crypto");
+const fs = require("fs");
+const { minify } = require("../js");
+const { parse } = require("../js/src/parser.js");
+const { print } = require("../js/src/print.js");
+const { filesBelow } = require("./pieces.js");
+
+const FOLDERS = ["/usr/share/nodejs", "/usr/share/javascript"];
+
+function readWords(words) {
+  const asked = { adapt: true, part: 1, parts: 1, most: Infinity, log: null, folders: [] };
+  for (const word of words) {
+    const [, name, value] = /^--([a-z-]+)(?:=(.*))?$/.exec(word) ?? [];
+    if (name === undefined) asked.folders.push(word);
+    else if (name === "no-adapt") asked.adapt = false;
+    else if (name === "part") [asked.part, asked.parts] = value.split("/").map(Number);
+    else if (name === "most") asked.most = Number(value);
+    else if (name === "log") asked.log = fs.openSync(value, "w");
+    else throw new Error(`${word} is no word of this script`);
+  }
+  if (asked.folders.length === 0) asked.folders = FOLDERS;
+  return asked;
+}
+
+// The texts, each once.
+function* distinct({ folders, most }) {
+  const seen = new Set();
+  for (const folder of folders) {
+    for (const file of filesBelow(folder)) {
+      const code = fs.readFileSync(file, "utf8");
+      const sum = crypto.createHash("sha1").update(code).digest("hex");
+      if (seen.has(sum) || code.length > most) continue;
+      seen.add(sum);
+      yield { file, code };
+    }
+  }
+}
+
+// What the printer makes of a file that nothing rewrites.
+const printedBytes = (code) => Buffer.byteLength(print(parse(code).ast));
+
+// What a file came to: a cause without the parts of it that differ from file to file.
+function causeOf({ code, message }) {
+  return `${code}: ${message.replace(/ (of )?\d[\d.e+,]*/g, " N").replace(/'[^']*'/g, "'..'")}`;
+}
+
+const zero = () => ({ files: 0, bytes: 0 });
+
+function add(count, bytes) {
+  count.files += 1;
+  count.bytes += bytes;
+}
+
+class Census {
+  constructor() {
+    this.read = zero();
+    this.unread = zero();
+    this.answered = zero();
+    this.refused = new Map();
+    this.sizes = { source: 0, printed: 0, minified: 0 };
+    this.passes = 0;
+    this.unsettled = 0;
+  }
+
+  // Counts a file; gives what is logged of it.
+  take({ file, code }, adapt) {
+    const bytes = Buffer.byteLength(code);
+    const module = file.endsWith(".mjs") ? true : undefined;
+    const { refused, stats } = minify(code, { adapt, module });
+    if (refused?.code === "Syntax") add(this.unread, bytes);
+    else add(this.read, bytes);
+    if (!refused) this.answer(code, bytes, stats);
+    else if (refused.code !== "Syntax") this.refuse(causeOf(refused), bytes);
+    return { file, bytes, ...stats, refused: refused && `${refused.line}:${refused.column}: ${causeOf(refused)}` };
+  }
+
+  answer(code, bytes, { bytesAfter, passes, settled }) {
+    add(this.answered, bytes);
+    this.sizes.source += bytes;
+    this.sizes.printed += printedBytes(code);
+    this.sizes.minified += bytesAfter;
+    this.passes = Math.max(this.passes, passes);
+    if (!settled) this.unsettled += 1;
+  }
+
+  refuse(cause, bytes) {
+    if (!this.refused.has(cause)) this.refused.set(cause, zero());
+    add(this.refused.get(cause), bytes);
+  }
+
+  lines() {
+    const of = ({ files, bytes }) => {
+      const share = (part, whole) => `${((100 * part) / Math.max(whole, 1)).toFixed(2)} %`;
+      return `${files} files (${share(files, this.read.files)}), ${bytes} bytes (${share(bytes, this.read.bytes)})`;
+    };
+    const refusals = [...this.refused].sort((one, other) => other[1].bytes - one[1].bytes);
+    const { source, printed, minified } = this.sizes;
+    return [
+      `read:     ${of(this.read)}; besides, ${this.unread.files} files that the parser doesn't take`,
+      `answered: ${of(this.answered)}; at most ${this.passes} passes, ${this.unsettled} not settled`,
+      ...refusals.map(([cause, count]) => `refused:  ${of(count)} ${cause}`),
+      `bytes of what is answered: ${source} as it was, ${printed} printed, ${minified} minified`,
+    ];
+  }
+}
+
+function main() {
+  const asked = readWords(process.argv.slice(2));
+  const census = new Census();
+  let at = 0;
+  for (const item of distinct(asked)) {
+    at += 1;
+    if (at % asked.parts !== asked.part % asked.parts) continue;
+    const line = census.take(item, asked.adapt);
+    if (asked.log !== null) fs.writeSync(asked.log, `${JSON.stringify(line)}\n`);
+  }
+  console.log(census.lines().join("\n"));
+}
+
+main();

@@ -1,0 +1,108 @@
+"use strict";
+const { answerFor } = require("./answer.js");
+const commonjs = require("./commonjs.js");
+const { Refusal } = require("./errors.js");
+const { difference, placeOf } = require("./guard.js");
+const { licences } = require("./licences.js");
+const { parse } = require("./parser.js");
+const { print } = require("./print.js");
+const { sourceMap } = require("./source-map.js");
+
+const bytes = (text) => Buffer.byteLength(text);
+
+// ---- what is printed
+
+/** The text of a program, if the parser reads it as that program again. */
+function guarded(program, positions) {
+  let text;
+  let again;
+  try {
+    text = print(program, { positions });
+    again = parse(text, { module: program.sourceType === "module" }).ast;
+  } catch (error) {
+    throw new Refusal("Guard", `what was printed can't be read: ${error.message}`);
+  }
+  const found = difference(program, again);
+  if (found) throw new Refusal("Guard", `what was printed is another program at ${placeOf(found)}`);
+  return text;
+}
+
+/** What stands before the code: the `#!` line, and the comments that are kept. */
+function headOf(code, comments) {
+  const first = code.startsWith("#!") ? `${code.split(/[\n\r\u2028\u2029]/, 1)[0]}\n` : "";
+  const kept = comments.filter(({ start }) => start > 0 || first === "");
+  return first + licences(kept);
+}
+
+// ---- all together
+
+function changed(code, options, warnings) {
+  const comments = [];
+  const { ast, commonjs: isCommonjs } = parse(code, { module: options.module, comments });
+  const input = isCommonjs ? commonjs.wrap(ast, code) : ast;
+  const answer = answerFor(input, code, options, warnings);
+  const program = isCommonjs ? commonjs.unwrap(answer.program) : answer.program;
+  const positions = options.sourceMap ? [] : null;
+  const text = guarded(program, positions);
+  const head = headOf(code, comments);
+  const { kept, passes, settled, steady } = answer;
+  const parts = { code, ast, kept, program, text, positions, head };
+  const map = options.sourceMap ? mapOf(parts, options, warnings) : null;
+  return { code: head + text, map, stats: { passes, settled, steady } };
+}
+
+function mapOf(parts, { file, inputMap }, warnings) {
+  const { map, warnings: said } = sourceMap({ ...parts, file, inputMap });
+  warnings.push(...said);
+  return map;
+}
+
+function checkCall(code, options) {
+  if (typeof code !== "string") throw new TypeError("minify(code, options): code is a text");
+  if (options === null || typeof options !== "object") {
+    throw new TypeError("minify(code, options): options is an object");
+  }
+}
+
+/**
+ * Minifies JavaScript: it parses the text, lets the proved program rewrite the tree, and prints
+ * what that answers. What was printed is parsed again and compared; where anything goes wrong the
+ * text comes back as it was.
+ *
+ * @param {string} code
+ * @param {object} [options]
+ * @param {boolean} [options.module] whether the code is a module; else it is a script if it is one
+ * @param {boolean} [options.adapt=true] whether forms that the program doesn't read are handed to
+ *   it as others that it reads (docs/ADAPTER.md)
+ * @param {number} [options.passes] how many passes are made at most
+ * @param {number} [options.maxDepth=1000] how deep nodes may nest
+ * @param {boolean} [options.sequences=true] whether statements are joined by commas
+ * @param {boolean} [options.joinVars=true] whether declarations are joined
+ * @param {boolean} [options.keepFunctionNames=false]
+ * @param {boolean} [options.keepClassNames=false]
+ * @param {boolean} [options.sourceMap=false] whether a source map is made
+ * @param {object} [options.inputMap] the source map of `code`, with which that is composed
+ * @param {string} [options.file] the name of the file, for the source map
+ * @param {string} [options.program] where the program is (`MINI_APP`, crates/mini_app/out/mini_app)
+ * @returns {{code: string, map: object | null, refused: Refusal | null, warnings: object[], stats:
+ *   object}} `refused` says why `code` is as it was; a warning has `code`, `message`, `line` and
+ *   `column`; `stats` has `bytesBefore`, `bytesAfter`, and of the answer `passes`, `settled` and
+ *   `steady`
+ * @throws {TypeError} where the call itself is wrong
+ */
+function minify(code, options = {}) {
+  checkCall(code, options);
+  const warnings = [];
+  let result = { code, map: null, stats: {} };
+  let refused = null;
+  try {
+    result = changed(code, options, warnings);
+  } catch (error) {
+    if (!(error instanceof Refusal)) throw error;
+    refused = error;
+  }
+  const stats = { bytesBefore: bytes(code), bytesAfter: bytes(result.code), ...result.stats };
+  return { code: result.code, map: result.map, refused, warnings, stats };
+}
+
+module.exports = { minify };

@@ -1,0 +1,5 @@
+export const name = "kept";
+
+export function tagged(tag) {
+  return tag`\ud800`;
+}
