@@ -26,14 +26,14 @@ use Rattle.mini_accept.specs.Patterns as pattern
 use Rattle.mini_accept.specs.Entries.{entry}
 use Rattle.mini_accept.specs.Standing.{may_stand, is_unread}
 use Rattle.mini_accept.specs.Accept.{are_placed, plan_if, placed_plan, plan_by, plan_unless, plan, Read, Reader, takes_number, below_by, read_below, read_part, read_parts, read_child, read_children, with_children, numbered, read_plan, reads, program_at}
-use Rattle.mini_accept.specs.Symbols.{are_unresolved, has_no_symbol, have_no_symbol}
+use Rattle.mini_accept.specs.Symbols.{are_as_written, has_no_symbol, have_no_symbol}
 use Rattle.mini_accept.proofs.Results.{ok_same, bind_ok, under_ok}
 
 -- ---- plans
 
 abbrev BarePlan : Option Plan → Type 0
 BarePlan None = Unit {0}
-BarePlan (Some x) = are_unresolved x.names ≡ true
+BarePlan (Some x) = are_as_written x.shape x.names ≡ true
 
 -- the names of a plan have no symbol
 record Bare (o : Option Plan) : Type 0 where
@@ -66,13 +66,13 @@ statement_bare : (p : Place) (d : Data) → Bare (statement.expression_statement
 statement_bare a_directive d = shape_alone _ _
 statement_bare p d = require_bare _ _ (shape_alone _ _)
 
-identifier_bare : (c : Class) (s : List ℕ) → are_unresolved (expression.identifier_as c s).names ≡ true
+identifier_bare : (c : Class) (s : List ℕ) → are_as_written (expression.identifier_as c s).shape (expression.identifier_as c s).names ≡ true
 identifier_bare shaped.a_pattern s = refl
 identifier_bare (shaped.a_key true) s = refl
 identifier_bare (shaped.a_key false) s = refl
 identifier_bare c s = refl
 
-identifier_at_bare : (p : Place) (s : List ℕ) → are_unresolved (expression.identifier_in p s).names ≡ true
+identifier_at_bare : (p : Place) (s : List ℕ) → are_as_written (expression.identifier_in p s).shape (expression.identifier_in p s).names ≡ true
 identifier_at_bare (at c) s = identifier_bare c s
 identifier_at_bare p s = refl
 
@@ -157,11 +157,11 @@ if_planned : (b : Bool) (y x : Plan) → plan_if b y ≡ Ok x → y ≡ x
 if_planned true y x e = ok_same {E = Defect} y x e
 if_planned false y x e = absurd (cc e)
 
-placed_bare : (strict : Bool) (d : Data) (o : Option Plan) (x : Plan) → Bare o → placed_plan strict d o ≡ Ok x → are_unresolved x.names ≡ true
+placed_bare : (strict : Bool) (d : Data) (o : Option Plan) (x : Plan) → Bare o → placed_plan strict d o ≡ Ok x → are_as_written x.shape x.names ≡ true
 placed_bare strict d None x bare e = absurd (cc e)
-placed_bare strict d (Some y) x bare e = subst (λ z. are_unresolved z.names ≡ true) (if_planned (are_placed (is_strict_in strict y.shape) d y.children) y x e) bare.known
+placed_bare strict d (Some y) x bare e = subst (λ z. are_as_written z.shape z.names ≡ true) (if_planned (are_placed (is_strict_in strict y.shape) d y.children) y x e) bare.known
 
-kind_bare : (strict : Bool) (p : Place) (d : Data) (o : Option Kind) (x : Plan) → plan_by strict p d o ≡ Ok x → are_unresolved x.names ≡ true
+kind_bare : (strict : Bool) (p : Place) (d : Data) (o : Option Kind) (x : Plan) → plan_by strict p d o ≡ Ok x → are_as_written x.shape x.names ≡ true
 kind_bare strict p d None x e = absurd (cc e)
 kind_bare strict p d (Some k) x e = placed_bare strict d (entry k p d) x (entry_bare k p d) e
 
@@ -170,7 +170,7 @@ unless_planned true stands o x e = absurd (cc e)
 unless_planned false true o x e = e
 unless_planned false false o x e = absurd (cc e)
 
-plan_bare : (strict : Bool) (p : Place) (d : Data) (x : Plan) → plan strict p d ≡ Ok x → are_unresolved x.names ≡ true
+plan_bare : (strict : Bool) (p : Place) (d : Data) (x : Plan) → plan strict p d ≡ Ok x → are_as_written x.shape x.names ≡ true
 plan_bare strict p d x e = kind_bare strict p d (kind_of d) x (unless_planned (is_unread strict p d) (may_stand p d) (plan_by strict p d (kind_of d)) x e)
 
 -- ---- parts
@@ -237,12 +237,12 @@ children_bare r reading strict d n (c ∷ cs) y e =
 
 -- ---- nodes
 
-over_bare : (h : Shape) (xs : List Name) (m : ℕ) (r : Read Trees) (x : Tree × ℕ) → are_unresolved xs ≡ true → ((y : Trees × ℕ) → r ≡ Ok y → BareTrees y) → with_children h xs m r ≡ Ok x → BareTree x
+over_bare : (h : Shape) (xs : List Name) (m : ℕ) (r : Read Trees) (x : Tree × ℕ) → are_as_written h xs ≡ true → ((y : Trees × ℕ) → r ≡ Ok y → BareTrees y) → with_children h xs m r ≡ Ok x → BareTree x
 over_bare h xs m r x names bare e =
     let (y, read, same) = bind_ok r _ x e in
-    subst BareTree (ok_same {E = Fault} (node h xs m y.0, y.1) x same) (both_true (are_unresolved xs) (have_no_symbol y.0) names (bare y read))
+    subst BareTree (ok_same {E = Fault} (node h xs m y.0, y.1) x same) (both_true (are_as_written h xs) (have_no_symbol y.0) names (bare y read))
 
-numbered_bare : (b : Bool) (n : ℕ) (h : Shape) (xs : List Name) (f : ℕ → Read Trees) (x : Tree × ℕ) → are_unresolved xs ≡ true → ((m : ℕ) (y : Trees × ℕ) → f m ≡ Ok y → BareTrees y) → numbered b n h xs f ≡ Ok x → BareTree x
+numbered_bare : (b : Bool) (n : ℕ) (h : Shape) (xs : List Name) (f : ℕ → Read Trees) (x : Tree × ℕ) → are_as_written h xs ≡ true → ((m : ℕ) (y : Trees × ℕ) → f m ≡ Ok y → BareTrees y) → numbered b n h xs f ≡ Ok x → BareTree x
 numbered_bare true n h xs f x names bare e = over_bare h xs n (f (suc n)) x names (bare (suc n)) e
 numbered_bare false n h xs f x names bare e = over_bare h xs 0 (f n) x names (bare n) e
 

@@ -538,11 +538,13 @@ abbrev pub has_its_number : Class → Shape → ℕ → Bool
 has_its_number c (shape.Program is_module ds) n = n == 0
 has_its_number c h n = if is_numbered c h then not (n == 0) else n == 0
 
+-- the names of a node; those of a declarator are not written, and the scopes around say which it has
 abbrev pub has_names : Shape → List Name → Bool
 has_names shape.Identifier (x ∷ []) = is_name x.spelling
 has_names shape.Identifier xs = false
 has_names shape.BindingIdentifier (x ∷ []) = is_name x.spelling
 has_names shape.BindingIdentifier xs = false
+has_names shape.VariableDeclarator xs = true
 has_names h [] = true
 has_names h (x ∷ xs) = false
 

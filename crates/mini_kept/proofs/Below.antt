@@ -37,6 +37,7 @@ use Rattle.mini_kept.proofs.Unplaced.{declared_same}
 use Rattle.mini_kept.proofs.Clashes.{no_more_same, no_more_both, still_free}
 use Rattle.mini_kept.proofs.SameScopes.{scope_both}
 use Rattle.mini_kept.proofs.Statements.{same_both, statement_scope, no_more_hoisted, no_more_statement}
+use Rattle.mini_kept.proofs.Initializers.{InitKept, own_kept}
 use Rattle.mini_kept.proofs.LooseScopes.{AllKeep, AllStand, Merges, children_scoped, children_within}
 
 -- ---- names
@@ -73,7 +74,7 @@ all_hoisted π i none (u ▸ us) k x = absurd k
 all_hoisted π i (t ▸ ts) none k x = absurd k
 all_hoisted π i (t ▸ ts) (u ▸ us) k x = same_both (names_of declared.Hoisted u) (all_names declared.Hoisted us) (names_of declared.Hoisted t) (all_names declared.Hoisted ts) k.0.hoisted (all_hoisted π (suc i) ts us k.1) x
 
-hoisted_by : (k : Place) (xs a a' b b' c c' : List Name) → a' ≡ a → b' ≡ b → SameNames c' c → SameNames (names_by k xs a' b' c') (names_by k xs a b c)
+pub hoisted_by : (k : Place) (xs a a' b b' c c' : List Name) → a' ≡ a → b' ≡ b → SameNames c' c → SameNames (names_by k xs a' b' c') (names_by k xs a b c)
 hoisted_by place.Here xs a a' b b' c c' e f g x = refl
 hoisted_by place.FirstBound xs a a' b b' c c' e f g x = ap (λ ys. is_among ys x) e
 hoisted_by place.Bound xs a a' b b' c c' e f g x = ap (λ ys. is_among ys x) f
@@ -133,9 +134,9 @@ body_names_below p h xs n ts us v env k s a =
     chosen_scope (is_statement_list h) (all_body_names us) (names_of declared.Lexical u ++ names_of declared.Hoisted u) (all_body_names ts) (names_of declared.Lexical t ++ names_of declared.Hoisted t) (all_body_names_kept π (opened v h ts) (use_of h v) 0 env ts us k s a.1)
     (statement_scope v env t u a (lexical_below h xs n π ts us k) (hoisted_below h xs n π ts us k))
 
-scoped_below : (p : Position) (h : Shape) (xs : List Name) (n : ℕ) (ts us : Trees) (v : Use) (env : Environment) → Merges (opening_of v h) ts → AllKeep (child_position h p (count ts)) 0 ts us → AllStand (child_position h p (count ts)) (use_of h v) 0 ts → Scoped v env (node h xs n ts) → Scoped v env (node h xs n us)
+scoped_below : (p : Position) (h : Shape) (xs : List Name) (n : ℕ) (ts us : Trees) (v : Use) (env : Environment) → InitKept h ts us → Merges (opening_of v h) ts → AllKeep (child_position h p (count ts)) 0 ts us → AllStand (child_position h p (count ts)) (use_of h v) 0 ts → Scoped v env (node h xs n ts) → Scoped v env (node h xs n us)
 unfolding Scoped
-scoped_below p h xs n ts us v env m k s a = (a.0, children_scoped (opening_of v h) (child_position h p (count ts)) (use_of h v) env ts us m k s a.1)
+scoped_below p h xs n ts us v env i m k s a = (own_kept p h xs v env ts us k i a.0, children_scoped (opening_of v h) (child_position h p (count ts)) (use_of h v) env ts us m k s a.1)
 
 symbols_below : (p : Position) (h : Shape) (xs : List Name) (n : ℕ) (ts us : Trees) (v : Use) (env : Environment) → Merges (opening_of v h) ts → AllKeep (child_position h p (count ts)) 0 ts us → AllStand (child_position h p (count ts)) (use_of h v) 0 ts → Scoped v env (node h xs n ts) → Within (declared_in v (node h xs n us)) (declared_in v (node h xs n ts))
 unfolding Scoped declared_in
@@ -377,8 +378,8 @@ targets_below p h xs n ts us w a q e =
 
 -- ---- all of it
 
-pub keeps_below : (p : Position) (h : Shape) (xs : List Name) (n : ℕ) (ts us : Trees) → ((v : Use) → Merges (opening_of v h) ts) → AllKeep (child_position h p (count ts)) 0 ts us → ((v : Use) → Stands p v (node h xs n ts) → AllStand (child_position h p (count ts)) (use_of h v) 0 ts) → KeepsLoosely p (node h xs n ts) (node h xs n us)
-keeps_below p h xs n ts us m w stand =
+pub keeps_below : (p : Position) (h : Shape) (xs : List Name) (n : ℕ) (ts us : Trees) → InitKept h ts us → ((v : Use) → Merges (opening_of v h) ts) → AllKeep (child_position h p (count ts)) 0 ts us → ((v : Use) → Stands p v (node h xs n ts) → AllStand (child_position h p (count ts)) (use_of h v) 0 ts) → KeepsLoosely p (node h xs n ts) (node h xs n us)
+keeps_below p h xs n ts us i m w stand =
     let π = child_position h p (count ts) in
     record {
       bound = bound_below h xs n π ts us w;
@@ -386,7 +387,7 @@ keeps_below p h xs n ts us m w stand =
       hoisted = hoisted_below h xs n π ts us w;
       body = λ v env s a. body_names_below p h xs n ts us v env w (stand v s) a;
       inner = inner_below h xs n π ts us w;
-      scoped = λ v env s a. scoped_below p h xs n ts us v env (m v) w (stand v s) a;
+      scoped = λ v env s a. scoped_below p h xs n ts us v env i (m v) w (stand v s) a;
       symbols = λ v env s a. symbols_below p h xs n ts us v env (m v) w (stand v s) a;
       numbers = numbers_below h xs n π ts us w;
       declared_as_body = as_body_below h xs n π ts us w;

@@ -25,7 +25,7 @@ use Rattle.mini_laws.specs.Naming.{summary, summaries}
 use Rattle.mini_laws.specs.Fixity.{fixity_by, declared_by, stricter, fixed_by, fixed_by_any}
 use Rattle.mini_laws.proofs.Changes.{times_three}
 use Rattle.mini_kept.specs.KeepsNames.{Stands}
-use Rattle.mini_kept.specs.Lifted.{KeepsNames}
+use Rattle.mini_kept.specs.Lifted.{KeepsNames, InitStays}
 use Rattle.mini_kept.specs.Loosely.{symbol_for, LessOften, FixedKept, undeclared}
 use Rattle.mini_kept.specs.Placed.{fits_place}
 use Rattle.mini_kept.proofs.Bools.{left, right}
@@ -126,7 +126,7 @@ module _ (x : Variable) where
 
   -- ---- a step at any place
 
-  module _ (R : Position → Tree → Tree → Type 0) (l : KeepsNames R) (reads : (p : Position) (n w : Tree) → R p n w → summary n ≡ summary w) (fixed : (p : Position) (n w : Tree) → R p n w → FixedKept p n w) where
+  module _ (R : Position → Tree → Tree → Type 0) (l : KeepsNames R) (stays : InitStays R) (reads : (p : Position) (n w : Tree) → R p n w → summary n ≡ summary w) (fixed : (p : Position) (n w : Tree) → R p n w → FixedKept p n w) where
     same_summaries : {π : ℕ → Position} {ts us : Trees} → StepIn R π ts us → summaries ts ≡ summaries us
     same_summaries s = steps_summaries (λ y. true) R (record { reads = reads; fixed = λ p n w r y d. absurd (true≢false d) }) s
 
@@ -140,7 +140,7 @@ module _ (x : Variable) where
           let below = right (is_whole (class_of s) h xs n ts) (fill (is_strict_in strict h) (filling strict s h) ts) e in
           let placed = placed_below strict s h p (count ts) q in
           let stand = all_stand strict s h xs n ts e p (count ts) v st in
-          let kept = steps_keep R l z (is_strict_in strict h) (filling strict s h) placed below in
+          let kept = steps_keep R l stays z (is_strict_in strict h) (filling strict s h) placed below in
           node_or_less v h xs n ts us (same_summaries z)
           (steps_less z (is_strict_in strict h) (filling strict s h) placed below (opened v h ts) (opened v h us) (children_alike (opening_of v h) π (use_of h v) env ts us (merges strict s h xs n ts e v) kept stand a.1) (use_of h v) env stand a.1)
 

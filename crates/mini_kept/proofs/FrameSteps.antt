@@ -16,7 +16,6 @@ use Rattle.mini_model.specs.declared.kind.VariableDeclarationKind.TheVariants.{V
 use Rattle.mini_laws.specs.DeclaredNames.{names_of, all_names, first_names, body_names}
 use Rattle.mini_kept.specs.SameNames.{is_among, SameNames}
 use Rattle.mini_kept.proofs.Statements.{same_both}
-use Rattle.mini_kept.proofs.Below.{all_bound, first_bound}
 use Rattle.mini_kept.specs.Standing.{is_method_slot}
 use Rattle.mini_kept.specs.Frames.{Showing, Whole, Named, Hidden, showing, in_full, part, parts, keyed, is_declaration, declaration, shown, shown_from, own, is_port, ports, outline, globals, property_below, Frame, frame_of, frames, frames_from, frames_in, FramesKept}
 use Rattle.mini_kept.specs.KeepsFrames.{is_body_slot, IsShownAlike, NoPort, NoDeclaration, function_over, KeepsFunction, module_over, KeepsModule, KeepsHolder, KeepsFrames, KeepsPlaces, KeepsFramesBut}
@@ -26,7 +25,8 @@ use Rattle.mini_kept.specs.FrameLaws.{StepKeepsFrames, ReachesKeepsFrames}
 use Rattle.mini_kept.proofs.Bools.{left, right}
 use Rattle.mini_kept.proofs.Expressions.{refused_here}
 use Rattle.mini_kept.proofs.FrameLists.{each_of}
-use Rattle.mini_kept.proofs.Stepping.{no_steps, step_keeps, steps_keep}
+use Rattle.mini_kept.proofs.StepDeclares.{all_bound, first_bound, step_declares, steps_declare}
+use Rattle.mini_kept.proofs.Stepping.{no_steps}
 use Rattle.mini_kept.proofs.BodySteps.{one_of, step_keeps_bodies, whole_stands}
 use Rattle.mini_laws.specs.Value.{nothing}
 use Rattle.mini_laws.specs.Bodies.{Around, outermost, below, body_of, bodies, bodies_from, bodies_in}
@@ -421,8 +421,8 @@ module _ (M : Gone) (R : Position → Tree → Tree → Type 0) (l : KeepsPlaces
       by false q = undeclared (node h xs n ts) q ∙ sym (undeclared (node h xs n us) q)
       by true q =
           let π = child_position h p (count ts) in
-          let kept = steps_keep R l.names st (is_strict_in strict h) (filling strict s h) (placed_below strict s h p (count ts) v) (children_fill strict s h xs n ts e) in
-          ap (λ ns. if is_declaration h then node h ns n none else absent) (declaration_names h xs n ts us q (sym (all_bound π ts us kept)) (sym (first_bound π ts us kept)))
+          let kept = steps_declare R l.names st (is_strict_in strict h) (filling strict s h) (placed_below strict s h p (count ts) v) (children_fill strict s h xs n ts e) in
+          ap (λ ns. if is_declaration h then node h ns n none else absent) (declaration_names h xs n ts us q (sym (all_bound ts us kept)) (sym (first_bound ts us kept)))
 
   inside_kept : (p : Position) (h : Shape) (xs : List Name) (n : ℕ) (ts us : Trees) → StepIn R (child_position h p (count ts)) ts us → AllKeep M (child_position h p (count ts)) ts us → Keeps M p (node h xs n ts) (node h xs n us)
   inside_kept p h xs n ts us st all = record {
@@ -430,7 +430,7 @@ module _ (M : Gone) (R : Position → Tree → Tree → Type 0) (l : KeepsPlaces
     of_declared = λ strict s v e q. declared_inside p h xs n ts us st strict s v e;
     of_port = λ a. port_inside p h xs ts us all a n;
     of_statements = λ a strict d v e m. statements_inside p h xs n ts us all a strict d v e m;
-    of_hoisted = λ strict s v e. (step_keeps R l.names (inside p h xs n ts us st) strict s v e).hoisted;
+    of_hoisted = λ strict s v e. (step_declares R l.names (inside p h xs n ts us st) strict s v e).hoisted;
     of_frames = λ a strict s v e k z.
         each_shown M (In a (node h xs n ts)) (frame_of k h n (outline h xs n ts) (globals h ts)) (frames_from (property_below h) 0 ts) (frame_of k h n (outline h xs n us) (globals h us)) (frames_from (property_below h) 0 us)
         (frame_inside p k h xs n ts us all a strict s v e)

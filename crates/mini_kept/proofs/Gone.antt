@@ -1,19 +1,23 @@
 -- A symbol that a step drops is declared no more in a program, and so mentioned nowhere.
 use Rattle.std.specs.Prelude.{ℕ, suc, ◌+◌, ◌≤◌, ◌≡◌, refl, Bool, true, false, List, [], ◌∷◌, ◌++◌, Option, Some, None, if◌then◌else◌}
-use Rattle.std.proofs.Common.{ap, ◌∙◌, sym, arith}
+use Rattle.std.proofs.Common.{ap, ◌∙◌, sym, subst, arith}
 use Rattle.std.proofs.lemmas.List.{map-append}
 use Rattle.mini_model.specs.declared.name.Name.{Name}
 use Rattle.mini_model.specs.declared.name.SymbolId.{SymbolId}
 use Rattle.mini_model.specs.declared.place.Position.{Position}
-use Rattle.mini_model.specs.Tree.{Tree, Trees, node, none, ◌▸◌}
+use Rattle.mini_model.specs.declared.shape.Shape.{Shape}
+use Rattle.mini_model.specs.declared.shape.Shape.TheVariants as shape
+use Rattle.mini_model.specs.Tree.{Tree, Trees, node, none, ◌▸◌, is_absent}
 use Rattle.mini_model.specs.Rewriting.{Step, here, inside, StepIn, first, later}
 use Rattle.mini_laws.specs.declared.names.Use.{Use}
+use Rattle.mini_laws.specs.declared.names.Use.TheVariants.{Read}
 use Rattle.mini_laws.specs.declared.names.Binding.{Binding}
 use Rattle.mini_laws.specs.Scopes.{use_of, opening_of, scopes_by, opened}
-use Rattle.mini_laws.specs.Resolved.{Environment, or_else, is_for, own_symbol, symbol_of}
-use Rattle.mini_laws.specs.Scoped.{NamesScoped, Scoped, AllScoped}
+use Rattle.mini_laws.specs.Resolved.{Environment, with_symbol, gives_value, plain_name, other_name, written_name, or_else, is_for, own_symbol, symbol_of}
+use Rattle.mini_laws.specs.Scoped.{NamesScoped, OwnScoped, Scoped, AllScoped}
 use Rattle.mini_laws.specs.Symbols.{symbols_in, declared as declared_in, declared_from, is_same, times}
 use Rattle.mini_laws.specs.Edits.{Kept, AllKept}
+use Rattle.mini_laws.proofs.Writing.{same_lists}
 use Rattle.mini_laws.proofs.Changes.{as_it_is, below, scopes_kept, at_same, times_both, times_three}
 use Rattle.mini_laws.specs.Value.{Declared, variables, variable_eq, variable_by}
 use Rattle.mini_laws.specs.Congruence.{NoneIn, Avoids, AllAvoid}
@@ -106,6 +110,28 @@ module _ (k : ℕ) where
   names_avoid v env [] s e = tt
   names_avoid v env (x ∷ xs) s e = (another x.spelling x.symbol (ap (is_same (symbol k)) s.0 ∙ unfound v x.spelling env e), names_avoid v env xs s.1 e)
 
+  -- the name of a declarator is found where others are
+  other_avoid : (v : Use) (env : Environment) (xs : List Name) → times (symbol k) (symbols_in env) ≡ 0 → NoneIn (alone (Declared k)) (variables (other_name v env xs))
+  other_avoid v env [] e = tt
+  other_avoid v env (x ∷ xs) e = by (is_same (symbol_of Read x.spelling env) (symbol_of v x.spelling env))
+    where
+      by : (b : Bool) → NoneIn (alone (Declared k)) (variables (if b then [] else with_symbol Read env x ∷ []))
+      by true = tt
+      by false = (another x.spelling (symbol_of Read x.spelling env) (unfound Read x.spelling env e), tt)
+
+  written_avoid : (v : Use) (env : Environment) (ts : Trees) → times (symbol k) (symbols_in env) ≡ 0 → NoneIn (alone (Declared k)) (variables (written_name v env ts))
+  written_avoid v env none e = tt
+  written_avoid v env (id ▸ none) e = tt
+  written_avoid v env (id ▸ (init ▸ ts)) e = by (gives_value v (is_absent init))
+    where
+      by : (b : Bool) → NoneIn (alone (Declared k)) (variables (if b then other_name v env (plain_name id) else []))
+      by true = other_avoid v env (plain_name id) e
+      by false = tt
+
+  own_avoid : (v : Use) (env : Environment) (h : Shape) (xs : List Name) (ts : Trees) → OwnScoped v env h xs ts → times (symbol k) (symbols_in env) ≡ 0 → NoneIn (alone (Declared k)) (variables xs)
+  own_avoid v env shape.VariableDeclarator xs ts s e = subst (λ ys. NoneIn (alone (Declared k)) (variables ys)) (sym (same_lists xs (written_name v env ts) s)) (written_avoid v env ts e)
+  own_avoid v env h xs ts s e = names_avoid v env xs s e
+
   none_inside : (env bs : Environment) → times (symbol k) (symbols_in env) ≡ 0 → times (symbol k) (symbols_in bs) ≡ 0 → times (symbol k) (symbols_in (env ++ bs)) ≡ 0
   none_inside env bs e f =
       let both = ap (times (symbol k)) (map-append (λ (b : Binding). b.name.symbol) env bs) in
@@ -115,7 +141,7 @@ module _ (k : ℕ) where
     unfolding Scoped declared_in
 
     pub avoids : (v : Use) (env : Environment) (t : Tree) → Scoped v env t → times (symbol k) (symbols_in env) ≡ 0 → times (symbol k) (declared_in v t) ≡ 0 → Avoids (alone (Declared k)) t
-    avoids v env (node h xs n ts) s e d = (names_avoid v env xs s.0 e, all_avoid (opened v h ts) (use_of h v) 0 env ts s.1 e d)
+    avoids v env (node h xs n ts) s e d = (own_avoid v env h xs ts s.0 e, all_avoid (opened v h ts) (use_of h v) 0 env ts s.1 e d)
 
     all_avoid : (sc : ℕ → List Binding) (vs : ℕ → Use) (i : ℕ) (env : Environment) (ts : Trees) → AllScoped sc vs i env ts → times (symbol k) (symbols_in env) ≡ 0 → times (symbol k) (declared_from sc vs i ts) ≡ 0 → AllAvoid (alone (Declared k)) ts
     all_avoid sc vs i env none s e d = tt

@@ -8,13 +8,13 @@ use Rattle.mini_model.specs.declared.shape.Shape.TheVariants as shape
 use Rattle.mini_model.specs.Tree.{Tree, Trees, node, none, ◌▸◌}
 use Rattle.mini_model.specs.Weight.{same_text}
 use Rattle.mini_laws.specs.declared.names.Use.{Use}
-use Rattle.mini_laws.specs.declared.names.Use.TheVariants.{Hoisted}
+use Rattle.mini_laws.specs.declared.names.Use.TheVariants.{Write, Hoisted, Headed}
 use Rattle.mini_laws.specs.declared.names.Binding.{Binding}
 use Rattle.mini_laws.specs.declared.names.Declared.TheVariants as declared
 use Rattle.mini_laws.specs.declared.names.Opening.{Opening}
 use Rattle.mini_laws.specs.declared.names.Opening.TheVariants as opening
 use Rattle.mini_laws.specs.DeclaredNames.{names_of, first_names, all_names}
-use Rattle.mini_laws.specs.Scopes.{use_of, opening_of, scopes_by, at_or_empty, opened}
+use Rattle.mini_laws.specs.Scopes.{hoisted_by, use_of, opening_of, scopes_by, at_or_empty, opened}
 use Rattle.mini_laws.specs.Resolved.{Environment, or_else, own_symbol, symbol_of}
 use Rattle.mini_laws.specs.Scoped.{NamesScoped, Scoped, AllScoped}
 use Rattle.mini_laws.proofs.Numbers.{none_if, symbol_of_both}
@@ -95,9 +95,21 @@ block_opening o ts k e = absurd (cc e)
 
 -- ---- the names that are hoisted
 
-var_scoped : (u : Use) (env : Environment) (ts : Trees) → AllScoped (opened u (shape.VariableDeclaration Var) ts) (λ k. Hoisted) 0 env ts → NamesScoped Hoisted env (all_names declared.Bound ts)
+headed_same : (s : List ℕ) (env : Environment) → symbol_of Headed s env ≡ symbol_of Hoisted s env
+headed_same s [] = refl
+headed_same s (b ∷ env) = ap (λ r. or_else r (own_symbol Hoisted s b)) (headed_same s env)
+
+headed_scoped : (env : Environment) (xs : List Name) → NamesScoped Headed env xs → NamesScoped Hoisted env xs
+headed_scoped env [] a = tt
+headed_scoped env (x ∷ xs) a = (a.0 ∙ headed_same x.spelling env, headed_scoped env xs a.1)
+
+by_hoisted : (u : Use) (env : Environment) (xs : List Name) → NamesScoped (hoisted_by u) env xs → NamesScoped Hoisted env xs
+by_hoisted Write env xs a = headed_scoped env xs a
+by_hoisted u env xs a = a
+
+var_scoped : (u : Use) (env : Environment) (ts : Trees) → AllScoped (opened u (shape.VariableDeclaration Var) ts) (λ k. hoisted_by u) 0 env ts → NamesScoped Hoisted env (all_names declared.Bound ts)
 unfolding scopes_by
-var_scoped u env ts a = all_bound_scoped Hoisted 0 env ts a
+var_scoped u env ts a = by_hoisted u env (all_names declared.Bound ts) (all_bound_scoped (hoisted_by u) 0 env ts a)
 
 mutual
   unfolding names_of Scoped

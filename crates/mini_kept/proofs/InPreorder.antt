@@ -5,15 +5,15 @@ use Rattle.std.proofs.lemmas.Bool.{eqb-true, eqb-false}
 use Rattle.mini_model.specs.declared.name.SymbolId.{SymbolId}
 use Rattle.mini_model.specs.Tree.{Tree, Trees, node, none, ◌▸◌}
 use Rattle.mini_laws.specs.Resolved.{resolved_program}
-use Rattle.mini_laws.specs.Symbols.{mapped, all_mapped, bare}
+use Rattle.mini_laws.specs.Symbols.{bare, all_bare}
 use Rattle.mini_accept.specs.Symbols.{has_no_symbol}
 use Rattle.mini_accept.specs.Numbered.{number_after, next_after, next_among}
 use Rattle.mini_accept.specs.WellShaped.{IsWellShaped}
 use Rattle.mini_kept.specs.Carried.{renumbered, numbers, all_numbers, number_of, number_at, NumberedAlike}
 use Rattle.mini_kept.specs.KeepsNames.{count_of}
 use Rattle.mini_kept.proofs.Carrying.{some_same, then_some, numbered_next, unnumbered_next, both_lengths, root_next, numbers_carried}
-use Rattle.mini_kept.proofs.ReadAgain.{numbers_mapped}
-use Rattle.mini_kept.proofs.Texts.{no_symbol, text, bare_same, read_resolved}
+use Rattle.mini_kept.proofs.ReadAgain.{numbers_bare, number_bare}
+use Rattle.mini_kept.proofs.Texts.{text, bare_same, read_resolved}
 use Rattle.mini_kept.proofs.SameNumbers.{numbered_alike}
 
 -- so many numbers from one on
@@ -94,27 +94,23 @@ within_from m (suc k) j h = elim (tally m j) [
 -- ---- resolution doesn't change them
 
 mutual
-  unfolding mapped
+  unfolding bare
 
-  next_mapped : (f : Option SymbolId → Option SymbolId) (t : Tree) (m : ℕ) → next_after (mapped f t) m ≡ next_after t m
-  next_mapped f (node h xs n ts) m = λ k. option_and_then (λ j. all_next_mapped f ts j k) (number_after n m)
+  next_bare : (t : Tree) (m : ℕ) → next_after (bare t) m ≡ next_after t m
+  next_bare (node h xs n ts) m = λ k. option_and_then (λ j. all_next_bare ts j k) (number_after n m)
 
-  all_next_mapped : (f : Option SymbolId → Option SymbolId) (ts : Trees) (m : ℕ) → next_among (all_mapped f ts) m ≡ next_among ts m
-  all_next_mapped f none m = refl
-  all_next_mapped f (t ▸ ts) m = λ k. option_and_then (λ j. all_next_mapped f ts j k) (next_mapped f t m k)
-
-number_mapped : (f : Option SymbolId → Option SymbolId) (t : Tree) → number_of (mapped f t) ≡ number_of t
-unfolding mapped
-number_mapped f (node h xs n ts) = refl
+  all_next_bare : (ts : Trees) (m : ℕ) → next_among (all_bare ts) m ≡ next_among ts m
+  all_next_bare none m = refl
+  all_next_bare (t ▸ ts) m = λ k. option_and_then (λ j. all_next_bare ts j k) (next_bare t m k)
 
 pub next_resolved : (t : Tree) (m : ℕ) → next_after (resolved_program t) m ≡ next_after t m
-next_resolved t m = read_resolved (λ v. next_after v m) (λ v. next_mapped no_symbol v m) t
+next_resolved t m = read_resolved (λ v. next_after v m) (λ v. next_bare v m) t
 
 pub numbers_resolved : (t : Tree) → numbers (resolved_program t) ≡ numbers t
-numbers_resolved t = read_resolved numbers (numbers_mapped no_symbol) t
+numbers_resolved t = read_resolved numbers numbers_bare t
 
 pub number_resolved : (t : Tree) → number_of (resolved_program t) ≡ number_of t
-number_resolved t = read_resolved number_of (number_mapped no_symbol) t
+number_resolved t = read_resolved number_of number_bare t
 
 -- ---- the whole
 
@@ -174,8 +170,8 @@ preorder_same t u n m e f s r p q w =
 pub preorder_length : (t u : Tree) (n : ℕ) → next_after t 0 ≡ Some n → number_of u ≡ 0 → has_no_symbol t ≡ true → IsWellShaped t → IsWellShaped u → text t ≡ text u → length (numbers t) ≡ length (numbers u)
 preorder_length t u n e z s p q w =
     let a = in_preorder t n e in
-    let one = numbers_carried t (bare u) n e (number_mapped no_symbol u ∙ z) (numbered_alike t u s p q w) in
+    let one = numbers_carried t (bare u) n e (number_bare u ∙ z) (numbered_alike t u s p q w) in
     let next = a.next in
     let size : n ≡ suc (length (numbers (bare u))) = one.1 in
-    let same : length (numbers (bare u)) ≡ length (numbers u) = ap length (numbers_mapped no_symbol u) in
+    let same : length (numbers (bare u)) ≡ length (numbers u) = ap length (numbers_bare u) in
     omega (arith, next, size, same)

@@ -59,3 +59,5 @@ pub mod Undeclared
 pub mod Refixed
 pub mod ProgramPlaces
 pub mod Rooted
+pub mod Initializers
+pub mod StepDeclares

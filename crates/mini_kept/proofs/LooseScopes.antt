@@ -17,6 +17,7 @@ use Rattle.mini_laws.specs.Scoped.{NamesScoped, Scoped, AllScoped}
 use Rattle.mini_laws.specs.Symbols.{symbols_in, declared as declared_in, declared_from, times, Within}
 use Rattle.mini_laws.proofs.Changes.{times_both}
 use Rattle.mini_laws.proofs.Numbers.{symbol_of_both}
+use Rattle.mini_laws.proofs.Writing.{first_plain, all_found, own_moved}
 use Rattle.mini_kept.specs.KeepsNames.{Stands}
 use Rattle.mini_kept.specs.KeepsLoosely.{has_member, InnerKept, KeepsLoosely}
 use Rattle.mini_kept.specs.SameNames.{SameScope}
@@ -50,7 +51,7 @@ mutual
   unfolding Scoped
 
   moved : (u : Use) (env env' : Environment) → SameFound env env' → (t : Tree) → Scoped u env t → Scoped u env' t
-  moved u env env' e (node h xs n ts) a = (names_moved u env env' e xs a.0, all_moved (opened u h ts) (use_of h u) 0 env env' e ts a.1)
+  moved u env env' e (node h xs n ts) a = (own_moved u env env' h xs ts (names_moved u env env' e xs) (all_found u env env' e (first_plain ts)) a.0, all_moved (opened u h ts) (use_of h u) 0 env env' e ts a.1)
 
   all_moved : (sc : ℕ → List Binding) (vs : ℕ → Use) (i : ℕ) (env env' : Environment) → SameFound env env' → (ts : Trees) → AllScoped sc vs i env ts → AllScoped sc vs i env' ts
   all_moved sc vs i env env' e none a = tt

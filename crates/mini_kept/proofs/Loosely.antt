@@ -32,6 +32,7 @@ use Rattle.mini_kept.specs.Frames.{frames, frames_in}
 use Rattle.mini_kept.specs.KeepsFrames.{KeepsPlaces, KeepsFramesBut}
 use Rattle.mini_kept.specs.Fixities.{KeepsFixitiesBut}
 use Rattle.mini_kept.specs.ShownFrames.{KeyGivenUnder, KeyGiven, no_key, none_gone, gone_from, FramesShown}
+use Rattle.mini_kept.proofs.Initializers.{init_stays}
 use Rattle.mini_kept.proofs.FrameSteps.{places_of, step_frames_but}
 use Rattle.mini_kept.proofs.ShownFrames.{all_frames_more, frames_more, gone_more, shown_on, shown_themselves, given_seldom, given_before}
 use Rattle.mini_kept.proofs.Gone.{step_less, avoids}
@@ -204,7 +205,7 @@ module _ (R : Position → Tree → Tree → Type 0) (K : Shape → Bool) (W : V
   step_fixities t u s e v d x h = by (told s)
     where
       by : Step Staying Elsewhere t u ⊎ ((k : ℕ) × Step (Dropping k) Elsewhere t u) → fixed_by t x ≡ fixed_by u x
-      by (inl y) = program_fixed x Staying (narrowed_places Staying (λ p n w r. r.0)).names (λ p n w r. l.reads p n w r.0) (λ p n w r. r.1.fixed) t u y e v d h
+      by (inl y) = program_fixed x Staying (narrowed_places Staying (λ p n w r. r.0)).names (λ n w r. init_stays R l.shapes n w r.0) (λ p n w r. l.reads p n w r.0) (λ p n w r. r.1.fixed) t u y e v d h
       by (inr (k, y)) = step_fixed (alone (Declared k)) (Dropping k) (dropping_fixed k) y x (not_part (alone (Declared k)) (undeclared u) (one_gone k u (dropped k t u y d)) x h)
 
   reaches_fixities : (p : Position) (t u : Tree) → Reaches R p t u → p ≡ Elsewhere → IsWellShaped t → Scoped Read [] t → Distinct (declared_symbols t) → (x : Variable) → undeclared u x ≡ false → fixed_by t x ≡ fixed_by u x

@@ -8,7 +8,7 @@ use Rattle.mini_model.specs.declared.shape.Shape.TheVariants as shape
 use Rattle.mini_model.specs.Tree.{Tree, Trees, node, none, ◌▸◌, child_or_absent}
 use Rattle.mini_laws.specs.Value.{Variable, Declared, Global, VariableSet, Value, Slot, Holds, Missing, Uninitialised, variables, variable_eq, nth, nothing}
 use Rattle.mini_laws.specs.State.{Label, ReferenceError, Raise, ThisOf, BindOf, Item, Answer, State, Completion, ok, stop, halt, out, Writing, Environment}
-use Rattle.mini_laws.specs.Demand.{Demand, Target, Binds, Request}
+use Rattle.mini_laws.specs.Demand.{Demand, Target, Binds, Request, Declares, Heads}
 use Rattle.mini_laws.specs.Command.{Naming, Op, read, read_typeof, fixity, write, init, init_function, hide, copy, event, bind_names, self, turn, fuel, act, answered, answered_binds, note, number_of, copies, fresh_note, read_name, this_of}
 use Rattle.mini_laws.specs.Naming.{written_of}
 use Rattle.mini_laws.specs.Step.{means}
@@ -167,6 +167,9 @@ module _ (e : Environment) (f : Variable → Writing) (D : VariableSet) (alike :
   written_none : (h : Shape) (q : Demand) (xs : List Variable) → NoneIn D xs → NoneIn D (written_of h q xs)
   written_none shape.Identifier Target xs v = v
   written_none shape.BindingIdentifier (Binds lexical) xs v = v
+  written_none shape.VariableDeclarator (Declares true) xs v = tt
+  written_none shape.VariableDeclarator (Declares false) xs v = v
+  written_none shape.VariableDeclarator Heads xs v = v
   written_none h q xs v = tt
 
   means_same : (n : Tree) → Avoids D n → (q : Demand) (r : Request q) (s : State) → Go (means e n q r s) (means e' n q r s)

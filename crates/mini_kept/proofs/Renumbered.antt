@@ -1,8 +1,10 @@
 -- Resolution doesn't look at numbers.
 use Rattle.std.specs.Prelude.{ℕ, suc, ◌+◌, ◌≡◌, refl, Bool, true, false, ◌||◌, List, [], ◌∷◌, ◌++◌, length, map, if◌then◌else◌}
 use Rattle.std.proofs.Common.{ap, ◌∙◌}
+use Rattle.mini_model.specs.declared.name.Name.{Name}
 use Rattle.mini_model.specs.declared.shape.Shape.{Shape}
-use Rattle.mini_model.specs.Tree.{Tree, Trees, node, none, ◌▸◌}
+use Rattle.mini_model.specs.declared.shape.Shape.TheVariants as shape
+use Rattle.mini_model.specs.Tree.{Tree, Trees, node, none, ◌▸◌, is_absent}
 use Rattle.mini_laws.specs.declared.names.Use.{Use}
 use Rattle.mini_laws.specs.declared.names.Use.TheVariants.{Read}
 use Rattle.mini_laws.specs.declared.names.Binding.{Binding}
@@ -12,7 +14,7 @@ use Rattle.mini_laws.specs.declared.names.Opening.{Opening}
 use Rattle.mini_laws.specs.declared.names.Opening.TheVariants as opening
 use Rattle.mini_laws.specs.DeclaredNames.{place_of, names_by, names_of, first_names, all_names, is_statement_list, body_names, all_body_names, is_inner, has_inner, any_inner}
 use Rattle.mini_laws.specs.Scopes.{use_of, opening_of, scopes_by, at_or_empty, opened, name_if, lexical_scope, body_scope, merged}
-use Rattle.mini_laws.specs.Resolved.{Environment, with_symbol, numbered, symbols, symbols_from, resolved, resolved_from, resolved_program}
+use Rattle.mini_laws.specs.Resolved.{Environment, gives_value, plain_name, other_name, written_name, names_in, numbered, symbols, symbols_from, resolved, resolved_from, resolved_program}
 use Rattle.mini_kept.specs.Carried.{renumbered, all_renumbered}
 
 mutual
@@ -115,12 +117,33 @@ mutual
       ∙ ap (λ k. length (sc i) + k + symbols_from sc' us (suc i) (all_renumbered f ts)) (same_symbols f (us i) t)
       ∙ ap (λ k. length (sc i) + symbols (us i) t + k) (same_all_symbols f sc sc' e us (suc i) ts)
 
+plain_renumbered : (f : ℕ → ℕ) (t : Tree) → plain_name (renumbered f t) ≡ plain_name t
+unfolding renumbered
+plain_renumbered f (node shape.BindingIdentifier xs n ts) = refl
+plain_renumbered f (node h xs n ts) = refl
+
+absent_renumbered : (f : ℕ → ℕ) (t : Tree) → is_absent (renumbered f t) ≡ is_absent t
+unfolding renumbered
+absent_renumbered f (node shape.Absent xs n ts) = refl
+absent_renumbered f (node h xs n ts) = refl
+
+written_renumbered : (f : ℕ → ℕ) (u : Use) (env : Environment) (ts : Trees) → written_name u env (all_renumbered f ts) ≡ written_name u env ts
+unfolding renumbered
+written_renumbered f u env none = refl
+written_renumbered f u env (id ▸ none) = refl
+written_renumbered f u env (id ▸ (init ▸ ts)) = λ k. if gives_value u (absent_renumbered f init k) then other_name u env (plain_renumbered f id k) else []
+
+names_renumbered : (f : ℕ → ℕ) (u : Use) (env : Environment) (h : Shape) (xs : List Name) (ts : Trees) → names_in u env h xs (all_renumbered f ts) ≡ names_in u env h xs ts
+names_renumbered f u env shape.VariableDeclarator xs ts = written_renumbered f u env ts
+names_renumbered f u env h xs ts = refl
+
 mutual
   unfolding resolved renumbered
 
   resolved_renumbered : (f : ℕ → ℕ) (u : Use) (env : Environment) (s : ℕ) (t : Tree) → resolved u env s (renumbered f t) ≡ renumbered f (resolved u env s t)
   resolved_renumbered f u env s (node h xs n ts) =
-      ap (node h (map (with_symbol u env) xs) (f n)) (all_resolved_renumbered f (opened u h ts) (opened u h (all_renumbered f ts)) (same_opened f u h ts) (use_of h u) 0 env s ts)
+      ap (λ ys. node h ys (f n) (resolved_from (opened u h (all_renumbered f ts)) (use_of h u) 0 env s (all_renumbered f ts))) (names_renumbered f u env h xs ts)
+      ∙ ap (node h (names_in u env h xs ts) (f n)) (all_resolved_renumbered f (opened u h ts) (opened u h (all_renumbered f ts)) (same_opened f u h ts) (use_of h u) 0 env s ts)
 
   all_resolved_renumbered : (f : ℕ → ℕ) (sc sc' : ℕ → List Binding) → ((i : ℕ) → sc' i ≡ sc i) → (us : ℕ → Use) (i : ℕ) (env : Environment) (s : ℕ) (ts : Trees) → resolved_from sc' us i env s (all_renumbered f ts) ≡ all_renumbered f (resolved_from sc us i env s ts)
   all_resolved_renumbered f sc sc' e us i env s none = refl

@@ -3,9 +3,11 @@ use Rattle.std.specs.Prelude.{ℕ, zero, suc, ◌≡◌, refl, Bool, true, false
 use Rattle.std.proofs.Common.{ap, ◌∙◌}
 use Rattle.mini_model.specs.declared.name.Name.{Name}
 use Rattle.mini_model.specs.declared.shape.Shape.{Shape}
+use Rattle.mini_model.specs.declared.shape.Shape.TheVariants as shape
 use Rattle.mini_model.specs.Tree.{Tree, Trees, node, none, ◌▸◌, shape_of, child_or_absent}
 use Rattle.mini_laws.specs.declared.names.Clash.{Clash}
 use Rattle.mini_laws.specs.declared.names.Clash.TheVariants as clash
+use Rattle.mini_laws.specs.declared.names.Declaration.{Declaration}
 use Rattle.mini_laws.specs.declared.names.Declared.{Declared}
 use Rattle.mini_laws.specs.declared.names.Declared.TheVariants as declared
 use Rattle.mini_laws.specs.declared.names.Label.{Label}
@@ -14,23 +16,23 @@ use Rattle.mini_laws.specs.declared.names.Turn.{Turn}
 use Rattle.mini_laws.specs.declared.names.Turn.TheVariants as turn
 use Rattle.mini_laws.specs.DeclaredNames.{place_of}
 use Rattle.mini_laws.specs.Resolved.{resolved_program}
-use Rattle.mini_laws.specs.Symbols.{with_new, mapped}
+use Rattle.mini_laws.specs.Symbols.{with_new, no_symbol, bare_names, bare}
 use Rattle.mini_laws.specs.Early.{Path, choose_by, own_declarations, declarations, first_declarations, all_declarations, is_function_shape, holds_statements, body_declarations, all_body_declarations, is_pattern_shape, clash_of, at_child, in_body, children_of_node, in_param, in_block, declarations_by, scope_declarations, clashing, early_names, all_early_names, label_by, label_in, is_loop_shape, is_labeled, is_loop, last_is_loop, last_by, turn_of, label_for, turned, targets_of, jump_of, is_bad, is_bad_jump, early_jumps, all_early_jumps}
 use Rattle.mini_kept.specs.Carried.{renumbered}
-use Rattle.mini_kept.proofs.Texts.{no_symbol, text, texts, text_resolved, read_alike}
+use Rattle.mini_kept.proofs.Texts.{text, texts, text_resolved, read_alike}
 
 -- ---- the children of a node
 
 children_text : (t : Tree) → children_of_node (text t) ≡ texts (children_of_node t)
-unfolding renumbered mapped
+unfolding renumbered bare
 children_text (node h xs n ts) = refl
 
 pub shape_text : (t : Tree) → shape_of (text t) ≡ shape_of t
-unfolding renumbered mapped
+unfolding renumbered bare
 shape_text (node h xs n ts) = refl
 
 child_text : (ts : Trees) (i : ℕ) → child_or_absent (texts ts) i ≡ text (child_or_absent ts i)
-unfolding renumbered mapped
+unfolding renumbered bare
 child_text none i = refl
 child_text (t ▸ ts) zero = refl
 child_text (t ▸ ts) (suc i) = child_text ts i
@@ -44,11 +46,17 @@ own_text : (l : Bool) (q : Path) (xs : List Name) → own_declarations l q (map 
 own_text l q [] = refl
 own_text l q (x ∷ xs) = ap (λ r. record { spelling = x.spelling; is_lexical = l; at = q } ∷ r) (own_text l q xs)
 
+node_text : (d : Declared) (h : Shape) (l : Bool) (q : Path) (xs : List Name) (a b c : List Declaration) → choose_by (place_of d h) (own_declarations l q (bare_names h xs)) a b c ≡ choose_by (place_of d h) (own_declarations l q xs) a b c
+node_text declared.Bound shape.VariableDeclarator l q xs a b c = refl
+node_text declared.Lexical shape.VariableDeclarator l q xs a b c = refl
+node_text declared.Hoisted shape.VariableDeclarator l q xs a b c = refl
+node_text d h l q xs a b c = ap (λ o. choose_by (place_of d h) o a b c) (own_text l q xs)
+
 mutual
-  unfolding declarations renumbered mapped
+  unfolding declarations renumbered bare
 
   text_declarations : (d : Declared) (l : Bool) (q : Path) (t : Tree) → declarations d l q (text t) ≡ declarations d l q t
-  text_declarations d l q (node h xs n ts) = λ k. choose_by (place_of d h) (own_text l q xs k) (text_first l q ts k) (text_all declared.Bound l q 0 ts k) (text_all d l q 0 ts k)
+  text_declarations d l q (node h xs n ts) = (λ k. choose_by (place_of d h) (own_declarations l q (bare_names h xs)) (text_first l q ts k) (text_all declared.Bound l q 0 ts k) (text_all d l q 0 ts k)) ∙ node_text d h l q xs (first_declarations l q ts) (all_declarations declared.Bound l q 0 ts) (all_declarations d l q 0 ts)
 
   text_first : (l : Bool) (q : Path) (ts : Trees) → first_declarations l q (texts ts) ≡ first_declarations l q ts
   text_first l q none = refl
@@ -59,7 +67,7 @@ mutual
   text_all d l q i (t ▸ ts) = λ k. text_declarations d l (q ++ i ∷ []) t k ++ text_all d l q (suc i) ts k
 
 mutual
-  unfolding body_declarations renumbered mapped
+  unfolding body_declarations renumbered bare
 
   text_body : (b : Bool) (q : Path) (t : Tree) → body_declarations b q (text t) ≡ body_declarations b q t
   text_body b q (node h xs n ts) =
@@ -97,7 +105,7 @@ unfolding scope_declarations
 scope_text h q ts = by_text (clash_of h) q ts
 
 mutual
-  unfolding early_names renumbered mapped
+  unfolding early_names renumbered bare
 
   pub text_names : (q : Path) (t : Tree) → early_names q (text t) ≡ early_names q t
   text_names q (node h xs n ts) = λ k. clashing [] (scope_text h q ts k) ++ text_all_names q 0 ts k
@@ -109,7 +117,7 @@ mutual
 -- ---- jumps without a target
 
 mutual
-  unfolding is_loop renumbered mapped
+  unfolding is_loop renumbered bare
 
   text_loop : (t : Tree) → is_loop (text t) ≡ is_loop t
   text_loop (node h xs n ts) = λ k. if is_labeled h then text_last ts k else is_loop_shape h
@@ -142,7 +150,7 @@ bad_text : (h : Shape) (ts : Trees) (a : Targets) → is_bad_jump h (texts ts) a
 bad_text h ts a = ap (λ l. is_bad (jump_of h) l a) (label_text ts)
 
 mutual
-  unfolding early_jumps renumbered mapped
+  unfolding early_jumps renumbered bare
 
   pub text_jumps : (a : Targets) (q : Path) (t : Tree) → early_jumps a q (text t) ≡ early_jumps a q t
   text_jumps a q (node h xs n ts) = λ k. (if bad_text h ts a k then q ∷ [] else []) ++ text_all_jumps (targets_of h (texts ts) a) (targets_of h ts a) (targets_text h ts a) q 0 ts k

@@ -8,13 +8,13 @@ use Rattle.mini_model.specs.declared.operator.AssignmentOperator.TheVariants.{As
 use Rattle.mini_model.specs.declared.shape.Shape.{Shape}
 use Rattle.mini_model.specs.declared.shape.Shape.TheVariants as shape
 use Rattle.mini_model.specs.Tree.{Tree, Trees, node, none, ◌▸◌}
-use Rattle.mini_laws.specs.Symbols.{with_new, mapped, all_mapped, bare}
+use Rattle.mini_laws.specs.Symbols.{with_new, no_symbol, bare_names, bare, all_bare}
 use Rattle.mini_accept.specs.Symbols.{has_no_symbol}
 use Rattle.mini_accept.specs.WellShaped.{Tagging, Depth, in_module, in_body, nested, Class, a_program, a_statement, a_block, a_case, a_catch, an_init, a_loop_left, a_declarator, a_pattern, a_pattern_element, a_pattern_property, a_pattern_rest, a_parameter, a_binding, a_label, a_private_name, a_function_body, an_arrow_body, a_class_body, a_class_member, a_method, an_expression, a_link, a_chain, an_argument, an_inner_argument, an_inner, a_super, an_object_property, a_key, a_private_or_key, an_inner_key, a_tagged_template, a_target, a_simple_target, an_element_target, a_member_target, a_named_target, a_target_name, a_target_element, a_target_property, a_target_rest, an_import, a_module_name, a_string, an_export, an_exported_name, an_exported_declaration, a_default_export, a_word, Slot, one, one_or_absent, many, many_or_holes, many_and_rest, many_or_holes_and_rest, quasis, is_text, expression_slots, is_optional, none_if, unchained_slots, is_chained, member_slots, pattern_target_slots, pattern_slots, variable_slots, function_slots, or_else, module_slots, in_depth, is_sloppy_function, statement_slots, key_slots, private_or_key_slots, inner_slots, word_slots, slots_of, is_strict_in, is_numbered, has_its_number, has_names, has_plain_fields, has_its_parts, is_whole, is_quasi_by, is_quasi, are_quasis, Filling, refused, these, each, each_or_last, pieces, filling_by, filling, class_of, is_last, fits, fill, IsWellShaped}
 use Rattle.mini_kept.specs.Carried.{renumbered, BothNumbered, NumberedAlike, AllNumberedAlike}
 use Rattle.mini_kept.proofs.Bools.{left, right}
 use Rattle.mini_kept.proofs.Expressions.{refused_here}
-use Rattle.mini_kept.proofs.Texts.{no_symbol, text, texts, bare_same}
+use Rattle.mini_kept.proofs.Texts.{text, texts, bare_same}
 
 -- ---- of a shape at a place some number is above 0, or none
 
@@ -278,7 +278,7 @@ sound_filling strict s h q = tt
 -- ---- trees
 
 not_both : (strict : Bool) (s l : Slot) (t u : Tree) → Apart s l → fits strict s t ≡ true → fits strict l u ≡ true → text t ≡ text u → ⊥
-unfolding renumbered mapped
+unfolding renumbered bare
 not_both strict s l (node h xs n ts) (node h' xs' m us) a e f w =
     let same : h ≡ h' = cc in
     elim (a strict h) [ inl q ↦ refused_here strict s h xs n ts q e | inr q ↦ refused_here strict l h' xs' m us (subst (λ k. filling strict l k ≡ refused) same q) f ]
@@ -298,17 +298,17 @@ quasi_number : (g : Tagging) (last : Bool) (h : Shape) (n : ℕ) → is_quasi g 
 quasi_number g last h n e = left (n == 0) (has_plain_fields h) (right (is_quasi_by g last h) ((n == 0) && has_plain_fields h) e)
 
 quasi_alike : (g : Tagging) (last : Bool) (t u : Tree) → is_quasi g last t ≡ true → is_quasi g last u ≡ true → text t ≡ text u → NumberedAlike (bare t) (bare u)
-unfolding renumbered mapped
+unfolding renumbered bare
 quasi_alike g last (node h (x ∷ xs) n ts) u e f w = absurd (cc e)
 quasi_alike g last (node h [] n (t ▸ ts)) u e f w = absurd (cc e)
 quasi_alike g last (node h [] n none) (node h' (x ∷ xs) m us) e f w = absurd (cc f)
 quasi_alike g last (node h [] n none) (node h' [] m (u ▸ us)) e f w = absurd (cc f)
 quasi_alike g last (node h [] n none) (node h' [] m none) e f w =
     let same : h ≡ h' = cc in
-    (same, refl, both_by false n m (quasi_number g last h n e) (quasi_number g last h' m f), tt)
+    (same, ap (λ k. bare_names k []) same, both_by false n m (quasi_number g last h n e) (quasi_number g last h' m f), tt)
 
-quasis_alike : (g : Tagging) (ts us : Trees) → are_quasis g ts ≡ true → are_quasis g us ≡ true → texts ts ≡ texts us → AllNumberedAlike (all_mapped no_symbol ts) (all_mapped no_symbol us)
-unfolding renumbered mapped
+quasis_alike : (g : Tagging) (ts us : Trees) → are_quasis g ts ≡ true → are_quasis g us ≡ true → texts ts ≡ texts us → AllNumberedAlike (all_bare ts) (all_bare us)
+unfolding renumbered bare
 quasis_alike g none us e f w = absurd (cc e)
 quasis_alike g (t ▸ ts) none e f w = absurd (cc w)
 quasis_alike g (t ▸ none) (u ▸ none) e f w =
@@ -324,19 +324,19 @@ quasis_alike g (t ▸ (t' ▸ ts)) (u ▸ (u' ▸ us)) e f w =
     (quasi_alike g false t u own own' same, quasis_alike g (t' ▸ ts) (u' ▸ us) rest rest' others)
 
 mutual
-  unfolding renumbered mapped
+  unfolding renumbered bare
 
   alike : (strict : Bool) (s : Slot) (t u : Tree) → is_sound s ≡ true → fits strict s t ≡ true → fits strict s u ≡ true → text t ≡ text u → NumberedAlike (bare t) (bare u)
   alike strict s (node h xs n ts) (node h' xs' m us) q e f w =
       let same : h ≡ h' = cc in
-      let names : map (with_new no_symbol) xs ≡ map (with_new no_symbol) xs' = cc in
+      let names : bare_names h xs ≡ bare_names h' xs' = cc in
       let below : texts ts ≡ texts us = cc in
       let f' = subst (λ k. fits strict s (node k xs' m us) ≡ true) (sym same) f in
       let (whole, filled) = and_parts (is_whole (class_of s) h xs n ts) (fill (is_strict_in strict h) (filling strict s h) ts) e in
       let (whole', filled') = and_parts (is_whole (class_of s) h xs' m us) (fill (is_strict_in strict h) (filling strict s h) us) f' in
       (same, names, both_numbered (class_of s) h n m (its_number (class_of s) h xs n ts whole) (its_number (class_of s) h xs' m us whole'), all_alike (is_strict_in strict h) (filling strict s h) ts us (sound_filling strict s h q) filled filled' below)
 
-  all_alike : (strict : Bool) (g : Filling) (ts us : Trees) → Sound g → fill strict g ts ≡ true → fill strict g us ≡ true → texts ts ≡ texts us → AllNumberedAlike (all_mapped no_symbol ts) (all_mapped no_symbol us)
+  all_alike : (strict : Bool) (g : Filling) (ts us : Trees) → Sound g → fill strict g ts ≡ true → fill strict g us ≡ true → texts ts ≡ texts us → AllNumberedAlike (all_bare ts) (all_bare us)
   all_alike strict g none none q e f w = tt
   all_alike strict g none (u ▸ us) q e f w = absurd (cc w)
   all_alike strict g (t ▸ ts) none q e f w = absurd (cc w)

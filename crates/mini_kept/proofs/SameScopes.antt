@@ -6,7 +6,7 @@ use Rattle.mini_model.specs.declared.name.Name.{Name}
 use Rattle.mini_model.specs.declared.name.SymbolId.{SymbolId}
 use Rattle.mini_model.specs.Weight.{same_text}
 use Rattle.mini_laws.specs.declared.names.Use.{Use}
-use Rattle.mini_laws.specs.declared.names.Use.TheVariants.{Read, Write, ReadWrite, Hoisted, Alone}
+use Rattle.mini_laws.specs.declared.names.Use.TheVariants.{Read, Write, ReadWrite, Hoisted, Headed, Alone}
 use Rattle.mini_laws.specs.DeclaredNames.{is_spelled}
 use Rattle.mini_laws.specs.Scopes.{body_scope}
 use Rattle.mini_laws.specs.Resolved.{Environment, or_else, serves, own_symbol, symbol_of}
@@ -121,6 +121,7 @@ serves_all Read x = refl
 serves_all Write x = refl
 serves_all ReadWrite x = refl
 serves_all Hoisted x = refl
+serves_all Headed x = refl
 serves_all Alone x = refl
 
 none_first : (s : List ℕ) (xs : List Name) → is_spelled s xs ≡ false → first_symbol s xs ≡ None

@@ -16,12 +16,13 @@ use Rattle.mini_kept.proofs.Bools.{left, right, and_false}
 use Rattle.mini_kept.proofs.Expressions.{refused_here}
 use Rattle.mini_kept.specs.KeepsNames.{Stands, is_used}
 use Rattle.mini_kept.specs.KeepsLoosely.{KeepsLoosely}
-use Rattle.mini_kept.specs.Lifted.{is_piece, KeepsNames}
+use Rattle.mini_kept.specs.Lifted.{is_piece, KeepsNames, InitStays}
 use Rattle.mini_kept.specs.Placed.{fits_place}
 use Rattle.mini_kept.proofs.Placed.{Placed, placed_below}
 use Rattle.mini_kept.proofs.Using.{is_patterned, stands_plainly, also}
 use Rattle.mini_kept.proofs.LooseScopes.{AllKeep, AllStand}
 use Rattle.mini_kept.proofs.Below.{keeps_itself, keeps_below}
+use Rattle.mini_kept.proofs.Initializers.{init_kept}
 use Rattle.mini_kept.proofs.Members.{merges}
 
 -- ---- inner expressions in patterns
@@ -215,25 +216,26 @@ module _ (R : Position → Tree → Tree → Type 0) (l : KeepsNames R) where
       by true f = (s, x, f)
       by false f = (r, y, right b (fits strict r t) (sym (ap (λ c. c || (b && fits strict r t)) f) ∙ e))
 
-  mutual
-    pub step_keeps : {p : Position} {t u : Tree} → Step R p t u → (strict : Bool) (s : Slot) → fits_place p s ≡ true → fits strict s t ≡ true → KeepsLoosely p t u
-    step_keeps (here p t u r) strict s k e = l.keeps p t u r strict s k e
-    step_keeps (inside p h xs n ts us st) strict s k e =
-        keeps_below p h xs n ts us (merges strict s h xs n ts e) (steps_keep st (is_strict_in strict h) (filling strict s h) (placed_below strict s h p (count ts) k) (right (is_whole (class_of s) h xs n ts) (fill (is_strict_in strict h) (filling strict s h) ts) e)) (all_stand strict s h xs n ts e p (count ts))
+  module _ (stays : InitStays R) where
+    mutual
+      pub step_keeps : {p : Position} {t u : Tree} → Step R p t u → (strict : Bool) (s : Slot) → fits_place p s ≡ true → fits strict s t ≡ true → KeepsLoosely p t u
+      step_keeps (here p t u r) strict s k e = l.keeps p t u r strict s k e
+      step_keeps (inside p h xs n ts us st) strict s k e =
+          keeps_below p h xs n ts us (init_kept R stays strict s p h xs n ts us e st) (merges strict s h xs n ts e) (steps_keep st (is_strict_in strict h) (filling strict s h) (placed_below strict s h p (count ts) k) (right (is_whole (class_of s) h xs n ts) (fill (is_strict_in strict h) (filling strict s h) ts) e)) (all_stand strict s h xs n ts e p (count ts))
 
-    pub steps_keep : {π : ℕ → Position} {ts us : Trees} → StepIn R π ts us → (strict : Bool) (g : Filling) → Placed π g → fill strict g ts ≡ true → AllKeep π 0 ts us
-    steps_keep (first π t u ts st) strict refused k e = absurd (cc e)
-    steps_keep (first π t u ts st) strict (these []) k e = absurd (cc e)
-    steps_keep (first π t u ts st) strict (these (s ∷ ss)) k e = (step_keeps st strict s k.0 (left (fits strict s t) (fill strict (these ss) ts) e), all_itself π 1 ts)
-    steps_keep (first π t u ts st) strict (each s) k e = (step_keeps st strict s (k 0) (left (fits strict s t) (fill strict (each s) ts) e), all_itself π 1 ts)
-    steps_keep (first π t u ts st) strict (each_or_last s r) k e =
-        let (q, z, f) = one_of (π 0) strict s r (is_last ts) t (k 0).0 (k 0).1 (left (fits strict s t || (is_last ts && fits strict r t)) (fill strict (each_or_last s r) ts) e) in
-        (step_keeps st strict q z f, all_itself π 1 ts)
-    steps_keep (first π t u ts st) strict (pieces g) k e = absurd (no_steps g (first π t u ts st) e)
-    steps_keep (later π t ts us st) strict refused k e = absurd (cc e)
-    steps_keep (later π t ts us st) strict (these []) k e = absurd (cc e)
-    steps_keep (later π t ts us st) strict (these (s ∷ ss)) k e = (keeps_itself (π 0) t, shifted π 0 ts us (steps_keep st strict (these ss) k.1 (right (fits strict s t) (fill strict (these ss) ts) e)))
-    steps_keep (later π t ts us st) strict (each s) k e = (keeps_itself (π 0) t, shifted π 0 ts us (steps_keep st strict (each s) (λ j. k (suc j)) (right (fits strict s t) (fill strict (each s) ts) e)))
-    steps_keep (later π t ts us st) strict (each_or_last s r) k e =
-        (keeps_itself (π 0) t, shifted π 0 ts us (steps_keep st strict (each_or_last s r) (λ j. k (suc j)) (right (fits strict s t || (is_last ts && fits strict r t)) (fill strict (each_or_last s r) ts) e)))
-    steps_keep (later π t ts us st) strict (pieces g) k e = absurd (no_steps g (later π t ts us st) e)
+      pub steps_keep : {π : ℕ → Position} {ts us : Trees} → StepIn R π ts us → (strict : Bool) (g : Filling) → Placed π g → fill strict g ts ≡ true → AllKeep π 0 ts us
+      steps_keep (first π t u ts st) strict refused k e = absurd (cc e)
+      steps_keep (first π t u ts st) strict (these []) k e = absurd (cc e)
+      steps_keep (first π t u ts st) strict (these (s ∷ ss)) k e = (step_keeps st strict s k.0 (left (fits strict s t) (fill strict (these ss) ts) e), all_itself π 1 ts)
+      steps_keep (first π t u ts st) strict (each s) k e = (step_keeps st strict s (k 0) (left (fits strict s t) (fill strict (each s) ts) e), all_itself π 1 ts)
+      steps_keep (first π t u ts st) strict (each_or_last s r) k e =
+          let (q, z, f) = one_of (π 0) strict s r (is_last ts) t (k 0).0 (k 0).1 (left (fits strict s t || (is_last ts && fits strict r t)) (fill strict (each_or_last s r) ts) e) in
+          (step_keeps st strict q z f, all_itself π 1 ts)
+      steps_keep (first π t u ts st) strict (pieces g) k e = absurd (no_steps g (first π t u ts st) e)
+      steps_keep (later π t ts us st) strict refused k e = absurd (cc e)
+      steps_keep (later π t ts us st) strict (these []) k e = absurd (cc e)
+      steps_keep (later π t ts us st) strict (these (s ∷ ss)) k e = (keeps_itself (π 0) t, shifted π 0 ts us (steps_keep st strict (these ss) k.1 (right (fits strict s t) (fill strict (these ss) ts) e)))
+      steps_keep (later π t ts us st) strict (each s) k e = (keeps_itself (π 0) t, shifted π 0 ts us (steps_keep st strict (each s) (λ j. k (suc j)) (right (fits strict s t) (fill strict (each s) ts) e)))
+      steps_keep (later π t ts us st) strict (each_or_last s r) k e =
+          (keeps_itself (π 0) t, shifted π 0 ts us (steps_keep st strict (each_or_last s r) (λ j. k (suc j)) (right (fits strict s t || (is_last ts && fits strict r t)) (fill strict (each_or_last s r) ts) e)))
+      steps_keep (later π t ts us st) strict (pieces g) k e = absurd (no_steps g (later π t ts us st) e)

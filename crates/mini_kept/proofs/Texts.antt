@@ -4,38 +4,41 @@ use Rattle.std.proofs.Common.{ap, ◌∙◌, sym}
 use Rattle.std.proofs.lemmas.Bool.{and_parts}
 use Rattle.mini_model.specs.declared.name.Name.{Name}
 use Rattle.mini_model.specs.declared.name.SymbolId.{SymbolId}
+use Rattle.mini_model.specs.declared.shape.Shape.{Shape}
+use Rattle.mini_model.specs.declared.shape.Shape.TheVariants as shape
 use Rattle.mini_model.specs.Tree.{Tree, Trees, node, none, ◌▸◌}
 use Rattle.mini_laws.specs.declared.names.Use.{Use}
 use Rattle.mini_laws.specs.declared.names.Use.TheVariants.{Read}
 use Rattle.mini_laws.specs.declared.names.Binding.{Binding}
 use Rattle.mini_laws.specs.Scopes.{use_of, opened}
-use Rattle.mini_laws.specs.Resolved.{Environment, with_symbol, numbered, symbols, resolved, resolved_from, resolved_program}
-use Rattle.mini_laws.specs.Symbols.{with_new, mapped, all_mapped, bare}
-use Rattle.mini_accept.specs.Symbols.{are_unresolved, has_no_symbol, have_no_symbol}
+use Rattle.mini_laws.specs.Resolved.{Environment, names_in, with_symbol, numbered, symbols, resolved, resolved_from, resolved_program}
+use Rattle.mini_laws.specs.Symbols.{with_new, no_symbol, bare_names, bare, all_bare}
+use Rattle.mini_accept.specs.Symbols.{are_unresolved, are_as_written, has_no_symbol, have_no_symbol}
 use Rattle.mini_kept.specs.Carried.{renumbered, all_renumbered}
-
-abbrev pub no_symbol : Option SymbolId → Option SymbolId
-no_symbol s = None
 
 abbrev pub text : Tree → Tree
 text t = renumbered (λ n. 0) (bare t)
 
 abbrev pub texts : Trees → Trees
-texts ts = all_renumbered (λ n. 0) (all_mapped no_symbol ts)
+texts ts = all_renumbered (λ n. 0) (all_bare ts)
 
 -- ---- the symbols of resolution are no part of it
 
-bare_names : (u : Use) (env : Environment) (xs : List Name) → map (with_new no_symbol) (map (with_symbol u env) xs) ≡ map (with_new no_symbol) xs
-bare_names u env [] = refl
-bare_names u env (x ∷ xs) = λ k. with_new no_symbol x ∷ bare_names u env xs k
+symbols_gone : (u : Use) (env : Environment) (xs : List Name) → map (with_new no_symbol) (map (with_symbol u env) xs) ≡ map (with_new no_symbol) xs
+symbols_gone u env [] = refl
+symbols_gone u env (x ∷ xs) = λ k. with_new no_symbol x ∷ symbols_gone u env xs k
+
+names_bare : (u : Use) (env : Environment) (h : Shape) (xs : List Name) (ts : Trees) → bare_names h (names_in u env h xs ts) ≡ bare_names h xs
+names_bare u env shape.VariableDeclarator xs ts = refl
+names_bare u env h xs ts = symbols_gone u env xs
 
 mutual
-  unfolding resolved mapped
+  unfolding resolved bare
 
   bare_tree : (u : Use) (env : Environment) (s : ℕ) (t : Tree) → bare (resolved u env s t) ≡ bare t
-  bare_tree u env s (node h xs n ts) = λ k. node h (bare_names u env xs k) n (bare_trees (opened u h ts) (use_of h u) 0 env s ts k)
+  bare_tree u env s (node h xs n ts) = λ k. node h (names_bare u env h xs ts k) n (bare_trees (opened u h ts) (use_of h u) 0 env s ts k)
 
-  bare_trees : (sc : ℕ → List Binding) (us : ℕ → Use) (i : ℕ) (env : Environment) (s : ℕ) (ts : Trees) → all_mapped no_symbol (resolved_from sc us i env s ts) ≡ all_mapped no_symbol ts
+  bare_trees : (sc : ℕ → List Binding) (us : ℕ → Use) (i : ℕ) (env : Environment) (s : ℕ) (ts : Trees) → all_bare (resolved_from sc us i env s ts) ≡ all_bare ts
   bare_trees sc us i env s none = refl
   bare_trees sc us i env s (t ▸ ts) =
       let inner = env ++ numbered s (sc i) in
@@ -68,15 +71,21 @@ names_same (x ∷ xs) e =
     let (own, rest) = and_parts (not (is_some x.symbol)) (are_unresolved xs) e in
     λ k. record { spelling = x.spelling; symbol = none_so x.symbol own k } ∷ names_same xs rest k
 
+as_written : (h : Shape) (xs : List Name) → are_as_written h xs ≡ true → bare_names h xs ≡ xs
+as_written shape.VariableDeclarator [] e = refl
+as_written shape.VariableDeclarator (x ∷ xs) e = absurd (cc e)
+as_written h [] e = refl
+as_written h (x ∷ xs) e = names_same (x ∷ xs) e
+
 mutual
-  unfolding mapped
+  unfolding bare
 
   pub bare_same : (t : Tree) → has_no_symbol t ≡ true → bare t ≡ t
   bare_same (node h xs n ts) e =
-      let (own, below) = and_parts (are_unresolved xs) (have_no_symbol ts) e in
-      λ k. node h (names_same xs own k) n (bares_same ts below k)
+      let (own, below) = and_parts (are_as_written h xs) (have_no_symbol ts) e in
+      λ k. node h (as_written h xs own k) n (bares_same ts below k)
 
-  bares_same : (ts : Trees) → have_no_symbol ts ≡ true → all_mapped no_symbol ts ≡ ts
+  bares_same : (ts : Trees) → have_no_symbol ts ≡ true → all_bare ts ≡ ts
   bares_same none e = refl
   bares_same (t ▸ ts) e =
       let (own, rest) = and_parts (has_no_symbol t) (have_no_symbol ts) e in

@@ -17,6 +17,7 @@ use Rattle.mini_kept.specs.KeepsLoosely.{KeepsLoosely}
 use Rattle.mini_kept.specs.Lifted.{KeepsNames, ProgramKeeps}
 use Rattle.mini_kept.specs.KeepsShapes.{KeepsShapes}
 use Rattle.mini_kept.proofs.Using.{also}
+use Rattle.mini_kept.proofs.Initializers.{init_stays}
 use Rattle.mini_kept.proofs.Stepping.{step_keeps}
 use Rattle.mini_kept.proofs.Instances.{contracts_keep}
 
@@ -42,7 +43,7 @@ module _ (R : Position → Tree → Tree → Type 0) (l : KeepsNames R) (shapes 
   program_step t u s e = any_step_fits R l shapes s false (one a_program) refl e
 
   program_keeps : (t u : Tree) → Step R Elsewhere t u → IsWellShaped t → KeepsLoosely Elsewhere t u
-  program_keeps t u s e = step_keeps R l s false (one a_program) refl e
+  program_keeps t u s e = step_keeps R l (init_stays R shapes) s false (one a_program) refl e
 
   one_step : (t u : Tree) → Step R Elsewhere t u → ProgramKeeps t u
   one_step t u s = record {

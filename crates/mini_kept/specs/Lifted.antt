@@ -1,13 +1,14 @@
 -- What a relation of rewriting has to keep of the nodes that it replaces, for a program to keep it.
 use Rattle.std.specs.Prelude.{ℕ, ◌≡◌, ◌⊎◌, ◌≤◌, Bool, true, false, []}
 use Rattle.mini_model.specs.declared.place.Position.{Position}
-use Rattle.mini_model.specs.declared.place.Position.TheVariants.{Elsewhere, Method}
+use Rattle.mini_model.specs.declared.place.Position.TheVariants.{Elsewhere, Method, Expr}
 use Rattle.mini_model.specs.declared.shape.Shape.{Shape}
 use Rattle.mini_model.specs.declared.shape.Shape.TheVariants as shape
-use Rattle.mini_model.specs.Tree.{Tree, count, children, shape_of, child_or_absent}
+use Rattle.mini_model.specs.Tree.{Tree, count, children, shape_of, child_or_absent, is_absent}
+use Rattle.mini_model.specs.Position.{argument_seat}
 use Rattle.mini_model.specs.Redex.{Contracts}
 use Rattle.mini_model.specs.Rewriting.{Step, Reaches}
-use Rattle.mini_accept.specs.WellShaped.{Slot, fits, IsWellShaped}
+use Rattle.mini_accept.specs.WellShaped.{an_expression, Slot, one_or_absent, fits, IsWellShaped}
 use Rattle.mini_laws.specs.declared.names.Use.TheVariants.{Read}
 use Rattle.mini_laws.specs.DeclaredNames.{own_names}
 use Rattle.mini_laws.specs.Scoped.{Scoped}
@@ -47,9 +48,13 @@ pub record KeepsNames (R : Position → Tree → Tree → Type 0) : Type 0 where
   pub pieces : (p : Position) (n w : Tree) → R p n w → is_piece (shape_of n) ≡ false
   pub keeps : (p : Position) (n w : Tree) → R p n w → (strict : Bool) (s : Slot) → fits_place p s ≡ true → fits strict s n ≡ true → KeepsLoosely p n w
 
+-- where an initializer of a declarator stands (ECMA-262, "Variable Statement"), one is written, and where none stands, none
+abbrev pub InitStays : (Position → Tree → Tree → Type 0) → Type 0
+InitStays R = (n w : Tree) → R (Expr argument_seat) n w → (strict : Bool) → fits strict (one_or_absent an_expression) n ≡ true → is_absent n ≡ is_absent w
+
 -- so does a step at any place of a tree that may stand where it does
 abbrev pub StepKeepsNames : (Position → Tree → Tree → Type 0) → Type 0
-StepKeepsNames R = KeepsNames R → (p : Position) (t u : Tree) → Step R p t u → (strict : Bool) (s : Slot) → fits_place p s ≡ true → fits strict s t ≡ true → KeepsLoosely p t u
+StepKeepsNames R = KeepsNames R → InitStays R → (p : Position) (t u : Tree) → Step R p t u → (strict : Bool) (s : Slot) → fits_place p s ≡ true → fits strict s t ≡ true → KeepsLoosely p t u
 
 -- What any number of rewrites keep of a program: it stays one, each name in it has the symbol that the scopes around it give,
 -- no symbol is declared twice, no number stands in it more often, and it has no early error

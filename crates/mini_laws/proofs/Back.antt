@@ -1,18 +1,21 @@
 -- A scoped tree is its resolved form with other symbols.
 use Rattle.std.specs.Prelude.{ℕ, suc, ◌+◌, ◌≡◌, refl, Bool, true, false, List, [], ◌∷◌, ◌++◌, length, map, is_some, Option, Some, None, if◌then◌else◌}
-use Rattle.std.proofs.Common.{ap, ◌∙◌, sym, subst, arith, append_assoc, length-append}
+use Rattle.std.proofs.Common.{ap, ◌∙◌, sym, subst, arith, true≢false, append_assoc, length-append}
 use Rattle.std.proofs.lemmas.List.{map-append}
 use Rattle.std.proofs.Math.Seq.{get_or-append_seam}
 use Rattle.mini_model.specs.declared.name.Name.{Name}
 use Rattle.mini_model.specs.declared.name.SymbolId.{SymbolId}
-use Rattle.mini_model.specs.Tree.{Tree, Trees, node, none, ◌▸◌}
+use Rattle.mini_model.specs.declared.shape.Shape.{Shape}
+use Rattle.mini_model.specs.declared.shape.Shape.TheVariants as shape
+use Rattle.mini_model.specs.Tree.{Tree, Trees, node, none, ◌▸◌, is_absent}
 use Rattle.mini_laws.specs.declared.names.Use.{Use}
-use Rattle.mini_laws.specs.declared.names.Use.TheVariants.{Read, Write, ReadWrite, Hoisted, Alone}
+use Rattle.mini_laws.specs.declared.names.Use.TheVariants.{Read, Write, ReadWrite, Hoisted, Headed, Alone}
 use Rattle.mini_laws.specs.declared.names.Binding.{Binding}
 use Rattle.mini_laws.specs.Scopes.{use_of, opened}
-use Rattle.mini_laws.specs.Resolved.{Environment, or_else, is_for, own_symbol, symbol_of, with_symbol, numbered, symbols, symbols_from, resolved, resolved_from}
-use Rattle.mini_laws.specs.Scoped.{NamesScoped, Scoped, AllScoped}
-use Rattle.mini_laws.specs.Symbols.{symbols_in, declared, declared_from, with_new, mapped, all_mapped, new_symbol}
+use Rattle.mini_laws.specs.Resolved.{Environment, gives_value, plain_name, other_name, written_name, names_in, or_else, is_for, own_symbol, symbol_of, with_symbol, numbered, symbols, symbols_from, resolved, resolved_from}
+use Rattle.mini_laws.specs.Scoped.{NamesScoped, OwnScoped, Scoped, AllScoped}
+use Rattle.mini_laws.specs.Symbols.{symbols_in, is_same, declared, declared_from, with_new, mapped, all_mapped, new_symbol}
+use Rattle.mini_laws.proofs.Writing.{Apart, same_lists}
 
 -- ---- as many symbols as resolution gives
 
@@ -106,6 +109,7 @@ own_other f n Read s b = if_other f n (is_for Read s b) b.name.symbol
 own_other f n Write s b = if_other f n (is_for Write s b) b.name.symbol
 own_other f n ReadWrite s b = if_other f n (is_for ReadWrite s b) b.name.symbol
 own_other f n Hoisted s b = if_other f n (is_for Hoisted s b) b.name.symbol
+own_other f n Headed s b = if_other f n (is_for Headed s b) b.name.symbol
 own_other f n Alone s b = if_other f n (is_for Alone s b) b.name.symbol
 
 found_other : (f : Option SymbolId → Option SymbolId) → f None ≡ None → (u : Use) (s : List ℕ) (env : Environment) → AllPresent f env → f (symbol_of u s env) ≡ symbol_of u s (map (with_other f) env)
@@ -133,17 +137,60 @@ names_back f n u env env' (x ∷ xs) e p h =
     ap (λ r. record { spelling = x.spelling; symbol = r } ∷ map (with_new f) (map (with_symbol u env) xs)) (found_other f n u x.spelling env p ∙ ap (symbol_of u x.spelling) e ∙ sym h.0)
     ∙ ap (λ r. x ∷ r) (names_back f n u env env' xs e p h.1)
 
+if_back : (f : Option SymbolId → Option SymbolId) (b c : Bool) (x y : Name) → b ≡ c → with_new f x ≡ y → map (with_new f) (if b then [] else x ∷ []) ≡ (if c then [] else y ∷ [])
+if_back f true true x y e g = refl
+if_back f true false x y e g = absurd (true≢false e)
+if_back f false true x y e g = absurd (true≢false (sym e))
+if_back f false false x y e g = ap (λ z. z ∷ []) g
+
+-- the symbols that are found are the same only where those were
+same_found : (f : Option SymbolId → Option SymbolId) → f None ≡ None → Apart f → (x y : Option SymbolId) → Present f x → Present f y → is_same (f x) (f y) ≡ is_same x y
+same_found f n a None None p q = λ k. is_same (n k) (n k)
+same_found f n a None (Some j) p q = ap (λ o. is_same o (f (Some j))) n ∙ by (f (Some j)) q
+  where
+    by : (o : Option SymbolId) → is_some o ≡ true → is_same None o ≡ false
+    by None h = cc
+    by (Some k) h = refl
+same_found f n a (Some j) None p q = ap (is_same (f (Some j))) n ∙ by (f (Some j)) p
+  where
+    by : (o : Option SymbolId) → is_some o ≡ true → is_same o None ≡ false
+    by None h = cc
+    by (Some k) h = refl
+same_found f n a (Some j) (Some k) p q = a j k p q
+
+other_back : (f : Option SymbolId → Option SymbolId) → f None ≡ None → Apart f → (u : Use) (env env' : Environment) (xs : List Name) → map (with_other f) env ≡ env' → AllPresent f env → map (with_new f) (other_name u env xs) ≡ other_name u env' xs
+other_back f n a u env env' [] e p = refl
+other_back f n a u env env' (x ∷ xs) e p =
+    let read : f (symbol_of Read x.spelling env) ≡ symbol_of Read x.spelling env' = found_other f n Read x.spelling env p ∙ ap (symbol_of Read x.spelling) e in
+    let own : f (symbol_of u x.spelling env) ≡ symbol_of u x.spelling env' = found_other f n u x.spelling env p ∙ ap (symbol_of u x.spelling) e in
+    if_back f (is_same (symbol_of Read x.spelling env) (symbol_of u x.spelling env)) (is_same (symbol_of Read x.spelling env') (symbol_of u x.spelling env')) (with_symbol Read env x) (with_symbol Read env' x)
+    (sym (same_found f n a (symbol_of Read x.spelling env) (symbol_of u x.spelling env) (found_present f Read x.spelling env p) (found_present f u x.spelling env p)) ∙ (λ k. is_same (read k) (own k)))
+    (λ k. record { spelling = x.spelling; symbol = read k })
+
+written_back : (f : Option SymbolId → Option SymbolId) → f None ≡ None → Apart f → (u : Use) (env env' : Environment) (ts : Trees) → map (with_other f) env ≡ env' → AllPresent f env → map (with_new f) (written_name u env ts) ≡ written_name u env' ts
+written_back f n a u env env' none e p = refl
+written_back f n a u env env' (id ▸ none) e p = refl
+written_back f n a u env env' (id ▸ (init ▸ ts)) e p = by (gives_value u (is_absent init))
+  where
+    by : (g : Bool) → map (with_new f) (if g then other_name u env (plain_name id) else []) ≡ (if g then other_name u env' (plain_name id) else [])
+    by true = other_back f n a u env env' (plain_name id) e p
+    by false = refl
+
+own_back : (f : Option SymbolId → Option SymbolId) → f None ≡ None → Apart f → (u : Use) (env env' : Environment) (h : Shape) (xs : List Name) (ts : Trees) → map (with_other f) env ≡ env' → AllPresent f env → OwnScoped u env' h xs ts → map (with_new f) (names_in u env h xs ts) ≡ xs
+own_back f n a u env env' shape.VariableDeclarator xs ts e p d = written_back f n a u env env' ts e p ∙ sym (same_lists xs (written_name u env' ts) d)
+own_back f n a u env env' h xs ts e p d = names_back f n u env env' xs e p d
+
 mutual
   unfolding Scoped resolved mapped declared
 
-  pub back : (f : Option SymbolId → Option SymbolId) → f None ≡ None → (u : Use) (env env' : Environment) (s : ℕ) (t : Tree) → map (with_other f) env ≡ env' → AllPresent f env → Named (declared u t) → Gives f s (declared u t) → Scoped u env' t → mapped f (resolved u env s t) ≡ t
-  back f n u env env' s (node h xs k ts) e p m g d =
-      ap (λ ys. node h ys k (all_mapped f (resolved_from (opened u h ts) (use_of h u) 0 env s ts))) (names_back f n u env env' xs e p d.0)
-      ∙ ap (node h xs k) (all_back f n (opened u h ts) (use_of h u) 0 env env' s ts e p m g d.1)
+  pub back : (f : Option SymbolId → Option SymbolId) → f None ≡ None → Apart f → (u : Use) (env env' : Environment) (s : ℕ) (t : Tree) → map (with_other f) env ≡ env' → AllPresent f env → Named (declared u t) → Gives f s (declared u t) → Scoped u env' t → mapped f (resolved u env s t) ≡ t
+  back f n a u env env' s (node h xs k ts) e p m g d =
+      ap (λ ys. node h ys k (all_mapped f (resolved_from (opened u h ts) (use_of h u) 0 env s ts))) (own_back f n a u env env' h xs ts e p d.0)
+      ∙ ap (node h xs k) (all_back f n a (opened u h ts) (use_of h u) 0 env env' s ts e p m g d.1)
 
-  all_back : (f : Option SymbolId → Option SymbolId) → f None ≡ None → (sc : ℕ → List Binding) (us : ℕ → Use) (i : ℕ) (env env' : Environment) (s : ℕ) (ts : Trees) → map (with_other f) env ≡ env' → AllPresent f env → Named (declared_from sc us i ts) → Gives f s (declared_from sc us i ts) → AllScoped sc us i env' ts → all_mapped f (resolved_from sc us i env s ts) ≡ ts
-  all_back f n sc us i env env' s none e p m g d = refl
-  all_back f n sc us i env env' s (t ▸ ts) e p m g d =
+  all_back : (f : Option SymbolId → Option SymbolId) → f None ≡ None → Apart f → (sc : ℕ → List Binding) (us : ℕ → Use) (i : ℕ) (env env' : Environment) (s : ℕ) (ts : Trees) → map (with_other f) env ≡ env' → AllPresent f env → Named (declared_from sc us i ts) → Gives f s (declared_from sc us i ts) → AllScoped sc us i env' ts → all_mapped f (resolved_from sc us i env s ts) ≡ ts
+  all_back f n a sc us i env env' s none e p m g d = refl
+  all_back f n a sc us i env env' s (t ▸ ts) e p m g d =
       let own = symbols_in (sc i) in
       let one = declared (us i) t in
       let rest = declared_from sc us (suc i) ts in
@@ -155,8 +202,8 @@ mutual
       let m' = named_right own (one ++ rest) m in
       let same = map-append (with_other f) env (numbered s (sc i)) ∙ ap (λ v. map (with_other f) env ++ v) (scope_other f s (sc i) here) ∙ ap (λ v. v ++ sc i) e in
       let q = scope_present f env s (sc i) p here (named_left own (one ++ rest) m) in
-      ap (λ v. v ▸ all_mapped f (resolved_from sc us (suc i) inner (r + symbols (us i) t) ts)) (back f n (us i) inner (env' ++ sc i) r t same q (named_left one rest m') (gives_left f r one rest below) d.0)
-      ∙ ap (λ v. t ▸ v) (all_back f n sc us (suc i) inner (env' ++ sc i) (r + symbols (us i) t) ts same q (named_right one rest m') after d.1)
+      ap (λ v. v ▸ all_mapped f (resolved_from sc us (suc i) inner (r + symbols (us i) t) ts)) (back f n a (us i) inner (env' ++ sc i) r t same q (named_left one rest m') (gives_left f r one rest below) d.0)
+      ∙ ap (λ v. t ▸ v) (all_back f n a sc us (suc i) inner (env' ++ sc i) (r + symbols (us i) t) ts same q (named_right one rest m') after d.1)
 
 -- ---- by places in a list
 

@@ -9,13 +9,13 @@ use Rattle.mini_model.specs.Tree.{Tree, Trees, node, none, ◌▸◌}
 use Rattle.mini_model.specs.Weight.{same_text}
 use Rattle.mini_laws.proofs.Numbers.{none_if, symbol_of_both}
 use Rattle.mini_laws.specs.declared.names.Use.{Use}
-use Rattle.mini_laws.specs.declared.names.Use.TheVariants.{Read, Hoisted}
+use Rattle.mini_laws.specs.declared.names.Use.TheVariants.{Read, Write, Hoisted, Headed}
 use Rattle.mini_laws.specs.declared.names.Binding.{Binding}
 use Rattle.mini_laws.specs.declared.names.Declared.TheVariants as declared
 use Rattle.mini_laws.specs.declared.names.Opening.{Opening}
 use Rattle.mini_laws.specs.declared.names.Opening.TheVariants as opening
 use Rattle.mini_laws.specs.DeclaredNames.{names_of, first_names, all_names, with_names}
-use Rattle.mini_laws.specs.Scopes.{use_of, is_alone, opening_of, scopes_by, at_or_empty, opened}
+use Rattle.mini_laws.specs.Scopes.{hoisted_by, use_of, is_alone, opening_of, scopes_by, at_or_empty, opened}
 use Rattle.mini_laws.specs.Resolved.{Environment, or_else, own_symbol, symbol_of, with_symbol, numbered, symbols, resolved, resolved_from}
 
 -- two lists joined, each of names with symbols
@@ -164,9 +164,22 @@ alone_lexical : (b : Bool) → is_lexical (if b then opening.Bound else opening.
 alone_lexical true = refl
 alone_lexical false = refl
 
-var_kept : (u : Use) (env : Environment) (s : ℕ) (ts : Trees) → all_names declared.Bound (resolved_from (opened u (shape.VariableDeclaration Var) ts) (λ k. Hoisted) 0 env s ts) ≡ map (with_symbol Hoisted env) (all_names declared.Bound ts)
+-- a `var` has its symbol from the same scopes wherever it stands
+headed_same : (s : List ℕ) (env : Environment) → symbol_of Headed s env ≡ symbol_of Hoisted s env
+headed_same s [] = refl
+headed_same s (b ∷ env) = ap (λ r. or_else r (own_symbol Hoisted s b)) (headed_same s env)
+
+names_headed : (env : Environment) (xs : List Name) → map (with_symbol Headed env) xs ≡ map (with_symbol Hoisted env) xs
+names_headed env [] = refl
+names_headed env (x ∷ xs) = λ k. record { spelling = x.spelling; symbol = headed_same x.spelling env k } ∷ names_headed env xs k
+
+names_hoisted : (u : Use) (env : Environment) (xs : List Name) → map (with_symbol (hoisted_by u) env) xs ≡ map (with_symbol Hoisted env) xs
+names_hoisted Write env xs = names_headed env xs
+names_hoisted u env xs = refl
+
+var_kept : (u : Use) (env : Environment) (s : ℕ) (ts : Trees) → all_names declared.Bound (resolved_from (opened u (shape.VariableDeclaration Var) ts) (λ k. hoisted_by u) 0 env s ts) ≡ map (with_symbol Hoisted env) (all_names declared.Bound ts)
 unfolding scopes_by
-var_kept u env s ts = all_bound_kept Hoisted 0 env s ts
+var_kept u env s ts = all_bound_kept (hoisted_by u) 0 env s ts ∙ names_hoisted u env (all_names declared.Bound ts)
 
 mutual
   unfolding names_of resolved

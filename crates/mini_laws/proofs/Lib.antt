@@ -34,6 +34,7 @@ pub mod Breaking
 pub mod Moving
 pub mod Lookups
 pub mod Drops
+pub mod Writing
 pub mod Back
 pub mod Bare
 pub mod BodyNames

@@ -3,15 +3,18 @@ use Rattle.std.specs.Prelude.{ℕ, suc, ◌≡◌, refl, Bool, true, false, ◌&
 use Rattle.std.proofs.Common.{ap, ◌∙◌, sym, subst, append_assoc}
 use Rattle.mini_model.specs.declared.name.Name.{Name}
 use Rattle.mini_model.specs.declared.name.SymbolId.{SymbolId}
+use Rattle.mini_model.specs.declared.shape.Shape.TheVariants as shape
 use Rattle.mini_model.specs.Tree.{Tree, Trees, node, none, ◌▸◌}
 use Rattle.mini_model.specs.Weight.{same_text}
 use Rattle.mini_laws.specs.declared.names.Use.{Use}
+use Rattle.mini_laws.specs.declared.names.Use.TheVariants.{Read}
 use Rattle.mini_laws.specs.declared.names.Binding.{Binding}
 use Rattle.mini_laws.specs.Scopes.{use_of, opened}
 use Rattle.mini_laws.specs.Resolved.{Environment, or_else, own_symbol, serves, symbol_of}
 use Rattle.mini_laws.specs.Scoped.{NamesScoped, Scoped, AllScoped}
 use Rattle.mini_laws.specs.NameMoves.{NoneSpelled, NamesApart, Apart, AllApart}
 use Rattle.mini_laws.proofs.Lookups.{or_none, symbol_of_both}
+use Rattle.mini_laws.proofs.Writing.{FoundAlike, first_plain, own_moved}
 
 not_same : (v w : Bool) (x : Option SymbolId) → w ≡ false → (if v && w then x else None) ≡ None
 not_same true true x e = cc
@@ -36,6 +39,20 @@ names_into : (u : Use) (outer passed inner : Environment) (xs : List Name) → N
 names_into u outer passed inner [] d h = tt
 names_into u outer passed inner (x ∷ xs) d h = (h.0 ∙ sym (passed_symbol u x.spelling outer passed inner d.0), names_into u outer passed inner xs d.1 h.1)
 
+plain_apart : (passed : Environment) (ts : Trees) → AllApart passed ts → NamesApart passed (first_plain ts)
+unfolding Apart
+plain_apart passed none d = tt
+plain_apart passed (node shape.BindingIdentifier xs n ts ▸ rest) d = d.0.0
+plain_apart passed (node h xs n ts ▸ rest) d = tt
+
+passed_alike : (u : Use) (outer passed inner : Environment) (xs : List Name) → NamesApart passed xs → FoundAlike u (outer ++ (passed ++ inner)) (outer ++ inner) xs
+passed_alike u outer passed inner [] d = tt
+passed_alike u outer passed inner (x ∷ xs) d = (passed_symbol Read x.spelling outer passed inner d.0, passed_symbol u x.spelling outer passed inner d.0)
+
+inner_alike : (u : Use) (outer passed inner : Environment) (xs : List Name) → NamesApart passed xs → FoundAlike u (outer ++ inner) (outer ++ (passed ++ inner)) xs
+inner_alike u outer passed inner [] d = tt
+inner_alike u outer passed inner (x ∷ xs) d = (sym (passed_symbol Read x.spelling outer passed inner d.0), sym (passed_symbol u x.spelling outer passed inner d.0))
+
 within : (outer passed inner scope : Environment) → (outer ++ (passed ++ inner)) ++ scope ≡ outer ++ (passed ++ (inner ++ scope))
 within outer passed inner scope = append_assoc outer (passed ++ inner) scope ∙ ap (λ r. outer ++ r) (append_assoc passed inner scope)
 
@@ -43,7 +60,7 @@ mutual
   unfolding Scoped Apart
 
   pub moved_out : (u : Use) (outer passed inner : Environment) (t : Tree) → Apart passed t → Scoped u (outer ++ (passed ++ inner)) t → Scoped u (outer ++ inner) t
-  moved_out u outer passed inner (node h xs n ts) d s = (names_out u outer passed inner xs d.0 s.0, all_moved_out (opened u h ts) (use_of h u) 0 outer passed inner ts d.1 s.1)
+  moved_out u outer passed inner (node h xs n ts) d s = (own_moved u (outer ++ (passed ++ inner)) (outer ++ inner) h xs ts (names_out u outer passed inner xs d.0) (passed_alike u outer passed inner (first_plain ts) (plain_apart passed ts d.1)) s.0, all_moved_out (opened u h ts) (use_of h u) 0 outer passed inner ts d.1 s.1)
 
   all_moved_out : (scope : ℕ → List Binding) (uses : ℕ → Use) (i : ℕ) (outer passed inner : Environment) (ts : Trees) → AllApart passed ts → AllScoped scope uses i (outer ++ (passed ++ inner)) ts → AllScoped scope uses i (outer ++ inner) ts
   all_moved_out scope uses i outer passed inner none d s = tt
@@ -56,7 +73,7 @@ mutual
   unfolding Scoped Apart
 
   pub moved_into : (u : Use) (outer passed inner : Environment) (t : Tree) → Apart passed t → Scoped u (outer ++ inner) t → Scoped u (outer ++ (passed ++ inner)) t
-  moved_into u outer passed inner (node h xs n ts) d s = (names_into u outer passed inner xs d.0 s.0, all_moved_into (opened u h ts) (use_of h u) 0 outer passed inner ts d.1 s.1)
+  moved_into u outer passed inner (node h xs n ts) d s = (own_moved u (outer ++ inner) (outer ++ (passed ++ inner)) h xs ts (names_into u outer passed inner xs d.0) (inner_alike u outer passed inner (first_plain ts) (plain_apart passed ts d.1)) s.0, all_moved_into (opened u h ts) (use_of h u) 0 outer passed inner ts d.1 s.1)
 
   all_moved_into : (scope : ℕ → List Binding) (uses : ℕ → Use) (i : ℕ) (outer passed inner : Environment) (ts : Trees) → AllApart passed ts → AllScoped scope uses i (outer ++ inner) ts → AllScoped scope uses i (outer ++ (passed ++ inner)) ts
   all_moved_into scope uses i outer passed inner none d s = tt

@@ -12,7 +12,7 @@ use Rattle.mini_laws.specs.declared.names.Opening.{Opening}
 use Rattle.mini_laws.specs.declared.names.Opening.TheVariants as opening
 use Rattle.mini_laws.specs.Scopes.{use_of, opening_of, scopes_by, at_or_empty, opened}
 use Rattle.mini_laws.specs.Resolved.{Environment}
-use Rattle.mini_laws.specs.Scoped.{NamesScoped, Scoped, AllScoped}
+use Rattle.mini_laws.specs.Scoped.{OwnScoped, Scoped, AllScoped}
 use Rattle.mini_laws.specs.NameMoves.{EachScoped}
 
 none_opened : (o : Opening) (ts : Trees) (i : ℕ) → o ≡ opening.Nothing → at_or_empty (scopes_by o ts) i ≡ []
@@ -32,7 +32,7 @@ unfolding Scoped
 each_of scope uses i env none e s = tt
 each_of scope uses i env (t ▸ ts) e s = let same = same_around env (scope i) (e i) in (subst (λ v. Scoped (uses i) v t) same s.0, each_of scope uses (suc i) env ts e (subst (λ v. AllScoped scope uses (suc i) v ts) same s.1))
 
-pub of_parts : (u : Use) (env : Environment) (h : Shape) (xs : List Name) (n : ℕ) (ts : Trees) → opening_of u h ≡ opening.Nothing → NamesScoped u env xs → EachScoped (use_of h u) 0 env ts → Scoped u env (node h xs n ts)
+pub of_parts : (u : Use) (env : Environment) (h : Shape) (xs : List Name) (n : ℕ) (ts : Trees) → opening_of u h ≡ opening.Nothing → OwnScoped u env h xs ts → EachScoped (use_of h u) 0 env ts → Scoped u env (node h xs n ts)
 unfolding Scoped
 of_parts u env h xs n ts e d s = (d, all_of (opened u h ts) (use_of h u) 0 env ts (λ k. none_opened (opening_of u h) ts k e) s)
 

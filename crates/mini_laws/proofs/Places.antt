@@ -12,7 +12,8 @@ use Rattle.mini_laws.specs.Resolved.{Environment, numbered, symbols, symbols_fro
 use Rattle.mini_laws.specs.Scoped.{Scoped}
 use Rattle.mini_laws.specs.Symbols.{symbols_in, declared, declared_from, declared_symbols, bare, new_symbol, renamed, symbols_to, times, Distinct}
 use Rattle.mini_laws.proofs.Back.{Named, back, gives_new}
-use Rattle.mini_laws.proofs.Bare.{resolved_mapped}
+use Rattle.mini_laws.proofs.Bare.{resolved_bare}
+use Rattle.mini_laws.proofs.Writing.{apart}
 use Rattle.mini_laws.proofs.Whole.{Matches, matches_by, side_of}
 
 scope_symbols : (s : ℕ) (bs : List Binding) → symbols_in (numbered s bs) ≡ symbols_to s (length bs)
@@ -83,9 +84,9 @@ named_none (Some x ∷ ss) h = (refl, named_none ss (let h' : 0 + times None ss 
 -- ---- the theorem
 
 pub bare_again : (t : Tree) → resolved_program (bare t) ≡ resolved_program t
-bare_again t = resolved_mapped (λ s. None) Read [] 0 t
+bare_again t = resolved_bare Read [] 0 t
 
 pub renamed_again : (t : Tree) → Scoped Read [] t → Distinct (declared_symbols t) → renamed (declared_symbols t) (resolved_program (bare t)) ≡ t
 renamed_again t s d =
     ap (renamed (declared_symbols t)) (bare_again t)
-    ∙ back (new_symbol (declared_symbols t)) refl Read [] [] 0 t refl tt (named_none (declared_symbols t) (d None)) (gives_new [] (declared_symbols t)) s
+    ∙ back (new_symbol (declared_symbols t)) refl (apart (declared_symbols t) d) Read [] [] 0 t refl tt (named_none (declared_symbols t) (d None)) (gives_new [] (declared_symbols t)) s

@@ -6,7 +6,7 @@ use Rattle.mini_model.specs.declared.kind.VariableDeclarationKind.TheVariants.{V
 use Rattle.mini_model.specs.declared.name.Name.{Name}
 use Rattle.mini_model.specs.declared.shape.Shape.{Shape}
 use Rattle.mini_model.specs.declared.shape.Shape.TheVariants as shape
-use Rattle.mini_model.specs.Tree.{Tree, Trees, node, none, ◌▸◌}
+use Rattle.mini_model.specs.Tree.{Tree, Trees, node, none, ◌▸◌, is_absent}
 use Rattle.mini_laws.specs.declared.names.Use.{Use}
 use Rattle.mini_laws.specs.declared.names.Use.TheVariants.{Read}
 use Rattle.mini_laws.specs.declared.names.Binding.{Binding}
@@ -15,14 +15,44 @@ use Rattle.mini_laws.specs.declared.names.Opening.{Opening}
 use Rattle.mini_laws.specs.declared.names.Opening.TheVariants as opening
 use Rattle.mini_laws.specs.DeclaredNames.{names_of, body_names}
 use Rattle.mini_laws.specs.Scopes.{use_of, is_alone, opening_of, scopes_by, at_or_empty, opened, name_if, lexical_scope, body_scope, merged}
-use Rattle.mini_laws.specs.Resolved.{Environment, with_symbol, numbered, symbols, resolved, resolved_from}
-use Rattle.mini_laws.specs.Scoped.{NamesScoped, Scoped, AllScoped}
+use Rattle.mini_laws.specs.Resolved.{Environment, plain_name, written_name, names_in, with_symbol, numbered, symbols, resolved, resolved_from}
+use Rattle.mini_laws.specs.Scoped.{NamesScoped, AreNames, OwnScoped, Scoped, AllScoped}
 use Rattle.mini_laws.proofs.Kept.{bound_kept, lexical_kept}
+use Rattle.mini_laws.proofs.Writing.{are_themselves, SpelledAlike, written_over}
 use Rattle.mini_laws.proofs.BodyNames.{body_kept, lexical_scope_kept, params_scope_kept, body_scope_kept, merged_kept}
 
 names_scoped : (u : Use) (env : Environment) (xs : List Name) → NamesScoped u env (map (with_symbol u env) xs)
 names_scoped u env [] = tt
 names_scoped u env (x ∷ xs) = (refl, names_scoped u env xs)
+
+spelled_resolved : (u : Use) (env : Environment) (xs : List Name) → SpelledAlike xs (map (with_symbol u env) xs)
+spelled_resolved u env [] = tt
+spelled_resolved u env (x ∷ xs) = refl
+
+plain_resolved : (u : Use) (env : Environment) (s : ℕ) (t : Tree) → SpelledAlike (plain_name t) (plain_name (resolved u env s t))
+unfolding resolved
+plain_resolved u env s (node shape.BindingIdentifier xs n ts) = spelled_resolved u env xs
+plain_resolved u env s (node h xs n ts) = tt
+
+absent_resolved : (u : Use) (env : Environment) (s : ℕ) (t : Tree) → is_absent t ≡ is_absent (resolved u env s t)
+unfolding resolved
+absent_resolved u env s (node shape.Absent xs n ts) = refl
+absent_resolved u env s (node h xs n ts) = refl
+
+written_resolved : (sc : ℕ → List Binding) (us : ℕ → Use) (u : Use) (env env' : Environment) (s : ℕ) (ts : Trees) → written_name u env ts ≡ written_name u env (resolved_from sc us 0 env' s ts)
+unfolding resolved
+written_resolved sc us u env env' s none = refl
+written_resolved sc us u env env' s (id ▸ none) = refl
+written_resolved sc us u env env' s (id ▸ (init ▸ ts)) =
+    let inner = env' ++ numbered s (sc 0) in
+    let r = s + length (sc 0) in
+    let innermost = inner ++ numbered (r + symbols (us 0) id) (sc 1) in
+    let q = r + symbols (us 0) id + length (sc 1) in
+    written_over u env id (resolved (us 0) inner r id) init (resolved (us 1) innermost q init) ts (resolved_from sc us 2 innermost (q + symbols (us 1) init) ts) (plain_resolved (us 0) inner r id) (absent_resolved (us 1) innermost q init)
+
+own_scoped : (u : Use) (env : Environment) (s : ℕ) (h : Shape) (xs : List Name) (ts : Trees) → OwnScoped u env h (names_in u env h xs ts) (resolved_from (opened u h ts) (use_of h u) 0 env s ts)
+own_scoped u env s shape.VariableDeclarator xs ts = subst (AreNames (written_name u env ts)) (written_resolved (opened u shape.VariableDeclarator ts) (use_of shape.VariableDeclarator u) u env env s ts) (are_themselves (written_name u env ts))
+own_scoped u env s h xs ts = names_scoped u env xs
 
 -- the scopes of a resolved node are those of the node with their numbers
 abbrev pub Matches : (sc sc' : ℕ → List Binding) (us : ℕ → Use) → ℕ → ℕ → Trees → Type 0
@@ -171,7 +201,7 @@ mutual
   unfolding Scoped resolved
 
   pub scoped : (u : Use) (env : Environment) (s : ℕ) (t : Tree) → Scoped u env (resolved u env s t)
-  scoped u env s (node h xs n ts) = (names_scoped u env xs, all_scoped (opened u h ts) (opened u h (resolved_from (opened u h ts) (use_of h u) 0 env s ts)) (use_of h u) 0 env s ts (matches_by (opening_of u h) (use_of h u) env s ts (side_of u h)))
+  scoped u env s (node h xs n ts) = (own_scoped u env s h xs ts, all_scoped (opened u h ts) (opened u h (resolved_from (opened u h ts) (use_of h u) 0 env s ts)) (use_of h u) 0 env s ts (matches_by (opening_of u h) (use_of h u) env s ts (side_of u h)))
 
   all_scoped : (sc sc' : ℕ → List Binding) (us : ℕ → Use) (i : ℕ) (env : Environment) (s : ℕ) (ts : Trees) → Matches sc sc' us i s ts → AllScoped sc' us i env (resolved_from sc us i env s ts)
   all_scoped sc sc' us i env s none m = tt

@@ -45,17 +45,27 @@ abbrev pub declares_by : (lexical : Bool) → Bool → Command (first_demand (Bi
 declares_by lexical true = uninitialised lexical
 declares_by lexical false = kid 1 tt (then (λ v. kid 0 v (then ret)))
 
+-- a `var` whose declarator has a name of its own writes that (ECMA-262, "VariableStatements in Catch Clauses")
+abbrev pub gives_by : (has_name : Bool) → Value → Command (first_demand (Binds false) (As Val)) (Unit {0})
+gives_by true v = put_own v
+gives_by false v = kid 0 v (then ret)
+
+abbrev pub var_by : (has_name has_no_init : Bool) → Command (first_demand (Binds false) (As Val)) (Unit {0})
+var_by has_name true = ret tt
+var_by has_name false = kid 1 tt (then (gives_by has_name))
+
 -- a lexical one in the head of a `for..in` or `for..of`, which has no initializer
 abbrev pub takes_by : (lexical : Bool) → Bool → Value → Command (first_demand (Binds lexical) (As Val)) (Unit {0})
 takes_by lexical true v = kid 0 v (then ret)
 takes_by lexical false v = stuck
 
-abbrev pub declarator_step : (has_no_init : Bool) (q : Demand) (r : Request q) → Command (first_demand (Binds (lexically q)) (As Val)) (Reply q r)
-declarator_step has_no_init (Declares lexical) r = declares_by lexical has_no_init
-declarator_step has_no_init (Binds lexical) v = takes_by lexical has_no_init v
-declarator_step has_no_init Heads (Some v) = kid 0 v (then ret)
-declarator_step has_no_init Heads None = declares_by false has_no_init
-declarator_step has_no_init q r = stuck
+abbrev pub declarator_step : (has_name has_no_init : Bool) (q : Demand) (r : Request q) → Command (first_demand (Binds (lexically q)) (As Val)) (Reply q r)
+declarator_step has_name has_no_init (Declares true) r = declares_by true has_no_init
+declarator_step has_name has_no_init (Declares false) r = var_by has_name has_no_init
+declarator_step has_name has_no_init (Binds lexical) v = takes_by lexical has_no_init v
+declarator_step has_name has_no_init Heads (Some v) = gives_by has_name v
+declarator_step has_name has_no_init Heads None = var_by has_name has_no_init
+declarator_step has_name has_no_init q r = stuck
 
 -- ECMA-262, "BindingClassDeclarationEvaluation": the world makes the class, and then its name is initialised
 abbrev pub class_step : Command (λ i. Binds true) Value

@@ -27,6 +27,7 @@ pub mod Samples
 pub mod ExpressionRuns
 pub mod TargetRuns
 pub mod AbsentRuns
+pub mod CatchRuns
 pub mod StatementRuns
 pub mod LoopRuns
 pub mod DeclarationRuns

@@ -14,7 +14,7 @@ use Rattle.mini_laws.specs.DeclaredNames.{all_names, with_names}
 use Rattle.mini_laws.specs.declared.names.Opening.TheVariants as opening
 use Rattle.mini_laws.specs.Scopes.{use_of, opening_of}
 use Rattle.mini_laws.specs.Resolved.{Environment}
-use Rattle.mini_laws.specs.Scoped.{NamesScoped, Scoped, Unmentioned, AllUnmentioned}
+use Rattle.mini_laws.specs.Scoped.{OwnScoped, Scoped, Unmentioned, AllUnmentioned}
 
 -- a scope loses a name whose symbol stands nowhere in a tree, and every name in it keeps its symbol
 abbrev pub DropName : Type 0
@@ -71,7 +71,7 @@ EachScoped uses i env (t ▸ ts) = Scoped (uses i) env t × EachScoped uses (suc
 
 -- such a node is scoped where its names and its children are
 abbrev pub OfParts : Type 0
-OfParts = (u : Use) (env : Environment) (h : Shape) (xs : List Name) (n : ℕ) (ts : Trees) → opening_of u h ≡ opening.Nothing → NamesScoped u env xs → EachScoped (use_of h u) 0 env ts → Scoped u env (node h xs n ts)
+OfParts = (u : Use) (env : Environment) (h : Shape) (xs : List Name) (n : ℕ) (ts : Trees) → opening_of u h ≡ opening.Nothing → OwnScoped u env h xs ts → EachScoped (use_of h u) 0 env ts → Scoped u env (node h xs n ts)
 
 abbrev pub ToParts : Type 0
 ToParts = (u : Use) (env : Environment) (h : Shape) (xs : List Name) (n : ℕ) (ts : Trees) → opening_of u h ≡ opening.Nothing → Scoped u env (node h xs n ts) → EachScoped (use_of h u) 0 env ts

@@ -10,7 +10,7 @@ use Rattle.mini_model.specs.declared.shape.Shape.TheVariants as shape
 use Rattle.mini_model.specs.Tree.{Tree, Trees, node, none, ◌▸◌}
 use Rattle.mini_model.specs.Weight.{same_text}
 use Rattle.mini_laws.specs.Value.{Variable, choose, variables}
-use Rattle.mini_laws.specs.Demand.{Demand, Target, Binds}
+use Rattle.mini_laws.specs.Demand.{Demand, Target, Declares, Binds, Heads}
 use Rattle.mini_laws.specs.Command.{Hoisted, Naming}
 
 -- a name by its spelling: the last two are unresolved (ECMA-262, "Value Properties of the Global Object")
@@ -32,6 +32,11 @@ kind_of x = if is_none x.symbol then kind_unresolved x.spelling else kind_declar
 abbrev pub kinds : List Name → List NameKind
 kinds [] = []
 kinds (x ∷ xs) = kind_of x ∷ kinds xs
+
+-- whether a node has a name
+abbrev pub has_kind : List NameKind → Bool
+has_kind [] = false
+has_kind (k ∷ ks) = true
 
 -- a declaration in a place where an expression or a target may stand too
 pub data Declared : Type 0 where
@@ -238,6 +243,8 @@ created_by _ is = []
 abbrev pub written_of : Shape → Demand → List Variable → List Variable
 written_of shape.Identifier Target xs = xs
 written_of shape.BindingIdentifier (Binds lexical) xs = xs
+written_of shape.VariableDeclarator (Declares false) xs = xs
+written_of shape.VariableDeclarator Heads xs = xs
 written_of _ q xs = []
 
 -- those that a pattern binds

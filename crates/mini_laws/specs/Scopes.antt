@@ -8,11 +8,16 @@ use Rattle.mini_model.specs.declared.shape.Shape.{Shape}
 use Rattle.mini_model.specs.declared.shape.Shape.TheVariants as shape
 use Rattle.mini_model.specs.Tree.{Tree, Trees, ◌▸◌}
 use Rattle.mini_laws.specs.declared.names.Use.{Use}
-use Rattle.mini_laws.specs.declared.names.Use.TheVariants.{Read, Write, ReadWrite, Hoisted, Alone}
+use Rattle.mini_laws.specs.declared.names.Use.TheVariants.{Read, Write, ReadWrite, Hoisted, Headed, Alone}
 use Rattle.mini_laws.specs.declared.names.Binding.{Binding}
 use Rattle.mini_laws.specs.declared.names.Opening.{Opening}
 use Rattle.mini_laws.specs.declared.names.Opening.TheVariants as opening
 use Rattle.mini_laws.specs.DeclaredNames.{bound_names, lexical_names, body_names, with_names, has_inner}
+
+-- of a `var`: the head of a `for..in` or `for..of` is what is assigned to
+abbrev pub hoisted_by : Use → Use
+hoisted_by Write = Headed
+hoisted_by u = Hoisted
 
 -- how a part of an `if` or a loop, an operand or a part of a declaration uses names; every other part reads
 abbrev pub use_of : Shape → Use → ℕ → Use
@@ -32,7 +37,7 @@ use_of shape.AssignmentTargetPropertyIdentifier u i = u
 use_of (shape.AssignmentTargetPropertyProperty computed) u i = u
 use_of shape.VariableDeclarator u zero = u
 -- declarations
-use_of (shape.VariableDeclaration Var) u i = Hoisted
+use_of (shape.VariableDeclaration Var) u i = hoisted_by u
 -- what is assigned to
 use_of (shape.AssignmentExpression Assign) u zero = Write
 use_of (shape.AssignmentExpression o) u zero = ReadWrite

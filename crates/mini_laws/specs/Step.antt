@@ -7,7 +7,7 @@ use Rattle.mini_laws.specs.Value.{Undefined, Null, Boolean, Number, String, vari
 use Rattle.mini_laws.specs.State.{Anything, ABoolean, AnObject, Create, DebuggerOf, Entry, Hole, Thrown, State, Completion, out, Environment}
 use Rattle.mini_laws.specs.Demand.{FunctionTail, Demand, As, AnEntry, Items, Stat, Binds, Catches, Request, Reply, says}
 use Rattle.mini_laws.specs.Command.{self, Command, ret, fails, stuck, op, kid, then, bind, emit, emit_mine, run}
-use Rattle.mini_laws.specs.Naming.{NameKind, kinds, Facts, first_facts, nth_absent, texts_all, summaries, facts, naming}
+use Rattle.mini_laws.specs.Naming.{NameKind, kinds, has_kind, Facts, first_facts, nth_absent, texts_all, summaries, facts, naming}
 use Rattle.mini_laws.specs.Asking.{pass, demand}
 use Rattle.mini_laws.specs.Replies.{valued, passing, statement}
 use Rattle.mini_laws.specs.Expressions.{first_kind, unary_step, binary_step, logical_step, conditional_step, sequence_step, call_step, new_step, member_step, chain_step, array_step, object_step, property_step, template_step, yield_step}
@@ -63,7 +63,7 @@ step shape.ForInStatement ks fs q r = statement q r (for_in_step (first_facts fs
 step shape.ForOfStatement ks fs q r = statement q r (for_of_step (first_facts fs).declared)
 -- declarations
 step (shape.VariableDeclaration k) ks fs q r = declaration_step k q r
-step shape.VariableDeclarator ks fs q r = declarator_step (nth_absent fs 1) q r
+step shape.VariableDeclarator ks fs q r = declarator_step (has_kind ks) (nth_absent fs 1) q r
 step (shape.Function true is_generator directives) ks fs q r = statement q r (λ labels. ret tt)
 step (shape.Class true) ks fs q r = class_declaration q r
 step shape.BindingIdentifier ks fs q r = binding_name q r

@@ -2,6 +2,8 @@
 use Rattle.std.specs.Prelude.{ℕ, zero, suc, ◌+◌, ◌≤◌, nat_eq, Bool, true, false, List, [], ◌∷◌, ◌++◌, map, slice_index_or, Option, Some, None, if◌then◌else◌}
 use Rattle.mini_model.specs.declared.name.Name.{Name}
 use Rattle.mini_model.specs.declared.name.SymbolId.{SymbolId}
+use Rattle.mini_model.specs.declared.shape.Shape.{Shape}
+use Rattle.mini_model.specs.declared.shape.Shape.TheVariants as shape
 use Rattle.mini_model.specs.Tree.{Tree, Trees, node, none, ◌▸◌}
 use Rattle.mini_laws.specs.declared.names.Use.{Use}
 use Rattle.mini_laws.specs.declared.names.Use.TheVariants.{Read}
@@ -37,9 +39,21 @@ unfoldable mutual
   all_mapped f none = none
   all_mapped f (t ▸ ts) = mapped f t ▸ all_mapped f ts
 
--- a tree as it is written, without symbols
-abbrev pub bare : Tree → Tree
-bare t = mapped (λ s. None) t
+-- a tree as it is written, without symbols, and without what a declarator's name tells of the scopes around
+abbrev pub no_symbol : Option SymbolId → Option SymbolId
+no_symbol s = None
+
+abbrev pub bare_names : Shape → List Name → List Name
+bare_names shape.VariableDeclarator xs = []
+bare_names h xs = map (with_new no_symbol) xs
+
+unfoldable mutual
+  pub bare : Tree → Tree
+  bare (node h xs n ts) = node h (bare_names h xs) n (all_bare ts)
+
+  pub all_bare : Trees → Trees
+  all_bare none = none
+  all_bare (t ▸ ts) = bare t ▸ all_bare ts
 
 -- a tree whose symbols are places in this list, with the symbols that stand there
 abbrev pub new_symbol : List (Option SymbolId) → Option SymbolId → Option SymbolId

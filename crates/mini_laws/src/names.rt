@@ -13,6 +13,8 @@ pub enum Use {
     ReadWrite,
     /// A `var` declares it.
     Hoisted,
+    /// A `var` in the head of a `for..in` or `for..of` declares it, and each turn writes it.
+    Headed,
     /// A statement stands there that is a branch or a body: a declaration is read as in a block of its own.
     Alone,
 }

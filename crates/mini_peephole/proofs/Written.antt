@@ -1,8 +1,7 @@
 -- A program as it is read, and what is written for a resolved one, read again.
 use Rattle.std.proofs.Common.{◌≡◌, ℕ, List, [], ◌∷◌, refl, sym, ◌∙◌}
-use Rattle.std.specs.Prelude.{map, None, Ok}
+use Rattle.std.specs.Prelude.{None, Ok}
 use Rattle.serde_json.specs.Data.{Data}
-use Rattle.mini_model.specs.declared.name.Name.{Name}
 use Rattle.mini_model.specs.Tree.{Tree, Trees, node, none, ◌▸◌}
 use Rattle.mini_accept.specs.WellShaped.{IsWellShaped}
 use Rattle.mini_accept.specs.Accept.{program_at, Accepts}
@@ -10,16 +9,17 @@ use Rattle.mini_accept.proofs.Numbers.{program_numbered}
 use Rattle.mini_accept.proofs.Shaped.{program_shaped}
 use Rattle.mini_accept.proofs.Symbols.{program_unresolved}
 use Rattle.mini_laws.specs.Early.{Path, early_names, early_jumps, no_targets}
-use Rattle.mini_laws.specs.Symbols.{mapped, with_new}
+use Rattle.mini_laws.specs.Symbols.{bare_names}
+use Rattle.mini_laws.specs.Symbols.{bare as without_symbols}
 use Rattle.mini_scope.specs.Errors.{IsFree}
 use Rattle.mini_scope.specs.Pointers.{early_fault, fault_by}
 use Rattle.mini_writer.specs.Written.{program_data}
-use Rattle.mini_writer.specs.Bare.{bare_name, bare, bares}
+use Rattle.mini_writer.specs.Bare.{bare, bares}
 use Rattle.mini_writer.proofs.Programs.{units_accepted}
 use Rattle.mini_writer.proofs.Units.{shaped_units}
 use Rattle.mini_kept.specs.Carried.{renumbered}
 use Rattle.mini_kept.proofs.ReadBack.{IsRead}
-use Rattle.mini_kept.proofs.Texts.{no_symbol, text, texts}
+use Rattle.mini_kept.proofs.Texts.{text, texts}
 
 pub is_read : (d : Data) (k n : ℕ) (t : Tree) → program_at k d ≡ Ok (t, n) → IsRead t n
 is_read d k n t e = record { shaped = program_shaped k d t n e; preorder = program_numbered k d t n e; unresolved = program_unresolved k d t n e }
@@ -35,15 +35,11 @@ unfolding early_fault
 free_of t e = free_by (early_names [] t) (early_jumps no_targets [] t) t e
 
 -- without numbers and symbols: the definitions of writing and of names say the same
-same_names : (xs : List Name) → map bare_name xs ≡ map (with_new no_symbol) xs
-same_names [] = refl
-same_names (x ∷ xs) = λ k. with_new no_symbol x ∷ same_names xs k
-
 mutual
-  unfolding renumbered mapped
+  unfolding renumbered without_symbols
 
   same_text : (t : Tree) → bare t ≡ text t
-  same_text (node h xs n ts) = λ k. node h (same_names xs k) 0 (same_texts ts k)
+  same_text (node h xs n ts) = λ k. node h (bare_names h xs) 0 (same_texts ts k)
 
   same_texts : (ts : Trees) → bares ts ≡ texts ts
   same_texts none = refl

@@ -3,3 +3,4 @@ pub mod Pointers
 pub mod Spelled
 pub mod Paths
 pub mod Errors
+pub mod Declarators

@@ -36,7 +36,7 @@ fn is_for(usage: Use, spelling: &Text, binding: &Binding) -> bool
     ensures { result ≡ is_binding_for usage spelling.now binding.now }
 {
     let serves = match usage {
-        Use::Hoisted => binding.hoists,
+        Use::Hoisted | Use::Headed => binding.hoists,
         _ => true,
     };
     serves && binding.name.spelling.as_slice() == spelling.as_slice()

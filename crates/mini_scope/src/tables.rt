@@ -1,7 +1,7 @@
 //! What the tables say of a shape.
 
 ghost use Rattle.std.specs.Prelude.{◌≡◌};
-ghost use Rattle.mini_laws.specs.Scopes.{use_of as use_at, is_alone as is_alone_use, opening_of as opening_in, variable_opening as variable_opening_in};
+ghost use Rattle.mini_laws.specs.Scopes.{hoisted_by as hoisted_use, use_of as use_at, is_alone as is_alone_use, opening_of as opening_in, variable_opening as variable_opening_in};
 ghost use Rattle.mini_laws.specs.DeclaredNames.{place_of as place_in, bound_place as bound_in, lexical_place as lexical_in, hoisted_place as hoisted_in, is_statement_list as is_list, is_inner as is_inner_shape};
 
 use mini_laws::{Declared, Opening, Place, Use};
@@ -76,6 +76,16 @@ fn hoisted_place(shape: &Shape) -> Place
     }
 }
 
+/// How a `var` is used: the head of a `for..in` or `for..of` is what is assigned to.
+fn hoisted_by(usage: Use) -> Use
+    ensures { result ≡ hoisted_use usage }
+{
+    match usage {
+        Use::Write => Use::Headed,
+        _ => Use::Hoisted,
+    }
+}
+
 /// How a node of this shape, which is used like this itself, uses the names of its child at an index.
 pub fn use_of(shape: &Shape, usage: Use, at: usize) -> Use
     ensures { result ≡ use_at shape.now usage at }
@@ -95,7 +105,7 @@ pub fn use_of(shape: &Shape, usage: Use, at: usize) -> Use
         | Shape::AssignmentTargetPropertyIdentifier
         | Shape::AssignmentTargetPropertyProperty(_) => usage,
         Shape::VariableDeclarator if at == 0 => usage,
-        Shape::VariableDeclaration(VariableDeclarationKind::Var) => Use::Hoisted,
+        Shape::VariableDeclaration(VariableDeclarationKind::Var) => hoisted_by(usage),
         Shape::AssignmentExpression(AssignmentOperator::Assign) if at == 0 => Use::Write,
         Shape::AssignmentExpression(_) if at == 0 => Use::ReadWrite,
         Shape::UpdateExpression(..) => Use::ReadWrite,

@@ -8,7 +8,7 @@ use Rattle.mini_model.specs.declared.shape.Shape.TheVariants as shape
 use Rattle.mini_model.specs.Tree.{Tree, node, Trees, none, ◌▸◌, node_count, node_counts}
 use Rattle.mini_accept.specs.WellShaped as shaped
 use Rattle.mini_accept.specs.WellShaped.{Class, Slot, Filling, these, refused, each, each_or_last, fits, fill, filling_by, slots_of, is_strict_in, has_names, has_plain_fields, has_its_parts, none_if}
-use Rattle.mini_writer.proofs.Units.{has_units, have_units, fields_are_units, names_are_units}
+use Rattle.mini_writer.proofs.Units.{has_units, have_units, fields_are_units, names_are_units, written_names}
 
 -- a tree that fits a slot, has units as its texts, and has at most so many nodes
 pub record Fit (k : ℕ) (strict : Bool) (s : Slot) (t : Tree) : Type 0 where
@@ -27,7 +27,7 @@ pub record NodeFits (k : ℕ) (strict : Bool) (c : Class) (h : Shape) (xs : List
   pub fields : has_plain_fields h ≡ true
   pub parts : has_its_parts c h ts ≡ true
   pub field_units : fields_are_units h ≡ true
-  pub name_units : names_are_units xs ≡ true
+  pub name_units : names_are_units (written_names h xs) ≡ true
   pub filled : Filled k (is_strict_in strict h) (filling_by (slots_of strict c h)) ts
 
 pub node_fits : (k : ℕ) (strict : Bool) (c : Class) (h : Shape) (xs : List Name) (n : ℕ) (ts : Trees) → Fit (suc k) strict (shaped.one c) (node h xs n ts) → NodeFits k strict c h xs ts
@@ -36,8 +36,8 @@ node_fits k strict c h xs n ts f =
     let (names, others) = and_parts (has_names h xs) _ whole in
     let (counted, plain) = and_parts _ (has_plain_fields h && has_its_parts c h ts) others in
     let (fields, parts) = and_parts (has_plain_fields h) (has_its_parts c h ts) plain in
-    let (field_units, rest) = and_parts (fields_are_units h) (names_are_units xs && have_units ts) f.units in
-    let (name_units, units) = and_parts (names_are_units xs) (have_units ts) rest in
+    let (field_units, rest) = and_parts (fields_are_units h) (names_are_units (written_names h xs) && have_units ts) f.units in
+    let (name_units, units) = and_parts (names_are_units (written_names h xs)) (have_units ts) rest in
     let small : 1 + node_counts ts ≤ suc k = f.small in
     record { names = names; fields = fields; parts = parts; field_units = field_units; name_units = name_units; filled = record { fills = fills; units = units; small = omega arith } }
 

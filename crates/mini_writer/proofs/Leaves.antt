@@ -8,7 +8,8 @@ use Rattle.mini_model.specs.Texts.{bytes_of, are_units}
 use Rattle.mini_model.specs.declared.name.Name.{Name}
 use Rattle.mini_model.specs.declared.shape.Shape.{Shape}
 use Rattle.mini_model.specs.declared.shape.Shape.TheVariants as shape
-use Rattle.mini_model.specs.Tree.{node, none}
+use Rattle.mini_model.specs.Tree.{node, none, unresolved}
+use Rattle.mini_laws.specs.Symbols.{bare_names}
 use Rattle.mini_accept.specs.WellShaped as shaped
 use Rattle.mini_accept.specs.WellShaped.{Class, is_paired, is_safe, max_big_int, is_name}
 use Rattle.mini_accept.specs.declared.kind.Kind.TheVariants as kind
@@ -25,6 +26,11 @@ use Rattle.mini_writer.proofs.Texts.{text_read, name_read}
 use Rattle.mini_writer.proofs.Digits.{big_int_back}
 use Rattle.mini_writer.proofs.Entry.{bind_is}
 
+-- a name as it is read has no symbol
+as_read : (h : Shape) (x : Name) → bare_names h (unresolved x.spelling ∷ []) ≡ bare_names h (x ∷ [])
+as_read shape.VariableDeclarator x = refl
+as_read h x = refl
+
 module _ (j : ℕ) (strict : Bool) where
   -- ---- names
 
@@ -32,7 +38,7 @@ module _ (j : ℕ) (strict : Bool) where
       → (n : ℕ) → ReadsBack (suc j) strict (at c) n (name x.spelling) (node h (x ∷ []) m none)
   identifier_back c h x m named_as stands named units n =
       node_back j strict (at c) (name x.spelling) kind.Identifier (identifier_by h x.spelling) (x ∷ []) m none (quiet_read strict c (name x.spelling) refl) stands refl
-      (ap (option_map (identifier_as c)) (name_read x.spelling named units) ∙ ap Some (named_as x.spelling)) refl no_children n
+      (ap (option_map (identifier_as c)) (name_read x.spelling named units) ∙ ap Some (named_as x.spelling)) (as_read h x) no_children n
 
   pub local_back : (x : Name) (m : ℕ) → is_name x.spelling ≡ true → are_units x.spelling ≡ true → (n : ℕ) → ReadsBack (suc j) strict a_local_name n (name x.spelling) (node shape.Identifier (x ∷ []) m none)
   local_back x m named units n =

@@ -1,5 +1,5 @@
 -- What is read back: of a value is read this tree, but for numbers and symbols, whatever the next number is.
-use Rattle.std.proofs.Common.{◌≡◌, ℕ, zero, suc, List, [], ◌∷◌, map, refl, ap, sym, ◌∙◌, Bool, true, false, ◌&&◌, ◌||◌}
+use Rattle.std.proofs.Common.{◌≡◌, ℕ, zero, suc, List, [], ◌∷◌, refl, ap, sym, ◌∙◌, Bool, true, false, ◌&&◌, ◌||◌}
 use Rattle.std.specs.Prelude.{Option, Some, None, is_some, not, codes, Result, Ok, Err}
 use Rattle.std.proofs.lemmas.Bool.{and_from, false≢true, true≢false, false_from_ne_true}
 use Rattle.serde_json.specs.Data.{Data, null, boolean, number, string, array, object}
@@ -20,7 +20,8 @@ use Rattle.mini_accept.specs.Entries.{entry}
 use Rattle.mini_accept.specs.Accept.{is_placed_by, is_part_placed, are_parts_placed, is_child_placed, are_placed, plan_if, placed_plan, plan_by, plan_unless, plan, Read, takes_number, below_by, read_below, read_part, read_parts, read_child, read_children, numbered, read_plan, reads}
 use Rattle.mini_accept.proofs.Results.{ok_same, bind_ok, under_ok}
 use Rattle.mini_accept.proofs.Types.{Typed, kind_typed, type_name, typed_has, typed_there, text_same, types_at}
-use Rattle.mini_writer.specs.Bare.{bare_name, bare, bares}
+use Rattle.mini_laws.specs.Symbols.{bare_names}
+use Rattle.mini_writer.specs.Bare.{bare, bares}
 
 pub record ReadsBack (k : ℕ) (strict : Bool) (p : Place) (n : ℕ) (d : Data) (t : Tree) : Type 0 where
   pub tree : Tree
@@ -227,14 +228,14 @@ children_placed k strict d n (c ∷ cs) y e =
 
 -- ---- nodes
 
-counted : (k : ℕ) (b : Bool) (n : ℕ) (h : Shape) (xs ys : List Name) (m : ℕ) (f : ℕ → Read Trees) (ts : Trees) → map bare_name xs ≡ map bare_name ys → ((l : ℕ) → TreesBack (f l) ts)
+counted : (k : ℕ) (b : Bool) (n : ℕ) (h : Shape) (xs ys : List Name) (m : ℕ) (f : ℕ → Read Trees) (ts : Trees) → bare_names h xs ≡ bare_names h ys → ((l : ℕ) → TreesBack (f l) ts)
     → (t : Tree) × (l : ℕ) × (numbered b n h xs f ≡ Ok (t, l)) × (bare t ≡ bare (node h ys m ts))
 counted k true n h xs ys m f ts names below =
     let r = below (suc n) in
-    (node h xs n r.trees, r.next, ap (λ o. o >>= (λ q. Ok (node h xs n q.0, q.1))) r.read, ap (λ w. node h w 0 (bares r.trees)) names ∙ ap (node h (map bare_name ys) 0) r.same)
+    (node h xs n r.trees, r.next, ap (λ o. o >>= (λ q. Ok (node h xs n q.0, q.1))) r.read, ap (λ w. node h w 0 (bares r.trees)) names ∙ ap (node h (bare_names h ys) 0) r.same)
 counted k false n h xs ys m f ts names below =
     let r = below n in
-    (node h xs 0 r.trees, r.next, ap (λ o. o >>= (λ q. Ok (node h xs 0 q.0, q.1))) r.read, ap (λ w. node h w 0 (bares r.trees)) names ∙ ap (node h (map bare_name ys) 0) r.same)
+    (node h xs 0 r.trees, r.next, ap (λ o. o >>= (λ q. Ok (node h xs 0 q.0, q.1))) r.read, ap (λ w. node h w 0 (bares r.trees)) names ∙ ap (node h (bare_names h ys) 0) r.same)
 
 plan_is : (strict : Bool) (p : Place) (d : Data) (kind : Kind) (x : Plan) → is_unread strict p d ≡ false → may_stand p d ≡ true → kind_of d ≡ Some kind → entry kind p d ≡ Some x → are_placed (is_strict_in strict x.shape) d x.children ≡ true → plan strict p d ≡ Ok x
 plan_is strict p d kind x read stands is planned placed =
@@ -246,7 +247,7 @@ plan_is strict p d kind x read stands is planned placed =
 
 -- a node whose entry in the table is this plan, and whose children come back
 pub node_back : (k : ℕ) (strict : Bool) (p : Place) (d : Data) (kind : Kind) (x : Plan) (xs : List Name) (m : ℕ) (ts : Trees) → is_unread strict p d ≡ false → may_stand p d ≡ true → kind_of d ≡ Some kind → entry kind p d ≡ Some x
-    → map bare_name x.names ≡ map bare_name xs → ChildrenBack k (is_strict_in strict x.shape) d x.children ts → (n : ℕ) → ReadsBack (suc k) strict p n d (node x.shape xs m ts)
+    → bare_names x.shape x.names ≡ bare_names x.shape xs → ChildrenBack k (is_strict_in strict x.shape) d x.children ts → (n : ℕ) → ReadsBack (suc k) strict p n d (node x.shape xs m ts)
 node_back k strict p d kind x xs m ts read stands is planned names below n =
     let first = below.back 0 in
     let placed = children_placed k (is_strict_in strict x.shape) d 0 x.children (first.trees, first.next) first.read in

@@ -24,6 +24,11 @@ abbrev pub names_are_units : List Name → Bool
 names_are_units [] = true
 names_are_units (x ∷ xs) = are_units x.spelling && names_are_units xs
 
+-- the names that are written: that of a declarator isn't
+abbrev pub written_names : Shape → List Name → List Name
+written_names shape.VariableDeclarator xs = []
+written_names h xs = xs
+
 -- the texts of a shape
 abbrev pub fields_are_units : Shape → Bool
 fields_are_units (shape.Program is_module ds) = all_are_units ds
@@ -38,7 +43,7 @@ fields_are_units _ = true
 
 abbrev mutual
   pub has_units : Tree → Bool
-  has_units (node h xs n ts) = fields_are_units h && (names_are_units xs && have_units ts)
+  has_units (node h xs n ts) = fields_are_units h && (names_are_units (written_names h xs) && have_units ts)
 
   pub have_units : Trees → Bool
   have_units none = true
@@ -78,17 +83,22 @@ field_units (shape.TemplateElement tail raw c) e =
     and_from (are_units raw) (are_units_if_some c) (paired raw first) (cooked_paired c second)
 field_units _ e = refl
 
-name_units : (h : Shape) (xs : List Name) → has_names h xs ≡ true → names_are_units xs ≡ true
+name_units : (h : Shape) (xs : List Name) → has_names h xs ≡ true → names_are_units (written_names h xs) ≡ true
+name_units shape.VariableDeclarator xs e = refl
 name_units h [] e = refl
 name_units shape.Identifier (x ∷ []) e = and_from (are_units x.spelling) true (named x.spelling e) refl
 name_units shape.BindingIdentifier (x ∷ []) e = and_from (are_units x.spelling) true (named x.spelling e) refl
 name_units h (x ∷ xs) e = absurd (false≢true e)
 
+nothing_written : (h : Shape) → names_are_units (written_names h []) ≡ true
+nothing_written shape.VariableDeclarator = refl
+nothing_written h = refl
+
 quasi_units : (g : Tagging) (last : Bool) (t : Tree) → is_quasi g last t ≡ true → has_units t ≡ true
 quasi_units g last (node h [] n none) e =
     let (by, others) = and_parts (is_quasi_by g last h) ((n == 0) && has_plain_fields h) e in
     let (counted, fields) = and_parts (n == 0) (has_plain_fields h) others in
-    and_from (fields_are_units h) true (field_units h fields) refl
+    and_from (fields_are_units h) (names_are_units (written_names h []) && true) (field_units h fields) (and_from (names_are_units (written_names h [])) true (nothing_written h) refl)
 quasi_units g last t e = absurd (false≢true e)
 
 quasis_units : (g : Tagging) (ts : Trees) → are_quasis g ts ≡ true → have_units ts ≡ true
@@ -105,7 +115,7 @@ mutual
       let (names, others) = and_parts (has_names h xs) _ whole in
       let (counted, plain) = and_parts _ (has_plain_fields h && has_its_parts (class_of s) h ts) others in
       let (fields, parts) = and_parts (has_plain_fields h) (has_its_parts (class_of s) h ts) plain in
-      and_from (fields_are_units h) (names_are_units xs && have_units ts) (field_units h fields) (and_from (names_are_units xs) (have_units ts) (name_units h xs names) (filled_units (is_strict_in strict h) (filling strict s h) ts fills))
+      and_from (fields_are_units h) (names_are_units (written_names h xs) && have_units ts) (field_units h fields) (and_from (names_are_units (written_names h xs)) (have_units ts) (name_units h xs names) (filled_units (is_strict_in strict h) (filling strict s h) ts fills))
 
   filled_units : (strict : Bool) (f : Filling) (ts : Trees) → fill strict f ts ≡ true → have_units ts ≡ true
   filled_units strict refused ts e = absurd (false≢true e)

@@ -105,6 +105,9 @@ module _ (k : ℕ) (back : Back k) (bodies : BodiesBack k) (strict : Bool) where
   by_names c shape.BindingIdentifier [] m ts a i w n = absurd (false≢true w.names)
   by_names c shape.BindingIdentifier (x ∷ []) m ts a i w n = binding_comes k strict c x ts w m n
   by_names c shape.BindingIdentifier (x ∷ y ∷ xs) m ts a i w n = absurd (false≢true w.names)
+  by_names c shape.VariableDeclarator xs m ts a i w n =
+      let r = node_comes c shape.VariableDeclarator ts a i (record { names = refl; fields = w.fields; parts = w.parts; field_units = w.field_units; name_units = refl; filled = w.filled }) m n in
+      record { tree = r.tree; next = r.next; read = r.read; same = r.same }
   by_names c h [] m ts a i w n = node_comes c h ts a i w m n
   by_names c h (x ∷ xs) m ts a i w n = absurd (false≢true w.names)
 
@@ -211,6 +214,7 @@ module _ (k : ℕ) (back : Back k) (bodies : BodiesBack k) (strict : Bool) where
   arrow_by_names shape.Identifier (x ∷ []) m ts e w n = arrow_reference k strict x ts w m n
   arrow_by_names shape.Identifier (x ∷ y ∷ xs) m ts e w n = absurd (false≢true w.names)
   arrow_by_names shape.BindingIdentifier xs m ts e w n = absurd (false≢true w.filled.fills)
+  arrow_by_names shape.VariableDeclarator xs m ts e w n = absurd (false≢true w.filled.fills)
   arrow_by_names h [] m ts e w n = arrow_comes h ts e w m n
   arrow_by_names h (x ∷ xs) m ts e w n = absurd (false≢true w.names)
 

@@ -1,14 +1,10 @@
--- A tree without its numbers and symbols, which aren't written.
-use Rattle.std.specs.Prelude.{map}
-use Rattle.mini_model.specs.declared.name.Name.{Name}
-use Rattle.mini_model.specs.Tree.{Tree, node, Trees, none, ◌▸◌, unresolved}
-
-abbrev pub bare_name : Name → Name
-bare_name x = unresolved x.spelling
+-- A tree without its numbers, its symbols and the names of declarators, which aren't written.
+use Rattle.mini_model.specs.Tree.{Tree, node, Trees, none, ◌▸◌}
+use Rattle.mini_laws.specs.Symbols.{bare_names}
 
 abbrev mutual
   pub bare : Tree → Tree
-  bare (node h xs n ts) = node h (map bare_name xs) 0 (bares ts)
+  bare (node h xs n ts) = node h (bare_names h xs) 0 (bares ts)
 
   pub bares : Trees → Trees
   bares none = none

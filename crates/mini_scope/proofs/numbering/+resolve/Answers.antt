@@ -8,7 +8,7 @@ use Rattle.mini_node.specs.Children.{names_of, number_of, with_names, like}
 use Rattle.mini_laws.specs.Scopes.{use_of, opened}
 use Rattle.mini_laws.specs.declared.names.Use.{Use}
 use Rattle.mini_laws.specs.declared.names.Binding.{Binding}
-use Rattle.mini_laws.specs.Resolved.{Environment, with_symbol, symbols, symbols_from, resolved, resolved_from}
+use Rattle.mini_laws.specs.Resolved.{Environment, names_in, symbols, symbols_from, resolved, resolved_from}
 use Rattle.mini_scope.specs.ScopeAt.{scope_at}
 use Rattle.mini_scope.proofs.Walk.{begins, turn, child_smaller, same_child, symbols_split, no_rest, all_first, append_none}
 use Rattle.mini_scope.proofs.numbering.+resolve.Goals as goal
@@ -17,9 +17,9 @@ symbols_opened : (u : Use) (n : Tree) (sc : ℕ → List Binding) → sc ≡ ope
 unfolding symbols
 symbols_opened u (node h xs k ts) sc e = ap (λ s. symbols_from s (use_of h u) 0 ts) (sym e)
 
-resolved_opened : (u : Use) (env : Environment) (s : ℕ) (n : Tree) (sc : ℕ → List Binding) → sc ≡ opened u (shape_of n) (children n) → resolved u env s n ≡ node (shape_of n) (map (with_symbol u env) (names_of n)) (number_of n) (resolved_from sc (use_of (shape_of n) u) 0 env s (children n))
+resolved_opened : (u : Use) (env : Environment) (s : ℕ) (n : Tree) (sc : ℕ → List Binding) → sc ≡ opened u (shape_of n) (children n) → resolved u env s n ≡ node (shape_of n) (names_in u env (shape_of n) (names_of n) (children n)) (number_of n) (resolved_from sc (use_of (shape_of n) u) 0 env s (children n))
 unfolding resolved
-resolved_opened u env s (node h xs k ts) sc e = ap (λ c. node h (map (with_symbol u env) xs) k (resolved_from c (use_of h u) 0 env s ts)) (sym e)
+resolved_opened u env s (node h xs k ts) sc e = ap (λ c. node h (names_in u env h xs ts) k (resolved_from c (use_of h u) 0 env s ts)) (sym e)
 
 -- a node without children
 leaf_symbols : (u : Use) (n : Tree) → count (children n) ≡ 0 → symbols u n ≡ 0
@@ -27,7 +27,7 @@ unfolding symbols
 leaf_symbols u (node h xs k none) e = refl
 leaf_symbols u (node h xs k (t ▸ ts)) e = absurd (omega arith)
 
-leaf_resolved : (u : Use) (env : Environment) (s : ℕ) (n : Tree) → count (children n) ≡ 0 → with_names n (map (with_symbol u env) (names_of n)) ≡ resolved u env s n
+leaf_resolved : (u : Use) (env : Environment) (s : ℕ) (n : Tree) → count (children n) ≡ 0 → with_names n (names_in u env (shape_of n) (names_of n) (children n)) ≡ resolved u env s n
 unfolding resolved
 leaf_resolved u env s (node h xs k none) e = refl
 leaf_resolved u env s (node h xs k (t ▸ ts)) e = absurd (omega arith)
@@ -53,11 +53,11 @@ pub resolve_node-resolve_nodes-after-requires : goal.resolve_node-resolve_nodes-
 resolve_node-resolve_nodes-after-requires t c =
     let u = c.args.usage in
     let n = c.args.node.now in
-    let ys = map (with_symbol u c.args.environment.now) (names_of n) in
+    let ys = names_in u c.args.environment.now (shape_of n) (names_of n) (children n) in
     let sc = scope_at c.in_ok-scopes.scopes in
-    let kids : c.take_children-children.result ≡ children n = c.take_children-children.ensures.children ∙ ap children c.give_symbol.ensures ∙ named_children n ys in
-    let kind : c.shape.result.now ≡ shape_of n = c.shape.ensures ∙ ap shape_of c.take_children-children.ensures.rest ∙ ap shape_of c.give_symbol.ensures ∙ named_shape n ys in
-    let opens = opened_named u n c.give_symbol.new.node ys sc c.give_symbol.ensures c.in_ok-scopes.ensures in
+    let kids : c.take_children-children.result ≡ children n = c.take_children-children.ensures.children ∙ ap children c.in_ok-give_names.ensures ∙ named_children n ys in
+    let kind : c.shape.result.now ≡ shape_of n = c.shape.ensures ∙ ap shape_of c.take_children-children.ensures.rest ∙ ap shape_of c.in_ok-give_names.ensures ∙ named_shape n ys in
+    let opens = opened_named u n c.give_names.new.node ys sc c.in_ok-give_names.ensures c.in_ok-scopes.ensures in
     let below : symbols_from sc (use_of c.shape.result.now u) 0 c.take_children-children.result ≡ symbols u n = ap (symbols_from sc (use_of c.shape.result.now u) 0) kids ∙ ap (λ h. symbols_from sc (use_of h u) 0 (children n)) kind ∙ sym (symbols_opened u n sc opens) in
     (omega (arith, ap node_counts kids, child_counts n), omega (arith, c.requires, below))
 
@@ -65,11 +65,11 @@ pub resolve_node-returns-clause-after : goal.resolve_node-returns-clause-after
 resolve_node-returns-clause-after t c =
     let u = c.args.usage in
     let n = c.args.node.now in
-    let ys = map (with_symbol u c.args.environment.now) (names_of n) in
+    let ys = names_in u c.args.environment.now (shape_of n) (names_of n) (children n) in
     let sc = scope_at c.in_ok-scopes.scopes in
-    let kids : c.take_children-children.result ≡ children n = c.take_children-children.ensures.children ∙ ap children c.give_symbol.ensures ∙ named_children n ys in
-    let kind : c.shape.result.now ≡ shape_of n = c.shape.ensures ∙ ap shape_of c.take_children-children.ensures.rest ∙ ap shape_of c.give_symbol.ensures ∙ named_shape n ys in
-    let opens = opened_named u n c.give_symbol.new.node ys sc c.give_symbol.ensures c.in_ok-scopes.ensures in
+    let kids : c.take_children-children.result ≡ children n = c.take_children-children.ensures.children ∙ ap children c.in_ok-give_names.ensures ∙ named_children n ys in
+    let kind : c.shape.result.now ≡ shape_of n = c.shape.ensures ∙ ap shape_of c.take_children-children.ensures.rest ∙ ap shape_of c.in_ok-give_names.ensures ∙ named_shape n ys in
+    let opens = opened_named u n c.give_names.new.node ys sc c.in_ok-give_names.ensures c.in_ok-scopes.ensures in
     let below : symbols_from sc (use_of c.shape.result.now u) 0 c.take_children-children.result ≡ symbols u n = ap (symbols_from sc (use_of c.shape.result.now u) 0) kids ∙ ap (λ h. symbols_from sc (use_of h u) 0 (children n)) kind ∙ sym (symbols_opened u n sc opens) in
     IfOk-weaker c.resolve_nodes-after.result _ _ (λ x e. e ∙ ap (λ k. c.args.next + k) below) c.resolve_nodes-after.ensures.after
 
@@ -77,16 +77,16 @@ pub resolve_node-returns-clause-resolved : goal.resolve_node-returns-clause-reso
 resolve_node-returns-clause-resolved t c =
     let u = c.args.usage in
     let n = c.args.node.now in
-    let ys = map (with_symbol u c.args.environment.now) (names_of n) in
+    let ys = names_in u c.args.environment.now (shape_of n) (names_of n) (children n) in
     let sc = scope_at c.in_ok-scopes.scopes in
-    let kids : c.take_children-children.result ≡ children n = c.take_children-children.ensures.children ∙ ap children c.give_symbol.ensures ∙ named_children n ys in
-    let kind : c.shape.result.now ≡ shape_of n = c.shape.ensures ∙ ap shape_of c.take_children-children.ensures.rest ∙ ap shape_of c.give_symbol.ensures ∙ named_shape n ys in
-    let opens = opened_named u n c.give_symbol.new.node ys sc c.give_symbol.ensures c.in_ok-scopes.ensures in
+    let kids : c.take_children-children.result ≡ children n = c.take_children-children.ensures.children ∙ ap children c.in_ok-give_names.ensures ∙ named_children n ys in
+    let kind : c.shape.result.now ≡ shape_of n = c.shape.ensures ∙ ap shape_of c.take_children-children.ensures.rest ∙ ap shape_of c.in_ok-give_names.ensures ∙ named_shape n ys in
+    let opens = opened_named u n c.give_names.new.node ys sc c.in_ok-give_names.ensures c.in_ok-scopes.ensures in
     let env = c.args.environment.now in
     let s = c.args.next in
     let done = c.resolve_nodes-after.new.nodes in
     let same : resolved_from sc (use_of c.shape.result.now u) 0 env s c.take_children-children.result ≡ resolved_from sc (use_of (shape_of n) u) 0 env s (children n) = ap (resolved_from sc (use_of c.shape.result.now u) 0 env s) kids ∙ ap (λ h. resolved_from sc (use_of h u) 0 env s (children n)) kind in
-    let put = c.put_children.ensures ∙ rebuilt n c.take_children-children.new.self ys done (c.take_children-children.ensures.rest ∙ ap (λ m. like m none) c.give_symbol.ensures) in
+    let put = c.put_children.ensures ∙ rebuilt n c.take_children-children.new.self ys done (c.take_children-children.ensures.rest ∙ ap (λ m. like m none) c.in_ok-give_names.ensures) in
     IfOk-weaker c.resolve_nodes-after.result _ _ (λ x e. put ∙ ap (node (shape_of n) ys (number_of n)) (e ∙ same) ∙ sym (resolved_opened u env s n sc opens)) c.resolve_nodes-after.ensures.resolved
 
 pub resolve_node-returns-clause-left : goal.resolve_node-returns-clause-left
@@ -94,13 +94,13 @@ resolve_node-returns-clause-left t c = IfOk-weaker c.resolve_nodes-after.result 
 
 pub resolve_node-returns-then-is_leaf-clause-after : goal.resolve_node-returns-then-is_leaf-clause-after
 resolve_node-returns-then-is_leaf-clause-after t c =
-    let kids : children c.give_symbol.new.node ≡ children c.args.node.now = ap children c.give_symbol.ensures ∙ named_children c.args.node.now _ in
+    let kids : children c.give_names.new.node ≡ children c.args.node.now = ap children c.in_ok-give_names.ensures ∙ named_children c.args.node.now _ in
     omega (arith, leaf_symbols c.args.usage c.args.node.now (sym (ap count kids) ∙ c.is_leaf.ensures c.if-is_leaf.true))
 
 pub resolve_node-returns-then-is_leaf-clause-resolved : goal.resolve_node-returns-then-is_leaf-clause-resolved
 resolve_node-returns-then-is_leaf-clause-resolved t c =
-    let kids : children c.give_symbol.new.node ≡ children c.args.node.now = ap children c.give_symbol.ensures ∙ named_children c.args.node.now _ in
-    c.give_symbol.ensures ∙ leaf_resolved c.args.usage c.args.environment.now c.args.next c.args.node.now (sym (ap count kids) ∙ c.is_leaf.ensures c.if-is_leaf.true)
+    let kids : children c.give_names.new.node ≡ children c.args.node.now = ap children c.in_ok-give_names.ensures ∙ named_children c.args.node.now _ in
+    c.in_ok-give_names.ensures ∙ leaf_resolved c.args.usage c.args.environment.now c.args.next c.args.node.now (sym (ap count kids) ∙ c.is_leaf.ensures c.if-is_leaf.true)
 
 pub resolve_nodes-loop-at-init : goal.resolve_nodes-loop-at-init
 resolve_nodes-loop-at-init t c = (begins _ _ _ _ _, λ k h. refl)
