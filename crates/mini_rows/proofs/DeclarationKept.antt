@@ -72,11 +72,11 @@ module _ (name : Name) (v : Tree) (u : IsUndefined v) (before after : Trees) whe
   abbrev us : Trees
   us = append before (bare ▸ after)
 
-  abbrev earlier : Tree
-  earlier = declaration Let ts
+  abbrev with_init : Tree
+  with_init = declaration Let ts
 
-  abbrev later : Tree
-  later = declaration Let us
+  abbrev without_init : Tree
+  without_init = declaration Let us
 
   -- whatever is the same of both declarators for each of the two initializers
   one_of : {A : Type 0} (f : Tree → A) → f (declarator (binding name) undefined) ≡ f bare → f (declarator (binding name) void_zero) ≡ f bare → f given ≡ f bare
@@ -158,39 +158,39 @@ module _ (name : Name) (v : Tree) (u : IsUndefined v) (before after : Trees) whe
   same_opened : (w : Use) → opened w (shape.VariableDeclaration Let) (listed us ▸ none) 0 ≡ opened w (shape.VariableDeclaration Let) (listed ts ▸ none) 0
   same_opened w = opened_is w Let (listed us) ∙ same_scope (opens w Let) ∙ sym (opened_is w Let (listed ts))
 
-  declaration_scoped : (w : Use) (env : Environment) → Scoped w env earlier → Scoped w env later
+  declaration_scoped : (w : Use) (env : Environment) → Scoped w env with_init → Scoped w env without_init
   unfolding Scoped
   declaration_scoped w env a =
       let inner = env ++ opened w (shape.VariableDeclaration Let) (listed ts ▸ none) 0 in
       (tt, (subst (λ bs. Scoped Read (env ++ bs) (listed us)) (sym (same_opened w)) (list_scoped inner a.1.0), tt))
 
-  declaration_symbols : (w : Use) (x : Option SymbolId) → times x (declared_in w later) ≤ times x (declared_in w earlier)
+  declaration_symbols : (w : Use) (x : Option SymbolId) → times x (declared_in w without_init) ≤ times x (declared_in w with_init)
   declaration_symbols w x = omega (arith, symbols_are w Let x (listed us), symbols_are w Let x (listed ts), ap (λ bs. times x (symbols_in bs)) (same_scope (opens w Let)), list_symbols x)
 
-  declaration_names : (d : Declared) → names_of d later ≡ names_of d earlier
+  declaration_names : (d : Declared) → names_of d without_init ≡ names_of d with_init
   declaration_names d = names_are d Let us ∙ ap (names_if (declares_as d Let)) bound_same ∙ sym (names_are d Let ts)
 
-  declaration_as_body : (b : Bool) → as_body b later ≡ as_body b earlier
+  declaration_as_body : (b : Bool) → as_body b without_init ≡ as_body b with_init
   declaration_as_body b = declarations_are b Let us ∙ ap (own_declarations true []) bound_same ∙ sym (declarations_are b Let ts)
 
-  declaration_once : (q : Path) → early_names q earlier ≡ [] → early_names q later ≡ []
+  declaration_once : (q : Path) → early_names q with_init ≡ [] → early_names q without_init ≡ []
   declaration_once q a =
-      once_anywhere [] q later
-      (once_is Let (listed us) ∙ once_anywhere [] (0 ∷ []) (listed us) (list_once (once_anywhere (0 ∷ []) [] (listed ts) (sym (once_is Let (listed ts)) ∙ once_anywhere q [] earlier a))))
+      once_anywhere [] q without_init
+      (once_is Let (listed us) ∙ once_anywhere [] (0 ∷ []) (listed us) (list_once (once_anywhere (0 ∷ []) [] (listed ts) (sym (once_is Let (listed ts)) ∙ once_anywhere q [] with_init a))))
 
-  declaration_jumps : (g : Targets) (q : Path) → early_jumps g q earlier ≡ [] → early_jumps g q later ≡ []
+  declaration_jumps : (g : Targets) (q : Path) → early_jumps g q with_init ≡ [] → early_jumps g q without_init ≡ []
   declaration_jumps g q a =
-      targets_anywhere g [] q later
-      (jumps_are Let g (listed us) ∙ targets_anywhere g [] (0 ∷ []) (listed us) (list_jumps g (targets_anywhere g (0 ∷ []) [] (listed ts) (sym (jumps_are Let g (listed ts)) ∙ targets_anywhere g q [] earlier a))))
+      targets_anywhere g [] q without_init
+      (jumps_are Let g (listed us) ∙ targets_anywhere g [] (0 ∷ []) (listed us) (list_jumps g (targets_anywhere g (0 ∷ []) [] (listed ts) (sym (jumps_are Let g (listed ts)) ∙ targets_anywhere g q [] with_init a))))
 
-  declaration_numbers : (k : ℕ) → count_of k (numbers later) ≤ count_of k (numbers earlier)
+  declaration_numbers : (k : ℕ) → count_of k (numbers without_init) ≤ count_of k (numbers with_init)
   declaration_numbers k = omega (arith, ap (count_of k) (numbers_are Let (listed us)), ap (count_of k) (numbers_are Let (listed ts)), list_numbers k)
 
-  not_a_loop : is_loop later ≡ is_loop earlier
+  not_a_loop : is_loop without_init ≡ is_loop with_init
   unfolding is_loop
   not_a_loop = refl
 
-  declaration_keeps : (p : Position) → Keeps p earlier later
+  declaration_keeps : (p : Position) → Keeps p with_init without_init
   declaration_keeps p = record {
     kept = record {
       names = declaration_names;
@@ -200,7 +200,7 @@ module _ (name : Name) (v : Tree) (u : IsUndefined v) (before after : Trees) whe
     };
     scoped = λ w env st a. declaration_scoped w env a;
     numbers = declaration_numbers;
-    declared_as_body = λ b q. body_same b q q earlier later (declaration_as_body b);
+    declared_as_body = λ b q. body_same b q q with_init without_init (declaration_as_body b);
     once = declaration_once;
     targets = declaration_jumps;
     loop = not_a_loop;

@@ -281,15 +281,15 @@ absent_outlined : (t : Tree) → (outline t).absent ≡ is_absent t
 absent_outlined (node shape.Absent xs n ts) = refl
 absent_outlined (node h xs n ts) = refl
 
-no_plain : (h : Shape) → Holds h → {xs : List Name} {n : ℕ} (ts : Trees) → plain_name (node h xs n ts) ≡ []
-no_plain _ a_list ts = refl
-no_plain _ an_object ts = refl
-no_plain _ an_array ts = refl
-no_plain _ (a_property c) ts = refl
-no_plain _ a_rest ts = refl
-no_plain _ a_default ts = refl
-no_plain _ a_declaration ts = refl
-no_plain _ a_handler ts = refl
+no_plain : (h : Shape) → Holds h → (xs : List Name) (n : ℕ) (ts : Trees) → plain_name (node h xs n ts) ≡ []
+no_plain _ a_list xs n ts = refl
+no_plain _ an_object xs n ts = refl
+no_plain _ an_array xs n ts = refl
+no_plain _ (a_property c) xs n ts = refl
+no_plain _ a_rest xs n ts = refl
+no_plain _ a_default xs n ts = refl
+no_plain _ a_declaration xs n ts = refl
+no_plain _ a_handler xs n ts = refl
 
 no_body : (h : Shape) → Holds h → (a : Around) (n : ℕ) (t : Tree) (ts : Trees) → body_of a h n t ts ≡ []
 no_body _ a_list a n t ts = refl
@@ -574,7 +574,7 @@ module _ (h : Shape) (o : Holds h) (xs : List Name) (n : ℕ) (before after : Tr
     names = same_names;
     body = same_body;
     patterned = refl;
-    plain = no_plain h o us ∙ sym (no_plain h o ts);
+    plain = no_plain h o xs n us ∙ sym (no_plain h o xs n ts);
     scoped = scoped_of opens;
     symbols = symbols_of opens;
     numbers = fewer;

@@ -1,5 +1,5 @@
 -- A `var` that goes into the head of the `for..in` or `for..of` after it, which assigns to its name, is kept.
-use Rattle.std.specs.Prelude.{◌≤◌, ◌≡◌, refl, ◌||◌, Bool, false, List, [], ◌∷◌, ◌++◌, Contains, None}
+use Rattle.std.specs.Prelude.{◌≤◌, ◌≡◌, refl, ◌||◌, Bool, true, false, List, [], ◌∷◌, ◌++◌, Contains, None}
 use Rattle.std.proofs.Common.{ap, ◌∙◌, sym, subst, arith, inl, inr, ◌⊎◌}
 use Rattle.std.proofs.lemmas.List.{append-nil}
 use Rattle.std.proofs.lemmas.List.Elements.{Contains-append_cases}
