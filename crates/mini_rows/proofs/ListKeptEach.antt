@@ -128,7 +128,10 @@ module _ (x : Name) (right body : Tree) where
       let inner = (env ++ []) ++ [] in
       let there : env ≡ inner = sym (append-nil (env ++ []) ∙ append-nil env) in
       let no_name : Nameless Headed inner (binding x ▸ (absent ▸ none)) = subst (λ r. Nameless Headed r (binding x ▸ (absent ▸ none))) there (nameless_by Headed env x true e (λ z. f)) in
-      (tt, ((tt, ((no_name, ((e ∙ ap (symbol_of Headed x.spelling) (deeper env), tt), tt), ((tt, tt), tt)), tt)), tt))
+      let named : Scoped Headed (inner ++ []) (binding x) = ((e ∙ ap (symbol_of Headed x.spelling) (deeper env), tt), tt) in
+      let nothing : Scoped Read ((inner ++ []) ++ []) absent = (tt, tt) in
+      let alone : Scoped Headed inner (declarator (binding x) absent) = (no_name, (named, (nothing, tt))) in
+      (tt, ((tt, (alone, tt)), tt))
 
   written_there : (env : Environment) → Scoped Read env var → Scoped Write env (identifier x) → Scoped Write env var
   written_there env a b = var_headed env (declared_there env a ∙ found_in_head x.spelling env) (target_found env x b)
