@@ -1,5 +1,5 @@
-//! What `var`s write where they stand: a declarator its own name, or else those that it declares. And the names in their patterns, of which each
-//! value goes to the innermost variable of its name.
+//! What `var`s write where they stand: a declarator its own name, or else those that it declares.
+//! And the names in their patterns, of which each value goes to the innermost variable of its name.
 
 ghost use Rattle.std.specs.Prelude.{◌≡◌, ◌∷◌, [], ◌++◌, map, OnOk};
 ghost use Rattle.mini_model.specs.declared.shape.Shape.TheVariants as shape;
@@ -175,7 +175,8 @@ fn mark_declarator(
     }
 }
 
-/// Marks what a node itself writes as the pattern of a `var` does. (ECMA-262, "Runtime Semantics: BindingInitialization": ResolveBinding.)
+/// Marks what a node itself writes as the pattern of a `var` does. (ECMA-262, "Runtime Semantics:
+/// BindingInitialization": ResolveBinding.)
 pub fn mark_pattern_writes(
     alloc: Global,
     marks: &mut Vec<bool>,

@@ -1,5 +1,6 @@
-//! Rewrites of names that nothing mentions, or that are read once, in a list of statements; and of the names of function and class expressions and
-//! of what is caught, each with its rule for the walk.
+//! Rewrites of names that nothing mentions, or that are read once, in a list of statements; and of
+//! the names of function and class expressions and of what is caught, each with its rule for the
+//! walk.
 #![tactic(auto)]
 
 mod calls;
