@@ -1,5 +1,5 @@
 -- The walk that fills the tables, and what each table says then.
-use Rattle.std.specs.Prelude.{ℕ, zero, suc, ◌≤◌, ◌<◌, ◌≡◌, refl, nat_eq, List, [], ◌∷◌, ◌++◌, Bool, true, false, ◌&&◌, ◌||◌, cond}
+use Rattle.std.specs.Prelude.{ℕ, zero, suc, ◌≤◌, ◌<◌, ◌≡◌, refl, nat_eq, List, [], ◌∷◌, ◌++◌, map, Bool, true, false, ◌&&◌, ◌||◌, cond}
 use Rattle.std.proofs.Common.{ap, ◌∙◌, sym, subst, arith, append_assoc}
 use Rattle.mini_model.specs.Tree.{Tree, Trees, node, none, ◌▸◌, children, count, child_or_absent, first_or_absent, node_count, node_counts, shape_of}
 use Rattle.mini_laws.specs.NameBodies.{Frame, frame_at, frame_of_body, own_body, own_fixed, bodies, bodies_from, fixed_names, all_fixed_names}
