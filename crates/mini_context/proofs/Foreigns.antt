@@ -1,5 +1,5 @@
 -- What is foreign to a body.
-use Rattle.std.specs.Prelude.{ℕ, suc, ◌≡◌, ◌<◌, refl, ◌&&◌, ◌||◌, not, Bool, true, false, cond, List, [], ◌∷◌, ◌++◌, map}
+use Rattle.std.specs.Prelude.{ℕ, suc, ◌≡◌, ◌<◌, refl, ◌&&◌, ◌||◌, not, Bool, true, false, cond, List, [], ◌∷◌, map}
 use Rattle.std.specs.List.{filter, list_any}
 use Rattle.std.proofs.Common.{ap, ◌∙◌, sym}
 use Rattle.std.proofs.lemmas.List.Folds.{list_any-append}

@@ -1,11 +1,11 @@
 -- The walk that lists scopes and marks what the patterns of `var`s write.
-use Rattle.std.specs.Prelude.{ℕ, zero, suc, ◌+◌, ◌≡◌, ◌≤◌, ◌<◌, refl, Bool, false, List, [], ◌∷◌, ◌++◌, length, map, take}
+use Rattle.std.specs.Prelude.{ℕ, zero, suc, ◌+◌, ◌≡◌, ◌≤◌, ◌<◌, refl, Bool, false, List, ◌++◌, length, take}
 use Rattle.std.proofs.Common.{ap, ◌∙◌, sym, subst, arith, add-one}
 use Rattle.std.proofs.lemmas.List.{append-nil, length-append, take-append-le, take_all}
 use Rattle.mini_model.specs.declared.name.Name.{Name}
 use Rattle.mini_model.specs.declared.shape.Shape.{Shape}
 use Rattle.mini_model.specs.Tree.{Tree, Trees, node, none, ◌▸◌, count, shape_of, children, child_or_absent, first_or_absent}
-use Rattle.mini_node.specs.Children.{number_of, rest_children, trees_of}
+use Rattle.mini_node.specs.Children.{rest_children}
 use Rattle.mini_node.specs.Walks.{from_first}
 use Rattle.mini_laws.specs.declared.names.Use.{Use}
 use Rattle.mini_laws.specs.declared.names.Binding.{Binding}

@@ -5,14 +5,12 @@ use Rattle.std.proofs.lemmas.Bool.{false≢true}
 use Rattle.mini_model.specs.declared.name.Name.{Name}
 use Rattle.mini_model.specs.declared.shape.Shape.{Shape}
 use Rattle.mini_model.specs.declared.shape.Shape.TheVariants as shape
-use Rattle.mini_model.specs.Tree.{Tree, Trees, node, none, ◌▸◌, shape_of, children, is_absent}
+use Rattle.mini_model.specs.Tree.{Tree, Trees, shape_of, children}
 use Rattle.mini_node.specs.Children.{names_of, trees_of}
 use Rattle.mini_laws.specs.declared.names.Use.{Use}
 use Rattle.mini_laws.specs.declared.names.Around.{Around}
-use Rattle.mini_laws.specs.DeclaredNames.{bound_names}
-use Rattle.mini_laws.specs.Mentions.{Mention}
-use Rattle.mini_laws.specs.Resolved.{Environment, gives_value}
-use Rattle.mini_laws.specs.Shared.{given_values, is_pattern, names_in_pattern, own_pattern_writes, write_at, written_by}
+use Rattle.mini_laws.specs.Resolved.{Environment}
+use Rattle.mini_laws.specs.Shared.{given_values, own_pattern_writes, write_at}
 use Rattle.mini_scope.specs.Declarators.{is_declarator_shape}
 use Rattle.mini_context.specs.declared.mentions.Mentioned.{Mentioned}
 use Rattle.mini_context.specs.Mentioned.{Joined}

@@ -8,13 +8,12 @@ use Rattle.mini_laws.specs.ScopeList.{scope_of_symbol, scopes_of, seen_by_eval}
 use Rattle.mini_laws.specs.Shared.{caught, module_names, program_var_writes, program_pattern_writes, reached_by_arguments}
 use Rattle.mini_laws.specs.Foreign.{imported_names, is_declared_in, lexical_variables, params_around, pattern_names, switched as switched_names}
 use Rattle.mini_context.specs.declared.listing.ScopeTables.{ScopeTables}
-use Rattle.mini_context.specs.declared.mentions.Mentioned.{Mentioned}
 use Rattle.mini_context.specs.declared.mentions.Mentioned.TheVariants.{Nowhere}
 use Rattle.mini_context.specs.declared.survey.Tables.{Tables}
 use Rattle.mini_context.specs.Enclosing.{is_around}
 use Rattle.mini_context.specs.Lists.{holds}
 use Rattle.mini_context.specs.Outside.{is_mentioned_outside}
-use Rattle.mini_context.specs.Mentioned.{is_outside, mentioned_at, Joined}
+use Rattle.mini_context.specs.Mentioned.{is_outside, mentioned_at}
 use Rattle.mini_context.specs.Tables.{mark_at, named, Marked}
 use Rattle.mini_context.specs.Visits.{is_writing}
 
