@@ -7,7 +7,7 @@ use mini_model::{Name, Shape};
 use mini_node::{Node, Nodes};
 use mini_unused::is_mentioned_from;
 
-// What writes a part of it.
+// Whether a node of this shape writes a part of it.
 fn is_writer(shape: &Shape) -> bool
     ensures { result ≡ reading.is_writer shape.now }
 {
@@ -20,7 +20,8 @@ fn is_writer(shape: &Shape) -> bool
     )
 }
 
-/// Whether a name like it stands in such a node.
+/// Whether a name with the spelling or the symbol of this one stands in a node of the tree that
+/// writes a part of it.
 #[cycle(writing)]
 pub fn writes(name: &Name, node: &Node) -> bool
     ensures { result ≡ reading.writes name.now node.now }
@@ -31,7 +32,7 @@ pub fn writes(name: &Name, node: &Node) -> bool
     any_write(name, node.children())
 }
 
-// Whether one does in one of these nodes.
+// Whether such a name stands in such a node of one of these trees.
 #[cycle(writing)]
 fn any_write(name: &Name, nodes: &Nodes) -> bool
     ensures { result ≡ reading.any_write name.now nodes.now }
