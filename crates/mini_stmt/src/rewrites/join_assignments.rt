@@ -253,7 +253,7 @@ pub fn beginning_of(node: &Node) -> &Node
     node.child(0)
 }
 
-/// Whether it begins with an assignment, which leaves a statement, or nothing.
+/// Whether the statement begins with an assignment, which leaves a statement, or nothing.
 pub fn assigns_first(node: &Node) -> bool
     ensures kind { result ≡ row.assigns_first node.now }
     ensures parts { result ≡ true → 0 < count (children node.now) }
