@@ -1,5 +1,5 @@
 -- How the names of an unscoped statement are used doesn't matter, but in a head.
-use Rattle.std.specs.Prelude.{ℕ, suc, ◌≡◌, refl, true, List, [], ◌++◌, Option}
+use Rattle.std.specs.Prelude.{ℕ, suc, ◌≡◌, refl, true, List, ◌++◌, Option}
 use Rattle.std.proofs.Common.{ap, sym, subst}
 use Rattle.mini_model.specs.declared.name.SymbolId.{SymbolId}
 use Rattle.mini_model.specs.Tree.{Tree, Trees, node, none, ◌▸◌}

@@ -6,13 +6,12 @@ use Rattle.mini_model.specs.declared.kind.PropertyKind.{PropertyKind}
 use Rattle.mini_model.specs.declared.name.Name.{Name}
 use Rattle.mini_model.specs.declared.place.Position.{Position}
 use Rattle.mini_model.specs.declared.place.Position.TheVariants.{Expr, Stmt, StatementList, BodyList, Elsewhere}
-use Rattle.mini_model.specs.declared.seat.Seat.{Seat}
 use Rattle.mini_model.specs.declared.seat.StmtSeat.{StmtSeat}
 use Rattle.mini_model.specs.declared.seat.StmtSeat.TheVariants as stmt_seat
 use Rattle.mini_model.specs.declared.shape.Shape.TheVariants as shape
 use Rattle.mini_model.specs.Tree.{Tree, Trees, node, none, ◌▸◌, count, shape_of, absent, listed, unresolved, identifier, is_absent}
 use Rattle.mini_model.specs.Paths.{append}
-use Rattle.mini_model.specs.Position.{argument_seat, statement_expression_seat, child_position}
+use Rattle.mini_model.specs.Position.{statement_expression_seat, child_position}
 use Rattle.mini_model.specs.Rewriting.{Step, here, inside, StepIn, first, later}
 use Rattle.mini_laws.specs.declared.names.Declared.{Declared}
 use Rattle.mini_laws.specs.declared.names.Declared.TheVariants as declared
@@ -20,7 +19,7 @@ use Rattle.mini_laws.specs.DeclaredNames.{has_inner, names_of, all_names, body_n
 use Rattle.mini_laws.specs.Scopes.{scopes_by, lexical_scope, opened}
 use Rattle.mini_laws.specs.Scoped.{Scoped}
 use Rattle.mini_laws.specs.Symbols.{declared as declared_in, symbols_in, times}
-use Rattle.mini_laws.specs.Early.{declarations, body_declarations, scope_declarations, early_names, targets_of, early_jumps, is_loop, Path, own_declarations}
+use Rattle.mini_laws.specs.Early.{scope_declarations, early_names, targets_of, early_jumps, is_loop, Path, own_declarations}
 use Rattle.mini_laws.specs.Value.{Variable}
 use Rattle.mini_laws.specs.Fixity.{stricter, fixed_by, fixed_by_any}
 use Rattle.mini_laws.specs.Bodies.{Around, bodies, bodies_from}
@@ -29,7 +28,6 @@ use Rattle.mini_kept.specs.Carried.{numbers}
 use Rattle.mini_kept.specs.Declaring.{declared as names_declared, declared_all}
 use Rattle.mini_kept.specs.Frames.{showing, shown_from, is_port, own, ports, frames, frames_from, FramesKept}
 use Rattle.mini_kept.specs.KeepsNames.{is_rewritten_place, Keeps, count_of}
-use Rattle.mini_kept.specs.KeepsLoosely.{KeepsLoosely}
 use Rattle.mini_kept.specs.Lifted.{is_piece, KeepsNames, KeepsRoot, InitStays}
 use Rattle.mini_kept.proofs.BodyLists.{kept_itself}
 use Rattle.mini_kept.proofs.Fixed.{of_children}

@@ -3,16 +3,15 @@ use Rattle.std.specs.Prelude.{Bool, Option}
 use Rattle.std.proofs.Common.{◌≡◌, ℕ, true, false, List, [], ◌∷◌, None, refl, sym, ap, ◌∙◌, subst, subst₂}
 use Rattle.mini_model.specs.declared.kind.VariableDeclarationKind.{VariableDeclarationKind}
 use Rattle.mini_model.specs.declared.name.Name.{Name}
-use Rattle.mini_model.specs.declared.shape.Shape.TheVariants as shape
 use Rattle.mini_model.specs.Tree.{Tree, Trees, node, none, ◌▸◌, listed, identifier}
 use Rattle.mini_model.specs.Paths.{append}
 use Rattle.mini_laws.specs.Value.{Value, Declared, VariableSet, Holds, choose, nothing}
 use Rattle.mini_laws.specs.State.{Stop, State, Completion, stop, either, Writes, Environment, with_vars}
 use Rattle.mini_laws.specs.Demand.{Tail, Val, As, Stat, Declares, Binds}
-use Rattle.mini_laws.specs.Command.{set_var, run}
+use Rattle.mini_laws.specs.Command.{set_var}
 use Rattle.mini_laws.specs.Naming.{summary, summaries, lets_all, is_lexical}
 use Rattle.mini_laws.specs.Same.{Goes, Agree, Same}
-use Rattle.mini_laws.specs.Step.{step, means, meaning}
+use Rattle.mini_laws.specs.Step.{means}
 use Rattle.mini_laws.specs.Substitution.{alone}
 use Rattle.mini_laws.specs.Congruence.{Avoids, AllAvoid}
 use Rattle.mini_laws.proofs.Congruent.{insensitive}

@@ -1,6 +1,6 @@
 -- A statement that isn't scoped uses names in one way, whether it stands in a list or alone, and declares the same symbols
 -- however it is used.
-use Rattle.std.specs.Prelude.{ℕ, zero, suc, ◌≡◌, refl, ◌⊎◌, Bool, true, false, List, [], ◌++◌}
+use Rattle.std.specs.Prelude.{ℕ, zero, suc, ◌≡◌, refl, ◌⊎◌, true, false, List, ◌++◌}
 use Rattle.std.proofs.Common.{inl, inr, ap, ◌∙◌, sym}
 use Rattle.mini_model.specs.declared.kind.VariableDeclarationKind.{VariableDeclarationKind}
 use Rattle.mini_model.specs.declared.kind.VariableDeclarationKind.TheVariants.{Var, Let, Const}
@@ -10,7 +10,7 @@ use Rattle.mini_model.specs.declared.shape.Shape.{Shape}
 use Rattle.mini_model.specs.declared.shape.Shape.TheVariants as shape
 use Rattle.mini_model.specs.Tree.{Tree, Trees, node, none, ◌▸◌}
 use Rattle.mini_laws.specs.declared.names.Use.{Use}
-use Rattle.mini_laws.specs.declared.names.Use.TheVariants.{Read, Write, Hoisted, Headed, Alone}
+use Rattle.mini_laws.specs.declared.names.Use.TheVariants.{Write, Hoisted, Headed}
 use Rattle.mini_laws.specs.declared.names.Binding.{Binding}
 use Rattle.mini_laws.specs.Scopes.{hoisted_by, use_of, opening_of, opened, scopes_by, at_or_empty}
 use Rattle.mini_laws.specs.Symbols.{symbols_in, declared as declared_in, declared_from}
