@@ -17,7 +17,8 @@ pub fn deeper()
     ensures { (k : ℕ) (l : ℕ) (d : Data) (t : Tree) (n : ℕ) → program_at k d ≡ Ok (t, n) → k ≤ l → program_at l d ≡ Ok (t, n) }
 {}
 
-/// What is refused within a depth, but not for want of it, is refused within any greater one, by the same fault.
+/// What is refused within a depth, but not for want of it, is refused within any greater one, by
+/// the same fault.
 pub fn refused_deeper()
     ensures { (k : ℕ) (l : ℕ) (d : Data) (f : Fault) → program_at k d ≡ Err f → (f.defect ≡ too_deep → ⊥) → k ≤ l → program_at l d ≡ Err f }
 {}
@@ -27,7 +28,8 @@ pub fn accepts_one_tree()
     ensures { (d : Data) (t : Tree) (u : Tree) → Accepts d t → Accepts d u → t ≡ u }
 {}
 
-/// Each fault is a defect of the node at its pointer; a node is too deep exactly where it is past the greatest depth.
+/// Each fault is a defect of the node at its pointer; a node is too deep exactly where it is past
+/// the greatest depth.
 pub fn faults_are_there()
     ensures { (k : ℕ) (d : Data) (f : Fault) → program_at k d ≡ Err f → Located k false (at a_program) d f }
 {}
@@ -47,8 +49,8 @@ pub fn accepted_is_well_shaped()
     ensures { (k : ℕ) (d : Data) (t : Tree) (n : ℕ) → program_at k d ≡ Ok (t, n) → IsWellShaped t }
 {}
 
-/// A text in UTF-8 is read as its units, none of which is a surrogate without a partner; these tell it from words in
-/// ASCII as its bytes do.
+/// A text in UTF-8 is read as its units, none of which is a surrogate without a partner; these tell
+/// it from words in ASCII as its bytes do.
 pub fn texts_are_read()
     ensures read { (s : List ℕ) → IsUtf8 s → paired_units s ≡ Some (units_of s) }
     ensures told { (w : List ℕ) (s : List ℕ) → IsAscii w → IsUtf8 s → is_text w (units_of s) ≡ is_text w s }

@@ -1,9 +1,9 @@
-//! Which JSON value of ESTree (ES5 to ES2022) is which tree of the plain form, or which defect it has: the table of
-//! types (`specs/Entries.antt`), and how values are read by it (`specs/Accept.antt`); and which trees of the plain form are
-//! programs (`specs/WellShaped.antt`).
+//! Which JSON value of ESTree (ES5 to ES2022) is which tree of the plain form, or which defect it
+//! has: the table of types (`specs/Entries.antt`), and how values are read by it
+//! (`specs/Accept.antt`); and which trees of the plain form are programs (`specs/WellShaped.antt`).
 //!
-//! Each value has a tree or a defect at each depth, since reading is a function. A tree that is accepted is well shaped;
-//! examples of each type of node are computed (`specs/Nodes.antt`).
+//! Each value has a tree or a defect at each depth, since reading is a function. A tree that is
+//! accepted is well shaped; examples of each type of node are computed (`specs/Nodes.antt`).
 #![tactic(auto)]
 
 mod kind;

@@ -29,9 +29,9 @@ use mini_tree::{LogicalOperator, Node, OutOfMemory, Seat};
 use std::alloc::Global;
 
 impl PeepholeOptimizations {
-    /// `x || (a, x = b)` becomes `x ||= (a, b)`, and so of `&&` and `??`, where an assignment has no parentheses in the seat that the
-    /// operator hasn't. The answer says whether it did; the only error is that memory runs out, and then the expression is fit only
-    /// to be dropped.
+    /// `x || (a, x = b)` becomes `x ||= (a, b)`, and so of `&&` and `??`, where an assignment has
+    /// no parentheses in the seat that the operator hasn't. The answer says whether it did; the
+    /// only error is that memory runs out, and then the expression is fit only to be dropped.
     pub fn minimize_logical_sequence(
         &self,
         alloc: Global,
@@ -44,9 +44,10 @@ impl PeepholeOptimizations {
         mini_choices::minimize_logical_sequence(alloc, node, seat)
     }
 
-    /// `x ? x : b` becomes `x || b`, `x ? b : x` becomes `x && b`, `a ? x = b : x = c` becomes `x = a ? b : c`, and so of `+=`,
-    /// `x == null ? b : x` becomes `x ?? b`, and `a ? f(p, r) : f(q, r)` becomes `f(a ? p : q, r)`. The answer says whether it did; the
-    /// only error is that memory runs out, and then the expression is fit only to be dropped.
+    /// `x ? x : b` becomes `x || b`, `x ? b : x` becomes `x && b`, `a ? x = b : x = c` becomes
+    /// `x = a ? b : c`, and so of `+=`, `x == null ? b : x` becomes `x ?? b`, and
+    /// `a ? f(p, r) : f(q, r)` becomes `f(a ? p : q, r)`. The answer says whether it did; the only
+    /// error is that memory runs out, and then the expression is fit only to be dropped.
     pub fn minimize_conditional_branches(
         &self,
         alloc: Global,
@@ -59,10 +60,11 @@ impl PeepholeOptimizations {
         mini_choices::minimize_conditional_branches(alloc, node, seat)
     }
 
-    /// A branch that stands in two places of a conditional is written once, where that is lighter: `a ? b ? c : d : d` becomes
-    /// `a && b ? c : d`, `a ? b || c : c` becomes `a && b || c`, `a ? (b, c) : c` becomes `a && b, c`, the same of the alternate with
-    /// `||`, and `a ? b : b` becomes `a, b`. The answer says whether it did; the only error is that memory runs out, and then the
-    /// expression is fit only to be dropped.
+    /// A branch that stands in two places of a conditional is written once, where that is lighter:
+    /// `a ? b ? c : d : d` becomes `a && b ? c : d`, `a ? b || c : c` becomes `a && b || c`,
+    /// `a ? (b, c) : c` becomes `a && b, c`, the same of the alternate with `||`, and `a ? b : b`
+    /// becomes `a, b`. The answer says whether it did; the only error is that memory runs out, and
+    /// then the expression is fit only to be dropped.
     pub fn minimize_held_branches(
         &self,
         alloc: Global,
@@ -75,9 +77,11 @@ impl PeepholeOptimizations {
         mini_choices::minimize_held_branches(alloc, node, seat)
     }
 
-    /// `x == null ? void 0 : x.m` becomes `x?.m`, and so do other members and calls over x, and `x != null ? x.m : void 0`; where a scope
-    /// declares x, and it isn't named `eval`. As a callee and under `delete` the chain stands behind a `0`, so that its value is read. The answer
-    /// says whether it did; the only error is that memory runs out, and then the expression is fit only to be dropped.
+    /// `x == null ? void 0 : x.m` becomes `x?.m`, and so do other members and calls over x, and
+    /// `x != null ? x.m : void 0`; where a scope declares x, and it isn't named `eval`. As a callee
+    /// and under `delete` the chain stands behind a `0`, so that its value is read. The answer says
+    /// whether it did; the only error is that memory runs out, and then the expression is fit only
+    /// to be dropped.
     pub fn inject_optional_chaining(
         &self,
         alloc: Global,
@@ -90,8 +94,9 @@ impl PeepholeOptimizations {
         mini_choices::inject_optional_chaining(alloc, node, seat)
     }
 
-    /// `x = x + b` becomes `x += b`, and so of the other operators of numbers. The answer says whether it did; the only error is that
-    /// memory runs out, and then the expression is fit only to be dropped.
+    /// `x = x + b` becomes `x += b`, and so of the other operators of numbers. The answer says
+    /// whether it did; the only error is that memory runs out, and then the expression is fit only
+    /// to be dropped.
     pub fn minimize_normal_assignment_to_combined_assignment(
         &self,
         alloc: Global,
@@ -103,8 +108,9 @@ impl PeepholeOptimizations {
         mini_choices::minimize_normal_assignment_to_combined_assignment(alloc, node)
     }
 
-    /// `x = x || b` becomes `x ||= b`, and so of `&&` and `??`, where the program mentions x as a name that can be written. The answer says
-    /// whether it did; the only error is that memory runs out, and then the expression is fit only to be dropped.
+    /// `x = x || b` becomes `x ||= b`, and so of `&&` and `??`, where the program mentions x as a
+    /// name that can be written. The answer says whether it did; the only error is that memory runs
+    /// out, and then the expression is fit only to be dropped.
     pub fn minimize_normal_assignment_to_combined_logical_assignment(
         &self,
         alloc: Global,
@@ -117,9 +123,10 @@ impl PeepholeOptimizations {
         mini_choices::minimize_normal_assignment_to_combined_logical_assignment(alloc, node, scopes)
     }
 
-    /// `x === null || x === undefined` becomes `x == null`, and `x !== null && x !== undefined` becomes `x != null`, in any order, and
-    /// after an equal operator to the left. The answer says whether it did; the only error is that memory runs out, and then the
-    /// expression is fit only to be dropped.
+    /// `x === null || x === undefined` becomes `x == null`, and `x !== null && x !== undefined`
+    /// becomes `x != null`, in any order, and after an equal operator to the left. The answer says
+    /// whether it did; the only error is that memory runs out, and then the expression is fit only
+    /// to be dropped.
     pub fn minimize_nullish_comparison(
         &self,
         alloc: Global,
@@ -131,8 +138,9 @@ impl PeepholeOptimizations {
         mini_choices::minimize_nullish_comparison(alloc, node)
     }
 
-    /// `(x = a) == null ? b : x` becomes `(x = a) ?? b`, and so does `(x = a) != null ? x : b`, where the program mentions x as a name that can be
-    /// written. The answer says whether it did; the only error is that memory runs out, and then the expression is fit only to be dropped.
+    /// `(x = a) == null ? b : x` becomes `(x = a) ?? b`, and so does `(x = a) != null ? x : b`,
+    /// where the program mentions x as a name that can be written. The answer says whether it did;
+    /// the only error is that memory runs out, and then the expression is fit only to be dropped.
     pub fn minimize_assigned_comparison(
         &self,
         alloc: Global,
@@ -145,9 +153,10 @@ impl PeepholeOptimizations {
         mini_choices::minimize_assigned_comparison(alloc, node, scopes)
     }
 
-    /// `typeof x == "object" && x !== null` becomes `typeof x == "object" && !!x`, and `typeof x != "object" || x === null` becomes
-    /// `typeof x != "object" || !x`, in any order, and after an equal operator to the left. The answer says whether it did; the only
-    /// error is that memory runs out, and then the expression is fit only to be dropped.
+    /// `typeof x == "object" && x !== null` becomes `typeof x == "object" && !!x`, and
+    /// `typeof x != "object" || x === null` becomes `typeof x != "object" || !x`, in any order, and
+    /// after an equal operator to the left. The answer says whether it did; the only error is that
+    /// memory runs out, and then the expression is fit only to be dropped.
     pub fn substitute_is_object_and_not_null(
         &self,
         alloc: Global,
@@ -159,8 +168,9 @@ impl PeepholeOptimizations {
         mini_choices::substitute_is_object_and_not_null(alloc, node)
     }
 
-    /// `a && (b && c)` becomes `a && b && c`, and so of `||` and `??`, however many operands stand on the right. The answer says whether
-    /// it did; the only error is that memory runs out, and then the expression is fit only to be dropped.
+    /// `a && (b && c)` becomes `a && b && c`, and so of `||` and `??`, however many operands stand
+    /// on the right. The answer says whether it did; the only error is that memory runs out, and
+    /// then the expression is fit only to be dropped.
     pub fn substitute_rotate_logical_expression(
         &self,
         alloc: Global,
@@ -172,9 +182,11 @@ impl PeepholeOptimizations {
         mini_choices::substitute_rotate_logical_expression(alloc, node)
     }
 
-    /// `(x = a) === null || x === undefined` becomes `(x = a) == null`, and `(x = a) !== null && x !== undefined` becomes `(x = a) != null`, in
-    /// any order, and after an equal operator to the left, where the program mentions x as a name that can be written. The answer says whether
-    /// it did; the only error is that memory runs out, and then the expression is fit only to be dropped.
+    /// `(x = a) === null || x === undefined` becomes `(x = a) == null`, and
+    /// `(x = a) !== null && x !== undefined` becomes `(x = a) != null`, in any order, and after an
+    /// equal operator to the left, where the program mentions x as a name that can be written. The
+    /// answer says whether it did; the only error is that memory runs out, and then the expression
+    /// is fit only to be dropped.
     pub fn minimize_assigned_nullish_comparison(
         &self,
         alloc: Global,
@@ -187,9 +199,10 @@ impl PeepholeOptimizations {
         mini_choices::minimize_assigned_nullish_comparison(alloc, node, scopes)
     }
 
-    /// A logical expression whose left side is known to let the right one be evaluated becomes both in order, where that is lighter:
-    /// `(x = []) && b` becomes `x = [], b`, `void f() || b` becomes `void f(), b`, and `void f() ?? b` the same. The answer says whether
-    /// it did; the only error is that memory runs out, and then the expression is fit only to be dropped.
+    /// A logical expression whose left side is known to let the right one be evaluated becomes both
+    /// in order, where that is lighter: `(x = []) && b` becomes `x = [], b`, `void f() || b`
+    /// becomes `void f(), b`, and `void f() ?? b` the same. The answer says whether it did; the
+    /// only error is that memory runs out, and then the expression is fit only to be dropped.
     pub fn evaluate_both_sides(
         &self,
         alloc: Global,
@@ -202,9 +215,10 @@ impl PeepholeOptimizations {
         mini_choices::evaluate_both_sides(alloc, node, seat)
     }
 
-    /// Where a sequence is of two parts, of which the first has no effect, a literal 0 stands for it, if that is lighter: `(null, a.b)()` becomes
-    /// `(0, a.b)()`, where the last part would be read as a reference alone. The answer says whether it did; the only error is that memory runs out, and
-    /// then the expression is fit only to be dropped.
+    /// Where a sequence is of two parts, of which the first has no effect, a literal 0 stands for
+    /// it, if that is lighter: `(null, a.b)()` becomes `(0, a.b)()`, where the last part would be
+    /// read as a reference alone. The answer says whether it did; the only error is that memory
+    /// runs out, and then the expression is fit only to be dropped.
     pub fn minimize_first_part(
         &self,
         alloc: Global,
@@ -217,9 +231,10 @@ impl PeepholeOptimizations {
         mini_choices::minimize_first_part(alloc, node, seat)
     }
 
-    /// `(x = a) == null ? void 0 : x.m` becomes `(x = a)?.m`, and so do other members and calls over x, and `(x = a) != null ? x.m : void 0`,
-    /// where the program mentions x as a name that can be written, and it isn't named `eval`. The answer says whether it did; the only error
-    /// is that memory runs out, and then the expression is fit only to be dropped.
+    /// `(x = a) == null ? void 0 : x.m` becomes `(x = a)?.m`, and so do other members and calls
+    /// over x, and `(x = a) != null ? x.m : void 0`, where the program mentions x as a name that
+    /// can be written, and it isn't named `eval`. The answer says whether it did; the only error is
+    /// that memory runs out, and then the expression is fit only to be dropped.
     pub fn inject_assigned_chaining(
         &self,
         alloc: Global,
@@ -233,9 +248,9 @@ impl PeepholeOptimizations {
         mini_choices::inject_assigned_chaining(alloc, node, seat, scopes)
     }
 
-    /// `a || b`, where b may be of `||` itself, and so of `&&` and `??`: of `a` and `b || c` it makes `a || b || c`. It means what the
-    /// operator over the two does, and its right operand is not of the operator (`left_joins_mean_the_same`). The only error is that
-    /// memory runs out.
+    /// `a || b`, where b may be of `||` itself, and so of `&&` and `??`: of `a` and `b || c` it
+    /// makes `a || b || c`. It means what the operator over the two does, and its right operand is
+    /// not of the operator (`left_joins_mean_the_same`). The only error is that memory runs out.
     pub fn join_with_left_associative_op(
         &self,
         alloc: Global,
@@ -248,10 +263,12 @@ impl PeepholeOptimizations {
         mini_choices::join_with_left_associative_op(alloc, operator, first, second)
     }
 
-    /// `null?.a` becomes `void 0`, where what stands before `?.` is known to be null or undefined, and where it has an effect, it stays:
-    /// `(void f())?.a.b.c.d` becomes `void f(), void 0`, each where it is lighter; `(a?.b)?.c` becomes `a?.b?.c`; and `[1]?.length` becomes
-    /// `[1].length`, where what stands before `?.` is known to be neither; whatever links stand outside. The answer says whether it did; the
-    /// only error is that memory runs out, and then the expression is fit only to be dropped.
+    /// `null?.a` becomes `void 0`, where what stands before `?.` is known to be null or undefined,
+    /// and where it has an effect, it stays: `(void f())?.a.b.c.d` becomes `void f(), void 0`, each
+    /// where it is lighter; `(a?.b)?.c` becomes `a?.b?.c`; and `[1]?.length` becomes `[1].length`,
+    /// where what stands before `?.` is known to be neither; whatever links stand outside. The
+    /// answer says whether it did; the only error is that memory runs out, and then the expression
+    /// is fit only to be dropped.
     pub fn fold_chain_expr(
         &self,
         alloc: Global,
@@ -264,8 +281,8 @@ impl PeepholeOptimizations {
         mini_choices::fold_chain_expr(alloc, node, seat)
     }
 
-    /// `(a?.b)?.c` becomes `a?.b?.c`, whatever links stand outside. The answer says whether it did; the only error is that memory runs out, and then
-    /// the expression is fit only to be dropped.
+    /// `(a?.b)?.c` becomes `a?.b?.c`, whatever links stand outside. The answer says whether it did;
+    /// the only error is that memory runs out, and then the expression is fit only to be dropped.
     pub fn substitute_chain_expression(
         &self,
         alloc: Global,
@@ -277,10 +294,12 @@ impl PeepholeOptimizations {
         mini_choices::substitute_chain_expression(alloc, node)
     }
 
-    /// Where an expression is a member, a call or more of these over the name, which a scope declares, and which isn't `eval`, the value goes into the
-    /// place of the name, the first link becomes optional, and the expression a chain: of `x.m(b)` and the value `x = a` it makes `(x = a)?.m(b)`, and
-    /// leaves `void 0` as the value. Else nothing changes. The answer says whether it did; the only error is that memory runs out, and then both are
-    /// fit only to be dropped.
+    /// Where an expression is a member, a call or more of these over the name, which a scope
+    /// declares, and which isn't `eval`, the value goes into the place of the name, the first link
+    /// becomes optional, and the expression a chain: of `x.m(b)` and the value `x = a` it makes
+    /// `(x = a)?.m(b)`, and leaves `void 0` as the value. Else nothing changes. The answer says
+    /// whether it did; the only error is that memory runs out, and then both are fit only to be
+    /// dropped.
     pub fn inject_optional_chaining_if_matched(
         &self,
         alloc: Global,
@@ -295,16 +314,16 @@ impl PeepholeOptimizations {
         mini_choices::inject_optional_chaining_if_matched(alloc, target, value, expression)
     }
 
-    /// The name, where an expression is one, and the one that it assigns to, where it is an assignment by `=` to a name: x of `x` and of `x = a`. None
-    /// of everything else.
+    /// The name, where an expression is one, and the one that it assigns to, where it is an
+    /// assignment by `=` to a name: x of `x` and of `x = a`. None of everything else.
     pub fn extract_id_or_assign_to_id<'a>(&self, expression: &'a Node) -> Option<&'a Node>
         ensures { option_copied result ≡ name.assigned_name expression.now }
     {
         mini_choices::extract_id_or_assign_to_id(expression)
     }
 
-    /// Whether an expression reads what is assigned to, and this is a name, or a member of a name with a key that is written out, so that `x.k = x.k + b`
-    /// may become `x.k += b`.
+    /// Whether an expression reads what is assigned to, and this is a name, or a member of a name
+    /// with a key that is written out, so that `x.k = x.k + b` may become `x.k += b`.
     pub fn has_no_side_effect_for_evaluation_same_target(
         &self,
         target: &Node,
@@ -315,7 +334,8 @@ impl PeepholeOptimizations {
         mini_choices::has_no_side_effect_for_evaluation_same_target(target, expression)
     }
 
-    /// Whether what is read is the name that is assigned to, so that `x || (x = b)` may become `x ||= b`.
+    /// Whether what is read is the name that is assigned to, so that `x || (x = b)` may become
+    /// `x ||= b`.
     pub fn can_compress_to_logical_assignment(&self, target: &Node, read: &Node) -> bool
         ensures { result ≡ is_same_name target.now read.now }
     {

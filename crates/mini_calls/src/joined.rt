@@ -1,4 +1,5 @@
-//! Calls of several crates as one, each where those before it have nothing to do: of conditionals, and of logical expressions.
+//! Calls of several crates as one, each where those before it have nothing to do: of conditionals,
+//! and of logical expressions.
 
 ghost use Rattle.mini_calls.specs.Joined as joined;
 ghost use Rattle.mini_choices.specs.MinimizeNormalAssignmentToCombinedLogicalAssignment.{marked};
@@ -152,10 +153,12 @@ fn logical(alloc: Global, node: &mut Node, seat: Seat, scopes: &Scopes) -> Resul
 }
 
 impl PeepholeOptimizations {
-    /// `!a ? b : c` becomes `a ? c : b`, `a ? !0 : b` `!!a || b`, `a ? b : b` `a, b`, `x ? x : b` `x || b`, `a ? b ? c : d : d` `a && b ? c : d`,
-    /// `a ? f(p) : f(q)` `f(a ? p : q)`, `x == null ? b : x` `x ?? b`, and `x == null ? void 0 : x.m` `x?.m`, the last two also of `(x = a)` where the program
-    /// mentions x as a name that can be written; each where it is lighter. The answer says whether one was done; the only error is that memory runs out,
-    /// and then the expression is fit only to be dropped.
+    /// `!a ? b : c` becomes `a ? c : b`, `a ? !0 : b` `!!a || b`, `a ? b : b` `a, b`, `x ? x : b`
+    /// `x || b`, `a ? b ? c : d : d` `a && b ? c : d`, `a ? f(p) : f(q)` `f(a ? p : q)`,
+    /// `x == null ? b : x` `x ?? b`, and `x == null ? void 0 : x.m` `x?.m`, the last two also of
+    /// `(x = a)` where the program mentions x as a name that can be written; each where it is
+    /// lighter. The answer says whether one was done; the only error is that memory runs out, and
+    /// then the expression is fit only to be dropped.
     pub fn minimize_conditional_expression(
         &self,
         alloc: Global,
@@ -173,8 +176,8 @@ impl PeepholeOptimizations {
         }
     }
 
-    /// The conditional of three parts, as `minimize_conditional_expression` writes it once: of `!a`, b and c it is `a ? c : b`. The only error is that
-    /// memory runs out.
+    /// The conditional of three parts, as `minimize_conditional_expression` writes it once: of
+    /// `!a`, b and c it is `a ? c : b`. The only error is that memory runs out.
     pub fn minimize_conditional(
         &self,
         alloc: Global,
@@ -191,9 +194,10 @@ impl PeepholeOptimizations {
         Ok(node)
     }
 
-    /// `x === null || x === undefined` becomes `x == null`, also of `(x = a)` where the program mentions x as a name that can be written, and `x || (x = b)`
-    /// `x ||= b`, and so of `&&` and `??`. The answer says whether one was done; the only error is that memory runs out, and then the expression is fit
-    /// only to be dropped.
+    /// `x === null || x === undefined` becomes `x == null`, also of `(x = a)` where the program
+    /// mentions x as a name that can be written, and `x || (x = b)` `x ||= b`, and so of `&&` and
+    /// `??`. The answer says whether one was done; the only error is that memory runs out, and then
+    /// the expression is fit only to be dropped.
     pub fn minimize_logical_expression(
         &self,
         alloc: Global,

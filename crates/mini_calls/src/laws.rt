@@ -1,5 +1,5 @@
-//! What each call writes that is one rewrite of many, and its own rows: what is written is what one of them says, and where nothing is
-//! none of them reads the node.
+//! What each call writes that is one rewrite of many, and its own rows: what is written is what one
+//! of them says, and where nothing is none of them reads the node.
 
 ghost use Rattle.mini_calls.specs.Joined as joined;
 ghost use Rattle.mini_calls.specs.OwnRows.{AndOrRow, AnyKey, BinaryRow, BitwiseRow, BothIn, Changing, CoalesceRow, CombinedRow, ComparisonRow, ConditionalRow, DecisionRow, DottedRow, Fitting, HeldIn, HeldKey, IdleHeadRow, LengthRow, LogicalRow, LooseRow, ObjectRow, OperatorRow, Own, OwnIn, PlusRow, SideRow, TargetKey, TypeofRow, UnaryRow, UndefinedRow, Weighed, ZeroIn, deletes, negated};
@@ -109,7 +109,8 @@ pub fn choices_are_own_rows()
     ensures assigned_chain { (W : VariableSet) → OwnIn (assigned_chain.written W) (Row46AssignedChain W) }
 {}
 
-/// The two calls that join those of several crates: 37 and 38; 40 to 49, and 26 where only the truth is asked.
+/// The two calls that join those of several crates: 37 and 38; 40 to 49, and 26 where only the
+/// truth is asked.
 pub fn joined_calls_are_own_rows()
     ensures logical { (W : VariableSet) → OwnIn (joined.logical_written W) (DecisionRow W) }
     ensures conditional { (W : VariableSet) → Weighed (joined.conditional_written W) (ConditionalRow W) }

@@ -1,5 +1,6 @@
-//! Every rewrite of the minifier by itself, under its name, for who wants one and not all: each call is that of the crate of
-//! rewrites that has it, or the first of several that writes something, and adds nothing.
+//! Every rewrite of the minifier by itself, under its name, for who wants one and not all: each
+//! call is that of the crate of rewrites that has it, or the first of several that writes
+//! something, and adds nothing.
 #![tactic(auto)]
 
 mod choices;

@@ -30,8 +30,8 @@ use mini_tree::{Node, OutOfMemory, Position};
 use std::alloc::Global;
 
 impl PeepholeOptimizations {
-    /// `true` becomes `!0`, and `false` becomes `!1`. The answer says whether it did; the only error is that memory runs out,
-    /// and then the expression is fit only to be dropped.
+    /// `true` becomes `!0`, and `false` becomes `!1`. The answer says whether it did; the only
+    /// error is that memory runs out, and then the expression is fit only to be dropped.
     pub fn substitute_boolean(&self, alloc: Global, node: &mut Node) -> Result<bool, OutOfMemory>
         ensures tree { OnOk result (node.new ≡ unwrap_or (written node.old) node.old) }
         ensures said { IfOk result (λ changed. changed ≡ is_some (written node.old)) }
@@ -39,8 +39,8 @@ impl PeepholeOptimizations {
         mini_syntax::substitute_boolean(alloc, node)
     }
 
-    /// A template without expressions becomes its text, as abc in backticks becomes `"abc"`. The answer says whether it did; the only
-    /// error is that memory runs out.
+    /// A template without expressions becomes its text, as abc in backticks becomes `"abc"`. The
+    /// answer says whether it did; the only error is that memory runs out.
     pub fn substitute_template_literal(
         &self,
         alloc: Global,
@@ -52,8 +52,9 @@ impl PeepholeOptimizations {
         mini_syntax::substitute_template_literal(alloc, node)
     }
 
-    /// `o["x"]` becomes `o.x`, and `o["1"]` becomes `o[1]`, also where the member is assigned to or updated. The answer says
-    /// whether it did; the only error is that memory runs out, and then the expression is fit only to be dropped.
+    /// `o["x"]` becomes `o.x`, and `o["1"]` becomes `o[1]`, also where the member is assigned to or
+    /// updated. The answer says whether it did; the only error is that memory runs out, and then
+    /// the expression is fit only to be dropped.
     pub fn convert_to_dotted_properties(
         &self,
         alloc: Global,
@@ -65,8 +66,9 @@ impl PeepholeOptimizations {
         mini_syntax::convert_to_dotted_properties(alloc, node)
     }
 
-    /// `1 == b` becomes `b == 1`, where the left side of an equality is a value written out and the right side isn't. The answer
-    /// says whether it did; the only error is that memory runs out, and then the expression is fit only to be dropped.
+    /// `1 == b` becomes `b == 1`, where the left side of an equality is a value written out and the
+    /// right side isn't. The answer says whether it did; the only error is that memory runs out,
+    /// and then the expression is fit only to be dropped.
     pub fn substitute_swap_binary_expressions(
         &self,
         alloc: Global,
@@ -78,9 +80,10 @@ impl PeepholeOptimizations {
         mini_syntax::substitute_swap_binary_expressions(alloc, node)
     }
 
-    /// `typeof x == "undefined"` becomes `typeof x > "u"`, of a name that no scope declares and any of the four equalities; of what `typeof`
-    /// reads by its value it becomes `x === void 0`. The answer says
-    /// whether it did; the only error is that memory runs out, and then the expression is fit only to be dropped.
+    /// `typeof x == "undefined"` becomes `typeof x > "u"`, of a name that no scope declares and any
+    /// of the four equalities; of what `typeof` reads by its value it becomes `x === void 0`. The
+    /// answer says whether it did; the only error is that memory runs out, and then the expression
+    /// is fit only to be dropped.
     pub fn substitute_typeof_undefined(
         &self,
         alloc: Global,
@@ -92,8 +95,9 @@ impl PeepholeOptimizations {
         mini_syntax::substitute_typeof_undefined(alloc, node)
     }
 
-    /// `typeof a == "undefined"` becomes `a === void 0`, of what `typeof` reads by its value and any of the four equalities (ECMA-262, "The
-    /// typeof Operator"). The answer says whether it did; the only error is that memory runs out, and then the expression is fit only to be
+    /// `typeof a == "undefined"` becomes `a === void 0`, of what `typeof` reads by its value and
+    /// any of the four equalities (ECMA-262, "The typeof Operator"). The answer says whether it
+    /// did; the only error is that memory runs out, and then the expression is fit only to be
     /// dropped.
     pub fn substitute_typeof_value(
         &self,
@@ -106,8 +110,8 @@ impl PeepholeOptimizations {
         mini_syntax::substitute_typeof_value(alloc, node)
     }
 
-    /// `undefined` or `void 0` in `==` and `!=` becomes `null`. The answer says whether it did; the only error is that memory
-    /// runs out, and then the expression is fit only to be dropped.
+    /// `undefined` or `void 0` in `==` and `!=` becomes `null`. The answer says whether it did; the
+    /// only error is that memory runs out, and then the expression is fit only to be dropped.
     pub fn substitute_loose_equals_undefined(
         &self,
         alloc: Global,
@@ -119,8 +123,9 @@ impl PeepholeOptimizations {
         mini_syntax::substitute_loose_equals_undefined(alloc, node)
     }
 
-    /// `return undefined;`, `return void 0;` and `return void a;`, where a has no effect, become `return;`. The answer says whether it
-    /// did; the only error is that memory runs out, and then the statement is as it was.
+    /// `return undefined;`, `return void 0;` and `return void a;`, where a has no effect, become
+    /// `return;`. The answer says whether it did; the only error is that memory runs out, and then
+    /// the statement is as it was.
     pub fn substitute_return_statement(
         &self,
         alloc: Global,
@@ -132,8 +137,8 @@ impl PeepholeOptimizations {
         mini_syntax::substitute_return_statement(alloc, node)
     }
 
-    /// `yield void 0` becomes `yield`. The answer says whether it did; the only error is that memory runs out, and then the
-    /// expression is fit only to be dropped.
+    /// `yield void 0` becomes `yield`. The answer says whether it did; the only error is that
+    /// memory runs out, and then the expression is fit only to be dropped.
     pub fn substitute_yield_expression(
         &self,
         alloc: Global,
@@ -145,7 +150,8 @@ impl PeepholeOptimizations {
         mini_syntax::substitute_yield_expression(alloc, node)
     }
 
-    /// `() => { return a; }` becomes `() => a`. The answer says whether it did; the only error is that memory runs out.
+    /// `() => { return a; }` becomes `() => a`. The answer says whether it did; the only error is
+    /// that memory runs out.
     pub fn substitute_arrow_expression(
         &self,
         alloc: Global,
@@ -157,17 +163,18 @@ impl PeepholeOptimizations {
         mini_syntax::substitute_arrow_expression(alloc, node)
     }
 
-    /// A `let` loses an initializer that is `undefined` or `void 0`, as a statement of a list or in the head of a `for`. The answer
-    /// says whether one did.
+    /// A `let` loses an initializer that is `undefined` or `void 0`, as a statement of a list or in
+    /// the head of a `for`. The answer says whether one did.
     pub fn substitute_variable_declaration(&self, node: &mut Node, place: Position) -> bool
         ensures { Applied place node.old node.new result }
     {
         mini_syntax::substitute_variable_declaration(node, place)
     }
 
-    /// Shortens the keys of an object literal: `{ ["x"]: a }` and `{ "x": a }` become `{ x: a }`, `{ "1": a }` becomes `{ 1: a }`, and
-    /// `{ x: x }` becomes `{ x }`. A key `__proto__` stays, but of a method, a getter or a setter. The answer says whether anything
-    /// changed; the only error is that memory runs out, and then the literal is fit only to be dropped.
+    /// Shortens the keys of an object literal: `{ ["x"]: a }` and `{ "x": a }` become `{ x: a }`,
+    /// `{ "1": a }` becomes `{ 1: a }`, and `{ x: x }` becomes `{ x }`. A key `__proto__` stays,
+    /// but of a method, a getter or a setter. The answer says whether anything changed; the only
+    /// error is that memory runs out, and then the literal is fit only to be dropped.
     pub fn substitute_object_property(
         &self,
         alloc: Global,
@@ -179,8 +186,9 @@ impl PeepholeOptimizations {
         mini_syntax::substitute_object_property(alloc, node)
     }
 
-    /// Shortens the key of a property of a pattern, of a method or of a field: `"x"` becomes `x`, and `"1"` becomes `1`. A key in brackets
-    /// and a private name stay. The answer says whether it did.
+    /// Shortens the key of a property of a pattern, of a method or of a field: `"x"` becomes `x`,
+    /// and `"1"` becomes `1`. A key in brackets and a private name stay. The answer says whether it
+    /// did.
     pub fn substitute_property_key(&self, alloc: Global, node: &mut Node) -> bool
         ensures tree { node.new ≡ spelled node.old }
         ensures said { result ≡ is_spelled node.old }
@@ -188,9 +196,11 @@ impl PeepholeOptimizations {
         mini_syntax::substitute_property_key(alloc, node)
     }
 
-    /// Shortens the key of a property of a pattern, of a method or of a field: `["x"]` and `"x"` become `x`, `[1]` and `"1"` become `1`.
-    /// Brackets stay in a parameter, where `should_keep_as_computed_property`, and in a pattern that is declared, whose declaration
-    /// drops them. The answer says whether anything changed; the only error is that memory runs out.
+    /// Shortens the key of a property of a pattern, of a method or of a field: `["x"]` and `"x"`
+    /// become `x`, `[1]` and `"1"` become `1`. Brackets stay in a parameter, where
+    /// `should_keep_as_computed_property`, and in a pattern that is declared, whose declaration
+    /// drops them. The answer says whether anything changed; the only error is that memory runs
+    /// out.
     pub fn substitute_key(&self, alloc: Global, node: &mut Node) -> Result<bool, OutOfMemory>
         ensures tree { OnOk result (node.new ≡ key_written node.old) }
         ensures said { IfOk result (λ changed. changed ≡ is_key_written node.old) }
@@ -198,8 +208,9 @@ impl PeepholeOptimizations {
         mini_syntax::substitute_key(alloc, node)
     }
 
-    /// Shortens the key of a property of a pattern that is assigned to: `[{ ["x"]: a } = b]` becomes `[{ x: a } = b]`. Brackets stay where
-    /// `should_keep_as_computed_property`. The answer says whether anything changed; the only error is that memory runs out.
+    /// Shortens the key of a property of a pattern that is assigned to: `[{ ["x"]: a } = b]`
+    /// becomes `[{ x: a } = b]`. Brackets stay where `should_keep_as_computed_property`. The answer
+    /// says whether anything changed; the only error is that memory runs out.
     pub fn substitute_assignment_target_property_property(
         &self,
         alloc: Global,
@@ -211,8 +222,9 @@ impl PeepholeOptimizations {
         mini_syntax::substitute_assignment_target_property_property(alloc, node)
     }
 
-    /// Shortens the key of a method of a class: `["x"]() {}` and `"x"() {}` become `x() {}`. Brackets stay where
-    /// `should_keep_as_computed_property`. The answer says whether anything changed; the only error is that memory runs out.
+    /// Shortens the key of a method of a class: `["x"]() {}` and `"x"() {}` become `x() {}`.
+    /// Brackets stay where `should_keep_as_computed_property`. The answer says whether anything
+    /// changed; the only error is that memory runs out.
     pub fn substitute_method_definition(
         &self,
         alloc: Global,
@@ -224,8 +236,9 @@ impl PeepholeOptimizations {
         mini_syntax::substitute_method_definition(alloc, node)
     }
 
-    /// Shortens the key of a field of a class: `["x"] = a` and `"x" = a` become `x = a`. Brackets stay where
-    /// `should_keep_as_computed_property`. The answer says whether anything changed; the only error is that memory runs out.
+    /// Shortens the key of a field of a class: `["x"] = a` and `"x" = a` become `x = a`. Brackets
+    /// stay where `should_keep_as_computed_property`. The answer says whether anything changed; the
+    /// only error is that memory runs out.
     pub fn substitute_property_definition(
         &self,
         alloc: Global,
@@ -237,8 +250,9 @@ impl PeepholeOptimizations {
         mini_syntax::substitute_property_definition(alloc, node)
     }
 
-    /// A property that is assigned to becomes the shorthand, as `x: x` becomes `x`, or its key is spelled otherwise, as of `"x": a` and `["x"]: a`.
-    /// The answer says whether anything changed; the only error is that memory runs out, and then the property is fit only to be dropped.
+    /// A property that is assigned to becomes the shorthand, as `x: x` becomes `x`, or its key is
+    /// spelled otherwise, as of `"x": a` and `["x"]: a`. The answer says whether anything changed;
+    /// the only error is that memory runs out, and then the property is fit only to be dropped.
     pub fn substitute_assignment_target_property(
         &self,
         alloc: Global,
@@ -250,8 +264,9 @@ impl PeepholeOptimizations {
         mini_syntax::substitute_assignment_target_property(alloc, node)
     }
 
-    /// Drops the brackets of the first key in the pattern of a declarator or a `catch` that is a text or a whole number from 0:
-    /// `let { ["x"]: a } = b` becomes `let { "x": a } = b`. The answer says whether there is one; the only error is that memory runs out.
+    /// Drops the brackets of the first key in the pattern of a declarator or a `catch` that is a
+    /// text or a whole number from 0: `let { ["x"]: a } = b` becomes `let { "x": a } = b`. The
+    /// answer says whether there is one; the only error is that memory runs out.
     pub fn substitute_binding_property(
         &self,
         alloc: Global,
@@ -263,8 +278,9 @@ impl PeepholeOptimizations {
         mini_syntax::substitute_binding_property(alloc, node)
     }
 
-    /// A property of a pattern that is assigned to becomes the shorthand where its key is the name that is assigned to: `x: x` becomes `x`,
-    /// and `x: x = d` becomes `x = d` (ECMA-262, "Destructuring Assignment", AssignmentProperty). The answer says whether it did; the only
+    /// A property of a pattern that is assigned to becomes the shorthand where its key is the name
+    /// that is assigned to: `x: x` becomes `x`, and `x: x = d` becomes `x = d` (ECMA-262,
+    /// "Destructuring Assignment", AssignmentProperty). The answer says whether it did; the only
     /// error is that memory runs out, and then the property is fit only to be dropped.
     pub fn try_compress_assignment_target_property(
         &self,
@@ -277,8 +293,8 @@ impl PeepholeOptimizations {
         mini_syntax::try_compress_assignment_target_property(alloc, node)
     }
 
-    /// A `switch` of one case becomes an `if`, or of `default` alone a block. The answer says whether it did; the only error is that
-    /// memory runs out.
+    /// A `switch` of one case becomes an `if`, or of `default` alone a block. The answer says
+    /// whether it did; the only error is that memory runs out.
     pub fn minimize_switch_statement(
         &self,
         alloc: Global,
@@ -290,8 +306,9 @@ impl PeepholeOptimizations {
         mini_switch::minimize_switch_statement(alloc, node)
     }
 
-    /// A `switch` over a value that is known keeps one case, with the statements that run: `switch (2) { case 1: a(); case 2: b(); }`
-    /// becomes `switch (2) { case 2: b(); }`. The answer says whether cases went; the only error is that memory runs out.
+    /// A `switch` over a value that is known keeps one case, with the statements that run:
+    /// `switch (2) { case 1: a(); case 2: b(); }` becomes `switch (2) { case 2: b(); }`. The answer
+    /// says whether cases went; the only error is that memory runs out.
     pub fn drop_unreachable_switch_cases(
         &self,
         alloc: Global,
@@ -303,8 +320,8 @@ impl PeepholeOptimizations {
         mini_switch::drop_unreachable_switch_cases(alloc, node)
     }
 
-    /// The raw text of a template that cooks to this text: `\`, a backtick and `$` with a backslash before them, and a carriage return as `\r`. The only
-    /// error is that memory runs out.
+    /// The raw text of a template that cooks to this text: `\`, a backtick and `$` with a backslash
+    /// before them, and a carriage return as `\r`. The only error is that memory runs out.
     pub fn escape_string_for_template_literal(
         &self,
         alloc: Global,
@@ -315,8 +332,9 @@ impl PeepholeOptimizations {
         mini_model::escape_string_for_template_literal(alloc, value)
     }
 
-    /// Whether the statements of a case may stand in a branch or a block: it has no test, or one that writes a value out, and then nothing in it is
-    /// scoped; and none but a last `break;` leaves it by a `break` without a label (ECMA-262, "The switch Statement").
+    /// Whether the statements of a case may stand in a branch or a block: it has no test, or one
+    /// that writes a value out, and then nothing in it is scoped; and none but a last `break;`
+    /// leaves it by a `break` without a label (ECMA-262, "The switch Statement").
     pub fn can_switch_case_be_inlined(&self, case: &Node) -> bool
         ensures { result ≡ row_of_minimize_switch_statements.can_be_inlined case.now }
     {

@@ -19,9 +19,10 @@ use mini_tree::{CompressOptions, Node, OutOfMemory};
 use std::alloc::Global;
 
 impl PeepholeOptimizations {
-    /// Drops or inlines a declaration of a block, or of the body of a function declaration. Where nothing mentions x, `let x = a();`
-    /// becomes `a();`, `let x;` and `let x = 1;` become `;`, and `let x, y = b();` becomes `let y = b();`. The answer says whether a
-    /// declaration changed; the only error is that memory runs out.
+    /// Drops or inlines a declaration of a block, or of the body of a function declaration. Where
+    /// nothing mentions x, `let x = a();` becomes `a();`, `let x;` and `let x = 1;` become `;`, and
+    /// `let x, y = b();` becomes `let y = b();`. The answer says whether a declaration changed; the
+    /// only error is that memory runs out.
     pub fn remove_unused_declaration(
         &self,
         alloc: Global,
@@ -33,8 +34,9 @@ impl PeepholeOptimizations {
         mini_inside::remove_unused_declaration(alloc, node, context)
     }
 
-    /// Drops or inlines a declaration of the body of an arrow function or of another function expression, whose parameters don't mention
-    /// it: `() => { let x = a(); b(); }` becomes `() => { a(); b(); }`.
+    /// Drops or inlines a declaration of the body of an arrow function or of another function
+    /// expression, whose parameters don't mention it: `() => { let x = a(); b(); }` becomes
+    /// `() => { a(); b(); }`.
     pub fn remove_unused_in_arrow(
         &self,
         alloc: Global,
@@ -46,9 +48,10 @@ impl PeepholeOptimizations {
         mini_inside::remove_unused_in_arrow(alloc, node, context)
     }
 
-    /// Drops or inlines a declaration of the body of a function that is no arrow function, whose name and parameters don't mention it:
-    /// `function f(a) { let x = b(); return x + a; }` becomes `function f(a) { return b() + a; }`. The answer says whether a name went;
-    /// the only error is that memory runs out.
+    /// Drops or inlines a declaration of the body of a function that is no arrow function, whose
+    /// name and parameters don't mention it: `function f(a) { let x = b(); return x + a; }` becomes
+    /// `function f(a) { return b() + a; }`. The answer says whether a name went; the only error is
+    /// that memory runs out.
     pub fn remove_unused_in_function(
         &self,
         alloc: Global,
@@ -60,9 +63,10 @@ impl PeepholeOptimizations {
         mini_inside::remove_unused_in_function(alloc, node, context)
     }
 
-    /// Drops or inlines a declaration of a module, of a static block of a class, of a block of a `try`, or of an exported function:
-    /// `import "a"; const x = f(); g();` becomes `import "a"; f(); g();`. The answer says whether a name went; the only error is that
-    /// memory runs out.
+    /// Drops or inlines a declaration of a module, of a static block of a class, of a block of a
+    /// `try`, or of an exported function: `import "a"; const x = f(); g();` becomes
+    /// `import "a"; f(); g();`. The answer says whether a name went; the only error is that memory
+    /// runs out.
     pub fn remove_unused_in_module(
         &self,
         alloc: Global,
@@ -74,9 +78,10 @@ impl PeepholeOptimizations {
         mini_inside::remove_unused_in_module(alloc, node, context)
     }
 
-    /// Inlines the names that a list of statements declares and reads once, given what stands outside the list: `let x = a(); return x + b;`
-    /// becomes `; return a() + b;`, and `let a, x = b(); return x;` becomes `let a; return b();`. In the list no name is unused. The answer
-    /// says whether one was inlined; the only error is that memory runs out.
+    /// Inlines the names that a list of statements declares and reads once, given what stands
+    /// outside the list: `let x = a(); return x + b;` becomes `; return a() + b;`, and
+    /// `let a, x = b(); return x;` becomes `let a; return b();`. In the list no name is unused. The
+    /// answer says whether one was inlined; the only error is that memory runs out.
     pub fn substitute_single_use(
         &self,
         alloc: Global,
@@ -91,9 +96,11 @@ impl PeepholeOptimizations {
         mini_unused::substitute_single_uses(alloc, outside, list, context)
     }
 
-    /// Whether 72 would take the declarator at the second place of the declaration at the first, in a list of statements with what stands outside of
-    /// them, if it stood in a declaration of its own: of `let x = a(), y = b(); c(y);` it would take `x = a()`, which leaves `a();`.
-    /// Where a list stands outside of them, as that of the nodes above a list further inside a body, it takes those of `var`s alone.
+    /// Whether 72 would take the declarator at the second place of the declaration at the first, in
+    /// a list of statements with what stands outside of them, if it stood in a declaration of its
+    /// own: of `let x = a(), y = b(); c(y);` it would take `x = a()`, which leaves `a();`. Where a
+    /// list stands outside of them, as that of the nodes above a list further inside a body, it
+    /// takes those of `var`s alone.
     pub fn should_remove_unused_declarator(
         &self,
         outside: &Node,
@@ -111,8 +118,9 @@ impl PeepholeOptimizations {
         mini_unused::should_remove_unused_declarator(outside, list, at, which, context)
     }
 
-    /// Inlines the first name that a declarator of a list of statements reads and nothing else does: `let x = a(), y = x.b;` becomes
-    /// `let y = a().b;`. Where the list stands further inside a body, only a `var`. The answer says whether there was one.
+    /// Inlines the first name that a declarator of a list of statements reads and nothing else
+    /// does: `let x = a(), y = x.b;` becomes `let y = a().b;`. Where the list stands further inside
+    /// a body, only a `var`. The answer says whether there was one.
     pub fn substitute_within(&self, outside: &Node, list: &mut Node, context: &TraverseCtx) -> bool
         requires { is_it_listed list.old ≡ true }
         ensures { Within (open_in outside.now (allowed context.now)) outside.now list.old list.new result }
@@ -120,16 +128,17 @@ impl PeepholeOptimizations {
         mini_unused::substitute_within(outside, list, context)
     }
 
-    /// A function or class expression loses its name where nothing in it mentions that and the options let it go. The answer says whether it
-    /// did.
+    /// A function or class expression loses its name where nothing in it mentions that and the
+    /// options let it go. The answer says whether it did.
     pub fn remove_unused_name(&self, node: &mut Node, options: CompressOptions) -> bool
         ensures { (s : Seat) → AppliedOfRemoveUnusedName (switches_of options) (Expr s) node.old node.new result }
     {
         mini_unused::remove_unused_name(node, options)
     }
 
-    /// A function expression loses its name where nothing in it mentions that and the options let it go: `f(function g() {})` becomes
-    /// `f(function () {})`. Any other expression stays. The answer says whether a name went.
+    /// A function expression loses its name where nothing in it mentions that and the options let
+    /// it go: `f(function g() {})` becomes `f(function () {})`. Any other expression stays. The
+    /// answer says whether a name went.
     pub fn try_remove_name_from_functions(&self, node: &mut Node, options: CompressOptions) -> bool
         ensures function { is_function (shape_of node.old) ≡ true → (s : Seat) → AppliedOfRemoveUnusedName (switches_of options) (Expr s) node.old node.new result }
         ensures other { is_function (shape_of node.old) ≡ false → (node.new ≡ node.old) × (result ≡ false) }
@@ -137,8 +146,9 @@ impl PeepholeOptimizations {
         mini_unused::try_remove_name_from_functions(node, options)
     }
 
-    /// A class expression loses its name where nothing in it mentions that and the options let it go: `f(class C {})` becomes
-    /// `f(class {})`. Any other expression stays. The answer says whether a name went.
+    /// A class expression loses its name where nothing in it mentions that and the options let it
+    /// go: `f(class C {})` becomes `f(class {})`. Any other expression stays. The answer says
+    /// whether a name went.
     pub fn try_remove_name_from_classes(&self, node: &mut Node, options: CompressOptions) -> bool
         ensures class { is_class (shape_of node.old) ≡ true → (s : Seat) → AppliedOfRemoveUnusedName (switches_of options) (Expr s) node.old node.new result }
         ensures other { is_class (shape_of node.old) ≡ false → (node.new ≡ node.old) × (result ≡ false) }
@@ -146,7 +156,8 @@ impl PeepholeOptimizations {
         mini_unused::try_remove_name_from_classes(node, options)
     }
 
-    /// A `catch` loses the name of what it catches, where nothing in its body mentions that. The answer says whether it did.
+    /// A `catch` loses the name of what it catches, where nothing in its body mentions that. The
+    /// answer says whether it did.
     pub fn substitute_catch_clause(&self, node: &mut Node) -> bool
         ensures { AppliedOfSubstituteCatchClause Elsewhere node.old node.new result }
     {

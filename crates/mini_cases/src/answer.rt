@@ -4,8 +4,9 @@ use crate::error::NoAnswer;
 use std::alloc::Global;
 use std::fmt::{Display, Write};
 
-/// The answers so far. They fail where a line is no case, or where what it asks for fails, as for want of memory: nothing of that is
-/// in the text, nothing is kept of why, and the program ends with another status.
+/// The answers so far. They fail where a line is no case, or where what it asks for fails, as for
+/// want of memory: nothing of that is in the text, nothing is kept of why, and the program ends
+/// with another status.
 #[derive(Drop)]
 pub struct Answer {
     text: String,

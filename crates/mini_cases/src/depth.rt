@@ -1,5 +1,5 @@
-// Programs that nest deeper than the text of JSON may: reading, writing and letting go take no more than 8 MiB of stack. A
-// build with checks, as `rt try` makes one, takes more than that.
+// Programs that nest deeper than the text of JSON may: reading, writing and letting go take no more
+// than 8 MiB of stack. A build with checks, as `rt try` makes one, takes more than that.
 
 ghost use Rattle.std.specs.Prelude.{◌≡◌, IfOk};
 ghost use Rattle.mini_writer.proofs.Loads.{name_count, name_counts};

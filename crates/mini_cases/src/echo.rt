@@ -13,8 +13,8 @@ const MAX_DEPTH: u32 = 1000;
 
 /// The text of the program that a text says, as compact JSON.
 ///
-/// The text must be JSON of a program that is read and whose nodes nest at most 1000 deep. It is let go as soon as its value is
-/// there.
+/// The text must be JSON of a program that is read and whose nodes nest at most 1000 deep. It is
+/// let go as soon as its value is there.
 pub fn echoed(alloc: Global, text: String) -> Result<String, NoAnswer>
     ensures { IfOk result (λ s. IsEcho (string_bytes text) (string_bytes s)) }
 {
@@ -27,7 +27,8 @@ pub fn echoed(alloc: Global, text: String) -> Result<String, NoAnswer>
     Ok(back?.to_string(alloc)?)
 }
 
-/// The text of the value that a text says, as compact JSON. The text is let go as soon as its value is there.
+/// The text of the value that a text says, as compact JSON. The text is let go as soon as its value
+/// is there.
 pub fn same_json(alloc: Global, text: String) -> Result<String, NoAnswer>
     ensures { IfOk result (λ s. IsSameJson (string_bytes text) (string_bytes s)) }
 {

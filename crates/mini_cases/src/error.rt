@@ -5,8 +5,8 @@ use mini_model::OutOfMemory;
 use std::alloc::AllocError;
 use std::io;
 
-/// There is no answer: the line is no case, or what it asks for failed. The program then ends with a status alone, so that
-/// nothing is kept of why.
+/// There is no answer: the line is no case, or what it asks for failed. The program then ends with
+/// a status alone, so that nothing is kept of why.
 #[derive(Clone, Copy)]
 pub struct NoAnswer;
 

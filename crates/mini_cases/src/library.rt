@@ -5,8 +5,8 @@ use mini_peephole::{CompressOptions, minify_estree};
 use serde_json::Value;
 use std::alloc::Global;
 
-/// The lighter program of a program in ESTree JSON. There is none where the text is no JSON or too large, where the program is
-/// refused, and where memory runs out.
+/// The lighter program of a program in ESTree JSON. There is none where the text is no JSON or too
+/// large, where the program is refused, and where memory runs out.
 pub fn lighter(alloc: Global, json: &str) -> Option<Value> {
     let program = Value::from_str(alloc, json).ok()?;
     if !fits(&program) {

@@ -1,5 +1,6 @@
-// Lists that are changed step by step. A line has the steps, with commas between them, each of them a word, a place and an
-// item; its answer has for each step what it gave, or a hyphen, and what is in the list then.
+// Lists that are changed step by step. A line has the steps, with commas between them, each of them
+// a word, a place and an item; its answer has for each step what it gave, or a hyphen, and what is
+// in the list then.
 
 use crate::answer::Answer;
 use crate::programs::list;
@@ -177,7 +178,8 @@ fn tell_nodes(nodes: &Nodes, place: Position, out: &mut Answer) {
     out.text(";");
 }
 
-/// What becomes of an empty list of nodes at a place, step by step, where a node is told by what it weighs there.
+/// What becomes of an empty list of nodes at a place, step by step, where a node is told by what it
+/// weighs there.
 pub fn change_nodes(alloc: Global, steps: &str, place: Position, out: &mut Answer) {
     let mut nodes = Nodes::new(alloc);
     for text in steps.split(',') {

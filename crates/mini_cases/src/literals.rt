@@ -1,4 +1,5 @@
-// Texts, names, numerals and templates. A text stands in a line as JSON, so that any character may be in it.
+// Texts, names, numerals and templates. A text stands in a line as JSON, so that any character may
+// be in it.
 
 use crate::answer::Answer;
 use crate::words::TextCase;
@@ -71,8 +72,8 @@ fn name(alloc: Global, text: Text, out: &mut Answer) {
     }
 }
 
-// The text without its last unit, whether that is an identifier's name, how many units it has, the last of them, and the unit
-// that is gone.
+// The text without its last unit, whether that is an identifier's name, how many units it has, the
+// last of them, and the unit that is gone.
 fn shorten(alloc: Global, mut text: Text, out: &mut Answer) {
     let last = text.pop().unwrap_or(0);
     let named = is_identifier_name(&text);

@@ -1,17 +1,20 @@
-//! Answers cases of standard input, a line each, so that what is read, refused, written, weighed and minified can be
-//! compared with what was worked out by hand, or is what acorn gives for some code (`stdin` and `stdout`).
+//! Answers cases of standard input, a line each, so that what is read, refused, written, weighed
+//! and minified can be compared with what was worked out by hand, or is what acorn gives for some
+//! code (`stdin` and `stdout`).
 //!
-//! A line that begins with `#` is a title, and its own answer. Each other one is a word and a value of ESTree as JSON:
-//! `tell` and a depth, `numbers`, `again`, `echo`, `lighter`, `expression`, `statement`, or `minify` or `answer` and a number of
-//! passes.
-//! The lines of `answer` are those that `bench/cases.js` writes. Or it asks for a whole run over memory (`run` and its like, in
-//! `memory.rt`) or for a part of a library: `text`, `numeral`, `cooked`, `list`, `statements`, `sizes`, `read` and more (`cases.rt`).
+//! A line that begins with `#` is a title, and its own answer. Each other one is a word and a value
+//! of ESTree as JSON: `tell` and a depth, `numbers`, `again`, `echo`, `lighter`, `expression`,
+//! `statement`, or `minify` or `answer` and a number of passes. The lines of `answer` are those
+//! that `bench/cases.js` writes. Or it asks for a whole run over memory (`run` and its like, in
+//! `memory.rt`) or for a part of a library: `text`, `numeral`, `cooked`, `list`, `statements`,
+//! `sizes`, `read` and more (`cases.rt`).
 //!
-//! With the word `--echo` all of standard input is one program, which is written as the minifier would: every field of each
-//! type of node, and no other. With `--json` it is read and written as plain JSON, so that the time of that can be told from
-//! the time of all.
+//! With the word `--echo` all of standard input is one program, which is written as the minifier
+//! would: every field of each type of node, and no other. With `--json` it is read and written as
+//! plain JSON, so that the time of that can be told from the time of all.
 //!
-//! The repository has no test besides these lines, since a crate with tests is proved a second time with them.
+//! The repository has no test besides these lines, since a crate with tests is proved a second time
+//! with them.
 #![tactic(auto)]
 
 mod answer;
@@ -40,11 +43,11 @@ use std::{env, io};
 /// What is done with standard input.
 #[derive(Clone, Copy)]
 enum Task {
-    /// Its lines are answered.
+    /// The lines of standard input are answered, each as a case.
     Cases,
-    /// It is a program, which is written.
+    /// Standard input is a program, which is written.
     Echo,
-    /// It is JSON, which is written.
+    /// Standard input is JSON, which is written.
     Json,
 }
 

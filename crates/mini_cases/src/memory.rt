@@ -1,4 +1,5 @@
-// Whole runs over memory: sources and sinks that fail, that move a few bytes a call, or that have little room.
+// Whole runs over memory: sources and sinks that fail, that move a few bytes a call, or that have
+// little room.
 
 use crate::answer::Answer;
 use crate::words::numbered;
@@ -6,7 +7,8 @@ use mini_peephole::{Status, run};
 use mini_run::{MemSink, MemSource, Words, read_options};
 use std::alloc::Global;
 
-/// What a run is over: how many bytes a call moves, for how many bytes the sink has room, and which calls fail.
+/// What a run is over: how many bytes a call moves, for how many bytes the sink has room, and which
+/// calls fail.
 #[derive(Clone, Copy)]
 struct Setting<'a> {
     limit: usize,
@@ -152,8 +154,9 @@ fn setting_of(text: &str) -> Option<(Setting<'_>, &str)> {
     Some((setting, text))
 }
 
-/// A run over a limit of bytes a call, a room, the calls that fail of the source, of the sink and of the notes, and behind
-/// them words, each with a bar behind it, and the input, of which each character is the byte of its number.
+/// A run over a limit of bytes a call, a room, the calls that fail of the source, of the sink and
+/// of the notes, and behind them words, each with a bar behind it, and the input, of which each
+/// character is the byte of its number.
 pub fn run_in_memory(alloc: Global, text: &str, out: &mut Answer) {
     match setting_of(text) {
         Some((setting, text)) => run_with(alloc, setting, text, out),

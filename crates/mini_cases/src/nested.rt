@@ -66,7 +66,8 @@ fn nested_blocks(alloc: Global, statement: Node, count: u32) -> Result<Node, Out
     nested_blocks(alloc, block, count - 1)
 }
 
-// A script of so many blocks in one another, each of which declares a name; the innermost reads that of the outermost.
+// A script of so many blocks in one another, each of which declares a name; the innermost reads
+// that of the outermost.
 fn nested_program(alloc: Global, count: u32) -> Result<Node, OutOfMemory>
     ensures { IfOk result (λ made. name_count made ≡ count + 1) }
 {
@@ -90,7 +91,8 @@ fn tell_scopes(scopes: &Scopes, count: u32, out: &mut Answer) {
     out.word(&scopes.reads(SymbolId(0)));
 }
 
-/// Adds the number of the scope of the innermost name of so many blocks, and how often the outermost name is read.
+/// Adds the number of the scope of the innermost name of so many blocks, and how often the
+/// outermost name is read.
 pub fn resolve_nested(alloc: Global, count: u32, out: &mut Answer) {
     if count > 100_000 {
         return out.fail();

@@ -12,15 +12,19 @@ use std::alloc::Global;
 /// What is asked of a program, or of another value.
 #[derive(Clone, Copy)]
 pub enum Task {
-    /// Whether it is read within a depth: `Ok`, or the error and the pointer of the node that has the defect.
+    /// Whether the value is read within a depth: `Ok`, or the error and the pointer of the node
+    /// that has the defect.
     Tell,
-    /// How many nodes have a number.
+    /// How many nodes of the program have a number.
     Numbers,
-    /// How many values it is made of, how many UTF-16 units its texts have, and whether it is small enough.
+    /// How many JSON values the value is made of, how many UTF-16 units its texts have, and whether
+    /// it is small enough to be minified.
     Sizes,
-    /// What the minifier makes of it in so many passes: how many it made, whether nothing is left to do, and the program.
+    /// What the minifier makes of the program in at most that many passes: how many it made,
+    /// whether nothing is left to do, and the program.
     Minify,
-    /// The same, behind what became of the nodes with a number and of the symbols.
+    /// What became of the nodes with a number and of the symbols, and behind that what `Minify`
+    /// tells.
     Answer,
 }
 
@@ -52,7 +56,8 @@ fn answer_value(alloc: Global, task: Task, number: u32, value: &Value, out: &mut
     }
 }
 
-// An error, and the pointer of the node that has it, or how long that is where it is too long to be told.
+// An error, and the pointer of the node that has it, or how long that is where it is too long to be
+// told.
 fn refuse(error: &MinifyError, out: &mut Answer) {
     let place = error.place();
     out.text(error.variant());
@@ -63,7 +68,8 @@ fn refuse(error: &MinifyError, out: &mut Answer) {
     }
 }
 
-/// The program of a value whose nodes nest so deep at most. Why there is none is added to the answer.
+/// The program of a value whose nodes nest so deep at most. Why there is none is added to the
+/// answer.
 pub fn read(alloc: Global, value: &Value, max_depth: u32, out: &mut Answer) -> Option<Numbered> {
     match read_program(alloc, value, max_depth) {
         Ok(found) => Some(found),
@@ -74,7 +80,8 @@ pub fn read(alloc: Global, value: &Value, max_depth: u32, out: &mut Answer) -> O
     }
 }
 
-/// Whether a value is read within a depth: `Ok`, or the error and the pointer of the node that has the defect.
+/// Whether a value is read within a depth: `Ok`, or the error and the pointer of the node that has
+/// the defect.
 pub fn tell(alloc: Global, max_depth: u32, value: &Value, out: &mut Answer) {
     if read(alloc, value, max_depth, out).is_some() {
         out.text("Ok");

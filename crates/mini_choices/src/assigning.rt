@@ -95,7 +95,8 @@ pub fn is_same_member(first: &Node, second: &Node) -> bool
     is_member_of_name(first) && is_same_tree(first, second)
 }
 
-// `x[k]`, where a scope declares x and k has no effect. `this` has one where it is asked of the world.
+// `x[k]`, where a scope declares x and k has no effect. `this` has one where it is asked of the
+// world.
 fn is_indexed_name(node: &Node, asked: bool) -> bool
     ensures { result ≡ is_it_indexed_name asked node.now }
 {

@@ -68,14 +68,16 @@ fn are_others_same(first: &Nodes, second: &Nodes) -> bool
     true
 }
 
-// An expression without an effect, which is the same function wherever it is asked. `this` has one where it is asked of the world.
+// An expression without an effect, which is the same function wherever it is asked. `this` has one
+// where it is asked of the world.
 fn is_idle(node: &Node, asked: bool) -> bool
     ensures { result ≡ is_it_idle asked node.now }
 {
     is_plain_part(node) && is_effect_free(node, asked)
 }
 
-// Whether two calls are of one such function, with the same arguments after the first, of which both are expressions or both spread.
+// Whether two calls are of one such function, with the same arguments after the first, of which
+// both are expressions or both spread.
 fn are_alike(first: &Node, second: &Node, asked: bool) -> bool
     requires first_parts { count (children first.now) ≡ 2 }
     requires second_parts { count (children second.now) ≡ 2 }
@@ -87,7 +89,8 @@ fn are_alike(first: &Node, second: &Node, asked: bool) -> bool
         && are_others_same(first.child(1).children(), second.child(1).children())
 }
 
-/// `a ? f(p, r) : f(q, r)`, where evaluating a has no effect, nor has f; `this` has one where it is asked of the world.
+/// `a ? f(p, r) : f(q, r)`, where evaluating a has no effect, nor has f; `this` has one where it is
+/// asked of the world.
 pub fn calls_either(node: &Node, asked: bool) -> bool
     ensures { result ≡ it_calls_either asked node.now }
 {

@@ -1,5 +1,6 @@
-//! Rewrites of choices: what conditionals, logical expressions and assignments have in common is written once. One rule for the
-//! walk, and one that asks the context which names can be written, and the laws that join them to the rows.
+//! Rewrites of choices: what conditionals, logical expressions and assignments have in common is
+//! written once. One rule for the walk, and one that asks the context which names can be written,
+//! and the laws that join them to the rows.
 #![tactic(auto)]
 
 mod assigning;
@@ -12,7 +13,8 @@ mod weights;
 
 // What row 44 takes, whether `this` has an effect there or not.
 pub use calling::{called, calls_either};
-// What rows 35 and 38 of names take for one target: a name, or a member of one with a key that is written out; and a name alone.
+// What rows 35 and 38 of names take for one target: a name, or a member of one with a key that is
+// written out; and a name alone.
 pub use assigning::{
     assigns_plainly, has_written_key, is_same_name as can_compress_to_logical_assignment,
     is_same_target as has_no_side_effect_for_evaluation_same_target,

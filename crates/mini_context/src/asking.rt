@@ -1,5 +1,5 @@
-//! Which bodies ask the world for `this`: the constructors of classes with a superclass, and arrows and inner expressions in them. (ECMA-262,
-//! "ResolveThisBinding", "BindThisValue".)
+//! Which bodies ask the world for `this`: the constructors of classes with a superclass, and arrows
+//! and inner expressions in them. (ECMA-262, "ResolveThisBinding", "BindThisValue".)
 
 ghost use Rattle.std.specs.Prelude.{◌≡◌, ℕ, not, OnOk};
 ghost use Rattle.std.specs.List.{list_any};
@@ -14,23 +14,25 @@ use mini_model::{MethodDefinitionKind, OutOfMemory, Shape, UnaryOperator};
 use mini_node::{Node, Nodes};
 use std::alloc::Global;
 
-/// What the nodes around say of it: whether an arrow there asks, whether the class around has a superclass, and whether a function there is
-/// the constructor of such a class.
+/// What the nodes around a place say of whether bodies there ask the world for `this`.
 #[derive(Clone, Copy)]
 pub struct Asking {
+    /// Whether an arrow function around the place does.
     pub asks: bool,
+    /// Whether the class around the place has a superclass.
     pub extends: bool,
+    /// Whether a function around the place is the constructor of a class with a superclass.
     pub constructs: bool,
 }
 
-/// Where a parent reads whether a node is absent.
+/// Where a parent reads whether a part of it is absent.
 #[derive(Clone, Copy)]
 pub enum Absence {
-    /// It is.
+    /// The node is itself absent.
     Here,
-    /// Of its first child, where it has one.
+    /// What is read of the first child; where there is none, what the field says.
     OfFirst(bool),
-    /// It isn't.
+    /// The node is there.
     Nowhere,
 }
 
@@ -129,7 +131,8 @@ fn mark_below(marks: &mut Vec<bool>, around: Asking, node: &Node) -> Result<(), 
     Ok(())
 }
 
-/// Sets, by number, which bodies of a program do. After `OutOfMemory` they are fit only to be dropped.
+/// Sets, by number, which bodies of a program ask the world for `this`. After `OutOfMemory` the
+/// marks are fit only to be dropped.
 pub fn list_asking(alloc: Global, marks: &mut Vec<bool>, program: &Node) -> Result<(), OutOfMemory>
     ensures { OnOk result ((b : ℕ) → mark_at marks.new.items b ≡ list_any (asks_as b) (bodies_in program.now)) }
 {

@@ -24,7 +24,7 @@ fn is_catch(shape: &Shape) -> bool
     matches!(shape, Shape::CatchClause)
 }
 
-/// The names that a node declares.
+/// The names of a kind that a node declares. The only error is that memory runs out.
 pub fn names_in(alloc: Global, declared: Declared, node: &Node) -> Result<Vec<Name>, OutOfMemory>
     ensures { IfOk result (λ names. names.items ≡ names_of declared node.now) }
 {
@@ -76,7 +76,8 @@ fn mark_under(
     Ok(())
 }
 
-/// Marks the `var`s in a `catch` clause that have the name of its parameter.
+/// Marks the `var`s in a `catch` clause that have the name of its parameter. The only error is that
+/// memory runs out.
 pub fn mark_caught(alloc: Global, marks: &mut Vec<bool>, node: &Node) -> Result<(), OutOfMemory>
     ensures { OnOk result (Marked (own_caught (shape_of node.now) (children node.now)) marks.old.items marks.new.items) }
 {

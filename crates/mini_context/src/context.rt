@@ -23,7 +23,8 @@ pub struct Parent {
     pub body: u32,
 }
 
-/// What a rewrite is handed beside the node: the numbers of the program's names, the options, and where the node stands.
+/// What a rewrite is handed beside the node: the numbers of the program's names, the options, and
+/// where the node stands.
 #[derive(Drop)]
 pub struct TraverseCtx {
     /// What is known of the names.
@@ -51,7 +52,8 @@ fn count_out<L: Ledger>(scopes: &mut Scopes, part: &Node, blank: Blank)
 }
 
 impl TraverseCtx {
-    /// The context of a program with these names: nothing has changed yet, and no node stands anywhere.
+    /// The context of a program with these names: nothing has changed yet, and no node stands
+    /// anywhere.
     pub fn new(scopes: Scopes, options: CompressOptions) -> TraverseCtx
         ensures scopes { result.scopes ≡ scopes }
         ensures options { result.options ≡ options }
@@ -86,7 +88,7 @@ impl TraverseCtx {
         self.changes
     }
 
-    /// Counts the references of an expression that is dropped out. A step is one reference.
+    /// Counts the references of an expression that goes out. A step is one reference.
     pub fn drop_expression<L: Ledger>(&mut self, expression: &Node, steps: &mut Steps<L>)
         requires reads { Contained is_read (references variant.Read expression.now) self.old.scopes.reads }
         requires writes { Contained is_write (references variant.Read expression.now) self.old.scopes.writes }
@@ -101,7 +103,7 @@ impl TraverseCtx {
         self.scopes.count_out(expression, steps);
     }
 
-    /// The same for a statement.
+    /// Counts the references of a statement that goes out. A step is one reference.
     pub fn drop_statement<L: Ledger>(&mut self, statement: &Node, steps: &mut Steps<L>)
         requires reads { Contained is_read (references variant.Read statement.now) self.old.scopes.reads }
         requires writes { Contained is_write (references variant.Read statement.now) self.old.scopes.writes }
@@ -116,7 +118,8 @@ impl TraverseCtx {
         self.scopes.count_out(statement, steps);
     }
 
-    /// The same for a declarator. What it declares is no reference.
+    /// Counts the references of a declarator that goes out. A step is one reference; the name that
+    /// it declares is none.
     pub fn drop_variable_declarator<L: Ledger>(&mut self, declarator: &Node, steps: &mut Steps<L>)
         requires reads { Contained is_read (references variant.Read declarator.now) self.old.scopes.reads }
         requires writes { Contained is_write (references variant.Read declarator.now) self.old.scopes.writes }
@@ -131,8 +134,9 @@ impl TraverseCtx {
         self.scopes.count_out(declarator, steps);
     }
 
-    /// Puts another expression in the place of one, counts the references of what stood there out, and counts one change.
-    /// References that moved from there into the new one must have been taken out of the place before.
+    /// Puts another expression in the place of one, counts the references of the one that stood
+    /// there out, and counts one change. References that moved from there into the new one must
+    /// have been taken out of the place before.
     pub fn replace_expression(&mut self, slot: &mut Node, new: Node)
         requires reads { Contained is_read (references variant.Read slot.old) self.old.scopes.reads }
         requires writes { Contained is_write (references variant.Read slot.old) self.old.scopes.writes }

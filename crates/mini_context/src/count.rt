@@ -29,7 +29,9 @@ pub enum Tally {
 /// How often each symbol is read, and how often it is written.
 #[derive(Drop)]
 pub struct Counts {
+    /// How often each symbol is read, at its number.
     pub reads: Vec<u32>,
+    /// How often each symbol is written, at its number.
     pub writes: Vec<u32>,
 }
 
@@ -112,7 +114,8 @@ fn tally_own<L: Ledger>(
     }
 }
 
-/// Counts the references of a tree whose names are used like this in or out. A step is one reference.
+/// Counts the references of a tree, whose names are used like this, in or out. A step is one
+/// reference.
 #[cycle(tallies)]
 pub fn tally_node<L: Ledger>(
     counts: &mut Counts,
@@ -149,7 +152,7 @@ fn tally_nodes<L: Ledger>(
     }
 }
 
-/// Counts the references of a part out, that is to be dropped. A step is one reference.
+/// Counts the references of a part that is to be dropped out. A step is one reference.
 pub fn count_out<L: Ledger>(counts: &mut Counts, part: &Node, steps: &mut Steps<L>)
     requires reads { Contained is_read (references variant.Read part.now) counts.old.reads.items }
     requires writes { Contained is_write (references variant.Read part.now) counts.old.writes.items }
@@ -160,7 +163,8 @@ pub fn count_out<L: Ledger>(counts: &mut Counts, part: &Node, steps: &mut Steps<
     tally_node(counts, Tally::Out, Use::Read, part, steps);
 }
 
-/// Counts the references of a program with so many symbols anew. A step is one reference.
+/// Counts the references of a program with that many symbols anew. A step is one reference. The
+/// only error is that memory runs out.
 pub fn fresh_counts<L: Ledger>(
     alloc: Global,
     program: &Node,
@@ -180,7 +184,7 @@ pub fn fresh_counts<L: Ledger>(
     Ok(counts)
 }
 
-/// So many zeros.
+/// A list of that many zeros. The only error is that memory runs out.
 pub fn zeros(alloc: Global, length: u32) -> Result<Vec<u32>, OutOfMemory>
     ensures { IfOk result (λ zeros. zeros.items ≡ replicate length 0) }
 {

@@ -31,12 +31,12 @@ pub enum Order {
     ParamFirst,
 }
 
-/// What is known at a moment.
+/// What is known at a moment of evaluation.
 #[derive(Drop)]
 pub struct Moments {
     /// The symbols whose declarations have ended.
     pub ended: Vec<bool>,
-    /// The bodies that have read each symbol before that.
+    /// By symbol, the bodies that have read it before its declaration ended.
     pub early: Vec<OwnedList<u32>>,
 }
 
@@ -48,7 +48,8 @@ pub fn empty_moments(alloc: Global) -> Moments {
     }
 }
 
-/// Makes it the first moment of a program with so many symbols. After `OutOfMemory` it is fit only to be dropped.
+/// Makes it the first moment of a program with that many symbols. After `OutOfMemory` it is fit
+/// only to be dropped.
 pub fn open_moments(alloc: Global, symbols: u32, moments: &mut Moments) -> Result<(), OutOfMemory>
     ensures ended { OnOk result (moments.new.ended.items ≡ replicate symbols false) }
     ensures early { OnOk result (moments.new.early.items ≡ replicate symbols []) }
@@ -122,7 +123,8 @@ fn pass_own(moments: &mut Moments, reading: Reading, node: &Node) -> Result<(), 
     }
 }
 
-/// The moments of a tree that stands so pass.
+/// Goes through a tree that is read like this in the order of evaluation, and notes its moments.
+/// After `OutOfMemory` they are fit only to be dropped.
 #[cycle(moments)]
 pub fn pass_node(moments: &mut Moments, reading: Reading, node: &Node) -> Result<(), OutOfMemory>
     ensures { OnOk result (Passed (moments_of reading.usage reading.around node.now) moments.old moments.new) }

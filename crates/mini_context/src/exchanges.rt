@@ -15,13 +15,13 @@ use mini_node::Node;
 /// Which of a node's names a module imports or exports.
 #[derive(Clone, Copy)]
 pub enum Exchange {
-    /// Those that it declares in its block.
+    /// The lexical names that it declares in its block.
     Lexical,
-    /// Those, and what it declares by `var`.
+    /// The lexical names that it declares in its block, and those that it declares by `var`.
     Declared,
-    /// Its own.
+    /// The node's own name.
     Own,
-    /// None.
+    /// None of its names.
     Nothing,
 }
 
@@ -50,7 +50,8 @@ fn mark_by(marks: &mut Vec<bool>, exchange: Exchange, node: &Node)
     }
 }
 
-/// Marks what a module imports or exports by a node, where the node stands so that it may.
+/// Marks the names that a module imports or exports by a node, where `exchanges` says that the node
+/// stands so that it may.
 pub fn mark_exchanged(marks: &mut Vec<bool>, exchanges: bool, node: &Node)
     ensures { Marked (exchanged_by exchanges (exchange_in (shape_of node.now)) (own_names node.now) (names_of declared.Lexical node.now) (names_of declared.Hoisted node.now)) marks.old.items marks.new.items }
 {

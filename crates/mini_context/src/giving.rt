@@ -16,7 +16,7 @@ use mini_node::Node;
 use mini_scope::Environment;
 use std::alloc::Global;
 
-/// Goes into a scope, whose names have their symbols.
+/// Enters a scope, whose names have their symbols. The only error is that memory runs out.
 pub fn enter_scope(environment: &mut Environment, scope: Vec<Binding>) -> Result<(), OutOfMemory>
     ensures { OnOk result (environment.new ≡ environment.old ++ scope.items) }
 {
@@ -86,8 +86,8 @@ fn join_all(given: &mut Vec<Mentioned>, environment: &Environment, around: Aroun
     }
 }
 
-/// Adds what a node itself writes as a `var` does. (ECMA-262, "Runtime Semantics: Evaluation" of a VariableDeclaration:
-/// ResolveBinding.)
+/// Adds what a node itself writes as a `var` does. (ECMA-262, "Runtime Semantics: Evaluation" of a
+/// VariableDeclaration: ResolveBinding.)
 pub fn join_values(
     alloc: Global,
     given: &mut Vec<Mentioned>,

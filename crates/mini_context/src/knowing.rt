@@ -41,9 +41,10 @@ fn reference_count(node: &Node) -> u64
 impl TraverseCtx {
     ghost use Rattle.mini_context.specs.Known.{Knows};
 
-    /// Looks at a program as `refresh` does, and tells whether all that was told of each body is so in this program: which
-    /// symbols are steady there, which it begins with, which it doesn't share, and that it has a `this`. The only error is that memory runs out, and then the context
-    /// is fit only to be dropped.
+    /// Looks at a program as `refresh` does, and answers whether all that was told of each body
+    /// before is so in this program: which symbols are steady there, which it begins with, which it
+    /// doesn't share, and that it has a `this`. The only error is that memory runs out, and then
+    /// the context is fit only to be dropped.
     pub fn renew(&mut self, alloc: Global, program: &Node) -> Result<bool, OutOfMemory>
         ensures knows { OnOk result (KnowsAnew Knows self.old self.new program.now) }
         ensures renewed { IfOk result (λ answer. Renewed answer self.old.scopes self.new.scopes program.now) }

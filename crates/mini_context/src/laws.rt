@@ -23,32 +23,35 @@ pub fn tables_tell()
     ensures { TablesTell }
 {}
 
-/// They tell what is foreign to a body.
+/// The tables of a program tell what is foreign to a body.
 pub fn foreign_tells()
     ensures { ForeignTells }
 {}
 
-/// They tell what is steady in a body.
+/// The tables of a program tell what is steady in a body.
 pub fn steady_tells()
     ensures { SteadyTells }
 {}
 
-/// They tell all that is told of bodies.
+/// The tables of a program tell all that is told of bodies.
 pub fn bodies_told()
     ensures { BodiesTold }
 {}
 
-/// What stays from one look to the next is told where it was.
+/// What is told of a body in a program, and stays from one look to the next, is so in the later
+/// program.
 pub fn staying_tells()
     ensures { StayingTells }
 {}
 
-/// After a refresh the tables tell both of the program that was looked at.
+/// After a refresh the tables tell what is foreign to a body, and what is steady in it, of the
+/// program that was looked at.
 pub fn refresh_tells()
     ensures { RefreshTells }
 {}
 
-/// What is used in two ways that are counted alike is counted alike.
+/// A tree whose names are used in one of two ways that are counted alike has the same counts in
+/// both.
 pub fn uses_tell()
     ensures { UsesTell }
 {}

@@ -1,6 +1,7 @@
-//! What rewrites ask of the names of a program: how often each symbol is read and written, whether it can be written, which
-//! scope declares it and what is known of that; and what `this` and `arguments` are in a body. And the context in which
-//! rewrites ask it, whose counts follow what they drop.
+//! What rewrites ask of the names of a program: how often each symbol is read and written, whether
+//! it can be written, which scope declares it and what is known of that; and what `this` and
+//! `arguments` are in a body. And the context in which rewrites ask it, whose counts follow what
+//! they drop.
 #![tactic(auto)]
 
 mod asking;

@@ -24,16 +24,16 @@ use mini_node::{Node, Nodes};
 use mini_scope::{Environment, OpenScopes, is_leaf};
 use std::alloc::Global;
 
-/// The scopes so far.
+/// The scopes that were entered so far.
 #[derive(Drop)]
 pub struct ScopeTables {
-    /// Whether the code of a scope is strict.
+    /// By scope, whether its code is strict.
     pub strict: Vec<bool>,
-    /// Whether a direct eval stands in a scope.
+    /// By scope, whether a direct eval stands in it.
     pub evals: Vec<bool>,
-    /// The scope of each symbol.
+    /// By symbol, the scope that declares it.
     pub owners: Vec<u32>,
-    /// The symbols that a direct eval can see.
+    /// By symbol, whether a direct eval can see it.
     pub seen: Vec<bool>,
 }
 
@@ -47,7 +47,8 @@ pub fn empty_scopes(alloc: Global) -> ScopeTables {
     }
 }
 
-/// Makes them tables of no scope, before so many symbols are declared. After `OutOfMemory` they are fit only to be dropped.
+/// Makes them tables of no scope, before that many symbols are declared. After `OutOfMemory` they
+/// are fit only to be dropped.
 pub fn open_scopes(alloc: Global, symbols: u32, tables: &mut ScopeTables) -> Result<(), OutOfMemory>
     ensures { OnOk result (Unlisted symbols tables.new) }
 {
@@ -102,7 +103,7 @@ pub fn has_eval(node: &Node) -> bool
     is_eval_call(node.shape(), node.parts()) || any_has_eval(node.children(), 0)
 }
 
-/// Whether one stands in one of these nodes, from an index on.
+/// Whether a direct eval stands in one of these nodes, from an index on.
 #[cycle(evals)]
 fn any_has_eval(nodes: &Nodes, from: usize) -> bool
     ensures { result ≡ any_has_eval_in (rest_children from nodes.now) }
@@ -185,7 +186,8 @@ fn own_bindings(owners: &mut Vec<u32>, scope: u32, bindings: &[Binding])
     }
 }
 
-/// Whether a direct eval stands in one of these nodes, from an index on. Where none may there is no look.
+/// Whether a direct eval stands in one of these nodes, from an index on. Where none may there is no
+/// look.
 fn evals_from(may_eval: bool, nodes: &Nodes, from: usize) -> bool
     requires { may_eval ≡ false → any_has_eval_in (rest_children from nodes.now) ≡ false }
     ensures { result ≡ any_has_eval_in (rest_children from nodes.now) }
@@ -193,7 +195,8 @@ fn evals_from(may_eval: bool, nodes: &Nodes, from: usize) -> bool
     may_eval && any_has_eval(nodes, from)
 }
 
-/// Lists at least so many scopes, of which the last declares these names, where there are some or a scope is wanted.
+/// Lists at least so many scopes, of which the last declares these names, where there are some or a
+/// scope is wanted.
 fn push_scopes(
     tables: &mut ScopeTables,
     least: usize,
@@ -219,8 +222,8 @@ fn enters_none(least: usize, scope: &[Binding]) -> bool
     least == 0 && scope.is_empty()
 }
 
-/// Lists the scopes that are entered before the child at an index: at least so many, of which the last declares these
-/// names. Whether a direct eval may stand in that child or in one after it.
+/// Lists the scopes that are entered before the child at an index: at least so many, of which the
+/// last declares these names. Whether a direct eval may stand in that child or in one after it.
 fn push_entered(
     tables: &mut ScopeTables,
     least: usize,
@@ -242,8 +245,9 @@ fn push_entered(
     Ok(evals)
 }
 
-/// Lists the scopes that are entered in a tree that stands so, and adds what its `var`s write. The environment is what is
-/// declared around the tree. Where no direct eval may stand in it none is looked for.
+/// Lists the scopes that are entered in a tree that stands so, and adds what its `var`s write. The
+/// environment is what is declared around the tree. Where no direct eval may stand in it none is
+/// looked for.
 #[cycle(listing)]
 pub fn list_scopes(
     alloc: Global,

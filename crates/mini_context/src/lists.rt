@@ -7,7 +7,7 @@ ghost use Rattle.mini_context.specs.Lists.{holds, Put};
 use mini_model::{OutOfMemory, OwnedList};
 use std::alloc::Global;
 
-/// So many empty lists.
+/// That many empty lists. The only error is that memory runs out.
 pub fn no_lists(alloc: Global, length: u32) -> Result<Vec<OwnedList<u32>>, OutOfMemory>
     ensures { IfOk result (λ lists. lists.items ≡ replicate length []) }
 {
@@ -61,7 +61,8 @@ fn add_number(list: &mut OwnedList<u32>, number: u32) -> Result<(), OutOfMemory>
     list.push(number)
 }
 
-/// Puts a number into the list at an index, where there is such a list.
+/// Puts a number into the list at an index, where there is such a list. The only error is that
+/// memory runs out.
 pub fn put_number(lists: &mut Vec<OwnedList<u32>>, at: u32, number: u32) -> Result<(), OutOfMemory>
     ensures { OnOk result (Put at number lists.old.items lists.new.items) }
 {

@@ -11,7 +11,7 @@ use mini_node::{Node, Nodes};
 use mini_scope::place_of;
 use std::alloc::Global;
 
-/// A table for so many symbols, without a mark.
+/// A table for that many symbols, without a mark. The only error is that memory runs out.
 pub fn no_marks(alloc: Global, length: u32) -> Result<Vec<bool>, OutOfMemory>
     ensures { IfOk result (λ marks. marks.items ≡ replicate length false) }
 {

@@ -31,7 +31,8 @@ pub enum Mentioned {
     Widely,
 }
 
-/// A table for so many symbols that are mentioned nowhere.
+/// A table for that many symbols that are mentioned nowhere. The only error is that memory runs
+/// out.
 pub fn no_mentions(alloc: Global, length: u32) -> Result<Vec<Mentioned>, OutOfMemory>
     ensures { IfOk result (λ table. table.items ≡ replicate length mentioned.Nowhere) }
 {
@@ -41,7 +42,7 @@ pub fn no_mentions(alloc: Global, length: u32) -> Result<Vec<Mentioned>, OutOfMe
     }
 }
 
-/// Whether it is mentioned in another body than this, or in a carried node.
+/// Whether a symbol is mentioned in another body than this, or in a carried node.
 pub fn is_outside(mentioned: Mentioned, body: u32) -> bool
     ensures { result ≡ is_outside_of mentioned body }
 {
@@ -52,7 +53,7 @@ pub fn is_outside(mentioned: Mentioned, body: u32) -> bool
     }
 }
 
-/// Whether it is mentioned at all.
+/// Whether a symbol is mentioned at all.
 pub fn is_somewhere(mentioned: Mentioned) -> bool
     ensures { result ≡ is_somewhere_in mentioned }
 {
@@ -142,7 +143,8 @@ fn is_binding_name(shape: &Shape) -> bool
     matches!(shape, Shape::BindingIdentifier)
 }
 
-/// Puts the body in which a node stands that is a binding itself into the list of its symbol.
+/// Puts the number of the body in which a node stands into the list of its symbol, where the node
+/// is a name that is declared. The only error is that memory runs out.
 pub fn put_home(
     homes: &mut Vec<OwnedList<u32>>,
     standing: Standing,

@@ -24,7 +24,7 @@ pub struct Params {
     pub by_number: Vec<OwnedList<u32>>,
 }
 
-/// No function, and no symbol.
+/// Tables of no function and no symbol.
 pub fn empty_params(alloc: Global) -> Params {
     Params {
         next: 0,
@@ -33,7 +33,7 @@ pub fn empty_params(alloc: Global) -> Params {
     }
 }
 
-/// No function, and so many symbols.
+/// Tables of no function and that many symbols. The only error is that memory runs out.
 pub fn no_params(alloc: Global, symbols: u32) -> Result<Params, OutOfMemory>
     ensures symbols { IfOk result (λ params. params.by_symbol.items ≡ replicate symbols []) }
     ensures numbers { IfOk result (λ params. params.by_number.items ≡ []) }
@@ -59,7 +59,7 @@ fn reach_list(alloc: Global, lists: &mut Vec<OwnedList<u32>>, at: usize) -> Resu
     Ok(())
 }
 
-/// Puts a function into the list of a number.
+/// Puts a function into the list of a number. The only error is that memory runs out.
 pub fn put_own(
     alloc: Global,
     lists: &mut Vec<OwnedList<u32>>,
@@ -136,7 +136,7 @@ fn add_params(alloc: Global, params: &mut Params, node: &Node) -> Result<(), Out
     put_numbers(alloc, &mut params.by_number, node, function)
 }
 
-/// Adds a node that is a function.
+/// Adds a function to the tables, where the node is one. The only error is that memory runs out.
 pub fn enclose(alloc: Global, params: &mut Params, node: &Node) -> Result<(), OutOfMemory>
     ensures { OnOk result (Enclosed (own_params (shape_of node.now) (children node.now)) params.old params.new) }
 {
@@ -153,7 +153,8 @@ pub fn enclose(alloc: Global, params: &mut Params, node: &Node) -> Result<(), Ou
     }
 }
 
-/// Whether the body with a number stands in the parameters of a function whose parameters bind a symbol.
+/// Whether the body with a number stands in the parameters of a function whose parameters bind a
+/// symbol.
 pub fn is_around(params: &Params, symbol: u32, body: u32) -> bool
     ensures { result ≡ is_around_in params.now.by_symbol.items params.now.by_number.items symbol body }
 {

@@ -9,14 +9,14 @@ use mini_laws::Declared;
 use mini_model::{Shape, VariableDeclarationKind};
 use mini_node::Nodes;
 
-/// Which of the names that a node's children bind or declare.
+/// Which of the names that a node's children bind or declare are meant.
 #[derive(Clone, Copy)]
 pub enum Part {
-    /// Those that its children declare.
+    /// The names of a kind that its children declare.
     Every(Declared),
-    /// Those that its child at an index binds.
+    /// The names that its child at an index binds.
     At(usize),
-    /// None.
+    /// None of them.
     Nothing,
 }
 
@@ -80,7 +80,8 @@ pub fn caught_part(shape: &Shape) -> Part
     }
 }
 
-/// Where a node of this shape has lexical names, directly in the body of a script or a function, or elsewhere; classes aside.
+/// Where a node of this shape has lexical names, directly in the body of a script or a function, or
+/// elsewhere; classes aside.
 pub fn lexical_part(in_body: bool, shape: &Shape) -> Part
     ensures { result ≡ lexical_part_of in_body shape.now }
 {

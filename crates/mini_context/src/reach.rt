@@ -27,7 +27,8 @@ fn is_arguments(name: &Option<Name>) -> bool
     }
 }
 
-/// Whether what stands in the child at an index of a node of this shape belongs to the function around the node.
+/// Whether what stands in the child at an index of a node of this shape belongs to the function
+/// around the node.
 fn is_of_function(shape: &Shape, at: usize) -> bool
     ensures { result ≡ is_of_function_in shape.now at }
 {
@@ -91,7 +92,8 @@ fn names_own_arguments(params: &Node, body: &Node) -> bool
     names_arguments(params) || names_arguments(body)
 }
 
-/// Marks the parameters of a sloppy function that names its `arguments`. (ECMA-262, "CreateMappedArgumentsObject".)
+/// Marks the parameters of a sloppy function that names its `arguments`. (ECMA-262,
+/// "CreateMappedArgumentsObject".)
 pub fn mark_reached(marks: &mut Vec<bool>, strict: bool, node: &Node)
     ensures { Marked (reached_params (is_strict_at strict (shape_of node.now)) (shape_of node.now) (children node.now)) marks.old.items marks.new.items }
 {

@@ -11,8 +11,8 @@ use mini_model::OutOfMemory;
 use mini_node::Node;
 use std::alloc::Global;
 
-/// Sets the counts and what a direct eval can see to those of a program. The only error is that memory runs out, and then
-/// the context is fit only to be dropped.
+/// Sets the counts and what a direct eval can see to those of a program. The only error is that
+/// memory runs out, and then the context is fit only to be dropped.
 pub fn refresh(alloc: Global, program: &Node, context: &mut TraverseCtx) -> Result<(), OutOfMemory>
     requires { length (references variant.Read program.now) + 1 < 2 ^ 32 }
     ensures refreshed { OnOk result (Refreshed context.old.scopes context.new.scopes program.now) }
@@ -23,7 +23,9 @@ pub fn refresh(alloc: Global, program: &Node, context: &mut TraverseCtx) -> Resu
     context.scopes.refresh(alloc, program)
 }
 
-/// Does so, and tells whether all that was told of each body is so in this program.
+/// Looks at a program as `refresh` does, and answers whether all that was told of each body before
+/// is so in this program. The only error is that memory runs out, and then the context is fit only
+/// to be dropped.
 pub fn renew(alloc: Global, program: &Node, context: &mut TraverseCtx) -> Result<bool, OutOfMemory>
     requires { length (references variant.Read program.now) + 1 < 2 ^ 32 }
     ensures renewed { IfOk result (λ answer. Renewed answer context.old.scopes context.new.scopes program.now) }

@@ -16,9 +16,9 @@ use std::alloc::Global;
 
 /// Gives each name of a program its symbol, and says what is known of the names.
 ///
-/// `EarlyName` and `EarlyJump` come where the program has such an error, with its pointer; a program that has none is
-/// refused for want of memory alone, and is fit then only to be dropped. (ECMA-262, "Static Semantics: Early Errors",
-/// "ResolveBinding".)
+/// `EarlyName` and `EarlyJump` come where the program has such an error, with its pointer; a
+/// program that has none is refused for want of memory alone, and is fit then only to be dropped.
+/// (ECMA-262, "Static Semantics: Early Errors", "ResolveBinding".)
 pub fn resolve(alloc: Global, program: &mut Node) -> Result<Scopes, MinifyError>
     requires symbols { symbols variant.Read program.old < 2 ^ 32 }
     requires references { length (references variant.Read program.old) + 1 < 2 ^ 32 }

@@ -36,7 +36,8 @@ use std::alloc::Global;
 use std::marker::{Brand, Model};
 use std::sync::ledger::{Blank, Ledger};
 
-/// The number of a scope: the scopes of a program are numbered in the order in which they are entered.
+/// The number of a scope: the scopes of a program are numbered in the order in which they are
+/// entered.
 #[derive(Clone, Copy)]
 pub struct ScopeId(pub u32);
 
@@ -45,7 +46,7 @@ pub struct ScopeId(pub u32);
 pub struct Look {
     /// How often each symbol is read and written.
     pub counts: Counts,
-    /// What is found of symbols and of bodies.
+    /// What a walk finds of symbols and of bodies.
     pub tables: Tables,
     /// The scopes, and the symbols that a direct eval can see.
     pub scopes: ScopeTables,
@@ -53,16 +54,16 @@ pub struct Look {
     pub given: Vec<Mentioned>,
     /// Which bodies read each symbol before its declaration has ended.
     pub moments: Moments,
-    /// A script's top names.
+    /// By symbol, whether it is one of a script's top names.
     pub tops: Vec<bool>,
-    /// The names that are mentioned and can be written.
+    /// By symbol, whether it is mentioned and can be written.
     pub writable: Vec<bool>,
-    /// The bodies that ask the world for `this`.
+    /// By number, whether the body asks the world for `this`.
     pub asking: Vec<bool>,
 }
 
-/// What is known of the names of a program. A contract sees it as lists, by symbol, by scope and by body. Scopes have the
-/// numbers of the program that was looked at last.
+/// What is known of the names of a program. A contract sees it as lists, by symbol, by scope and by
+/// body. Scopes have the numbers of the program that was looked at last.
 #[derive(Drop)]
 pub struct Scopes {
     look: Look,
@@ -174,8 +175,9 @@ fn no_look(alloc: Global) -> Look {
     }
 }
 
-// Sets what is known of the names of a program with so many symbols. Memory counts as run out where it mentions a symbol past these, which no program that was
-// resolved does, and nothing that is made of one.
+// Sets what is known of the names of a program with so many symbols. Memory counts as run out where
+// it mentions a symbol past these, which no program that was resolved does, and nothing that is
+// made of one.
 fn look_at(look: &mut Look, alloc: Global, program: &Node, symbols: u32) -> Result<(), OutOfMemory>
     requires { length (references variant.Read program.now) + 1 < 2 ^ 32 }
     ensures { (tops : List Bool) → OnOk result (Told (facts_of look.new tops) symbols program.now) }
@@ -193,7 +195,8 @@ fn look_at(look: &mut Look, alloc: Global, program: &Node, symbols: u32) -> Resu
 }
 
 impl Scopes {
-    /// What is known of the names of a program with so many symbols, that was just resolved.
+    /// What is known of the names of a program with that many symbols, which was just resolved. The
+    /// only error is that memory runs out.
     pub fn of(alloc: Global, program: &Node, symbols: u32) -> Result<Scopes, OutOfMemory>
         requires { length (references variant.Read program.now) + 1 < 2 ^ 32 }
         ensures { IfOk result (λ scopes. Tells scopes symbols program.now) }
@@ -205,8 +208,8 @@ impl Scopes {
         Ok(Scopes { look, first_tops })
     }
 
-    /// Sets all but which names were a script's top names at first to what is known of a program. After `OutOfMemory` they are
-    /// fit only to be dropped.
+    /// Looks at a program, and sets what is known of its names, but for which were a script's top
+    /// names at first. After `OutOfMemory` that is fit only to be dropped.
     pub fn refresh(&mut self, alloc: Global, program: &Node) -> Result<(), OutOfMemory>
         requires { length (references variant.Read program.now) + 1 < 2 ^ 32 }
         ensures { OnOk result (Refreshed self.old self.new program.now) }
@@ -217,8 +220,10 @@ impl Scopes {
         }
     }
 
-    /// Does so, and tells whether all that was told of each body is so in this program: which symbols are steady there, which it begins with,
-    /// which it doesn't share, and that it has a `this`.
+    /// Looks at a program as `refresh` does, and answers whether all that was told of each body
+    /// before is so in this program: which symbols are steady there, which it begins with, which it
+    /// doesn't share, and that it has a `this`. After `OutOfMemory` what is known is fit only to be
+    /// dropped.
     pub fn renew(&mut self, alloc: Global, program: &Node) -> Result<bool, OutOfMemory>
         requires { length (references variant.Read program.now) + 1 < 2 ^ 32 }
         ensures { IfOk result (λ answer. Renewed answer self.old self.new program.now) }
@@ -229,7 +234,7 @@ impl Scopes {
         }
     }
 
-    // The same, with how many symbols there are.
+    // What `renew` does, with how many symbols there are.
     fn look_again(
         &mut self,
         alloc: Global,
@@ -247,14 +252,16 @@ impl Scopes {
         answer
     }
 
-    /// Whether there is no room for the symbol: the program that was looked at last doesn't mention it.
+    /// Whether there is no room for the symbol: the program that was looked at last doesn't mention
+    /// it.
     pub fn is_past(&self, symbol: SymbolId) -> bool
         ensures { result ≡ past self.now symbol.0 }
     {
         symbol.0 as usize >= self.look.counts.reads.len()
     }
 
-    /// Whether the symbol is steady in the body with this number: nothing writes it, and it isn't foreign to the body.
+    /// Whether the symbol is steady in the body with this number: nothing writes it, and it isn't
+    /// foreign to the body.
     pub fn is_steady(&self, symbol: SymbolId, body: u32) -> bool
         ensures { result ≡ steady self.now symbol.0 body }
     {
@@ -268,45 +275,48 @@ impl Scopes {
         !self.is_shared(symbol, body)
     }
 
-    /// Whether the symbol is steady in the body with this number, and initialised as that begins. Of a lexical name it never answers true.
+    /// Whether the symbol is steady in the body with this number, and initialised as that begins.
+    /// Of a lexical name it never answers true.
     pub fn is_initial(&self, symbol: SymbolId, body: u32) -> bool
         ensures { result ≡ initial self.now symbol.0 body }
     {
         self.is_steady(symbol, body) && !is_marked(self.look.tables.lexical.as_slice(), symbol.0)
     }
 
-    /// Whether no body with this number asks the world for `this`. (ECMA-262, "ResolveThisBinding".)
+    /// Whether no body with this number asks the world for `this`. (ECMA-262,
+    /// "ResolveThisBinding".)
     pub fn has_this(&self, body: u32) -> bool
         ensures { result ≡ this_held self.now body }
     {
         !is_marked(self.look.asking.as_slice(), body)
     }
 
-    /// How often the symbol is read: export specifiers, compound targets and updates are among that.
+    /// How often the symbol is read: export specifiers, compound targets and updates are among
+    /// that.
     pub fn reads(&self, symbol: SymbolId) -> u32
         ensures { result ≡ slice_index self.now.reads symbol.0 }
     {
         count_at(self.look.counts.reads.as_slice(), symbol.0)
     }
 
-    /// How often the symbol is assigned to: targets, updates, and the heads of `for..in` and `for..of` that are no
-    /// declarations; a declarator isn't counted.
+    /// How often the symbol is assigned to: targets, updates, and the heads of `for..in` and
+    /// `for..of` that are no declarations; a declarator isn't counted.
     pub fn writes(&self, symbol: SymbolId) -> u32
         ensures { result ≡ slice_index self.now.writes symbol.0 }
     {
         count_at(self.look.counts.writes.as_slice(), symbol.0)
     }
 
-    /// Whether the symbol can be written: not those of `const`, imports, the own names of function expressions, and the
-    /// names that classes hold inside. (ECMA-262, "CreateImmutableBinding".)
+    /// Whether the symbol can be written: not those of `const`, imports, the own names of function
+    /// expressions, and the names that classes hold inside. (ECMA-262, "CreateImmutableBinding".)
     pub fn is_writable(&self, symbol: SymbolId) -> bool
         ensures { result ≡ not (mark_at self.now.fixed symbol.0) }
     {
         !is_marked(self.look.tables.fixed.as_slice(), symbol.0)
     }
 
-    /// Whether the program that was looked at last mentions the symbol, and lets it be written. Of a symbol that it doesn't mention
-    /// nothing is told.
+    /// Whether the program that was looked at last mentions the symbol, and lets it be written. Of
+    /// a symbol that it doesn't mention nothing is told.
     pub fn is_mentioned_writable(&self, symbol: SymbolId) -> bool
         ensures { result ≡ mark_at self.now.writable symbol.0 }
     {
@@ -327,29 +337,32 @@ impl Scopes {
         ScopeId(count_at(self.look.scopes.owners.as_slice(), symbol.0))
     }
 
-    /// Whether a direct eval can see the symbol: one stands in the scope that declares it, nested functions included.
+    /// Whether a direct eval can see the symbol: one stands in the scope that declares it, nested
+    /// functions included.
     pub fn is_seen_by_eval(&self, symbol: SymbolId) -> bool
         ensures { result ≡ mark_at self.now.seen symbol.0 }
     {
         is_marked(self.look.scopes.seen.as_slice(), symbol.0)
     }
 
-    /// Whether a module imports or exports the symbol. (ECMA-262, "ImportEntries", "ExportEntries".)
+    /// Whether a module imports or exports the symbol. (ECMA-262, "ImportEntries",
+    /// "ExportEntries".)
     pub fn is_exchanged(&self, symbol: SymbolId) -> bool
         ensures { result ≡ mark_at self.now.exchanged symbol.0 }
     {
         is_marked(self.look.tables.exchanged.as_slice(), symbol.0)
     }
 
-    /// Whether the symbol is a parameter of a sloppy function that names its `arguments`. (ECMA-262,
-    /// "CreateMappedArgumentsObject".)
+    /// Whether the symbol is a parameter of a sloppy function that names its `arguments`.
+    /// (ECMA-262, "CreateMappedArgumentsObject".)
     pub fn is_reached_by_arguments(&self, symbol: SymbolId) -> bool
         ensures { result ≡ mark_at self.now.reached symbol.0 }
     {
         is_marked(self.look.tables.reached.as_slice(), symbol.0)
     }
 
-    /// Whether another body than the one with this number, or a carried node, declares, binds, reads or writes the symbol.
+    /// Whether another body than the one with this number, or a carried node, declares, binds,
+    /// reads or writes the symbol.
     pub fn is_mentioned_outside(&self, symbol: SymbolId, body: u32) -> bool
         ensures { result ≡ is_outside_of (entry_at self.now.mentioned symbol.0) body }
     {
@@ -359,7 +372,8 @@ impl Scopes {
         )
     }
 
-    /// Whether the body with this number shares the symbol with what is outside it: others may read it while the body runs.
+    /// Whether the body with this number shares the symbol with what is outside it: others may read
+    /// it while the body runs.
     pub fn is_shared(&self, symbol: SymbolId, body: u32) -> bool
         ensures { result ≡ shares self.now symbol.0 body }
     {
@@ -372,8 +386,8 @@ impl Scopes {
         is_shared_always(&self.look, symbol)
     }
 
-    /// Whether the symbol is foreign to the body with this number: others may change it while the body runs, or it may be
-    /// uninitialised where the body reads it.
+    /// Whether the symbol is foreign to the body with this number: others may change it while the
+    /// body runs, or it may be uninitialised where the body reads it.
     pub fn is_foreign(&self, symbol: SymbolId, body: u32) -> bool
         ensures { result ≡ foreign self.now symbol.0 body }
     {
@@ -396,7 +410,7 @@ impl Scopes {
         is_changed(&self.look, symbol)
     }
 
-    // Whether another body than this or a carried node does.
+    // Whether something writes the symbol in another body than this or in a carried node.
     fn is_changed_outside(&self, symbol: u32, body: u32) -> bool
         ensures { result ≡ is_changed_outside self.now symbol body }
     {
@@ -439,16 +453,17 @@ impl Scopes {
         is_marked(self.look.scopes.evals.as_slice(), scope.0)
     }
 
-    /// Whether `this` in the body with this number is the event of reading what `super()` binds. (ECMA-262,
-    /// "BindThisValue".)
+    /// Whether `this` in the body with this number is the event of reading what `super()` binds.
+    /// (ECMA-262, "BindThisValue".)
     pub fn this_has_event(&self, body: u32) -> bool
         ensures { result ≡ mark_at self.now.this_events body }
     {
         is_marked(self.look.tables.this_events.as_slice(), body)
     }
 
-    /// Whether the body with this number is that of a function that is neither an arrow nor a static block, or of an arrow
-    /// which stands in such a body by arrows alone. (ECMA-262, "FunctionDeclarationInstantiation".)
+    /// Whether the body with this number is that of a function that is neither an arrow nor a
+    /// static block, or of an arrow which stands in such a body by arrows alone. (ECMA-262,
+    /// "FunctionDeclarationInstantiation".)
     pub fn has_arguments(&self, body: u32) -> bool
         ensures { result ≡ mark_at self.now.arguments body }
     {

@@ -14,42 +14,49 @@ use mini_model::{MethodDefinitionKind, Shape};
 use mini_node::{Node, Nodes};
 use mini_scope::use_of;
 
-/// Whether the class right around a place has a superclass; whether the place is a constructor of such a class; whether
-/// `this` is bound by `super()` there; and whether the body around it has an `arguments`. (ECMA-262, "BindThisValue",
-/// "FunctionDeclarationInstantiation".)
+/// What `this`, `super` and `arguments` are at a place (ECMA-262, "BindThisValue",
+/// "FunctionDeclarationInstantiation").
 #[derive(Clone, Copy)]
 pub struct Frame {
+    /// Whether the class right around the place has a superclass.
     pub extends: bool,
+    /// Whether the place is the constructor of a class with a superclass.
     pub constructs: bool,
+    /// Whether `this` is bound by `super()` there.
     pub binds_this: bool,
+    /// Whether the body around the place has an `arguments`.
     pub has_arguments: bool,
 }
 
 /// What holds around a node.
 #[derive(Clone, Copy)]
 pub struct Standing {
-    /// How its names are used.
+    /// How the node's names are used.
     pub usage: Use,
-    /// The innermost node with a number around it.
+    /// The innermost node with a number around the node.
     pub around: Around,
-    /// Whether its code is strict.
+    /// Whether the node's code is strict.
     pub strict: bool,
     /// Whether what a module imports and exports may be named there.
     pub exchanges: bool,
-    /// Whether it may be an import.
+    /// Whether the node may be an import.
     pub imports: bool,
-    /// Whether it stands directly in the body of a script or a function, in which functions are no lexical names.
+    /// Whether the node stands directly in the body of a script or a function, in which functions
+    /// are no lexical names.
     pub in_body: bool,
     /// What `this` and `arguments` are there.
     pub frame: Frame,
 }
 
-/// How the names of a node are used, what is around it, and whether its code is strict: the part of how it stands that most
-/// walks ask for.
+/// How the names of a node are used, what is around it, and whether its code is strict: the part of
+/// how it stands that most walks ask for.
 #[derive(Clone, Copy)]
 pub struct Reading {
+    /// How the node's names are used.
     pub usage: Use,
+    /// The innermost node with a number around the node.
     pub around: Around,
+    /// Whether the node's code is strict.
     pub strict: bool,
 }
 
@@ -139,7 +146,8 @@ fn around_by(numbering: Numbering, around: Around, number: u32) -> Around
     }
 }
 
-/// The innermost node with a number around the child at an index of a node of this shape and this number.
+/// The innermost node with a number around the child at an index of a node of this shape and this
+/// number.
 fn around_below(shape: &Shape, around: Around, number: u32, at: usize) -> Around
     ensures { result ≡ around_child shape.now around number at }
 {
@@ -233,7 +241,8 @@ fn is_importing(shape: &Shape) -> bool
     matches!(shape, Shape::Program(..) | Shape::Listed)
 }
 
-/// Whether the children of a node of this shape stand directly in the body of a script or a function.
+/// Whether the children of a node of this shape stand directly in the body of a script or a
+/// function.
 fn is_body(shape: &Shape, in_body: bool) -> bool
     ensures { result ≡ is_body_by shape.now in_body }
 {

@@ -1,4 +1,5 @@
-//! Functions in whose parameters bodies stand, and marks of bodies, compared from one look at a program to the next.
+//! Functions in whose parameters bodies stand, and marks of bodies, compared from one look at a
+//! program to the next.
 
 ghost use Rattle.std.specs.Prelude.{◌≡◌, ℕ, ◌<◌, ◌||◌, ◌&&◌, nat_eq, true, [], length, slice_index_or, OnOk};
 ghost use Rattle.std.specs.List.{list_all, list_any};
@@ -71,7 +72,8 @@ fn body_stays(
     true
 }
 
-/// Whether for each function in the list at an index those that it was stand in the earlier list there.
+/// Whether for each function in the list at an index those that it was stand in the earlier list
+/// there.
 pub fn bodies_stay(
     earlier: &[OwnedList<u32>],
     origins: &[OwnedList<u32>],
@@ -106,7 +108,7 @@ fn only_in(list: &OwnedList<u32>) -> Option<u32>
     }
 }
 
-/// The number in the list at an index, where it has no other.
+/// The number in the list at an index, where that holds just one; else None.
 pub fn only_at(lists: &[OwnedList<u32>], at: u32) -> Option<u32>
     ensures { result ≡ only_of (slice_index_or lists.now at []) }
 {
@@ -116,7 +118,7 @@ pub fn only_at(lists: &[OwnedList<u32>], at: u32) -> Option<u32>
     }
 }
 
-/// Whether no function binds a symbol now, or one does as before.
+/// Whether in the later look no function binds a symbol, or just one does, as in the earlier.
 pub fn stays_bound(earlier: &[OwnedList<u32>], later: &[OwnedList<u32>], symbol: u32) -> bool
     ensures { result ≡ stays_bound_in (slice_index_or earlier.now symbol []) (slice_index_or later.now symbol []) }
 {
@@ -124,7 +126,8 @@ pub fn stays_bound(earlier: &[OwnedList<u32>], later: &[OwnedList<u32>], symbol:
         || (only_at(later, symbol).is_some() && only_at(earlier, symbol).is_some())
 }
 
-/// Puts that a function of the later look was one of the earlier.
+/// Notes that a function of the later look was one of the earlier. The only error is that memory
+/// runs out.
 pub fn put_origin(
     alloc: Global,
     origins: &mut Vec<OwnedList<u32>>,

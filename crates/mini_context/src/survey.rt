@@ -29,35 +29,35 @@ use std::alloc::Global;
 /// What a walk over a program finds, by symbol and by the number of a body.
 #[derive(Drop)]
 pub struct Tables {
-    /// The names that can't be written.
+    /// By symbol, whether its name can't be written.
     pub fixed: Vec<bool>,
-    /// The names that a module imports and exports.
+    /// By symbol, whether a module imports or exports it.
     pub exchanged: Vec<bool>,
-    /// The parameters that an `arguments` reaches.
+    /// By symbol, whether it is a parameter that an `arguments` reaches.
     pub reached: Vec<bool>,
-    /// The names that a module imports.
+    /// By symbol, whether a module imports it.
     pub imported: Vec<bool>,
-    /// The names that patterns bind.
+    /// By symbol, whether a pattern binds it.
     pub patterns: Vec<bool>,
-    /// The lexical names.
+    /// By symbol, whether its name is lexical.
     pub lexical: Vec<bool>,
-    /// Those directly in a `switch`.
+    /// By symbol, whether its name is lexical and declared directly in a `switch`.
     pub switched: Vec<bool>,
-    /// The parameters of `catch`.
+    /// By symbol, whether it is the parameter of a `catch`.
     pub params: Vec<bool>,
-    /// The `var`s under a parameter of `catch` of their name.
+    /// By symbol, whether it is a `var` under a parameter of `catch` of its name.
     pub caught: Vec<bool>,
-    /// Where each symbol is mentioned.
+    /// By symbol, where it is mentioned.
     pub mentioned: Vec<Mentioned>,
-    /// Where each symbol is written.
+    /// By symbol, where it is written.
     pub written: Vec<Mentioned>,
-    /// The bodies in which each symbol is bound.
+    /// By symbol, the bodies in which it is bound.
     pub homes: Vec<OwnedList<u32>>,
     /// In whose parameters bodies stand, and symbols are bound.
     pub enclosing: Params,
-    /// The bodies in which `this` is an event.
+    /// By number, whether `this` is an event in the body.
     pub this_events: Vec<bool>,
-    /// The bodies that have an `arguments`.
+    /// By number, whether the body has an `arguments`.
     pub arguments: Vec<bool>,
 }
 
@@ -82,7 +82,8 @@ pub fn empty_tables(alloc: Global) -> Tables {
     }
 }
 
-/// Makes them three tables for so many symbols, without a mark. After `OutOfMemory` they are fit only to be dropped.
+/// Makes them three tables for so many symbols, without a mark. After `OutOfMemory` they are fit
+/// only to be dropped.
 fn open_marks(
     alloc: Global,
     symbols: u32,
@@ -100,7 +101,7 @@ fn open_marks(
     Ok(())
 }
 
-/// Makes them two tables for so many symbols that are mentioned nowhere.
+/// Makes them two tables for that many symbols, which are mentioned nowhere.
 fn open_mentions(
     alloc: Global,
     symbols: u32,
@@ -115,7 +116,8 @@ fn open_mentions(
     Ok(())
 }
 
-/// Makes them tables for so many symbols, without a mark. After `OutOfMemory` they are fit only to be dropped.
+/// Makes them tables for so many symbols, without a mark. After `OutOfMemory` they are fit only to
+/// be dropped.
 pub fn open_tables(alloc: Global, symbols: u32, tables: &mut Tables) -> Result<(), OutOfMemory>
     ensures { OnOk result (Unmarked symbols tables.new) }
 {
@@ -162,7 +164,8 @@ fn reach(marks: &mut Vec<bool>, at: usize) -> Result<(), OutOfMemory>
     Ok(())
 }
 
-/// Marks a number where something holds of it; the table grows where it must.
+/// Marks a number where something holds of it; the table grows where it must. The only error is
+/// that memory runs out.
 pub fn mark_number(marks: &mut Vec<bool>, number: u32, holds: bool) -> Result<(), OutOfMemory>
     ensures { OnOk result ((k : ℕ) → mark_at marks.new.items k ≡ (mark_at marks.old.items k || (nat_eq number k && holds))) }
 {
@@ -265,7 +268,8 @@ fn visit(
     enclose(alloc, &mut tables.enclosing, node)
 }
 
-/// Walks over a tree that stands so.
+/// Walks over a tree that stands like this, and fills the tables. The only error is that memory
+/// runs out.
 #[cycle(survey)]
 pub fn survey_node(
     alloc: Global,

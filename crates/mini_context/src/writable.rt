@@ -13,29 +13,29 @@ use mini_model::{Name, OutOfMemory, Shape, SymbolId, UnaryOperator, VariableDecl
 use mini_node::{Node, Nodes};
 use std::alloc::Global;
 
-/// Whose names a node declares or binds.
+/// Whose names are meant, of those that a node and its children declare or bind.
 #[derive(Clone, Copy)]
 pub enum Holder {
-    /// Its own.
+    /// The node's own name.
     Itself,
-    /// What its child at an index declares.
+    /// The names that its child at an index declares.
     At(usize),
-    /// What its children declare.
+    /// The names that its children declare.
     Every,
-    /// What its first child declares, where that is a class.
+    /// The names that its first child declares, where that is a class.
     AClass,
-    /// None.
+    /// None of them.
     Nothing,
 }
 
-/// Where a class stands that a node declares, as a parent reads it.
+/// Where the class stands that a node declares, as a parent reads it.
 #[derive(Clone, Copy)]
 pub enum ClassPlace {
-    /// It is one.
+    /// The node is the class.
     Here,
-    /// Its first child is.
+    /// The node's first child is the class.
     First,
-    /// None does.
+    /// The node declares no class.
     Nowhere,
 }
 
@@ -81,7 +81,8 @@ fn put_children(marks: &mut Vec<bool>, node: &Node) -> Result<(), OutOfMemory>
 
 // ---- what is declared
 
-/// Whose names a node of this shape declares in the scope around it, or binds. (ECMA-262, "BoundNames", "LexicallyDeclaredNames".)
+/// Whose names a node of this shape declares in the scope around it, or binds. (ECMA-262,
+/// "BoundNames", "LexicallyDeclaredNames".)
 fn lets_holder(shape: &Shape) -> Holder
     ensures { result ≡ lets_holder_of shape.now }
 {
@@ -105,7 +106,8 @@ fn lets_holder(shape: &Shape) -> Holder
     }
 }
 
-/// Whose names can't be written that a node of this shape declares. (ECMA-262, "CreateImmutableBinding".)
+/// Whose names can't be written that a node of this shape declares. (ECMA-262,
+/// "CreateImmutableBinding".)
 fn forbidden_holder(shape: &Shape) -> Holder
     ensures { result ≡ forbidden_holder_of shape.now }
 {
@@ -132,7 +134,7 @@ fn class_place(shape: &Shape) -> ClassPlace
     }
 }
 
-// Whether a parent reads of it that it declares a class.
+// Whether a parent reads of the node that it declares a class.
 fn declares_class(node: &Node) -> bool
     ensures { result ≡ is_class_declared node.now }
 {
@@ -238,8 +240,9 @@ fn take_all_forbidden(marks: &mut Vec<bool>, nodes: &Nodes)
     }
 }
 
-/// Sets the symbols that a program mentions and lets be written, and answers for how many symbols a table has room for each that it
-/// mentions. After `OutOfMemory` they are fit only to be dropped.
+/// Sets, by symbol, whether a program mentions it and lets it be written. The answer is a number
+/// above each symbol that the program mentions. After `OutOfMemory` the marks are fit only to be
+/// dropped.
 pub fn mark_writable(
     alloc: Global,
     marks: &mut Vec<bool>,

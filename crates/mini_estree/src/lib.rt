@@ -1,5 +1,5 @@
-//! ESTree JSON into trees and back: reading programs by the table of ESTree, and what else a caller that reads and writes
-//! them needs.
+//! ESTree JSON into trees and back: reading programs by the table of ESTree, and what else a caller
+//! that reads and writes them needs.
 #![tactic(auto)]
 
 mod head;

@@ -23,11 +23,12 @@ pub struct Numbered {
     pub numbers: u32,
 }
 
-/// The tree of a program, whose nodes nest at most `max_depth` deep, the program being at depth 1, and whose numbered
-/// nodes have the numbers from 0 on in preorder; no name has a symbol.
+/// The tree of a program, whose nodes nest at most `max_depth` deep, the program being at depth 1,
+/// and whose numbered nodes have the numbers from 0 on in preorder; no name has a symbol.
 ///
-/// The error points to the first node that is no form of ESTree (`BadShape`), is a form that isn't read
-/// (`Unsupported`) or nests too deep (`TooDeep`). `OutOfMemory` may come in place of any answer.
+/// The error points to the first node that is no form of ESTree (`BadShape`), is a form that isn't
+/// read (`Unsupported`) or nests too deep (`TooDeep`). `OutOfMemory` may come in place of any
+/// answer.
 #[tactic(auto, using(mini_accept::proofs::Symbols::program_unresolved), unfolding(mini_accept::specs::Accept::program_at))]
 pub fn read_program(alloc: Global, value: &Value, max_depth: u32) -> Result<Numbered, MinifyError>
     ensures tree { IfOk result (λ p. program_at max_depth (view value.now) ≡ Ok (p.root, p.numbers)) }

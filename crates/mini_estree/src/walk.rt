@@ -100,7 +100,8 @@ fn inner(alloc: Global, number: u32, below: Node) -> Result<Node, MinifyError>
     Ok(Node::with(Shape::InnerExpression, None, number, children))
 }
 
-/// The tree of a node in a place, which nests at most so deep, in strict or sloppy code, and the next number.
+/// The tree of a node in a place, which nests at most so deep, in strict or sloppy code, and the
+/// next number.
 #[cycle(walk)]
 #[tactic(auto, using(crate::proofs::Nodes::deep, crate::proofs::Nodes::unplanned, crate::proofs::Nodes::blames_memory))]
 pub fn node(

@@ -46,8 +46,8 @@ impl CodePoint {
         CodePoint { number: 0 }
     }
 
-    // The code point whose digits are those of this one and the unit; None where the unit is no digit, or the number
-    // is past the last code point.
+    // The code point whose digits are those of this one and the unit; None where the unit is no
+    // digit, or the number is past the last code point.
     fn with_digit(self, unit: u16) -> Option<CodePoint>
         ensures { result ≡ with_digit self unit }
     {
@@ -148,7 +148,8 @@ fn read_character(unit: u16) -> Reading
     }
 }
 
-// Reads the unit after a backslash: an end of a line, a digit, a letter of an escape, or one that stands for itself.
+// Reads the unit after a backslash: an end of a line, a digit, a letter of an escape, or one that
+// stands for itself.
 fn read_escape(unit: u16) -> Reading
     ensures { step_of result ≡ escape_step unit }
 {
@@ -229,7 +230,8 @@ fn unit_is_next(rest: &mut EncodeUtf16<'_>, unit: u16) -> bool
     }
 }
 
-// Whether the units of the code point are the next ones of the text (ECMA-262, UTF16EncodeCodePoint).
+// Whether the units of the code point are the next ones of the text (ECMA-262,
+// UTF16EncodeCodePoint).
 #[tactic(auto, using(crate::proofs::Cooked::begins_with_two))]
 fn point_is_next(rest: &mut EncodeUtf16<'_>, point: CodePoint) -> bool
     requires { IsUtf8 (encode_utf16_rest rest.old) }

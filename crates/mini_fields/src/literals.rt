@@ -35,7 +35,8 @@ fn reg_exp(value: &Value) -> Option<LiteralValue<'_>>
     Some(LiteralValue::RegExp { pattern, flags })
 }
 
-/// The number of decimal digits, which is None past 2 ^ 128 - 1; None where the text is no such digits.
+/// The number of decimal digits, which is None past 2 ^ 128 - 1; None where the text is no such
+/// digits.
 pub fn digits_value(text: &str) -> Option<Option<u128>>
     ensures { result ≡ option_map capped (digits_value text.now) }
 {

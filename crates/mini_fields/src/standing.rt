@@ -294,7 +294,8 @@ fn asked_type(class: Class) -> Option<&'static str>
     }
 }
 
-// Whether a node of the type may stand where another class is asked for: most ask for the type alone.
+// Whether a node of the type may stand where another class is asked for: most ask for the type
+// alone.
 fn stands_otherwise(class: Class, kind: Kind, value: &Value) -> bool
     ensures { result ≡ stands_otherwise class kind (view value.now) }
 {
@@ -373,7 +374,8 @@ pub fn may_stand_by(place: Place, kind: Kind, value: &Value) -> bool
     }
 }
 
-/// Whether the type of the node, and where the place asks for one its form, is one that stands there.
+/// Whether the type of the node, and where the place asks for one its form, is one that stands
+/// there.
 pub fn may_stand(place: Place, value: &Value) -> bool
     ensures { result ≡ may_stand (place_of place) (view value.now) }
 {
@@ -441,8 +443,8 @@ pub fn is_unread_unknown(place: Place, value: &Value) -> bool
     has_unread_type(value) || (!is_for_text(place) && !is_bare("decorators", value))
 }
 
-// Whether it is an asynchronous function or loop, a declaration of `using`, or has import attributes or the options of
-// an import.
+// Whether it is an asynchronous function or loop, a declaration of `using`, or has import
+// attributes or the options of an import.
 fn has_unread_field(kind: Kind, value: &Value) -> bool
     ensures { result ≡ has_unread_field_of kind (view value.now) }
 {
@@ -510,8 +512,8 @@ fn is_key(class: Class) -> bool
     }
 }
 
-// Whether the form isn't read where it stands: a BigInt as a key without brackets, and a function of sloppy code that
-// isn't directly in a body.
+// Whether the form isn't read where it stands: a BigInt as a key without brackets, and a function
+// of sloppy code that isn't directly in a body.
 fn is_unread_at(strict: bool, place: Place, kind: Kind, value: &Value) -> bool
     ensures { result ≡ is_unread_at strict (place_of place) kind (view value.now) }
 {
@@ -539,7 +541,8 @@ pub fn is_unread(strict: bool, place: Place, kind: Kind, value: &Value) -> bool
     is_unread_of(strict, place, kind, value)
 }
 
-/// Whether the value is a defect of the node above: it is no object, or has another type than the place asks for.
+/// Whether the value is a defect of the node above: it is no object, or has another type than the
+/// place asks for.
 pub fn is_misplaced(strict: bool, place: Place, value: &Value) -> bool
     ensures { result ≡ is_misplaced strict (place_of place) (view value.now) }
 {

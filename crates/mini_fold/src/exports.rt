@@ -69,7 +69,8 @@ fn is_plain_assignment(node: &Node) -> bool
     }
 }
 
-/// Whether the right side of `&&` assigns to `module.exports` or to `module["exports"]`, by name alone.
+/// Whether the right side of `&&` assigns to `module.exports` or to `module["exports"]`, by name
+/// alone.
 pub fn names_exports(operator: LogicalOperator, right: &Node) -> bool
     ensures { result ≡ row.names_exports operator right.now }
 {

@@ -1,5 +1,5 @@
-//! Rewrites on what is known of an expression from its text: each with its rule for the walk, and the laws that join the rules to
-//! the definition of what can be rewritten.
+//! Rewrites on what is known of an expression from its text: each with its rule for the walk, and
+//! the laws that join the rules to the definition of what can be rewritten.
 #![tactic(auto)]
 
 mod exports;

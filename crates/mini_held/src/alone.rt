@@ -1,4 +1,5 @@
-//! Whether what is left of a sequence may stand in its place (21): `(0, a)()` becomes `a()`, and `typeof (0, a.b)` becomes `typeof a.b`.
+//! Whether what is left of a sequence may stand in its place (21): `(0, a)()` becomes `a()`, and
+//! `typeof (0, a.b)` becomes `typeof a.b`.
 
 ghost use Rattle.std.specs.Prelude.{◌≡◌, codes};
 ghost use Rattle.mini_node.specs.Children.{names};
@@ -65,15 +66,17 @@ fn is_number(node: &Node) -> bool
     matches!(node.shape(), Shape::NumericLiteral(_))
 }
 
-// Whether it is the operand of a `typeof`, which reads it by its value, and no number, which may be one with a minus before it.
+// Whether it is the operand of a `typeof`, which reads it by its value, and no number, which may be
+// one with a minus before it.
 fn is_typed_plainly(seat: Seat, node: &Node) -> bool
     ensures { result ≡ row.is_typed_plainly seat node.now }
 {
     is_typeof(seat.guard) && is_typed_by_value(node) && is_plain_part(node) && !is_number(node)
 }
 
-/// Whether an expression means here what a sequence does of which it is left: it suits the place, or is a name other than `eval` that is called, or
-/// the operand of a `typeof`, which reads it by its value (ECMA-262, "EvaluateCall", "The typeof Operator").
+/// Whether an expression means here what a sequence does of which it is left: it suits the place,
+/// or is a name other than `eval` that is called, or the operand of a `typeof`, which reads it by
+/// its value (ECMA-262, "EvaluateCall", "The typeof Operator").
 pub fn stays_alone(seat: Seat, node: &Node) -> bool
     ensures { result ≡ row.stays_alone seat node.now }
 {

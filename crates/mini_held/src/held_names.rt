@@ -1,4 +1,5 @@
-//! Names that can't be written, in a statement or an expression that goes: each is declared by a scope in it, and goes with that.
+//! Names that can't be written, in a statement or an expression that goes: each is declared by a
+//! scope in it, and goes with that.
 
 ghost use Rattle.std.specs.Prelude.{◌≡◌, ◌<◌, ◌&&◌, nat_eq, true, false};
 ghost use Rattle.mini_model.specs.Tree.{children, child_or_absent, count, shape_of};
@@ -36,7 +37,8 @@ fn first_binds(nodes: &Nodes) -> bool
     nodes.is_empty() || binds(nodes.child(0))
 }
 
-// Whether a part of a declaration gives the names that it binds, and no statement or declaration stands there.
+// Whether a part of a declaration gives the names that it binds, and no statement or declaration
+// stands there.
 #[cycle(binding)]
 #[tactic(auto, using(crate::proofs::Enclosing::binding_is, crate::proofs::Enclosing::below))]
 fn binds(node: &Node) -> bool
@@ -67,7 +69,8 @@ fn is_name_at(nodes: &Nodes, amount: usize, at: usize) -> bool
     nodes.len() == amount && is_name(nodes.child(at))
 }
 
-// Whether a scope declares the node's own name that it opens itself, or one around it, where one holds it.
+// Whether a scope declares the node's own name that it opens itself, or one around it, where one
+// holds it.
 fn encloses_itself(node: &Node, held: bool) -> bool
     ensures { result ≡ list.encloses_by held (shape_of node.now) (children node.now) }
 {
@@ -145,7 +148,8 @@ fn is_body(shape: &Shape) -> bool
     matches!(shape, Shape::FunctionBody)
 }
 
-// Whether a scope has the names that the child declares at a place, of the second shape: the node's, or one around it.
+// Whether a scope has the names that the child declares at a place, of the second shape: the
+// node's, or one around it.
 fn holds(held: bool, shape: &Shape, at: usize, child: &Shape) -> bool
     ensures { result ≡ list.holds held shape.now at child.now }
 {
@@ -174,7 +178,8 @@ fn encloses(held: bool, node: &Node) -> bool
     encloses_itself(node, held) && all_enclose(held, node.shape(), node.children())
 }
 
-/// Whether each name in the node that can't be written is declared by a scope in it, as in any statement or expression of a program.
+/// Whether each name in the node that can't be written is declared by a scope in it, as in any
+/// statement or expression of a program.
 pub fn takes_names_along(node: &Node) -> bool
     ensures { result ≡ list.encloses false node.now }
 {

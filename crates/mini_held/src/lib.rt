@@ -1,5 +1,6 @@
-//! What goes, and what is left: whether what goes takes along the names in it that can't be written, each declared by a scope in it, whether
-//! what is left of a sequence may stand in its place, and what is left of an equality that is told by its sides.
+//! What goes, and what is left: whether what goes takes along the names in it that can't be
+//! written, each declared by a scope in it, whether what is left of a sequence may stand in its
+//! place, and what is left of an equality that is told by its sides.
 #![tactic(auto)]
 
 mod alone;

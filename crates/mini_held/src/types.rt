@@ -1,5 +1,5 @@
-//! What an equality of a result of `typeof` tells (16, 17): `typeof a == "text"` is `!1`, as no text that `typeof` gives equals the other side
-//! (ECMA-262, "The typeof Operator").
+//! What an equality of a result of `typeof` tells (16, 17): `typeof a == "text"` is `!1`, as no
+//! text that `typeof` gives equals the other side (ECMA-262, "The typeof Operator").
 
 ghost use Rattle.std.specs.Prelude.{◌≡◌, true, IfOk};
 ghost use Rattle.mini_model.specs.Tree.{children, count};
@@ -13,8 +13,8 @@ use mini_node::{Node, negation, numeric_literal, string, unary_operator};
 use mini_terms::{Kind, is_effect_free, kind_of, leaves_nothing};
 use std::alloc::Global;
 
-/// The UTF-16 units of `undefined`, which `typeof` gives of that value, and of a name that nobody declares (ECMA-262, "The typeof
-/// Operator").
+/// The UTF-16 units of `undefined`, which `typeof` gives of that value, and of a name that nobody
+/// declares (ECMA-262, "The typeof Operator").
 pub const UNDEFINED: [u16; 9] = [117, 110, 100, 101, 102, 105, 110, 101, 100];
 
 // Those of the other texts that it gives, and of one that it gave of old.
@@ -89,8 +89,8 @@ fn is_no_type(node: &Node) -> bool
     }
 }
 
-/// Whether `typeof` stands beside what none of its texts equals, where nothing is done and nothing left behind. It is said whether `this` has an
-/// effect, as it has where it is asked of the world.
+/// Whether `typeof` stands beside what none of its texts equals, where nothing is done and nothing
+/// left behind. It is said whether `this` has an effect, as it has where it is asked of the world.
 pub fn is_never_type(node: &Node, asked: bool) -> bool
     requires { count (children node.now) ≡ 2 }
     ensures { result ≡ types.is_never_type asked node.now }

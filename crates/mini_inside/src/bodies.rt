@@ -1,4 +1,5 @@
-//! What holds the list of a body: an arrow function, any other function, a module and a static block.
+//! What holds the list of a body: an arrow function, any other function, a module and a static
+//! block.
 
 ghost use Rattle.std.specs.Prelude.{◌≡◌, ◌<◌, true, IfOk};
 ghost use Rattle.mini_model.specs.declared.place.Position.TheVariants.{Expr, Elsewhere};
@@ -92,8 +93,9 @@ fn remove_in_holder<E: EndRewrites>(
     Ok(changed)
 }
 
-/// Of a function that is no arrow function, wherever it stands, what is done at the ends of the ways in it. The answer says whether a name went; the only error is that memory runs
-/// out, and then the node is fit only to be dropped.
+/// Of a function that is no arrow function, wherever it stands, what is done at the ends of the
+/// ways in it. The answer says whether a name went; the only error is that memory runs out, and
+/// then the node is fit only to be dropped.
 pub fn remove_inside_function<E: EndRewrites>(
     alloc: Global,
     node: &mut Node,

@@ -1,5 +1,5 @@
-//! What is done at the end of a way further inside a body: rows 71 and 72 of a `var` in a list of statements, in no list, and in the head of
-//! a `for`.
+//! What is done at the end of a way further inside a body: rows 71 and 72 of a `var` in a list of
+//! statements, in no list, and in the head of a `for`.
 
 ghost use Rattle.std.specs.Prelude.{◌≡◌, ◌<◌, ◌&&◌, ◌||◌, not, true, IfOk};
 ghost use Rattle.mini_model.specs.Tree.{◌▸◌, none, children, count, listed as as_list};
@@ -27,8 +27,9 @@ pub trait EndRewrites {
     /// What is read there as what.
     ghost ends: { Self → Ends };
 
-    /// Writes there what a row says, once or more often, and answers true; or leaves it, if none reads it, and answers false. The only error
-    /// is that memory runs out, and then the node is fit only to be dropped.
+    /// Writes there what a row says, once or more often, and answers true; or leaves it, if none
+    /// reads it, and answers false. The only error is that memory runs out, and then the node is
+    /// fit only to be dropped.
     fn rewrite_end(
         &self,
         alloc: Global,
@@ -103,7 +104,8 @@ fn goes_alone(above: &Node, list: &Node, which: usize) -> bool
     is_idle_at(list.child(0).child(0), which) && !either_has_eval(above, list)
 }
 
-// Of what a `for` begins with, alone in a list, a declarator whose name nothing else mentions and whose initializer nothing misses.
+// Of what a `for` begins with, alone in a list, a declarator whose name nothing else mentions and
+// whose initializer nothing misses.
 fn idle_place(above: &Node, list: &Node, context: &TraverseCtx) -> Option<usize>
     requires above { is_it_listed above.now ≡ true }
     requires alone { list.now ≡ as_list (part list.now 0 ▸ none) }
@@ -123,7 +125,8 @@ fn idle_place(above: &Node, list: &Node, context: &TraverseCtx) -> Option<usize>
     }
 }
 
-// In what a `for` begins with, where that is a `var`: a name that nothing else mentions goes, or one that the next declarator reads.
+// In what a `for` begins with, where that is a `var`: a name that nothing else mentions goes, or
+// one that the next declarator reads.
 fn remove_in_heading(
     alloc: Global,
     above: &Node,

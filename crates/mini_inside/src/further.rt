@@ -1,4 +1,5 @@
-//! The walk over what stands further inside a list of statements, with what is done at the ends of its ways.
+//! The walk over what stands further inside a list of statements, with what is done at the ends of
+//! its ways.
 
 ghost use Rattle.std.specs.Prelude.{◌≡◌, ◌<◌, true, IfOk, OnOk};
 ghost use Rattle.mini_model.specs.Tree.{children, count};
@@ -33,8 +34,9 @@ fn remove_in<E: EndRewrites>(
     Ok(below | here)
 }
 
-/// Of a node on the way to `var`s further inside, with the nodes above it, each without what the way goes into, that is done at the ends of the ways
-/// in it. The answer says whether anything was; the only error is that memory runs out, and then the nodes are fit only to be dropped.
+/// Of a node on the way to `var`s further inside, with the nodes above it, each without what the
+/// way goes into, that is done at the ends of the ways in it. The answer says whether anything was;
+/// the only error is that memory runs out, and then the nodes are fit only to be dropped.
 #[cycle(inside)]
 pub fn remove_below<E: EndRewrites>(
     alloc: Global,

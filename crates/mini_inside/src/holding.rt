@@ -1,7 +1,9 @@
-//! Rows 71 and 72 of what holds a list of statements: `{ let x = a(); b(); }` becomes `{ a(); b(); }`, and
-//! `{ let x = 1, y = b(); c(y); }` becomes `{ let y = b(); c(y); }`, where nothing else in the block has x's spelling or its symbol and no direct
-//! eval stands there. So do the blocks of a `try`, and the statements of a function, wherever it stands, of a module, and of a static block, and
-//! there each `var`, too, whose name can be written, and so do the cases of a switch. It is lighter in every place.
+//! Rows 71 and 72 of what holds a list of statements: `{ let x = a(); b(); }` becomes
+//! `{ a(); b(); }`, and `{ let x = 1, y = b(); c(y); }` becomes `{ let y = b(); c(y); }`, where
+//! nothing else in the block has x's spelling or its symbol and no direct eval stands there. So do
+//! the blocks of a `try`, and the statements of a function, wherever it stands, of a module, and of
+//! a static block, and there each `var`, too, whose name can be written, and so do the cases of a
+//! switch. It is lighter in every place.
 
 ghost use Rattle.std.specs.Prelude.{◌≡◌, ◌<◌, true, IfOk};
 ghost use Rattle.mini_model.specs.declared.place.Position.TheVariants.{Expr, Stmt, Elsewhere};
@@ -84,7 +86,8 @@ pub fn put_statements(node: &mut Node, at: usize, list: Node)
     put_child(node, 1, cases);
 }
 
-// Of a switch, names go from the statements of the case at the place, which nothing else in the switch mentions.
+// Of a switch, names go from the statements of the case at the place, which nothing else in the
+// switch mentions.
 fn remove_in_case(
     alloc: Global,
     node: &mut Node,
@@ -149,7 +152,8 @@ pub fn has_head(node: &Node) -> bool
         && declares_list(node.child(0))
 }
 
-// Of its declarators the first whose name nothing else in the `for` mentions, and that may go from a list of statements.
+// Of its declarators the first whose name nothing else in the `for` mentions, and that may go from
+// a list of statements.
 fn unused_in_head(alloc: Global, node: &Node, context: &TraverseCtx) -> Option<usize>
     requires { 0 < count (children node.now) }
     ensures { UnusedOf (open_in is_nothing (allowed context.now)) is_nothing (children node.now) 0 result }
@@ -160,7 +164,8 @@ fn unused_in_head(alloc: Global, node: &Node, context: &TraverseCtx) -> Option<u
     found
 }
 
-/// Of a list of declarators the one at the index has a name, and an initializer that nothing misses.
+/// Of a list of declarators the one at the index has a name, and an initializer that nothing
+/// misses.
 pub fn is_idle_at(list: &Node, which: usize) -> bool
     requires { which < count (children list.now) }
     ensures { result ≡ row.is_idle_at list.now which }
@@ -237,9 +242,10 @@ fn remove_in_head(alloc: Global, node: &mut Node, context: &TraverseCtx) -> bool
     substitute_next_in_head(alloc, node, context)
 }
 
-/// Of a block, `let x = a();` becomes `a();`, `let x;` and `let x = 1;` become `;`, and `let x, y = b();` becomes `let y = b();`
-/// where nothing mentions x, and so do the cases of a switch, the head of a `for` and the statements of a function that is declared. The
-/// answer says whether one did; the only error is that memory runs out.
+/// Of a block, `let x = a();` becomes `a();`, `let x;` and `let x = 1;` become `;`, and
+/// `let x, y = b();` becomes `let y = b();` where nothing mentions x, and so do the cases of a
+/// switch, the head of a `for` and the statements of a function that is declared. The answer says
+/// whether one did; the only error is that memory runs out.
 #[tactic(auto, using(mini_unused::proofs::Unused::same_parts, mini_unused::proofs::Unused::part_twice))]
 pub fn remove_unused_declaration(
     alloc: Global,
@@ -293,8 +299,9 @@ pub fn has_statements(node: &Node) -> bool
         && are_statements(node.child(1))
 }
 
-/// Drops or inlines a declaration of the body of an arrow function or of another function expression, whose parameters don't mention it:
-/// `() => { let x = a(); b(); }` becomes `() => { a(); b(); }`.
+/// Drops or inlines a declaration of the body of an arrow function or of another function
+/// expression, whose parameters don't mention it: `() => { let x = a(); b(); }` becomes
+/// `() => { a(); b(); }`.
 #[tactic(auto, using(mini_unused::proofs::Unused::same_parts, mini_unused::proofs::Unused::part_twice))]
 pub fn remove_unused_in_arrow(
     alloc: Global,
@@ -327,8 +334,9 @@ pub fn is_function(node: &Node) -> bool
         && are_statements(node.child(2))
 }
 
-/// Of a function that is no arrow function, as `function f(a) { let x = b(); return x + a; }`, whose own name and whose parameters don't
-/// mention x either, wherever it stands. The answer says whether a name went; the only error is that memory runs out.
+/// Of a function that is no arrow function, as `function f(a) { let x = b(); return x + a; }`,
+/// whose own name and whose parameters don't mention x either, wherever it stands. The answer says
+/// whether a name went; the only error is that memory runs out.
 #[tactic(auto, using(mini_unused::proofs::Unused::same_parts, mini_unused::proofs::Unused::part_twice))]
 pub fn remove_unused_in_function(
     alloc: Global,
@@ -383,8 +391,9 @@ fn holds_statements(node: &Node) -> bool
     is_block(node) || holds_list(node)
 }
 
-/// Of a module, as `import "a"; const x = f(); g();`, in which nothing else mentions x, of a static block of a class, of each block of a
-/// `try`, and of a function that is exported. The answer says whether a name went; the only error is that memory runs out.
+/// Of a module, as `import "a"; const x = f(); g();`, in which nothing else mentions x, of a static
+/// block of a class, of each block of a `try`, and of a function that is exported. The answer says
+/// whether a name went; the only error is that memory runs out.
 #[tactic(auto, using(mini_unused::proofs::Unused::same_parts, mini_unused::proofs::Unused::part_twice))]
 pub fn remove_unused_in_module(
     alloc: Global,
@@ -402,8 +411,10 @@ pub fn remove_unused_in_module(
     changed
 }
 
-/// Rows 71 and 72 as a rule: of each block, those of a `try` among them, and each switch, of each function with statements, of each static block, and of a module. Its context says which names the program
-/// that it knows lets be written, and its options whether functions and classes keep the names that they get.
+/// Rows 71 and 72 as a rule: of each block, those of a `try` among them, and each switch, of each
+/// function with statements, of each static block, and of a module. Its context says which names
+/// the program that it knows lets be written, and its options whether functions and classes keep
+/// the names that they get.
 pub struct RemoveUnusedDeclarations;
 
 impl Rule<TraverseCtx> for RemoveUnusedDeclarations {

@@ -1,4 +1,5 @@
-//! What is done at the ends of the ways in whatever holds a body, and the rule that rows 71 and 72 are there.
+//! What is done at the ends of the ways in whatever holds a body, and the rule that rows 71 and 72
+//! are there.
 
 ghost use Rattle.std.specs.Prelude.{IfOk};
 ghost use Rattle.mini_inside.specs.Lighter.{inside_is_lighter};
@@ -12,8 +13,9 @@ use mini_node::Node;
 use mini_tree::Rule;
 use std::alloc::Global;
 
-/// Of what holds a body, as it stands at a place: each function with statements, each static block, and a module. The answer says whether anything was
-/// done; the only error is that memory runs out, and then the node is fit only to be dropped.
+/// Of what holds a body, as it stands at a place: each function with statements, each static block,
+/// and a module. The answer says whether anything was done; the only error is that memory runs out,
+/// and then the node is fit only to be dropped.
 #[tactic(auto, using(crate::proofs::FurtherHolders::nowhere))]
 pub fn remove_inside<E: EndRewrites>(
     alloc: Global,
@@ -32,7 +34,9 @@ pub fn remove_inside<E: EndRewrites>(
     }
 }
 
-/// Rows 71 and 72 of a `var` further inside as a rule. Its context says which names the program that it knows lets be written, and its options whether functions and classes keep the names that they get.
+/// Rows 71 and 72 of a `var` further inside as a rule. Its context says which names the program
+/// that it knows lets be written, and its options whether functions and classes keep the names that
+/// they get.
 pub struct RemoveInside;
 
 impl Rule<TraverseCtx> for RemoveInside {

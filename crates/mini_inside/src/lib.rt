@@ -1,5 +1,5 @@
-//! Rewrites of names that nothing mentions in whatever holds a list of statements, and of a `var` further inside a body: each with its rule for the
-//! walk.
+//! Rewrites of names that nothing mentions in whatever holds a list of statements, and of a `var`
+//! further inside a body: each with its rule for the walk.
 #![tactic(auto)]
 
 mod bodies;

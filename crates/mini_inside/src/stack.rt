@@ -1,4 +1,5 @@
-//! The nodes on the way, each without what the way goes into: a list, of which the last is the next above.
+//! The nodes on the way, each without what the way goes into: a list, of which the last is the next
+//! above.
 
 ghost use Rattle.std.specs.Prelude.{◌≡◌, OnOk};
 ghost use Rattle.mini_model.specs.Tree.{Tree};

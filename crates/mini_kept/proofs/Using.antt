@@ -4,7 +4,7 @@ use Rattle.mini_model.specs.declared.kind.VariableDeclarationKind.TheVariants.{V
 use Rattle.mini_model.specs.declared.operator.AssignmentOperator.{AssignmentOperator}
 use Rattle.mini_model.specs.declared.operator.AssignmentOperator.TheVariants.{Assign}
 use Rattle.mini_model.specs.declared.place.Position.{Position}
-use Rattle.mini_model.specs.declared.place.Position.TheVariants.{Expr, ArgumentList, SequenceList, TemplateList, StatementList, BodyList}
+use Rattle.mini_model.specs.declared.place.Position.TheVariants.{Expr, Stmt, ArgumentList, SequenceList, TemplateList, StatementList, BodyList}
 use Rattle.mini_model.specs.declared.shape.Shape.{Shape}
 use Rattle.mini_model.specs.declared.shape.Shape.TheVariants as shape
 use Rattle.mini_model.specs.Tree.{Tree, shape_of}
@@ -13,10 +13,11 @@ use Rattle.mini_laws.specs.declared.names.Use.{Use}
 use Rattle.mini_laws.specs.declared.names.Use.TheVariants.{Read}
 use Rattle.mini_laws.specs.DeclaredNames.{is_inner}
 use Rattle.mini_laws.specs.Scopes.{use_of}
-use Rattle.mini_kept.specs.KeepsNames.{is_read, is_used, Stands}
+use Rattle.mini_kept.specs.KeepsNames.{is_read, is_statement_use, is_used, Stands}
 
 read_used : (p : Position) → is_used p Read ≡ true
 read_used (Expr s) = refl
+read_used (Stmt q) = refl
 read_used ArgumentList = refl
 read_used (SequenceList s) = refl
 read_used TemplateList = refl
@@ -24,13 +25,17 @@ read_used StatementList = refl
 read_used BodyList = refl
 read_used p = refl
 
+statement_used : (v : Use) → is_read v ≡ true → is_statement_use v ≡ true
+statement_used Read e = refl
+statement_used v e = absurd (cc e)
+
 item_used : (p : Position) (v : Use) (n i : ℕ) → is_used p v ≡ true → is_used (item_position p n i) v ≡ true
 item_used (Expr s) v n i e = refl
 item_used ArgumentList v n i e = e
 item_used (SequenceList s) v n i e = e
 item_used TemplateList v n i e = e
-item_used StatementList v n i e = refl
-item_used BodyList v n i e = refl
+item_used StatementList v n i e = statement_used v e
+item_used BodyList v n i e = statement_used v e
 item_used p v n i e = refl
 
 -- the shapes of which a part may be an inner expression that is not used as an expression is

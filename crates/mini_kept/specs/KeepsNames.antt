@@ -5,7 +5,7 @@ use Rattle.mini_model.specs.declared.place.Position.{Position}
 use Rattle.mini_model.specs.declared.place.Position.TheVariants.{Expr, Stmt, StatementList, BodyList, ArgumentList, SequenceList, TemplateList}
 use Rattle.mini_model.specs.Tree.{Tree, shape_of}
 use Rattle.mini_laws.specs.declared.names.Use.{Use}
-use Rattle.mini_laws.specs.declared.names.Use.TheVariants.{Read}
+use Rattle.mini_laws.specs.declared.names.Use.TheVariants.{Read, Alone}
 use Rattle.mini_laws.specs.declared.names.Declaration.{Declaration}
 use Rattle.mini_laws.specs.declared.names.Targets.{Targets}
 use Rattle.mini_laws.specs.DeclaredNames.{is_inner}
@@ -16,13 +16,20 @@ use Rattle.mini_laws.specs.Early.{Path, body_declarations, in_body, children_of_
 use Rattle.mini_kept.specs.Carried.{numbers}
 use Rattle.mini_kept.specs.Frames.{unbracketed}
 
--- the names of an expression are read, and those of a list of statements; what else stands at a place may be used in any way
+-- the names of an expression are read, and those of a list of statements; a statement stands in such a list, or alone as a branch
+-- or a body; what else stands at a place may be used in any way
 abbrev pub is_read : Use → Bool
 is_read Read = true
 is_read _ = false
 
+abbrev pub is_statement_use : Use → Bool
+is_statement_use Read = true
+is_statement_use Alone = true
+is_statement_use _ = false
+
 abbrev pub is_used : Position → Use → Bool
 is_used (Expr s) u = is_read u
+is_used (Stmt q) u = is_statement_use u
 is_used ArgumentList u = is_read u
 is_used (SequenceList s) u = is_read u
 is_used TemplateList u = is_read u

@@ -16,7 +16,7 @@ use Rattle.mini_laws.specs.Scopes.{use_of}
 use Rattle.mini_laws.specs.References.{reads, writes}
 use Rattle.mini_laws.specs.ScopeList.{seen_by_eval}
 use Rattle.mini_laws.specs.Mentions.{Mention, own_mentions, around_child, outermost, program_mentions, is_elsewhere, same_variable, is_among, is_variable}
-use Rattle.mini_laws.specs.Shared.{script_tops, reached_by_arguments, program_var_writes, is_written_in_catch, is_shared}
+use Rattle.mini_laws.specs.Shared.{script_tops, reached_by_arguments, program_var_writes, program_pattern_writes, is_shared}
 
 -- imported names
 abbrev pub imported_by : Shape → List Name → List Name → List Name
@@ -186,7 +186,7 @@ all_writes t = program_var_writes t ++ program_mentions t
 abbrev pub is_foreign_always : Tree → Name → Bool
 is_foreign_always t x =
     is_none x.symbol || is_among x (imported_names t) || is_among x (script_tops t) || is_among x (seen_by_eval t) || is_among x (reached_by_arguments false t)
-    || is_among x (pattern_names t) || is_written_in_catch t x
+    || is_among x (pattern_names t) || is_among x (program_pattern_writes t)
 
 -- whether a variable is foreign to a body: it is so always; or it is shared and written elsewhere; or it is declared outside
 -- the body and written by any; or it may be uninitialised where the body reads it

@@ -4,16 +4,16 @@ use Rattle.std.specs.List.{list_any}
 use Rattle.mini_model.specs.declared.name.Name.{Name}
 use Rattle.mini_model.specs.declared.shape.Shape.{Shape}
 use Rattle.mini_model.specs.declared.shape.Shape.TheVariants as shape
-use Rattle.mini_model.specs.Tree.{Tree, Trees, node, none, ◌▸◌, is_absent}
+use Rattle.mini_model.specs.Tree.{Tree, Trees, node, none, ◌▸◌, is_absent, shape_of}
 use Rattle.mini_model.specs.Weight.{same_text}
 use Rattle.mini_laws.specs.declared.names.Use.{Use}
-use Rattle.mini_laws.specs.declared.names.Use.TheVariants.{Read, Write, Hoisted}
+use Rattle.mini_laws.specs.declared.names.Use.TheVariants.{Read, Write}
 use Rattle.mini_laws.specs.declared.names.Binding.{Binding}
 use Rattle.mini_laws.specs.declared.names.Around.{Around}
 use Rattle.mini_laws.specs.declared.names.Declared.TheVariants as declared
 use Rattle.mini_laws.specs.DeclaredNames.{names_of, all_names, bound_names, is_spelled}
 use Rattle.mini_laws.specs.Scopes.{use_of, opened}
-use Rattle.mini_laws.specs.Resolved.{Environment, with_symbol}
+use Rattle.mini_laws.specs.Resolved.{Environment, with_symbol, gives_value}
 use Rattle.mini_laws.specs.Strict.{is_strict_in}
 use Rattle.mini_laws.specs.ScopeList.{names_in, seen_by_eval}
 use Rattle.mini_laws.specs.Mentions.{Mention, around_child, outermost, program_mentions, is_elsewhere, same_variable, is_among, is_variable}
@@ -102,59 +102,61 @@ unfoldable mutual
 
 -- ---- what a `var` writes
 
--- the names to which a `var` gives a value where it stands: those with an initializer, and those in the head of a `for..in`
--- or `for..of`
-abbrev pub given_by_declarator : Use → Trees → List Name
-given_by_declarator Hoisted (id ▸ init ▸ ts) = if is_absent init then [] else bound_names id
-given_by_declarator u ts = []
+-- A `var` gives a value where it has an initializer, and in the head of a `for..in` or `for..of`. A declarator that has a name of
+-- its own writes that one, and every other the names that it declares
+abbrev pub written_by : List Name → Tree → List Name
+written_by [] id = bound_names id
+written_by (x ∷ xs) id = x ∷ xs
 
-abbrev pub given_by_head : Trees → List Name
-given_by_head none = []
-given_by_head (left ▸ ts) = names_of declared.Hoisted left
+abbrev pub given_values : Use → Shape → List Name → Trees → List Name
+given_values u shape.VariableDeclarator xs (id ▸ (init ▸ ts)) = if gives_value u (is_absent init) then written_by xs id else []
+given_values u h xs ts = []
 
-abbrev pub given_values : Use → Shape → Trees → List Name
-given_values u shape.VariableDeclarator ts = given_by_declarator u ts
-given_values u shape.ForInStatement ts = given_by_head ts
-given_values u shape.ForOfStatement ts = given_by_head ts
-given_values u h ts = []
-
--- each write is of the innermost variable of its name, which may be a parameter of `catch` (ECMA-262, "Runtime Semantics:
--- Evaluation" of a VariableDeclaration: ResolveBinding)
-abbrev pub write_at : Environment → Around → Name → Mention
-write_at env a x = record { name = with_symbol Read env x; used = Write; binds = false; around = a }
+abbrev pub write_at : Around → Name → Mention
+write_at a x = record { name = x; used = Write; binds = false; around = a }
 
 unfoldable mutual
-  pub var_writes : Use → Environment → Around → Tree → List Mention
-  var_writes u env a (node h xs n ts) = map (write_at env a) (given_values u h ts) ++ var_writes_from (opened u h ts) (use_of h u) (around_child h a n) 0 env ts
+  pub var_writes : Use → Around → Tree → List Mention
+  var_writes u a (node h xs n ts) = map (write_at a) (given_values u h xs ts) ++ var_writes_from (use_of h u) (around_child h a n) 0 ts
 
-  pub var_writes_from : (ℕ → List Binding) → (ℕ → Use) → (ℕ → Around) → ℕ → Environment → Trees → List Mention
-  var_writes_from scope uses arounds i env none = []
-  var_writes_from scope uses arounds i env (t ▸ ts) = var_writes (uses i) (env ++ scope i) (arounds i) t ++ var_writes_from scope uses arounds (suc i) (env ++ scope i) ts
+  pub var_writes_from : (ℕ → Use) → (ℕ → Around) → ℕ → Trees → List Mention
+  var_writes_from uses arounds i none = []
+  var_writes_from uses arounds i (t ▸ ts) = var_writes (uses i) (arounds i) t ++ var_writes_from uses arounds (suc i) ts
 
 abbrev pub program_var_writes : Tree → List Mention
-program_var_writes t = var_writes Read [] outermost t
+program_var_writes t = var_writes Read outermost t
 
--- the parameters of `catch`, and whether a `var` gives one of them a value: no node shows that write
-abbrev pub own_catch_params : Shape → Trees → List Name
-own_catch_params shape.CatchClause (param ▸ ts) = bound_names param
-own_catch_params h ts = []
+-- A declarator of a pattern has no name of its own, and the names in the pattern are those of the `var`s. Each value goes to the
+-- innermost variable of its name, which under a parameter of `catch` is that (ECMA-262, "Runtime Semantics: BindingInitialization"
+-- without an environment: ResolveBinding; "VariableStatements in Catch Clauses")
+abbrev pub is_pattern : Shape → Bool
+is_pattern shape.ObjectPattern = true
+is_pattern shape.ArrayPattern = true
+is_pattern h = false
+
+abbrev pub names_in_pattern : Tree → List Name
+names_in_pattern id = if is_pattern (shape_of id) then bound_names id else []
+
+abbrev pub own_pattern_writes : Use → Environment → Shape → Trees → List Name
+own_pattern_writes u env shape.VariableDeclarator (id ▸ (init ▸ ts)) = if gives_value u (is_absent init) then map (with_symbol Read env) (names_in_pattern id) else []
+own_pattern_writes u env h ts = []
 
 unfoldable mutual
-  pub catch_params : Tree → List Name
-  catch_params (node h xs n ts) = own_catch_params h ts ++ all_catch_params ts
+  pub pattern_writes : Use → Environment → Tree → List Name
+  pattern_writes u env (node h xs n ts) = own_pattern_writes u env h ts ++ pattern_writes_from (opened u h ts) (use_of h u) 0 env ts
 
-  pub all_catch_params : Trees → List Name
-  all_catch_params none = []
-  all_catch_params (t ▸ ts) = catch_params t ++ all_catch_params ts
+  pub pattern_writes_from : (ℕ → List Binding) → (ℕ → Use) → ℕ → Environment → Trees → List Name
+  pattern_writes_from scope uses i env none = []
+  pattern_writes_from scope uses i env (t ▸ ts) = pattern_writes (uses i) (env ++ scope i) t ++ pattern_writes_from scope uses (suc i) (env ++ scope i) ts
 
-abbrev pub is_written_in_catch : Tree → Name → Bool
-is_written_in_catch t x = is_among x (catch_params t) && list_any (λ m. same_variable x m.name) (program_var_writes t)
+abbrev pub program_pattern_writes : Tree → List Name
+program_pattern_writes t = pattern_writes Read [] t
 
 -- ---- Shared
 
 -- whether a variable is shared with every body that mentions it
 abbrev pub is_shared_always : Tree → Name → Bool
-is_shared_always t x = is_none x.symbol || is_among x (script_tops t) || is_among x (module_names t) || is_among x (seen_by_eval t) || is_among x (reached_by_arguments false t) || is_among x (caught t) || is_written_in_catch t x
+is_shared_always t x = is_none x.symbol || is_among x (script_tops t) || is_among x (module_names t) || is_among x (seen_by_eval t) || is_among x (reached_by_arguments false t) || is_among x (caught t) || is_among x (program_pattern_writes t)
 
 -- whether a body shares a variable: it is shared always, or another body or a carried node mentions it
 abbrev pub is_shared : Tree → ℕ → Name → Bool

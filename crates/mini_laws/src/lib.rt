@@ -1,7 +1,8 @@
-//! What a tree means: a run of it over states, events and answers; and the names of a program: which scope declares each of them,
-//! which symbol each has, and which early errors there are (`specs/`). And laws of these definitions: of the weight, of what a tree
-//! means, of paths in it, and of which edits of it keep the symbols of its names. Each function's contract is a law, and its body is
-//! empty.
+//! What a tree means: a run of it over states, events and answers; and the names of a program:
+//! which scope declares each of them, which symbol each has, and which early errors there are
+//! (`specs/`). And laws of these definitions: of the weight, of what a tree means, of paths in it,
+//! and of which edits of it keep the symbols of its names. Each function's contract is a law, and
+//! its body is empty.
 #![tactic(auto)]
 
 mod name_edits;
@@ -50,16 +51,17 @@ pub use paths::{
     put_near_a_path,
 };
 
-/// The weight of a whole falls by what a part's falls, and by what the own weights of the nodes above it do. Those read
-/// the outlines of their children alone.
+/// The weight of a whole falls by what a part's falls, and by what the own weights of the nodes
+/// above that part do, which read the outlines of their children alone.
 pub fn replacement()
     ensures falls { Replacement }
     ensures kept { OwnWeightKept }
 {}
 
-/// Where a part stands for another the nodes above grow no heavier, so that the whole falls by at least what the part
-/// does, with two exceptions: the braces of a block that is a consequent, where an `if` with `else` stood alone in it
-/// and no longer does, and an operand of an equality that gets to be `void 0`.
+/// Where a part stands for another the nodes above grow no heavier, so that the whole falls by at
+/// least what the part does, with two exceptions: the braces of a block that is a consequent, where
+/// an `if` with `else` stood alone in it and no longer does, and an operand of an equality that
+/// gets to be `void 0`.
 pub fn replacement_of_parts()
     ensures above { ReplacementFalls }
     ensures otherwise { FallsOtherwise }
@@ -77,8 +79,9 @@ pub trait Rewrites {
     ghost gives: { Position → Tree → Tree → Type 0 };
 }
 
-/// A step at any place, and any number of them, keep what the tree means, where what is put there means the same as what
-/// stood there and is read alike by its parent. So a body runs as before, and a program keeps its frame.
+/// A step at any place, and any number of them, keep what the tree means, where what is put there
+/// means the same as what stood there and is read alike by its parent. So a body runs as before,
+/// and a program keeps its frame.
 pub fn any_steps_are_same<R: Rewrites>()
     ensures keeps { StepKeeps R.gives }
     ensures reads { StepReads R.gives }
@@ -115,8 +118,8 @@ pub fn rows_same()
     ensures row { RowSame }
 {}
 
-/// A rewrite at any place, and any number of them, keep what the tree means; a program runs as before and keeps its
-/// frame.
+/// A rewrite at any place, and any number of them, keep what the tree means; a program runs as
+/// before and keeps its frame.
 pub fn steps_are_same()
     ensures step { StepSame }
     ensures reaches { ReachesSame }
@@ -124,8 +127,8 @@ pub fn steps_are_same()
     ensures frame { FrameKept }
 {}
 
-/// A node replaced at any place by one that means the same there leaves the whole the same, and so a body; and a tree
-/// does the same whatever the variables hold that it doesn't mention.
+/// A node replaced at any place by one that means the same there leaves the whole the same, and so
+/// a body; and a tree does the same whatever the variables hold that it doesn't mention.
 pub fn congruence()
     ensures insensitive { Insensitive }
     ensures trees { Congruence }
@@ -140,7 +143,8 @@ pub fn nested_bodies_are_apart()
     ensures same { NestedApart }
 {}
 
-/// Same is reflexive and transitive, of trees and of bodies; more dead and more initialised variables make it weaker.
+/// To mean the same is reflexive and transitive, of trees and of bodies; more dead and more
+/// initialised variables make it weaker.
 pub fn sameness()
     ensures reflexive { Reflexive }
     ensures transitive { Transitive }
@@ -154,16 +158,16 @@ pub fn body_same()
     ensures { BodySame }
 {}
 
-/// In a tail a statement does what it does elsewhere, but for the jump that ends the turn or the function: so what means
-/// the same in no tail does so in each, and the last such jump may go.
+/// In a tail a statement does what it does elsewhere, but for the jump that ends the turn or the
+/// function: so what means the same in no tail does so in each, and the last such jump may go.
 pub fn tails()
     ensures tail { TailSame }
     ensures each { InEachTail }
     ensures jump { LastJumpSame }
 {}
 
-/// A block that ends with `break` does what the block without it does, and then breaks: so that may go from the body of a
-/// `do` whose test is false.
+/// A block that ends with `break` does what the block without it does, and then breaks: so that may
+/// go from the body of a `do` whose test is false.
 pub fn last_breaks()
     ensures block { BlockBreaks }
     ensures loop_body { LastBreakSame }
@@ -174,7 +178,8 @@ pub fn returns_join()
     ensures { ReturnsSame }
 {}
 
-/// Some statements of a list replaced by others that mean the same, however many they are, leave the list the same.
+/// Some statements of a list replaced by others that mean the same, however many they are, leave
+/// the list the same.
 pub fn stretches()
     ensures in_a_tail { StretchSame }
     ensures anywhere { StretchAnywhere }
@@ -185,8 +190,9 @@ pub fn spared_is_steady()
     ensures { Steady }
 {}
 
-/// An expression that has the same value before another is evaluated and after, and no effect, may be evaluated before it
-/// or after. A number is such a one, and so is an initialised name that nothing writes.
+/// An expression that has the same value before another is evaluated and after, and no effect, may
+/// be evaluated before it or after. A number is such a one, and so is an initialised name that
+/// nothing writes.
 pub fn passed_expressions_commute()
     ensures commutes { Commutes }
     ensures number { NumberPasses }
@@ -198,13 +204,13 @@ pub fn renaming()
     ensures { RenamedSame }
 {}
 
-/// A `let` that is initialised with a number may go where a statement after it, which mentions it once, has the number
-/// in its place, if no other body sees it.
+/// A `let` that is initialised with a number may go where a statement after it, which mentions it
+/// once, has the number in its place, if no other body sees it.
 pub fn substitution()
     ensures { NumberSame }
 {}
 
-/// What is the same over more shared and foreign variables is the same over fewer.
+/// What means the same over more shared and foreign variables means the same over fewer.
 pub fn fewer()
     ensures states { Fewer }
     ensures same { FewerSame }

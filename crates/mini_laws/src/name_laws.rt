@@ -6,7 +6,8 @@ pub fn resolved_is_scoped()
     ensures { ResolvedIsScoped }
 {}
 
-/// Resolution looks at what is written alone.
+/// Resolution looks at a program's text alone: the symbols and numbers that it had before don't
+/// matter.
 pub fn resolved_of_bare()
     ensures { ResolvedOfBare }
 {}

@@ -1,46 +1,52 @@
 ghost use Rattle.mini_laws.specs.NameMoves.{DropName, SwapBranches, DropLet, MoveOut, MoveIn, OfParts, ToParts, Join, Split};
 
-/// A name that is mentioned nowhere can go from its scope.
+/// A scope may lose a name whose symbol stands nowhere in a tree: each name of the tree keeps its
+/// symbol.
 pub fn drop_name()
     ensures { DropName }
 {}
 
-/// The branches of a conditional can be swapped.
+/// `!a ? b : c` becomes `a ? c : b`, and each name keeps its symbol.
 pub fn swap_branches()
     ensures { SwapBranches }
 {}
 
-/// A `let` without references can go from a block.
+/// A block loses its first statement `let x;`, where only that declares x and nothing else mentions
+/// it, and each name keeps its symbol.
 pub fn drop_let()
     ensures { DropLet }
 {}
 
-/// A tree moves out of scopes that declare no name of it.
+/// A tree moves out of scopes that declare no name of it, and each of its names keeps its symbol.
 pub fn move_out()
     ensures { MoveOut }
 {}
 
-/// A tree moves into such scopes.
+/// A tree moves into scopes that declare no name of it, and each of its names keeps its symbol.
 pub fn move_in()
     ensures { MoveIn }
 {}
 
-/// A node that opens no scope is scoped where its names and its children are.
+/// In a node that opens no scope each name has the symbol that the scopes around give it, where
+/// that is so of the node's own names and of its children.
 pub fn of_parts()
     ensures { OfParts }
 {}
 
-/// The children of such a node are scoped with the names around it.
+/// In a node that opens no scope each name of a child has the symbol that the scopes around the
+/// node give it, where that is so of the node.
 pub fn to_parts()
     ensures { ToParts }
 {}
 
-/// Lists are joined.
+/// Two lists whose names have the symbols that the scopes around give them make one such list,
+/// joined.
 pub fn join()
     ensures { Join }
 {}
 
-/// Lists are split.
+/// A list whose names have the symbols that the scopes around give them makes two such lists,
+/// split.
 pub fn split()
     ensures { Split }
 {}

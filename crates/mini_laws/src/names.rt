@@ -1,27 +1,30 @@
-//! What is said of the names of a program: how they are used, which scopes declare them, and what may be jumped to.
+//! What is said of the names of a program: how they are used, which scopes declare them, and what
+//! may be jumped to.
 
 use mini_model::{Name, OwnedList, Text};
 
 /// How the names of a place are used.
 #[derive(Clone, Copy)]
 pub enum Use {
-    /// A value is read.
+    /// The name's value is read.
     Read,
-    /// It is assigned to.
+    /// The name is assigned to.
     Write,
-    /// Both, as by `+=` and `++`.
+    /// The name is read and assigned to, as by `+=` and `++`.
     ReadWrite,
-    /// A `var` declares it.
+    /// A `var` declares the name.
     Hoisted,
-    /// A `var` in the head of a `for..in` or `for..of` declares it, and each turn writes it.
+    /// A `var` in the head of a `for..in` or `for..of` declares the name, and each turn writes it.
     Headed,
-    /// A statement stands there that is a branch or a body: a declaration is read as in a block of its own.
+    /// A statement stands there that is a branch or a body: what it declares is read as in a block
+    /// of its own.
     Alone,
 }
 
 /// A name that a scope declares.
 #[derive(Drop)]
 pub struct Binding {
+    /// The name with its symbol.
     pub name: Name,
     /// Whether the scope is that of a program or a function, where a `var` goes.
     pub hoists: bool,
@@ -30,48 +33,53 @@ pub struct Binding {
 /// Which of the names that a tree declares.
 #[derive(Clone, Copy)]
 pub enum Declared {
-    /// Those that it binds, as a pattern.
+    /// Those that it binds, as a pattern does (ECMA-262, BoundNames).
     Bound,
-    /// Those that it declares in the block or the list in which it stands directly, as a statement.
+    /// Those that it declares in the block or the list in which it stands directly, as a statement
+    /// (ECMA-262, LexicallyDeclaredNames).
     Lexical,
-    /// Those that are declared by `var` in it, the functions and classes in it aside.
+    /// Those that `var` declares in it, but for those in its functions and classes (ECMA-262,
+    /// VarDeclaredNames).
     Hoisted,
 }
 
-/// Where such names of a node stand.
+/// Where the names of one kind (`Declared`) stand that a node declares.
 #[derive(Clone, Copy)]
 pub enum Place {
     /// In the node itself.
     Here,
-    /// They are those that its first child binds.
+    /// They are the names that its first child binds.
     FirstBound,
-    /// They are those that its children bind.
+    /// They are the names that its children bind.
     Bound,
-    /// They are such names of its children.
+    /// They are the names of this kind that its children declare.
     Below,
-    /// It has none.
+    /// It has no names of this kind.
     Nowhere,
 }
 
 /// The scopes that a node opens.
 #[derive(Clone, Copy)]
 pub enum Opening {
-    /// None.
+    /// No scope.
     Nothing,
-    /// One of the names of a body, its first child.
+    /// One scope, of the names of a body, which is its first child.
     Body,
-    /// Those of a function: its own name, where it is in scope in it alone; its parameters; its body.
+    /// The scopes of a function: that of its own name, where that is in scope in it alone (the
+    /// field says whether); that of its parameters; that of its body.
     Function(bool),
-    /// Those of an arrow: its parameters; its body.
+    /// The scopes of an arrow function: that of its parameters; that of its body.
     Arrow,
-    /// Those of a class: its own name, where it is in scope in it alone; and the name that a declaration holds again, its
-    /// last child. The fields: whether it opens the one, and the other.
+    /// The scopes of a class: that of its own name, where that is in scope in it alone; and that of
+    /// the name which a declaration holds again, its last child. The fields say whether it opens
+    /// the one, and the other.
     Class(bool, bool),
-    /// One of the lexical names of its first child.
+    /// One scope, of the lexical names of its first child, around all its children.
     First,
-    /// The same before its second child, of that child's names.
+    /// One scope, of the lexical names of its second child, around the children from that on: the
+    /// cases of a `switch`.
     Second,
-    /// One of the names that its first child binds.
+    /// One scope, of the names that its first child binds, around all its children.
     Bound,
 }
 
@@ -81,27 +89,35 @@ pub type Path = OwnedList<usize>;
 /// A name that is declared at a place.
 #[derive(Drop)]
 pub struct Declaration {
+    /// The name's text.
     pub spelling: Text,
-    /// Whether it is declared as a lexical name, and not like `var`.
+    /// Whether the name is lexical, and not declared as by `var`.
     pub is_lexical: bool,
+    /// The path to the node that declares it.
     pub at: Path,
 }
 
 /// A label around a place.
 #[derive(Drop)]
 pub struct Label {
+    /// The label's text.
     pub name: Text,
-    /// Whether it names a loop.
+    /// Whether the label stands before a loop.
     pub is_loop: bool,
 }
 
 /// The labels around a place, and what else may be jumped to or out of.
 #[derive(Drop)]
 pub struct Targets {
+    /// The labels around the place.
     pub labels: OwnedList<Label>,
+    /// Whether a `break` without a label has a target.
     pub breaks: bool,
+    /// Whether a `continue` without a label has a target.
     pub continues: bool,
+    /// Whether a `return` may stand there.
     pub returns: bool,
+    /// Whether a `yield` may stand there.
     pub yields: bool,
 }
 
@@ -110,30 +126,33 @@ pub struct Targets {
 pub enum Clash {
     /// Nothing.
     Nothing,
-    /// The names of its first child, a body; in which functions are like `var`, or not.
+    /// The names of its first child, a body. The field says whether functions are like `var` in
+    /// that.
     Body(bool),
-    /// The parameters and the names of the body, its children at two indices.
+    /// The parameters and the names of the body, which are its children at these two indices.
     Function(usize, usize),
     /// The names of its second child, the cases.
     Switch,
     /// The parameter, its first child, and the names of the block, its second child.
     Catch,
-    /// The names of its first child and those that are hoisted out of the body, its child at an index.
+    /// The names of its first child, and those that are hoisted out of the body, its child at this
+    /// index.
     Loop(usize),
 }
 
-/// What a child can jump to, beside what its node can.
+/// What a child of a node can jump to, by what the node can jump to.
 #[derive(Clone, Copy)]
 pub enum Turn {
-    /// The same.
+    /// What its node can jump to.
     Same,
-    /// `break` and `continue` go to the loop.
+    /// What its node can jump to, and by `break` and `continue` the loop that the node is.
     InLoop,
-    /// `break` goes to the `switch`.
+    /// What its node can jump to, and by `break` the `switch` that the node is.
     InSwitch,
-    /// A label.
+    /// What its node can jump to, and the label that the node has.
     Labeled,
-    /// Nothing but out of a function, which may be a generator.
+    /// Nothing around the function that the node is; it may `return`, and `yield` where the field
+    /// says that it is a generator.
     InFunction(bool),
     /// Nothing.
     Outside,
@@ -142,12 +161,17 @@ pub enum Turn {
 /// A kind of jump.
 #[derive(Clone, Copy)]
 pub enum Jump {
+    /// `break`, with or without a label.
     Break,
+    /// `continue`, with or without a label.
     Continue,
-    /// A label, which is to be a new one.
+    /// A labeled statement, whose label is to be another than those around it.
     Label,
+    /// `return`.
     Return,
+    /// `yield`.
     Yield,
+    /// No jump, and no label.
     Nothing,
 }
 
@@ -165,7 +189,8 @@ pub enum Numbering {
 /// The innermost node with a number around a place.
 #[derive(Clone, Copy)]
 pub struct Around {
+    /// The number that the node has.
     pub number: u32,
-    /// Whether it is carried, and no body.
+    /// Whether the node is carried, and has no body.
     pub carried: bool,
 }

@@ -1,4 +1,5 @@
-//! Statements whose lexical names may leave their scope: no event of the body with a number shows them, and none stands in a node outside of it.
+//! Statements whose lexical names may leave their scope: no event of the body with a number shows
+//! them, and none stands in a node outside of it.
 
 ghost use Rattle.std.specs.Prelude.{◌≡◌};
 ghost use Rattle.mini_node.specs.Children.{names, trees_of};
@@ -133,8 +134,9 @@ fn is_held<S: SteadyNames>(node: &Node, outside: &Node, body: u32, steady: &S) -
         || (is_lexical(node.shape()) && binds_only(node, outside, body, steady))
 }
 
-/// Whether statements may stand outside of the scope of their block: no function is directly among them, and of each name that they declare
-/// lexically no event of the body with this number shows it, and it stands nowhere in what is outside (ECMA-262, "LexicallyDeclaredNames").
+/// Whether statements may stand outside of the scope of their block: no function is directly among
+/// them, and of each name that they declare lexically no event of the body with this number shows
+/// it, and it stands nowhere in what is outside (ECMA-262, "LexicallyDeclaredNames").
 pub fn are_held<S: SteadyNames>(nodes: &[Node], outside: &Node, body: u32, steady: &S) -> bool
     ensures { result ≡ lexical.are_held (lexical.is_of_outside (S.sets steady.now body).unshared outside.now) (trees_of nodes.now) }
 {

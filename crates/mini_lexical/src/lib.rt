@@ -1,4 +1,5 @@
-//! 80 and 84 of statements that declare names which no event of the body around them shows, as rows of the body's own code.
+//! 80 and 84 of statements that declare names which no event of the body around them shows, as rows
+//! of the body's own code.
 #![tactic(auto)]
 
 mod held;

@@ -1,4 +1,5 @@
-//! Row 84 of lexical names: `for (i; t; u) { if (x) break; let y = a(); b(y); }` becomes `for (i; t && !x; u) { let y = a(); b(y); }`.
+//! Row 84 of lexical names: `for (i; t; u) { if (x) break; let y = a(); b(y); }` becomes
+//! `for (i; t && !x; u) { let y = a(); b(y); }`.
 
 ghost use Rattle.std.specs.Prelude.{◌≡◌, IfOk};
 ghost use Rattle.mini_rows.specs.Lexical.{Row84Lexical};
@@ -25,8 +26,9 @@ fn leaves<S: SteadyNames>(node: &Node, body: u32, steady: &S) -> bool
     are_held(statements.parts(), test, body, steady)
 }
 
-/// A loop whose body begins by leaving it has that in its test, where no event of the body with this number shows the names that its block
-/// declares, and none stands in what leaves it. The answer says whether it did, and where it did nothing the row doesn't read the statement; the
+/// A loop whose body begins by leaving it has that in its test, where no event of the body with
+/// this number shows the names that its block declares, and none stands in what leaves it. The
+/// answer says whether it did, and where it did nothing the row doesn't read the statement; the
 /// only error is that memory runs out, and then it is fit only to be dropped.
 pub fn minimize_lexical_for_statement<S: SteadyNames>(
     alloc: Global,

@@ -1,4 +1,5 @@
-//! Row 80 of lexical names: `switch (a) { case 1: let x = b(); c(x); break; }` becomes `if (a === 1) { let x = b(); c(x); }`.
+//! Row 80 of lexical names: `switch (a) { case 1: let x = b(); c(x); break; }` becomes
+//! `if (a === 1) { let x = b(); c(x); }`.
 
 ghost use Rattle.std.specs.Prelude.{◌≡◌, IfOk};
 ghost use Rattle.mini_rows.specs.Lexical.{Row80Lexical};
@@ -14,7 +15,8 @@ use mini_switch::{holds_one_case, inlined, is_case, stay_inside};
 use mini_syntax::is_plain;
 use std::alloc::Global;
 
-// Whether the statements of a case may stand in a branch: its test writes a value out, in which no name stands.
+// Whether the statements of a case may stand in a branch: its test writes a value out, in which no
+// name stands.
 fn can_be_branch<S: SteadyNames>(case: &Node, body: u32, steady: &S) -> bool
     ensures { result ≡ row.can_be_branch (S.sets steady.now body).unshared case.now }
 {
@@ -32,9 +34,10 @@ fn inlines<S: SteadyNames>(node: &Node, body: u32, steady: &S) -> bool
         && can_be_branch(node.child(1).child(0), body, steady)
 }
 
-/// A `switch` of one case becomes an `if`, where no event of the body with this number shows the names that the case declares. The answer says
-/// whether it did, and where it did nothing the row doesn't read the statement; the only error is that memory runs out, and then it is fit only
-/// to be dropped.
+/// A `switch` of one case becomes an `if`, where no event of the body with this number shows the
+/// names that the case declares. The answer says whether it did, and where it did nothing the row
+/// doesn't read the statement; the only error is that memory runs out, and then it is fit only to
+/// be dropped.
 pub fn minimize_lexical_switch_statement<S: SteadyNames>(
     alloc: Global,
     node: &mut Node,

@@ -1,5 +1,5 @@
-//! Rewrites of logic: each with its rule for the walk, and the laws that join the rules to the definition of what can be
-//! rewritten.
+//! Rewrites of logic: each with its rule for the walk, and the laws that join the rules to the
+//! definition of what can be rewritten.
 #![tactic(auto)]
 
 mod laws;
@@ -10,7 +10,8 @@ mod statements;
 mod terms;
 mod whole;
 
-// Two expressions, and two statements, are equal exactly where their trees are (`same_trees_are_equal` of `mini_node`).
+// Two expressions, and two statements, are equal exactly where their trees are
+// (`same_trees_are_equal` of `mini_node`).
 pub use laws::{
     always_lighter, booleans_are_rows, de_morgan_is_row, negations_are_rows,
     negations_mean_the_same, rules_are_rows,

@@ -32,8 +32,8 @@ fn end_of(node: &Node) -> &Node
     end_of(parts.child(parts.len() - 1))
 }
 
-/// The last expression of a sequence, however many sequences it ends in; a trailing sequence that is empty is given itself. None
-/// exactly where it is no sequence, or an empty one.
+/// The last expression of a sequence, however many sequences it ends in; a trailing sequence that
+/// is empty is given itself. None exactly where it is no sequence, or an empty one.
 pub fn last_expression_in_sequence(sequence: &Node) -> Option<&Node>
     ensures { option_copied result ≡ end.last_expression sequence.now }
 {
@@ -131,9 +131,10 @@ fn take_end(sequence: &mut Node) -> Node
     end
 }
 
-/// Takes the last expression out of a sequence, however many sequences it ends in, and drops each inner sequence that becomes empty by
-/// it: of `a, (b, c)` it gives `c`, and leaves `a, (b)`. None, and nothing changed, exactly where it is no sequence, or it or a trailing
-/// sequence in it is empty.
+/// Takes the last expression out of a sequence, however many sequences it ends in, and drops each
+/// inner sequence that becomes empty by it: of `a, (b, c)` it gives `c`, and leaves `a, (b)`. None,
+/// and nothing changed, exactly where it is no sequence, or it or a trailing sequence in it is
+/// empty.
 pub fn pop_expression_from_sequence(sequence: &mut Node) -> Option<Node>
     ensures end { result ≡ end.popped sequence.old }
     ensures left { sequence.new ≡ end.left_of sequence.old }
@@ -144,7 +145,8 @@ pub fn pop_expression_from_sequence(sequence: &mut Node) -> Option<Node>
     Some(take_end(sequence))
 }
 
-/// Whether an expression is a `!`, or a sequence of two parts at least whose last part is one, or such a sequence.
+/// Whether an expression is a `!`, or a sequence of two parts at least whose last part is one, or
+/// such a sequence.
 #[tactic(auto, using(crate::proofs::SequenceEnds::ends_then, crate::proofs::SequenceEnds::ends_last, crate::proofs::SequenceEnds::ends_here, crate::proofs::SequenceEnds::children_fewer))]
 pub fn ends_in_not(expression: &Node) -> bool
     ensures { result ≡ end.ends_in_not expression.now }

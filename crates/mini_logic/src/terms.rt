@@ -158,7 +158,8 @@ fn opposite_weight(operator: BinaryOperator, expression: &Node, seat: Seat) -> u
     weight(expression, Position::Expr(untested)).saturating_add(unequal_weight(operator, seat))
 }
 
-/// The weight of the negation of an expression, written in its seat, which stays at the greatest u64.
+/// The weight of the negation of an expression, written in its seat, which stays at the greatest
+/// u64.
 #[cycle(weighing)]
 pub fn neg_weight(expression: &Node, seat: Seat) -> u64
     ensures { result ≡ capped (weight_at (Expr seat) (neg seat expression.now)) }
@@ -225,9 +226,9 @@ fn turned(
     Ok(reshaped(expression, Shape::LogicalExpression(operator)).over(operands))
 }
 
-/// The negation of an expression, written in its seat: `!a` gives a where only its truth is asked or it is a boolean, `&&`
-/// and `||` are turned into each other with their operands negated, `==` and `!=`, `===` and `!==` are turned into each other, and
-/// any other e gives `!e`.
+/// The negation of an expression, written in its seat: `!a` gives a where only its truth is asked
+/// or it is a boolean, `&&` and `||` are turned into each other with their operands negated, `==`
+/// and `!=`, `===` and `!==` are turned into each other, and any other e gives `!e`.
 #[cycle(negating)]
 pub fn negated(alloc: Global, expression: Node, seat: Seat) -> Result<Node, OutOfMemory>
     ensures { IfOk result (λ w. w ≡ neg seat expression) }
@@ -253,8 +254,8 @@ pub fn lighter_negation_weight(expression: &Node, seat: Seat) -> u64
     if not < other { not } else { other }
 }
 
-/// The lighter of `!a` and of the negation of a, as far as 64 bits tell it, written in this seat; the negation where both weigh the
-/// same. The only error is that memory runs out.
+/// The lighter of `!a` and of the negation of a, as far as 64 bits tell it, written in this seat;
+/// the negation where both weigh the same. The only error is that memory runs out.
 pub fn lighter_negation(alloc: Global, expression: Node, seat: Seat) -> Result<Node, OutOfMemory>
     ensures { IfOk result (λ w. w ≡ lighter_negation_of seat expression) }
 {

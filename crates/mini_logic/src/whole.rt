@@ -1,5 +1,5 @@
-//! The whole negation of an expression: `&&` and `||` are turned into each other however deep, of a sequence the last part is negated,
-//! and comparisons of `typeof` and literals in them are turned.
+//! The whole negation of an expression: `&&` and `||` are turned into each other however deep, of a
+//! sequence the last part is negated, and comparisons of `typeof` and literals in them are turned.
 
 ghost use Rattle.std.specs.Prelude.{◌≡◌, ◌+◌, ◌-◌, ◌<◌, true, [], IfOk, IfSome};
 ghost use Rattle.mini_model.specs.Tree.{children, count};
@@ -91,7 +91,8 @@ fn reverse_operator(node: &Node) -> Option<BinaryOperator>
     }
 }
 
-/// Whether the expression is `&&` or `||`, a sequence, a comparison of `typeof a` with `u`, or a literal of a boolean.
+/// Whether the expression is `&&` or `||`, a sequence, a comparison of `typeof a` with `u`, or a
+/// literal of a boolean.
 #[tactic(auto, using(crate::proofs::WholeForms::reaches_by_kind))]
 pub fn reaches_in(expression: &Node) -> bool
     ensures { result ≡ row.reaches_in expression.now }
@@ -127,7 +128,8 @@ fn sequence_weight(sequence: &Node, seat: Seat) -> u64
     )
 }
 
-/// The weight of the whole negation of an expression, written in its seat, which stays at the greatest u64.
+/// The weight of the whole negation of an expression, written in its seat, which stays at the
+/// greatest u64.
 pub fn told_weight(expression: &Node, seat: Seat) -> u64
     ensures { result ≡ capped (weight_at (Expr seat) (told seat expression.now)) }
 {
@@ -169,9 +171,11 @@ fn told_sequence(alloc: Global, expression: Node, seat: Seat) -> Result<Node, Ou
     Ok(sequence)
 }
 
-/// The whole negation of an expression, written in its seat: `&&` and `||` are turned into each other with both sides negated, of a
-/// sequence the last part is negated, `typeof a < "u"` and `typeof a > "u"` are turned into each other, `true` and `false` too, and of
-/// any other expression the lighter of its negation and of `!` over it is written. The only error is that memory runs out.
+/// The whole negation of an expression, written in its seat: `&&` and `||` are turned into each
+/// other with both sides negated, of a sequence the last part is negated, `typeof a < "u"` and
+/// `typeof a > "u"` are turned into each other, `true` and `false` too, and of any other expression
+/// the lighter of its negation and of `!` over it is written. The only error is that memory runs
+/// out.
 #[cycle(telling)]
 pub fn told_negation(alloc: Global, expression: Node, seat: Seat) -> Result<Node, OutOfMemory>
     ensures { IfOk result (λ w. w ≡ told seat expression) }
@@ -205,8 +209,8 @@ pub fn lightest_negation_weight(expression: &Node, seat: Seat) -> u64
     if lighter < whole { lighter } else { whole }
 }
 
-/// The lightest negation of an expression, as far as 64 bits tell it, written in this seat: of `!` over it, its negation, and its whole
-/// negation. The only error is that memory runs out.
+/// The lightest negation of an expression, as far as 64 bits tell it, written in this seat: of `!`
+/// over it, its negation, and its whole negation. The only error is that memory runs out.
 pub fn lightest_negation(alloc: Global, expression: Node, seat: Seat) -> Result<Node, OutOfMemory>
     ensures { IfOk result (λ w. w ≡ told_lightest seat expression) }
 {

@@ -4,7 +4,8 @@ use crate::{OutOfMemory, Text};
 use std::alloc::Global;
 use std::marker::Model;
 
-/// A text behind a pointer, for where a text would make its owner large. A contract sees the text's units.
+/// A text behind a pointer, for where a text would make its owner large. A contract sees the text's
+/// units.
 pub struct BoxedText {
     text: Box<Text>,
 }

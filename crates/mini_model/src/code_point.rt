@@ -26,14 +26,15 @@ impl Model for CodePoint {
 }
 
 impl CodePoint {
+    /// The code point U+0000.
     pub fn zero() -> CodePoint
         ensures { result ≡ 0 }
     {
         CodePoint { number: 0 }
     }
 
-    // The code point whose digits are those of this one and the unit; None where the unit is no digit, or the number
-    // is past the last code point.
+    // The code point whose digits are those of this one and the unit; None where the unit is no
+    // digit, or the number is past the last code point.
     pub fn with_digit(self, unit: u16) -> Option<CodePoint>
         ensures { result ≡ with_digit self unit }
     {

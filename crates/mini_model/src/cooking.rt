@@ -41,9 +41,10 @@ enum Reading {
     GivesPoint(CodePoint, State),
 }
 
-/// The text that a template literal's raw text stands for; None exactly where the raw text is malformed, so that
-/// only a tagged template may hold it (ECMA-262, "Template Literal Lexical Components", TV). A carriage return stands
-/// for itself, and before a line feed it is a line end of its own: the standard's TRV has made line feeds of both.
+/// The text that a template literal's raw text stands for; None exactly where the raw text is
+/// malformed, so that only a tagged template may hold it (ECMA-262, "Template Literal Lexical
+/// Components", TV). A carriage return stands for itself, and before a line feed it is a line end
+/// of its own: the standard's TRV has made line feeds of both.
 ///
 /// The only error is that memory runs out.
 pub fn cook(alloc: Global, raw: &Text) -> Result<Option<Text>, OutOfMemory>

@@ -90,7 +90,7 @@ impl From<NoMemory> for MinifyError {
 }
 
 impl MinifyError {
-    /// Whether it is want of memory, and no defect of the value.
+    /// Whether the error is `OutOfMemory`, and so no defect of the value.
     pub fn is_memory(&self) -> bool
         ensures { IsTrue result ↔ (fault_of self.now ≡ None) }
     {
@@ -104,7 +104,7 @@ impl MinifyError {
         }
     }
 
-    /// The name of the variant.
+    /// The name of the variant, as `BadShape`.
     pub fn variant(&self) -> &str
         ensures { IfSome (fault_of self.now) (λ f. result.now ≡ name_of_defect f.defect) }
     {
@@ -118,7 +118,7 @@ impl MinifyError {
         }
     }
 
-    /// The pointer's text; empty for want of memory.
+    /// The text of the pointer to the node that has the defect (RFC 6901); empty for `OutOfMemory`.
     pub fn place(&self) -> &str
         ensures { IfSome (fault_of self.now) (λ f. result.now ≡ f.at) }
     {
@@ -132,8 +132,10 @@ impl MinifyError {
         }
     }
 
-    /// The same defect as seen from the node above, whose field or item `step` leads here; want of memory stays, and
-    /// comes where there is none for the pointer. The step has no `~` and no `/` but that before an item's number.
+    /// This error as seen from the node above the one that its pointer starts at: the pointer gets
+    /// `step`, the field or the item that leads down there, put before it. `OutOfMemory` stays, and
+    /// comes where there is no memory for the pointer. The step has no `~`, and no `/` but that
+    /// before an item's number.
     pub fn under(self, alloc: Global, step: &str) -> MinifyError
         ensures { IsUnder step.now (fault_of self) (fault_of result) }
     {
@@ -162,7 +164,9 @@ impl MinifyError {
         }
     }
 
-    /// The same defect as seen from the node above, whose list field `key` has this node at `index`.
+    /// This error as seen from the node above the one that its pointer starts at, which is the item
+    /// at `index` of the list field `key`: the pointer gets both put before it. `OutOfMemory`
+    /// stays, and comes where there is no memory for the pointer.
     pub fn under_item(self, alloc: Global, key: &str, index: usize) -> MinifyError
         ensures { IsUnder (item_step key.now index) (fault_of self) (fault_of result) }
     {
@@ -182,7 +186,7 @@ fn item_step(alloc: Global, key: &str, index: usize) -> Result<String, AllocErro
     Ok(step)
 }
 
-/// A value that is no form of ESTree, at the root.
+/// The error `BadShape` of the root: it is no form of ESTree. It takes no memory.
 pub fn bad_shape(alloc: Global) -> MinifyError
     ensures { fault_of result ≡ Some (record { defect = wrong_shape; at = [] }) }
 {
@@ -191,7 +195,7 @@ pub fn bad_shape(alloc: Global) -> MinifyError
     }
 }
 
-/// A form that isn't read, at the root.
+/// The error `Unsupported` of the root: its form isn't read. It takes no memory.
 pub fn unsupported(alloc: Global) -> MinifyError
     ensures { fault_of result ≡ Some (record { defect = unsupported_form; at = [] }) }
 {
@@ -200,7 +204,7 @@ pub fn unsupported(alloc: Global) -> MinifyError
     }
 }
 
-/// A node that nests deeper than allowed, at the root.
+/// The error `TooDeep` of the root: it nests one deeper than allowed. It takes no memory.
 pub fn too_deep(alloc: Global) -> MinifyError
     ensures { fault_of result ≡ Some (record { defect = deeper_than_allowed; at = [] }) }
 {
@@ -209,7 +213,8 @@ pub fn too_deep(alloc: Global) -> MinifyError
     }
 }
 
-/// A name that its scope can't have twice, at the root.
+/// The error `EarlyName` of the root: it declares a name that its scope can't have twice. It takes
+/// no memory.
 pub fn early_name(alloc: Global) -> MinifyError
     ensures { fault_of result ≡ Some (record { defect = name_is_early; at = [] }) }
 {
@@ -218,7 +223,7 @@ pub fn early_name(alloc: Global) -> MinifyError
     }
 }
 
-/// A jump without a target, at the root.
+/// The error `EarlyJump` of the root: it is a jump without a target. It takes no memory.
 pub fn early_jump(alloc: Global) -> MinifyError
     ensures { fault_of result ≡ Some (record { defect = jump_is_early; at = [] }) }
 {

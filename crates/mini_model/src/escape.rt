@@ -5,8 +5,9 @@ use crate::code_units::{BACKSLASH, BACKTICK, CARRIAGE_RETURN, DOLLAR, LETTER_R};
 use crate::{OutOfMemory, Text};
 use std::alloc::Global;
 
-/// The raw text of a template literal that spells a text: `\`, the backtick and `$` have a backslash before them,
-/// and a carriage return is `\r` (ECMA-262, "Template Literal Lexical Components").
+/// The raw text of a template literal that spells a text: `\`, the backtick and `$` have a
+/// backslash before them, and a carriage return is `\r` (ECMA-262, "Template Literal Lexical
+/// Components").
 ///
 /// The only error is that memory runs out.
 pub fn escape_string_for_template_literal(alloc: Global, value: &Text) -> Result<Text, OutOfMemory>

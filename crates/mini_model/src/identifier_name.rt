@@ -52,8 +52,8 @@ impl Drop for IdentifierName {
     }
 }
 
-/// Whether the text is an identifier's name: a character that may begin one, and then some that may go on with it
-/// (ECMA-262, IdentifierName, with XID_Start and XID_Continue of UAX #31).
+/// Whether the text is an identifier's name: a character that may begin one, and then some that may
+/// go on with it (ECMA-262, IdentifierName, with XID_Start and XID_Continue of UAX #31).
 pub fn is_identifier_name(text: &Text) -> bool
     ensures { result ≡ is_identifier_name text.now }
 {
@@ -86,7 +86,8 @@ fn is_name_part(ch: char) -> bool
     is_xid_continue(ch) || matches!(ch, '$' | '\u{200C}' | '\u{200D}')
 }
 
-// The first character, which is None for a surrogate with no partner, and the units after it; None where there are none.
+// The first character, which is None for a surrogate with no partner, and the units after it; None
+// where there are none.
 fn split_first_char(units: &[u16]) -> Option<(Option<char>, &[u16])>
     ensures { MatchOption result
         (units.now ≡ [])

@@ -19,9 +19,10 @@ enum Tail {
     Rest,
 }
 
-/// The raw texts of parts of a template literal, joined. Where a part ends in an unescaped `$` and `{` comes next, a
-/// backslash goes between; where it ends in an unescaped `\0` and a digit comes next, that `\0` becomes `\x00`
-/// (ECMA-262, "Template Literal Lexical Components", TemplateHead and NotEscapeSequence).
+/// The raw texts of parts of a template literal, joined. Where a part ends in an unescaped `$` and
+/// `{` comes next, a backslash goes between; where it ends in an unescaped `\0` and a digit comes
+/// next, that `\0` becomes `\x00` (ECMA-262, "Template Literal Lexical Components", TemplateHead
+/// and NotEscapeSequence).
 ///
 /// The only error is that memory runs out.
 pub fn concat_template_literal_raw(alloc: Global, parts: &TextList) -> Result<Text, OutOfMemory>

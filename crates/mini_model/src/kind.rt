@@ -1,4 +1,5 @@
-/// How a declaration declares its names (ECMA-262, "Let and Const Declarations" and "Variable Statement").
+/// How a declaration declares its names (ECMA-262, "Let and Const Declarations" and "Variable
+/// Statement").
 #[derive(Clone, Copy, PartialEq, Eq)]
 pub enum VariableDeclarationKind {
     /// `var`

@@ -1,9 +1,10 @@
-//! What programs are made of: lists that own their items, texts in UTF-16 units, names, and why a program is refused, and where; the
-//! texts of literals (ECMA-262, "Template Literal Lexical Components"); and the plain form of a syntax tree (`specs/Tree.antt`), with
-//! the definitions that speak of it: places, weight, terms and redexes.
+//! What programs are made of: lists that own their items, texts in UTF-16 units, names, and why a
+//! program is refused, and where; the texts of literals (ECMA-262, "Template Literal Lexical
+//! Components"); and the plain form of a syntax tree (`specs/Tree.antt`), with the definitions that
+//! speak of it: places, weight, terms and redexes.
 //!
-//! Of that form the plain parts are here as code: what a node is beside its children, the names that stand in it, and the seat in
-//! which it stands.
+//! Of that form the plain parts are here as code: what a node is beside its children, the names
+//! that stand in it, and the seat in which it stands.
 #![tactic(auto)]
 
 mod boxed;

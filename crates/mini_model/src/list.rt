@@ -7,7 +7,8 @@ use crate::OutOfMemory;
 use std::alloc::{AllocFailed, Global};
 use std::marker::Model;
 
-/// A list that owns its items and keeps the allocator that it was made with. A contract sees the list of the items.
+/// A list that owns its items and keeps the allocator that it was made with. A contract sees the
+/// list of the items.
 pub struct OwnedList<T> {
     items: Vec<T>,
 }
@@ -84,7 +85,8 @@ impl<T> OwnedList<T> {
         self.items.push(item)
     }
 
-    /// Puts the item at a place up to the length. Where there is no memory the list is as it was, and the item comes back.
+    /// Puts the item at a place up to the length. Where there is no memory the list is as it was,
+    /// and the item comes back.
     pub fn try_insert(&mut self, at: usize, item: T) -> Result<(), AllocFailed<T>>
         requires { at ≤ length self.old }
         ensures ok { OnOk result (self.new ≡ insert self.old at item) }
@@ -101,7 +103,8 @@ impl<T> OwnedList<T> {
         self.items.pop()
     }
 
-    /// Takes the item at a place out; None exactly where the place isn't below the length, and then nothing changes.
+    /// Takes the item at a place out; None exactly where the place isn't below the length, and then
+    /// nothing changes.
     pub fn remove(&mut self, at: usize) -> Option<T>
         ensures item { result ≡ slice_get self.old at }
         ensures rest { self.new ≡ remove self.old at }
@@ -126,7 +129,8 @@ impl<T: Drop> OwnedList<T> {
         }
     }
 
-    /// Puts the item at a place up to the length. After `OutOfMemory` the list is as it was, and the item is gone.
+    /// Puts the item at a place up to the length. After `OutOfMemory` the list is as it was, and
+    /// the item is gone.
     pub fn insert(&mut self, at: usize, item: T) -> Result<(), OutOfMemory>
         requires { at ≤ length self.old }
         ensures ok { OnOk result (self.new ≡ insert self.old at item) }

@@ -6,10 +6,12 @@ use crate::Text;
 #[derive(Clone, Copy, PartialEq, Eq)]
 pub struct SymbolId(pub u32);
 
-/// A name where it stands in a node: its spelling, and its symbol where a scope declares it. A name without a symbol
-/// is unresolved.
+/// A name where it stands in a node: its spelling, and its symbol where a scope declares it. A name
+/// without a symbol is unresolved.
 pub struct Name {
+    /// The name's text.
     pub spelling: Text,
+    /// The number of the declaration that the name refers to; None where it is unresolved.
     pub symbol: Option<SymbolId>,
 }
 

@@ -17,8 +17,9 @@ const NINE: u16 = 0x39;
 // The greatest safe number (ECMA-262, Number.MAX_SAFE_INTEGER).
 const MAX_SAFE_INTEGER: u64 = 9_007_199_254_740_991;
 
-/// The decimal text of a whole number, as `0`, `12` or `-5`. Of a safe number it is the text that ECMA-262 gives it
-/// (Number::toString at radix 10); past those the standard may write zeros in place of the last digits.
+/// The decimal text of a whole number, as `0`, `12` or `-5`. Of a safe number it is the text that
+/// ECMA-262 gives it (Number::toString at radix 10); past those the standard may write zeros in
+/// place of the last digits.
 ///
 /// The only error is that memory runs out.
 pub fn decimal(alloc: Global, n: i64) -> Result<Text, OutOfMemory>
@@ -28,8 +29,9 @@ pub fn decimal(alloc: Global, n: i64) -> Result<Text, OutOfMemory>
     Text::from_str(alloc, buffer.format(n))
 }
 
-/// The safe number, at most 2^53 - 1 from 0, that has this text (ECMA-262, CanonicalNumericIndexString, with
-/// Number.MAX_SAFE_INTEGER as the limit); None exactly where no safe number has it, as at `+1`, `012` or no text, and at
+/// The safe number, at most 2^53 - 1 from 0, that has this text (ECMA-262,
+/// CanonicalNumericIndexString, with Number.MAX_SAFE_INTEGER as the limit); None exactly where no
+/// safe number has it, as at `+1`, `012` or no text, and at
 /// `-0`, which the standard reads as a zero of its own.
 pub fn equivalent_number(text: &Text) -> Option<i64>
     ensures exact { MatchOption result ((n : ℤ) → ¬ (IsTextOfSafe text.now n)) (IsTextOfSafe text.now) }
@@ -44,7 +46,8 @@ pub fn equivalent_number(text: &Text) -> Option<i64>
     }
 }
 
-// The number with these digits; None exactly where it's past the limit, and where they aren't digits of a number.
+// The number with these digits; None exactly where it's past the limit, and where they aren't
+// digits of a number.
 fn whole_number(digits: &[u16]) -> Option<u64>
     ensures { MatchOption result
         ((n : ℕ) → n ≤ max_safe_integer → digits.now ≢ decimal n)

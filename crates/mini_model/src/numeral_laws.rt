@@ -14,7 +14,8 @@ pub fn safe_number_is_exact()
     ensures { (text : List ℕ) (n : ℤ) → (safe_number text ≡ Some n) ↔ IsTextOfSafe text n }
 {}
 
-/// A safe number comes back from its text (ECMA-262, Number::toString and CanonicalNumericIndexString).
+/// A safe number comes back from its text (ECMA-262, Number::toString and
+/// CanonicalNumericIndexString).
 pub fn numbers_come_back()
     ensures { (n : ℤ) → IsSafe n → safe_number (signed_decimal n) ≡ Some n }
 {}

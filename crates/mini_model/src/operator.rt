@@ -26,7 +26,8 @@ pub enum UpdateOperator {
     Decrement,
 }
 
-/// The operator of a binary expression, from "Exponentiation Operator" to "Binary Bitwise Operators" in ECMA-262.
+/// The operator of a binary expression, from "Exponentiation Operator" to "Binary Bitwise
+/// Operators" in ECMA-262.
 #[derive(Clone, Copy, PartialEq, Eq)]
 pub enum BinaryOperator {
     /// `==`

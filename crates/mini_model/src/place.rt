@@ -1,11 +1,11 @@
 use crate::seat::{Seat, StmtSeat};
 
-/// Where a node stands, which its parent's shape and place, how many children there are and its index tell
-/// (`specs/Position.antt`).
+/// Where a node stands, which its parent's shape and place, how many children there are and its
+/// index tell (`specs/Position.antt`).
 #[derive(Clone, Copy)]
 pub enum Position {
-    /// An expression in its seat. The head of a `for` may hold a declaration there, and the place of an arrow's body its
-    /// statements.
+    /// An expression in its seat. The head of a `for` may hold a declaration there, and the place
+    /// of an arrow's body its statements.
     Expr(Seat),
     /// A statement in its seat.
     Stmt(StmtSeat),
@@ -13,7 +13,8 @@ pub enum Position {
     Target,
     /// The function that a method or an accessor is.
     Method,
-    /// The key of a shorthand property, which its value spells, and the name that a class declaration holds once more.
+    /// The key of a shorthand property, which its value spells, and the name that a class
+    /// declaration holds once more.
     Unwritten,
     /// A list of statements.
     StatementList,

@@ -1,5 +1,5 @@
-/// Which neighbours of a logical expression want parentheses round it (ECMA-262, "Binary Logical Operators":
-/// `??` and `&&` or `||` stand in one another in parentheses alone).
+/// Which neighbours of a logical expression want parentheses round it (ECMA-262, "Binary Logical
+/// Operators": `??` and `&&` or `||` stand in one another in parentheses alone).
 #[derive(Clone, Copy)]
 pub enum Mix {
     /// None.
@@ -15,7 +15,8 @@ pub enum Mix {
 pub enum Guard {
     /// The value alone.
     None,
-    /// The callee of a call, or the tag of a template: `this`, and whether the call is a direct eval.
+    /// The callee of a call, or the tag of a template: `this`, and whether the call is a direct
+    /// eval.
     Callee,
     /// The operand of `delete`.
     Delete,
@@ -26,7 +27,8 @@ pub enum Guard {
 /// How an expression stands in its parent.
 #[derive(Clone, Copy)]
 pub struct Seat {
-    /// The least level that needs no parentheses here, from 0 (a sequence) to 16 (a primary expression).
+    /// The least level that needs no parentheses here, from 0 (a sequence) to 16 (a primary
+    /// expression).
     pub level: u8,
     /// The object of a member access, a callee or a tag.
     pub access: bool,

@@ -4,27 +4,27 @@ use crate::operator::{
 };
 use crate::{BoxedText, Text, TextList};
 
-/// What a node of the plain form is: its kind with its plain fields. Its names, its number and its children stand
-/// beside it. A shape has one child for each field of its type in ESTree (ES5 to ES2022) that holds a node or a list of
-/// nodes, in the order in which each variant names them; a list field is one child, `Listed` over its items, and a part
-/// that is absent is `Absent`.
+/// What a node of the plain form is: its kind with its plain fields. Its names, its number and its
+/// children stand beside it. A shape has one child for each field of its type in ESTree (ES5 to
+/// ES2022) that holds a node or a list of nodes, in the order in which each variant names them; a
+/// list field is one child, `Listed` over its items, and a part that is absent is `Absent`.
 pub enum Shape {
     /// A part that is absent, and a hole among the elements of an array.
     Absent,
     /// The items of a list field.
     Listed,
-    /// An inner expression of a carried node, which has a number of its own: its one child is the expression, or, in a
-    /// pattern, the member that is assigned to. No node of ESTree.
+    /// An inner expression of a carried node, which has a number of its own: its one child is the
+    /// expression, or, in a pattern, the member that is assigned to. No node of ESTree.
     InnerExpression,
     /// `body`. The fields: whether it is a module, and its directives.
     Program(bool, TextList),
 
     // Statements
-    /// `expression`.
+    /// An expression statement: `expression`.
     ExpressionStatement,
-    /// No child.
+    /// `;`: no child.
     EmptyStatement,
-    /// No child.
+    /// `debugger;`: no child.
     DebuggerStatement,
     /// `body`.
     BlockStatement,
@@ -58,23 +58,24 @@ pub enum Shape {
     ForInStatement,
     /// `left`, `right`, `body`.
     ForOfStatement,
-    /// `declarations`.
+    /// `declarations`. The field: `kind`.
     VariableDeclaration(VariableDeclarationKind),
     /// `id`, `init`, which may be absent.
     VariableDeclarator,
 
     // Functions and classes
-    /// `id`, which may be absent, `params`, `body`. The fields: whether it is a declaration, whether it is a generator,
-    /// and its directives.
+    /// `id`, which may be absent, `params`, `body`. The fields: whether it is a declaration,
+    /// whether it is a generator, and its directives.
     Function(bool, bool, TextList),
     /// `params`, `body`: a `FunctionBody` or an expression. The field: its directives.
     ArrowFunctionExpression(TextList),
     /// `body`: the statements of a function, which ESTree holds in a BlockStatement.
     FunctionBody,
-    /// `id`, `superClass`, which may be absent each, `body`, and the name once more: a declaration has its name in the
-    /// scope around it, and holds it as a constant in a scope of its own, so of a declaration with a name the last child
-    /// is a `BindingIdentifier` of the same spelling, and of any other class it is absent. It is no node of ESTree and
-    /// isn't written (ECMA-262, ClassDefinitionEvaluation). The field: whether it is a declaration.
+    /// `id`, `superClass`, which may be absent each, `body`, and the name once more: a declaration
+    /// has its name in the scope around it, and holds it as a constant in a scope of its own, so of
+    /// a declaration with a name the last child is a `BindingIdentifier` of the same spelling, and
+    /// of any other class it is absent. It is no node of ESTree and isn't written (ECMA-262,
+    /// ClassDefinitionEvaluation). The field: whether it is a declaration.
     Class(bool),
     /// `body`.
     ClassBody,
@@ -108,25 +109,26 @@ pub enum Shape {
     Identifier,
     /// A name that is declared: no child, one name.
     BindingIdentifier,
-    /// A name that names no variable, as a key's, a property's or a label's: no child. The field: its text.
+    /// A name that names no variable, as a key's, a property's or a label's: no child. The field:
+    /// its text.
     IdentifierName(Text),
     /// `#x`: no child. The field: the text after the `#`.
     PrivateIdentifier(Text),
-    /// No child.
+    /// A number: no child. The field: its value.
     NumericLiteral(i64),
-    /// No child.
+    /// A text in quotes: no child. The field: its value.
     StringLiteral(Text),
-    /// No child.
+    /// `true` or `false`: no child. The field: its value.
     BooleanLiteral(bool),
-    /// No child.
+    /// `null`: no child.
     NullLiteral,
-    /// No child. The fields: `pattern`, `flags`.
+    /// A regular expression: no child. The fields: `pattern`, `flags`.
     RegExpLiteral(BoxedText, BoxedText),
-    /// No child.
+    /// A BigInt: no child. The field: its value.
     BigIntLiteral(u128),
 
     // Expressions
-    /// No child.
+    /// `this`: no child.
     ThisExpression,
     /// `super`, as the object or the callee of the three shapes named for it: no child.
     Super,
@@ -138,17 +140,17 @@ pub enum Shape {
     ObjectProperty(PropertyKind, bool, bool, bool),
     /// `argument`.
     SpreadElement,
-    /// `argument`.
+    /// `argument`. The field: `operator`.
     UnaryExpression(UnaryOperator),
     /// `argument`. The fields: `operator`, `prefix`.
     UpdateExpression(UpdateOperator, bool),
-    /// `left`, `right`.
+    /// `left`, `right`. The field: `operator`.
     BinaryExpression(BinaryOperator),
     /// `left`, a `PrivateIdentifier`, and `right`.
     PrivateInExpression,
-    /// `left`, `right`.
+    /// `left`, `right`. The field: `operator`.
     LogicalExpression(LogicalOperator),
-    /// `left`, `right`.
+    /// `left`, `right`. The field: `operator`.
     AssignmentExpression(AssignmentOperator),
     /// `test`, `consequent`, `alternate`.
     ConditionalExpression,
@@ -176,33 +178,36 @@ pub enum Shape {
     YieldExpression(bool),
     /// `quasis`, `expressions`.
     TemplateLiteral,
-    /// No child. The fields: `tail`, the raw text, and the cooked one, if there is one.
+    /// A piece of a template's text: no child. The fields: `tail`, the raw text, and the cooked
+    /// one, if there is one.
     TemplateElement(bool, BoxedText, Option<BoxedText>),
     /// `tag`, `quasi`.
     TaggedTemplateExpression,
-    /// `meta`, `property`, each an `IdentifierName`.
+    /// `meta`, `property`, each an `IdentifierName`. The field: which of the two meta properties it
+    /// is.
     MetaProperty(MetaPropertyKind),
-    /// `source`.
+    /// `import(source)`: `source`.
     ImportExpression,
 
     // Patterns
-    /// `properties`, of a declaration.
+    /// A pattern of a declaration: `properties`.
     ObjectPattern,
-    /// `elements`, of a declaration.
+    /// A pattern of a declaration: `elements`.
     ArrayPattern,
-    /// `key`, `value`. The fields: `shorthand`, `computed`.
+    /// A property of an `ObjectPattern`: `key`, `value`. The fields: `shorthand`, `computed`.
     BindingProperty(bool, bool),
     /// `argument`.
     RestElement,
     /// `left`, `right`: a part of a pattern, or a parameter, with its default.
     AssignmentPattern,
-    /// `properties`, of an assignment.
+    /// A pattern of an assignment: `properties`.
     ObjectAssignmentTarget,
-    /// `elements`, of an assignment.
+    /// A pattern of an assignment: `elements`.
     ArrayAssignmentTarget,
     /// `key`, `value`: a shorthand property of an `ObjectAssignmentTarget`.
     AssignmentTargetPropertyIdentifier,
-    /// `key`, `value`: another one. The field: `computed`.
+    /// A property of an `ObjectAssignmentTarget` that isn't a shorthand: `key`, `value`. The field:
+    /// `computed`.
     AssignmentTargetPropertyProperty(bool),
 }
 

@@ -18,7 +18,8 @@ impl OwnedList<u16> {
         Ok(units)
     }
 
-    /// The text in UTF-8, with U+FFFD for each surrogate that has no partner (The Unicode Standard, UTF-8).
+    /// The text in UTF-8, with U+FFFD for each surrogate that has no partner (The Unicode Standard,
+    /// UTF-8).
     ///
     /// The only error is that memory runs out.
     pub fn to_utf8(&self, alloc: Global) -> Result<String, OutOfMemory>

@@ -51,7 +51,8 @@ fn are_same_texts(first: &[Text], second: &[Text]) -> bool
     true
 }
 
-// The number of a shape with what its fields are, where these are flags and the kinds of which there are few; 0 of any other.
+// The number of a shape with what its fields are, where these are flags and the kinds of which
+// there are few; 0 of any other.
 fn plain_number(shape: &Shape) -> u32
     ensures { result ≡ equal.plain_number shape.now }
 {
@@ -297,8 +298,9 @@ fn is_same_root(first: &Node, second: &Node) -> bool
         && is_same_name(first.name(), second.name())
 }
 
-/// Whether the two are equal: their shapes with all plain fields, their names with spelling and symbol, their numbers, and so
-/// their children. Of two functions or classes of a program none is.
+/// Whether the two are equal: their shapes with all plain fields, their names with spelling and
+/// symbol, their numbers, and likewise their children. Of two functions, classes or other nodes
+/// that have different numbers the answer is false.
 #[cycle(comparing)]
 #[tactic(auto, using(crate::proofs::Equality::by_root))]
 pub fn is_same_tree(first: &Node, second: &Node) -> bool

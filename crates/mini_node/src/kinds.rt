@@ -104,7 +104,8 @@ pub fn is_block(node: &Node) -> bool
     }
 }
 
-/// Whether the node is `if (a) b else c`, or the same without `else`, whose last child is absent then.
+/// Whether the node is `if (a) b else c`, or the same without `else`, whose last child is absent
+/// then.
 pub fn is_if_statement(node: &Node) -> bool
     ensures kind { result ≡ kind.is_if_statement node.now }
     ensures parts { result ≡ true → count (children node.now) ≡ 3 }
@@ -224,8 +225,8 @@ pub fn is_identifier(node: &Node) -> bool
     matches!(node.shape(), Shape::Identifier) && node.is_named_leaf()
 }
 
-/// Whether the node is `f(a, b)`, and no link of a chain that may end there. Its second child is the list of the
-/// arguments.
+/// Whether the node is `f(a, b)`, and no link of a chain that may end there. Its second child is
+/// the list of the arguments.
 pub fn is_call_expression(node: &Node) -> bool
     ensures kind { result ≡ kind.is_call_expression node.now }
     ensures parts { result ≡ true → count (children node.now) ≡ 2 }

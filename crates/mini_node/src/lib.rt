@@ -1,5 +1,5 @@
-//! One type for every node of a syntax tree, its kinds, and what a node of a kind is made of. A contract sees the plain
-//! form.
+//! One type for every node of a syntax tree, its kinds, and what a node of a kind is made of. A
+//! contract sees the plain form.
 #![tactic(auto)]
 
 mod equal;

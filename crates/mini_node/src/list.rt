@@ -49,7 +49,7 @@ impl Nodes {
         }
     }
 
-    /// No child, with room for so many.
+    /// No child, with room for that many.
     ///
     /// The only error is that memory runs out.
     pub fn with_capacity(alloc: Global, capacity: usize) -> Result<Nodes, OutOfMemory>
@@ -66,7 +66,7 @@ impl Nodes {
         *self.items.allocator()
     }
 
-    /// How many there are.
+    /// How many nodes there are.
     #[tactic(auto, using(crate::proofs::Lists::counted))]
     pub fn len(&self) -> usize
         ensures { result ≡ count self.now }
@@ -74,7 +74,7 @@ impl Nodes {
         self.items.len()
     }
 
-    /// Whether there is none.
+    /// Whether there is no node.
     #[tactic(auto, using(crate::proofs::Lists::counted))]
     pub fn is_empty(&self) -> bool
         ensures { result ≡ (count self.now == 0) }
@@ -89,7 +89,7 @@ impl Nodes {
         self.items.as_slice()
     }
 
-    /// So many nodes from a place on.
+    /// That many nodes from a place on, which the list must have.
     #[tactic(auto, using(crate::proofs::Lists::window, crate::proofs::Lists::counted))]
     pub fn window(&self, at: usize, size: usize) -> &[Node]
         requires { at + size ≤ count self.now }
@@ -116,7 +116,7 @@ impl Nodes {
         self.items.get_mut(at)
     }
 
-    /// The child at a place where there is one.
+    /// The child at a place, which is below the length.
     #[tactic(auto, using(crate::proofs::Lists::read, crate::proofs::Lists::counted, crate::proofs::Lists::smaller))]
     pub fn child(&self, at: usize) -> &Node
         requires { at < count self.now }
@@ -126,7 +126,7 @@ impl Nodes {
         &self.items[at]
     }
 
-    /// The same for writing.
+    /// The child at a place, which is below the length, for writing.
     #[tactic(auto, using(crate::proofs::Lists::set, crate::proofs::Lists::counted))]
     pub fn child_mut(&mut self, at: usize) -> &mut Node
         requires { at < count self.old }
@@ -158,7 +158,8 @@ impl Nodes {
         }
     }
 
-    /// Puts the node at a place up to the length. Where there is no memory the list is as it was, and the node comes back.
+    /// Puts the node at a place up to the length. Where there is no memory the list is as it was,
+    /// and the node comes back.
     #[tactic(auto, using(crate::proofs::Lists::inserted, crate::proofs::Lists::counted))]
     pub fn try_insert(&mut self, at: usize, node: Node) -> Result<(), AllocFailed<Node>>
         requires { at ≤ count self.old }
@@ -169,7 +170,8 @@ impl Nodes {
         self.items.insert(at, node)
     }
 
-    /// Puts the node at a place up to the length. After `OutOfMemory` the list is as it was, and the node is gone.
+    /// Puts the node at a place up to the length. After `OutOfMemory` the list is as it was, and
+    /// the node is gone.
     #[tactic(auto, using(crate::proofs::Lists::inserted, crate::proofs::Lists::counted))]
     pub fn insert(&mut self, at: usize, node: Node) -> Result<(), OutOfMemory>
         requires { at ≤ count self.old }
@@ -182,7 +184,7 @@ impl Nodes {
         }
     }
 
-    /// Takes the child at a place out, where there is one.
+    /// Takes the child at a place out, which is below the length.
     #[tactic(auto, using(crate::proofs::Lists::removed, crate::proofs::Lists::read, crate::proofs::Lists::counted, crate::proofs::Lists::removed_nodes))]
     pub fn remove(&mut self, at: usize) -> Node
         requires { at < count self.old }
@@ -193,7 +195,7 @@ impl Nodes {
         self.items.remove(at)
     }
 
-    /// Takes the last one out; None exactly where there is none.
+    /// Takes the last node out; None exactly where the list is empty.
     #[tactic(auto, using(crate::proofs::Lists::joined, crate::proofs::Lists::popped_nodes))]
     pub fn pop(&mut self) -> Option<Node>
         ensures value { MatchOption result
@@ -204,7 +206,7 @@ impl Nodes {
         self.items.pop()
     }
 
-    /// Puts a node in a child's place, and gives the child.
+    /// Puts a node at a place, which is below the length, and gives the child that stood there.
     #[tactic(auto, using(crate::proofs::Lists::set, crate::proofs::Lists::read, crate::proofs::Lists::counted))]
     pub fn replace(&mut self, at: usize, node: Node) -> Node
         requires { at < count self.old }
@@ -214,7 +216,7 @@ impl Nodes {
         mem::replace(&mut self.items[at], node)
     }
 
-    /// Takes a child out, and leaves an absent part in its place.
+    /// Takes the child at a place out, which is below the length, and leaves an absent part there.
     pub fn take(&mut self, at: usize) -> Node
         requires { at < count self.old }
         ensures value { result ≡ child_or_absent self.old at }
@@ -224,7 +226,7 @@ impl Nodes {
         self.replace(at, absent)
     }
 
-    /// Puts two children into each other's place.
+    /// Exchanges the children at two places, which are below the length.
     #[tactic(auto, using(crate::proofs::Lists::swapped, crate::proofs::Lists::counted))]
     pub fn swap(&mut self, first: usize, second: usize)
         requires first_within { first < count self.old }
@@ -234,7 +236,8 @@ impl Nodes {
         self.items.swap(first, second);
     }
 
-    /// Moves the other's nodes to the end. Where there is no memory both are as they were.
+    /// Moves the nodes of another list to the end of this one. Where there is no memory both are as
+    /// they were.
     #[tactic(auto, using(crate::proofs::Lists::joined))]
     pub fn append(&mut self, other: &mut Nodes) -> Result<(), OutOfMemory>
         ensures ok { OnOk result ((self.new ≡ append self.old other.old) × (other.new ≡ none)) }
@@ -246,7 +249,8 @@ impl Nodes {
         }
     }
 
-    /// Moves the nodes from a place on into a list of their own. Where there is no memory the list is as it was.
+    /// Moves the nodes from a place on into a list of their own. Where there is no memory the list
+    /// is as it was.
     #[tactic(auto, using(crate::proofs::Lists::first, crate::proofs::Lists::rest, crate::proofs::Lists::counted))]
     pub fn split_off(&mut self, at: usize) -> Result<Nodes, OutOfMemory>
         requires { at ≤ count self.old }

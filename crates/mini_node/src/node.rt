@@ -13,7 +13,8 @@ use std::alloc::Global;
 use std::marker::Model;
 use std::mem;
 
-/// A node of a syntax tree.
+/// A node of a syntax tree: a shape, which is its kind with its plain fields, a name where it has
+/// one, a number where it has one, and its children. A contract sees the plain form.
 #[cycle(nodes)]
 pub struct Node {
     shape: Shape,
@@ -45,7 +46,7 @@ impl Model for Node {
 }
 
 impl Node {
-    /// A node without name or number, over these children.
+    /// A node over these children, without name or number.
     pub fn new(shape: Shape, children: Nodes) -> Node
         ensures { result ≡ node shape [] 0 children }
     {
@@ -57,7 +58,7 @@ impl Node {
         }
     }
 
-    /// A node of these parts.
+    /// A node of this shape, name and number (0 for none) over these children.
     pub fn with(shape: Shape, name: Option<Name>, number: u32, children: Nodes) -> Node
         ensures { result ≡ node shape (names name) number children }
     {
@@ -69,7 +70,7 @@ impl Node {
         }
     }
 
-    /// Its shape, its name, its number and its children.
+    /// Takes the node apart: its shape, its name, its number and its children.
     pub fn into_parts(self) -> (Shape, Option<Name>, u32, Nodes)
         ensures shape { result.0 ≡ shape_of self }
         ensures name { names result.1 ≡ names_of self }
@@ -94,7 +95,7 @@ impl Node {
         Node::with(shape, name, number, children)
     }
 
-    /// Takes its children out.
+    /// Takes the node's children out, and leaves it none.
     pub fn take_children(&mut self) -> Nodes
         ensures children { result ≡ children self.old }
         ensures smaller { node_counts result < node_count self.old }
@@ -104,28 +105,28 @@ impl Node {
         mem::replace(&mut self.children, Nodes::new(alloc))
     }
 
-    /// A node without name, number or child.
+    /// A node of this shape, without name, number or child.
     pub fn leaf(alloc: Global, shape: Shape) -> Node
         ensures { result ≡ leaf shape }
     {
         Node::new(shape, Nodes::new(alloc))
     }
 
-    /// What the node is.
+    /// What kind of node it is, with its plain fields.
     pub fn shape(&self) -> &Shape
         ensures { result.now ≡ shape_of self.now }
     {
         &self.shape
     }
 
-    /// Its name, if it has one.
+    /// The node's name, if it has one.
     pub fn name(&self) -> &Option<Name>
         ensures { names result.now ≡ names_of self.now }
     {
         &self.name
     }
 
-    /// Its name, for writing, if it has one.
+    /// The node's name, if it has one, for writing.
     pub fn name_mut(&mut self) -> Option<&mut Name>
         ensures* writes_back { sem 𝓛 (LendsName self.entry result) }
         ensures value { names (lent_name result) ≡ names_of self.old }
@@ -133,28 +134,28 @@ impl Node {
         self.name.as_mut()
     }
 
-    /// Gives it a name, or takes it away.
+    /// Gives the node a name, or takes it away.
     pub fn set_name(&mut self, name: Option<Name>)
         ensures { self.new ≡ with_names self.old (names name) }
     {
         self.name = name;
     }
 
-    /// Its number, which is 0 where it has none.
+    /// The node's number, which is 0 where it has none.
     pub fn number(&self) -> u32
         ensures { result ≡ number_of self.now }
     {
         self.number
     }
 
-    /// Gives it a number.
+    /// Gives the node a number; 0 takes it away.
     pub fn set_number(&mut self, number: u32)
         ensures { self.new ≡ with_number self.old number }
     {
         self.number = number;
     }
 
-    /// The nodes, in order.
+    /// The node's children, in order, as a slice.
     pub fn parts(&self) -> &[Node]
         ensures value { trees_of result.now ≡ children self.now }
         ensures smaller { node_counts (trees_of result.now) < node_count self.now }
@@ -162,14 +163,14 @@ impl Node {
         self.children.as_slice()
     }
 
-    /// Its children.
+    /// The node's children.
     pub fn children(&self) -> &Nodes
         ensures { result.now ≡ children self.now }
     {
         &self.children
     }
 
-    /// Its children, for writing.
+    /// The node's children, for writing.
     pub fn children_mut(&mut self) -> &mut Nodes
         ensures* writes_back { sem 𝓛 (LendsChildren self.entry result) }
         ensures value { result.now ≡ children self.old }
@@ -177,7 +178,7 @@ impl Node {
         &mut self.children
     }
 
-    /// Its children, without the node.
+    /// The node's children; the node itself is dropped.
     pub fn into_children(self) -> Nodes
         ensures value { result ≡ children self }
         ensures smaller { node_counts result < node_count self }
@@ -186,7 +187,7 @@ impl Node {
         children
     }
 
-    /// The child at a place where there is one.
+    /// The child at a place, which is below the number of children.
     pub fn child(&self, at: usize) -> &Node
         requires { at < count (children self.now) }
         ensures value { result.now ≡ part self.now at }
@@ -195,7 +196,7 @@ impl Node {
         self.children.child(at)
     }
 
-    /// Whether it has neither name nor number.
+    /// Whether the node has neither name nor number.
     pub fn is_nameless(&self) -> bool
         ensures { result ≡ is_it_nameless self.now }
     {
@@ -205,7 +206,7 @@ impl Node {
         }
     }
 
-    /// Whether it has neither name nor number, and so many children.
+    /// Whether the node has neither name nor number, and exactly that many children.
     #[tactic(auto, using(crate::proofs::Lists::bare_by, crate::proofs::Lists::same_count))]
     pub fn is_bare(&self, arity: usize) -> bool
         ensures kind { result ≡ is_it_bare self.now arity }
@@ -216,7 +217,7 @@ impl Node {
 }
 
 impl Node {
-    /// Whether it has a name, no number and no child.
+    /// Whether the node has a name, no number and no child.
     #[tactic(auto, using(crate::proofs::Lists::named_by, crate::proofs::Lists::named_number))]
     pub fn is_named_leaf(&self) -> bool
         ensures { result ≡ is_it_named_leaf self.now }

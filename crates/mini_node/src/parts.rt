@@ -15,7 +15,8 @@ use mini_model::{
 use std::alloc::Global;
 use std::mem;
 
-/// Takes the node out of its place, to be written over.
+/// Takes the node out of its place, in which another is to be written, and leaves an absent part
+/// there.
 pub fn taken(alloc: Global, node: &mut Node) -> Node
     ensures value { result ≡ node.old }
     ensures left { node.new ≡ absent }
@@ -23,7 +24,7 @@ pub fn taken(alloc: Global, node: &mut Node) -> Node
     mem::replace(node, Node::leaf(alloc, Shape::Absent))
 }
 
-/// Takes the first child out; of none, an absent part.
+/// Takes the first of some children out; an absent part where there is none.
 #[tactic(auto, using(crate::proofs::Taking::first_is, crate::proofs::Taking::none_left))]
 pub fn take_first(children: &mut Nodes) -> Node
     ensures value { result ≡ first_or_absent children.old }
@@ -37,7 +38,7 @@ pub fn take_first(children: &mut Nodes) -> Node
     }
 }
 
-/// The first child; an absent part where there is none.
+/// The first child of a node; an absent part where there is none.
 #[tactic(auto, using(crate::proofs::Taking::first_is))]
 pub fn one(node: Node) -> Node
     ensures value { result ≡ part node 0 }
@@ -46,7 +47,7 @@ pub fn one(node: Node) -> Node
     take_first(&mut node.into_children())
 }
 
-/// The first two children; an absent part for each that there isn't.
+/// The first two children of a node; an absent part for each that there isn't.
 #[tactic(auto, using(crate::proofs::Taking::first_is, crate::proofs::Taking::next_is, crate::proofs::Taking::count_rest))]
 pub fn two(node: Node) -> (Node, Node)
     ensures first { result.0 ≡ part node 0 }
@@ -59,7 +60,7 @@ pub fn two(node: Node) -> (Node, Node)
     (first, second)
 }
 
-/// The first three children; an absent part for each that there isn't.
+/// The first three children of a node; an absent part for each that there isn't.
 #[tactic(auto, using(crate::proofs::Taking::first_is, crate::proofs::Taking::next_is))]
 pub fn three(node: Node) -> (Node, Node, Node)
     ensures first { result.0 ≡ part node 0 }
@@ -73,9 +74,10 @@ pub fn three(node: Node) -> (Node, Node, Node)
     (first, second, third)
 }
 
-/// One child.
+/// A list of one child.
 ///
-/// The only error, of this and of what is below, is that memory runs out; the parts are gone then.
+/// The only error is that memory runs out; the child is gone then. That is so of each function
+/// below that puts nodes together.
 pub fn of_one(alloc: Global, first: Node) -> Result<Nodes, OutOfMemory>
     ensures { IfOk result (λ nodes. nodes ≡ first ▸ none) }
 {
@@ -84,7 +86,7 @@ pub fn of_one(alloc: Global, first: Node) -> Result<Nodes, OutOfMemory>
     Ok(children)
 }
 
-/// Two children.
+/// A list of two children. The only error is that memory runs out; they are gone then.
 pub fn of_two(alloc: Global, first: Node, second: Node) -> Result<Nodes, OutOfMemory>
     ensures { IfOk result (λ nodes. nodes ≡ first ▸ second ▸ none) }
 {
@@ -94,7 +96,7 @@ pub fn of_two(alloc: Global, first: Node, second: Node) -> Result<Nodes, OutOfMe
     Ok(children)
 }
 
-/// Three children.
+/// A list of three children. The only error is that memory runs out; they are gone then.
 pub fn of_three(alloc: Global, first: Node, second: Node, third: Node) -> Result<Nodes, OutOfMemory>
     ensures { IfOk result (λ nodes. nodes ≡ first ▸ second ▸ third ▸ none) }
 {

@@ -1,4 +1,5 @@
-//! Passes over a program: of a rule until it has nothing to do, and then of one besides that rests on what is known of bodies.
+//! Passes over a program: of a rule until it has nothing to do, and then of one besides that rests
+//! on what is known of bodies.
 #![tactic(auto)]
 
 mod copying;

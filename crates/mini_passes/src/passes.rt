@@ -73,8 +73,8 @@ fn make_pass<C: Context, A: Rule<C>, B: Rule<C>>(
     Ok(changed)
 }
 
-// The pass with this number, in which the first rule has found nothing to do, and those after it. None where what was known of bodies
-// didn't stay so.
+// The pass with this number, in which the first rule has found nothing to do, and those after it.
+// None where what was known of bodies didn't stay so.
 fn go_on<C: Renews, A: Rule<C>, B: Rule<C>>(
     first: &A,
     second: &B,
@@ -143,11 +143,13 @@ fn go_on_or_stay<C: Renews, A: Rule<C>, B: Rule<C>>(
     }
 }
 
-/// Makes passes of a rule over a program until one finds nothing to do, and then of a second rule besides, wherever the first has nothing
-/// to do; or as many as the bound says (0 is read as 1). The second rests on what is known of bodies. The context knows the program as the
-/// first pass begins, and looks at it anew before each other; and where it then tells that what was known of bodies doesn't stay so, the
-/// program is left as it was before the second rule made anything. The only error is that memory runs out, and then the program and
-/// the context are fit only to be dropped.
+/// Makes passes of a rule over a program until one finds nothing to do, and then of a second rule
+/// besides, wherever the first has nothing to do; or as many as the bound says (0 is read as 1).
+/// The second rests on what is known of bodies. The context knows the program as the first pass
+/// begins, and looks at it anew before each other; and where it then tells that what was known of
+/// bodies doesn't stay so, the program is left as it was before the second rule made anything. The
+/// only error is that memory runs out, and then the program and the context are fit only to be
+/// dropped.
 pub fn run_steady_passes<C: Renews, A: Rule<C>, B: Rule<C>>(
     first: &A,
     second: &B,

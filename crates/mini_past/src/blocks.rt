@@ -1,5 +1,7 @@
-//! Row 71 past steady names of a block further inside a body, those of a `try` among them, of a case and of the head of a `for`, as a row of
-//! the own code of whatever has the body: of `function f(g) { if (g) { let x = a(); return g(x); } }` the block becomes `{ ; return g(a()); }`.
+//! Row 71 past steady names of a block further inside a body, those of a `try` among them, of a
+//! case and of the head of a `for`, as a row of the own code of whatever has the body: of
+//! `function f(g) { if (g) { let x = a(); return g(x); } }` the block becomes
+//! `{ ; return g(a()); }`.
 
 ghost use Rattle.std.specs.Prelude.{◌≡◌, IfOk};
 ghost use Rattle.mini_rows.specs.PastBlocks.{PastBlocks};
@@ -19,8 +21,8 @@ use mini_steady::{BodyCode, OwnRewrites, SteadyNames};
 use mini_unused::{put_child, take_child};
 use std::alloc::Global;
 
-/// Of a block in the code of a body, as `{ let x = a(); return g(x); }`, which becomes `{ ; return g(a()); }`. The answer says whether a name
-/// went.
+/// Of a block in the code of a body, as `{ let x = a(); return g(x); }`, which becomes
+/// `{ ; return g(a()); }`. The answer says whether a name went.
 #[tactic(auto, using(crate::proofs::Holders::same_parts, crate::proofs::Holders::part_twice))]
 pub fn substitute_past_in_block<S: SteadyNames>(
     alloc: Global,
@@ -43,8 +45,9 @@ pub fn substitute_past_in_block<S: SteadyNames>(
     changed
 }
 
-/// Of a statement in the code of a body: of a block, of the cases of a switch, or of the head of a `for`. The answer says whether a name
-/// went; the only error is that memory runs out, and then the node is fit only to be dropped.
+/// Of a statement in the code of a body: of a block, of the cases of a switch, or of the head of a
+/// `for`. The answer says whether a name went; the only error is that memory runs out, and then the
+/// node is fit only to be dropped.
 pub fn substitute_past_in_statement<S: SteadyNames>(
     alloc: Global,
     node: &mut Node,

@@ -1,4 +1,5 @@
-//! Of the statements of a case of a switch: of `switch (a) { case 1: const x = b(); return g(x); }` they become `; return g(b());`.
+//! Of the statements of a case of a switch: of `switch (a) { case 1: const x = b(); return g(x); }`
+//! they become `; return g(b());`.
 
 ghost use Rattle.std.specs.Prelude.{◌≡◌, ◌<◌, true};
 ghost use Rattle.mini_model.specs.Tree.{children, count};
@@ -15,7 +16,8 @@ use mini_node::Node;
 use mini_steady::{BodyCode, SteadyNames};
 use std::alloc::Global;
 
-// Of a switch in the code of a body, of the case at the index. All else in the switch stands outside of its statements.
+// Of a switch in the code of a body, of the case at the index. All else in the switch stands
+// outside of its statements.
 fn substitute_past_in_case<S: SteadyNames>(
     alloc: Global,
     node: &mut Node,

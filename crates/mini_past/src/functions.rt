@@ -10,7 +10,8 @@ use mini_node::Node;
 use mini_unused::{put_child, take_child};
 use std::alloc::Global;
 
-/// Of a function with statements that is no arrow function, as `function f(g) { let x = a(); return g(x); }`, which becomes
+/// Of a function with statements that is no arrow function, as
+/// `function f(g) { let x = a(); return g(x); }`, which becomes
 /// `function f(g) { ; return g(a()); }`, wherever it stands. The answer says whether a name went.
 #[tactic(auto, using(crate::proofs::Holders::same_parts, crate::proofs::Holders::part_twice))]
 pub fn substitute_past_in_function<S: PastNames>(alloc: Global, node: &mut Node, steady: &S) -> bool
@@ -28,8 +29,8 @@ pub fn substitute_past_in_function<S: PastNames>(alloc: Global, node: &mut Node,
     changed
 }
 
-/// Of an arrow function with statements, as `g => { let x = a(); return g(x); }`, which becomes `g => { ; return g(a()); }`. The answer
-/// says whether a name went.
+/// Of an arrow function with statements, as `g => { let x = a(); return g(x); }`, which becomes
+/// `g => { ; return g(a()); }`. The answer says whether a name went.
 #[tactic(auto, using(crate::proofs::Holders::same_parts, crate::proofs::Holders::part_twice))]
 pub fn substitute_past_in_arrow<S: PastNames>(alloc: Global, node: &mut Node, steady: &S) -> bool
     ensures { AppliedPastArrow (S.sets steady.now) (S.lets steady.now) node.old node.new result }
@@ -46,8 +47,8 @@ pub fn substitute_past_in_arrow<S: PastNames>(alloc: Global, node: &mut Node, st
     changed
 }
 
-/// Of a module, as `import g from "g"; const y = a(); const x = b(); c(y, x);`, which becomes `import g from "g"; const y = a(); ; c(y, b());`. The answer
-/// says whether a name went.
+/// Of a module, as `import g from "g"; const y = a(); const x = b(); c(y, x);`, which becomes
+/// `import g from "g"; const y = a(); ; c(y, b());`. The answer says whether a name went.
 #[tactic(auto, using(crate::proofs::Holders::same_parts, crate::proofs::Holders::part_twice))]
 pub fn substitute_past_in_module<S: PastNames>(alloc: Global, node: &mut Node, steady: &S) -> bool
     ensures { AppliedPastModule (S.sets steady.now) (S.lets steady.now) node.old node.new result }

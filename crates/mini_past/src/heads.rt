@@ -1,4 +1,5 @@
-//! Of the head of a `for`: `for (let x = a(), y = g(x); y; ) h(y, y);` becomes `for (let y = g(a()); y; ) h(y, y);`.
+//! Of the head of a `for`: `for (let x = a(), y = g(x); y; ) h(y, y);` becomes
+//! `for (let y = g(a()); y; ) h(y, y);`.
 
 ghost use Rattle.std.specs.Prelude.{◌≡◌, ◌<◌, true, IfOk};
 ghost use Rattle.mini_model.specs.Tree.{children, count};
@@ -15,8 +16,9 @@ use mini_steady::{BodyCode, SteadyNames};
 use mini_unused::{put_child, take_child};
 use std::alloc::Global;
 
-/// Of a `for` in the code of a body, whose head is read as a list of this one declaration. The answer says whether a name went; the only
-/// error is that memory runs out, and then the node is fit only to be dropped.
+/// Of a `for` in the code of a body, whose head is read as a list of this one declaration. The
+/// answer says whether a name went; the only error is that memory runs out, and then the node is
+/// fit only to be dropped.
 pub fn substitute_past_in_head<S: SteadyNames>(
     alloc: Global,
     node: &mut Node,

@@ -1,5 +1,7 @@
-//! Row 71 past steady names of a `var` further inside a body: `function f(g) { if (g) { var x = a(); return g(x); } }` becomes
-//! `function f(g) { if (g) { ; return g(a()); } }`, and `function f(g) { for (;;) var x = a(), y = g(x); }` becomes
+//! Row 71 past steady names of a `var` further inside a body:
+//! `function f(g) { if (g) { var x = a(); return g(x); } }` becomes
+//! `function f(g) { if (g) { ; return g(a()); } }`, and
+//! `function f(g) { for (;;) var x = a(), y = g(x); }` becomes
 //! `function f(g) { for (;;) var y = g(a()); }`.
 
 ghost use Rattle.std.specs.Prelude.{◌≡◌, ◌||◌, ◌&&◌, not, true, IfOk};
@@ -35,7 +37,8 @@ fn holder_number(nodes: &[Node]) -> u32
     }
 }
 
-// Those that stand in it declare a name with the symbol before a place, and nothing else in them does.
+// Those that stand in it declare a name with the symbol before a place, and nothing else in them
+// does.
 fn is_begun_below(symbol: SymbolId, nodes: &[Node]) -> bool
     ensures { result ≡ begun_below symbol.0 (below (trees_of nodes.now)) }
 {
@@ -140,7 +143,8 @@ fn substitute_past_below<S: PastNames>(
     substitute_past_in(alloc, above, list, steady)
 }
 
-// In a `var` in no list, or that a `for` begins with, which is read like a list of this one statement.
+// In a `var` in no list, or that a `for` begins with, which is read like a list of this one
+// statement.
 fn substitute_past_alone<S: PastNames>(
     alloc: Global,
     above: &Node,
@@ -191,8 +195,9 @@ impl<'a, S: PastNames> EndRewrites for PastEnds<'a, S> {
     ghost lighter = { λ c. past_ends_lighten (S.sets c.steady.now) (S.lets c.steady.now) };
 }
 
-/// Row 71 past steady names of a `var` further inside as a rule: of each function with statements, of each static block, and of a module. Its
-/// context says what is known of each body, which names can be written, and which initializers may move.
+/// Row 71 past steady names of a `var` further inside as a rule: of each function with statements,
+/// of each static block, and of a module. Its context says what is known of each body, which names
+/// can be written, and which initializers may move.
 pub struct SubstitutePastInside;
 
 impl<C: PastContext> Rule<C> for SubstitutePastInside {

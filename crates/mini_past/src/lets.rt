@@ -57,7 +57,8 @@ fn lets_at_most(is_lexical: bool, symbol: SymbolId, declarator: &Node) -> bool
     !binds(symbol, declarator) || (is_lexical && is_let_name(symbol, declarator))
 }
 
-// So are all before an index.
+// Each declarator before an index is such a one of a `let` or a `const`, or doesn't declare the
+// name.
 fn all_let(is_lexical: bool, symbol: SymbolId, declarators: &Nodes, end: usize) -> bool
     requires { end ≤ count declarators.now }
     ensures { result ≡ reading.all_of (reading.lets_at_most is_lexical symbol.0) (first_children end declarators.now) }
@@ -70,7 +71,8 @@ fn all_let(is_lexical: bool, symbol: SymbolId, declarators: &Nodes, end: usize) 
     true
 }
 
-// So is a statement: `const a, y = v;`.
+// A statement doesn't declare the name, or is a `let` or a `const` that gives it its value:
+// `const a, y = v;`.
 fn lets_here(symbol: SymbolId, statement: &Node) -> bool
     ensures { result ≡ reading.lets_here symbol.0 statement.now }
 {
@@ -119,8 +121,8 @@ fn is_free(statements: &Nodes, at: usize) -> bool
     is_lexical(statements.child(at).shape())
 }
 
-/// One of the statements before the one at the place, or of the declarators before the other place in it, has initialised the name, and no scope
-/// in them hides it.
+/// One of the statements before the one at the place, or of the declarators before the other place
+/// in it, has initialised the name, and no scope in them hides it.
 pub fn is_let(
     symbol: SymbolId,
     statements: &Nodes,

@@ -1,4 +1,5 @@
-//! What tells which names can be written and which initializers may move, beside what is known of bodies.
+//! What tells which names can be written and which initializers may move, beside what is known of
+//! bodies.
 
 ghost use Rattle.std.specs.Prelude.{◌≡◌};
 ghost use Rattle.mini_model.specs.Tree.{Tree};
@@ -13,7 +14,8 @@ use mini_node::Node;
 use mini_steady::{SteadyContext, SteadyNames};
 use mini_unused::may_move;
 
-/// What tells what is known of bodies, which of the names that a program mentions can be written in it, and what the minifier may do.
+/// What tells what is known of bodies, which of the names that a program mentions can be written in
+/// it, and what the minifier may do.
 pub trait PastNames: SteadyNames {
     /// The variables that it says can be written, and what the minifier may do.
     ghost lets: { Self → Liberties };
@@ -59,10 +61,12 @@ impl PastNames for TraverseCtx {
 
 /// A context that tells so of the program that it knows.
 pub trait PastContext: SteadyContext + PastNames {
-    /// Of options and a program, the variables that can be written in it, and what the minifier may do.
+    /// Of options and a program, the variables that can be written in it, and what the minifier may
+    /// do.
     ghost lets_in: { CompressOptions → Tree → Liberties };
 
-    /// What the context tells of what can be written and done is that of the program that it knows, under its options.
+    /// What the context tells of what can be written and done is that of the program that it knows,
+    /// under its options.
     ghost says: { (c : Self) (o : CompressOptions) (q : Tree) → Self.knows c o q → Self.lets c ≡ lets_in o q };
 }
 

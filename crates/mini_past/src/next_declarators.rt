@@ -1,4 +1,5 @@
-//! Row 71 past steady names in one declaration: `let x = a(), y = g(x);` becomes `let y = g(a());`, where g is steady in the body.
+//! Row 71 past steady names in one declaration: `let x = a(), y = g(x);` becomes `let y = g(a());`,
+//! where g is steady in the body.
 
 ghost use Rattle.std.specs.Prelude.{◌≡◌, ◌+◌, ◌<◌, ◌^◌, true, None};
 ghost use Rattle.mini_model.specs.Tree.{children, count};
@@ -215,8 +216,8 @@ fn next_of<S: PastNames>(
     )
 }
 
-// The first declaration that has a name which its next declarator reads so, and which nothing else mentions, and the declarator's place
-// in it.
+// The first declaration that has a name which its next declarator reads so, and which nothing else
+// mentions, and the declarator's place in it.
 fn next_at<S: PastNames>(
     outside: &Node,
     statements: &Nodes,
@@ -233,8 +234,9 @@ fn next_at<S: PastNames>(
     None
 }
 
-/// Of a list of statements in which none reads a name of the one before so, with what stands outside of them, `let x = a(), y = g(x);`
-/// becomes `let y = g(a());`, as often as there is one. The answer says whether there was.
+/// Of a list of statements in which none reads a name of the one before so, with what stands
+/// outside of them, `let x = a(), y = g(x);` becomes `let y = g(a());`, as often as there is one.
+/// The answer says whether there was.
 pub fn substitute_next_past<S: PastNames>(
     alloc: Global,
     outside: &Node,

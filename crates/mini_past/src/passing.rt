@@ -1,5 +1,6 @@
-//! What may be evaluated before an initializer, whatever that does: constants, names that are steady and initialised, and `this`; and what is
-//! assigned to and what stands in a list, by such parts.
+//! What may be evaluated before an initializer, whatever that does: constants, names that are
+//! steady and initialised, and `this`; and what is assigned to and what stands in a list, by such
+//! parts.
 
 ghost use Rattle.std.specs.Prelude.{◌≡◌, ◌<◌, ◌&&◌};
 ghost use Rattle.mini_model.specs.Tree.{count};
@@ -43,7 +44,8 @@ fn is_held_variable<S: SteadyNames>(
             || is_let(symbol, statements, at, declarators, which))
 }
 
-// So does the variable of the name, which the initializer leaves as it is.
+// The initializer leaves the variable of this name as it is, and that keeps the value that it has
+// where the declarator stands.
 fn is_held_symbol<S: SteadyNames>(
     name: &Name,
     init: &Node,
@@ -134,7 +136,7 @@ fn passes_any<S: SteadyNames>(
     is_constant(node) || keeps_value(init, node, statements, at, declarators, which, body, steady)
 }
 
-// So may the key of a member.
+// The key of a member may be evaluated before the initializer.
 fn passes_any_word<S: SteadyNames>(
     init: &Node,
     node: &Node,
@@ -153,7 +155,7 @@ fn passes_any_word<S: SteadyNames>(
         || passes_any(init, node, statements, at, declarators, which, body, steady)
 }
 
-// So may a member that is assigned to: its object and its key.
+// A member that is assigned to may be evaluated before the initializer: its object and its key may.
 fn passes_any_member<S: SteadyNames>(
     init: &Node,
     node: &Node,
@@ -190,7 +192,8 @@ fn passes_any_member<S: SteadyNames>(
         ))
 }
 
-// So may what `=` assigns to: such a member, or a name, of which nothing is evaluated before the right side.
+// What `=` assigns to may be evaluated before the initializer: a member of which that is so, or a
+// name, of which nothing is evaluated before the right side.
 fn passes_any_target<S: SteadyNames>(
     init: &Node,
     operator: &AssignmentOperator,
@@ -211,7 +214,7 @@ fn passes_any_target<S: SteadyNames>(
             || (is_identifier(node) && is_effect_free(node, true)))
 }
 
-// So may a property, by its value.
+// A property may be evaluated before the initializer, since its value may.
 fn passes_any_field<S: SteadyNames>(
     init: &Node,
     node: &Node,
@@ -239,7 +242,8 @@ fn passes_any_field<S: SteadyNames>(
         )
 }
 
-// So may an item of a list, by what is gathered: where entries are, of a property its value; what is converted to a text has to be primitive.
+// An item of a list may be evaluated before the initializer, by what is gathered: where entries
+// are, the value of a property; what is converted to a text has to be primitive.
 #[tactic(auto, using(crate::proofs::PassedParts::values_pass_any))]
 fn passes_any_item<S: SteadyNames>(
     gathered: Gathered,

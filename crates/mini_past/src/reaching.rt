@@ -1,4 +1,5 @@
-//! Whether what is read may be put there, whatever the initializer does: the way to the read, and what is evaluated before it.
+//! Whether what is read may be put there, whatever the initializer does: the way to the read, and
+//! what is evaluated before it.
 
 ghost use Rattle.std.specs.Prelude.{◌≡◌, ◌<◌, false};
 ghost use Rattle.mini_model.specs.Tree.{children, count, shape_of};
@@ -51,7 +52,8 @@ fn is_sure(shape: &Shape) -> bool
     }
 }
 
-// What mentions the name is evaluated whatever stands before it, and the initializer may stand in its place.
+// What mentions the name is evaluated whatever stands before it, and the initializer may stand in
+// its place.
 fn is_certain(name: &Name, gathered: Gathered, init: &Node, node: &Node) -> bool
     ensures { result ≡ reading.is_certain name.now gathered init.now (shape_of node.now) (children node.now) }
 {
@@ -60,8 +62,8 @@ fn is_certain(name: &Name, gathered: Gathered, init: &Node, node: &Node) -> bool
             && (is_sure(node.shape()) || begins_with(name, node.children())))
 }
 
-// Each part that is evaluated before the variable is read may be evaluated before the initializer, and the read is reached whatever they
-// are.
+// Each part that is evaluated before the variable is read may be evaluated before the initializer,
+// and the read is reached whatever they are.
 #[cycle(past)]
 fn are_past_in<S: SteadyNames>(
     name: &Name,
@@ -95,7 +97,8 @@ fn are_past_in<S: SteadyNames>(
         )
 }
 
-// So may each of some parts, of a node of such a shape, up to the one that mentions it.
+// Each of some parts of a node of such a shape, up to the one that mentions the name, may be
+// evaluated before the initializer.
 #[cycle(past)]
 fn all_past<S: SteadyNames>(
     name: &Name,
@@ -148,7 +151,9 @@ fn all_past<S: SteadyNames>(
     true
 }
 
-/// So it is, where a value is asked and both nest so that one may be put into the other.
+/// Whether the initializer may be put where an expression, of which the value is asked, reads the
+/// name: each part that is evaluated before the read may be evaluated before the initializer, the
+/// read is reached whatever those are, and both nest so that one may be put into the other.
 pub fn are_past<S: SteadyNames>(
     name: &Name,
     init: &Node,

@@ -31,8 +31,9 @@ fn holds_function(place: Position) -> bool
     )
 }
 
-/// Row 71 past steady names as a rule: of each function with statements that is no arrow function. Its context says what is known of each
-/// body, which names can be written, and what the minifier may do.
+/// Row 71 past steady names as a rule: of each function with statements that is no arrow function.
+/// Its context says what is known of each body, which names can be written, and what the minifier
+/// may do.
 pub struct SubstitutePast;
 
 impl<C: PastContext> Rule<C> for SubstitutePast {

@@ -1,4 +1,5 @@
-//! Row 71 past steady names in the statements of a body: `let x = a(); return g(x);` becomes `; return g(a());`, where g is steady there.
+//! Row 71 past steady names in the statements of a body: `let x = a(); return g(x);` becomes
+//! `; return g(a());`, where g is steady there.
 
 ghost use Rattle.std.specs.Prelude.{◌≡◌, ◌+◌, ◌<◌, ◌^◌, suc, true, None};
 ghost use Rattle.mini_model.specs.Tree.{child_or_absent, children, count};
@@ -176,9 +177,10 @@ fn past_at<S: PastNames>(outside: &Node, statements: &Nodes, body: u32, steady: 
     None
 }
 
-/// Of a list of statements, which with what stands outside of them is the body with this number, `let x = a(); return g(x);` becomes
-/// `; return g(a());`, and `let x = a(), y = g(x);` becomes `let y = g(a());`, where g is steady in it and initialised, as often as there is
-/// one. The answer says whether there was.
+/// Of a list of statements, which with what stands outside of them is the body with this number,
+/// `let x = a(); return g(x);` becomes `; return g(a());`, and `let x = a(), y = g(x);` becomes
+/// `let y = g(a());`, where g is steady in it and initialised, as often as there is one. The answer
+/// says whether there was.
 pub fn substitute_past<S: PastNames>(
     alloc: Global,
     outside: &Node,

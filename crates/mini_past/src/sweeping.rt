@@ -1,5 +1,5 @@
-//! Where one name has gone from a list of statements, the others are looked for from there on: each declarator once, so that no look
-//! begins anew.
+//! Where one name has gone from a list of statements, the others are looked for from there on: each
+//! declarator once, so that no look begins anew.
 
 ghost use Rattle.std.specs.Prelude.{◌≡◌, ◌+◌, ◌<◌, ◌^◌, ◌||◌, true, false, Some};
 ghost use Rattle.mini_model.specs.Tree.{children, count};
@@ -18,7 +18,8 @@ use mini_unused::{
 };
 use std::alloc::Global;
 
-// The declarator at the place goes where it is the last one of the statement and the next statement reads its name so.
+// The declarator at the place goes where it is the last one of the statement and the next statement
+// reads its name so.
 fn sweep_last<S: PastNames>(
     alloc: Global,
     outside: &Node,
@@ -46,7 +47,8 @@ fn sweep_last<S: PastNames>(
     substitute_in_list(alloc, list, at, last);
 }
 
-// Of the statement at the place, where it is a declaration, the declarator at the other has a name that the next one reads so.
+// Of the statement at the place, where it is a declaration, the declarator at the other has a name
+// that the next one reads so.
 fn is_next_there<S: PastNames>(
     outside: &Node,
     statements: &Nodes,
@@ -95,7 +97,8 @@ fn sweep_next<S: PastNames>(
     substitute_next(list, at, which);
 }
 
-// The declarator at the place goes where the next statement reads its name so, or the next declarator does.
+// The declarator at the place goes where the next statement reads its name so, or the next
+// declarator does.
 fn sweep_declarator<S: PastNames>(
     alloc: Global,
     outside: &Node,
@@ -133,8 +136,8 @@ fn sweep_statement<S: PastNames>(
     }
 }
 
-/// Of a list of statements, which with what stands outside of them is the body with this number, from a place on, each name goes that the
-/// next statement or the next declarator reads so.
+/// Of a list of statements, which with what stands outside of them is the body with this number,
+/// from a place on, each name goes that the next statement or the next declarator reads so.
 pub fn sweep<S: PastNames>(
     alloc: Global,
     outside: &Node,

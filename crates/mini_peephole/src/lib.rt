@@ -1,5 +1,5 @@
-//! The top calls: of the library, an ESTree value in and a lighter one out, and of the program, a whole run from the bytes of a
-//! source to the bytes of a sink.
+//! The top calls: of the library, an ESTree value in and a lighter one out, and of the program, a
+//! whole run from the bytes of a source to the bytes of a sink.
 #![tactic(auto)]
 
 mod laws;

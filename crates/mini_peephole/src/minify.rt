@@ -56,8 +56,8 @@ pub struct Minified {
     pub passes: u32,
     /// Whether the last pass found nothing to rewrite.
     pub settled: bool,
-    /// Whether what was known of the bodies of functions as each pass began stayed so to the end. Where it didn't, no rewrite that rests on
-    /// that was made.
+    /// Whether what was known of the bodies of functions as each pass began stayed so to the end.
+    /// Where it didn't, no rewrite that rests on that was made.
     pub steady: bool,
 }
 
@@ -72,9 +72,9 @@ pub struct Weighed {
     pub after: u64,
 }
 
-// The rules, in the order in which a node is tried with them: of logic, of blocks as branches and bodies, of spellings, of
-// lists, of keys, of choices, of declarations, of what is known, of arrow functions, of constants and of keys of
-// patterns and classes.
+// The rules, in the order in which a node is tried with them: of logic, of blocks as branches and
+// bodies, of spellings, of lists, of keys, of choices, of declarations, of what is known, of arrow
+// functions, of constants and of keys of patterns and classes.
 type Logic = Then<MinimizeUnary, Then<MinimizeConditional, MinimizeIf>>;
 
 type Spellings = Then<
@@ -195,7 +195,8 @@ const KEEPING_RULES: Then<Logic, Then<MinimizeBodies, Spellings>> = Then {
     },
 };
 
-// These keep each name; after them come the rules of names that nothing mentions, and of names that can be written.
+// These keep each name; after them come the rules of names that nothing mentions, and of names that
+// can be written.
 type Keeping = Then<Logic, Then<MinimizeBodies, Spellings>>;
 
 type Naming = Then<
@@ -389,12 +390,13 @@ fn minify_read(
     made
 }
 
-/// Reads a program from its ESTree value, gives each name in it its symbol, rewrites it until nothing is left to rewrite or
-/// the passes of the options are made, and writes it.
+/// Reads a program from its ESTree value, gives each name in it its symbol, rewrites it until
+/// nothing is left to rewrite or the passes of the options are made, and writes it.
 ///
-/// A value is refused exactly where it is no program that is read to the depth of the options, with the first defect and
-/// its pointer (`mini_accept::faults_are_there` says that the node at the pointer has the defect), or where its program has
-/// an early error, `EarlyName` or `EarlyJump`, with the first and its pointer. `OutOfMemory` may come in place of any answer.
+/// A value is refused exactly where it is no program that is read to the depth of the options, with
+/// the first defect and its pointer (`mini_accept::faults_are_there` says that the node at the
+/// pointer has the defect), or where its program has an early error, `EarlyName` or `EarlyJump`,
+/// with the first and its pointer. `OutOfMemory` may come in place of any answer.
 ///
 /// The value has to fit: `mini_writer::fits` tells, and what 16,777,216 bytes of JSON say does.
 #[tactic(auto, using(crate::proofs::Refused::refused_by_table))]
@@ -414,8 +416,8 @@ pub fn minify_estree(
     minify_read(alloc, read, options)
 }
 
-/// Minifies a value that is given away, as `minify_estree` minifies one that is borrowed. It is dropped as soon as it is read, so that all
-/// that comes after has its memory.
+/// Minifies a value that is given away, as `minify_estree` minifies one that is borrowed. It is
+/// dropped as soon as it is read, so that all that comes after has its memory.
 #[tactic(auto, using(crate::proofs::Refused::refused_by_table))]
 pub fn minify_value(
     alloc: Global,

@@ -40,7 +40,8 @@ fn push_all_numbers(nodes: &Nodes, found: &mut Numbers) -> Result<(), OutOfMemor
     Ok(())
 }
 
-/// The numbers of the numbered nodes of a program, in preorder: its own, which is 0, and those above 0 below it.
+/// The numbers of the numbered nodes of a program, in preorder: its own, which is 0, and those
+/// above 0 below it.
 pub fn numbers_of(alloc: Global, program: &Program) -> Result<Numbers, OutOfMemory>
     ensures { IfOk result (λ found. found ≡ 0 ∷ numbers program.now) }
 {

@@ -322,8 +322,9 @@ fn run_read<S: Source, K: Sink, E: Sink>(
     }
 }
 
-/// Reads the words and all that the source gives, minifies it, and writes the answer, or tells why there is none. Where the words
-/// order a script of some statements, that is minified in place of what is read, and what it weighs before and after is written.
+/// Reads the words and all that the source gives, minifies it, and writes the answer, or tells why
+/// there is none. Where the words order a script of some statements, that is minified in place of
+/// what is read, and what it weighs before and after is written.
 pub fn run<S: Source, K: Sink, E: Sink>(
     alloc: Global,
     words: &Words,

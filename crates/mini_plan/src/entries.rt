@@ -123,7 +123,8 @@ const TAGGED_TEMPLATE_EXPRESSION: [Below; 2] = [
 
 const IMPORT_EXPRESSION: [Below; 1] = [Below::Inner("source", EXPRESSION)];
 
-// The shape of a node of this type, where all nodes of the type have one, without a text.
+// The shape of a node of this type, where all nodes of the type have one and it holds no text; None
+// of another type.
 fn plain_shape(kind: Kind) -> Option<Shape>
     ensures { result ≡ plain_shape kind }
 {
@@ -162,7 +163,7 @@ fn plain_shape(kind: Kind) -> Option<Shape>
     }
 }
 
-// Its children.
+// The children of a node of this type, where all nodes of the type have the same.
 fn plain_children(kind: Kind) -> &'static [Below]
     ensures { (d : Data) → map (child_of d) result.now ≡ plain_children kind d }
 {
@@ -197,7 +198,7 @@ fn plain_children(kind: Kind) -> &'static [Below]
     }
 }
 
-// Whether the list that it has to have is there.
+// Whether the list that a node of this type has to have is there.
 fn has_its_list(kind: Kind, value: &Value) -> bool
     ensures { result ≡ has_its_list kind (view value.now) }
 {
@@ -261,7 +262,7 @@ fn other_entry(kind: Kind, place: Place, value: &Value) -> Option<Plan<'_>>
     }
 }
 
-/// How a node of this type is read; None where it isn't as ESTree has it.
+/// How a node of this type is read in this place; None where it isn't as ESTree has it.
 pub fn entry(kind: Kind, place: Place, value: &Value) -> Option<Plan<'_>>
     ensures { option_map (plan_of (view value.now)) result ≡ entry kind (place_of place) (view value.now) }
 {

@@ -30,7 +30,7 @@ fn is_default_export(place: Place) -> bool
     }
 }
 
-// A declaration has a name, but for one that is exported by default.
+// Whether a declaration there has a name, or needs none since it is exported by default.
 fn is_named(declaration: bool, place: Place, value: &Value) -> bool
     ensures { result ≡ is_named declaration (place_of place) (view value.now) }
 {
@@ -153,7 +153,8 @@ fn is_constructor(computed: bool, is_static: bool, value: &Value) -> bool
     }
 }
 
-// Whether a method is the constructor just where its key makes it that; an accessor may have any key.
+// Whether a method is the constructor just where its key makes it that; an accessor may have any
+// key.
 fn has_its_kind(kind: MethodDefinitionKind, is_it: bool) -> bool
     ensures { result ≡ has_its_kind kind is_it }
 {

@@ -1,5 +1,5 @@
-// Patterns: those that a declaration binds, and those that are assigned to (ESTree; ECMA-262, "Destructuring Binding
-// Patterns" and "Destructuring Assignment").
+// Patterns: those that a declaration binds, and those that are assigned to (ESTree; ECMA-262,
+// "Destructuring Binding Patterns" and "Destructuring Assignment").
 
 ghost use Rattle.std.specs.Prelude.{◌≡◌, [], ◌∷◌, ◌&&◌, ◌||◌, not, map, option_map, codes};
 ghost use Rattle.serde_json.specs.Data.{Data};
@@ -203,7 +203,8 @@ const TARGET_DEFAULT: [Below; 2] = [
     Below::Inner("right", Class::Expression),
 ];
 
-// The children of a pattern with a default: a shorthand property's value is a name.
+// The children of a pattern with a default. The left side of a shorthand property's value is a
+// name.
 fn default_children(place: Place, value: &Value) -> &'static [Below]
     ensures { map (child_of (view value.now)) result.now ≡ default_left (place_of place) (view value.now) ∷ inner (codes "right") an_expression ∷ [] }
 {

@@ -7,29 +7,29 @@ use mini_fields::{Class, Depth, LiteralValue, Place, Tagging};
 use mini_model::Shape;
 use serde_json::Value;
 
-/// From a node to one below it.
+/// The way from a node to one below it.
 #[derive(Clone, Copy)]
 pub enum Step {
-    /// To that of a field.
+    /// To the node in a field.
     Field(&'static str),
-    /// To that at an index of a list field.
+    /// To the node at an index of a list field.
     Item(&'static str, usize),
 }
 
-/// What stands for a node below.
+/// What stands in a tree for a node below.
 #[derive(Clone, Copy)]
 pub enum Part {
-    /// No node: a part that is absent, or a hole.
+    /// No node: a part that is absent, or a hole in an array.
     Hole,
-    /// The tree of the node.
+    /// The tree of the node that the step leads to, read in this place.
     Tree(Step, Place),
-    /// An inner expression over the tree of the node.
+    /// An inner expression, over the tree of the node that the step leads to, read in this place.
     Inner(Step, Place),
-    /// Nothing: the node is read, and is none of the tree.
+    /// Nothing: the node that the step leads to is read in this place, and is no part of the tree.
     Checked(Step, Place),
 }
 
-/// What a list is of.
+/// What a list field holds.
 #[derive(Clone, Copy)]
 pub enum Items {
     /// Nodes of one class.
@@ -54,11 +54,11 @@ pub enum Items {
     TargetProperties,
     /// The elements of a pattern that is assigned to.
     TargetElements,
-    /// The statements of a body, behind so many directives.
+    /// The statements of a body, behind that many directives.
     Body(Depth, usize),
 }
 
-/// A child of a node's tree. Each has the name of its field.
+/// How a child of a node is read. The text is the name of the field that holds it.
 #[derive(Clone, Copy)]
 pub enum Below {
     /// The node in a field.
@@ -81,22 +81,24 @@ pub enum Below {
     Absent,
 }
 
-/// What a node is beside its children: its shape and its names, whose texts are still those of the value.
+/// What a node is beside its children: its shape and its names, whose texts are still borrowed from
+/// the JSON value.
 #[derive(Drop)]
 pub enum Head<'v> {
     /// A shape without a text.
     Plain(Shape),
-    /// Whether it is a module, and its statements, with the directives.
+    /// A program: whether it is a module, and its statements, with the directives.
     Program(bool, &'v [Value]),
-    /// Whether it is a declaration and whether it is a generator, and its node, with the directives.
+    /// A function: whether it is a declaration, whether it is a generator, and its JSON value, with
+    /// the directives.
     Function(bool, bool, &'v Value),
-    /// Its node, with the directives.
+    /// An arrow function: its JSON value, with the directives.
     Arrow(&'v Value),
     /// A name that is read or written.
     Reference(&'v str),
     /// A name that is declared.
     Binding(&'v str),
-    /// A name that names no variable.
+    /// A name that names no variable, as a key's.
     Word(&'v str),
     /// A private name, without its `#`.
     Private(&'v str),
@@ -108,15 +110,17 @@ pub enum Head<'v> {
     Quasi(bool, &'v str, Option<&'v str>),
 }
 
-/// How a node is read.
+/// How a node is read: what it is, over children that are read of the nodes below.
 #[derive(Drop)]
 pub struct Plan<'v> {
+    /// What the node is beside its children.
     pub head: Head<'v>,
+    /// How each child is read, in the order of the tree.
     pub children: &'static [Below],
 }
 
 impl<'v> Plan<'v> {
-    /// That of a node whose shape has no text.
+    /// The plan of a node whose shape holds no text. It is never None.
     pub fn of(shape: Shape, children: &'static [Below]) -> Option<Plan<'v>>
         ensures { result ≡ Some (record { head = head.Plain shape; children = children.entry }) }
     {

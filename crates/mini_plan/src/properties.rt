@@ -74,7 +74,8 @@ pub fn is_init(kind: PropertyKind) -> bool
     matches!(kind, PropertyKind::Init)
 }
 
-// A method or an accessor is no shorthand, and an accessor no method; a shorthand property repeats its key.
+// A method or an accessor is no shorthand, and an accessor no method; a shorthand property repeats
+// its key.
 fn is_whole_property(fields: PropertyFields, value: &Value) -> bool
     ensures { result ≡ is_whole_property fields.kind fields.is_method fields.shorthand fields.computed (view value.now) }
 {
@@ -123,13 +124,17 @@ fn children(kind: PropertyKind, is_method: bool, computed: bool) -> &'static [Be
 /// The plain fields of a property.
 #[derive(Clone, Copy)]
 pub struct PropertyFields {
+    /// Whether it is a value or method, a getter or a setter.
     pub kind: PropertyKind,
+    /// The field `method`.
     pub is_method: bool,
+    /// The field `shorthand`.
     pub shorthand: bool,
+    /// The field `computed`.
     pub computed: bool,
 }
 
-/// The plain fields of a property; None where one has another form.
+/// The plain fields of a property, by its JSON value; None where one of them has another form.
 pub fn property_fields(value: &Value) -> Option<PropertyFields>
     ensures { result ≡ property_fields (view value.now) }
 {

@@ -24,7 +24,8 @@ const STATEMENT: Class = Class::Statement(Depth::Nested);
 
 // ---- bodies
 
-/// The text of a directive (ECMA-262, "Directive Prologues and the Use Strict Directive").
+/// The text of a directive (ECMA-262, "Directive Prologues and the Use Strict Directive"); None of
+/// any other statement.
 #[tactic(auto, using(mini_accept::proofs::Texts::text_read))]
 pub fn directive_text(value: &Value) -> Option<&str>
     ensures { option_map (λ s. units_of s.now) result ≡ directive_text (view value.now) }
@@ -44,7 +45,8 @@ fn is_use_strict(text: &str) -> bool
     text == "use strict"
 }
 
-/// Whether a directive before all other statements makes the code strict.
+/// Whether one of the directives before all other statements makes the code strict (ECMA-262,
+/// "Directive Prologues and the Use Strict Directive").
 pub fn has_use_strict(statements: &[Value]) -> bool
     ensures { result ≡ has_use_strict (directives_of (items_view statements.now)) }
 {

@@ -67,8 +67,8 @@ pub fn template(place: Place, value: &Value) -> Option<Plan<'_>>
     }
 }
 
-// The plan of a piece with these texts: the cooked text is that of the raw one; only with a tag may it be null, where the
-// raw text is malformed.
+// The plan of a piece with these texts. The cooked text has to be that of the raw one; only under a
+// tag may it be null, where the raw text is malformed.
 #[tactic(auto, using(mini_fields::proofs::Texts::units_there, mini_accept::proofs::Texts::cooked_read))]
 fn texts_plan<'v>(tagging: Tagging, tail: bool, texts: &'v Value) -> Option<Plan<'v>>
     ensures { (d : Data) → option_map (plan_of d) result ≡ quasi_plan (tagging_of tagging) tail (view texts.now) }

@@ -184,7 +184,7 @@ module _ (f : Free) (ps : Parts) (u : AreLoose ps f) (h : Head) (ss : Sketches) 
     symbols_kept o y = omega (arith, same_symbols f ps u AsValue (under h ss) r sn sr z (n_parts strict s fit) Read y, ap (times y) (same_symbols_of o w w_quiet), ap (times y) (same_symbols_of o n n_quiet))
 
     scoped_kept : (o : Use) (env : Environment) → StandsFor (Expr q) o n → Scoped o env n → Scoped o env w
-    scoped_kept o env k y = subst (λ m. Scoped m env w) (sym (read_here q o k)) (same_scoped f ps u AsValue (under h ss) r sn sr z (n_parts strict s fit) Read env (subst (λ m. Scoped m env n) (read_here q o k) y))
+    scoped_kept o env k y = subst (λ m. Scoped m env w) (sym (read_here q o k)) (same_scoped f ps u AsValue (under h ss) r sn sr z (n_parts strict s fit) Read refl env (subst (λ m. Scoped m env n) (read_here q o k) y))
 
     -- where what is dropped has no inner expression
     pub expression_keeps : AllVanish ps.trees f.dropped → Keeps (Expr q) n w

@@ -12,7 +12,7 @@ use Rattle.mini_laws.specs.declared.names.Targets.{Targets}
 use Rattle.mini_laws.specs.DeclaredNames.{lexical_names, with_names, is_inner, has_inner, any_inner}
 use Rattle.mini_laws.specs.Scopes.{use_of, opened, scopes_by, at_or_empty, lexical_scope}
 use Rattle.mini_laws.specs.Resolved.{Environment}
-use Rattle.mini_laws.specs.Scoped.{Scoped, AllScoped}
+use Rattle.mini_laws.specs.Scoped.{OwnScoped, Scoped, AllScoped}
 use Rattle.mini_laws.specs.Symbols.{symbols_in, declared as declared_in, declared_from, times}
 use Rattle.mini_laws.specs.Early.{Path, scope_declarations, clashing, early_names, all_early_names, targets_of, is_bad_jump, early_jumps, all_early_jumps}
 use Rattle.mini_laws.proofs.Changes.{times_three}
@@ -61,6 +61,11 @@ used_below v If c zero = refl
 used_below v If c (suc j) = refl
 used_below v h c j = refl
 
+-- a plain head has no name
+pub unnamed_head : (u : Use) (env : Environment) (h : Head) (ts : Trees) → OwnScoped u env (shape_by h) [] ts
+unnamed_head u env AList ts = tt
+unnamed_head u env h ts = tt
+
 -- a jump that needs nothing
 pub nothing_asked : (ls : List Leap) → Leaping Any ls
 nothing_asked [] = tt
@@ -88,7 +93,7 @@ module _ (v : Use) (env : Environment) where
   unfolding Scoped
   scoped_local = record {
     down = λ h c ts p a. (nothing_asked (leaps h), scoped_below (asked_below h c) (opened (use_by v c) (shape_by h) ts) (nothing_opened (use_by v c) h ts p) (use_of (shape_by h) (use_by v c)) (used_below v h c) 0 env refl ts a.1);
-    up = λ h c ts p l a. (tt, below_scoped (asked_below h c) (opened (use_by v c) (shape_by h) ts) (nothing_opened (use_by v c) h ts p) (use_of (shape_by h) (use_by v c)) (used_below v h c) 0 env refl ts a);
+    up = λ h c ts p l a. (unnamed_head (use_by v c) env h ts, below_scoped (asked_below h c) (opened (use_by v c) (shape_by h) ts) (nothing_opened (use_by v c) h ts p) (use_of (shape_by h) (use_by v c)) (used_below v h c) 0 env refl ts a);
   }
 
 -- ---- symbols and numbers
@@ -122,9 +127,9 @@ module _ (k : ℕ) where
 
 -- ---- whether an inner expression stands in it
 
-no_inner : (h : Head) → is_inner (shape_by h) ≡ false
-no_inner AList = refl
-no_inner h = refl
+pub no_inner_head : (h : Head) → is_inner (shape_by h) ≡ false
+no_inner_head AList = refl
+no_inner_head h = refl
 
 module _ (b : Bool) where
   abbrev pub InnerIf : Asked → Tree → Type 0
@@ -157,8 +162,8 @@ module _ (b : Bool) where
   pub inner_local : Local Any InnerIf
   unfolding has_inner
   inner_local = record {
-    down = λ h c ts p e. (nothing_asked (leaps h), inner_below (asked_below h c) 0 ts (sym (ap (λ a. (a || any_inner ts) || b) (no_inner h)) ∙ e));
-    up = λ h c ts p l a. ap (λ a. (a || any_inner ts) || b) (no_inner h) ∙ below_inner (asked_below h c) 0 ts a;
+    down = λ h c ts p e. (nothing_asked (leaps h), inner_below (asked_below h c) 0 ts (sym (ap (λ a. (a || any_inner ts) || b) (no_inner_head h)) ∙ e));
+    up = λ h c ts p l a. ap (λ a. (a || any_inner ts) || b) (no_inner_head h) ∙ below_inner (asked_below h c) 0 ts a;
   }
 
 -- ---- early errors

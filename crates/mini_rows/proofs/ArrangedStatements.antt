@@ -7,14 +7,15 @@ use Rattle.mini_model.specs.declared.place.Position.{Position}
 use Rattle.mini_model.specs.declared.place.Position.TheVariants.{Stmt, StatementList}
 use Rattle.mini_model.specs.declared.seat.StmtSeat.{StmtSeat}
 use Rattle.mini_model.specs.declared.shape.Shape.TheVariants as shape
-use Rattle.mini_model.specs.Tree.{Tree, Trees, node, none, ◌▸◌, listed}
+use Rattle.mini_model.specs.Tree.{Tree, Trees, node, none, ◌▸◌, listed, shape_of}
 use Rattle.mini_model.specs.Paths.{append}
 use Rattle.mini_accept.specs.WellShaped.{a_statement, a_method, Slot, one, many, filling_by, fits}
 use Rattle.mini_laws.specs.declared.names.Use.{Use}
+use Rattle.mini_laws.specs.declared.names.Use.TheVariants.{Read}
 use Rattle.mini_laws.specs.declared.names.Declaration.{Declaration}
 use Rattle.mini_laws.specs.declared.names.Declared.{Declared}
 use Rattle.mini_laws.specs.declared.names.Declared.TheVariants as declared
-use Rattle.mini_laws.specs.DeclaredNames.{names_of, body_names}
+use Rattle.mini_laws.specs.DeclaredNames.{is_inner, names_of, body_names}
 use Rattle.mini_laws.specs.Scoped.{Scoped}
 use Rattle.mini_laws.specs.Symbols.{declared as declared_in, times}
 use Rattle.mini_laws.specs.Early.{is_loop}
@@ -23,7 +24,7 @@ use Rattle.mini_laws.specs.Bodies.{Around, bodies, bodies_from, arrow_kind}
 use Rattle.mini_kept.specs.AlikeBodies.{BodiesKept}
 use Rattle.mini_kept.specs.Frames.{is_declaration, is_port, ports as ports_of}
 use Rattle.mini_kept.specs.KeepsLoosely.{KeepsLoosely}
-use Rattle.mini_kept.specs.KeepsNames.{is_rewritten_place, Keeps}
+use Rattle.mini_kept.specs.KeepsNames.{is_read, is_statement_use, Stands as StandsFor, is_rewritten_place, Keeps}
 use Rattle.mini_kept.specs.Placed.{fits_place}
 use Rattle.mini_kept.specs.Standing.{is_method_slot}
 use Rattle.mini_kept.proofs.Bools.{left, right}
@@ -34,6 +35,7 @@ use Rattle.mini_kept.proofs.Unplaced.{as_body, body_same}
 use Rattle.mini_rows.specs.Sketches.{Head, AList, Spread, Interpolation, Piece, is_piece_head, shape_by, Sketch, part, under, list, Sketches, Items, no_items, item, items, Parts, list_at, filled, all_filled, items_filled, Asked, AsWhole, AsWholeList, AsWholeItem, use_by, parts_of, parts_in, Free, is_rearranged, all_settled, is_statement_head, asked_below, stands_well, all_stand_well, items_stand_well, are_loose, statements, are_same_holes, keeps_statements}
 use Rattle.mini_rows.specs.Arranged.{KeptAt, AllVanish, AreLoose, StatementsArranged, ListsArranged}
 use Rattle.mini_rows.proofs.Arranging.{All, Any, Each, first_each, second_each}
+use Rattle.mini_rows.proofs.ArrangedNames.{no_inner_head}
 use Rattle.mini_rows.proofs.ArrangedBodies.{quiet}
 use Rattle.mini_rows.proofs.ArrangedValues.{Calm, Valued, suits_anywhere, head_valued, sketch_valued, suits}
 use Rattle.mini_rows.proofs.ArrangedMoves.{loosened}
@@ -53,6 +55,15 @@ whole_use : (c : Asked) (p : Position) (v : Use) → is_statement_place c p ≡ 
 whole_use AsWhole p v e = refl
 whole_use AsWholeList p v e = refl
 whole_use c p v e = absurd (cc e)
+
+read_statement : (v : Use) → is_read v ≡ true → is_statement_use v ≡ true
+read_statement Read e = refl
+read_statement v e = absurd (cc e)
+
+pub statement_used : (c : Asked) (p : Position) → is_statement_place c p ≡ true → (v : Use) (t : Tree) → is_inner (shape_of t) ≡ false → StandsFor p v t → is_statement_use v ≡ true
+statement_used AsWhole (Stmt q) e v t i s = sym (ap (λ b. b || is_statement_use v) i) ∙ s
+statement_used AsWholeList StatementList e v t i s = read_statement v (sym (ap (λ b. b || is_read v) i) ∙ s)
+statement_used c p e v t i s = absurd (cc e)
 
 rewritten : (c : Asked) (p : Position) → is_statement_place c p ≡ true → is_rewritten_place p ≡ true
 rewritten AsWhole (Stmt q) e = refl
@@ -89,15 +100,15 @@ module _ (f : Free) (ps : Parts) (u : AreLoose ps f) (c : Asked) (p : Position) 
     same_names declared.Lexical = gathered Name (names_of declared.Lexical) (λ t. []) lexical_fold
     same_names declared.Hoisted = gathered Name (names_of declared.Hoisted) (names_of declared.Hoisted) hoisted_fold
 
-    pub names_kept : AllVanish ps.trees f.dropped → is_loop w ≡ is_loop n → Keeps p n w
-    names_kept g l = record {
+    pub names_kept : is_inner (shape_of n) ≡ false → AllVanish ps.trees f.dropped → is_loop w ≡ is_loop n → Keeps p n w
+    names_kept i g l = record {
       kept = record {
         names = same_names;
         body = gathered Name body_names (names_of declared.Hoisted) body_fold;
         inner = same_inner f ps u c s r sn sr parts_kept g;
         symbols = λ o y. subst (λ m. times y (declared_in m w) ≤ times y (declared_in m n)) (whole_use c p o b) (same_symbols f ps u c s r sn sr parts_kept v o y);
       };
-      scoped = λ o env k. subst (λ m. Scoped m env n → Scoped m env w) (whole_use c p o b) (same_scoped f ps u c s r sn sr parts_kept v o env);
+      scoped = λ o env st. subst (λ m. Scoped m env n → Scoped m env w) (whole_use c p o b) (same_scoped f ps u c s r sn sr parts_kept v o (statement_used c p b o n i st) env);
       numbers = same_numbers f ps u c s r sn sr parts_kept v;
       declared_as_body = λ o q. body_same o q q n w (gathered Declaration (as_body o) hoists (declared_fold o));
       once = same_once f ps u c s r sn sr parts_kept;
@@ -161,7 +172,7 @@ module _ (f : Free) (ps : Parts) (u : AreLoose ps f) (h g : Head) (ss rs : Sketc
       (subst (λ bs. BodiesKept bs (bodies (quiet a) (filled ps (under g rs)))) (sym (around_quiet a h (all_filled ps ss) k n_head)) (same_bodies f ps u AsWhole (under h ss) (under g rs) sn sr (parts_kept f ps u AsWhole (Stmt q) refl (under h ss) (under g rs) sn sr z) a))
 
   pub statement_keeps : AllVanish ps.trees f.dropped → (strict : Bool) (s : Slot) → fits strict s (filled ps (under h ss)) ≡ true → Keeps (Stmt q) (filled ps (under h ss)) (filled ps (under g rs))
-  statement_keeps v strict s k = names_kept f ps u AsWhole (Stmt q) refl (under h ss) (under g rs) sn sr z (head_valued ps strict AsWhole s h ss (not_list h n_head) k) v (no_loop g (all_filled ps rs) w_head ∙ sym (no_loop h (all_filled ps ss) n_head))
+  statement_keeps v strict s k = names_kept f ps u AsWhole (Stmt q) refl (under h ss) (under g rs) sn sr z (head_valued ps strict AsWhole s h ss (not_list h n_head) k) (no_inner_head h) v (no_loop g (all_filled ps rs) w_head ∙ sym (no_loop h (all_filled ps ss) n_head))
 
   pub statement_kept : AllVanish ps.trees f.dropped → KeptAt (Stmt q) (filled ps (under h ss)) (filled ps (under g rs))
   statement_kept v =
@@ -264,7 +275,7 @@ module _ (f : Free) (ps : Parts) (u : AreLoose ps f) (is js : Items) (sn : items
   pub list_kept : AllVanish ps.trees f.dropped → KeptAt StatementList (listed (items_filled ps is)) (listed (items_filled ps js))
   list_kept g =
       list_kept_by f ps u is js sn sr rearranged g
-      (λ v. in_order StatementList (listed (items_filled ps is)) (listed (items_filled ps js)) (names_kept f ps u AsWholeList StatementList refl (list is) (list js) sn sr z v g (same_loop (items_filled ps is) (items_filled ps js))))
+      (λ v. in_order StatementList (listed (items_filled ps is)) (listed (items_filled ps js)) (names_kept f ps u AsWholeList StatementList refl (list is) (list js) sn sr z v refl g (same_loop (items_filled ps is) (items_filled ps js))))
       same_ports
 
 pub lists_arranged : ListsArranged

@@ -18,7 +18,7 @@ use Rattle.mini_kept.specs.AlikeBodies.{BodiesKept}
 use Rattle.mini_kept.specs.Carried.{numbers}
 use Rattle.mini_kept.specs.Declaring.{declared}
 use Rattle.mini_kept.specs.Frames.{frames, FramesKept}
-use Rattle.mini_kept.specs.KeepsNames.{count_of}
+use Rattle.mini_kept.specs.KeepsNames.{is_statement_use, count_of}
 use Rattle.mini_kept.proofs.Anywhere.{once_anywhere, targets_anywhere}
 use Rattle.mini_kept.proofs.BodyLists.{kept_itself}
 use Rattle.mini_rows.specs.Sketches.{Sketch, Parts, filled, Asked, use_by, Leap, is_among, parts_of, Free, is_rearranged, stands_well}
@@ -88,9 +88,9 @@ module _ (f : Free) (ps : Parts) (u : AreLoose ps f) (c : Asked) (s r : Sketch) 
     pub parts_valued : Each Any Valued ps (parts_of c r)
     parts_valued = valued_there f ps u (parts_of c s) (parts_of c r) z v
 
-    pub same_scoped : (x : Use) (env : Environment) → Scoped (use_by x c) env n → Scoped (use_by x c) env w
-    same_scoped x env a =
-        of_parts Any (ScopedAs x env) (scoped_local x env) ps c r (is_plain f ps u c r sr) (forth f ps u (parts_of c s) (parts_of c r) z Any (ScopedAs x env) (scoped_moves x env) v (to_parts Any (ScopedAs x env) (scoped_local x env) ps c s (is_plain f ps u c s sn) a))
+    pub same_scoped : (x : Use) → is_statement_use x ≡ true → (env : Environment) → Scoped (use_by x c) env n → Scoped (use_by x c) env w
+    same_scoped x y env a =
+        of_parts Any (ScopedAs x env) (scoped_local x env) ps c r (is_plain f ps u c r sr) (forth f ps u (parts_of c s) (parts_of c r) z Any (ScopedAs x env) (scoped_moves x y env) v (to_parts Any (ScopedAs x env) (scoped_local x env) ps c s (is_plain f ps u c s sn) a))
 
     pub same_symbols : (x : Use) (y : Option SymbolId) → times y (declared_in (use_by x c) w) ≤ times y (declared_in (use_by x c) n)
     same_symbols x y =

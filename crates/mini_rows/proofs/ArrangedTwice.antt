@@ -28,7 +28,7 @@ use Rattle.mini_rows.proofs.ArrangedMoves.{loosened}
 use Rattle.mini_rows.proofs.ArrangedTrees.{same_inner, same_once, same_targets, same_scoped, same_symbols, same_numbers}
 use Rattle.mini_rows.proofs.ArrangedGather.{Fold, Twice, branch_twice, gives_each, gives_once, gives_twice}
 use Rattle.mini_rows.proofs.ArrangedFolds.{bound_fold, lexical_fold, hoisted_fold, body_fold, hoists, declared_fold, same_trees, port, ports_in, ports_fold}
-use Rattle.mini_rows.proofs.ArrangedStatements.{list_valued, list_kept_by, same_loop}
+use Rattle.mini_rows.proofs.ArrangedStatements.{statement_used, list_valued, list_kept_by, same_loop}
 
 -- ---- once in place of twice
 
@@ -130,7 +130,7 @@ module _ (f : Free) (ps : Parts) (u : AreLoose ps f) (is js : Items) (sn : items
       hoisted = same_hoisted;
       body = λ o env st k. same_body;
       inner = inl (same_inner f ps u AsWholeList (list is) (list js) sn sr y g);
-      scoped = λ o env st k. same_scoped f ps u AsWholeList (list is) (list js) sn sr y v o env k;
+      scoped = λ o env st k. same_scoped f ps u AsWholeList (list is) (list js) sn sr y v o (statement_used AsWholeList StatementList refl o n refl st) env k;
       symbols = λ o env st k x. same_symbols f ps u AsWholeList (list is) (list js) sn sr y v o x;
       numbers = same_numbers f ps u AsWholeList (list is) (list js) sn sr y v;
       declared_as_body = λ o q. no_more_placed (body_declarations o q n) (body_declarations o q w) (as_body o n) (as_body o w) (body_is o q n) (body_is o q w) (same_declared_as o);

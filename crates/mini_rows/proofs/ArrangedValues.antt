@@ -154,6 +154,7 @@ is_calm shape.RestElement = false
 is_calm shape.AssignmentPattern = false
 is_calm shape.Identifier = false
 is_calm shape.BindingIdentifier = false
+is_calm shape.VariableDeclarator = false
 is_calm h = true
 
 calm_or_refused : (strict : Bool) (d : Depth) (h : Shape) → (is_calm h || is_refused (filling strict (one (a_statement d)) h)) ≡ true
@@ -190,6 +191,7 @@ no_names_of : (h : Shape) (xs : List Name) → is_calm h ≡ true → has_names 
 no_names_of h [] e f = refl
 no_names_of shape.Identifier (x ∷ xs) e f = absurd (cc e)
 no_names_of shape.BindingIdentifier (x ∷ xs) e f = absurd (cc e)
+no_names_of shape.VariableDeclarator (x ∷ xs) e f = absurd (cc e)
 no_names_of h (x ∷ xs) e f = absurd (cc f)
 
 unnamed : (strict : Bool) (s : Slot) (t : Tree) → is_calm (shape_of t) ≡ true → fits strict s t ≡ true → own_names t ≡ []

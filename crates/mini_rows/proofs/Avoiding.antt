@@ -7,7 +7,7 @@ use Rattle.mini_model.specs.declared.shape.Shape.{Shape}
 use Rattle.mini_model.specs.declared.shape.Shape.TheVariants as shape
 use Rattle.mini_model.specs.Tree.{Tree, Trees, node, none, ◌▸◌}
 use Rattle.mini_laws.specs.Value.{Variable, Declared as Symbol, Global, VariableSet, choose, variables, variable_eq, is_in}
-use Rattle.mini_laws.specs.Demand.{Demand, Target, Binds}
+use Rattle.mini_laws.specs.Demand.{Demand, Target, Declares, Binds, Heads}
 use Rattle.mini_laws.specs.Command.{Hoisted}
 use Rattle.mini_laws.specs.Naming.{Declared, AClass, Summary, summary, summaries, summary_of, facts, facts_all, first_facts, lets_all, lets_first, functions_all, functions_first, first_name, first_variable, front, named_in, function_names, class_lets, is_lexical, lets_of, name_of, functions_of, written_of, bound_of, scope_of, created_by, naming}
 use Rattle.mini_laws.specs.Asking.{demand}
@@ -30,7 +30,7 @@ module _ (k : ℕ) where
       by false f = f
       by true f = absurd (true≢false (sym (eq-eqb k m (sym (eqb-true m k f))) ∙ e))
 
-  out : (ys : List Variable) → NoneIn D ys → Out ys
+  pub out : (ys : List Variable) → NoneIn D ys → Out ys
   out [] a = refl
   out (y ∷ ys) a = ap (λ b. choose b true (is_in (Symbol k) ys)) (turned y a.0) ∙ out ys a.1
 
@@ -156,6 +156,9 @@ module _ (k : ℕ) where
   written_out : (h : Shape) (q : Demand) (xs : List Variable) → Out xs → Out (written_of h q xs)
   written_out shape.Identifier Target xs e = e
   written_out shape.BindingIdentifier (Binds lexical) xs e = e
+  written_out shape.VariableDeclarator (Declares true) xs e = refl
+  written_out shape.VariableDeclarator (Declares false) xs e = e
+  written_out shape.VariableDeclarator Heads xs e = e
   written_out h q xs e = refl
 
   bound_out : (h : Shape) (q : Demand) (is : List Summary) → AllWithout is → Out (bound_of h q is)

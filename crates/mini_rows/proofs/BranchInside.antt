@@ -14,10 +14,10 @@ use Rattle.mini_laws.specs.declared.names.Declared.TheVariants as declared
 use Rattle.mini_laws.specs.declared.names.Place.TheVariants as place
 use Rattle.mini_laws.specs.declared.names.Targets.{Targets}
 use Rattle.mini_laws.specs.DeclaredNames.{bound_place, lexical_place, names_by, names_of, first_names, all_names, is_statement_list, body_names, all_body_names, with_names, has_inner}
-use Rattle.mini_laws.specs.Scopes.{use_of, opening_of, scopes_by, at_or_empty, lexical_scope, opened}
+use Rattle.mini_laws.specs.Scopes.{scopes_by, lexical_scope, opened}
 use Rattle.mini_laws.specs.Resolved.{Environment, own_symbol, or_else, symbol_of}
-use Rattle.mini_laws.specs.Scoped.{NamesScoped, Scoped, AllScoped}
-use Rattle.mini_laws.specs.Symbols.{symbols_in, declared as declared_in, declared_from, times}
+use Rattle.mini_laws.specs.Scoped.{NamesScoped, OwnScoped, Scoped, AllScoped}
+use Rattle.mini_laws.specs.Symbols.{symbols_in, declared as declared_in, times}
 use Rattle.mini_laws.specs.Edits.{Kept}
 use Rattle.mini_laws.specs.Early.{Path, scope_declarations, clashing, early_names, targets_of, early_jumps, body_declarations, in_body, own_declarations, holds_statements, clashes_any}
 use Rattle.mini_laws.specs.Value.{Variable, choose, is_in}
@@ -35,7 +35,8 @@ use Rattle.mini_kept.proofs.FrameLists.{same_frames}
 use Rattle.mini_kept.proofs.Anywhere.{once_anywhere, targets_anywhere}
 use Rattle.mini_kept.proofs.Below.{empty_both, both_empty}
 use Rattle.mini_kept.proofs.BodyLists.{kept_itself}
-use Rattle.mini_rows.specs.Lists.{block, is_unscoped_shape, is_unscoped}
+use Rattle.mini_rows.specs.Lists.{block, is_unscoped_shape, is_unscoped, is_declarator_shape}
+use Rattle.mini_rows.proofs.StatementUses.{unscoped_undeclaring, same_scopes, same_use, same_symbols}
 
 -- around a statement that stands in another
 abbrev pub quiet : Around → Around
@@ -61,28 +62,26 @@ record Open (h : Shape) : Type 0 where
   lexical : lexical_place h ≡ place.Nowhere
   statements : is_statement_list h ≡ false
   holds : holds_statements h ≡ false
-  opening : (u v : Use) → opening_of u h ≡ opening_of v h
-  uses : (u v : Use) (i : ℕ) → use_of h u i ≡ use_of h v i
 
 open_shape : (h : Shape) → is_unscoped_shape h ≡ true → Open h
-open_shape shape.ExpressionStatement e = record { bound = refl; lexical = refl; statements = refl; holds = refl; opening = λ u v. refl; uses = λ u v i. refl }
-open_shape shape.EmptyStatement e = record { bound = refl; lexical = refl; statements = refl; holds = refl; opening = λ u v. refl; uses = λ u v i. refl }
-open_shape shape.DebuggerStatement e = record { bound = refl; lexical = refl; statements = refl; holds = refl; opening = λ u v. refl; uses = λ u v i. refl }
-open_shape shape.BlockStatement e = record { bound = refl; lexical = refl; statements = refl; holds = refl; opening = λ u v. refl; uses = λ u v i. refl }
-open_shape shape.LabeledStatement e = record { bound = refl; lexical = refl; statements = refl; holds = refl; opening = λ u v. refl; uses = λ u v i. refl }
-open_shape shape.BreakStatement e = record { bound = refl; lexical = refl; statements = refl; holds = refl; opening = λ u v. refl; uses = λ u v i. refl }
-open_shape shape.ContinueStatement e = record { bound = refl; lexical = refl; statements = refl; holds = refl; opening = λ u v. refl; uses = λ u v i. refl }
-open_shape shape.ReturnStatement e = record { bound = refl; lexical = refl; statements = refl; holds = refl; opening = λ u v. refl; uses = λ u v i. refl }
-open_shape shape.ThrowStatement e = record { bound = refl; lexical = refl; statements = refl; holds = refl; opening = λ u v. refl; uses = λ u v i. refl }
-open_shape shape.IfStatement e = record { bound = refl; lexical = refl; statements = refl; holds = refl; opening = λ u v. refl; uses = λ u v i. refl }
-open_shape shape.SwitchStatement e = record { bound = refl; lexical = refl; statements = refl; holds = refl; opening = λ u v. refl; uses = λ u v i. refl }
-open_shape shape.TryStatement e = record { bound = refl; lexical = refl; statements = refl; holds = refl; opening = λ u v. refl; uses = λ u v i. refl }
-open_shape shape.WhileStatement e = record { bound = refl; lexical = refl; statements = refl; holds = refl; opening = λ u v. refl; uses = λ u v i. refl }
-open_shape shape.DoWhileStatement e = record { bound = refl; lexical = refl; statements = refl; holds = refl; opening = λ u v. refl; uses = λ u v i. refl }
-open_shape shape.ForStatement e = record { bound = refl; lexical = refl; statements = refl; holds = refl; opening = λ u v. refl; uses = λ u v i. refl }
-open_shape shape.ForInStatement e = record { bound = refl; lexical = refl; statements = refl; holds = refl; opening = λ u v. refl; uses = λ u v i. refl }
-open_shape shape.ForOfStatement e = record { bound = refl; lexical = refl; statements = refl; holds = refl; opening = λ u v. refl; uses = λ u v i. refl }
-open_shape (shape.VariableDeclaration Var) e = record { bound = refl; lexical = refl; statements = refl; holds = refl; opening = λ u v. refl; uses = λ u v i. refl }
+open_shape shape.ExpressionStatement e = record { bound = refl; lexical = refl; statements = refl; holds = refl }
+open_shape shape.EmptyStatement e = record { bound = refl; lexical = refl; statements = refl; holds = refl }
+open_shape shape.DebuggerStatement e = record { bound = refl; lexical = refl; statements = refl; holds = refl }
+open_shape shape.BlockStatement e = record { bound = refl; lexical = refl; statements = refl; holds = refl }
+open_shape shape.LabeledStatement e = record { bound = refl; lexical = refl; statements = refl; holds = refl }
+open_shape shape.BreakStatement e = record { bound = refl; lexical = refl; statements = refl; holds = refl }
+open_shape shape.ContinueStatement e = record { bound = refl; lexical = refl; statements = refl; holds = refl }
+open_shape shape.ReturnStatement e = record { bound = refl; lexical = refl; statements = refl; holds = refl }
+open_shape shape.ThrowStatement e = record { bound = refl; lexical = refl; statements = refl; holds = refl }
+open_shape shape.IfStatement e = record { bound = refl; lexical = refl; statements = refl; holds = refl }
+open_shape shape.SwitchStatement e = record { bound = refl; lexical = refl; statements = refl; holds = refl }
+open_shape shape.TryStatement e = record { bound = refl; lexical = refl; statements = refl; holds = refl }
+open_shape shape.WhileStatement e = record { bound = refl; lexical = refl; statements = refl; holds = refl }
+open_shape shape.DoWhileStatement e = record { bound = refl; lexical = refl; statements = refl; holds = refl }
+open_shape shape.ForStatement e = record { bound = refl; lexical = refl; statements = refl; holds = refl }
+open_shape shape.ForInStatement e = record { bound = refl; lexical = refl; statements = refl; holds = refl }
+open_shape shape.ForOfStatement e = record { bound = refl; lexical = refl; statements = refl; holds = refl }
+open_shape (shape.VariableDeclaration Var) e = record { bound = refl; lexical = refl; statements = refl; holds = refl }
 open_shape h e = absurd (cc e)
 
 -- ---- names
@@ -124,16 +123,6 @@ block_scope u c e (suc i) = refl
 
 -- ---- symbols
 
-same_opened : (h : Shape) → is_unscoped_shape h ≡ true → (u v : Use) (ts : Trees) → opened u h ts ≡ opened v h ts
-same_opened h e u v ts = ap (λ o. at_or_empty (scopes_by o ts)) ((open_shape h e).opening u v)
-
-same_uses : (h : Shape) → is_unscoped_shape h ≡ true → (u v : Use) → use_of h u ≡ use_of h v
-same_uses h e u v = λ k i. (open_shape h e).uses u v i k
-
-pub same_symbols : (c : Tree) → is_unscoped c ≡ true → (u v : Use) → declared_in u c ≡ declared_in v c
-unfolding declared_in
-same_symbols (node h xs n ts) e u v = λ k. declared_from (same_opened h e u v ts k) (same_uses h e u v k) 0 ts
-
 block_symbols : (c : Tree) → is_unscoped c ≡ true → (u : Use) → declared_in u (block (c ▸ none)) ≡ declared_in u c
 unfolding declared_in scopes_by
 block_symbols c e u =
@@ -149,9 +138,13 @@ names_scoped : (env : Environment) (xs : List Name) → NamesScoped Alone env xs
 names_scoped env [] = refl
 names_scoped env (x ∷ xs) = λ k. (x.symbol ≡ symbol_is x.spelling env k) × names_scoped env xs k
 
+own_scoped : (h : Shape) → is_declarator_shape h ≡ false → (env : Environment) (xs : List Name) (ts : Trees) → OwnScoped Alone env h xs ts ≡ OwnScoped Read env h xs ts
+own_scoped shape.VariableDeclarator e env xs ts = absurd (cc e)
+own_scoped h e env xs ts = names_scoped env xs
+
 pub same_scoped : (c : Tree) → is_unscoped c ≡ true → (env : Environment) → Scoped Alone env c ≡ Scoped Read env c
 unfolding Scoped
-same_scoped (node h xs n ts) e env = λ k. names_scoped env xs k × AllScoped (same_opened h e Alone Read ts k) (same_uses h e Alone Read k) 0 env ts
+same_scoped (node h xs n ts) e env = λ k. own_scoped h (unscoped_undeclaring h e) env xs ts k × AllScoped (λ j. same_scopes Alone Read h e ts j k) (λ j. same_use Alone Read refl refl h j e k) 0 env ts
 
 block_scoped : (c : Tree) → is_unscoped c ≡ true → (env : Environment) → Scoped Alone env (block (c ▸ none)) ≡ (Unit {0} × ((Unit {0} × (Scoped Alone env c × Unit {0})) × Unit {0}))
 unfolding Scoped scopes_by

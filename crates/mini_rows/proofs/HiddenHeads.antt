@@ -1,19 +1,23 @@
 -- A loop that hides its names first, and reads a variable before all else: a `for` over a `let` or a `const`, or a loop over keys or values
 -- with one on its left; and a constant that mentions no name.
 use Rattle.std.specs.Prelude.{◌⊎◌, ◌&&◌, ◌||◌, not, if◌then◌else◌}
-use Rattle.std.proofs.Common.{◌≡◌, zero, Bool, true, false, [], refl, sym, ap, ◌∙◌, subst, inl, inr, true≢false}
+use Rattle.std.proofs.Common.{◌≡◌, zero, Bool, true, false, [], ◌++◌, refl, sym, ap, ◌∙◌, subst, inl, inr, true≢false}
 use Rattle.std.proofs.lemmas.Bool.{and_parts}
 use Rattle.mini_model.specs.declared.kind.VariableDeclarationKind.{VariableDeclarationKind}
 use Rattle.mini_model.specs.declared.name.Name.{Name}
+use Rattle.mini_model.specs.declared.operator.UnaryOperator.TheVariants.{LogicalNot, Void}
+use Rattle.mini_model.specs.declared.shape.Shape.{Shape}
 use Rattle.mini_model.specs.declared.shape.Shape.TheVariants as shape
 use Rattle.mini_model.specs.Tree.{Tree, Trees, node, none, ◌▸◌, shape_of}
 use Rattle.mini_laws.specs.Naming.{is_lexical}
 use Rattle.mini_laws.specs.Resolved.{Environment}
 use Rattle.mini_laws.specs.Scoped.{Scoped}
+use Rattle.mini_laws.specs.declared.names.Use.{Use}
 use Rattle.mini_laws.specs.declared.names.Use.TheVariants.{Read}
 use Rattle.mini_node.specs.Children.{part, is_bare, rest_children}
 use Rattle.mini_rows.proofs.Sunk.{value_passed}
-use Rattle.mini_rows.specs.Lists.{declaration, for_loop, Each, EachIn, EachOf, each_loop}
+use Rattle.mini_rows.proofs.OwnNames.{own_none}
+use Rattle.mini_rows.specs.Lists.{is_declarator_shape, declaration, for_loop, Each, EachIn, EachOf, each_loop}
 use Rattle.mini_rows.specs.Declarations.{declarator}
 use Rattle.mini_rows.specs.Unused.{names, any_names, is_first, put_first, is_written_value, is_value_operator, is_constant, are_passed, are_passed_by_value, has_declarator, reads_initially, reads_head, evaluated, is_lexical_shape, reads_let, reads_over_let, reads_hidden, evaluated_hidden, is_literal, is_closed, takes}
 use Rattle.mini_rows.proofs.SingleUse.{Initial, initially, mentioned, put_initially, put_begins, put_over}
@@ -58,14 +62,27 @@ closed_constant t e = by (closed t e)
         operated true b c f g = refl
         operated false b c f g = λ i. f i && g i
 
+value_undeclaring : (h : Shape) → is_written_value h ≡ true → is_declarator_shape h ≡ false
+value_undeclaring shape.VariableDeclarator e = absurd (true≢false (sym e))
+value_undeclaring h e = refl
+
+value_scoped : (u : Use) (env : Environment) (h : Shape) → is_written_value h ≡ true → Scoped u env (node h [] 0 none)
+unfolding Scoped
+value_scoped u env h f = (own_none u env h none (value_undeclaring h f), tt)
+
+operated_scoped : (env : Environment) (h g : Shape) → is_value_operator h ≡ true → is_written_value g ≡ true → Scoped Read env (node h [] 0 (node g [] 0 none ▸ none))
+unfolding Scoped
+operated_scoped env (shape.UnaryExpression LogicalNot) g o f = (tt, (value_scoped Read (env ++ []) g f, tt))
+operated_scoped env (shape.UnaryExpression Void) g o f = (tt, (value_scoped Read (env ++ []) g f, tt))
+operated_scoped env h g o f = absurd (true≢false (sym o))
+
 -- it resolves in any scope
 pub closed_scoped : (t : Tree) → is_closed t ≡ true → (env : Environment) → Scoped Read env t
-unfolding Scoped
 closed_scoped t e env = by (closed t e)
   where
     by : Closed t → Scoped Read env t
-    by (inl (f, is)) = subst (Scoped Read env) (sym is) (tt, tt)
-    by (inr (o, (f, is))) = subst (Scoped Read env) (sym is) (tt, ((tt, tt), tt))
+    by (inl (f, is)) = subst (Scoped Read env) (sym is) (value_scoped Read env (shape_of t) f)
+    by (inr (o, (f, is))) = subst (Scoped Read env) (sym is) (operated_scoped env (shape_of t) (shape_of (part t 0)) o f)
 
 -- ---- a `for` over a `let` or a `const` that reads it in the first initializer
 

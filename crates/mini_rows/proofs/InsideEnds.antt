@@ -34,7 +34,8 @@ use Rattle.mini_rows.specs.Lists.{block, declaration, is_unscoped}
 use Rattle.mini_rows.specs.Unused.{resolved, declared_one, declared_among, declared_left, head_left, put_first, BlockRow}
 use Rattle.mini_rows.specs.Switches.{Liberties}
 use Rattle.mini_rows.proofs.ArrangedTrees.{both_same, itself}
-use Rattle.mini_rows.proofs.BranchInside.{no_lexical, same_symbols, same_scoped}
+use Rattle.mini_rows.proofs.BranchInside.{no_lexical, same_scoped}
+use Rattle.mini_rows.proofs.StatementUses.{same_symbols}
 use Rattle.mini_rows.proofs.DeclaredKept.{none_after, idle_leaves, idle_declares}
 use Rattle.mini_rows.proofs.ForHeadLawful.{left_leaves, head_fits}
 use Rattle.mini_rows.proofs.InsideKept.{Keeping, statement_slot}

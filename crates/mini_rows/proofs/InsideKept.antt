@@ -19,7 +19,7 @@ use Rattle.mini_laws.specs.declared.names.Turn.TheVariants as turn
 use Rattle.mini_laws.specs.Fixity.{fixed_by, fixed_by_any}
 use Rattle.mini_laws.specs.Path.{join}
 use Rattle.mini_laws.specs.Resolved.{Environment}
-use Rattle.mini_laws.specs.Scoped.{Scoped, AllScoped, Unmentioned, AllUnmentioned}
+use Rattle.mini_laws.specs.Scoped.{OwnScoped, Scoped, AllScoped, Unmentioned, AllUnmentioned}
 use Rattle.mini_laws.specs.Scopes.{use_of, opened, at_or_empty}
 use Rattle.mini_laws.specs.Symbols.{symbols_in, declared as declared_in, declared_from, times}
 use Rattle.mini_laws.specs.Value.{Variable, variable_eq, variable_of}
@@ -49,6 +49,10 @@ use Rattle.mini_rows.proofs.InsideStages.{Stage, Braces, Then, Else, While, Doin
 use Rattle.mini_rows.proofs.UnusedNames.{Other, other_both, all_unmentioned, all_other}
 
 -- ---- where it stands
+
+unnamed : (g : Stage) (u : Use) (env : Environment) (ts : Trees) → OwnScoped u env (head g) [] ts
+unnamed Braces u env ts = tt
+unnamed g u env ts = tt
 
 -- what it fills: a statement may have to be a block, and may be missing
 abbrev pub statement_slot : Bool → Bool → Depth → Slot
@@ -250,7 +254,7 @@ module _ (c d : Tree) (post : Trees) (s : List ℕ) (k : ℕ) (g : Stage) (kept 
   unfolding Scoped
   still_scoped v env f a =
       let uses = use_of (head g) v in
-      (tt, joined_scoped c d post (opened v (head g) us) uses 0 env (before g) (λ e. kept.scoped (uses (behind 0 (before g))) e (fine g v f)) (subst (λ ss. AllScoped (at_or_empty ss) uses 0 env ts) (sym (scopes g v c d post kept.lexical)) a.1))
+      (unnamed g v env us, joined_scoped c d post (opened v (head g) us) uses 0 env (before g) (λ e. kept.scoped (uses (behind 0 (before g))) e (fine g v f)) (subst (λ ss. AllScoped (at_or_empty ss) uses 0 env ts) (sym (scopes g v c d post kept.lexical)) a.1))
 
   fewer_symbols : (v : Use) (y : Option SymbolId) → Fine (from g) v → times y (declared_in v (over g d post)) ≤ times y (declared_in v (over g c post))
   unfolding declared_in

@@ -59,6 +59,8 @@ pub mod ArrangedBodies
 pub mod ArrangedValues
 pub mod ArrangedMoves
 pub mod ArrangedPlain
+pub mod OwnNames
+pub mod StatementUses
 pub mod ArrangedUses
 pub mod ArrangedTrees
 pub mod ArrangedExpressions

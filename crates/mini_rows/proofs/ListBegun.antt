@@ -16,7 +16,7 @@ use Rattle.mini_laws.specs.Naming.{EvalName, PlainName, summary, summaries, nami
 use Rattle.mini_laws.specs.Asking.{first_demand}
 use Rattle.mini_laws.specs.Replies.{by_fixity, put_own}
 use Rattle.mini_laws.specs.Targets.{put_identifier}
-use Rattle.mini_laws.specs.Declarations.{declares_by}
+use Rattle.mini_laws.specs.Declarations.{declares_by, var_by}
 use Rattle.mini_laws.specs.Step.{step, means, meaning}
 use Rattle.mini_laws.proofs.Runs.{either_cong, either_assoc, either_eta, either_ok, either_stop}
 use Rattle.mini_rows.specs.Lists.{declaration, resolved, binding, declarator, assigned, declares_nothing, is_bare_declarator, are_bare_declarators}
@@ -78,11 +78,17 @@ present (node (shape.UnaryExpression LogicalNot) xs n (t ▸ ts)) h = present t 
 present (node h xs n ts) e = refl
 
 -- what has an initializer
-pub initialised : (e : Environment) (id : Tree) (lexical : Bool) (b : Tree) → declares_nothing b ≡ true → (s : State) → means e (declarator id b) (Declares lexical) tt s ≡ either (means e b (As Val) tt s) (λ v z. means e id (Binds lexical) v z) (λ x z. stop x z)
+pub given_value : (e : Environment) (id : Tree) (lexical : Bool) (b : Tree) → (summary b).facts.absent ≡ false → (s : State) → means e (declarator id b) (Declares lexical) tt s ≡ either (means e b (As Val) tt s) (λ v z. means e id (Binds lexical) v z) (λ x z. stop x z)
 unfolding means meaning step
-initialised e id lexical b h s =
-    ap (λ c. run {q = first_demand (Binds lexical) (As Val)} e (naming shape.VariableDeclarator (Declares lexical) [] 0 (summaries (id ▸ (b ▸ none)))) (λ i r z. meaning e (id ▸ (b ▸ none)) i (first_demand (Binds lexical) (As Val) i) r z) (declares_by lexical c) s) (present b h)
-    ∙ either_cong (means e b (As Val) tt s) _ _ _ _ (λ v z. either_eta (means e id (Binds lexical) v z)) (λ x z. refl)
+given_value e id true b h s =
+    ap (λ c. run {q = first_demand (Binds true) (As Val)} e (naming shape.VariableDeclarator (Declares true) [] 0 (summaries (id ▸ (b ▸ none)))) (λ i r z. meaning e (id ▸ (b ▸ none)) i (first_demand (Binds true) (As Val) i) r z) (declares_by true c) s) h
+    ∙ either_cong (means e b (As Val) tt s) _ _ _ _ (λ v z. either_eta (means e id (Binds true) v z)) (λ x z. refl)
+given_value e id false b h s =
+    ap (λ c. run {q = first_demand (Binds false) (As Val)} e (naming shape.VariableDeclarator (Declares false) [] 0 (summaries (id ▸ (b ▸ none)))) (λ i r z. meaning e (id ▸ (b ▸ none)) i (first_demand (Binds false) (As Val) i) r z) (var_by false c) s) h
+    ∙ either_cong (means e b (As Val) tt s) _ _ _ _ (λ v z. either_eta (means e id (Binds false) v z)) (λ x z. refl)
+
+pub initialised : (e : Environment) (id : Tree) (lexical : Bool) (b : Tree) → declares_nothing b ≡ true → (s : State) → means e (declarator id b) (Declares lexical) tt s ≡ either (means e b (As Val) tt s) (λ v z. means e id (Binds lexical) v z) (λ x z. stop x z)
+initialised e id lexical b h s = given_value e id lexical b (present b h) s
 
 -- ---- one without an initializer does nothing
 

@@ -62,7 +62,7 @@ module _ (f : Free) (ps : Parts) (u : AreLoose ps f) (g : AllVanish ps.trees f.d
   in_list : (strict : Bool) → fits strict (many (a_statement nested)) (listed old) ≡ true → InList old new
   in_list strict k =
       let v = list_parts f ps u is js stand.0 stand.1.0 rearranged strict (many (a_statement nested)) refl k in
-      let keeps = names_kept f ps u AsWholeList StatementList refl (list is) (list js) stand.0 stand.1.0 stand.1.1 v g (same_loop old new) in
+      let keeps = names_kept f ps u AsWholeList StatementList refl (list is) (list js) stand.0 stand.1.0 stand.1.1 v refl g (same_loop old new) in
       record {
         kept = keeps.kept;
         scoped = λ env x. keeps.scoped Read env refl x;

@@ -38,7 +38,8 @@ use Rattle.mini_rows.specs.Lists.{block, is_unscoped, are_unscoped}
 use Rattle.mini_rows.specs.Loops.{bare_break, Leaving, alone, or_else, unless, leaves_by, runs_on, is_loose, Leading, whole, before, led, others_of}
 use Rattle.mini_rows.proofs.BodyEnds.{Idle, break_idle, absent_idle, emptied}
 use Rattle.mini_rows.proofs.BranchAround.{Among, first_among, later_among}
-use Rattle.mini_rows.proofs.BranchInside.{quiet, Inside, no_lexical, same_symbols, same_scoped, as_hoisted}
+use Rattle.mini_rows.proofs.BranchInside.{quiet, Inside, no_lexical, same_scoped, as_hoisted}
+use Rattle.mini_rows.proofs.StatementUses.{same_symbols}
 
 -- ---- flags, and what a write does
 

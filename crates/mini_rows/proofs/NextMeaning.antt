@@ -10,9 +10,7 @@ use Rattle.mini_laws.specs.Value.{Value, Declared, VariableSet, Holds, choose, n
 use Rattle.mini_laws.specs.State.{Stop, State, Completion, stop, either, Writes, Environment, with_vars}
 use Rattle.mini_laws.specs.Demand.{Tail, Val, As, Stat, Declares, Binds}
 use Rattle.mini_laws.specs.Command.{set_var, run}
-use Rattle.mini_laws.specs.Naming.{summary, summaries, lets_all, naming, is_lexical}
-use Rattle.mini_laws.specs.Asking.{first_demand}
-use Rattle.mini_laws.specs.Declarations.{declares_by}
+use Rattle.mini_laws.specs.Naming.{summary, summaries, lets_all, is_lexical}
 use Rattle.mini_laws.specs.Same.{Goes, Agree, Same}
 use Rattle.mini_laws.specs.Step.{step, means, meaning}
 use Rattle.mini_laws.specs.Substitution.{alone}
@@ -30,6 +28,7 @@ use Rattle.mini_rows.specs.Unused.{resolved, names, any_names, declared_among, O
 use Rattle.mini_rows.proofs.FoldMeaning.{plain_read}
 use Rattle.mini_rows.proofs.FoundReads.{path_same, read_there}
 use Rattle.mini_rows.proofs.ListStretches.{lets_append}
+use Rattle.mini_rows.proofs.ListBegun.{given_value}
 use Rattle.mini_rows.proofs.ListStatements.{declaration_is, declare_more, declare_none, declarations_join}
 use Rattle.mini_rows.proofs.ItemReads.{plain_item}
 use Rattle.mini_rows.proofs.SpellAlike.{SameTree}
@@ -66,10 +65,7 @@ module _ (e : Environment) (id : Tree) (K : VariableDeclarationKind) (last : Tre
 -- a declarator with a value, run
 module _ (e : Environment) (id v : Tree) (there : (summary v).facts.absent ≡ false) where
   given : (l : Bool) (s : State) → means e (declarator id v) (Declares l) tt s ≡ either (means e v (As Val) tt s) (λ a z. means e id (Binds l) a z) (λ x z. stop x z)
-  unfolding means meaning step
-  given l s =
-      ap (λ b. run {q = first_demand (Binds l) (As Val)} e (naming shape.VariableDeclarator (Declares l) [] 0 (summaries (id ▸ (v ▸ none)))) (λ i r z. meaning e (id ▸ (v ▸ none)) i (first_demand (Binds l) (As Val) i) r z) (declares_by l b) s) there
-      ∙ either_cong (means e v (As Val) tt s) _ _ _ _ (λ a z. either_eta (means e id (Binds l) a z)) (λ x z. refl)
+  given l s = given_value e id l v there s
 
   module _ (K : VariableDeclarationKind) (last : Trees) where
     alone_is : (s : State) → means e (declaration K (declarator id v ▸ none)) (Stat None) [] s ≡ means e (declarator id v) (Declares (is_lexical K)) tt s

@@ -11,15 +11,15 @@ use Rattle.mini_model.specs.declared.shape.Shape.{Shape}
 use Rattle.mini_model.specs.declared.shape.Shape.TheVariants as shape
 use Rattle.mini_model.specs.Tree.{Tree, Trees, node, none, ◌▸◌}
 use Rattle.mini_laws.specs.Value.{Declared as Symbol, variables}
-use Rattle.mini_laws.specs.Demand.{Want, Val, Test, Unused, Tail, LoopTail, Demand, As, Callee, Deleted, Target, Items, Parts, Texts, Stat, Declares, Binds, Cases}
+use Rattle.mini_laws.specs.Demand.{Want, Val, Test, Unused, Tail, LoopTail, Demand, As, Callee, Deleted, Target, Items, Parts, Texts, Stat, Declares, Binds, Heads, Cases}
 use Rattle.mini_laws.specs.Naming.{Declared, Variables, AClass, Facts, first_facts, Summary, summaries, facts, written_of, naming}
 use Rattle.mini_laws.specs.Asking.{pass, demand, first_demand, logical_demand, operand_demand, chained, parts_demand, sequence_demand, tail_demand, tail_of, try_demand, do_demand, head_demand, for_demand, declaration_demand, lexically, exported_demand, list_demand}
 use Rattle.mini_laws.specs.Steady.{SparedBy, Spares, AllSpare}
-use Rattle.mini_rows.specs.Past.{is_binding, has_symbol, binds, any_bind, is_writer, writes, any_write}
-use Rattle.mini_rows.specs.Unused.{any_names}
-use Rattle.mini_rows.proofs.Avoiding.{Out, AllWithout, spared_by, all_spare}
+use Rattle.mini_rows.specs.Past.{is_binding, has_symbol, binds, any_bind, is_writer, written_names, writes, any_write}
+use Rattle.mini_rows.specs.Unused.{is_like_one, any_names}
+use Rattle.mini_rows.proofs.Avoiding.{Out, AllWithout, out, spared_by, all_spare}
 use Rattle.mini_rows.proofs.Unbound.{out_names, all_without}
-use Rattle.mini_rows.proofs.UnusedNames.{or_parts, all_avoided}
+use Rattle.mini_rows.proofs.UnusedNames.{or_parts, none_in, all_avoided}
 
 -- it isn't asked for what is written
 abbrev pub Untargeted : Demand → Type 0
@@ -141,15 +141,18 @@ child_asks h fs q w u i = tt
 
 -- ---- what its node names
 
-written_out : (k : ℕ) (h : Shape) (q : Demand) (xs : List Name) → (is_binding h && has_symbol k xs) ≡ false → Untargeted q → Out k (written_of h q (variables xs))
-written_out k shape.Identifier Target xs e u = absurd u
-written_out k shape.BindingIdentifier (Binds lexical) xs e u = out_names k xs e
-written_out k h q xs e u = refl
+written_out : (k : ℕ) (h : Shape) (q : Demand) (xs : List Name) → (is_binding h && has_symbol k xs) ≡ false → Out k (variables (written_names h xs)) → Untargeted q → Out k (written_of h q (variables xs))
+written_out k shape.Identifier Target xs e w u = absurd u
+written_out k shape.BindingIdentifier (Binds lexical) xs e w u = out_names k xs e
+written_out k shape.VariableDeclarator (Declares true) xs e w u = refl
+written_out k shape.VariableDeclarator (Declares false) xs e w u = w
+written_out k shape.VariableDeclarator Heads xs e w u = w
+written_out k h q xs e w u = refl
 
-node_spared : (k : ℕ) (h : Shape) (q : Demand) (xs : List Name) (n : ℕ) (is : List Summary) → (is_binding h && has_symbol k xs) ≡ false → Untargeted q → AllWithout k is → SparedBy (Symbol k) (naming h q (variables xs) n is)
-node_spared k h q xs n is e u a =
+node_spared : (k : ℕ) (h : Shape) (q : Demand) (xs : List Name) (n : ℕ) (is : List Summary) → (is_binding h && has_symbol k xs) ≡ false → Out k (variables (written_names h xs)) → Untargeted q → AllWithout k is → SparedBy (Symbol k) (naming h q (variables xs) n is)
+node_spared k h q xs n is e w u a =
     let bare = spared_by k h q [] n is refl a in
-    record { written = written_out k h q xs e u; bound = bare.bound; scope = bare.scope; functions = bare.functions }
+    record { written = written_out k h q xs e w u; bound = bare.bound; scope = bare.scope; functions = bare.functions }
 
 module _ (y : Name) (k : ℕ) (named : y.symbol ≡ Some (record { 0 = k })) where
   parts_alone : (h : Shape) (fs : List Facts) (q : Demand) → Untargeted q → (ts : Trees) → (if is_writer h then any_names y ts else any_write y ts) ≡ false → (any_write y ts ≡ false → ((i : ℕ) → Untargeted (demand h fs q i)) → AllSpare (Symbol k) (demand h fs q) ts) → AllSpare (Symbol k) (demand h fs q) ts
@@ -163,7 +166,9 @@ module _ (y : Name) (k : ℕ) (named : y.symbol ≡ Some (record { 0 = k })) whe
     pub left_alone : (t : Tree) → binds k t ≡ false → writes y t ≡ false → (q : Demand) → Untargeted q → Spares (Symbol k) q t
     left_alone (node h xs n ts) b w q u =
         let (own, below) = or_parts (is_binding h && has_symbol k xs) (any_bind k ts) b in
-        (node_spared k h q xs n (summaries ts) own u (all_without k ts below), parts_alone h (facts ts) q u ts w (λ f v. all_left_alone ts below f (demand h (facts ts) q) v))
+        let (other, parts) = or_parts (is_like_one y (written_names h xs)) (if is_writer h then any_names y ts else any_write y ts) w in
+        let away = out k (variables (written_names h xs)) (none_in y k named (written_names h xs) other) in
+        (node_spared k h q xs n (summaries ts) own away u (all_without k ts below), parts_alone h (facts ts) q u ts parts (λ f v. all_left_alone ts below f (demand h (facts ts) q) v))
 
     all_left_alone : (ts : Trees) → any_bind k ts ≡ false → any_write y ts ≡ false → (σ : ℕ → Demand) → ((i : ℕ) → Untargeted (σ i)) → AllSpare (Symbol k) σ ts
     all_left_alone none b w σ u = tt

@@ -25,7 +25,7 @@ use Rattle.mini_laws.specs.State as state
 use Rattle.mini_laws.specs.State.{Label, Given, Normal, Throws, Finished, Returning, Shortens, Hint, ForString, ForNumber, ForDefault, Carries, Answer, Entry, Item, State, Stop, Thrown, Returned, Broken, Continued, Short, Completion, ok, stop, halt, out, Ends, done, ended, either, Environment}
 use Rattle.mini_laws.specs.Demand.{Want, Val, Test, Unused, Tail, LoopTail, FunctionTail, Demand, As, Callee, OfType, Deleted, Target, AnEntry, Items, Parts, Texts, Stat, Declares, Binds, Heads, ClassValue, Cases, ACase, Catches, AskTest, AskBody, LabelSet, Reference, AMember, AFetched, AValue, Prepare, Fetch, Put, Called, Request, Reply, Says}
 use Rattle.mini_laws.specs.Command.{Naming, Op, read, read_typeof, fixity, write, init, init_function, hide, copy, event, bind_names, self, turn, fuel, Gets, Command, ret, fails, stuck, op, kid, then, attempt, bind, shift, repeat, loop, emit, emit_mine, is_object, act, Kids, run, Heard, hears, breaks, nonsense, hear, hear_value, only_object, only_primitive, only_boolean, boolean_value, heard, answered, bound_if, answered_binds, read_slot, read_global, read_name, read_any, read_type, write_slot, write_global, write_name, at_variable, this_of, take_turn}
-use Rattle.mini_laws.specs.Naming.{NameKind, PlainName, EvalName, UndefinedName, NumberName, Declared, Variables, AClass, FunctionFact, Named, NamedDefault, BareDefault, Facts, function_facts, first_facts, nth_absent, texts_all, kinds, summaries, facts, naming}
+use Rattle.mini_laws.specs.Naming.{NameKind, has_kind, PlainName, EvalName, UndefinedName, NumberName, Declared, Variables, AClass, FunctionFact, Named, NamedDefault, BareDefault, Facts, function_facts, first_facts, nth_absent, texts_all, kinds, summaries, facts, naming}
 use Rattle.mini_laws.specs.Asking.{pass, first_demand, parts_demand, tail_demand, do_demand, for_demand, each_demand, demand, chained}
 use Rattle.mini_laws.specs.Replies as reply
 use Rattle.mini_laws.specs.Replies.{valued, passed, passing, as_ended, merged, statement, of_made, of_option, primitive, numeric, hint_of, is_of_primitives, operate, loosely, or_event, get_member, put_member, by_fixity, put_own}
@@ -34,7 +34,7 @@ use Rattle.mini_laws.specs.Targets.{put_identifier, identifier_step, fetched, st
 use Rattle.mini_laws.specs.Lists.{entries, spread_step, parts, sequence, template_texts, each, declarators, the_declarator, the_head, is_case, test_cases, default_case, or_default, case_bodies, enter_case, cases, list_step}
 use Rattle.mini_laws.specs.Statements.{scoped, create_function, create_functions, body_step, block_step, block_in, if_step, if_in, unbroken, switch_step, case_step, label_of, continue_step, return_step, throw_step, unlabelled, labelled, label_step, finalized, handled, try_step, catch_in}
 use Rattle.mini_laws.specs.Loops.{has_label, after_body, while_step, do_step, copied, for_test, for_turn, for_turns, for_head, for_step, give_left, begin_left, each_turn, turn_of as turn_in, on_next, next_of, keys_in, for_in_step, closing, values_of, for_of_step}
-use Rattle.mini_laws.specs.Declarations.{binding_name, binding_pattern, declaration_step, declarator_step, class_step, class_declaration, exported, export_value, default_step}
+use Rattle.mini_laws.specs.Declarations.{binding_name, binding_pattern, declaration_step, gives_by, var_by, declarator_step, class_step, class_declaration, exported, export_value, default_step}
 use Rattle.mini_laws.specs.Step.{absent_step, entry, step, means, meaning}
 use Rattle.mini_laws.specs.Early.{jump_of, label_in, turn_of}
 use Rattle.mini_rows.specs.Cases.{lets_out, is_bare, breaks_out, any_breaks_out, NeverBreaksOut}
@@ -554,17 +554,26 @@ tame_declaration k (Binds l) v = ((λ u. tt), (λ x n. n))
 tame_declaration k Heads r = ((λ u. tt), (λ x n. n))
 tame_declaration k d r = tt
 
-tame_declarator : (b : Bool) (d : Demand) (r : Request d) → Tame every (declarator_step b d r)
+tame_given : (a : Bool) (v : Value) → Tame every (gives_by a v)
 unfolding Tame
-tame_declarator true (Declares true) r = ((λ u. tt), (λ x n. n))
-tame_declarator true (Declares false) r = tt
-tame_declarator false (Declares l) r = ((λ v. ((λ u. tt), (λ x n. n))), (λ x n. n))
-tame_declarator true (Binds l) v = ((λ u. tt), (λ x n. n))
-tame_declarator false (Binds l) v = tt
-tame_declarator b Heads (Some v) = ((λ u. tt), (λ x n. n))
-tame_declarator true Heads None = tt
-tame_declarator false Heads None = ((λ v. ((λ u. tt), (λ x n. n))), (λ x n. n))
-tame_declarator b d r = tt
+tame_given true v = tame_put_own (first_demand (Binds false) (As Val)) every v
+tame_given false v = ((λ u. tt), (λ x n. n))
+
+tame_var : (a b : Bool) → Tame every (var_by a b)
+unfolding Tame
+tame_var a true = tt
+tame_var a false = ((λ v. tame_given a v), (λ x n. n))
+
+tame_declarator : (a b : Bool) (d : Demand) (r : Request d) → Tame every (declarator_step a b d r)
+unfolding Tame
+tame_declarator a true (Declares true) r = ((λ u. tt), (λ x n. n))
+tame_declarator a false (Declares true) r = ((λ v. ((λ u. tt), (λ x n. n))), (λ x n. n))
+tame_declarator a b (Declares false) r = tame_var a b
+tame_declarator a true (Binds l) v = ((λ u. tt), (λ x n. n))
+tame_declarator a false (Binds l) v = tt
+tame_declarator a b Heads (Some v) = tame_given a v
+tame_declarator a b Heads None = tame_var a b
+tame_declarator a b d r = tt
 
 tame_class : Tame every class_step
 unfolding Tame
@@ -830,7 +839,7 @@ step_tame shape.ForStatement ks fs d r b = tame_statement _ for_looked d r (for_
 step_tame shape.ForInStatement ks fs d r b = tame_statement _ each_looked d r (for_in_step (first_facts fs).declared) (tame_for_in (first_facts fs).declared)
 step_tame shape.ForOfStatement ks fs d r b = tame_statement _ each_looked d r (for_of_step (first_facts fs).declared) (tame_for_of (first_facts fs).declared)
 step_tame (shape.VariableDeclaration k) ks fs d r b = tame_declaration k d r
-step_tame shape.VariableDeclarator ks fs d r b = tame_declarator (nth_absent fs 1) d r
+step_tame shape.VariableDeclarator ks fs d r b = tame_declarator (has_kind ks) (nth_absent fs 1) d r
 step_tame (shape.Function true g ds) ks fs d r b = tame_statement _ (looked (shape.Function true g ds)) d r (λ labels. ret tt) (λ labels. tt)
 step_tame (shape.Class true) ks fs d r b = tame_class_declaration d r
 step_tame shape.BindingIdentifier ks fs d r b = tame_name _ d r

@@ -16,6 +16,7 @@ use Rattle.mini_laws.specs.declared.names.Place.TheVariants as place
 use Rattle.mini_laws.specs.DeclaredNames.{place_of, names_by, names_of, first_names, all_names}
 use Rattle.mini_kept.specs.Declaring.{declared as names_declared, declared_all}
 use Rattle.mini_kept.proofs.Bools.{left}
+use Rattle.mini_rows.specs.Lists.{is_declarator_shape}
 
 -- ---- what a tree declares it declares by binding identifiers
 
@@ -90,11 +91,13 @@ both_named : (xs ys : List Name) → AllNamed xs → AllNamed ys → AllNamed (x
 both_named [] ys a b = b
 both_named (x ∷ xs) ys a b = (a.0, both_named xs ys a.1 b)
 
-own_named : (h : Shape) (xs : List Name) → has_names h xs ≡ true → AllNamed xs
-own_named shape.Identifier (x ∷ []) e = (e, tt)
-own_named shape.BindingIdentifier (x ∷ []) e = (e, tt)
-own_named h [] e = tt
-own_named h (x ∷ xs) e = absurd (cc e)
+-- but a declarator's own, which isn't declared by it
+own_named : (h : Shape) (xs : List Name) → is_declarator_shape h ≡ false → has_names h xs ≡ true → AllNamed xs
+own_named shape.Identifier (x ∷ []) d e = (e, tt)
+own_named shape.BindingIdentifier (x ∷ []) d e = (e, tt)
+own_named shape.VariableDeclarator xs d e = absurd (cc d)
+own_named h [] d e = tt
+own_named h (x ∷ xs) d e = absurd (cc e)
 
 by_named : (k : Place) (own first bound below : List Name) → AllNamed own → AllNamed first → AllNamed bound → AllNamed below → AllNamed (names_by k own first bound below)
 by_named place.Here own first bound below a b c d = a
@@ -102,6 +105,23 @@ by_named place.FirstBound own first bound below a b c d = b
 by_named place.Bound own first bound below a b c d = c
 by_named place.Below own first bound below a b c d = d
 by_named place.Nowhere own first bound below a b c d = tt
+
+-- the names of a declarator are those that its parts declare
+names_beside : (d : Declared) (xs first bound below : List Name) → names_by (place_of d shape.VariableDeclarator) xs first bound below ≡ names_by (place_of d shape.VariableDeclarator) [] first bound below
+names_beside declared.Bound xs first bound below = refl
+names_beside declared.Lexical xs first bound below = refl
+names_beside declared.Hoisted xs first bound below = refl
+
+node_named : (d : Declared) (h : Shape) (xs first bound below : List Name) → has_names h xs ≡ true → AllNamed first → AllNamed bound → AllNamed below → AllNamed (names_by (place_of d h) xs first bound below)
+node_named d h xs first bound below e f g k = by (is_declarator_shape h) refl
+  where
+    declarator : (h : Shape) → is_declarator_shape h ≡ true → AllNamed (names_by (place_of d h) xs first bound below)
+    declarator shape.VariableDeclarator c = subst AllNamed (sym (names_beside d xs first bound below)) (by_named (place_of d shape.VariableDeclarator) [] first bound below tt f g k)
+    declarator h c = absurd (cc c)
+
+    by : (b : Bool) → is_declarator_shape h ≡ b → AllNamed (names_by (place_of d h) xs first bound below)
+    by true c = declarator h c
+    by false c = by_named (place_of d h) xs first bound below (own_named h xs c e) f g k
 
 no_names : (k : Place) → names_by k [] [] [] [] ≡ []
 no_names place.Here = refl
@@ -147,7 +167,7 @@ mutual
       let (whole, below) = and_parts (is_whole (class_of s) h xs n ts) (fill (is_strict_in strict h) (filling strict s h) ts) e in
       let f = filling strict s h in
       let inner = is_strict_in strict h in
-      by_named (place_of d h) xs (first_names ts) (all_names declared.Bound ts) (all_names d ts) (own_named h xs (left (has_names h xs) _ whole)) (first_named inner f ts below) (all_named declared.Bound inner f ts below) (all_named d inner f ts below)
+      node_named d h xs (first_names ts) (all_names declared.Bound ts) (all_names d ts) (left (has_names h xs) _ whole) (first_named inner f ts below) (all_named declared.Bound inner f ts below) (all_named d inner f ts below)
 
   first_named : (strict : Bool) (f : Filling) (ts : Trees) → fill strict f ts ≡ true → AllNamed (first_names ts)
   first_named strict f none e = tt

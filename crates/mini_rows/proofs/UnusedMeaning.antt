@@ -17,9 +17,8 @@ use Rattle.mini_laws.specs.Demand.{Val, Unused, Tail, FunctionTail, Demand, As, 
 use Rattle.mini_laws.specs.Command.{set_var, run, note, act, at_variable, write_slot}
 use Rattle.mini_laws.specs.State.{FreshOf}
 use Rattle.mini_laws.specs.Naming.{summary, summaries, facts_all, lets_all, functions_all, function_facts, texts_all, naming, is_lexical}
-use Rattle.mini_laws.specs.Asking.{demand, first_demand}
+use Rattle.mini_laws.specs.Asking.{demand}
 use Rattle.mini_laws.specs.Replies.{by_fixity}
-use Rattle.mini_laws.specs.Declarations.{declares_by}
 use Rattle.mini_laws.specs.Skeleton.{hidden_all}
 use Rattle.mini_laws.specs.Path.{here, inside, join}
 use Rattle.mini_laws.specs.Same.{Goes, Agree, Same}
@@ -49,6 +48,7 @@ use Rattle.mini_rows.specs.Unused.{resolved, declared_among, declared_one, is_id
 use Rattle.mini_rows.specs.Switches.{Switches, without_vars}
 use Rattle.mini_rows.proofs.UnusedNames.{avoided, all_avoided}
 use Rattle.mini_rows.proofs.ListStretches.{lets_append, functions_append, facts_append, texts_append, exec_one, exec_two, listed_is}
+use Rattle.mini_rows.proofs.ListBegun.{given_value}
 use Rattle.mini_rows.proofs.ListStatements.{declaration_is, declare_more, declare_none, expression_is, empty_is, declarations_join}
 
 -- an expression is there
@@ -142,10 +142,7 @@ module _ (e : Environment) (spelling : List ℕ) (k : ℕ) (z : Unseen (alone (D
   binds false p v s = var_binds (p refl) v s
 
   initialised : (l : Bool) (v : Tree) → (summary v).facts.absent ≡ false → (s : State) → means e (declarator (binding x) v) (Declares l) tt s ≡ either (means e v (As Val) tt s) (λ a z. means e (binding x) (Binds l) a z) (λ x z. stop x z)
-  unfolding means meaning step
-  initialised l v h s =
-      ap (λ b. run {q = first_demand (Binds l) (As Val)} e (naming shape.VariableDeclarator (Declares l) [] 0 (summaries (binding x ▸ (v ▸ none)))) (λ i r z. meaning e (binding x ▸ (v ▸ none)) i (first_demand (Binds l) (As Val) i) r z) (declares_by l b) s) h
-      ∙ either_cong (means e v (As Val) tt s) _ _ _ _ (λ a z. either_eta (means e (binding x) (Binds l) a z)) (λ x z. refl)
+  initialised l v h s = given_value e (binding x) l v h s
 
   bare : (s : State) → means e (declarator (binding x) absent) (Declares true) tt s ≡ means e (binding x) (Binds true) Undefined s
   unfolding means meaning step

@@ -30,7 +30,7 @@ use Rattle.mini_rows.specs.Declarations.{declarator}
 use Rattle.mini_rows.specs.Inside.{is_lexical_shape}
 use Rattle.mini_rows.specs.Switches.{Liberties}
 use Rattle.mini_rows.specs.Nesting.{fits_in}
-use Rattle.mini_rows.specs.Unused.{resolved, names, any_names, declared_among, declared_left, lets_go, begins_with, suits, is_sure, is_placed, is_first, put_first, is_constant, is_plain_assignment, is_word, is_member, is_field, Gathered, OfValues, OfTexts, of_entries, gathered_below, reads_head, evaluated, is_declarator, declares_list, is_childless, may_move, statements, function_with}
+use Rattle.mini_rows.specs.Unused.{resolved, is_like_one, names, any_names, declared_among, declared_left, lets_go, begins_with, suits, is_sure, is_placed, is_first, put_first, is_constant, is_plain_assignment, is_word, is_member, is_field, Gathered, OfValues, OfTexts, of_entries, gathered_below, reads_head, evaluated, is_declarator, declares_list, is_childless, may_move, statements, function_with}
 
 -- ---- what may be evaluated before the initializer
 
@@ -116,10 +116,16 @@ is_writer shape.ForInStatement = true
 is_writer shape.ForOfStatement = true
 is_writer h = false
 
+-- and what writes its own name: a declarator has that of the variable that its `var` writes, where it is another than the one that
+-- is declared (ECMA-262, "VariableStatements in Catch Clauses")
+abbrev pub written_names : Shape → List Name → List Name
+written_names shape.VariableDeclarator xs = xs
+written_names h xs = []
+
 -- a name like it stands in such a node
 abbrev mutual
   pub writes : Name → Tree → Bool
-  writes x (node h xs n ts) = if is_writer h then any_names x ts else any_write x ts
+  writes x (node h xs n ts) = is_like_one x (written_names h xs) || (if is_writer h then any_names x ts else any_write x ts)
 
   pub any_write : Name → Trees → Bool
   any_write x none = false

@@ -4,14 +4,16 @@ ghost use Rattle.mini_rows.specs.Arranged.{ExpressionsArranged, StatementsArrang
 
 use mini_laws::Rewrites;
 
-/// An expression that is built anew of the parts of another keeps all that a program has to keep, but for its meaning and its
-/// shape.
+/// An expression that is built anew of the parts of another keeps all that a program has to keep,
+/// but for its meaning and its shape.
 pub fn expressions_arranged()
     ensures any { ExpressionsArranged }
     ensures row_40 { Row40Kept }
 {}
 
-/// So does a statement, and a list of statements, whose parts that declare names keep their order.
+/// A statement, or a list of statements, that is built anew of the parts of another keeps all that
+/// a program has to keep, but for its meaning and its shape, where the parts that declare names
+/// keep their order.
 pub fn statements_arranged()
     ensures any { StatementsArranged }
     ensures lists { ListsArranged }
@@ -21,7 +23,8 @@ pub fn statements_arranged()
     ensures row_82_and { Row82AndKept }
 {}
 
-/// And a statement for some of whose parts other expressions are written, as the negation of a test.
+/// A statement for some of whose parts other expressions are written, as the negation of a test,
+/// keeps all that a program has to keep, but for its meaning and its shape.
 pub fn statements_rewritten()
     ensures any { StatementsRewritten }
     ensures row_82_or { Row82OrKept }

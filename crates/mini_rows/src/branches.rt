@@ -10,26 +10,29 @@ ghost use Rattle.mini_rows.specs.Arranged.{WhereFixed};
 ghost use Rattle.mini_rows.specs.Branches.{BranchContracts, BranchLighter};
 ghost use Rattle.mini_rows.specs.Cases.{NeverBreaksOut};
 
-/// What each row writes means the same in every demand that fits its place, and is read alike.
+/// What each row of branches writes means the same in every demand that fits its place, and is read
+/// alike.
 pub fn branches_same()
     ensures { MeansSame BranchContracts }
 {}
 
-/// What each row writes is lighter wherever the node stands, so no weight is asked before it is applied, and it makes the
-/// whole lighter.
+/// What each row of branches writes is lighter wherever the node stands, so no weight is asked
+/// before it is applied, and it makes the whole lighter.
 pub fn branches_lighten()
     ensures lighter { BranchLighter }
     ensures anywhere { Lightens BranchContracts }
 {}
 
-/// What each row writes keeps all that a program has to keep, where what a write of each variable does stays; and else all but what is said
-/// of constants that are declared in what goes.
+/// What each row of branches writes keeps all that a program has to keep, where what a write of
+/// each variable does stays; and else all but what is said of constants that are declared in what
+/// goes.
 pub fn branches_are_lawful()
     ensures lawful { Lawful (WhereFixed BranchContracts) }
     ensures loosely { (K : Shape → Bool) → LawfulLoosely K BranchContracts }
 {}
 
-/// No run of a tree ends with a `break` without a label where none stands in it but in loops, in cases and in functions.
+/// No run of a tree ends with a `break` without a label where none stands in it but in loops, in
+/// cases and in functions.
 pub fn never_breaks_out()
     ensures { NeverBreaksOut }
 {}

@@ -5,17 +5,19 @@ ghost use Rattle.mini_laws.specs.Rewritten.{MeansSame};
 ghost use Rattle.mini_laws.specs.Weights.{Lightens};
 ghost use Rattle.mini_rows.specs.Constants.{ConstantContracts};
 
-/// What a row on a constant writes means the same wherever the expression stands, and a parent reads it alike.
+/// What a row on a constant writes means the same wherever the expression stands, and a parent
+/// reads it alike.
 pub fn constants_mean_the_same()
     ensures { MeansSame ConstantContracts }
 {}
 
-/// Where it is lighter, a step by such a row makes the whole lighter.
+/// A step by a row on a constant makes the whole lighter, where what it writes is lighter in its
+/// place.
 pub fn constants_lighten()
     ensures { Lightens ConstantContracts }
 {}
 
-/// What it writes keeps all that a program has to keep.
+/// What a row on a constant writes keeps all that a program has to keep.
 pub fn constants_are_lawful()
     ensures { Lawful ConstantContracts }
 {}

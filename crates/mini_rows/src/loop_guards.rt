@@ -6,18 +6,20 @@ ghost use Rattle.mini_laws.specs.Weights.{Lightens};
 ghost use Rattle.mini_rows.specs.Switches.{Switches};
 ghost use Rattle.mini_rows.specs.LoopGuards.{LoopGuardContracts, LoopGuardsLighter};
 
-/// What the row writes means the same wherever the loop stands, and a parent reads it alike.
+/// What the row of a guard in a loop writes means the same wherever the loop stands, and a parent
+/// reads it alike.
 pub fn loop_guards_mean_the_same()
     ensures { (o : Switches) → MeansSame (LoopGuardContracts o) }
 {}
 
-/// What it writes is lighter wherever the loop stands, so no weight is asked before it is applied, and it makes the whole lighter.
+/// What the row of a guard in a loop writes is lighter wherever the loop stands, so no weight is
+/// asked before it is applied, and it makes the whole lighter.
 pub fn loop_guards_lighten()
     ensures lighter { LoopGuardsLighter }
     ensures anywhere { (o : Switches) → Lightens (LoopGuardContracts o) }
 {}
 
-/// What it writes keeps all that a program has to keep.
+/// What the row of a guard in a loop writes keeps all that a program has to keep.
 pub fn loop_guards_are_lawful()
     ensures { (o : Switches) → Lawful (LoopGuardContracts o) }
 {}

@@ -12,7 +12,7 @@ ghost use Rattle.mini_rows.specs.Unused.{put_first};
 
 use mini_node::{Node, Nodes};
 
-/// Whether the node nests at most so many nodes deep, itself among them.
+/// Whether the node nests at most that many nodes deep, itself among them.
 #[cycle(depth)]
 #[tactic(auto, using(crate::proofs::Nests::none_shallow, crate::proofs::Nests::shallow_below, crate::proofs::Nests::below))]
 pub fn is_shallow(node: &Node, levels: u32) -> bool
@@ -24,7 +24,7 @@ pub fn is_shallow(node: &Node, levels: u32) -> bool
     are_shallow(node.children(), 0, levels - 1)
 }
 
-/// Whether the nodes from a place on do so.
+/// Whether each of the nodes from a place on nests at most that many nodes deep, itself among them.
 #[cycle(depth)]
 pub fn are_shallow(nodes: &Nodes, from: usize, levels: u32) -> bool
     ensures { result ≡ nesting.are_shallow levels (rest_children from nodes.now) }
@@ -37,37 +37,41 @@ pub fn are_shallow(nodes: &Nodes, from: usize, levels: u32) -> bool
     true
 }
 
-/// Whether a row may put the node deeper than it stands.
+/// Whether a row may put the node deeper than it stands: it nests at most 500 nodes deep.
 pub fn may_sink(node: &Node) -> bool
     ensures { result ≡ nesting.may_sink node.now }
 {
     is_shallow(node, 500)
 }
 
-/// Whether one may put the nodes from a place on deeper.
+/// Whether a row may put each of the nodes from a place on deeper than it stands: each nests at
+/// most 500 nodes deep.
 pub fn may_all_sink(nodes: &Nodes, from: usize) -> bool
     ensures { result ≡ nesting.may_all_sink (rest_children from nodes.now) }
 {
     are_shallow(nodes, from, 500)
 }
 
-/// Whether one may put `a || b` deeper, told its sides.
+/// Whether a row may put `a || b`, of these two sides, deeper than they stand: each nests at most
+/// 499 nodes deep.
 pub fn may_join(left: &Node, right: &Node) -> bool
     ensures { result ≡ nesting.may_join left.now right.now }
 {
     is_shallow(left, 499) && is_shallow(right, 499)
 }
 
-/// Whether a row may put the first in the place of something in the other.
+/// Whether a row may put the part in the place of something in the whole: each nests at most 250
+/// nodes deep.
 pub fn fits_in(part: &Node, whole: &Node) -> bool
     ensures { result ≡ nesting.fits_in part.now whole.now }
 {
     is_shallow(part, 250) && is_shallow(whole, 250)
 }
 
-/// How much deeper than what it reads a row nests what it writes, where that may nest 503 nodes deep at least: of 42, of 74 and of 75 with a
-/// block no deeper, and of 73 and the other form of 75, whose tests sink by a node, one deeper. What 71 puts
-/// an initializer into nests at most 500 deep then.
+/// How much deeper a row nests what it writes than what it reads, where what it writes may be more
+/// than 500 nodes deep. Row 42, row 74, and row 75 with a block put nothing deeper. Row 73, and row
+/// 75 with a turned test, put a test deeper by one node. A tree into which row 71 puts an
+/// initializer nests at most 500 nodes deep.
 pub fn rows_keep_their_depth()
     ensures returns { DeeperByOne (Row73 return_statement) }
     ensures throws { DeeperByOne (Row73 throw_statement) }

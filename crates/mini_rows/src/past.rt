@@ -7,84 +7,106 @@ ghost use Rattle.mini_rows.specs.PastStatics.{PastStaticIsLawful, PastStaticLigh
 ghost use Rattle.mini_rows.specs.PastInside.{PastInsideIsLawful, PastInsideLightens};
 ghost use Rattle.mini_rows.specs.PastBlocks.{PastBlocksAreLawful, PastBlocksAreLawfulInParts, PastBlocksAreLawfulInPrograms, PastBlocksLighten, PastBlocksReadMore};
 
-/// A body runs as before where the initializer goes past names that are held, from each start that initialises what is known to be
-/// initialised, in any environment in which that is so which is known, where nobody else sees the name that goes.
+/// A body runs as before where row 71 moves an initializer past names that keep their value, from
+/// each start that initialises what is known to be initialised, in any environment in which what is
+/// known of the body is so, where nobody else sees the name that goes.
 pub fn past_steady_names_run_alike()
     ensures { PastRunsAlike }
 {}
 
-/// What is written of a function makes the whole lighter, wherever it stands.
+/// What row 71 past steady names writes of a function makes the whole lighter, wherever the
+/// function stands.
 pub fn past_steady_names_lighten()
     ensures { PastLightens }
 {}
 
-/// It keeps all that a program has to keep, but a name that nothing mentions, where that is so which is known of the function's body, and
-/// those variables can be written for which it acts.
+/// What row 71 past steady names writes of a function keeps all that a program has to keep, but a
+/// name that nothing mentions, where what is known of the function's body is so, and those
+/// variables can be written for which the row acts.
 pub fn past_steady_names_are_lawful()
     ensures { PastIsLawful }
 {}
 
-/// So is what is written of an arrow function lighter.
+/// What row 71 past steady names writes of an arrow function makes the whole lighter, wherever it
+/// stands.
 pub fn past_steady_names_lighten_arrows()
     ensures { PastArrowLightens }
 {}
 
-/// And it keeps all that, where that is so which is known of the arrow function's body.
+/// What row 71 past steady names writes of an arrow function keeps all that a program has to keep,
+/// but a name that nothing mentions, where what is known of the arrow function's body is so, and
+/// those variables can be written for which the row acts.
 pub fn past_steady_names_are_lawful_in_arrows()
     ensures { PastArrowIsLawful }
 {}
 
-/// So is what is written of a module.
+/// What row 71 past steady names writes of a module is lighter than the module.
 pub fn past_steady_names_lighten_modules()
     ensures { PastModuleLightens }
 {}
 
-/// And the program is kept, where that is so which is known of its body.
+/// What row 71 past steady names writes of a module keeps all that a program has to keep, but a
+/// name that nothing mentions, where what is known of the module's body is so, and those variables
+/// can be written for which the row acts.
 pub fn past_steady_names_are_lawful_in_modules()
     ensures { PastModuleIsLawful }
 {}
 
-/// So is what is written of a static block.
+/// What row 71 past steady names writes of a static block makes the whole lighter, wherever the
+/// block stands.
 pub fn past_steady_names_lighten_static_blocks()
     ensures { PastStaticLightens }
 {}
 
-/// And the program is kept, where that is so which is known of its body.
+/// What row 71 past steady names writes of a static block keeps all that a program has to keep, but
+/// a name that nothing mentions, where what is known of the block's body is so, and those variables
+/// can be written for which the row acts.
 pub fn past_steady_names_are_lawful_in_static_blocks()
     ensures { PastStaticIsLawful }
 {}
 
-/// So is what is written of a block further inside a body.
+/// What row 71 past steady names writes of a block further inside a body makes the whole lighter,
+/// wherever the body stands.
 pub fn past_steady_names_lighten_blocks()
     ensures { PastBlocksLighten }
 {}
 
-/// Where more variables have values, a block is read as it was.
+/// A block further inside a body that row 71 past steady names reads is read by it also where more
+/// variables are known to have values.
 pub fn past_steady_names_read_more_in_blocks()
     ensures { PastBlocksReadMore }
 {}
 
-/// And a program is kept in which a function or an arrow function has such a block, where that is so which is known of its body.
+/// What row 71 past steady names writes of a block further inside a function or an arrow function
+/// keeps all that a program has to keep, but a name that nothing mentions, where what is known of
+/// that body is so.
 pub fn past_steady_names_are_lawful_in_blocks()
     ensures { PastBlocksAreLawful }
 {}
 
-/// And so is one in which a static block has such a block.
+/// What row 71 past steady names writes of a block further inside a static block or an inner
+/// expression keeps all that a program has to keep, but a name that nothing mentions, where what is
+/// known of that body is so.
 pub fn past_steady_names_are_lawful_in_blocks_of_parts()
     ensures { PastBlocksAreLawfulInParts }
 {}
 
-/// And so is one that has such a block itself.
+/// What row 71 past steady names writes of a block further inside the body of a program keeps all
+/// that the program has to keep, but a name that nothing mentions, where what is known of that body
+/// is so.
 pub fn past_steady_names_are_lawful_in_blocks_of_programs()
     ensures { PastBlocksAreLawfulInPrograms }
 {}
 
-/// So is what is written of a body in which a `var` stands further inside.
+/// What row 71 past steady names writes of a body in which a `var` stands further inside makes the
+/// whole lighter, wherever the body stands.
 pub fn past_steady_names_lighten_inside()
     ensures { PastInsideLightens }
 {}
 
-/// And the program is kept, where that is so which is known of that body, and those variables can be written for which it acts.
+/// What row 71 past steady names writes of a body in which a `var` stands further inside keeps all
+/// that a program has to keep, but a name that nothing mentions, where what is known of that body
+/// is so, and those variables can be written for which the row acts.
 pub fn past_steady_names_are_lawful_inside()
     ensures { PastInsideIsLawful }
 {}

@@ -2,14 +2,15 @@
 
 ghost use Rattle.mini_rows.specs.OwnPrograms.{LexicalProgramsAreLawful, LexicalProgramsLighten, SteadyProgramsAreLawful, SteadyProgramsLighten};
 
-/// What the rows of steady and of lexical names write in the own code of a program keeps all that it has to keep, where that is so which is
-/// known of its body.
+/// What the rows of steady and of lexical names write in the own code of a program keeps all that
+/// the program has to keep, where what is known of its body is so.
 pub fn own_programs_are_lawful()
     ensures members { SteadyProgramsAreLawful }
     ensures lexical { LexicalProgramsAreLawful }
 {}
 
-/// And it is lighter.
+/// What the rows of steady and of lexical names write in the own code of a program is lighter than
+/// that.
 pub fn own_programs_lighten()
     ensures members { SteadyProgramsLighten }
     ensures lexical { LexicalProgramsLighten }

@@ -5,18 +5,20 @@ ghost use Rattle.mini_laws.specs.Weights.{Lightens};
 ghost use Rattle.mini_kept.specs.Lawful.{Lawful};
 ghost use Rattle.mini_rows.specs.Turns.{TurnContracts, TurnsLighter};
 
-/// What each row writes means the same in every demand that fits its place, and is read alike.
+/// What each row that turns a test writes means the same in every demand that fits its place, and
+/// is read alike.
 pub fn turns_mean_the_same()
     ensures { MeansSame TurnContracts }
 {}
 
-/// What each row writes is lighter wherever the node stands, and it makes the whole lighter.
+/// What each row that turns a test writes is lighter wherever the node stands, and makes the whole
+/// lighter.
 pub fn turns_are_lighter()
     ensures row { TurnsLighter }
     ensures step { Lightens TurnContracts }
 {}
 
-/// What each row writes keeps all that a program has to keep.
+/// What each row that turns a test writes keeps all that a program has to keep.
 pub fn turns_are_lawful()
     ensures { Lawful TurnContracts }
 {}

@@ -183,7 +183,8 @@ fn orders_of(slots: &[Option<u32>; 9]) -> Orders
     }
 }
 
-/// What the words ask for, without memory; None exactly where the words are not good.
+/// What the words ask for, without memory; None exactly where the words are not good: one of them
+/// is none that may stand, or an option stands twice.
 pub fn read_orders(words: &Words) -> Option<Orders>
     ensures { MatchOption result (GoodWords words.now → ⊥) (NameOrders words.now) }
 {

@@ -182,8 +182,10 @@ fn fill(alloc: Global, list: &mut Nodes, from: u32, more: u32) -> Result<(), Out
     fill(alloc, list, from + 1, more - 1)
 }
 
-/// The script of so many statements, as its ESTree value: in turn `if (!a) b(i); else c();`, `typeof u == "undefined" && d["k"](i);` and
-/// `function fi(p) { if (p) return 1 + i; return "s"; }`, where i is the statement's number, from 0.
+/// The script of that many statements, as its ESTree value: in turn `if (!a) b(i); else c();`,
+/// `typeof u == "undefined" && d["k"](i);` and
+/// `function fi(p) { if (p) return 1 + i; return "s"; }`, where i is the statement's number, from
+/// 0.
 ///
 /// The only error is that memory runs out.
 #[tactic(auto, unfolding(crate::specs::Generated::generated_data))]
@@ -197,7 +199,7 @@ pub fn generate(alloc: Global, n: u32) -> Result<Value, OutOfMemory>
     write_program(alloc, &program)
 }
 
-/// So many statements as may be asked for are small enough to be minified.
+/// The script of as many statements as `--generate` may ask for is small enough to be minified.
 pub fn generated_fit()
     ensures { (n : ℕ) → n ≤ 2000 → Fits (generated_data n) }
 {}

@@ -11,7 +11,8 @@ pub fn words_name_one_choice()
     ensures options { (words : List (List ℕ)) (o o' : CompressOptions) → NameOptions words o → NameOptions words o' → o ≡ o' }
 {}
 
-/// Words may stand in any order: where two neighbours change places, the same is ordered, and the same options are named.
+/// Words may stand in any order: where two neighbours change places, the same is ordered, and the
+/// same options are named.
 pub fn words_stand_in_any_order()
     ensures orders { (xs ys : List (List ℕ)) (v w : List ℕ) (r : Orders) → NameOrders (xs ++ v ∷ w ∷ ys) r → NameOrders (xs ++ w ∷ v ∷ ys) r }
     ensures options { (xs ys : List (List ℕ)) (v w : List ℕ) (o : CompressOptions) → NameOptions (xs ++ v ∷ w ∷ ys) o → NameOptions (xs ++ w ∷ v ∷ ys) o }

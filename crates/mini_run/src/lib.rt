@@ -1,5 +1,5 @@
-//! What a run of the minifier is given: its words and the options that they choose, sources and sinks, of std and in memory,
-//! and all that a source gives read, and all of a text written.
+//! What a run of the minifier is given: its words and the options that they choose, sources and
+//! sinks, of std and in memory, and all that a source gives read, and all of a text written.
 #![tactic(auto)]
 
 mod adapters;

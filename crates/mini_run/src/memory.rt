@@ -72,8 +72,9 @@ impl Plan {
     }
 }
 
-/// Gives the bytes that it was made with. Calls are counted from 1 up to the greatest u32; those past it have no
-/// number. A call fails exactly where its number is one of `fails`, and any other moves at most `limit` bytes, or 1.
+/// Gives the bytes that it was made with. Calls are counted from 1 up to the greatest u32; those
+/// past it have no number. A call fails exactly where its number is one of `fails`, and any other
+/// moves at most `limit` bytes, or 1.
 #[derive(Drop)]
 pub struct MemSource {
     bytes: Vec<u8>,
@@ -93,7 +94,8 @@ impl Model for MemSource {
 }
 
 impl MemSource {
-    /// All the bytes are still to come, at most `limit` a call; `fails` has the numbers of the calls that fail.
+    /// All the bytes are still to come, at most `limit` a call; `fails` has the numbers of the
+    /// calls that fail.
     pub fn new(bytes: Vec<u8>, limit: usize, fails: Vec<u32>) -> MemSource
         ensures { result ≡ record { left = bytes.items; schedule = record { limit = limit; fails = fails.items; calls = 0; faults = 0 } } }
     {
@@ -148,9 +150,9 @@ impl Source for MemSource {
     }
 }
 
-/// Takes bytes up to the room that it was made with. Calls are counted from 1 up to the greatest u32; those past it
-/// have no number. A call fails exactly where its number is one of `fails`, or where a piece that isn't empty finds no
-/// room; any other moves at most `limit` bytes, or 1.
+/// Takes bytes up to the room that it was made with. Calls are counted from 1 up to the greatest
+/// u32; those past it have no number. A call fails exactly where its number is one of `fails`, or
+/// where a piece that isn't empty finds no room; any other moves at most `limit` bytes, or 1.
 #[derive(Drop)]
 pub struct MemSink {
     bytes: Vec<u8>,

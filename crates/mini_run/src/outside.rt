@@ -21,7 +21,8 @@ pub trait Source {
     // how often it failed
     ghost faults: { Self → ℕ };
 
-    /// Fills the front of the piece with the next bytes, and answers how many. 0 for a piece with room is the end.
+    /// Fills the front of the piece with the next bytes, and answers how many. 0 for a piece with
+    /// room is the end.
     fn read(&mut self, piece: &mut [u8]) -> Result<usize, Failed>
         ensures bound { ReadsAtMost result piece.new }
         ensures bytes { ReadConsumes (left self.old) (left self.new) result piece.new }
@@ -36,7 +37,8 @@ pub trait Sink {
     // how often it failed
     ghost faults: { Self → ℕ };
 
-    /// Takes a beginning of the piece, and answers how long. To take nothing of a piece that isn't empty is a fault.
+    /// Takes a beginning of the piece, and answers how long. To take nothing of a piece that isn't
+    /// empty is a fault.
     fn write(&mut self, piece: &[u8]) -> Result<usize, Failed>
         ensures bound { WritesAtMost result piece.now }
         ensures bytes { WriteAppends (written self.old) (written self.new) result piece.now }
@@ -76,8 +78,8 @@ fn read_step<S: Source, L: Ledger>(
     source.read(piece)
 }
 
-/// All the bytes that are left, up to `LIMIT`. A step is a call of the source, and each turn of the loop makes one: each
-/// but the last takes at least one byte.
+/// All the bytes that are left, up to `LIMIT`. A step is a call of the source, and each turn of the
+/// loop makes one: each but the last takes at least one byte.
 pub fn read_all<S: Source, L: Ledger>(
     alloc: Global,
     source: &mut S,
@@ -110,7 +112,8 @@ pub fn read_all<S: Source, L: Ledger>(
     Err(Stopped::TooLong)
 }
 
-/// Writes the bytes: all of them, or a beginning where the sink failed. Each call is given all that is left.
+/// Writes the bytes: all of them, or a beginning where the sink failed. Each call is given all that
+/// is left.
 pub fn write_all<K: Sink>(sink: &mut K, bytes: &[u8]) -> Result<(), Failed>
     ensures ok { OnOk result (Appends (K.written sink.old) (K.written sink.new) bytes.now) }
     ensures part { GrewWithin (K.written sink.old) (K.written sink.new) bytes.now }

@@ -12,10 +12,10 @@ use mini_model::{OutOfMemory, OwnedList};
 use mini_node::Node;
 use std::alloc::Global;
 
-/// Why a program isn't one.
+/// Why a program can't be resolved.
 #[derive(Drop)]
 pub enum EarlyError {
-    /// A name is declared twice, at this path once more.
+    /// The name at this path is declared, though it was before in the same scope.
     Name(Path),
     /// The jump at this path has no target.
     Jump(Path),
@@ -23,7 +23,7 @@ pub enum EarlyError {
     OutOfMemory,
 }
 
-/// The places of all names of a program that are declared twice.
+/// The paths of all names of a program that are declared twice.
 fn names_of(alloc: Global, program: &Node) -> Result<Vec<Path>, OutOfMemory>
     ensures { IfOk result (λ found. found.items ≡ early_names [] program.now) }
 {
@@ -33,7 +33,7 @@ fn names_of(alloc: Global, program: &Node) -> Result<Vec<Path>, OutOfMemory>
     Ok(found)
 }
 
-/// The places of all its jumps without a target.
+/// The paths of all jumps of a program that have no target.
 fn jumps_of(alloc: Global, program: &Node) -> Result<Vec<Path>, OutOfMemory>
     ensures { IfOk result (λ found. found.items ≡ early_jumps none [] program.now) }
 {
@@ -56,7 +56,9 @@ fn first_of(paths: Vec<Path>) -> Option<Path>
     }
 }
 
-/// Looks for an early error: a name that is declared twice, or else a jump without a target, each the first in order.
+/// Looks for an early error of a program (ECMA-262, "Static Semantics: Early Errors"). `Name` comes
+/// with the first name, in preorder, that is declared twice; else `Jump` with the first jump
+/// without a target; `OutOfMemory` for want of memory.
 pub fn check_early(alloc: Global, program: &Node) -> Result<(), EarlyError>
     ensures ok { OnOk result (IsFree program.now) }
     ensures err { IfErr result (Stands program.now) }

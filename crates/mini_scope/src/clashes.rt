@@ -29,7 +29,7 @@ fn push_if(found: &mut Vec<Path>, is_wanted: bool, path: Path) -> Result<(), Out
     Ok(())
 }
 
-/// Adds the places of those that clash with an earlier one.
+/// Adds the paths of those declarations of a list that clash with an earlier one of it.
 pub fn push_clashing(
     alloc: Global,
     declarations: Vec<Declaration>,

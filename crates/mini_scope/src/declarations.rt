@@ -14,7 +14,7 @@ use mini_model::{Name, OutOfMemory, OwnedList, Shape};
 use mini_node::{Node, Nodes};
 use std::alloc::Global;
 
-/// The same path once more.
+/// A copy of a path. The only error is that memory runs out.
 pub fn copy_path(alloc: Global, path: &Path) -> Result<Path, OutOfMemory>
     ensures { IfOk result (λ copy. copy ≡ path.now) }
 {
@@ -25,7 +25,7 @@ pub fn copy_path(alloc: Global, path: &Path) -> Result<Path, OutOfMemory>
     Ok(copy)
 }
 
-/// Goes up from a child.
+/// Takes the last index off a path, which then leads to the node above.
 pub fn go_up(path: &mut Path)
     ensures { IsUp path.old path.new }
 {
@@ -79,7 +79,7 @@ fn push_declarations(
     }
 }
 
-/// Adds those of the children of a node at a path.
+/// Adds the declarations that the children of a node at a path hold.
 #[cycle(declarations)]
 fn push_all(
     alloc: Global,
@@ -98,7 +98,7 @@ fn push_all(
     Ok(())
 }
 
-/// Adds those of one of them, where it is there.
+/// Adds the declarations that the child at an index holds, where there is such a child.
 #[cycle(declarations)]
 fn push_at(
     alloc: Global,
@@ -129,7 +129,8 @@ fn is_lexical_in(is_outer: bool, shape: &Shape) -> bool
     !(is_outer && is_function(shape))
 }
 
-/// Adds the declarations of a body of statements; in which functions are like `var`, or not.
+/// Adds the declarations of a body of statements. A flag says whether functions are lexical in it,
+/// or like `var`.
 #[cycle(bodies)]
 fn push_body(
     alloc: Global,
@@ -151,7 +152,7 @@ fn push_body(
     }
 }
 
-/// Adds those of some statements.
+/// Adds the declarations of some statements.
 #[cycle(bodies)]
 fn push_all_bodies(
     alloc: Global,
@@ -169,7 +170,7 @@ fn push_all_bodies(
     Ok(())
 }
 
-/// Adds those of one of them, where it is there.
+/// Adds the declarations of the statement at an index, where there is such a one.
 #[cycle(bodies)]
 fn push_body_at(
     alloc: Global,
@@ -219,7 +220,7 @@ fn push_block(
     }
 }
 
-/// Adds what must not clash in the scopes that a node opens.
+/// Adds the declarations that must not clash in the scopes that a node opens.
 pub fn push_scope(
     alloc: Global,
     path: &mut Path,

@@ -11,7 +11,7 @@ use mini_model::{Name, OutOfMemory, OwnedList, Text};
 use mini_node::{Node, Nodes};
 use std::alloc::Global;
 
-/// The same text once more.
+/// A copy of a text. The only error is that memory runs out.
 pub fn copy_text(alloc: Global, text: &Text) -> Result<Text, OutOfMemory>
     ensures { IfOk result (λ copy. copy ≡ text.now) }
 {
@@ -22,7 +22,7 @@ pub fn copy_text(alloc: Global, text: &Text) -> Result<Text, OutOfMemory>
     Ok(copy)
 }
 
-/// The same name once more.
+/// A copy of a name. The only error is that memory runs out.
 fn copy_name(alloc: Global, name: &Name) -> Result<Name, OutOfMemory>
     ensures { IfOk result (λ copy. copy ≡ name.now) }
 {

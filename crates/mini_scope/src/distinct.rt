@@ -10,7 +10,7 @@ use mini_laws::{Binding, Use};
 use mini_model::{Name, OutOfMemory};
 use std::alloc::Global;
 
-/// Adds these names, each of them.
+/// Adds each of these names to a scope, also where one with its spelling is there.
 pub fn add_all(scope: &mut Environment, names: Vec<Name>, hoists: bool) -> Result<(), OutOfMemory>
     ensures { OnOk result (scope.new ≡ scope.old ++ bound hoists names.items) }
 {
@@ -20,7 +20,7 @@ pub fn add_all(scope: &mut Environment, names: Vec<Name>, hoists: bool) -> Resul
     Ok(())
 }
 
-/// Adds each of the names where none has its spelling yet.
+/// Adds each of these names to a scope that has none with its spelling yet.
 fn add_distinct(scope: &mut Environment, names: Vec<Name>, hoists: bool) -> Result<(), OutOfMemory>
     ensures { (seen : List NameOf) → scope.old ≡ bound hoists seen → OnOk result (scope.new ≡ bound hoists (with_names seen names.items)) }
 {
@@ -46,7 +46,7 @@ fn bindings_of(alloc: Global, names: Vec<Name>, hoists: bool) -> Result<Vec<Bind
     Ok(scope)
 }
 
-/// The scope of these names without those given first.
+/// The scope of these names, each once, but for those with the spelling of one that is given first.
 pub fn scope_of(
     alloc: Global,
     given: Vec<Name>,

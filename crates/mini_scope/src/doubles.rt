@@ -27,7 +27,7 @@ pub fn push_early_names(
     push_all_early_names(alloc, path, node.children(), found)
 }
 
-/// Adds those in its children.
+/// Adds the places of the names that are declared twice in the children of a node.
 #[cycle(names)]
 fn push_all_early_names(
     alloc: Global,

@@ -73,7 +73,8 @@ impl Environment {
         }
     }
 
-    /// Goes into a scope: its names get symbols from a number on. The number after them.
+    /// Enters a scope: its names get the symbols from a number on. The answer is the number after
+    /// them. The only error is that memory runs out.
     pub fn enter(&mut self, next: u32, scope: Vec<Binding>) -> Result<u32, OutOfMemory>
         requires { next + length scope.items < 2 ^ 32 }
         ensures after { IfOk result (λ after. after ≡ next + length scope.items) }
@@ -88,7 +89,7 @@ impl Environment {
         Ok(symbol)
     }
 
-    /// Leaves the scopes past a length.
+    /// Leaves the scopes whose names stand past a length.
     pub fn leave(&mut self, length: usize)
         ensures { self.new ≡ take length self.old }
     {
@@ -97,7 +98,7 @@ impl Environment {
         }
     }
 
-    /// How many names there are.
+    /// How many names the scopes declare in all.
     pub fn len(&self) -> usize
         ensures { result ≡ length self.now }
     {
@@ -114,7 +115,8 @@ impl Environment {
         }
     }
 
-    /// The symbol of the innermost name with this spelling, if there is one.
+    /// The symbol of the innermost name with this spelling that serves the use; None where there is
+    /// none, or that name has none.
     pub fn symbol_of(&self, usage: Use, spelling: &Text) -> Option<SymbolId>
         ensures { result ≡ symbol_of usage spelling.now self.now }
     {
@@ -137,14 +139,14 @@ impl Environment {
         false
     }
 
-    /// The names as a list.
+    /// The names as a list, the outermost first.
     pub fn into_bindings(self) -> Vec<Binding>
         ensures { result.items ≡ self }
     {
         self.bindings
     }
 
-    /// Declares one more name.
+    /// Declares one more name, as the innermost. The only error is that memory runs out.
     pub fn push(&mut self, binding: Binding) -> Result<(), OutOfMemory>
         ensures { OnOk result (self.new ≡ self.old ++ binding ∷ []) }
     {
@@ -165,7 +167,7 @@ impl Environment {
         }
     }
 
-    /// Takes the last name out.
+    /// Takes the innermost name out; there must be one.
     pub fn pop(&mut self)
         requires { 0 < length self.old }
         ensures { self.new ≡ take (length self.old - 1) self.old }

@@ -29,7 +29,8 @@ fn push_here(
     Ok(())
 }
 
-/// Adds the places of the jumps without a target in a node at a path, which can jump to these.
+/// Adds the places of the jumps without a target in a node at a path, which can jump to these
+/// targets.
 #[cycle(jumps)]
 pub fn push_early_jumps(
     alloc: Global,
@@ -48,7 +49,7 @@ pub fn push_early_jumps(
     push_all_early_jumps(alloc, shape, targets, path, nodes, found)
 }
 
-/// Adds those in the children of a node of this shape.
+/// Adds the places of the jumps without a target in the children of a node of this shape.
 #[cycle(jumps)]
 fn push_all_early_jumps(
     alloc: Global,
@@ -77,7 +78,7 @@ fn push_all_early_jumps(
     Ok(())
 }
 
-/// Adds those in one of them.
+/// Adds the places of the jumps without a target in the child at an index.
 #[cycle(jumps)]
 fn push_turned(
     alloc: Global,

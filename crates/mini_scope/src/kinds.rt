@@ -55,7 +55,7 @@ pub fn is_labeled(shape: &Shape) -> bool
     matches!(shape, Shape::LabeledStatement)
 }
 
-/// Whether it is a loop.
+/// Whether a node of this shape is a loop.
 pub fn is_loop(shape: &Shape) -> bool
     ensures { result ≡ is_loop_shape shape.now }
 {

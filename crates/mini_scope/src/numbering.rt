@@ -135,7 +135,9 @@ fn put_children(node: &mut Node, children: Nodes)
     *node.children_mut() = children;
 }
 
-/// Gives the names of a node and of all below it their symbols. The number after the new ones.
+/// Gives the names of a node and of all below it their symbols, those of its declarations being
+/// numbered from a number on. The answer is the number after them. The only error is that memory
+/// runs out.
 #[cycle(resolve)]
 pub fn resolve_node(
     alloc: Global,
@@ -170,7 +172,9 @@ pub fn resolve_node(
     after
 }
 
-/// The same for the children of a node of this shape, which opens these scopes.
+/// Gives the names of the children of a node of this shape, which opens these scopes, and of all
+/// below them their symbols. The answer is the number after those of the new declarations. The only
+/// error is that memory runs out.
 #[cycle(resolve)]
 fn resolve_nodes(
     alloc: Global,
@@ -200,7 +204,8 @@ fn resolve_nodes(
     Ok(next)
 }
 
-/// Gives the names of a program their symbols, and says how many there are.
+/// Gives the names of a program their symbols, numbered from 0 on, and says how many declarations
+/// it has (ECMA-262, ResolveBinding). The only error is that memory runs out.
 pub fn resolve_program(alloc: Global, program: &mut Node) -> Result<u32, OutOfMemory>
     requires { symbols variant.Read program.old < 2 ^ 32 }
     ensures count { IfOk result (λ count. count ≡ symbols variant.Read program.old) }

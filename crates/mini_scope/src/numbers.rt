@@ -10,7 +10,8 @@ use mini_model::{OutOfMemory, Text};
 use std::alloc::Global;
 use std::collections::BTreeMap;
 
-/// The number of a spelling, if it has one. The map is ordered: no choice of names makes a look-up long.
+/// The number of a spelling, if it has one. The map is ordered: no choice of names makes a look-up
+/// long.
 #[tactic(auto, unfolding(crate::specs::Spelled::number_of))]
 pub fn number_of(numbers: &BTreeMap<Vec<u16>, usize>, spelling: &Text) -> Option<usize>
     ensures { result ≡ number_of numbers.now spelling.now }

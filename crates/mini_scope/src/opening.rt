@@ -16,11 +16,14 @@ use mini_node::Node;
 use std::alloc::Global;
 use std::mem;
 
-/// The names that a node declares before its first child, before the second, and before the third.
+/// The scopes that a node opens before its first child, before the second, and before the third.
 #[derive(Drop)]
 pub struct OpenScopes {
+    /// The names that are in scope from the first child on.
     pub first: Vec<Binding>,
+    /// The names that are in scope from the second child on.
     pub second: Vec<Binding>,
+    /// The names that are in scope from the third child on.
     pub third: Vec<Binding>,
 }
 
@@ -130,7 +133,8 @@ impl OpenScopes {
         OpenScopes::filled(first, Ok(Vec::new(alloc)), Ok(Vec::new(alloc)))
     }
 
-    /// Takes out those before the child at an index.
+    /// Takes out the names of the scope that is entered before the child at an index; none are left
+    /// there.
     pub fn take(&mut self, alloc: Global, at: usize) -> Vec<Binding>
         ensures value { result.items ≡ scope_at self.old at }
         ensures rest { (k : ℕ) → at < k → scope_at self.new k ≡ scope_at self.old k }
@@ -143,7 +147,8 @@ impl OpenScopes {
         }
     }
 
-    /// The scopes that a node opens.
+    /// The scopes that a node opens, which is used like this. The only error is that memory runs
+    /// out.
     pub fn of(alloc: Global, usage: Use, node: &Node) -> Result<OpenScopes, OutOfMemory>
         ensures { IfOk result (λ scopes. scope_at scopes ≡ opened usage (shape_of node.now) (children node.now)) }
     {

@@ -219,7 +219,8 @@ fn under_child(
     }
 }
 
-/// The error as seen from a node, below which it stands at a path. No path of a tree leads past its children.
+/// The error as seen from a node, below which it stands at a path. No path of a tree leads past its
+/// children.
 #[cycle(pointers)]
 pub fn under_path(
     alloc: Global,

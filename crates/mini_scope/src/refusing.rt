@@ -27,8 +27,8 @@ fn refusal(alloc: Global, program: &Node, error: EarlyError) -> MinifyError
     }
 }
 
-/// Refuses a program that has an early error: `EarlyName` and `EarlyJump` come with the pointer of what has it, and
-/// `OutOfMemory` for want of memory. (ECMA-262, "Static Semantics: Early Errors".)
+/// Refuses a program that has an early error: `EarlyName` and `EarlyJump` come with the pointer of
+/// what has it, and `OutOfMemory` for want of memory. (ECMA-262, "Static Semantics: Early Errors".)
 pub fn refuse_early(alloc: Global, program: &Node) -> Result<(), MinifyError>
     ensures free { OnOk result (early_fault program.now ≡ None) }
     ensures refused { IfErr result (λ e. IfSome (fault_of e) (λ f. early_fault program.now ≡ Some f)) }

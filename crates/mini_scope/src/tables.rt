@@ -86,7 +86,8 @@ fn hoisted_by(usage: Use) -> Use
     }
 }
 
-/// How a node of this shape, which is used like this itself, uses the names of its child at an index.
+/// How a node of this shape, which is used like this itself, uses the names of its child at an
+/// index.
 pub fn use_of(shape: &Shape, usage: Use, at: usize) -> Use
     ensures { result ≡ use_at shape.now usage at }
 {
@@ -126,7 +127,7 @@ pub fn is_statement_list(shape: &Shape) -> bool
     matches!(shape, Shape::Listed | Shape::FunctionBody)
 }
 
-/// Whether it is an inner expression of a carried node.
+/// Whether a node of this shape is an inner expression of a carried node.
 pub fn is_inner(shape: &Shape) -> bool
     ensures { result ≡ is_inner_shape shape.now }
 {

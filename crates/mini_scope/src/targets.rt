@@ -36,7 +36,7 @@ fn is_loop(node: &Node) -> bool
     }
 }
 
-/// Whether the last of some nodes is.
+/// Whether the last of some nodes is a loop, labels aside.
 #[cycle(loops)]
 fn last_is_loop(nodes: &Nodes) -> bool
     ensures { result ≡ last_is_loop_in nodes.now }
@@ -96,7 +96,8 @@ fn label_of(alloc: Global, nodes: &Nodes) -> Result<Label, OutOfMemory>
     })
 }
 
-/// The targets of a child, of these with it, by those of the node.
+/// What a child can jump to, by how that differs from what its node can, by the node's children,
+/// and by what the node can jump to.
 pub fn turned(
     alloc: Global,
     turn: Turn,
@@ -159,7 +160,8 @@ fn is_bad_unlabeled(jump: Jump, targets: &Targets) -> bool
     }
 }
 
-/// Whether a jump with a label has none.
+/// Whether a jump with a label has no target; of a labeled statement, whether its label is one of
+/// those around it.
 fn is_bad_labeled(jump: Jump, text: &Text, targets: &Targets) -> bool
     ensures { result ≡ is_bad_with jump (Some text.now) targets.now }
 {

@@ -19,7 +19,8 @@ fn is_statement_list(shape: &Shape, place: Position) -> bool
     matches!(shape, Shape::Listed) && matches!(place, Position::StatementList | Position::BodyList)
 }
 
-// Where a declaration is a statement, the head of a `for`, or exported, if the node stands in an export.
+// Where a declaration is a statement, the head of a `for`, or exported, if the node stands in an
+// export.
 fn may_begin(place: Position, in_lexical: bool) -> bool
     ensures { result ≡ row.may_begin in_lexical place }
 {
@@ -76,7 +77,8 @@ fn begins_head(shape: &Shape, place: Position, at: usize, in_lexical: bool) -> b
     is_for(shape) && at == 0 || is_for_each(shape) && at == 1
 }
 
-/// Whether the children of a node are the list of a `let` or a `const`, or stand in an export; and the node itself may.
+/// Whether the children of a node are the list of a `let` or a `const`, or stand in an export; and
+/// the node itself may.
 #[tactic(auto, using(crate::proofs::Behind::enters_it))]
 pub fn enters_lexical(shape: &Shape, place: Position, in_lexical: bool) -> bool
     ensures { result ≡ enters_it_lexical in_lexical shape.now place }
@@ -121,7 +123,8 @@ fn is_lexical_first(nodes: &[Node]) -> bool
     }
 }
 
-/// Adds to what is begun in this code what begins behind the child at an index of a node, which may be the list of a `let` or a `const`.
+/// Adds to what is begun in this code what begins behind the child at an index of a node, which may
+/// be the list of a `let` or a `const`.
 pub fn push_behind(
     code: &mut BodyCode,
     node: &Node,

@@ -173,8 +173,8 @@ fn is_listed_twice(symbol: SymbolId, symbols: &[SymbolId]) -> bool
     }
 }
 
-/// Whether the symbol is among those that have their values there: statements before have declared it, and nothing else in the code does, or it has its
-/// value throughout the code.
+/// Whether the symbol is among those that have their values there: statements before have declared
+/// it, and nothing else in the code does, or it has its value throughout the code.
 pub fn is_initialised<S: SteadyNames>(symbol: SymbolId, code: &BodyCode, steady: &S) -> bool
     ensures { result ≡ (known_of (S.sets steady.now) code.now).initial (Declared symbol.0) }
 {

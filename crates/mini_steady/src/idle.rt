@@ -1,5 +1,6 @@
-//! Rows 21 and 22 of what has no effect where a body has its `this`: `a(), this, b()` becomes `a(), b()`, `this, a()` `a()`, `(this, a)()`
-//! `a()`, `this;` `;`, and `for (this; a; this) b` `for (; a;) b`.
+//! Rows 21 and 22 of what has no effect where a body has its `this`: `a(), this, b()` becomes
+//! `a(), b()`, `this, a()` `a()`, `(this, a)()` `a()`, `this;` `;`, and `for (this; a; this) b`
+//! `for (; a;) b`.
 
 ghost use Rattle.std.specs.Prelude.{◌≡◌, ◌+◌, ◌<◌, ◌||◌, true, false, nat_le, is_some, unwrap_or, IfOk, IfSome};
 ghost use Rattle.mini_model.specs.Tree.{children, count, child_or_absent};
@@ -183,8 +184,9 @@ fn drop_from(alloc: Global, node: &mut Node, seat: Seat) -> Result<bool, OutOfMe
     drop_idle(alloc, node, seat)
 }
 
-/// A part of a sequence goes that has no effect, where the body has its `this`: `a(), this, b()` becomes `a(), b()`, and `this, a()` and `(this, a)()`
-/// `a()`. The answer says whether one did; the only error is that memory runs out, and then the expression is fit only to be dropped.
+/// A part of a sequence goes that has no effect, where the body has its `this`: `a(), this, b()`
+/// becomes `a(), b()`, and `this, a()` and `(this, a)()` `a()`. The answer says whether one did;
+/// the only error is that memory runs out, and then the expression is fit only to be dropped.
 pub fn drop_idle_parts<S: SteadyNames>(
     alloc: Global,
     node: &mut Node,
@@ -201,8 +203,9 @@ pub fn drop_idle_parts<S: SteadyNames>(
     Ok(changed)
 }
 
-/// A statement becomes empty, or a part of the head of a `for` goes, that has no effect, where the body has its `this`: `this;` becomes `;`, and
-/// `for (this; a; this) b` `for (; a;) b`. The answer says whether something changed.
+/// A statement becomes empty, or a part of the head of a `for` goes, that has no effect, where the
+/// body has its `this`: `this;` becomes `;`, and `for (this; a; this) b` `for (; a;) b`. The answer
+/// says whether something changed.
 pub fn drop_idle_statement<S: SteadyNames>(
     alloc: Global,
     node: &mut Node,

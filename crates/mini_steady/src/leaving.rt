@@ -1,4 +1,5 @@
-//! What leaves the object of a member as it is, and what is evaluated first: `this` is left by all, and a name by what neither declares nor writes it.
+//! What leaves the object of a member as it is, and what is evaluated first: `this` is left by all,
+//! and a name by what neither declares nor writes it.
 
 ghost use Rattle.std.specs.Prelude.{◌≡◌, ◌<◌, ◌≤◌, false};
 ghost use Rattle.mini_model.specs.Tree.{children, count};
@@ -74,7 +75,8 @@ fn leaves_name(name: &Option<Name>, node: &Node) -> bool
     }
 }
 
-/// Whether a node neither declares nor writes the object, a name that a scope declares; an object that is no name is left alone by every node.
+/// Whether a node neither declares nor writes the object, a name that a scope declares; an object
+/// that is no name is left alone by every node.
 pub fn leaves_object(object: &Node, node: &Node) -> bool
     ensures { result ≡ row.leaves_object object.now node.now }
 {

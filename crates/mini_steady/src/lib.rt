@@ -1,5 +1,6 @@
-//! Rewrites that rest on what is known of a body, as that names are steady: in the own code of each function, of the program, of static blocks and
-//! of inner expressions, over what tells that, by rows of any family.
+//! Rewrites that rest on what is known of a body, as that names are steady: in the own code of each
+//! function, of the program, of static blocks and of inner expressions, over what tells that, by
+//! rows of any family.
 #![tactic(auto)]
 
 mod around;

@@ -1,6 +1,8 @@
-//! Rows 35, 38 and 45 of members of what keeps its value while a body runs, `this` or a name that is steady: `x.k || (x.k = b)` becomes
-//! `x.k ||= b`, `x.k || (a, x.k = b)` `x.k ||= (a, b)`, `this.k = this.k + b` `this.k += b`, and `a ? this.k = b : this.k = c`
-//! `this.k = a ? b : c`, and so of x.k and x[i], where x and i have values throughout the body, or a reads them first. Each is lighter in every seat.
+//! Rows 35, 38 and 45 of members of what keeps its value while a body runs, `this` or a name that
+//! is steady: `x.k || (x.k = b)` becomes `x.k ||= b`, `x.k || (a, x.k = b)` `x.k ||= (a, b)`,
+//! `this.k = this.k + b` `this.k += b`, and `a ? this.k = b : this.k = c` `this.k = a ? b : c`, and
+//! so of x.k and x[i], where x and i have values throughout the body, or a reads them first. Each
+//! is lighter in every seat.
 
 ghost use Rattle.std.specs.Prelude.{◌≡◌, ◌<◌, true, is_some, unwrap_or, OnOk, IfOk};
 ghost use Rattle.mini_model.specs.Tree.{children, count};
@@ -187,7 +189,8 @@ fn is_held_member<S: SteadyNames>(node: &Node, body: &BodyCode, steady: &S) -> b
         && is_kept_object(node.child(1), body, steady)
 }
 
-// A member with a key that is written out, or such a one, whose parts may be evaluated before the test.
+// A member with a key that is written out, or such a one, whose parts may be evaluated before the
+// test.
 fn is_ready_member<S: SteadyNames>(member: &Node, test: &Node, body: &BodyCode, steady: &S) -> bool
     ensures { result ≡ row.is_ready_member (known_of (S.sets steady.now) body.now) test.now member.now }
 {
@@ -246,10 +249,11 @@ fn combined_member(alloc: Global, node: Node) -> Result<Node, OutOfMemory>
     combined(alloc, operator, node)
 }
 
-/// `x.k || (x.k = b)` becomes `x.k ||= b`, and so of `&&` and `??`, and of a sequence that ends in the assignment, where x is steady in the
-/// body with this number, or is `this`; `this.k = this.k + b` becomes `this.k += b`, and `a ? this.k = b : this.k = c`
-/// `this.k = a ? b : c`, and so of x.k, where a reads x first. The answer says whether it did; the only error is that memory runs out, and
-/// then the expression is fit only to be dropped.
+/// `x.k || (x.k = b)` becomes `x.k ||= b`, and so of `&&` and `??`, and of a sequence that ends in
+/// the assignment, where x is steady in the body with this number, or is `this`;
+/// `this.k = this.k + b` becomes `this.k += b`, and `a ? this.k = b : this.k = c`
+/// `this.k = a ? b : c`, and so of x.k, where a reads x first. The answer says whether it did; the
+/// only error is that memory runs out, and then the expression is fit only to be dropped.
 pub fn minimize_members<S: SteadyNames>(
     alloc: Global,
     node: &mut Node,
@@ -295,7 +299,8 @@ fn minimize_expression<S: SteadyNames>(
     Ok(shortened)
 }
 
-/// Rows of what keeps its value: of members 35, 38 and 45, and 1, 21, 22 and 44 of what has no effect where the body has its `this`.
+/// Rows of what keeps its value: of members 35, 38 and 45, and 1, 21, 22 and 44 of what has no
+/// effect where the body has its `this`.
 pub struct SteadyMembers;
 
 impl<S: SteadyNames> OwnRewrites<S> for SteadyMembers {

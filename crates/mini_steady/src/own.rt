@@ -1,4 +1,5 @@
-//! Rows of the own code of a body, and a walk over that, children first, past no other body and no node with a number.
+//! Rows of the own code of a body, and a walk over that, children first, past no other body and no
+//! node with a number.
 
 ghost use Rattle.std.specs.Prelude.{◌≡◌, true, IfOk, OnOk};
 ghost use Rattle.mini_rows.specs.Switches.{Switches};
@@ -20,8 +21,9 @@ pub trait OwnRewrites<S: SteadyNames> {
     /// By what the minifier may do and what is known of the body, which nodes are read as which.
     ghost rows: { Switches → OwnRows };
 
-    /// Writes what a row says that reads the node at its place, in this body, once or more often, and answers true; or leaves it, if none
-    /// does, and answers false. The only error is that memory runs out, and then the node is fit only to be dropped.
+    /// Writes what a row says that reads the node at its place, in this body, once or more often,
+    /// and answers true; or leaves it, if none does, and answers false. The only error is that
+    /// memory runs out, and then the node is fit only to be dropped.
     fn rewrite(
         &self,
         alloc: Global,
@@ -38,7 +40,8 @@ pub trait OwnRewrites<S: SteadyNames> {
     /// What they read they read where more variables are known to have values.
     ghost more: { (o : Switches) → ReadsMore (rows o) };
 
-    /// What a row writes is read alike, declares no name that what stood there didn't and no symbol more often, and is lighter.
+    /// What a row writes is read alike, declares no name that what stood there didn't and no symbol
+    /// more often, and is lighter.
     ghost keeps: { (o : Switches) → KeepsEach (rows o) };
 }
 
@@ -63,9 +66,10 @@ fn is_open(node: &Node) -> bool
     node.number() == 0 && !has_body(node.shape())
 }
 
-/// Walks over the own code of this body, from a node in it where this is begun, and writes there what these rows say.
-/// The answer says whether anything changed, and where nothing did no row reads anything in it; the only error is that memory runs out, and then the
-/// node and what is begun are fit only to be dropped.
+/// Walks over the own code of this body, from a node in it where this is begun, and writes there
+/// what these rows say. The answer says whether anything changed, and where nothing did no row
+/// reads anything in it; the only error is that memory runs out, and then the node and what is
+/// begun are fit only to be dropped.
 #[cycle(own)]
 pub fn minimize_own_code<S: SteadyNames, W: OwnRewrites<S>>(
     alloc: Global,

@@ -60,7 +60,8 @@ fn holds_function(place: Position) -> bool
     )
 }
 
-/// The rule that makes a family of rows in the own code of each function that is no arrow function. The context says what is known of its body.
+/// The rule that makes a family of rows in the own code of each function that is no arrow function.
+/// The context says what is known of its body.
 pub struct InFunctions<W> {
     /// The family of rows.
     pub rewrites: W,
@@ -155,7 +156,8 @@ impl<C: SteadyContext, W: OwnRewrites<C>> Rule<C> for InPrograms<W> {
     }
 }
 
-/// The rule that makes a family of rows in the own code of each static block and each inner expression, such as the value of a field.
+/// The rule that makes a family of rows in the own code of each static block and each inner
+/// expression, such as the value of a field.
 pub struct InParts<W> {
     /// The family of rows.
     pub rewrites: W,

@@ -9,9 +9,10 @@ use mini_context::{Scopes, TraverseCtx};
 use mini_model::SymbolId;
 use mini_tree::{CompressOptions, KeepNames};
 
-/// What tells, by the number of a body, what is known of it: which names are steady there, so that no answer of the world changes them while it runs;
-/// which its events don't show; which are initialised as it starts; and whether it has a `this` for which it doesn't ask the world. It tells also what the
-/// minifier may do.
+/// What tells, by the number of a body, what is known of it: which names are steady there, so that
+/// no answer of the world changes them while it runs; which its events don't show; which are
+/// initialised as it starts; and whether it has a `this` for which it doesn't ask the world. It
+/// tells also what the minifier may do.
 pub trait SteadyNames {
     /// What it says is known.
     ghost sets: { Self → BodySets };

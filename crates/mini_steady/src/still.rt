@@ -1,5 +1,7 @@
-//! Rows of what has no effect where a body has its `this`, in the place of which something else stands: `(this, a.b)()` becomes `(0, a.b)()`,
-//! `void this` `void 0`, `a ? this(b) : this(c)` `this(a ? b : c)`, `typeof this == "text"` `!1`, and `this ? x += 1 : x += 2` `x += this ? 1 : 2`.
+//! Rows of what has no effect where a body has its `this`, in the place of which something else
+//! stands: `(this, a.b)()` becomes `(0, a.b)()`, `void this` `void 0`, `a ? this(b) : this(c)`
+//! `this(a ? b : c)`, `typeof this == "text"` `!1`, and `this ? x += 1 : x += 2`
+//! `x += this ? 1 : 2`.
 
 ghost use Rattle.std.specs.Prelude.{◌≡◌, true, is_some, unwrap_or, OnOk, IfOk};
 ghost use Rattle.mini_model.specs.Tree.{children, count};
@@ -113,9 +115,11 @@ fn shorten(alloc: Global, node: &mut Node, seat: Seat) -> Result<bool, OutOfMemo
     Ok(true)
 }
 
-/// Something else stands for what has no effect, where the body has its `this`: `(this, a.b)()` becomes `(0, a.b)()`, `void this` `void 0`,
-/// `a ? this(b) : this(c)` `this(a ? b : c)`, `typeof this == "text"` `!1`, and `this ? x += 1 : x += 2` `x += this ? 1 : 2`. The answer says whether it
-/// does; the only error is that memory runs out, and then the expression is fit only to be dropped.
+/// Something else stands for what has no effect, where the body has its `this`: `(this, a.b)()`
+/// becomes `(0, a.b)()`, `void this` `void 0`, `a ? this(b) : this(c)` `this(a ? b : c)`,
+/// `typeof this == "text"` `!1`, and `this ? x += 1 : x += 2` `x += this ? 1 : 2`. The answer says
+/// whether it does; the only error is that memory runs out, and then the expression is fit only to
+/// be dropped.
 pub fn shorten_idle_parts<S: SteadyNames>(
     alloc: Global,
     node: &mut Node,

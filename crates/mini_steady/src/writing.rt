@@ -1,11 +1,14 @@
 //! Whether a name stands in what writes it.
 
 ghost use Rattle.std.specs.Prelude.{◌≡◌};
+ghost use Rattle.mini_model.specs.Tree.{shape_of};
+ghost use Rattle.mini_node.specs.Children.{names_of};
 ghost use Rattle.mini_rows.specs.Past as reading;
+ghost use Rattle.mini_rows.specs.Unused.{is_like_one};
 
 use mini_model::{Name, Shape};
 use mini_node::{Node, Nodes};
-use mini_unused::is_mentioned_from;
+use mini_unused::{is_like, is_mentioned_from};
 
 // What writes a part of it.
 fn is_writer(shape: &Shape) -> bool
@@ -20,11 +23,24 @@ fn is_writer(shape: &Shape) -> bool
     )
 }
 
+// Whether its declarator has a name like it.
+fn is_own_write(name: &Name, node: &Node) -> bool
+    ensures { result ≡ is_like_one name.now (reading.written_names (shape_of node.now) (names_of node.now)) }
+{
+    match node.shape() {
+        Shape::VariableDeclarator => is_like(name, node.name()),
+        _ => false,
+    }
+}
+
 /// Whether a name like it stands in such a node.
 #[cycle(writing)]
 pub fn writes(name: &Name, node: &Node) -> bool
     ensures { result ≡ reading.writes name.now node.now }
 {
+    if is_own_write(name, node) {
+        return true;
+    }
     if is_writer(node.shape()) {
         return is_mentioned_from(name, node.children(), 0);
     }

@@ -111,7 +111,8 @@ fn jumps_anyway(options: CompressOptions, lead: Lead, node: &Node) -> bool
     }
 }
 
-/// No row reads a list that is quiet and has no guards to join, if it isn't a function's body that ends with what a row reads.
+/// No row reads a list that is quiet and has no guards to join, if it isn't a function's body that
+/// ends with what a row reads.
 pub fn no_row_reads_a_quiet_list()
     ensures { QuietRests }
 {}
@@ -181,8 +182,8 @@ fn put_apart(
     Ok(true)
 }
 
-// Puts the statement after the others, joined to the last of them as long as a row does that. The answer says whether one
-// did.
+// Puts the statement after the others, joined to the last of them as long as a row does that. The
+// answer says whether one did.
 fn put_after(
     alloc: Global,
     options: CompressOptions,
@@ -264,7 +265,8 @@ fn minimize_all(
     Ok(changed)
 }
 
-// A list of statements without what these rows read: empty statements go, blocks are spread, neighbours are joined.
+// A list of statements without what these rows read: empty statements go, blocks are spread,
+// neighbours are joined.
 fn join_statements(
     alloc: Global,
     options: CompressOptions,
@@ -292,9 +294,9 @@ fn join_others(
     join_guards(alloc, options, node)
 }
 
-/// A list of statements without what the rows of lists read: empty statements go, blocks are spread, neighbours are
-/// joined. The answer says whether it changed; the only error is that memory runs out, and then the list is fit only to be
-/// dropped.
+/// A list of statements without what the rows of lists read: empty statements go, blocks are
+/// spread, neighbours are joined. The answer says whether it changed; the only error is that memory
+/// runs out, and then the list is fit only to be dropped.
 pub fn minimize_statements(
     alloc: Global,
     options: CompressOptions,

@@ -5,7 +5,8 @@ ghost use Rattle.std.specs.Prelude.{◌≡◌, Bool, true};
 use crate::terms::{has_terminated, is_terminated};
 use mini_node::{Node, Nodes};
 
-/// What may never end normally: a statement, a list of statements, and such a part that may be absent.
+/// What may never end normally: a statement, a list of statements, and such a part that may be
+/// absent.
 pub trait IsTerminated {
     /// Whether it is terminated.
     ghost terminated: { Self → Bool };
@@ -13,8 +14,9 @@ pub trait IsTerminated {
     /// That no run of it ends normally.
     ghost never_ends: { Self → Type 0 };
 
-    /// Whether it is terminated: a jump, a list or a block in which a statement is, an `if` both of whose branches are, and a
-    /// `try` whose finalizer is, or whose block and handler are. An absent part is not.
+    /// Whether it is terminated: a jump, a list or a block in which a statement is, an `if` both of
+    /// whose branches are, and a `try` whose finalizer is, or whose block and handler are. An
+    /// absent part is not.
     fn is_terminated(&self) -> bool
         ensures { result ≡ terminated self.now };
 

@@ -9,8 +9,8 @@ use mini_model::{OutOfMemory, Shape, UnaryOperator, VariableDeclarationKind};
 use mini_node::{Node, Nodes, is_expression_statement, is_sequence, of_one, one, sequence};
 use std::alloc::Global;
 
-/// Whether the statement declares a name in the list round it that isn't hoisted through it: a `let`, a `const`, a class, a
-/// function, an import or an export.
+/// Whether the statement declares a name in the list round it that isn't hoisted through it: a
+/// `let`, a `const`, a class, a function, an import or an export.
 pub fn statement_cares_about_scope(node: &Node) -> bool
     ensures { result ≡ not (list.is_unscoped node.now) }
 {

@@ -106,7 +106,8 @@ pub fn is_text_template(node: &Node) -> bool
     }
 }
 
-/// A value that is written out: a literal other than a regular expression, a template without expressions, `void 0`.
+/// A value that is written out: a literal other than a regular expression, a template without
+/// expressions, `void 0`.
 pub fn is_plain(node: &Node) -> bool
     ensures { result ≡ is_it_plain node.now }
 {

@@ -252,7 +252,8 @@ fn text_constant(alloc: Global, text: &Text) -> Result<Option<ConstantValue>, Ou
     Ok(Some(ConstantValue::String(copied(alloc, text.as_slice())?)))
 }
 
-/// The constant of an expression, whatever the expression does besides: `2` of `(f(), 1 + 1)`. None exactly where nothing is known.
+/// The constant of an expression, whatever the expression does besides: `2` of `(f(), 1 + 1)`. None
+/// exactly where nothing is known.
 ///
 /// The only error is that memory runs out.
 #[cycle(constants)]
@@ -282,8 +283,8 @@ pub fn constant_value(alloc: Global, node: &Node) -> Result<Option<ConstantValue
     }
 }
 
-/// Whether an expression counts as true, by its constant, or since it is an object: true of `"a"` and of `[]`. None exactly where nothing is
-/// known.
+/// Whether an expression counts as true, by its constant, or since it is an object: true of `"a"`
+/// and of `[]`. None exactly where nothing is known.
 ///
 /// The only error is that memory runs out.
 pub fn to_boolean(alloc: Global, node: &Node) -> Result<Option<bool>, OutOfMemory>

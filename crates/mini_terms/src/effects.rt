@@ -109,8 +109,8 @@ fn is_binary_effect_free(node: &Node, operator: BinaryOperator, asked: bool) -> 
         && takes(operator, child_kind(node, 0), child_kind(node, 1))
 }
 
-/// Whether the evaluation of an expression has no effect. `asked` says that `this` is asked of the world, as in a constructor
-/// of a class with `extends`.
+/// Whether the evaluation of an expression has no effect. `asked` says that `this` is asked of the
+/// world, as in a constructor of a class with `extends`.
 #[cycle(effects)]
 #[tactic(auto, using(crate::proofs::Children::ef_is, crate::proofs::Children::below))]
 pub fn is_effect_free(node: &Node, asked: bool) -> bool

@@ -1,4 +1,5 @@
-//! Questions about an expression that a term answers exactly, and what is written in the place of what is read by its value.
+//! Questions about an expression that a term answers exactly, and what is written in the place of
+//! what is read by its value.
 
 ghost use Rattle.std.specs.Prelude.{◌≡◌, true, false, not, IfOk};
 ghost use Rattle.mini_model.specs.Tree.{children, count, shape_of};
@@ -22,8 +23,8 @@ use std::alloc::Global;
 // The units of `eval`.
 const EVAL: [u16; 4] = [101, 118, 97, 108];
 
-/// Whether the evaluation of an expression may have an effect: exactly where it isn't effect-free. `asked` says that `this` is asked of the
-/// world, as in a constructor of a class with `extends`.
+/// Whether the evaluation of an expression may have an effect: exactly where it isn't effect-free.
+/// `asked` says that `this` is asked of the world, as in a constructor of a class with `extends`.
 pub fn may_have_side_effects(node: &Node, asked: bool) -> bool
     ensures { result ≡ not (ef asked node.now) }
 {
@@ -69,8 +70,9 @@ fn is_number(kind: Kind) -> bool
     matches!(kind, Kind::Number)
 }
 
-/// Whether each value of an expression is a whole number of 32 bits, with a sign or without, as far as its text tells: of `~` and of an operator of
-/// bits or a shift with an operand that is a number, and of a literal in that range.
+/// Whether each value of an expression is a whole number of 32 bits, with a sign or without, as far
+/// as its text tells: of `~` and of an operator of bits or a shift with an operand that is a
+/// number, and of a literal in that range.
 #[tactic(auto, using(crate::proofs::ExactTable::int32_is))]
 pub fn is_int32_or_uint32(node: &Node) -> bool
     ensures { result ≡ term.is_int32_or_uint32 node.now }
@@ -124,7 +126,8 @@ fn is_text_alone(node: &Node) -> bool
     node.children().len() == 2 && has_no_items(node.child(1))
 }
 
-/// Whether an expression is a value that is written out: a literal other than a regular expression, a template without expressions, or `void 0`.
+/// Whether an expression is a value that is written out: a literal other than a regular expression,
+/// a template without expressions, or `void 0`.
 #[tactic(auto, using(crate::proofs::ExactTable::plain_is))]
 pub fn is_literal_value(node: &Node) -> bool
     ensures { result ≡ plain.plain node.now }
@@ -196,8 +199,9 @@ fn is_name_by(holds: bool, shape: &Shape) -> bool
     }
 }
 
-/// Whether an expression would be read as a reference in the place of what is read by its value: as a callee or a tag a member, a chain or the name
-/// `eval`, under `delete` a member, a chain or a name, and under `typeof` a name that no scope declares.
+/// Whether an expression would be read as a reference in the place of what is read by its value: as
+/// a callee or a tag a member, a chain or the name `eval`, under `delete` a member, a chain or a
+/// name, and under `typeof` a name that no scope declares.
 #[tactic(auto, using(crate::proofs::ExactTable::guarded_is))]
 pub fn is_guarded(node: &Node, guard: Guard) -> bool
     ensures { result ≡ term.is_guarded guard node.now }
@@ -212,8 +216,9 @@ pub fn is_guarded(node: &Node, guard: Guard) -> bool
     }
 }
 
-/// What is written for an expression in the place of what is no member, no chain and no such name, so that it is read by its value: `0, o.f` as a
-/// callee, and `o.f` in a statement. The only error is that memory runs out.
+/// What is written for an expression in the place of what is no member, no chain and no such name,
+/// so that it is read by its value: `0, o.f` as a callee, and `o.f` in a statement. The only error
+/// is that memory runs out.
 pub fn preserve_indirect_access_if_needed(
     alloc: Global,
     expression: Node,

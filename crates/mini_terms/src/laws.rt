@@ -1,4 +1,5 @@
-//! That what is known of an expression is so. Each function's contract is a law, and its body is empty.
+//! That what is known of an expression is so. Each function's contract is a law, and its body is
+//! empty.
 
 ghost use Rattle.mini_terms.specs.Constant.{ConstantIsConst, ConstantTruth};
 ghost use Rattle.mini_terms.specs.Folds.{GoesOnSame, StopsSame, DoesNothing};
@@ -11,8 +12,8 @@ pub fn kind_is_sound()
     ensures { KindSound }
 {}
 
-/// An effect-free expression, asked for its value, its truth or nothing, replies and leaves the state as it was, or
-/// leaves the model.
+/// An effect-free expression, asked for its value, its truth or nothing, replies and leaves the
+/// state as it was, or leaves the model.
 pub fn effect_free_is_sound()
     ensures { EffectFreeSound }
 {}
@@ -22,7 +23,8 @@ pub fn const_is_sound()
     ensures { ConstSound }
 {}
 
-/// The constant that is calculated of an expression is its Const, and each value that it has counts as its truth by that.
+/// The constant that is calculated of an expression is its Const, and each value that it has counts
+/// as its truth by that.
 pub fn constants_are_sound()
     ensures value { ConstantIsConst }
     ensures truth { ConstantTruth }
@@ -44,8 +46,9 @@ pub fn lit_is_sound()
     ensures { LitSound }
 {}
 
-/// What is no name, no member and no chain is read by its value alone, whatever is asked; so what is the same by its value
-/// is the same everywhere, and where no reference is asked any expression is.
+/// What is no name, no member and no chain is read by its value alone, whatever is asked; so what
+/// is the same by its value is the same everywhere, and where no reference is asked any expression
+/// is.
 pub fn values_are_read()
     ensures reads { ReadByValue }
     ensures same { SameByValue }
@@ -53,8 +56,9 @@ pub fn values_are_read()
     ensures seat { SameInSeat }
 {}
 
-/// A logical expression means its right side where the left one is effect-free and known to let it be evaluated, and its left
-/// side where the right one never is. An effect-free expression statement does nothing.
+/// A logical expression means its right side where the left one is effect-free and known to let it
+/// be evaluated, and its left side where the right one never is. An effect-free expression
+/// statement does nothing.
 pub fn what_is_known_goes()
     ensures on { GoesOnSame }
     ensures stops { StopsSame }

@@ -1,5 +1,5 @@
-//! What can be known of an expression from its text: definitions, laws that they are sound over what a tree means, and the same
-//! in code.
+//! What can be known of an expression from its text: definitions, laws that they are sound over
+//! what a tree means, and the same in code.
 #![tactic(auto)]
 
 mod constants;

@@ -779,7 +779,8 @@ fn value_within(
     }
 }
 
-/// The value that an expression gives where it gives one, as far as it is calculated, whatever it does besides.
+/// The value that an expression gives where it gives one, as far as it is calculated, whatever it
+/// does besides.
 ///
 /// The only error is that memory runs out.
 pub fn given_value(alloc: Global, node: &Node) -> Result<Option<ConstantValue>, OutOfMemory>
@@ -803,7 +804,8 @@ fn kept_if(condition: bool, value: Option<ConstantValue>) -> Option<ConstantValu
     if condition { value } else { None }
 }
 
-/// The constant of an effect-free unary or binary expression, as far as it is calculated; None of any other expression.
+/// The constant of an effect-free unary or binary expression, as far as it is calculated; None of
+/// any other expression.
 ///
 /// The only error is that memory runs out.
 #[tactic(auto, using(crate::proofs::Deep::no_constant))]

@@ -1,4 +1,5 @@
-//! The names that no scope declares and whose values are known (ECMA-262, "Value Properties of the Global Object").
+//! The names that no scope declares and whose values are known (ECMA-262, "Value Properties of the
+//! Global Object").
 
 ghost use Rattle.std.specs.Prelude.{◌≡◌, ◌||◌, codes};
 ghost use Rattle.mini_model.specs.Weight.{same_text};

@@ -280,7 +280,8 @@ pub fn over_number(operator: UnaryOperator, operand: i64) -> Option<ConstantValu
     }
 }
 
-/// An operator of two numbers, but for equality (ECMA-262, "ApplyStringOrNumericBinaryOperator" and "IsLessThan").
+/// An operator of two numbers, but for equality (ECMA-262, "ApplyStringOrNumericBinaryOperator" and
+/// "IsLessThan").
 pub fn of_numbers(operator: BinaryOperator, left: i64, right: i64) -> Option<ConstantValue>
     ensures { value_in result ≡ made (operators.of_numbers operator left right) }
 {

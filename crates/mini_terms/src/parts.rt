@@ -10,7 +10,8 @@ ghost use Rattle.mini_terms.specs.Reading.{first_of, are_plain_parts};
 use mini_model::{Guard, Name, Seat, Shape, UnaryOperator, VariableDeclarationKind};
 use mini_node::{Node, Nodes};
 
-/// Whether an expression is no name, no member and no chain, so that whatever is asked of it is asked of its value.
+/// Whether an expression is no name, no member and no chain, so that whatever is asked of it is
+/// asked of its value.
 pub fn stands(node: &Node) -> bool
     ensures { result ≡ term.stands node.now }
 {
@@ -73,8 +74,8 @@ fn is_declared(name: &Option<Name>) -> bool
     }
 }
 
-/// Whether `typeof` reads an expression by its value: of names those that a scope declares, since another may be absent (ECMA-262,
-/// "The typeof Operator").
+/// Whether `typeof` reads an expression by its value: of names those that a scope declares, since
+/// another may be absent (ECMA-262, "The typeof Operator").
 pub fn is_typed_by_value(node: &Node) -> bool
     ensures { result ≡ term.is_typed_by_value node.now }
 {
@@ -168,8 +169,8 @@ fn leave_nothing(nodes: &Nodes) -> bool
     true
 }
 
-/// Whether a node that is dropped leaves nothing behind: it holds no inner expression, and declares nothing that can't be
-/// written.
+/// Whether a node that is dropped leaves nothing behind: it holds no inner expression, and declares
+/// nothing that can't be written.
 #[cycle(leaving)]
 #[tactic(auto, using(crate::proofs::Children::leaving_is, crate::proofs::Children::below))]
 pub fn leaves_nothing(node: &Node) -> bool

@@ -1,5 +1,6 @@
-//! The classes of nodes by the names that ESTree and ECMA-262 have for them. One type holds every node, and one type
-//! every list of nodes: which of the classes a node belongs to stands in its shape.
+//! The classes of nodes by the names that ESTree and ECMA-262 have for them. One type holds every
+//! node, and one type every list of nodes: which of the classes a node belongs to stands in its
+//! shape.
 
 use mini_node::{Node, Nodes};
 

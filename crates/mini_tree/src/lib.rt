@@ -1,8 +1,9 @@
-//! Syntax trees as the rest of the program speaks of them: nodes and their kinds, where they stand, what they weigh, and
-//! the options; and rules applied over a whole tree, at each node, its children first, in passes until nothing is left to do.
+//! Syntax trees as the rest of the program speaks of them: nodes and their kinds, where they stand,
+//! what they weigh, and the options; and rules applied over a whole tree, at each node, its
+//! children first, in passes until nothing is left to do.
 //!
-//! A weight is about twice the length of the text that a printer would write (`mini_model`'s `specs/Weight.antt`), and
-//! weighing takes no memory.
+//! A weight is about twice the length of the text that a printer would write (`mini_model`'s
+//! `specs/Weight.antt`), and weighing takes no memory.
 #![tactic(auto)]
 
 mod classes;

@@ -10,7 +10,7 @@ use crate::weigh::weight;
 use mini_model::{LogicalOperator, Position, Seat, Shape, UnaryOperator};
 use mini_node::Node;
 
-/// The weight of `!a` in a seat.
+/// The weight that `!a` would have in a seat.
 pub fn negation_weight(argument: &Node, seat: Seat) -> u64
     ensures { result ≡ capped (weight_at (Position.Expr seat) (negation argument.now)) }
 {
@@ -18,7 +18,7 @@ pub fn negation_weight(argument: &Node, seat: Seat) -> u64
     own.saturating_add(weight(argument, Position::Expr(seats::not_operand())))
 }
 
-/// The weight of `a && b`, `a || b` or `a ?? b` in a seat.
+/// The weight that `a && b`, `a || b` or `a ?? b` would have in a seat.
 pub fn logical_weight(operator: LogicalOperator, left: &Node, right: &Node, seat: Seat) -> u64
     ensures { result ≡ capped (weight_at (Position.Expr seat) (logical operator left.now right.now)) }
 {
@@ -27,7 +27,7 @@ pub fn logical_weight(operator: LogicalOperator, left: &Node, right: &Node, seat
         .saturating_add(weight(right, Position::Expr(seats::right_operand(operator, seat))))
 }
 
-/// The weight of `a ? b : c` in a seat.
+/// The weight that `a ? b : c` would have in a seat.
 pub fn conditional_weight(test: &Node, consequent: &Node, alternate: &Node, seat: Seat) -> u64
     ensures { result ≡ capped (weight_at (Position.Expr seat) (conditional test.now consequent.now alternate.now)) }
 {

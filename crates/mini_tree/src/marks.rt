@@ -53,6 +53,8 @@ fn is_call(shape: &Shape) -> bool
     matches!(shape, Shape::CallExpression(_))
 }
 
+/// The weight of the parentheses that an expression of this shape needs in a seat: 4, or 0 for
+/// none.
 pub fn parentheses(shape: &Shape, seat: Seat) -> u64
     ensures within { result ≤ 4 }
     ensures weight { result ≡ parentheses_of shape.now seat }
@@ -101,7 +103,8 @@ fn is_sequence(shape: &Shape) -> bool
     matches!(shape, Shape::SequenceExpression)
 }
 
-// The forms that a lighter one is wanted for.
+// The weight that an expression has on top where a lighter form of it is wanted, so that a rewrite
+// to that is lighter.
 fn awkward<C: Outlined>(shape: &Shape, children: &C, seat: Seat) -> u64
     ensures within { result ≤ 1 }
     ensures weight { result ≡ awkward_weight seat shape.now (C.below children.now) }
@@ -125,7 +128,8 @@ fn bare(seat: StmtSeat) -> u64
     }
 }
 
-/// What its place adds to a node.
+/// The weight that its place adds to a node: parentheses, and marks of forms for which a lighter
+/// one is wanted.
 pub fn place_weight<C: Outlined>(shape: &Shape, children: &C, place: Position) -> u64
     ensures { result ≡ weight_of_place place shape.now (C.below children.now) }
 {

@@ -3,12 +3,12 @@
 ghost use Rattle.std.specs.Prelude.{◌≡◌};
 ghost use Rattle.mini_tree.specs.Options.{default_options};
 
-/// Whose names stay although nothing refers to them.
+/// The kinds of expressions that keep their name although nothing refers to it.
 #[derive(Clone, Copy)]
 pub struct KeepNames {
-    /// Of function expressions.
+    /// Function expressions do.
     pub function: bool,
-    /// Of class expressions.
+    /// Class expressions do.
     pub class: bool,
 }
 
@@ -19,9 +19,9 @@ pub struct CompressOptions {
     pub sequences: bool,
     /// Declarations may be joined.
     pub join_vars: bool,
-    /// Whose names stay.
+    /// Which expressions keep a name that nothing refers to.
     pub keep_names: KeepNames,
-    /// The most passes; 0 is read as 1.
+    /// How many passes are made at most; 0 is read as 1.
     pub passes: u32,
     /// How deep the nodes of an input may nest, the program being at depth 1.
     pub max_depth: u32,
@@ -32,8 +32,8 @@ pub struct CompressOptions {
 }
 
 impl CompressOptions {
-    /// Joins statements and declarations, keeps no names, makes as many passes as it takes, reads nodes to a depth
-    /// of 120, and assumes nothing of the outside.
+    /// The default: joins statements and declarations, keeps no names, makes as many passes as it
+    /// takes, reads nodes to a depth of 120, and assumes nothing of the outside.
     pub fn new() -> CompressOptions
         ensures { result ≡ default_options }
     {

@@ -14,7 +14,7 @@ pub trait Outlined {
 
     ghost below: { Self → List Outline };
 
-    /// How many there are.
+    /// How many children there are.
     fn how_many(&self) -> usize
         ensures { result ≡ length (below self.now) };
 
@@ -119,7 +119,7 @@ fn is_first_zero(children: &Nodes) -> bool
     }
 }
 
-// Whether it is an `if` with `else`, or a list of one such alone.
+// Whether the node is an `if` with `else`, or a list of one such alone.
 #[cycle(choosing)]
 fn chooses(node: &Node) -> bool
     ensures { result ≡ (outline node.now).chooses }
@@ -142,7 +142,7 @@ fn one_choice(children: &Nodes) -> bool
     }
 }
 
-// Whether the first child is such a one.
+// Whether the first child is an `if` with `else`, or a list of one such alone.
 #[tactic(auto, using(crate::proofs::Outlines::first_choice))]
 fn first_choice(children: &Nodes) -> bool
     ensures { result ≡ first_chooses (outlines children.now) }

@@ -21,7 +21,7 @@ fn spells(units: &[u16], ascii: &[u8]) -> bool
     }
 }
 
-/// A name that is read or written.
+/// The weight of a name that is read or written.
 pub fn name_weight(x: &Name) -> u64
     ensures { result ≡ weight_of_name x.now }
 {
@@ -40,7 +40,7 @@ pub fn name_weight(x: &Name) -> u64
     }
 }
 
-/// The weight where the flag holds, and 0 where it doesn't.
+/// This weight where the flag holds, and 0 where it doesn't.
 pub fn flagged(flag: bool, weight: u64) -> u64
     ensures { result ≡ flagged_weight flag weight }
 {
@@ -54,14 +54,14 @@ pub fn twice_length(text: &Text) -> u64
     (text.len() as u64).saturating_mul(2)
 }
 
-/// A text in quotes.
+/// The weight of a text in quotes.
 pub fn quoted_weight(text: &Text) -> u64
     ensures { result ≡ capped (weight_of_quoted text.now) }
 {
     twice_length(text).saturating_add(4)
 }
 
-/// A number, with its minus.
+/// The weight of a number, with its minus.
 pub fn number_weight(value: i64) -> u64
     ensures { result ≡ 2 * length (signed_decimal value) }
 {
@@ -70,7 +70,7 @@ pub fn number_weight(value: i64) -> u64
     2 * text.len() as u64
 }
 
-/// A number with an `n` behind it.
+/// The weight of a BigInt: its digits, and the `n` behind them.
 pub fn big_int_weight(number: u128) -> u64
     ensures { result ≡ 2 * length (decimal number) + 2 }
 {
@@ -79,14 +79,14 @@ pub fn big_int_weight(number: u128) -> u64
     2 * digits.len() as u64 + 2
 }
 
-/// The commas between so many parts.
+/// The weight of the commas between that many parts.
 pub fn commas(count: usize) -> u64
     ensures { result ≡ capped (2 * (count - 1)) }
 {
     (count as u64).saturating_sub(1).saturating_mul(2)
 }
 
-/// The directives of a program or a function.
+/// The weight of the directives of a program or a function.
 pub fn directives_weight(directives: &TextList) -> u64
     ensures { result ≡ capped (weight_of_directives directives.now) }
 {
@@ -99,7 +99,7 @@ pub fn directives_weight(directives: &TextList) -> u64
     total
 }
 
-/// The quotes of a template, and what stands round its expressions.
+/// The weight of a template's backticks, and of `${}` around each of that many expressions.
 pub fn template_weight(expressions: usize) -> u64
     ensures { result ≡ capped (weight_of_template expressions) }
 {
@@ -109,7 +109,7 @@ pub fn template_weight(expressions: usize) -> u64
     (expressions as u64).saturating_mul(6).saturating_add(4)
 }
 
-/// A unary operator.
+/// The weight of a unary operator.
 pub fn unary_operator_weight(operator: UnaryOperator) -> u64
     ensures { result ≡ weight_of_unary operator }
 {
@@ -121,7 +121,7 @@ pub fn unary_operator_weight(operator: UnaryOperator) -> u64
     }
 }
 
-/// A binary operator.
+/// The weight of a binary operator.
 pub fn binary_operator_weight(operator: BinaryOperator) -> u64
     ensures { result ≡ weight_of_binary operator }
 {
@@ -143,7 +143,7 @@ pub fn binary_operator_weight(operator: BinaryOperator) -> u64
     }
 }
 
-/// The operator of an assignment.
+/// The weight of the operator of an assignment.
 pub fn assignment_operator_weight(operator: AssignmentOperator) -> u64
     ensures { result ≡ weight_of_assignment operator }
 {
@@ -161,7 +161,7 @@ pub fn assignment_operator_weight(operator: AssignmentOperator) -> u64
     }
 }
 
-/// The word of a declaration.
+/// The weight of the word with which a declaration of variables begins.
 pub fn declaring_weight(kind: VariableDeclarationKind) -> u64
     ensures { result ≡ weight_of_declaring kind }
 {
@@ -172,7 +172,7 @@ pub fn declaring_weight(kind: VariableDeclarationKind) -> u64
     }
 }
 
-/// The word of an accessor of a class.
+/// The weight of the word `get` or `set` before a method of a class; 0 for another method.
 pub fn method_kind_weight(kind: MethodDefinitionKind) -> u64
     ensures { result ≡ weight_of_method_kind kind }
 {
@@ -184,7 +184,7 @@ pub fn method_kind_weight(kind: MethodDefinitionKind) -> u64
     }
 }
 
-/// What a property of an object literal writes beside its key and its value.
+/// The weight of what a property of an object literal writes beside its key and its value.
 pub fn property_weight(kind: PropertyKind, method: bool, computed: bool) -> u64
     ensures { result ≡ weight_of_property kind method computed }
 {

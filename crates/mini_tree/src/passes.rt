@@ -11,18 +11,19 @@ use mini_model::{OutOfMemory, Position};
 use mini_node::Node;
 use std::alloc::Global;
 
-/// What passes over a program came to.
+/// What passes over a program came to, where memory was enough.
 #[derive(Clone, Copy)]
 pub struct Passes {
-    /// How many there were.
+    /// How many passes there were.
     pub passes: u32,
-    /// Whether the last one found nothing to do.
+    /// Whether the last pass found nothing to do.
     pub settled: bool,
 }
 
-/// Makes passes over a program until one finds nothing to do, or as many as the bound says (0 is read as 1). The context knows
-/// the program as the first begins, and looks at it anew before each other. The only error is that memory runs out, and then
-/// the program and the context are fit only to be dropped.
+/// Makes passes over a program until one finds nothing to do, or as many as the bound says (0 is
+/// read as 1). The context knows the program as the first begins, and looks at it anew before each
+/// other. The only error is that memory runs out, and then the program and the context are fit only
+/// to be dropped.
 pub fn run_passes<C: Context, R: Rule<C>>(
     rule: &R,
     alloc: Global,

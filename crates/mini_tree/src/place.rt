@@ -6,7 +6,7 @@ ghost use Rattle.mini_model.specs.Position.{argument_seat, whole_seat, seat_at, 
 use crate::seats;
 use mini_model::{BinaryOperator, LogicalOperator, Position, PropertyKind, Seat, Shape, StmtSeat};
 
-/// The seat at a place; a place of another kind has no mark.
+/// The seat at a place. For a place that holds no expression it is one without any mark.
 pub fn seat_at_place(place: Position) -> Seat
     ensures { result ≡ seat_at place }
 {

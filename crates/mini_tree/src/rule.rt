@@ -12,33 +12,38 @@ use mini_model::{OutOfMemory, Position};
 use mini_node::Node;
 use std::alloc::Global;
 
-/// What the calls of every rule share. It knows the options, and what it has seen of a program when it last looked.
+/// What the calls of every rule share. It knows the options, and what it has seen of a program when
+/// it last looked.
 pub trait Context {
-    /// That these are its options, and that this is the program at which it looked last.
+    /// The context's options are these, and this is the program at which it looked last.
     ghost knows: { Self → CompressOptions → Tree → Type 0 };
 
-    /// Its options.
+    /// The options under which rules work.
     fn options(&self) -> CompressOptions
         ensures { ByKnown knows self.now (λ o q. result ≡ o) };
 
-    /// Looks at a program: it then knows this one. The only error is that memory runs out, and then it is fit only to be
-    /// dropped.
+    /// Looks at a program, so that the context knows this one. The only error is that memory runs
+    /// out, and then the context is fit only to be dropped.
     fn refresh(&mut self, alloc: Global, program: &Node) -> Result<(), OutOfMemory>
         ensures { OnOk result (KnowsAnew knows self.old self.new program.now) };
 }
 
-/// What is done at a node in its place. A rule says what it may make of a tree there, and when it has nothing to do: both
-/// under the options, and over the program at which its context looked last.
+/// What is done at a node in its place. A rule says what it may make of a tree there (`gives`), and
+/// when it has nothing to do (`rests`): both under the options, and over the program at which its
+/// context looked last.
 pub trait Rule<C: Context> {
-    /// What the rule may make of a tree at a place.
+    /// Under these options, over this program and at this place, the rule may make the second tree
+    /// of the first.
     ghost gives: { CompressOptions → Tree → Position → Tree → Tree → Type 0 };
 
-    /// That it has nothing to do there.
+    /// Under these options, over this program and at this place, the rule has nothing to do at the
+    /// tree.
     ghost rests: { CompressOptions → Tree → Position → Tree → Type 0 };
 
-    /// Makes something of the node, or of a part of it, in one step or several, and answers true; or leaves it, having
-    /// nothing to do, and answers false. The context knows afterwards what it knew. The only error is that memory runs
-    /// out, and then the node and the context are fit only to be dropped.
+    /// Makes something of the node, or of a part of it, in one step or several, and answers true;
+    /// or leaves it, having nothing to do, and answers false. The context knows afterwards what it
+    /// knew. The only error is that memory runs out, and then the node and the context are fit only
+    /// to be dropped.
     fn apply(
         &self,
         alloc: Global,
@@ -50,11 +55,11 @@ pub trait Rule<C: Context> {
         ensures applied { IfOk result (λ changed. ByKnown C.knows context.old (λ o q. Applied (gives o q) (rests o q) place node.old node.new changed)) }
         ensures known { OnOk result (KnowsAsBefore C.knows context.old context.new) };
 
-    /// Wherever in a tree it makes something of a node, the whole gets lighter.
+    /// Wherever in a tree the rule makes something of a node, the whole gets lighter.
     ghost lighter: { AreLighter gives };
 }
 
-/// Two rules, the second where the first has nothing to do.
+/// Two rules as one: the second is applied where the first has nothing to do.
 pub struct Then<A, B> {
     /// The rule that comes first.
     pub first: A,

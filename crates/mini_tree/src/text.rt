@@ -53,14 +53,14 @@ fn block_weight<C: Outlined>(body: &C, place: Position) -> u64
     }
 }
 
-// What is there where a part is.
+// This weight, where the part at a place is there; else 0.
 fn where_present<C: Outlined>(children: &C, at: usize, weight: u64) -> u64
     ensures { result ≡ present_weight (C.below children.now) at weight }
 {
     if children.is_absent(at) { 0 } else { weight }
 }
 
-// The end of a declaration: in the head of a loop it has none.
+// The weight of the `;` behind a declaration; in the head of a loop there is none.
 fn declaration_end(place: Position) -> u64
     ensures { result ≡ end_of_declaration place }
 {
@@ -70,7 +70,7 @@ fn declaration_end(place: Position) -> u64
     }
 }
 
-// `function()`; the function of a method is written without the word.
+// The weight of `function()`; the function of a method is written without the word.
 fn function_word(place: Position) -> u64
     ensures { result ≡ function_weight place }
 {
@@ -94,7 +94,7 @@ fn function_text(generator: bool, directives: &TextList, place: Position) -> u64
     directives_weight(directives).saturating_add(function_word(place) + flagged(generator, 2))
 }
 
-/// What a node writes besides its children and its parentheses.
+/// The weight of what a node writes besides its children and its parentheses.
 pub fn text_weight<C: Outlined>(
     shape: &Shape,
     name: &Option<Name>,

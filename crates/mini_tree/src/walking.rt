@@ -12,8 +12,9 @@ use mini_model::{OutOfMemory, Position};
 use mini_node::Node;
 use std::alloc::Global;
 
-/// Walks over a node, its children first, and at each node applies the rule until it answers false. The answer says
-/// whether anything changed; the only error is that memory runs out, and then the node is fit only to be dropped.
+/// Walks over a node, its children first, and at each node applies the rule until it answers false.
+/// The answer says whether anything changed; the only error is that memory runs out, and then the
+/// node is fit only to be dropped.
 #[cycle(nodes)]
 pub fn walk<C: Context, R: Rule<C>>(
     rule: &R,
@@ -60,8 +61,8 @@ fn walk_children<C: Context, R: Rule<C>>(
     Ok(changed)
 }
 
-// The node itself, until the rule answers false. What the rule has made is looked at one level down as well, so that a
-// statement that becomes an expression is done in one walk.
+// The node itself, until the rule answers false. What the rule has made is looked at one level down
+// as well, so that a statement that becomes an expression is done in one walk.
 fn settle<C: Context, R: Rule<C>>(
     rule: &R,
     alloc: Global,

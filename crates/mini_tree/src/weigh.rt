@@ -11,8 +11,8 @@ use crate::text::text_weight;
 use mini_model::{Name, Position, Seat, Shape, StmtSeat};
 use mini_node::Node;
 
-/// What a node of this shape and name writes besides its children, and what its place adds; it stays at the greatest
-/// u64.
+/// The weight of what a node of this shape and name writes besides its children, and of what its
+/// place adds; it stays at the greatest u64.
 pub fn own_weight<C: Outlined>(
     shape: &Shape,
     name: &Option<Name>,

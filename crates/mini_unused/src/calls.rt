@@ -1,4 +1,5 @@
-//! Calls for one name: of a function or a class (62), of a declarator (72), and of neighbours in one declaration (71).
+//! Calls for one name: of a function or a class (62), of a declarator (72), and of neighbours in
+//! one declaration (71).
 
 ghost use Rattle.std.specs.Prelude.{◌≡◌, ◌+◌, ◌<◌, ◌^◌, true, false};
 ghost use Rattle.mini_model.specs.declared.place.Position.TheVariants.{Expr};
@@ -32,7 +33,8 @@ fn is_class(shape: &Shape) -> bool
     matches!(shape, Shape::Class(_))
 }
 
-/// `f(function g() {})` becomes `f(function () {})`, as by `remove_unused_name`. What is no function stays. The answer says whether it did.
+/// `f(function g() {})` becomes `f(function () {})`, as by `remove_unused_name`. What is no
+/// function stays. The answer says whether it did.
 pub fn try_remove_name_from_functions(node: &mut Node, options: CompressOptions) -> bool
     ensures function { row.is_function (shape_of node.old) ≡ true → (s : Seat) → Applied (switches_of options) (Expr s) node.old node.new result }
     ensures other { row.is_function (shape_of node.old) ≡ false → (node.new ≡ node.old) × (result ≡ false) }
@@ -44,7 +46,8 @@ pub fn try_remove_name_from_functions(node: &mut Node, options: CompressOptions)
     }
 }
 
-/// `f(class C {})` becomes `f(class {})`, as by `remove_unused_name`. What is no class stays. The answer says whether it did.
+/// `f(class C {})` becomes `f(class {})`, as by `remove_unused_name`. What is no class stays. The
+/// answer says whether it did.
 pub fn try_remove_name_from_classes(node: &mut Node, options: CompressOptions) -> bool
     ensures class { row.is_class (shape_of node.old) ≡ true → (s : Seat) → Applied (switches_of options) (Expr s) node.old node.new result }
     ensures other { row.is_class (shape_of node.old) ≡ false → (node.new ≡ node.old) × (result ≡ false) }
@@ -93,9 +96,11 @@ fn goes_alone(
         )
 }
 
-/// Whether 72 would take the declarator at the second place of the declaration at the first, in a list of statements with what stands outside of
-/// them, if it stood in a declaration of its own: of `let x = a(), y = b(); c(y);` it would take `x = a()`, which leaves `a();`.
-/// Where a list stands outside of them, as that of the nodes above a list further inside a body, it takes those of `var`s alone.
+/// Whether 72 would take the declarator at the second place of the declaration at the first, in a
+/// list of statements with what stands outside of them, if it stood in a declaration of its own: of
+/// `let x = a(), y = b(); c(y);` it would take `x = a()`, which leaves `a();`. Where a list stands
+/// outside of them, as that of the nodes above a list further inside a body, it takes those of
+/// `var`s alone.
 pub fn should_remove_unused_declarator(
     outside: &Node,
     list: &Node,
@@ -126,8 +131,9 @@ pub fn should_remove_unused_declarator(
     ) && !either_has_eval(outside, list)
 }
 
-/// Of a list of statements with what stands outside of them, `let x = a(), y = x.b;` becomes `let y = a().b;`, for the first such name; where
-/// a list stands outside, of a `var` alone. The answer says whether there was one.
+/// Of a list of statements with what stands outside of them, `let x = a(), y = x.b;` becomes
+/// `let y = a().b;`, for the first such name; where a list stands outside, of a `var` alone. The
+/// answer says whether there was one.
 pub fn substitute_within(outside: &Node, list: &mut Node, context: &TraverseCtx) -> bool
     requires { is_it_listed list.old ≡ true }
     ensures { row.Within (open_in outside.now (allowed context.now)) outside.now list.old list.new result }

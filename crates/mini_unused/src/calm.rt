@@ -1,4 +1,5 @@
-//! Whether an expression ends no chain that it stands in: each optional link in it stands in a chain of its own.
+//! Whether an expression ends no chain that it stands in: each optional link in it stands in a
+//! chain of its own.
 
 ghost use Rattle.std.specs.Prelude.{◌≡◌};
 ghost use Rattle.mini_model.specs.Tree.{shape_of};
@@ -7,8 +8,9 @@ ghost use Rattle.mini_rows.specs.Chains.{is_closed_shape, is_open_shape, is_calm
 use mini_model::Shape;
 use mini_node::{Node, Nodes};
 
-// What runs inside it, if anything does, ends no chain around it: a name, a constant, `this`, what is absent, a function or a class, what
-// the world evaluates whole, a pattern that assigns, and a chain of its own.
+// What runs inside it, if anything does, ends no chain around it: a name, a constant, `this`, what
+// is absent, a function or a class, what the world evaluates whole, a pattern that assigns, and a
+// chain of its own.
 fn is_closed(node: &Node) -> bool
     ensures { result ≡ is_closed_shape (shape_of node.now) }
 {
@@ -42,7 +44,8 @@ fn is_closed(node: &Node) -> bool
     )
 }
 
-// It ends no chain where its parts end none: a link without `?.`, an operator, an array, an object or a template, and a list.
+// It ends no chain where its parts end none: a link without `?.`, an operator, an array, an object
+// or a template, and a list.
 fn is_open(node: &Node) -> bool
     ensures { result ≡ is_open_shape (shape_of node.now) }
 {
@@ -71,7 +74,8 @@ fn is_open(node: &Node) -> bool
     )
 }
 
-/// Whether in an expression each optional link stands in a chain of its own, so that it ends no chain that it stands in.
+/// Whether in an expression each optional link stands in a chain of its own, so that it ends no
+/// chain that it stands in.
 #[cycle(calmness)]
 #[tactic(auto, using(crate::proofs::CalmParts::calm_is, crate::proofs::CalmParts::calm_below))]
 pub fn is_calm(node: &Node) -> bool

@@ -1,5 +1,5 @@
-//! Row 63: `catch (e) { f(); }` becomes `catch { f(); }`, where nothing in the body has e's spelling or its symbol and no direct eval
-//! stands there. It is lighter in every place.
+//! Row 63: `catch (e) { f(); }` becomes `catch { f(); }`, where nothing in the body has e's
+//! spelling or its symbol and no direct eval stands there. It is lighter in every place.
 
 ghost use Rattle.std.specs.Prelude.{◌≡◌, ◌<◌, true};
 ghost use Rattle.mini_model.specs.declared.place.Position.TheVariants.{Elsewhere};
@@ -39,7 +39,8 @@ fn loses_name(node: &Node) -> bool
         && is_unseen(node.child(0).name(), node.child(1))
 }
 
-/// A `catch` loses the name of what it catches, where nothing in its body mentions that. The answer says whether it did.
+/// A `catch` loses the name of what it catches, where nothing in its body mentions that. The answer
+/// says whether it did.
 pub fn substitute_catch_clause(node: &mut Node) -> bool
     ensures { Applied Elsewhere node.old node.new result }
 {

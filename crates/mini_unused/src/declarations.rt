@@ -1,6 +1,7 @@
-//! Row 72 of a list of statements: `let x = a(); b();` becomes `a(); b();`, and `let x = 1, y = b(); c(y);` becomes `let y = b(); c(y);`,
-//! where nothing else in the list or in what stands outside of it has x's spelling or its symbol and no direct eval stands there; and of a
-//! `var` whose name can be written, too. What holds such a list is asked in `mini_inside`.
+//! Row 72 of a list of statements: `let x = a(); b();` becomes `a(); b();`, and
+//! `let x = 1, y = b(); c(y);` becomes `let y = b(); c(y);`, where nothing else in the list or in
+//! what stands outside of it has x's spelling or its symbol and no direct eval stands there; and of
+//! a `var` whose name can be written, too. What holds such a list is asked in `mini_inside`.
 
 ghost use Rattle.std.specs.Prelude.{◌≡◌, ◌+◌, ◌<◌, ◌^◌, true, IfOk, OnOk};
 ghost use Rattle.mini_laws.specs.Naming.{is_lexical as is_it_lexical};
@@ -91,8 +92,8 @@ pub fn is_var(node: &Node) -> bool
     declares_list(node) && !is_lexical(node.shape())
 }
 
-/// A declaration from which names may go: where what stands outside of the statements is a list, as that of the nodes above a list further
-/// inside a body, these are `var`s alone.
+/// A declaration from which names may go: where what stands outside of the statements is a list, as
+/// that of the nodes above a list further inside a body, these are `var`s alone.
 pub fn may_declare(outside: &Node, node: &Node) -> bool
     ensures kind { result ≡ may_it_declare outside.now node.now }
     ensures declares { result ≡ true → it_declares_list node.now ≡ true }
@@ -125,7 +126,8 @@ fn may_write(name: &Option<Name>, context: &TraverseCtx) -> bool
     }
 }
 
-/// A name that a `let` or a `const` declares, or, in a function's statements, one that can be written.
+/// A name that a `let` or a `const` declares, or, in a function's statements, one that can be
+/// written.
 #[tactic(auto, using(crate::proofs::Unused::open_name))]
 pub fn may_lose(is_free: bool, name: &Option<Name>, outside: &Node, context: &TraverseCtx) -> bool
     ensures { result ≡ row.may_lose is_free (open_in outside.now (allowed context.now)) (names name.now) }
@@ -133,22 +135,25 @@ pub fn may_lose(is_free: bool, name: &Option<Name>, outside: &Node, context: &Tr
     is_free || !shows_vars(outside.shape()) && may_write(name, context)
 }
 
-/// An initializer that nothing misses: none, or an expression that has no effect and leaves nothing behind.
+/// Whether nothing is lost with an initializer: there is none, or it is an expression that has no
+/// effect and leaves nothing behind.
 pub fn is_idle(init: &Node) -> bool
     ensures { result ≡ is_it_idle init.now }
 {
     is_absent_part(init) || declares_nothing(init) && has_no_effect(init) && leaves_nothing(init)
 }
 
-/// Of a declarator that goes nothing misses the initializer, or it is the only one of the list and leaves an expression.
+/// Whether a declarator with this initializer may go from its list: nothing is lost with the
+/// initializer, or the declarator is the only one of the list, so that the initializer stays as an
+/// expression.
 pub fn may_go(init: &Node, list: &Node) -> bool
     ensures { result ≡ row.may_go init.now list.now }
 {
     is_idle(init) || list.is_bare(1) && declares_nothing(init)
 }
 
-// Whether the name stands neither in its initializer, nor in the other declarators, nor in the other statements. What follows is looked at
-// first: a name that is used mostly is soon.
+// Whether the name stands neither in its initializer, nor in the other declarators, nor in the
+// other statements. What follows is looked at first: a name that is used mostly is soon.
 fn is_alone_inside(
     name: &Name,
     init: &Node,
@@ -170,7 +175,9 @@ fn is_alone_inside(
         && !is_mentioned_before(name, statements, at)
 }
 
-/// Nor outside of the statements, where is looked last: that may be all of a body.
+/// Whether nothing else mentions the name of a declarator: neither its initializer, nor the other
+/// declarators, nor the other statements, nor what stands outside of them. The latter is looked at
+/// last: it may be all of a body.
 #[tactic(auto, using(crate::proofs::Unused::last_true, crate::proofs::Unused::last_false))]
 pub fn is_alone(
     name: &Option<Name>,
@@ -248,7 +255,8 @@ fn unused_in(
     None
 }
 
-/// Of the statement, where it is a declaration.
+/// The place of the first declarator of the statement whose name nothing else mentions, where that
+/// is a declaration and has such a one.
 pub fn unused_of(
     outside: &Node,
     statements: &Nodes,
@@ -317,7 +325,8 @@ pub fn take_declarator(declaration: &mut Node, which: usize) -> Node
     declarator
 }
 
-// `a();` for `let x = a();`, `;` for `let x;` and `let x = 1;`, and the others where there are some.
+// `a();` for `let x = a();`, `;` for `let x;` and `let x = 1;`, and the others where there are
+// some.
 fn statement_left(alloc: Global, mut declaration: Node, which: usize) -> Result<Node, OutOfMemory>
     requires list { 0 < count (children declaration) }
     requires declarator { which < count (children (part declaration 0)) }
@@ -357,8 +366,9 @@ pub fn drop_in_list(
     Ok(())
 }
 
-/// Of a list of statements, with what stands outside of them, each name goes that nothing else mentions, or that is read once, from the
-/// first of them on: where that is a list itself, the names of `var`s alone. The answer says whether one did.
+/// Of a list of statements, with what stands outside of them, each name goes that nothing else
+/// mentions, or that is read once, from the first of them on: where that is a list itself, the
+/// names of `var`s alone. The answer says whether one did.
 pub fn remove_in_list(
     alloc: Global,
     outside: &Node,

@@ -45,7 +45,7 @@ fn is_eval_call(shape: &Shape, nodes: &[Node]) -> bool
     }
 }
 
-/// Whether one stands in a tree.
+/// Whether a direct eval stands in a tree.
 #[cycle(evals)]
 pub fn has_eval(node: &Node) -> bool
     ensures { result ≡ scopes.has_eval node.now }
@@ -53,7 +53,7 @@ pub fn has_eval(node: &Node) -> bool
     is_eval_call(node.shape(), node.parts()) || any_has_eval(node.children(), 0)
 }
 
-/// Whether one stands in one of these nodes, from an index on.
+/// Whether a direct eval stands in one of these nodes, from an index on.
 #[cycle(evals)]
 pub fn any_has_eval(nodes: &Nodes, from: usize) -> bool
     ensures { result ≡ scopes.any_has_eval (rest_children from nodes.now) }
@@ -66,7 +66,7 @@ pub fn any_has_eval(nodes: &Nodes, from: usize) -> bool
     false
 }
 
-/// Whether one stands in one of two.
+/// Whether a direct eval stands in one of two trees.
 pub fn either_has_eval(left: &Node, right: &Node) -> bool
     ensures { result ≡ (scopes.has_eval left.now || scopes.has_eval right.now) }
 {

@@ -1,4 +1,5 @@
-//! Where a variable is read before all else, for 71: in `x + b`, in `a(x)` behind `a`, in `[1, x]`, and nowhere in `() => x`.
+//! Where a variable is read before all else, for 71: in `x + b`, in `a(x)` behind `a`, in `[1, x]`,
+//! and nowhere in `() => x`.
 
 ghost use Rattle.std.specs.Prelude.{◌≡◌, ◌+◌, ◌<◌, ◌≤◌, true, false, None};
 ghost use Rattle.mini_model.specs.Tree.{children, count};
@@ -15,7 +16,8 @@ use mini_node::{Node, Nodes, is_identifier};
 // The units of `__proto__`.
 const PROTO: [u16; 9] = [95, 95, 112, 114, 111, 116, 111, 95, 95];
 
-// What evaluates this part, its first one, before all else, and asks for its value, for what is called, or for what `typeof` reads.
+// What evaluates this part, its first one, before all else, and asks for its value, for what is
+// called, or for what `typeof` reads.
 fn begins(shape: &Shape, node: &Node) -> bool
     ensures { result ≡ reading.begins shape.now node.now }
 {
@@ -61,8 +63,8 @@ fn goes_on(shape: &Shape) -> bool
     )
 }
 
-// What evaluates its first part, or what is assigned to, or a key, and then, if at all, the second, and asks for the second's value
-// alone.
+// What evaluates its first part, or what is assigned to, or a key, and then, if at all, the second,
+// and asks for the second's value alone.
 fn may_go_on(shape: &Shape) -> bool
     ensures { result ≡ reading.may_go_on shape.now }
 {
@@ -85,13 +87,15 @@ fn has_branches(shape: &Shape) -> bool
     matches!(shape, Shape::ConditionalExpression)
 }
 
+/// Whether a node of this shape is a list of parts.
 pub fn is_listed_shape(shape: &Shape) -> bool
     ensures { result ≡ is_it_listed_shape shape.now }
 {
     matches!(shape, Shape::Listed)
 }
 
-// An expression, which evaluates this part, at the place, after those before it, if at all, or a list of parts.
+// An expression, which evaluates this part, at the place, after those before it, if at all, or a
+// list of parts.
 #[tactic(auto, using(crate::proofs::SingleUses::leads_further))]
 fn leads(in_list: bool, shape: &Shape, at: usize, node: &Node) -> bool
     ensures { result ≡ reading.leads in_list shape.now at node.now }
@@ -207,7 +211,8 @@ pub fn is_short(shape: &Shape) -> bool
     )
 }
 
-// A shorthand property can be written in full: its value is a name alone, and its key isn't `__proto__`. All else is in full.
+// A shorthand property can be written in full: its value is a name alone, and its key isn't
+// `__proto__`. All else is in full.
 fn can_be_full(node: &Node) -> bool
     ensures { result ≡ reading.can_be_full node.now }
 {
@@ -222,7 +227,8 @@ fn may_hold(node: &Node) -> bool
     node.is_nameless() && can_be_full(node)
 }
 
-// A node without a name and a number, which evaluates the part at the place after those before it, in full, or it can be.
+// A node without a name and a number, which evaluates the part at the place after those before it,
+// in full, or it can be.
 fn may_lead(in_list: bool, node: &Node, at: usize) -> bool
     requires { at < count (children node.now) }
     ensures { result ≡ row.may_lead in_list node.now at }
@@ -230,7 +236,8 @@ fn may_lead(in_list: bool, node: &Node, at: usize) -> bool
     leads(in_list, node.shape(), at, node.child(at)) && may_hold(node)
 }
 
-/// An expression, or a list of parts, reads the variable after the parts that stand before, and nothing else in it mentions the name.
+/// An expression, or a list of parts, reads the variable after the parts that stand before, and
+/// nothing else in it mentions the name.
 #[tactic(auto, using(crate::proofs::SingleUses::first_leaf))]
 pub fn is_first(name: &Name, in_list: bool, node: &Node) -> bool
     ensures { result ≡ reading.is_first name.now in_list node.now }

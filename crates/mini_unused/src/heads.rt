@@ -1,5 +1,5 @@
-//! What may stand right after a declaration, for 71, and reads its name before all else: `return x;`, `let y = x.b;`, `switch (x) { .. }`,
-//! `for (const y of x) ..`.
+//! What may stand right after a declaration, for 71, and reads its name before all else:
+//! `return x;`, `let y = x.b;`, `switch (x) { .. }`, `for (const y of x) ..`.
 
 ghost use Rattle.std.specs.Prelude.{◌≡◌, ◌<◌, true, false};
 ghost use Rattle.mini_model.specs.Tree.{children, count};
@@ -30,7 +30,8 @@ fn is_head(node: &Node) -> bool
     has_shape && node.is_nameless()
 }
 
-// So does a statement.
+// A statement that evaluates its first part before all else reads the variable first in that, and
+// nothing else in it mentions the name.
 #[tactic(auto, using(crate::proofs::SingleUses::no_part, crate::proofs::SingleUses::no_head))]
 fn reads_first(name: &Name, node: &Node) -> bool
     ensures { result ≡ reading.reads_first name.now node.now }
@@ -185,8 +186,8 @@ fn first_value(node: &Node) -> &Node
     node.child(0).child(0).child(1)
 }
 
-/// What a head evaluates: of a declaration, and of a `var` that begins a `for`, the first initializer, and of a loop over keys or values its
-/// right side.
+/// What a head evaluates: of a declaration, and of a `var` that begins a `for`, the first
+/// initializer, and of a loop over keys or values its right side.
 pub fn evaluated(node: &Node) -> &Node
     ensures { result.now ≡ reading.evaluated node.now }
 {
@@ -279,7 +280,8 @@ fn is_closed(node: &Node) -> bool
         || (is_value_operator(node.shape()) && (node.is_bare(1) && is_literal(node.child(0))))
 }
 
-/// A head reads it, after parts that pass the initializer, and takes that: a loop that hides its names first takes a constant alone.
+/// A head reads it, after parts that pass the initializer, and takes that: a loop that hides its
+/// names first takes a constant alone.
 pub fn takes(name: &Name, init: &Node, node: &Node) -> bool
     ensures { result ≡ reading.takes name.now init.now node.now }
 {

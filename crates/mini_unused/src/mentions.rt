@@ -10,12 +10,14 @@ ghost use Rattle.mini_rows.specs.Unused.{any_names, is_like_one, names};
 use mini_model::{Name, SymbolId, Text};
 use mini_node::{Node, Nodes};
 
+/// Whether the two texts are equal, unit by unit.
 pub fn is_same_text(left: &Text, right: &Text) -> bool
     ensures { result ≡ same_text left.now right.now }
 {
     left.as_slice() == right.as_slice()
 }
 
+/// Whether the two symbols are equal, or both are absent.
 pub fn is_same_symbol(left: Option<SymbolId>, right: Option<SymbolId>) -> bool
     ensures { result ≡ is_same left right }
 {
@@ -26,9 +28,9 @@ pub fn is_same_symbol(left: Option<SymbolId>, right: Option<SymbolId>) -> bool
     }
 }
 
-// Whether the other has the spelling of the name, or its symbol.
+/// Whether the other has the spelling of the name, or its symbol.
 #[tactic(auto, using(crate::proofs::Standing::or_none))]
-fn is_like(name: &Name, other: &Option<Name>) -> bool
+pub fn is_like(name: &Name, other: &Option<Name>) -> bool
     ensures { result ≡ is_like_one name.now (names_in other.now) }
 {
     match other {
@@ -48,7 +50,8 @@ pub fn is_mentioned(name: &Name, node: &Node) -> bool
     is_like(name, node.name()) || is_mentioned_from(name, node.children(), 0)
 }
 
-/// Whether one stands in one of these nodes, from an index on.
+/// Whether a name that has the spelling of this one, or its symbol, stands in one of these nodes,
+/// from an index on.
 #[cycle(mentions)]
 pub fn is_mentioned_from(name: &Name, nodes: &Nodes, from: usize) -> bool
     ensures { result ≡ any_names name.now (rest_children from nodes.now) }
@@ -61,7 +64,8 @@ pub fn is_mentioned_from(name: &Name, nodes: &Nodes, from: usize) -> bool
     false
 }
 
-/// Whether one stands in one of those before an index.
+/// Whether a name that has the spelling of this one, or its symbol, stands in one of these nodes,
+/// before an index.
 pub fn is_mentioned_before(name: &Name, nodes: &Nodes, end: usize) -> bool
     requires { end ≤ count nodes.now }
     ensures { result ≡ any_names name.now (first_children end nodes.now) }

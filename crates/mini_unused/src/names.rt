@@ -1,6 +1,7 @@
-//! Row 62: `f(function g() { return 1; })` becomes `f(function () { return 1; })`, and `f(class C {})` becomes `f(class {})`, where
-//! nothing in the function or class has the name's spelling or its symbol, no direct eval stands there, and the options let such
-//! names go. It is lighter in every place.
+//! Row 62: `f(function g() { return 1; })` becomes `f(function () { return 1; })`, and
+//! `f(class C {})` becomes `f(class {})`, where nothing in the function or class has the name's
+//! spelling or its symbol, no direct eval stands there, and the options let such names go. It is
+//! lighter in every place.
 
 ghost use Rattle.std.specs.Prelude.{◌≡◌, ◌<◌, true};
 ghost use Rattle.mini_model.specs.declared.place.Position.TheVariants.{Expr};
@@ -70,8 +71,8 @@ fn loses_name(node: &Node, options: CompressOptions) -> bool
         && is_unseen(node.child(0).name(), node.children())
 }
 
-/// A function or class expression loses its name where nothing in it mentions that and the options let it go. The answer says whether it
-/// did.
+/// A function or class expression loses its name where nothing in it mentions that and the options
+/// let it go. The answer says whether it did.
 pub fn remove_unused_name(node: &mut Node, options: CompressOptions) -> bool
     ensures { (s : Seat) → Applied (switches_of options) (Expr s) node.old node.new result }
 {

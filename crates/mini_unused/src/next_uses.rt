@@ -1,6 +1,6 @@
-//! Row 71 in one declaration: `{ let x = a(), y = x.b; c(y); }` becomes `{ let y = a().b; c(y); }`, where the next declarator
-//! evaluates x after parts that may be evaluated before the initializer, nothing else in the block has its spelling or its symbol, and no direct eval stands
-//! there.
+//! Row 71 in one declaration: `{ let x = a(), y = x.b; c(y); }` becomes `{ let y = a().b; c(y); }`,
+//! where the next declarator evaluates x after parts that may be evaluated before the initializer,
+//! nothing else in the block has its spelling or its symbol, and no direct eval stands there.
 
 ghost use Rattle.std.specs.Prelude.{◌≡◌, ◌+◌, ◌<◌, ◌^◌, true, None, IfOk};
 ghost use Rattle.mini_model.specs.Tree.{children, count};
@@ -32,7 +32,8 @@ pub fn is_declarator(node: &Node) -> bool
     matches!(node.shape(), Shape::VariableDeclarator) && node.is_bare(2)
 }
 
-/// Whether the name stands in the initializer, in what the next declarator declares, or in another declarator.
+/// Whether the name stands in the declarator's own initializer, in what the next declarator
+/// declares, or in another declarator.
 pub fn is_mentioned_beside(
     name: &Name,
     declarator: &Node,
@@ -52,7 +53,7 @@ pub fn is_mentioned_beside(
         || is_mentioned_from(name, declarators, which + 2)
 }
 
-/// Whether it stands in another statement.
+/// Whether the name stands in another statement than the one at the place.
 pub fn is_mentioned_elsewhere(name: &Name, statements: &Nodes, at: usize) -> bool
     requires statement { at < count statements.now }
     requires fits { at + 1 < 2 ^ 64 }
@@ -183,7 +184,8 @@ fn next_in(
     None
 }
 
-/// Of the statement, where it is a declaration.
+/// The place of the first declarator of the statement whose name the next one reads first, and
+/// which nothing else mentions, where the statement is a declaration and has such a one.
 pub fn next_of(
     outside: &Node,
     statements: &Nodes,
@@ -209,8 +211,8 @@ pub fn next_of(
     )
 }
 
-/// The first declaration that has a name which its next declarator reads first, and which nothing else mentions, and the declarator's
-/// place in it.
+/// The first declaration that has a name which its next declarator reads first, and which nothing
+/// else mentions, and the declarator's place in it.
 pub fn next_at(outside: &Node, statements: &Nodes, context: &TraverseCtx) -> Option<(usize, usize)>
     ensures { NextAt (open_in outside.now (allowed context.now)) outside.now statements.now result }
 {
@@ -222,7 +224,8 @@ pub fn next_at(outside: &Node, statements: &Nodes, context: &TraverseCtx) -> Opt
     None
 }
 
-// In the declarator at the index a tree goes in the place of what its initializer reads of the name.
+// In the declarator at the index a tree goes in the place of what its initializer reads of the
+// name.
 #[tactic(auto, using(crate::proofs::Unused::same_parts, crate::proofs::Unused::part_twice))]
 fn put_initial(list: &mut Node, which: usize, name: &Option<Name>, value: Node)
     requires declarator { which < count (children list.old) }
@@ -248,7 +251,8 @@ fn substitute_in_declarators(list: &mut Node, which: usize)
     discard(binding);
 }
 
-/// Of a list of statements, `let x = a(), y = x.b;` becomes `let y = a().b;`, and so it does at the head of a `for`.
+/// Of a list of statements, `let x = a(), y = x.b;` becomes `let y = a().b;`, and so it does at the
+/// head of a `for`.
 #[tactic(auto, using(crate::proofs::Unused::same_parts, crate::proofs::Unused::part_twice, crate::proofs::NextUses::two_parts, crate::proofs::NextUses::declarator_parts))]
 pub fn substitute_next(list: &mut Node, at: usize, which: usize)
     requires statement { at < count (children list.old) }
@@ -265,9 +269,10 @@ pub fn substitute_next(list: &mut Node, at: usize, which: usize)
     put_child(list, at, declaration);
 }
 
-/// Of a list of statements in which no name is unused, and none that the next statement reads alone, with what stands outside of them,
-/// `let x = a(), y = x.b;` becomes `let y = a().b;`, as often as there is one. The answer says whether there was; the only error is that
-/// memory runs out.
+/// Of a list of statements in which no name is unused, and none that the next statement reads
+/// alone, with what stands outside of them, `let x = a(), y = x.b;` becomes `let y = a().b;`, as
+/// often as there is one. The answer says whether there was; the only error is that memory runs
+/// out.
 pub fn substitute_next_uses(
     alloc: Global,
     outside: &Node,

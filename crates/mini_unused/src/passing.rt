@@ -1,5 +1,5 @@
-//! What is evaluated before a variable is read, for 71, and whether the initializer may be evaluated behind that: `a() + x` has `a()`, which only a
-//! constant passes.
+//! What is evaluated before a variable is read, for 71, and whether the initializer may be
+//! evaluated behind that: `a() + x` has `a()`, which only a constant passes.
 
 ghost use Rattle.std.specs.Prelude.{◌≡◌, ◌≤◌, true, false};
 ghost use Rattle.mini_model.specs.Tree.{children, count, shape_of};
@@ -41,7 +41,7 @@ pub fn is_value_operator(shape: &Shape) -> bool
     )
 }
 
-/// The same value whenever it is evaluated.
+/// Whether the expression has the same value whenever it is evaluated.
 #[tactic(auto, using(crate::proofs::SingleUses::constant_literal, crate::proofs::SingleUses::constant_operator, crate::proofs::SingleUses::no_operator, crate::proofs::SingleUses::no_constant))]
 pub fn is_constant(node: &Node) -> bool
     ensures { result ≡ reading.is_constant node.now }
@@ -84,14 +84,14 @@ pub fn is_word(shape: &Shape) -> bool
     )
 }
 
-// So may the key of a member.
+// The key of a member may be evaluated before the initializer rather than after.
 fn passes_word(init: &Node, node: &Node) -> bool
     ensures { result ≡ reading.passes_word init.now node.now }
 {
     is_word(node.shape()) || passes(init, node)
 }
 
-// So may a member that `=` assigns to.
+// A member that `=` assigns to may be evaluated before the initializer.
 fn passes_member(init: &Node, operator: &AssignmentOperator, node: &Node) -> bool
     ensures { result ≡ reading.passes_member init.now operator.now node.now }
 {
@@ -100,7 +100,8 @@ fn passes_member(init: &Node, operator: &AssignmentOperator, node: &Node) -> boo
             && (passes(init, node.child(0)) && passes_word(init, node.child(1))))
 }
 
-// And what else is assigned to: a name, of which `=` reads nothing before the right side.
+// What is assigned to may be evaluated before the initializer: a name, of which `=` reads nothing
+// before the right side, or such a member.
 fn passes_target(init: &Node, operator: &AssignmentOperator, node: &Node) -> bool
     ensures { result ≡ reading.passes_target init.now operator.now node.now }
 {
@@ -110,14 +111,15 @@ fn passes_target(init: &Node, operator: &AssignmentOperator, node: &Node) -> boo
                 && (is_plain_assignment(operator) || is_effect_free(init, true))))
 }
 
-// So may the key of a property.
+// The key of a property may be evaluated before the initializer.
 fn passes_key(init: &Node, is_computed: bool, node: &Node) -> bool
     ensures { result ≡ reading.passes_key init.now is_computed node.now }
 {
     is_constant(init) || (!is_computed && is_word(node.shape()))
 }
 
-// So may the test of a conditional; where the second branch is evaluated, the first isn't.
+// The test of a conditional may be evaluated before the initializer; where the second branch is
+// evaluated, the first isn't.
 #[tactic(auto, using(crate::proofs::SingleUses::branch_further))]
 fn passes_branch(init: &Node, at: usize, node: &Node) -> bool
     ensures { result ≡ reading.passes_branch init.now at node.now }
@@ -139,21 +141,23 @@ pub fn is_field(node: &Node) -> bool
     ) && (node.is_bare(2) && is_word(node.child(0).shape()))
 }
 
-/// Entries are.
+/// Whether entries are gathered.
 pub fn of_entries(gathered: Gathered) -> bool
     ensures { result ≡ reading.of_entries gathered }
 {
     matches!(gathered, Gathered::Entries)
 }
 
-// So may what is converted to a text: of a primitive value that runs nothing, and doesn't throw.
+// What is converted to a text may be evaluated before the initializer: it is of a primitive value,
+// runs nothing and doesn't throw.
 fn passes_text(init: &Node, node: &Node) -> bool
     ensures { result ≡ reading.passes_text init.now node.now }
 {
     is_constant(init) || (passes(init, node) && is_primitive(kind_of(node)))
 }
 
-// So may an item of a list, by what is gathered: where entries are, of a property its value.
+// An item of a list may be evaluated before the initializer, by what is gathered: where entries
+// are, the value of a property.
 #[tactic(auto, using(crate::proofs::SingleUses::values_pass))]
 fn passes_item(gathered: Gathered, init: &Node, node: &Node) -> bool
     ensures { result ≡ reading.passes_item gathered init.now node.now }
@@ -167,7 +171,7 @@ fn passes_item(gathered: Gathered, init: &Node, node: &Node) -> bool
     }
 }
 
-// So may what stands before the read, at a place of such a shape.
+// What stands before the read, at a place of such a shape, may be evaluated before the initializer.
 fn passes_at(gathered: Gathered, init: &Node, shape: &Shape, at: usize, node: &Node) -> bool
     ensures { result ≡ reading.passes_at gathered init.now shape.now at node.now }
 {
@@ -181,7 +185,7 @@ fn passes_at(gathered: Gathered, init: &Node, shape: &Shape, at: usize, node: &N
     }
 }
 
-// So may each of those before the place.
+// Each of the parts before the place may be evaluated before the initializer.
 fn all_pass(gathered: Gathered, init: &Node, shape: &Shape, nodes: &Nodes, end: usize) -> bool
     requires { end ≤ count nodes.now }
     ensures { result ≡ row.all_pass gathered init.now shape.now 0 (first_children end nodes.now) }
@@ -194,7 +198,8 @@ fn all_pass(gathered: Gathered, init: &Node, shape: &Shape, nodes: &Nodes, end: 
     true
 }
 
-// What evaluates the part behind its first one whatever that gives; where the initializer has no effect, it may be left out.
+// What evaluates the part behind its first one whatever that gives; where the initializer has no
+// effect, it may be left out.
 fn is_sure(init: &Node, shape: &Shape) -> bool
     ensures { result ≡ reading.is_sure (is_it_effect_free init.now) shape.now }
 {
@@ -223,7 +228,8 @@ fn is_placed(gathered: Gathered, init: &Node, shape: &Shape) -> bool
     }
 }
 
-// The part at the place is evaluated whatever those before it are, or the initializer is a constant or has no effect.
+// The part at the place is evaluated whatever those before it are, or the initializer is a constant
+// or has no effect.
 #[tactic(auto, using(crate::proofs::SingleUses::reached_further))]
 fn is_reached(gathered: Gathered, init: &Node, shape: &Shape, at: usize) -> bool
     ensures { result ≡ row.is_reached_at gathered init.now shape.now at }
@@ -251,8 +257,8 @@ fn is_called_by_value(node: &Node) -> bool
     }
 }
 
-// The initializer may stand in the place of a name that is its first part: a number under `-` would be another literal, and `typeof`
-// and a call read more of some expressions than their value.
+// The initializer may stand in the place of a name that is its first part: a number under `-` would
+// be another literal, and `typeof` and a call read more of some expressions than their value.
 fn suits_under(init: &Node, shape: &Shape) -> bool
     ensures { result ≡ reading.suits_under init.now shape.now }
 {
@@ -285,7 +291,8 @@ fn suits_in(init: &Node, shape: &Shape) -> bool
     }
 }
 
-/// So it may, where the read is that.
+/// Whether the initializer may stand in what this node reads of the name: in the place of a name
+/// that is its first part, and in a chain, which it must not end.
 pub fn suits(name: &Name, init: &Node, node: &Node) -> bool
     ensures { result ≡ reading.suits name.now init.now (shape_of node.now) (children node.now) }
 {
@@ -293,7 +300,8 @@ pub fn suits(name: &Name, init: &Node, node: &Node) -> bool
         && suits_in(init, node.shape())
 }
 
-// The part at the place is reached, those before it may be evaluated before the initializer, which may stand there.
+// The part at the place is reached, those before it may be evaluated before the initializer, which
+// may stand there.
 fn may_reach(name: &Name, gathered: Gathered, init: &Node, node: &Node, at: usize) -> bool
     requires { at ≤ count (children node.now) }
     ensures { result ≡ row.may_reach name.now gathered init.now node.now at }
@@ -338,7 +346,8 @@ fn gathered_by(shape: &Shape, at: usize) -> Gathered
     gathered_second(shape)
 }
 
-/// A list asks its items for what it is asked itself.
+/// What is asked of the part at a place of a node of this shape: a list asks its items for what it
+/// is asked itself.
 pub fn gathered_below(gathered: Gathered, shape: &Shape, at: usize) -> Gathered
     ensures { result ≡ reading.gathered_below gathered shape.now at }
 {
@@ -349,8 +358,9 @@ pub fn gathered_below(gathered: Gathered, shape: &Shape, at: usize) -> Gathered
     }
 }
 
-// Each part that is evaluated before the variable is read may be evaluated before the initializer, the read is reached whatever they
-// are, or nothing is lost where it isn't, and the initializer may stand in its place.
+// Each part that is evaluated before the variable is read may be evaluated before the initializer,
+// the read is reached whatever they are, or nothing is lost where it isn't, and the initializer may
+// stand in its place.
 #[tactic(auto, using(crate::proofs::SingleUses::smaller_at))]
 fn are_passed_in(name: &Name, gathered: Gathered, init: &Node, node: &Node) -> bool
     ensures { result ≡ reading.are_passed_in name.now gathered init.now node.now }
@@ -370,14 +380,16 @@ fn are_passed_in(name: &Name, gathered: Gathered, init: &Node, node: &Node) -> b
     )
 }
 
-/// Of which a value is asked, where both nest so that one may be put into the other.
+/// Whether the initializer may be put where an expression, of which the value is asked, reads the
+/// name: each part that is evaluated before the read may be evaluated before the initializer, and
+/// both nest so that one may be put into the other.
 pub fn are_passed(name: &Name, init: &Node, node: &Node) -> bool
     ensures { result ≡ reading.are_passed name.now init.now node.now }
 {
     are_passed_in(name, Gathered::Values, init, node) && fits_in(init, node)
 }
 
-/// An expression reads the variable, after parts that pass the initializer.
+/// Whether an expression reads the variable first, after parts that pass the initializer.
 pub fn reads_in(name: &Name, init: &Node, value: &Node) -> bool
     ensures { result ≡ it_reads_in name.now init.now value.now }
 {

@@ -1,7 +1,8 @@
-//! Row 71: `{ const x = a(); return x + b; }` becomes `{ ; return a() + b; }`, `{ let a, x = b(); return x; }` becomes
-//! `{ let a; return b(); }`, and `{ let x = a(); const y = x.b; c(y); }` becomes `{ ; const y = a().b; c(y); }`, where the parts that the
-//! next statement evaluates before x may be evaluated before the initializer, nothing else in the block has its spelling or its symbol, and
-//! no direct eval stands there.
+//! Row 71: `{ const x = a(); return x + b; }` becomes `{ ; return a() + b; }`,
+//! `{ let a, x = b(); return x; }` becomes `{ let a; return b(); }`, and
+//! `{ let x = a(); const y = x.b; c(y); }` becomes `{ ; const y = a().b; c(y); }`, where the parts
+//! that the next statement evaluates before x may be evaluated before the initializer, nothing else
+//! in the block has its spelling or its symbol, and no direct eval stands there.
 
 ghost use Rattle.std.specs.Prelude.{◌≡◌, ◌+◌, ◌<◌, ◌^◌, true, false, None, IfOk, if◌then◌else◌};
 ghost use Rattle.mini_model.specs.Tree.{child_or_absent, children, count, empty_statement, shape_of};
@@ -53,7 +54,8 @@ fn takes_name(node: &Node, options: CompressOptions) -> bool
     }
 }
 
-/// What may move: no function and no class that would get the variable's name, where such names have to stay.
+/// Whether an initializer may move: it is no function and no class that would get the variable's
+/// name, where such names have to stay.
 pub fn may_move(node: &Node, options: CompressOptions) -> bool
     ensures { result ≡ reading.may_move (switches_of options) node.now }
 {
@@ -68,7 +70,8 @@ pub fn is_declared_over(name: &Name, init: &Node, declarators: &Nodes, which: us
     is_mentioned(name, init) || is_mentioned_before(name, declarators, which)
 }
 
-/// Whether it stands after the next statement, where it mostly does if anywhere, or before the declaration.
+/// Whether the name stands after the next statement, where it mostly does if anywhere, or before
+/// the declaration.
 pub fn is_mentioned_around(name: &Name, statements: &Nodes, at: usize) -> bool
     requires next { at + 1 < count statements.now }
     requires fits { at + 2 < 2 ^ 64 }
@@ -77,7 +80,8 @@ pub fn is_mentioned_around(name: &Name, statements: &Nodes, at: usize) -> bool
     is_mentioned_from(name, statements, at + 2) || is_mentioned_before(name, statements, at)
 }
 
-/// So does the statement after the place.
+/// Whether the statement after the place reads the name first, after parts that pass the
+/// initializer, and takes that in its place.
 #[tactic(auto, using(crate::proofs::SingleUses::read_next))]
 pub fn reads_next(name: &Name, init: &Node, statements: &Nodes, at: usize) -> bool
     requires next { at + 1 < count statements.now }
@@ -106,7 +110,8 @@ fn is_read_inside(
         && !is_mentioned_around(name, statements, at)
 }
 
-/// Nor does what stands outside of them, where is looked last.
+/// Whether the next statement reads the name first, and nothing else mentions it, in the statements
+/// or in what stands outside of them. The latter is looked at last.
 #[tactic(auto, using(crate::proofs::Unused::last_true, crate::proofs::Unused::last_false))]
 pub fn is_read_once(
     name: &Option<Name>,
@@ -211,7 +216,8 @@ fn in_full(node: Node) -> Node
     Node::with(shape, name, number, children)
 }
 
-/// Another tree in the place of what is read: `{ x }` becomes `{ x: a() }`.
+/// What a name becomes that is read: another tree stands in its place, and `{ x }` becomes
+/// `{ x: a() }`.
 #[tactic(auto, using(crate::proofs::SingleUses::put_leaf, crate::proofs::SingleUses::put_step, crate::proofs::SingleUses::put_none, crate::proofs::SingleUses::smaller_at, crate::proofs::Unused::same_parts, crate::proofs::Unused::part_twice))]
 fn put_first(name: &Name, value: Node, mut node: Node) -> Node
     ensures { result ≡ reading.put_first name.now value node }
@@ -231,7 +237,7 @@ fn put_first(name: &Name, value: Node, mut node: Node) -> Node
     in_full(node)
 }
 
-/// In the place of what is read of a name, where there is one.
+/// A node with another tree in the place of what it reads first of a name, where there is a name.
 pub fn put_named(name: &Option<Name>, value: Node, node: Node) -> Node
     ensures { result ≡ it_put_named (names name.now) value node }
 {
@@ -255,8 +261,8 @@ fn left_of(alloc: Global, declaration: Node, is_only_one: bool) -> Node
     declaration
 }
 
-// Of a declaration that is the only one, `;` is left, and of another its other declarators. The answer is what it binds and the
-// initializer.
+// Of a declaration that is the only one, `;` is left, and of another its other declarators. The
+// answer is what it binds and the initializer.
 #[tactic(auto, using(crate::proofs::Unused::same_parts, crate::proofs::Unused::part_twice))]
 fn take_initializer(alloc: Global, list: &mut Node, at: usize, which: usize) -> (Node, Node)
     requires statement { at < count (children list.old) }
@@ -283,7 +289,8 @@ fn put_in(list: &mut Node, at: usize, name: &Option<Name>, value: Node)
     put_child(list, at, put_named(name, value, head));
 }
 
-/// Of a list.
+/// Of the statement at the place in a list the declarator goes, which is its last one, and the next
+/// statement has its initializer in the place of what it reads of the name.
 #[tactic(auto, using(crate::proofs::Unused::same_parts, crate::proofs::SingleUses::next_part))]
 pub fn substitute_in_list(alloc: Global, list: &mut Node, at: usize, which: usize)
     requires next { at + 1 < count (children list.old) }
@@ -297,7 +304,7 @@ pub fn substitute_in_list(alloc: Global, list: &mut Node, at: usize, which: usiz
     discard(binding);
 }
 
-/// The place of the last declarator of a declaration in a list.
+/// The place of the last declarator of the declaration at the place in a list.
 #[tactic(auto, using(crate::proofs::SingleUses::last_is))]
 pub fn last_declarator(list: &Node, at: usize) -> usize
     requires statement { at < count (children list.now) }
@@ -309,9 +316,10 @@ pub fn last_declarator(list: &Node, at: usize) -> usize
     list.child(at).child(0).children().len() - 1
 }
 
-/// Of a list of statements in which no name is unused, with what stands outside of them, `let x = a(); return x + b;` becomes
-/// `; return a() + b;`, and `let a, x = b(); return x;` becomes `let a; return b();`, as often as there is one. The answer says whether
-/// there was; the only error is that memory runs out.
+/// Of a list of statements in which no name is unused, with what stands outside of them,
+/// `let x = a(); return x + b;` becomes `; return a() + b;`, and `let a, x = b(); return x;`
+/// becomes `let a; return b();`, as often as there is one. The answer says whether there was; the
+/// only error is that memory runs out.
 pub fn substitute_single_uses(
     alloc: Global,
     outside: &Node,

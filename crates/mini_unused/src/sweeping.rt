@@ -1,5 +1,5 @@
-//! Where one name has gone from a list of statements, the others are looked for from there on: each declarator once, so that no look
-//! begins anew.
+//! Where one name has gone from a list of statements, the others are looked for from there on: each
+//! declarator once, so that no look begins anew.
 
 ghost use Rattle.std.specs.Prelude.{◌≡◌, ◌+◌, ◌<◌, ◌^◌, ◌||◌, nat_lt, true, false, Some, OnOk};
 ghost use Rattle.mini_model.specs.Tree.{child_or_absent, children, count, listed};
@@ -77,7 +77,8 @@ fn is_alone_there(
     )
 }
 
-// Of the statement at the place, where it is a declaration, the declarator at the other has a name that nothing else mentions.
+// Of the statement at the place, where it is a declaration, the declarator at the other has a name
+// that nothing else mentions.
 fn is_unused_there(
     outside: &Node,
     statements: &Nodes,
@@ -105,7 +106,7 @@ fn is_unused_there(
     is_alone_there(outside, statements, at, list, which, tallies)
 }
 
-/// A statement comes after the place.
+/// Whether a statement comes after the place.
 pub fn has_next(list: &Node, at: usize) -> bool
     requires { at + 1 < 2 ^ 64 }
     ensures told { result ≡ nat_lt (at + 1) (count (children list.now)) }
@@ -147,7 +148,8 @@ fn may_move_there(
         && may_move(declarator.child(1), context.options)
 }
 
-// The next statement reads the name first, and nothing else mentions it, as the tables tell, or a look through the list.
+// The next statement reads the name first, and nothing else mentions it, as the tables tell, or a
+// look through the list.
 fn is_read_there(
     outside: &Node,
     statements: &Nodes,
@@ -188,7 +190,8 @@ fn is_read_there(
     )
 }
 
-// Of the statement at the place, where it is a declaration, the declarator at the other is the last one, and such a one.
+// Of the statement at the place, where it is a declaration, the declarator at the other is the last
+// one, and such a one.
 fn is_single_there(
     outside: &Node,
     statements: &Nodes,
@@ -219,7 +222,8 @@ fn is_single_there(
     is_read_there(outside, statements, at, list, which, tallies)
 }
 
-// The last declarator of the statement goes where the next statement reads its name first and nothing else mentions it.
+// The last declarator of the statement goes where the next statement reads its name first and
+// nothing else mentions it.
 fn sweep_single(
     alloc: Global,
     outside: &Node,
@@ -244,7 +248,8 @@ fn sweep_single(
     substitute_in_list(alloc, list, at, last);
 }
 
-// The next declarator reads the name first, and nothing else mentions it, as the tables tell, or a look through the list.
+// The next declarator reads the name first, and nothing else mentions it, as the tables tell, or a
+// look through the list.
 fn is_read_next(
     outside: &Node,
     statements: &Nodes,
@@ -291,8 +296,8 @@ fn is_read_next(
     )
 }
 
-// Of the statement at the place, where it is a declaration, the declarator at the other has a name that the next one reads first, and
-// that nothing else mentions.
+// Of the statement at the place, where it is a declaration, the declarator at the other has a name
+// that the next one reads first, and that nothing else mentions.
 fn is_next_there(
     outside: &Node,
     statements: &Nodes,
@@ -321,7 +326,8 @@ fn is_next_there(
     is_read_next(outside, statements, at, list, which, tallies)
 }
 
-// The declarator at the place goes where the next one reads its name first and nothing else mentions it.
+// The declarator at the place goes where the next one reads its name first and nothing else
+// mentions it.
 fn sweep_next(
     outside: &Node,
     list: &mut Node,
@@ -398,7 +404,8 @@ fn sweep_statement(
     Ok(())
 }
 
-// How many declarators the statements have from a place on, up to a number past which it doesn't matter.
+// How many declarators the statements have from a place on, up to a number past which it doesn't
+// matter.
 fn count_declarators(list: &Node, from: usize) -> usize {
     let mut declarators: usize = 0;
     for at in from..list.children().len() {
@@ -425,7 +432,8 @@ fn sweep_from(
     Ok(())
 }
 
-/// Of a list of statements, from a place on, each name goes that nothing else mentions, or that is read once.
+/// Of a list of statements, from a place on, each name goes that nothing else mentions, or that is
+/// read once.
 pub fn sweep(
     alloc: Global,
     outside: &Node,

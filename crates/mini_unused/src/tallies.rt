@@ -1,5 +1,6 @@
-//! Of a long list of statements how often names stand in it, counted once, so that it isn't looked through for each name. Names are
-//! counted by buckets: where a bucket has no more than it must, no other name is in it.
+//! Of a long list of statements how often names stand in it, counted once, so that it isn't looked
+//! through for each name. Names are counted by buckets: where a bucket has no more than it must, no
+//! other name is in it.
 
 ghost use Rattle.std.specs.Prelude.{◌≡◌, ◌≤◌, ◌<◌, ◌+◌, ◌^◌, ℕ, suc, nat_eq, true, false, length, replicate, IfOk};
 ghost use Rattle.mini_model.specs.Tree.{child_or_absent, count};
@@ -120,7 +121,7 @@ fn is_few(by_symbol: bool, counts: &Vec<u8>, name: &Name, most: u8) -> bool
     counts[bucket_of(by_symbol, buckets, name)] <= most
 }
 
-/// No more than so many names are in the buckets of this one.
+/// Whether no more than `most` names are in each of the two buckets of this name.
 pub fn is_rare(tallies: &Tallies, name: &Name, most: u8) -> bool
     ensures rare { result ≡ true → IsRare tallies.now name.now most }
     ensures told { IsRare tallies.now name.now most → result ≡ true }
@@ -128,7 +129,7 @@ pub fn is_rare(tallies: &Tallies, name: &Name, most: u8) -> bool
     is_few(true, &tallies.by_symbol, name, most) && is_few(false, &tallies.by_spelling, name, most)
 }
 
-/// The same of a name that is there.
+/// Whether there is a name, and no more than `most` names are in each of its two buckets.
 pub fn has_rare_name(tallies: &Tallies, name: &Option<Name>, most: u8) -> bool
     ensures rare { result ≡ true → AreRare tallies.now (names name.now) most }
     ensures told { AreRare tallies.now (names name.now) most → result ≡ true }
@@ -163,7 +164,8 @@ fn is_spelled_first(name: &Name, node: &Node) -> bool
     is_spelled_first(name, node.child(0))
 }
 
-// So does what a head evaluates, or a loop that hides its names first.
+// What a head evaluates, or a loop that hides its names first, has the spelling as what stands
+// first in it.
 #[tactic(auto, using(crate::proofs::Rare::head_spelled))]
 fn is_spelled_in_head(name: &Name, node: &Node) -> bool
     ensures { result ≡ true → (r : ℕ) → 1 ≤ tally (bucket false r) (bucket false r name.now) node.now }
@@ -171,7 +173,8 @@ fn is_spelled_in_head(name: &Name, node: &Node) -> bool
     is_spelled_first(name, evaluated(evaluated_hidden(node)))
 }
 
-/// The statement after the place reads a name, after parts that pass the initializer, and the two are the only ones in its buckets.
+/// Whether the statement after the place reads a name, after parts that pass the initializer, and
+/// the two are the only ones in its buckets.
 pub fn is_rarely_read(
     tallies: &Tallies,
     name: &Option<Name>,
@@ -193,7 +196,8 @@ pub fn is_rarely_read(
     }
 }
 
-/// A value reads a name, after parts that pass the initializer, and the two are the only ones in its buckets.
+/// Whether a value reads a name, after parts that pass the initializer, and the two are the only
+/// ones in its buckets.
 pub fn is_rarely_read_in(tallies: &Tallies, name: &Option<Name>, init: &Node, value: &Node) -> bool
     ensures { result ≡ true → AreReadIn tallies.now (names name.now) init.now value.now }
 {
@@ -233,7 +237,8 @@ fn count_list(
     Ok(counts)
 }
 
-/// Of a list with so many declarators, and of what is outside of it. Where they are few nothing is counted.
+/// The tallies of a list with that many declarators, and of what is outside of it. Where they are
+/// few nothing is counted. The only error is that memory runs out.
 pub fn tally_list(
     alloc: Global,
     outside: &Node,

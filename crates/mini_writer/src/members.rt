@@ -214,7 +214,7 @@ pub fn key_text(key: Key) -> &'static str
 #[derive(Drop)]
 pub struct Member(pub Key, pub Value);
 
-/// A text.
+/// A text as a JSON value.
 pub fn text_value(alloc: Global, text: &str) -> Result<Value, AllocError>
     ensures { IfOk result (λ v. view v ≡ string text.now) }
 {

@@ -10,8 +10,9 @@ use mini_node::Node;
 use serde_json::Value;
 use std::alloc::Global;
 
-/// The ESTree value of a program: an object for each node, with `type` and every field of its type (ESTree, ES5 to
-/// ES2022), its directives as the first statements of its body. Numbers and symbols aren't written.
+/// The ESTree value of a program: an object for each node, with `type` and every field of its type
+/// (ESTree, ES5 to ES2022), its directives as the first statements of its body. Numbers and symbols
+/// aren't written.
 ///
 /// The only error is that memory runs out.
 #[tactic(auto, unfolding(crate::specs::Written::program_data))]

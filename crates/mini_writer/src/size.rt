@@ -12,10 +12,10 @@ const MOST_VALUES: u64 = 16_777_216;
 
 const MOST_UNITS: u64 = 16_777_216;
 
-/// Whether the value is small enough to be minified.
+/// Whether the JSON value is small enough to be minified.
 ///
-/// It may hold 16,777,216 JSON values, itself counted, and its texts 16,777,216 UTF-16 units in all, those of keys
-/// counted.
+/// It may be made of 16,777,216 JSON values, itself counted, and its texts may have 16,777,216
+/// UTF-16 units in all, those of keys counted.
 pub fn fits(value: &Value) -> bool
     ensures { IsTrue result ↔ Fits (view value.now) }
 {

@@ -15,7 +15,8 @@ pub fn accepted_weighs_little()
     ensures program { (d : Data) (t : Tree) → Accepts d t → Fits d → program_weight t < 2 ^ 32 }
 {}
 
-/// What is counted of the program of a small enough value fits in 32 bits: its symbols, its references and its numbers.
+/// What is counted of the program of a small enough value fits in 32 bits: its symbols, its
+/// references and its numbers.
 pub fn accepted_is_countable()
     ensures { AcceptedIsCountable }
 {}

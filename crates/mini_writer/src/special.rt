@@ -24,7 +24,7 @@ use std::alloc::{AllocError, Global};
 
 // ---- texts
 
-/// The text, in UTF-8.
+/// A text as a JSON value, in UTF-8; U+FFFD stands for a surrogate without a partner.
 pub fn text(alloc: Global, units: &Text) -> Result<Value, AllocError>
     ensures { IfOk result (λ v. view v ≡ string (bytes_of units.now)) }
 {
@@ -115,7 +115,7 @@ fn literal(alloc: Global, value: Value) -> Result<Value, AllocError>
     with_field(alloc, "Literal", Key::Value, value)
 }
 
-// The minus over a number above 0.
+// The object of a minus over a number above 0.
 fn minus(alloc: Global, operand: Value) -> Result<Value, AllocError>
     ensures { IfOk result (λ v. view v ≡ objects.unary_expression UnaryNegation (view operand)) }
 {
@@ -128,7 +128,7 @@ fn minus(alloc: Global, operand: Value) -> Result<Value, AllocError>
     row_value(alloc, row, below)
 }
 
-// `Literal` of a number, below 0 with a minus before it.
+// `Literal` of a number; of one below 0, a minus over it.
 fn number(alloc: Global, value: i64) -> Result<Value, AllocError>
     ensures { IfOk result (λ v. view v ≡ written.number_literal value) }
 {
@@ -215,7 +215,8 @@ fn one(below: Vec<Value>) -> Option<Value>
     if rest.is_empty() { Some(last) } else { None }
 }
 
-/// What is written for a leaf, or for a node that stands for its one child; null for another one.
+/// What is written for a leaf, or for a node that stands for its one child; null for any other
+/// node.
 pub fn special_value(
     alloc: Global,
     shape: &Shape,

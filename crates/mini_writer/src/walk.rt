@@ -13,7 +13,7 @@ use mini_node::Node;
 use serde_json::Value;
 use std::alloc::{AllocError, Global};
 
-// What is written for a node, of what its children are written as.
+// What is written for a node, of what is written for its children.
 #[tactic(auto, using(crate::proofs::Table::row_written, crate::proofs::Table::special_written))]
 fn node_value(
     alloc: Global,
@@ -35,7 +35,8 @@ fn node_value(
     }
 }
 
-/// What is written for a node.
+/// What is written for a node: an object of ESTree, or a list of such for the items of a list
+/// field. The only error is that memory runs out.
 #[tactic(auto, using(crate::proofs::Lists::items_begin, crate::proofs::Lists::node_within))]
 pub fn value(alloc: Global, node: &Node) -> Result<Value, AllocError>
     ensures { IfOk result (λ v. view v ≡ tree_data node.now) }

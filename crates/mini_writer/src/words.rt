@@ -8,7 +8,7 @@ use mini_model::{
     UnaryOperator, UpdateOperator, VariableDeclarationKind,
 };
 
-/// The word of an operator of one operand.
+/// The text of an operator of one operand, as `!`.
 pub fn unary_word(operator: UnaryOperator) -> &'static str
     ensures { result.now ≡ words.unary_word operator }
 {
@@ -23,7 +23,7 @@ pub fn unary_word(operator: UnaryOperator) -> &'static str
     }
 }
 
-/// The word of `++` and `--`.
+/// The text of `++` or `--`.
 pub fn update_word(operator: UpdateOperator) -> &'static str
     ensures { result.now ≡ words.update_word operator }
 {
@@ -33,7 +33,7 @@ pub fn update_word(operator: UpdateOperator) -> &'static str
     }
 }
 
-/// The word of an operator of two operands.
+/// The text of an operator of two operands, as `<=`.
 pub fn binary_word(operator: BinaryOperator) -> &'static str
     ensures { result.now ≡ words.binary_word operator }
 {
@@ -63,7 +63,7 @@ pub fn binary_word(operator: BinaryOperator) -> &'static str
     }
 }
 
-/// The word of an operator that may leave its right operand alone.
+/// The text of an operator that may leave its right operand alone: `||`, `&&` or `??`.
 pub fn logical_word(operator: LogicalOperator) -> &'static str
     ensures { result.now ≡ words.logical_word operator }
 {
@@ -74,7 +74,7 @@ pub fn logical_word(operator: LogicalOperator) -> &'static str
     }
 }
 
-/// The word of an operator of an assignment.
+/// The text of the operator of an assignment, as `+=`.
 pub fn assignment_word(operator: AssignmentOperator) -> &'static str
     ensures { result.now ≡ words.assignment_word operator }
 {
@@ -98,7 +98,7 @@ pub fn assignment_word(operator: AssignmentOperator) -> &'static str
     }
 }
 
-/// The word of a declaration of variables.
+/// The `kind` of a declaration of variables: `var`, `let` or `const`.
 pub fn variable_word(kind: VariableDeclarationKind) -> &'static str
     ensures { result.now ≡ words.variable_word kind }
 {
@@ -109,7 +109,7 @@ pub fn variable_word(kind: VariableDeclarationKind) -> &'static str
     }
 }
 
-/// The word of a property.
+/// The `kind` of a property: `init`, `get` or `set`.
 pub fn property_word(kind: PropertyKind) -> &'static str
     ensures { result.now ≡ words.property_word kind }
 {
@@ -120,7 +120,7 @@ pub fn property_word(kind: PropertyKind) -> &'static str
     }
 }
 
-/// The word of a method.
+/// The `kind` of a method: `constructor`, `method`, `get` or `set`.
 pub fn method_word(kind: MethodDefinitionKind) -> &'static str
     ensures { result.now ≡ words.method_word kind }
 {
@@ -132,14 +132,14 @@ pub fn method_word(kind: MethodDefinitionKind) -> &'static str
     }
 }
 
-/// The word for a module or a script.
+/// The `sourceType` of a program: `module` or `script`.
 pub fn source_type(is_module: bool) -> &'static str
     ensures { result.now ≡ words.source_type is_module }
 {
     if is_module { "module" } else { "script" }
 }
 
-/// The type of a function, by whether it is a declaration.
+/// The `type` of a function: `FunctionDeclaration` or `FunctionExpression`.
 pub fn function_type(declaration: bool) -> &'static str
     ensures { result.now ≡ words.function_type declaration }
 {
@@ -150,7 +150,7 @@ pub fn function_type(declaration: bool) -> &'static str
     }
 }
 
-/// The type of a class, by whether it is a declaration.
+/// The `type` of a class: `ClassDeclaration` or `ClassExpression`.
 pub fn class_type(declaration: bool) -> &'static str
     ensures { result.now ≡ words.class_type declaration }
 {

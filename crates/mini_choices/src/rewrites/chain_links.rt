@@ -1,5 +1,5 @@
-//! Rows 11 and 64, of optional chains by what stands before a `?.` of theirs: `(a?.b)?.c` becomes `a?.b?.c`, and `[1]?.length`
-//! becomes `[1].length`, which is lighter in every seat.
+//! Rows 11 and 64, of optional chains by what stands before a `?.` of theirs: `(a?.b)?.c` becomes
+//! `a?.b?.c`, and `[1]?.length` becomes `[1].length`, which is lighter in every seat.
 
 ghost use Rattle.std.specs.Prelude.{◌≡◌, [], true, is_some, unwrap_or, OnOk, IfOk};
 ghost use Rattle.mini_model.specs.Tree.{children, count, node as tree, none, ◌▸◌, shape_of};
@@ -85,7 +85,8 @@ fn is_there(node: &Node) -> bool
     stops(LogicalOperator::Coalesce, node)
 }
 
-// What is called without a `this`: what is read by its value alone, a function, a class or a BigInt.
+// What is called without a `this`: what is read by its value alone, a function, a class or a
+// BigInt.
 fn is_lone(node: &Node) -> bool
     ensures { result ≡ is_it_lone node.now }
 {
@@ -187,8 +188,9 @@ fn wrapped(alloc: Global, stays: bool, links: Node) -> Result<Node, OutOfMemory>
     Ok(links)
 }
 
-/// Of links in a chain the outermost optional one over a chain takes what that holds, or loses its mark over a value that is there, where marks may go. The
-/// answer says whether there is one; the only error is that memory runs out, and then the expression is fit only to be dropped.
+/// Of links in a chain the outermost optional one over a chain takes what that holds, or loses its
+/// mark over a value that is there, where marks may go. The answer says whether there is one; the
+/// only error is that memory runs out, and then the expression is fit only to be dropped.
 pub fn fold_outermost(alloc: Global, node: &mut Node, may_close: bool) -> Result<bool, OutOfMemory>
     requires { count (children node.old) ≡ 1 }
     ensures tree { OnOk result (node.new ≡ unwrap_or (wrapped_if (outcome_of may_close (part node.old 0)) (folded_of may_close (part node.old 0))) node.old) }
@@ -204,8 +206,9 @@ pub fn fold_outermost(alloc: Global, node: &mut Node, may_close: bool) -> Result
     }
 }
 
-/// `(a?.b)?.c` becomes `a?.b?.c`, and `[1]?.length` becomes `[1].length`, where what stands before `?.` is known to be neither undefined nor
-/// null. The answer says whether it did; the only error is that memory runs out, and then the expression is fit only to be dropped.
+/// `(a?.b)?.c` becomes `a?.b?.c`, and `[1]?.length` becomes `[1].length`, where what stands before
+/// `?.` is known to be neither undefined nor null. The answer says whether it did; the only error
+/// is that memory runs out, and then the expression is fit only to be dropped.
 pub fn fold_links(alloc: Global, node: &mut Node, seat: Seat) -> Result<bool, OutOfMemory>
     ensures tree { OnOk result (node.new ≡ unwrap_or (folded_written seat node.old) node.old) }
     ensures said { IfOk result (λ changed. changed ≡ is_some (folded_written seat node.old)) }

@@ -1,4 +1,5 @@
-//! Rows 13 and 15 of a left side that does something: `(x = []) && b` becomes `x = [], b`, where that is lighter.
+//! Rows 13 and 15 of a left side that does something: `(x = []) && b` becomes `x = [], b`, where
+//! that is lighter.
 
 ghost use Rattle.std.specs.Prelude.{◌≡◌, is_some, unwrap_or, OnOk, IfOk};
 ghost use Rattle.mini_choices.specs.EvaluateBothSides.{both_sides as both_sides_of, evaluates_both as evaluates_its_both, written};
@@ -32,9 +33,10 @@ fn both_sides(alloc: Global, node: Node) -> Result<Node, OutOfMemory>
     pair(alloc, left, right)
 }
 
-/// A logical expression whose left side is known to let the right one be evaluated becomes both in order, where that is lighter:
-/// `(x = []) && b` becomes `x = [], b`, `void f() || b` becomes `void f(), b`, and `void f() ?? b` the same. The answer says whether
-/// it did; the only error is that memory runs out, and then the expression is fit only to be dropped.
+/// A logical expression whose left side is known to let the right one be evaluated becomes both in
+/// order, where that is lighter: `(x = []) && b` becomes `x = [], b`, `void f() || b` becomes
+/// `void f(), b`, and `void f() ?? b` the same. The answer says whether it did; the only error is
+/// that memory runs out, and then the expression is fit only to be dropped.
 pub fn evaluate_both_sides(alloc: Global, node: &mut Node, seat: Seat) -> Result<bool, OutOfMemory>
     ensures tree { OnOk result (node.new ≡ unwrap_or (written seat node.old) node.old) }
     ensures said { IfOk result (λ changed. changed ≡ is_some (written seat node.old)) }

@@ -1,5 +1,6 @@
-//! Row 10, of optional chains over what is known to be null or undefined: `null?.a` becomes `void 0`, and `(void f())?.a.b.c.d` becomes
-//! `void f(), void 0`, where that is lighter; and rows 11 and 64.
+//! Row 10, of optional chains over what is known to be null or undefined: `null?.a` becomes
+//! `void 0`, and `(void f())?.a.b.c.d` becomes `void f(), void 0`, where that is lighter; and rows
+//! 11 and 64.
 
 ghost use Rattle.std.specs.Prelude.{◌≡◌, true, is_some, unwrap_or, OnOk, IfOk};
 ghost use Rattle.mini_model.specs.Tree.{children, count};
@@ -145,10 +146,12 @@ fn end_after(alloc: Global, node: &mut Node, seat: Seat) -> Result<bool, OutOfMe
     fold_links(alloc, node, seat)
 }
 
-/// `null?.a` becomes `void 0`, where what stands before `?.` is known to be null or undefined, and where it has an effect, it stays:
-/// `(void f())?.a.b.c.d` becomes `void f(), void 0`, each where it is lighter; `(a?.b)?.c` becomes `a?.b?.c`; and `[1]?.length` becomes
-/// `[1].length`, where what stands before `?.` is known to be neither; whatever links stand outside. The answer says whether it did; the
-/// only error is that memory runs out, and then the expression is fit only to be dropped.
+/// `null?.a` becomes `void 0`, where what stands before `?.` is known to be null or undefined, and
+/// where it has an effect, it stays: `(void f())?.a.b.c.d` becomes `void f(), void 0`, each where
+/// it is lighter; `(a?.b)?.c` becomes `a?.b?.c`; and `[1]?.length` becomes `[1].length`, where what
+/// stands before `?.` is known to be neither; whatever links stand outside. The answer says whether
+/// it did; the only error is that memory runs out, and then the expression is fit only to be
+/// dropped.
 pub fn fold_chain_expr(alloc: Global, node: &mut Node, seat: Seat) -> Result<bool, OutOfMemory>
     ensures tree { OnOk result (node.new ≡ unwrap_or (written seat node.old) node.old) }
     ensures said { IfOk result (λ changed. changed ≡ is_some (written seat node.old)) }

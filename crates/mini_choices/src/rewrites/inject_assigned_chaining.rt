@@ -1,5 +1,6 @@
-//! Row 46, of what is read of a name that is assigned to in the test: `(x = a) == null ? void 0 : x.m` becomes `(x = a)?.m`, where x can
-//! be written, and `0, (x = a)?.m` as a callee and under `delete`. It is lighter in every seat.
+//! Row 46, of what is read of a name that is assigned to in the test:
+//! `(x = a) == null ? void 0 : x.m` becomes `(x = a)?.m`, where x can be written, and
+//! `0, (x = a)?.m` as a callee and under `delete`. It is lighter in every seat.
 
 ghost use Rattle.std.specs.Prelude.{◌≡◌, true, is_some, unwrap_or, OnOk, IfOk};
 ghost use Rattle.mini_model.specs.Tree.{children, count};
@@ -18,7 +19,8 @@ use mini_model::{OutOfMemory, Seat};
 use mini_node::{Node, is_conditional, is_null, taken};
 use std::alloc::Global;
 
-// Whether it is an assignment to a name that can be written and isn't `eval`, of a value that ends no chain.
+// Whether it is an assignment to a name that can be written and isn't `eval`, of a value that ends
+// no chain.
 fn writes_calmly(node: &Node, scopes: &Scopes) -> bool
     ensures kind { result ≡ row.writes_calmly (marked scopes.now) node.now }
     ensures parts { result ≡ true → count (children node.now) ≡ 2 }
@@ -35,7 +37,8 @@ fn asks_assigned(comparison: &Node, scopes: &Scopes) -> bool
     is_null(comparison.child(1)) && writes_calmly(comparison.child(0), scopes)
 }
 
-// Whether beside such a test undefined is written for one branch, and the other reads what the name holds.
+// Whether beside such a test undefined is written for one branch, and the other reads what the name
+// holds.
 fn reads_assigned(comparison: &Node, missing: &Node, read: &Node, scopes: &Scopes) -> bool
     requires { count (children comparison.now) ≡ 2 }
     ensures { result ≡ row.reads_assigned (marked scopes.now) comparison.now missing.now read.now }
@@ -63,10 +66,11 @@ fn is_assigned_first(node: &Node, scopes: &Scopes) -> bool
         && reads_assigned(node.child(0), node.child(2), node.child(1), scopes)
 }
 
-/// `(x = a) == null ? void 0 : x.m` becomes `(x = a)?.m`, and so do other members and calls over x, and `(x = a) != null ? x.m : void 0`,
-/// where the program mentions x as a name that can be written, and it isn't named `eval`. As a callee and under `delete` the chain stands
-/// behind a `0`, so that its value is read. The answer says whether it did; the only error is that memory runs out, and then the expression
-/// is fit only to be dropped.
+/// `(x = a) == null ? void 0 : x.m` becomes `(x = a)?.m`, and so do other members and calls over x,
+/// and `(x = a) != null ? x.m : void 0`, where the program mentions x as a name that can be
+/// written, and it isn't named `eval`. As a callee and under `delete` the chain stands behind a
+/// `0`, so that its value is read. The answer says whether it did; the only error is that memory
+/// runs out, and then the expression is fit only to be dropped.
 pub fn inject_assigned_chaining(
     alloc: Global,
     node: &mut Node,

@@ -1,5 +1,5 @@
-//! Row 46, of what is read of a name that may be null or undefined: `x == null ? void 0 : x.m` becomes `x?.m`, and `0, x?.m` as a callee and
-//! under `delete`, which is lighter in every seat.
+//! Row 46, of what is read of a name that may be null or undefined: `x == null ? void 0 : x.m`
+//! becomes `x?.m`, and `0, x?.m` as a callee and under `delete`, which is lighter in every seat.
 
 ghost use Rattle.std.specs.Prelude.{◌≡◌, true, is_some, unwrap_or, OnOk, IfOk};
 ghost use Rattle.mini_model.specs.Tree.{children, count, shape_of};
@@ -30,8 +30,9 @@ pub fn is_word(node: &Node) -> bool
     matches!(node.shape(), Shape::IdentifierName(_))
 }
 
-// What runs inside it, if anything does, ends no chain around it: a name, a constant, `this`, what is absent, a function or a class, what
-// the world evaluates whole, a pattern that assigns, and a chain of its own.
+// What runs inside it, if anything does, ends no chain around it: a name, a constant, `this`, what
+// is absent, a function or a class, what the world evaluates whole, a pattern that assigns, and a
+// chain of its own.
 fn is_closed(node: &Node) -> bool
     ensures { result ≡ is_closed_shape (shape_of node.now) }
 {
@@ -65,7 +66,8 @@ fn is_closed(node: &Node) -> bool
     )
 }
 
-// It ends no chain where its parts end none: a link without `?.`, an operator, an array, an object or a template, and a list.
+// It ends no chain where its parts end none: a link without `?.`, an operator, an array, an object
+// or a template, and a list.
 fn is_open(node: &Node) -> bool
     ensures { result ≡ is_open_shape (shape_of node.now) }
 {
@@ -94,7 +96,8 @@ fn is_open(node: &Node) -> bool
     )
 }
 
-/// Whether in an expression each optional link stands in a chain of its own, so that it ends no chain that it stands in.
+/// Whether in an expression each optional link stands in a chain of its own, so that it ends no
+/// chain that it stands in.
 #[cycle(calmness)]
 #[tactic(auto, using(crate::proofs::OptionalChains::calm_is, crate::proofs::OptionalChains::calm_below))]
 pub fn is_calm(node: &Node) -> bool
@@ -195,7 +198,8 @@ fn asks_name(comparison: &Node) -> bool
         && !is_eval(name.name())
 }
 
-// Whether beside such a test undefined is written for one branch, and the other reads what the name holds.
+// Whether beside such a test undefined is written for one branch, and the other reads what the name
+// holds.
 fn reads_name(comparison: &Node, missing: &Node, read: &Node) -> bool
     requires { count (children comparison.now) ≡ 2 }
     ensures { result ≡ it_reads_name comparison.now missing.now read.now }
@@ -259,7 +263,8 @@ fn kept_chain(alloc: Global, test: Node, read: Node, guard: Guard) -> Result<Nod
     preserve_indirect_access_if_needed(alloc, made, guard)
 }
 
-/// The chain of the alternate of a conditional, over what its test compares, behind a `0` where a reference is asked.
+/// The chain of the alternate of a conditional, over what its test compares, behind a `0` where a
+/// reference is asked.
 pub fn chain_of_last(alloc: Global, node: Node, guard: Guard) -> Result<Node, OutOfMemory>
     ensures { IfOk result (λ w. w ≡ kept_by_value guard (chained node (part node 2))) }
 {
@@ -277,9 +282,11 @@ pub fn chain_of_first(alloc: Global, node: Node, guard: Guard) -> Result<Node, O
     kept_chain(alloc, test, read, guard)
 }
 
-/// `x == null ? void 0 : x.m` becomes `x?.m`, and so do other members and calls over x, and `x != null ? x.m : void 0`; where a scope
-/// declares x, and it isn't named `eval`. As a callee and under `delete` the chain stands behind a `0`, so that its value is read. The answer
-/// says whether it did; the only error is that memory runs out, and then the expression is fit only to be dropped.
+/// `x == null ? void 0 : x.m` becomes `x?.m`, and so do other members and calls over x, and
+/// `x != null ? x.m : void 0`; where a scope declares x, and it isn't named `eval`. As a callee and
+/// under `delete` the chain stands behind a `0`, so that its value is read. The answer says whether
+/// it did; the only error is that memory runs out, and then the expression is fit only to be
+/// dropped.
 pub fn inject_optional_chaining(
     alloc: Global,
     node: &mut Node,

@@ -1,5 +1,6 @@
-//! Row 46 of a name that is assigned to in the test: `(x = a) == null ? b : x` becomes `(x = a) ?? b`, and so does
-//! `(x = a) != null ? x : b`, where a scope declares x and it can be written. It is lighter in every seat.
+//! Row 46 of a name that is assigned to in the test: `(x = a) == null ? b : x` becomes
+//! `(x = a) ?? b`, and so does `(x = a) != null ? x : b`, where a scope declares x and it can be
+//! written. It is lighter in every seat.
 
 ghost use Rattle.std.specs.Prelude.{◌≡◌, is_some, unwrap_or, OnOk, IfOk};
 ghost use Rattle.mini_model.specs.Tree.{children, count};
@@ -65,8 +66,9 @@ fn with_alternate(alloc: Global, node: Node) -> Result<Node, OutOfMemory>
     logical(alloc, LogicalOperator::Coalesce, assigned, alternate)
 }
 
-/// `(x = a) == null ? b : x` becomes `(x = a) ?? b`, and so does `(x = a) != null ? x : b`, where the program mentions x as a name that can be
-/// written. The answer says whether it did; the only error is that memory runs out, and then the expression is fit only to be dropped.
+/// `(x = a) == null ? b : x` becomes `(x = a) ?? b`, and so does `(x = a) != null ? x : b`, where
+/// the program mentions x as a name that can be written. The answer says whether it did; the only
+/// error is that memory runs out, and then the expression is fit only to be dropped.
 pub fn minimize_assigned_comparison(
     alloc: Global,
     node: &mut Node,

@@ -1,5 +1,5 @@
-//! Row 37, of a name that the first test assigns to: `(x = a) === null || x === undefined` becomes `(x = a) == null`, where x can be
-//! written. It is lighter in every seat.
+//! Row 37, of a name that the first test assigns to: `(x = a) === null || x === undefined` becomes
+//! `(x = a) == null`, where x can be written. It is lighter in every seat.
 
 ghost use Rattle.std.specs.Prelude.{◌≡◌, is_some, unwrap_or, OnOk, IfOk};
 ghost use Rattle.mini_model.specs.Tree.{children, count};
@@ -22,7 +22,8 @@ fn assigns_it(node: &Node, name: &Node, scopes: &Scopes) -> bool
     writes_name(node, scopes) && is_same_name(node.child(0), name)
 }
 
-// Whether the first compares such an assignment, and the second the name, with null and with undefined.
+// Whether the first compares such an assignment, and the second the name, with null and with
+// undefined.
 fn compares(equal: bool, first: &Node, second: &Node, scopes: &Scopes) -> bool
     ensures { result ≡ row.compares (marked scopes.now) equal first.now second.now }
 {
@@ -41,9 +42,11 @@ fn compares_after(equal: bool, node: &Node, scopes: &Scopes) -> bool
         && compares(equal, node.child(0).child(1), node.child(1), scopes)
 }
 
-/// `(x = a) === null || x === undefined` becomes `(x = a) == null`, and `(x = a) !== null && x !== undefined` becomes `(x = a) != null`, in
-/// any order, and after an equal operator to the left, where the program mentions x as a name that can be written. The answer says whether
-/// it did; the only error is that memory runs out, and then the expression is fit only to be dropped.
+/// `(x = a) === null || x === undefined` becomes `(x = a) == null`, and
+/// `(x = a) !== null && x !== undefined` becomes `(x = a) != null`, in any order, and after an
+/// equal operator to the left, where the program mentions x as a name that can be written. The
+/// answer says whether it did; the only error is that memory runs out, and then the expression is
+/// fit only to be dropped.
 pub fn minimize_assigned_nullish_comparison(
     alloc: Global,
     node: &mut Node,

@@ -1,8 +1,8 @@
-//! Rows 41, 44, 45 and 46: `x ? x : b` becomes `x || b`, and `x ? b : x` becomes `x && b`, where that is lighter in the seat;
-//! `a ? x = b : x = c` becomes `x = a ? b : c`, where a scope declares x or a has no effect, and so of `+=` and of members where both hold,
-//! `x == null ? b : x` becomes `x ?? b`,
-//! where a scope declares x, and `a ? f(p, r) : f(q, r)` becomes `f(a ? p : q, r)`, where neither f nor a has an effect,
-//! which is lighter in every seat.
+//! Rows 41, 44, 45 and 46: `x ? x : b` becomes `x || b`, and `x ? b : x` becomes `x && b`, where
+//! that is lighter in the seat; `a ? x = b : x = c` becomes `x = a ? b : c`, where a scope declares
+//! x or a has no effect, and so of `+=` and of members where both hold, `x == null ? b : x` becomes
+//! `x ?? b`, where a scope declares x, and `a ? f(p, r) : f(q, r)` becomes `f(a ? p : q, r)`, where
+//! neither f nor a has an effect, which is lighter in every seat.
 
 ghost use Rattle.std.specs.Prelude.{◌≡◌, true, Some, is_some, unwrap_or, OnOk, IfOk};
 ghost use Rattle.mini_model.specs.Tree.{children, count, logical as logical_of};
@@ -45,8 +45,9 @@ fn is_assign(operator: AssignmentOperator) -> bool
     operator == AssignmentOperator::Assign
 }
 
-// Whether both are one name, between writes of which by the operator the test may choose after it is read, or one member of a name,
-// which is written after a test without an effect. `this` has one where it is asked of the world.
+// Whether both are one name, between writes of which by the operator the test may choose after it
+// is read, or one member of a name, which is written after a test without an effect. `this` has one
+// where it is asked of the world.
 fn may_take(
     operator: AssignmentOperator,
     test: &Node,
@@ -74,8 +75,9 @@ fn assigns_alike(test: &Node, first: &Node, second: &Node, asked: bool) -> bool
     }
 }
 
-/// `a ? x = b : x = c`, `a ? x += b : x += c`, or `a ? x.k = b : x.k = c`, where the test may come after what is assigned to is known. It is said whether
-/// `this` has an effect, as it has where it is asked of the world.
+/// `a ? x = b : x = c`, `a ? x += b : x += c`, or `a ? x.k = b : x.k = c`, where the test may come
+/// after what is assigned to is known. It is said whether `this` has an effect, as it has where it
+/// is asked of the world.
 pub fn assigns_either(node: &Node, asked: bool) -> bool
     ensures { result ≡ it_assigns_either asked node.now }
 {
@@ -118,7 +120,8 @@ pub fn is_seated(seat: Seat) -> bool
     seat.level != CONDITIONAL_LEVEL
 }
 
-/// `x = a ? b : c` of `a ? x = b : x = c`, and so of other operators and whatever is assigned to. The only error is that memory runs out.
+/// `x = a ? b : c` of `a ? x = b : x = c`, and so of other operators and whatever is assigned to.
+/// The only error is that memory runs out.
 pub fn assigned(alloc: Global, node: Node) -> Result<Node, OutOfMemory>
     ensures { IfOk result (λ w. w ≡ assigned_of node) }
 {
@@ -233,9 +236,10 @@ fn and_consequent(alloc: Global, node: Node) -> Result<Node, OutOfMemory>
     logical(alloc, LogicalOperator::And, test, consequent)
 }
 
-/// `x ? x : b` becomes `x || b`, `x ? b : x` becomes `x && b`, `a ? x = b : x = c` becomes `x = a ? b : c`, and so of `+=`,
-/// `x == null ? b : x` becomes `x ?? b`, and `a ? f(p, r) : f(q, r)` becomes `f(a ? p : q, r)`. The answer says whether it did; the
-/// only error is that memory runs out, and then the expression is fit only to be dropped.
+/// `x ? x : b` becomes `x || b`, `x ? b : x` becomes `x && b`, `a ? x = b : x = c` becomes
+/// `x = a ? b : c`, and so of `+=`, `x == null ? b : x` becomes `x ?? b`, and
+/// `a ? f(p, r) : f(q, r)` becomes `f(a ? p : q, r)`. The answer says whether it did; the only
+/// error is that memory runs out, and then the expression is fit only to be dropped.
 pub fn minimize_conditional_branches(
     alloc: Global,
     node: &mut Node,

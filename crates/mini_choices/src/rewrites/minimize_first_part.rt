@@ -1,4 +1,5 @@
-//! Row 21 of a first part that has no effect before a last one that may not stand alone: `(null, a.b)()` becomes `(0, a.b)()`, where that is lighter.
+//! Row 21 of a first part that has no effect before a last one that may not stand alone:
+//! `(null, a.b)()` becomes `(0, a.b)()`, where that is lighter.
 
 ghost use Rattle.std.specs.Prelude.{◌≡◌, true, is_some, unwrap_or, OnOk, IfOk};
 ghost use Rattle.mini_model.specs.declared.place.Position.TheVariants.{Expr};
@@ -57,8 +58,9 @@ pub fn behind_zero(alloc: Global, node: Node) -> Result<Node, OutOfMemory>
     pair(alloc, numeric_literal(alloc, 0), last)
 }
 
-/// Where a sequence is of two parts, of which the first has no effect, a literal 0 stands for it, if that is lighter: `(null, a.b)()` becomes
-/// `(0, a.b)()`, where the last part would be read as a reference alone. The answer says whether it did; the only error is that memory runs out, and
+/// Where a sequence is of two parts, of which the first has no effect, a literal 0 stands for it,
+/// if that is lighter: `(null, a.b)()` becomes `(0, a.b)()`, where the last part would be read as a
+/// reference alone. The answer says whether it did; the only error is that memory runs out, and
 /// then the expression is fit only to be dropped.
 pub fn minimize_first_part(alloc: Global, node: &mut Node, seat: Seat) -> Result<bool, OutOfMemory>
     ensures tree { OnOk result (node.new ≡ unwrap_or (written seat node.old) node.old) }

@@ -1,4 +1,5 @@
-//! Rows 42, 43 and 49: a branch that stands in two places of a conditional is written once, where that is lighter.
+//! Rows 42, 43 and 49: a branch that stands in two places of a conditional is written once, where
+//! that is lighter.
 
 ghost use Rattle.std.specs.Prelude.{ℕ, ◌≡◌, ◌<◌, true, is_some, unwrap_or, OnOk, IfOk};
 ghost use Rattle.mini_model.specs.Tree.{children, count, logical as logical_of};
@@ -242,10 +243,11 @@ fn both_followed(alloc: Global, node: Node) -> Result<Node, OutOfMemory>
     pair(alloc, test, consequent)
 }
 
-/// A branch that stands in two places of a conditional is written once, where that is lighter: `a ? b ? c : d : d` becomes
-/// `a && b ? c : d`, `a ? b || c : c` becomes `a && b || c`, `a ? (b, c) : c` becomes `a && b, c`, the same of the alternate with
-/// `||`, and `a ? b : b` becomes `a, b`. The answer says whether it did; the only error is that memory runs out, and then the
-/// expression is fit only to be dropped.
+/// A branch that stands in two places of a conditional is written once, where that is lighter:
+/// `a ? b ? c : d : d` becomes `a && b ? c : d`, `a ? b || c : c` becomes `a && b || c`,
+/// `a ? (b, c) : c` becomes `a && b, c`, the same of the alternate with `||`, and `a ? b : b`
+/// becomes `a, b`. The answer says whether it did; the only error is that memory runs out, and then
+/// the expression is fit only to be dropped.
 pub fn minimize_held_branches(
     alloc: Global,
     node: &mut Node,

@@ -1,4 +1,5 @@
-//! Row 38: `x || (x = b)` becomes `x ||= b`, and so of `&&` and `??`, which is lighter in every seat.
+//! Row 38: `x || (x = b)` becomes `x ||= b`, and so of `&&` and `??`, which is lighter in every
+//! seat.
 
 ghost use Rattle.std.specs.Prelude.{◌≡◌, is_some, unwrap_or, OnOk, IfOk};
 ghost use Rattle.mini_node.specs.Children.{part};
@@ -43,8 +44,8 @@ pub fn decided(alloc: Global, operator: LogicalOperator, node: Node) -> Result<N
     assignment(alloc, deciding(operator), target, value)
 }
 
-/// `x || (x = b)` becomes `x ||= b`, and so of `&&` and `??`. The answer says whether it did; the only error is that memory runs
-/// out, and then the expression is fit only to be dropped.
+/// `x || (x = b)` becomes `x ||= b`, and so of `&&` and `??`. The answer says whether it did; the
+/// only error is that memory runs out, and then the expression is fit only to be dropped.
 pub fn minimize_logical_expression(alloc: Global, node: &mut Node) -> Result<bool, OutOfMemory>
     ensures tree { OnOk result (node.new ≡ unwrap_or (written node.old) node.old) }
     ensures said { IfOk result (λ changed. changed ≡ is_some (written node.old)) }

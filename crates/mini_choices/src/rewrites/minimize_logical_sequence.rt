@@ -1,5 +1,5 @@
-//! Row 38 of a sequence: `x || (a, x = b)` becomes `x ||= (a, b)`, and so of `&&` and `??`, where an assignment has no parentheses that the
-//! operator hasn't.
+//! Row 38 of a sequence: `x || (a, x = b)` becomes `x ||= (a, b)`, and so of `&&` and `??`, where
+//! an assignment has no parentheses that the operator hasn't.
 
 ghost use Rattle.std.specs.Prelude.{◌≡◌, ◌<◌, Some, true, is_some, unwrap_or, OnOk, IfOk, IfSome};
 ghost use Rattle.mini_model.specs.Tree.{children, count};
@@ -102,7 +102,8 @@ fn put_value(alloc: Global, parts: &mut Nodes)
     discard(parts.replace(at, value));
 }
 
-/// `x ||= (a, b)` of `x || (a, x = b)`, whatever is assigned to. The only error is that memory runs out.
+/// `x ||= (a, b)` of `x || (a, x = b)`, whatever is assigned to. The only error is that memory runs
+/// out.
 pub fn decided_last(
     alloc: Global,
     operator: LogicalOperator,
@@ -118,8 +119,9 @@ pub fn decided_last(
     assignment(alloc, deciding(operator), target, value)
 }
 
-/// `x || (a, x = b)` becomes `x ||= (a, b)`, and so of `&&` and `??`, where an assignment has no parentheses in the seat that the operator
-/// hasn't. The answer says whether it did; the only error is that memory runs out, and then the expression is fit only to be dropped.
+/// `x || (a, x = b)` becomes `x ||= (a, b)`, and so of `&&` and `??`, where an assignment has no
+/// parentheses in the seat that the operator hasn't. The answer says whether it did; the only error
+/// is that memory runs out, and then the expression is fit only to be dropped.
 pub fn minimize_logical_sequence(
     alloc: Global,
     node: &mut Node,

@@ -1,5 +1,5 @@
-//! Row 35: `x = x + b` becomes `x += b`, and `x.k = x.k + b` `x.k += b`, and so of the other operators of numbers, which is lighter
-//! in every seat.
+//! Row 35: `x = x + b` becomes `x += b`, and `x.k = x.k + b` `x.k += b`, and so of the other
+//! operators of numbers, which is lighter in every seat.
 
 ghost use Rattle.std.specs.Prelude.{◌≡◌, is_some, unwrap_or, OnOk, IfOk};
 ghost use Rattle.mini_rows.specs.Choices.{computing as computing_of};
@@ -60,8 +60,9 @@ pub fn combined(
     assignment(alloc, operator, target, right)
 }
 
-/// `x = x + b` becomes `x += b`, and `x.k = x.k + b` `x.k += b` where a scope declares x, and so of the other operators of numbers. The answer says whether it did; the only error is that
-/// memory runs out, and then the expression is fit only to be dropped.
+/// `x = x + b` becomes `x += b`, and `x.k = x.k + b` `x.k += b` where a scope declares x, and so of
+/// the other operators of numbers. The answer says whether it did; the only error is that memory
+/// runs out, and then the expression is fit only to be dropped.
 pub fn minimize_normal_assignment_to_combined_assignment(
     alloc: Global,
     node: &mut Node,

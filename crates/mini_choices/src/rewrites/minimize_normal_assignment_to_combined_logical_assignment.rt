@@ -1,5 +1,5 @@
-//! Row 34: `x = x || b` becomes `x ||= b`, and so of `&&` and `??`, where a scope declares x and it can be written. It is lighter in
-//! every seat.
+//! Row 34: `x = x || b` becomes `x ||= b`, and so of `&&` and `??`, where a scope declares x and it
+//! can be written. It is lighter in every seat.
 
 ghost use Rattle.std.specs.Prelude.{◌≡◌, is_some, unwrap_or, OnOk, IfOk};
 ghost use Rattle.mini_choices.specs.MinimizeNormalAssignmentToCombinedLogicalAssignment as row;
@@ -41,8 +41,9 @@ fn combined(alloc: Global, operator: LogicalOperator, node: Node) -> Result<Node
     assignment(alloc, deciding(operator), target, right)
 }
 
-/// `x = x || b` becomes `x ||= b`, and so of `&&` and `??`, where the program mentions x as a name that can be written. The answer says
-/// whether it did; the only error is that memory runs out, and then the expression is fit only to be dropped.
+/// `x = x || b` becomes `x ||= b`, and so of `&&` and `??`, where the program mentions x as a name
+/// that can be written. The answer says whether it did; the only error is that memory runs out, and
+/// then the expression is fit only to be dropped.
 pub fn minimize_normal_assignment_to_combined_logical_assignment(
     alloc: Global,
     node: &mut Node,
@@ -96,8 +97,8 @@ fn minimize_write(
     }
 }
 
-/// The rows of names that can be written as a rule: of each expression. Its context says which names the program that it knows lets be
-/// written.
+/// The rows of names that can be written as a rule: of each expression. Its context says which
+/// names the program that it knows lets be written.
 pub struct MinimizeWrites;
 
 impl Rule<TraverseCtx> for MinimizeWrites {

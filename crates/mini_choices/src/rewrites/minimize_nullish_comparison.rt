@@ -107,9 +107,9 @@ pub fn after(alloc: Global, equal: bool, node: Node) -> Result<Node, OutOfMemory
     logical(alloc, joining(equal), before, made)
 }
 
-/// `x === null || x === undefined` becomes `x == null`, and `x !== null && x !== undefined` becomes `x != null`, in any order, and
-/// after an equal operator to the left. The answer says whether it did; the only error is that memory runs out, and then the
-/// expression is fit only to be dropped.
+/// `x === null || x === undefined` becomes `x == null`, and `x !== null && x !== undefined` becomes
+/// `x != null`, in any order, and after an equal operator to the left. The answer says whether it
+/// did; the only error is that memory runs out, and then the expression is fit only to be dropped.
 pub fn minimize_nullish_comparison(alloc: Global, node: &mut Node) -> Result<bool, OutOfMemory>
     ensures tree { OnOk result (node.new ≡ unwrap_or (written node.old) node.old) }
     ensures said { IfOk result (λ changed. changed ≡ is_some (written node.old)) }

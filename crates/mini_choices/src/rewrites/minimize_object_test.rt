@@ -1,4 +1,5 @@
-//! Row 57: `typeof x == "object" && x !== null` becomes `typeof x == "object" && !!x`, which is lighter in every seat.
+//! Row 57: `typeof x == "object" && x !== null` becomes `typeof x == "object" && !!x`, which is
+//! lighter in every seat.
 
 ghost use Rattle.std.specs.Prelude.{◌≡◌, true, not, is_some, unwrap_or, OnOk, IfOk, IfSome};
 ghost use Rattle.mini_model.specs.Tree.{children, count};
@@ -168,9 +169,10 @@ fn first(alloc: Global, there: bool, node: Node) -> Result<Node, OutOfMemory>
     logical(alloc, joining(there), made, test)
 }
 
-/// `typeof x == "object" && x !== null` becomes `typeof x == "object" && !!x`, and `typeof x != "object" || x === null` becomes
-/// `typeof x != "object" || !x`, in any order, and after an equal operator to the left. The answer says whether it did; the only
-/// error is that memory runs out, and then the expression is fit only to be dropped.
+/// `typeof x == "object" && x !== null` becomes `typeof x == "object" && !!x`, and
+/// `typeof x != "object" || x === null` becomes `typeof x != "object" || !x`, in any order, and
+/// after an equal operator to the left. The answer says whether it did; the only error is that
+/// memory runs out, and then the expression is fit only to be dropped.
 pub fn minimize_object_test(alloc: Global, node: &mut Node) -> Result<bool, OutOfMemory>
     ensures tree { OnOk result (node.new ≡ unwrap_or (written node.old) node.old) }
     ensures said { IfOk result (λ changed. changed ≡ is_some (written node.old)) }

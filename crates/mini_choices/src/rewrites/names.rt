@@ -1,5 +1,5 @@
-//! Rewrites and readers that stand in larger ones, each by itself: row 64 alone, the links of 46 over a value that the caller has, and the name of
-//! an expression that is one or assigns to one.
+//! Rewrites and readers that stand in larger ones, each by itself: row 64 alone, the links of 46
+//! over a value that the caller has, and the name of an expression that is one or assigns to one.
 
 ghost use Rattle.std.specs.Prelude.{◌≡◌, true, is_some, unwrap_or, if◌then◌else◌, option_copied, OnOk, IfOk};
 ghost use Rattle.mini_rows.specs.Spellings.{void_zero as void_zero_of};
@@ -13,8 +13,8 @@ use mini_model::{OutOfMemory, Shape};
 use mini_node::{Node, is_identifier, of_one, taken};
 use std::alloc::Global;
 
-/// `(a?.b)?.c` becomes `a?.b?.c`, whatever links stand outside. The answer says whether it did; the only error is that memory runs out, and then the
-/// expression is fit only to be dropped.
+/// `(a?.b)?.c` becomes `a?.b?.c`, whatever links stand outside. The answer says whether it did; the
+/// only error is that memory runs out, and then the expression is fit only to be dropped.
 pub fn substitute_chain_expression(alloc: Global, node: &mut Node) -> Result<bool, OutOfMemory>
     ensures tree { OnOk result (node.new ≡ unwrap_or (name.chain_written node.old) node.old) }
     ensures said { IfOk result (λ changed. changed ≡ is_some (name.chain_written node.old)) }
@@ -25,8 +25,8 @@ pub fn substitute_chain_expression(alloc: Global, node: &mut Node) -> Result<boo
     fold_outermost(alloc, node, false)
 }
 
-/// The name, where an expression is one, and the one that it assigns to, where it is an assignment by `=` to a name: x of `x` and of `x = a`. None of
-/// everything else.
+/// The name, where an expression is one, and the one that it assigns to, where it is an assignment
+/// by `=` to a name: x of `x` and of `x = a`. None of everything else.
 pub fn extract_id_or_assign_to_id(expression: &Node) -> Option<&Node>
     ensures { option_copied result ≡ name.assigned_name expression.now }
 {
@@ -49,10 +49,11 @@ fn reads_target(target: &Node, expression: &Node) -> bool
         && is_spine(target, expression)
 }
 
-/// Where an expression is a member, a call or more of these over the name, which a scope declares, and which isn't `eval`, the value goes into the place
-/// of the name, the first link becomes optional, and the expression a chain: of `x.m(b)` and the value `x = a` it makes `(x = a)?.m(b)`, and leaves
-/// `void 0` as the value. Else nothing changes. The answer says whether it did; the only error is that memory runs out, and then both are fit only to be
-/// dropped.
+/// Where an expression is a member, a call or more of these over the name, which a scope declares,
+/// and which isn't `eval`, the value goes into the place of the name, the first link becomes
+/// optional, and the expression a chain: of `x.m(b)` and the value `x = a` it makes
+/// `(x = a)?.m(b)`, and leaves `void 0` as the value. Else nothing changes. The answer says whether
+/// it did; the only error is that memory runs out, and then both are fit only to be dropped.
 pub fn inject_optional_chaining_if_matched(
     alloc: Global,
     target: &Node,

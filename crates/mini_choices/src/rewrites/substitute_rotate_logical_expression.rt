@@ -1,5 +1,5 @@
-//! Row 39: `a && (b && c)` becomes `a && b && c`, and so of `||` and `??`, however many operands stand on the right, which is
-//! lighter in every seat.
+//! Row 39: `a && (b && c)` becomes `a && b && c`, and so of `||` and `??`, however many operands
+//! stand on the right, which is lighter in every seat.
 
 ghost use Rattle.std.specs.Prelude.{◌≡◌, is_some, unwrap_or, OnOk, IfOk};
 ghost use Rattle.mini_rows.specs.Choices.{is_same_operator as are_one_operator, is_grouped as is_it_grouped};
@@ -83,8 +83,9 @@ fn rotated(alloc: Global, operator: LogicalOperator, node: Node) -> Result<Node,
     logical(alloc, operator, first, last)
 }
 
-/// `a && (b && c)` becomes `a && b && c`, and so of `||` and `??`, however many operands stand on the right. The answer says whether
-/// it did; the only error is that memory runs out, and then the expression is fit only to be dropped.
+/// `a && (b && c)` becomes `a && b && c`, and so of `||` and `??`, however many operands stand on
+/// the right. The answer says whether it did; the only error is that memory runs out, and then the
+/// expression is fit only to be dropped.
 pub fn substitute_rotate_logical_expression(
     alloc: Global,
     node: &mut Node,

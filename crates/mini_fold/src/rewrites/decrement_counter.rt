@@ -1,5 +1,5 @@
-//! Row 36: `for (let x = n; x; x -= 1) b` becomes `for (let x = n; x; --x) b`, where x holds numbers only. What is written is
-//! lighter in every place.
+//! Row 36: `for (let x = n; x; x -= 1) b` becomes `for (let x = n; x; --x) b`, where x holds
+//! numbers only. What is written is lighter in every place.
 
 ghost use Rattle.std.specs.Prelude.{◌≡◌, ◌<◌, ◌||◌, not, true, is_some, unwrap_or, codes, IfOk, OnOk};
 ghost use Rattle.mini_model.specs.Tree.{children, child_or_absent, count, shape_of};
@@ -259,9 +259,9 @@ fn stepped(alloc: Global, operator: UpdateOperator, node: Node) -> Result<Node, 
     Ok(Node::new(Shape::ForStatement, children))
 }
 
-/// A counter of a `for` that holds numbers only steps by `--x` in place of `x -= 1`, and by `++x` in place of `x -= -1` (ECMA-262,
-/// "Update Expressions"). The answer says whether it does now; the only error is that memory runs out, and then the statement is fit
-/// only to be dropped.
+/// A counter of a `for` that holds numbers only steps by `--x` in place of `x -= 1`, and by `++x`
+/// in place of `x -= -1` (ECMA-262, "Update Expressions"). The answer says whether it does now; the
+/// only error is that memory runs out, and then the statement is fit only to be dropped.
 pub fn decrement_counter(alloc: Global, node: &mut Node) -> Result<bool, OutOfMemory>
     ensures tree { OnOk result (node.new ≡ unwrap_or (row.written node.old) node.old) }
     ensures said { IfOk result (λ changed. changed ≡ is_some (row.written node.old)) }

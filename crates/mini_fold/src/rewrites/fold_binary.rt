@@ -1,4 +1,5 @@
-//! Rows 3 to 8 as one call: what is calculated of a binary expression, and two operands that become one.
+//! Rows 3 to 8 as one call: what is calculated of a binary expression, and two operands that become
+//! one.
 
 ghost use Rattle.std.specs.Prelude.{◌≡◌, None, is_some, unwrap_or, OnOk, IfOk};
 ghost use Rattle.mini_model.specs.Tree.{children, count};
@@ -132,9 +133,10 @@ fn fold_operator(alloc: Global, node: &mut Node, seat: Seat) -> Result<bool, Out
     }
 }
 
-/// A binary operator over constants becomes the literal of its value, `typeof a + ""` `typeof a`, `a + "s" + "t"` `a + "st"`, `a & 6 & 3` `a & 2`, and a sum with
-/// a template one template, each where it is lighter. The answer says whether one did; the only error is that memory runs out, and then the
-/// expression is fit only to be dropped.
+/// A binary operator over constants becomes the literal of its value, `typeof a + ""` `typeof a`,
+/// `a + "s" + "t"` `a + "st"`, `a & 6 & 3` `a & 2`, and a sum with a template one template, each
+/// where it is lighter. The answer says whether one did; the only error is that memory runs out,
+/// and then the expression is fit only to be dropped.
 pub fn fold_binary_expr(alloc: Global, node: &mut Node, seat: Seat) -> Result<bool, OutOfMemory>
     ensures tree { OnOk result (node.new ≡ unwrap_or (name.binary_expression_written seat node.old) node.old) }
     ensures said { IfOk result (λ changed. changed ≡ is_some (name.binary_expression_written seat node.old)) }

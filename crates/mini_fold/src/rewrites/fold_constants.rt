@@ -1,6 +1,7 @@
-//! Rows 1 and 3: a unary or binary expression over constants becomes the literal of its value. `60 * 60` becomes `3600`, and
-//! `"a" + 1` becomes `"a1"`, where that is lighter in the seat. So does the length of a text that isn't written out (9): `(!0 + "").length`
-//! becomes `4`. Where nothing is written, two operands may be one (4 and 8).
+//! Rows 1 and 3: a unary or binary expression over constants becomes the literal of its value.
+//! `60 * 60` becomes `3600`, and `"a" + 1` becomes `"a1"`, where that is lighter in the seat. So
+//! does the length of a text that isn't written out (9): `(!0 + "").length` becomes `4`. Where
+//! nothing is written, two operands may be one (4 and 8).
 
 ghost use Rattle.std.specs.Prelude.{◌≡◌, is_some, unwrap_or, OnOk, IfOk};
 ghost use Rattle.mini_tree.specs.Rule.{Applied};
@@ -99,9 +100,9 @@ fn fold_other(alloc: Global, node: &mut Node, seat: Seat) -> Result<bool, OutOfM
     }
 }
 
-/// An operator over constants becomes the literal of its value, the length of a text that is known its number, or two operands become
-/// one, where that is lighter. The answer says whether something did; the only error is that memory runs out, and then the expression is
-/// fit only to be dropped.
+/// An operator over constants becomes the literal of its value, the length of a text that is known
+/// its number, or two operands become one, where that is lighter. The answer says whether something
+/// did; the only error is that memory runs out, and then the expression is fit only to be dropped.
 #[tactic(auto, using(crate::proofs::Constants::first_tree, crate::proofs::Constants::first_said))]
 pub fn fold_constant(alloc: Global, node: &mut Node, seat: Seat) -> Result<bool, OutOfMemory>
     ensures tree { OnOk result (node.new ≡ unwrap_or (written seat node.old) node.old) }
@@ -114,7 +115,8 @@ pub fn fold_constant(alloc: Global, node: &mut Node, seat: Seat) -> Result<bool,
     }
 }
 
-/// Rows 1 and 3, 9 of texts that aren't written out, and 4 and 8 of constants that aren't, as a rule: of each expression.
+/// Rows 1 and 3, 9 of texts that aren't written out, and 4 and 8 of constants that aren't, as a
+/// rule: of each expression.
 pub struct FoldConstants;
 
 impl<C: Context> Rule<C> for FoldConstants {

@@ -1,7 +1,8 @@
-//! Rows 9, 12, 13, 15, 22, 28 and 36, and 49 of an effect-free test: what is known of a part from its text goes. `!0 && b` becomes
-//! `b`, `0 && b` becomes `0`, `!a ? b : b` becomes `b`, `"abc".length` becomes `3`, the statement `void 0;` becomes `;`,
-//! `for (0;;) b` becomes `for (;;) b`, and
-//! `typeof a === "string"` becomes `typeof a == "string"`. What is written is lighter in every place.
+//! Rows 9, 12, 13, 15, 22, 28 and 36, and 49 of an effect-free test: what is known of a part from
+//! its text goes. `!0 && b` becomes `b`, `0 && b` becomes `0`, `!a ? b : b` becomes `b`,
+//! `"abc".length` becomes `3`, the statement `void 0;` becomes `;`, `for (0;;) b` becomes
+//! `for (;;) b`, and `typeof a === "string"` becomes `typeof a == "string"`. What is written is
+//! lighter in every place.
 
 ghost use Rattle.std.specs.Prelude.{◌≡◌, is_some, unwrap_or, OnOk, IfOk};
 ghost use Rattle.mini_tree.specs.Rule.{Applied};
@@ -54,7 +55,8 @@ fn second_of(node: Node) -> Node
     second
 }
 
-/// A logical expression one of whose sides is known to go becomes the other one. The answer says whether it did.
+/// A logical expression one of whose sides is known to go becomes the other one. The answer says
+/// whether it did.
 pub fn fold_logical_expression(alloc: Global, node: &mut Node, seat: Seat) -> bool
     ensures tree { node.new ≡ unwrap_or (folded seat node.old) node.old }
     ensures said { result ≡ is_some (folded seat node.old) }
@@ -91,8 +93,8 @@ fn chooses_nothing(node: &Node, seat: Seat) -> bool
     is_conditional(node) && is_idle_test(seat, node.child(0), node.child(1), node.child(2))
 }
 
-/// A conditional with an effect-free test and two equal branches becomes its branch: `!a ? b : b` becomes `b`. The answer says
-/// whether it did.
+/// A conditional with an effect-free test and two equal branches becomes its branch: `!a ? b : b`
+/// becomes `b`. The answer says whether it did.
 pub fn fold_conditional(alloc: Global, node: &mut Node, seat: Seat) -> bool
     ensures tree { node.new ≡ unwrap_or (branch_written seat node.old) node.old }
     ensures said { result ≡ is_some (branch_written seat node.old) }
@@ -104,8 +106,8 @@ pub fn fold_conditional(alloc: Global, node: &mut Node, seat: Seat) -> bool
     true
 }
 
-/// What is known of a logical expression, of the sides of an equality, of a conditional or of a text's length is folded. The answer says whether
-/// something was.
+/// What is known of a logical expression, of the sides of an equality, of a conditional or of a
+/// text's length is folded. The answer says whether something was.
 pub fn fold_expression(alloc: Global, node: &mut Node, seat: Seat) -> bool
     ensures tree { node.new ≡ unwrap_or (written seat node.old) node.old }
     ensures said { result ≡ is_some (written seat node.old) }
@@ -137,8 +139,9 @@ pub fn remove_unused_expression(alloc: Global, node: &mut Node) -> bool
     true
 }
 
-/// A part of the head of a `for` goes where it does nothing, or its counter steps by `--x`. The answer says whether something changed;
-/// the only error is that memory runs out, and then the statement is fit only to be dropped.
+/// A part of the head of a `for` goes where it does nothing, or its counter steps by `--x`. The
+/// answer says whether something changed; the only error is that memory runs out, and then the
+/// statement is fit only to be dropped.
 pub fn fold_for(alloc: Global, node: &mut Node) -> Result<bool, OutOfMemory>
     ensures tree { OnOk result (node.new ≡ unwrap_or (for_written node.old) node.old) }
     ensures said { IfOk result (λ changed. changed ≡ is_some (for_written node.old)) }
@@ -149,8 +152,9 @@ pub fn fold_for(alloc: Global, node: &mut Node) -> Result<bool, OutOfMemory>
     decrement_counter(alloc, node)
 }
 
-/// An expression statement, or a part of the head of a `for`, goes where it does nothing, and a counter steps by `--x`. The answer
-/// says whether something changed; the only error is that memory runs out, and then the statement is fit only to be dropped.
+/// An expression statement, or a part of the head of a `for`, goes where it does nothing, and a
+/// counter steps by `--x`. The answer says whether something changed; the only error is that memory
+/// runs out, and then the statement is fit only to be dropped.
 pub fn fold_statement(alloc: Global, node: &mut Node) -> Result<bool, OutOfMemory>
     ensures tree { OnOk result (node.new ≡ unwrap_or (statement_written node.old) node.old) }
     ensures said { IfOk result (λ changed. changed ≡ is_some (statement_written node.old)) }
@@ -162,7 +166,8 @@ pub fn fold_statement(alloc: Global, node: &mut Node) -> Result<bool, OutOfMemor
     }
 }
 
-/// Rows 9, 12, 13, 15, 22, 28 and 36, and 49 of an effect-free test, as a rule: of each expression and each statement.
+/// Rows 9, 12, 13, 15, 22, 28 and 36, and 49 of an effect-free test, as a rule: of each expression
+/// and each statement.
 pub struct FoldKnown;
 
 impl<C: Context> Rule<C> for FoldKnown {

@@ -1,6 +1,9 @@
-//! Rows 4, 7, 14, 27 and 29 to 32, and those of operators (2, 8, 16, 17 and 56): an operand whose value is known goes, or is written shorter. `a + "s" + "t"` becomes `a + "st"`,
-//! `typeof a + ""` becomes `typeof a`, `a || 0 || b` becomes `a || b`, `(a & 1) == 0` becomes `!(a & 1)`, and `a << 1 != 0` `a << 1` in a test, `!a == !0` becomes `!a`, and
-//! `a == !0` becomes `a == 1`; `a << 0` becomes `a | 0`, and `a << 1 | 0` becomes `a << 1`. What is written is lighter in every place.
+//! Rows 4, 7, 14, 27 and 29 to 32, and those of operators (2, 8, 16, 17 and 56): an operand whose
+//! value is known goes, or is written shorter. `a + "s" + "t"` becomes `a + "st"`, `typeof a + ""`
+//! becomes `typeof a`, `a || 0 || b` becomes `a || b`, `(a & 1) == 0` becomes `!(a & 1)`, and
+//! `a << 1 != 0` `a << 1` in a test, `!a == !0` becomes `!a`, and `a == !0` becomes `a == 1`;
+//! `a << 0` becomes `a | 0`, and `a << 1 | 0` becomes `a << 1`. What is written is lighter in every
+//! place.
 
 ghost use Rattle.std.specs.Prelude.{◌≡◌, true, is_some, unwrap_or, option_copied, OnOk, IfOk};
 ghost use Rattle.mini_model.specs.Tree.{children, count};
@@ -645,7 +648,8 @@ fn fold_masks(
     fold_sides(alloc, node, seat, operator)
 }
 
-// The same where this operator of bits stands over the same one, and else by what is known of an operand.
+// The same where this operator of bits stands over the same one, and else by what is known of an
+// operand.
 fn fold_mask(
     alloc: Global,
     node: &mut Node,
@@ -701,8 +705,8 @@ fn fold_binary(alloc: Global, node: &mut Node, seat: Seat) -> Result<bool, OutOf
     fold_plus(alloc, node, seat, operator)
 }
 
-/// An operand whose value is known goes, or is written shorter. The answer says whether it was; the only error is that memory runs
-/// out, and then the expression is fit only to be dropped.
+/// An operand whose value is known goes, or is written shorter. The answer says whether it was; the
+/// only error is that memory runs out, and then the expression is fit only to be dropped.
 pub fn fold_operands(alloc: Global, node: &mut Node, seat: Seat) -> Result<bool, OutOfMemory>
     ensures tree { OnOk result (node.new ≡ unwrap_or (operand.written seat node.old) node.old) }
     ensures said { IfOk result (λ changed. changed ≡ is_some (operand.written seat node.old)) }

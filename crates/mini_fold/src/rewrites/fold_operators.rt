@@ -1,6 +1,7 @@
-//! Rows 2, 8, 16, 17 and 56: an operator whose value is told by its operands, or that does alike without a part of them. `delete a()`
-//! becomes `a(), !0`, `typeof x == typeof x` becomes `!0`, `typeof a == null` becomes `!1`, `+a * 2` becomes `a * 2`, and `a & 6 & 3` becomes `a & 2`. What is written
-//! is lighter in every place.
+//! Rows 2, 8, 16, 17 and 56: an operator whose value is told by its operands, or that does alike
+//! without a part of them. `delete a()` becomes `a(), !0`, `typeof x == typeof x` becomes `!0`,
+//! `typeof a == null` becomes `!1`, `+a * 2` becomes `a * 2`, and `a & 6 & 3` becomes `a & 2`. What
+//! is written is lighter in every place.
 
 ghost use Rattle.std.specs.Prelude.{◌≡◌, true, is_some, unwrap_or, option_copied, length, OnOk, IfOk};
 ghost use Rattle.std.specs.Fmt.{signed_decimal};
@@ -56,8 +57,8 @@ fn is_lone(node: &Node) -> bool
     }
 }
 
-/// `delete a()` becomes `a(), !0`. The answer says whether it did; the only error is that memory runs out, and then the expression is
-/// fit only to be dropped.
+/// `delete a()` becomes `a(), !0`. The answer says whether it did; the only error is that memory
+/// runs out, and then the expression is fit only to be dropped.
 pub fn fold_delete(alloc: Global, node: &mut Node) -> Result<bool, OutOfMemory>
     ensures tree { OnOk result (node.new ≡ unwrap_or (tree.delete_written (its_unary_operator node.old) (part node.old 0)) node.old) }
     ensures said { IfOk result (λ changed. changed ≡ is_some (tree.delete_written (its_unary_operator node.old) (part node.old 0))) }

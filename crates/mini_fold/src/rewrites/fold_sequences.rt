@@ -1,6 +1,10 @@
-//! Rows 20 and 21: a sequence is lifted out of the first operand of a logical expression, a conditional, a `!`, `+`, `-` or `~`, an operator
-//! of two, or a `yield`, or of such nodes one in the first operand of the other, and spread in a sequence; parts that have no effect go, but the last.
-//! `(a, b) && c` becomes `a, b && c`, `-(a, b)` becomes `a, -b`, `(a, b) + c < d` becomes `a, b + c < d`, `a, (b, c)` becomes `a, b, c`, `a(), 1, b()` becomes `a(), b()`, `(0, a)()` becomes `a()`, and `typeof (0, a.b)` becomes `typeof a.b`. What is written is lighter in every place.
+//! Rows 20 and 21: a sequence is lifted out of the first operand of a logical expression, a
+//! conditional, a `!`, `+`, `-` or `~`, an operator of two, or a `yield`, or of such nodes one in
+//! the first operand of the other, and spread in a sequence; parts that have no effect go, but the
+//! last. `(a, b) && c` becomes `a, b && c`, `-(a, b)` becomes `a, -b`, `(a, b) + c < d` becomes
+//! `a, b + c < d`, `a, (b, c)` becomes `a, b, c`, `a(), 1, b()` becomes `a(), b()`, `(0, a)()`
+//! becomes `a()`, and `typeof (0, a.b)` becomes `typeof a.b`. What is written is lighter in every
+//! place.
 
 ghost use Rattle.std.specs.Prelude.{◌≡◌, ◌+◌, ◌<◌, ◌==◌, ◌&&◌, true, false, nat_le, is_some, IfOk, IfSome};
 ghost use Rattle.mini_model.specs.Tree.{children, count, child_or_absent, shape_of};
@@ -195,7 +199,8 @@ fn leaves_bare(node: &Node) -> bool
     leaves_bare(node.child(0))
 }
 
-// Whether what is lifted out here has no parentheses, or the node has had some, or the last part has none.
+// Whether what is lifted out here has no parentheses, or the node has had some, or the last part
+// has none.
 fn has_room(node: &Node, seat: Seat) -> bool
     ensures { result ≡ has_it_room seat node.now }
 {
@@ -234,7 +239,8 @@ fn split_sequence(alloc: Global, node: &mut Node) -> Nodes
     parts
 }
 
-// The parts but the last of the sequence that it is, or of the one that is reached along first operands.
+// The parts but the last of the sequence that it is, or of the one that is reached along first
+// operands.
 #[tactic(auto, using(crate::proofs::Sequences::split_leaf, crate::proofs::Sequences::split_here, crate::proofs::Sequences::split_below, crate::proofs::Sequences::part_fewer))]
 fn split_first(alloc: Global, node: &mut Node) -> Nodes
     ensures before { result ≡ parts_before node.old }
@@ -383,7 +389,8 @@ fn drop_idle(alloc: Global, node: &mut Node, seat: Seat) -> Result<bool, OutOfMe
     }
 }
 
-// A sequence in a sequence is spread, and parts that have no effect go. The answer says whether something was done.
+// A sequence in a sequence is spread, and parts that have no effect go. The answer says whether
+// something was done.
 fn spread(alloc: Global, node: &mut Node, seat: Seat) -> Result<bool, OutOfMemory>
     requires { is_it_lifted seat node.old ≡ false }
     ensures { IfOk result (λ changed. Applied Gives Rests (Position.Expr seat) node.old node.new changed) }
@@ -400,8 +407,9 @@ fn spread(alloc: Global, node: &mut Node, seat: Seat) -> Result<bool, OutOfMemor
     }
 }
 
-/// A sequence is lifted out of the first operand of an expression, or spread in a sequence, or a part of one that has no effect goes.
-/// The answer says whether something was done; the only error is that memory runs out, and then the expression is fit only to be dropped.
+/// A sequence is lifted out of the first operand of an expression, or spread in a sequence, or a
+/// part of one that has no effect goes. The answer says whether something was done; the only error
+/// is that memory runs out, and then the expression is fit only to be dropped.
 pub fn fold_sequence_expression(
     alloc: Global,
     node: &mut Node,

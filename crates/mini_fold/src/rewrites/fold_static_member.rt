@@ -1,5 +1,6 @@
-//! Row 9: the length of a text that is written out becomes its number. `"abc".length` becomes `3`; the member stays where a reference is
-//! asked, as of `delete "abc".length`. What is written is lighter in every place; of a text that is known otherwise it is weighed.
+//! Row 9: the length of a text that is written out becomes its number. `"abc".length` becomes `3`;
+//! the member stays where a reference is asked, as of `delete "abc".length`. What is written is
+//! lighter in every place; of a text that is known otherwise it is weighed.
 
 ghost use Rattle.std.specs.Prelude.{◌≡◌, is_some, unwrap_or, true, IfOk};
 ghost use Rattle.mini_model.specs.Tree.{shape_of, children, count};
@@ -105,7 +106,8 @@ fn count_of_known(alloc: Global, node: &Node) -> Result<Option<Node>, OutOfMemor
     Ok(count_of_value(alloc, value))
 }
 
-/// The number that the length of a text is which is known, where it may stand: of `` `${!1}`.length `` it is `5`.
+/// The number that the length of a text is which is known, where it may stand: of `` `${!1}`.length
+/// `` it is `5`.
 ///
 /// The only error is that memory runs out.
 pub fn length_of(alloc: Global, node: &Node, seat: Seat) -> Result<Option<Node>, OutOfMemory>
@@ -118,7 +120,8 @@ pub fn length_of(alloc: Global, node: &Node, seat: Seat) -> Result<Option<Node>,
     }
 }
 
-/// The length of a text that is written out becomes its number: `"abc".length` becomes `3`. The answer says whether it did.
+/// The length of a text that is written out becomes its number: `"abc".length` becomes `3`. The
+/// answer says whether it did.
 pub fn fold_static_member(alloc: Global, node: &mut Node, seat: Seat) -> bool
     ensures tree { node.new ≡ unwrap_or (written seat node.old) node.old }
     ensures said { result ≡ is_some (written seat node.old) }
@@ -151,7 +154,8 @@ fn asks_computed(node: &Node, seat: Seat) -> bool
     is_computed_member(node) && says_length(node.child(1)) && takes_length(seat)
 }
 
-/// The length of a text that is read with a key in brackets becomes a number: `"abc"["length"]` becomes `3`. The answer says whether it did.
+/// The length of a text that is read with a key in brackets becomes a number: `"abc"["length"]`
+/// becomes `3`. The answer says whether it did.
 pub fn fold_computed_member_expr(alloc: Global, node: &mut Node, seat: Seat) -> bool
     ensures tree { node.new ≡ unwrap_or (computed_written seat node.old) node.old }
     ensures said { result ≡ is_some (computed_written seat node.old) }

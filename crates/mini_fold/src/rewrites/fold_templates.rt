@@ -1,6 +1,8 @@
-//! Rows 18, 5 and 6: a part of a template whose value is calculated goes into the text: `` `a${1}b${c}` `` becomes `` `a1b${c}` ``; a sum of
-//! templates is one, as `` `a${b}` + `c${d}` `` becomes `` `a${b}c${d}` ``, and `` `a${b}` + "c" `` becomes `` `a${b}c` ``; so are they behind
-//! another operand, as `` a + `x${b}` + "y" `` becomes `` a + `x${b}y` ``. What is written is lighter in its seat.
+//! Rows 18, 5 and 6: a part of a template whose value is calculated goes into the text: ``
+//! `a${1}b${c}` `` becomes `` `a1b${c}` ``; a sum of templates is one, as `` `a${b}` + `c${d}` ``
+//! becomes `` `a${b}c${d}` ``, and `` `a${b}` + "c" `` becomes `` `a${b}c` ``; so are they behind
+//! another operand, as `` a + `x${b}` + "y" `` becomes `` a + `x${b}y` ``. What is written is
+//! lighter in its seat.
 
 ghost use Rattle.std.specs.Prelude.{◌≡◌, ◌<◌, ◌+◌, nat_eq, true, false, [], ◌∷◌, Some, is_some, unwrap_or, OnOk, IfOk, IfSome};
 ghost use Rattle.mini_model.specs.Joined.{joined};
@@ -274,8 +276,9 @@ fn inline_part(alloc: Global, node: Node, at: usize, joined: Node) -> Result<Nod
     template_literal(alloc, texts, parts)
 }
 
-/// A part of a template whose value is calculated goes into the text, where that is lighter. The answer says whether one did; the only
-/// error is that memory runs out, and then the expression is fit only to be dropped.
+/// A part of a template whose value is calculated goes into the text, where that is lighter. The
+/// answer says whether one did; the only error is that memory runs out, and then the expression is
+/// fit only to be dropped.
 pub fn inline_template_literal(
     alloc: Global,
     node: &mut Node,
@@ -637,7 +640,8 @@ fn fold_nested(alloc: Global, node: &mut Node) -> Result<bool, OutOfMemory>
     }
 }
 
-// A sum whose first operand is a sum: what stands behind that one's first operand, or else all of it.
+// A sum whose first operand is a sum: what stands behind that one's first operand, or else all of
+// it.
 #[tactic(auto, using(crate::proofs::Templates::behind_tree_first, crate::proofs::Templates::behind_said_first, crate::proofs::Templates::same_operands, crate::proofs::Templates::whole_said))]
 fn fold_sum_of_sum(alloc: Global, node: &mut Node, seat: Seat) -> Result<bool, OutOfMemory>
     requires outer { its_binary_operator node.old ≡ Some Addition }
@@ -668,9 +672,10 @@ pub fn fold_sum(alloc: Global, node: &mut Node, seat: Seat) -> Result<bool, OutO
     }
 }
 
-/// A part of a template whose value is calculated goes into the text, and a sum of a template and another, or of a template and what
-/// has a calculated value, becomes one template, also behind another operand, where that is lighter. The answer says whether something did;
-/// the only error is that memory runs out, and then the expression is fit only to be dropped.
+/// A part of a template whose value is calculated goes into the text, and a sum of a template and
+/// another, or of a template and what has a calculated value, becomes one template, also behind
+/// another operand, where that is lighter. The answer says whether something did; the only error is
+/// that memory runs out, and then the expression is fit only to be dropped.
 #[tactic(auto, using(crate::proofs::Templates::sum_applied, crate::proofs::Templates::others_applied))]
 pub fn fold_templates(alloc: Global, node: &mut Node, seat: Seat) -> Result<bool, OutOfMemory>
     ensures { IfOk result (λ changed. Applied Gives Rests (Position.Expr seat) node.old node.new changed) }

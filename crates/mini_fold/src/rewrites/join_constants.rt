@@ -1,5 +1,6 @@
-//! Rows 4 and 8 of constants that aren't written out: two operands that do nothing but give their values are one. `a + "s" + (1 << 14)`
-//! becomes `a + "s16384"`, and `a & (1 << 14) & -1` `a & 16384`, where that is lighter.
+//! Rows 4 and 8 of constants that aren't written out: two operands that do nothing but give their
+//! values are one. `a + "s" + (1 << 14)` becomes `a + "s16384"`, and `a & (1 << 14) & -1`
+//! `a & 16384`, where that is lighter.
 
 ghost use Rattle.std.specs.Prelude.{◌≡◌, true, false, is_some, unwrap_or, Some, None, OnOk, IfOk};
 ghost use Rattle.mini_model.specs.Tree.{children, count};
@@ -262,8 +263,9 @@ fn join_within(
     Ok(true)
 }
 
-/// Two operands that do nothing but give their values become one, where that is lighter. The answer says whether they did; the only
-/// error is that memory runs out, and then the expression is fit only to be dropped.
+/// Two operands that do nothing but give their values become one, where that is lighter. The answer
+/// says whether they did; the only error is that memory runs out, and then the expression is fit
+/// only to be dropped.
 pub fn join_constants(alloc: Global, node: &mut Node) -> Result<bool, OutOfMemory>
     ensures tree { OnOk result (node.new ≡ unwrap_or (join.joined_written node.old) node.old) }
     ensures said { IfOk result (λ changed. changed ≡ is_some (join.joined_written node.old)) }

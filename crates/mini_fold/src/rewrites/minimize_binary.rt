@@ -1,4 +1,5 @@
-//! Row 28: `a === b` becomes `a == b` where both sides are of one known Kind. It is lighter in every seat.
+//! Row 28: `a === b` becomes `a == b` where both sides are of one known Kind. It is lighter in
+//! every seat.
 
 ghost use Rattle.std.specs.Prelude.{◌≡◌, is_some, unwrap_or, IfSome};
 ghost use Rattle.mini_model.specs.Tree.{children, count};
@@ -32,7 +33,8 @@ fn loose_operator(node: &Node) -> Option<BinaryOperator>
     }
 }
 
-/// A strict equality of two sides of one known Kind becomes a loose one. The answer says whether it did.
+/// A strict equality of two sides of one known Kind becomes a loose one. The answer says whether it
+/// did.
 pub fn minimize_binary(alloc: Global, node: &mut Node) -> bool
     ensures tree { node.new ≡ unwrap_or (written node.old) node.old }
     ensures said { result ≡ is_some (written node.old) }

@@ -1,5 +1,6 @@
-//! Rewrites that stand in larger ones, each by itself: of what is calculated (1), of `delete` (2), of sides and operands that are known (12 to 15),
-//! of `typeof` (16 and 17), and of comparisons, bits and signs (27 to 32 and 56). What is written is lighter in its seat.
+//! Rewrites that stand in larger ones, each by itself: of what is calculated (1), of `delete` (2),
+//! of sides and operands that are known (12 to 15), of `typeof` (16 and 17), and of comparisons,
+//! bits and signs (27 to 32 and 56). What is written is lighter in its seat.
 
 ghost use Rattle.std.specs.Prelude.{◌≡◌, None, is_some, unwrap_or, OnOk, IfOk};
 ghost use Rattle.mini_model.specs.Tree.{children, count};
@@ -24,8 +25,9 @@ use mini_model::{BinaryOperator, LogicalOperator, OutOfMemory, Seat};
 use mini_node::{Node, binary, binary_operator, logical_operator, one, taken, two, unary_operator};
 use std::alloc::Global;
 
-/// `typeof x == typeof x` becomes `!0`, and `typeof a == "text"` `!1` where no value of `typeof` is that; unequal the other one. The answer says
-/// whether it did; the only error is that memory runs out.
+/// `typeof x == typeof x` becomes `!0`, and `typeof a == "text"` `!1` where no value of `typeof` is
+/// that; unequal the other one. The answer says whether it did; the only error is that memory runs
+/// out.
 pub fn fold_binary_typeof_comparison(alloc: Global, node: &mut Node) -> Result<bool, OutOfMemory>
     ensures tree { OnOk result (node.new ≡ unwrap_or (name.typeof_written node.old) node.old) }
     ensures said { IfOk result (λ changed. changed ≡ is_some (name.typeof_written node.old)) }
@@ -59,8 +61,9 @@ fn drop_plus(alloc: Global, node: &mut Node, operator: BinaryOperator) -> Result
     Ok(false)
 }
 
-/// `+a * 2` becomes `a * 2`, and so of other operators that make numbers of their operands. The answer says whether it did; the only error is that
-/// memory runs out, and then the expression is fit only to be dropped.
+/// `+a * 2` becomes `a * 2`, and so of other operators that make numbers of their operands. The
+/// answer says whether it did; the only error is that memory runs out, and then the expression is
+/// fit only to be dropped.
 pub fn substitute_unary_plus(alloc: Global, node: &mut Node) -> Result<bool, OutOfMemory>
     ensures tree { OnOk result (node.new ≡ unwrap_or (name.plus_written node.old) node.old) }
     ensures said { IfOk result (λ changed. changed ≡ is_some (name.plus_written node.old)) }
@@ -107,8 +110,9 @@ fn write_digits(
     }
 }
 
-/// `a == !0` becomes `a == 1`, and `a != !1` `a != 0`, the boolean on either side. The answer says whether it did; the only error is that memory runs
-/// out, and then the expression is fit only to be dropped.
+/// `a == !0` becomes `a == 1`, and `a != !1` `a != 0`, the boolean on either side. The answer says
+/// whether it did; the only error is that memory runs out, and then the expression is fit only to
+/// be dropped.
 pub fn minimize_loose_boolean(alloc: Global, node: &mut Node) -> Result<bool, OutOfMemory>
     ensures tree { OnOk result (node.new ≡ unwrap_or (name.loose_written node.old) node.old) }
     ensures said { IfOk result (λ changed. changed ≡ is_some (name.loose_written node.old)) }
@@ -140,8 +144,9 @@ fn fold_bitwise(
     }
 }
 
-/// `a << 0`, `a >> 0`, `a ^ 0` and `a & 4294967295` become `a | 0`, and `a << 1 | 0` `a << 1`. The answer says whether it did; the only error is that
-/// memory runs out, and then the expression is fit only to be dropped.
+/// `a << 0`, `a >> 0`, `a ^ 0` and `a & 4294967295` become `a | 0`, and `a << 1 | 0` `a << 1`. The
+/// answer says whether it did; the only error is that memory runs out, and then the expression is
+/// fit only to be dropped.
 pub fn minimize_bitwise_binary_expr(
     alloc: Global,
     node: &mut Node,
@@ -217,8 +222,9 @@ fn minimize_equality(
     }
 }
 
-/// `(a & 1) == 0` becomes `!(a & 1)`, `!a == !0` becomes `!a`, and `a === b` `a == b` where both are of one known Kind. The answer says whether it
-/// did; the only error is that memory runs out, and then the expression is fit only to be dropped.
+/// `(a & 1) == 0` becomes `!(a & 1)`, `!a == !0` becomes `!a`, and `a === b` `a == b` where both
+/// are of one known Kind. The answer says whether it did; the only error is that memory runs out,
+/// and then the expression is fit only to be dropped.
 pub fn minimize_binary_expr(alloc: Global, node: &mut Node, seat: Seat) -> Result<bool, OutOfMemory>
     ensures tree { OnOk result (node.new ≡ unwrap_or (name.binary_written seat node.old) node.old) }
     ensures said { IfOk result (λ changed. changed ≡ is_some (name.binary_written seat node.old)) }
@@ -242,8 +248,9 @@ fn fold_unary(alloc: Global, node: &mut Node, seat: Seat) -> Result<bool, OutOfM
     }
 }
 
-/// A unary operator over a constant becomes the literal of its value, where that is lighter, and `delete a()` becomes `a(), !0`. The answer says
-/// whether one did; the only error is that memory runs out, and then the expression is fit only to be dropped.
+/// A unary operator over a constant becomes the literal of its value, where that is lighter, and
+/// `delete a()` becomes `a(), !0`. The answer says whether one did; the only error is that memory
+/// runs out, and then the expression is fit only to be dropped.
 pub fn fold_unary_expr(alloc: Global, node: &mut Node, seat: Seat) -> Result<bool, OutOfMemory>
     ensures tree { OnOk result (node.new ≡ unwrap_or (name.unary_written seat node.old) node.old) }
     ensures said { IfOk result (λ changed. changed ≡ is_some (name.unary_written seat node.old)) }
@@ -267,8 +274,9 @@ fn fold_side(alloc: Global, node: &mut Node, seat: Seat) -> Result<bool, OutOfMe
     }
 }
 
-/// `0 && b` becomes `0`, `1 && b` `b`, and `a || 0 || b` `a || b`: a side of `&&` or `||` goes whose truth is known. The answer says whether one
-/// did; the only error is that memory runs out, and then the expression is fit only to be dropped.
+/// `0 && b` becomes `0`, `1 && b` `b`, and `a || 0 || b` `a || b`: a side of `&&` or `||` goes
+/// whose truth is known. The answer says whether one did; the only error is that memory runs out,
+/// and then the expression is fit only to be dropped.
 pub fn try_fold_and_or(alloc: Global, node: &mut Node, seat: Seat) -> Result<bool, OutOfMemory>
     ensures tree { OnOk result (node.new ≡ unwrap_or (name.and_or_written seat node.old) node.old) }
     ensures said { IfOk result (λ changed. changed ≡ is_some (name.and_or_written seat node.old)) }
@@ -280,7 +288,8 @@ pub fn try_fold_and_or(alloc: Global, node: &mut Node, seat: Seat) -> Result<boo
     }
 }
 
-/// `null ?? b` becomes `b`, and `!a ?? b` `!a`: a side of `??` goes where the Kind of the left one is known. The answer says whether one did.
+/// `null ?? b` becomes `b`, and `!a ?? b` `!a`: a side of `??` goes where the Kind of the left one
+/// is known. The answer says whether one did.
 pub fn try_fold_coalesce(alloc: Global, node: &mut Node, seat: Seat) -> bool
     ensures tree { node.new ≡ unwrap_or (name.coalesce_written seat node.old) node.old }
     ensures said { result ≡ is_some (name.coalesce_written seat node.old) }

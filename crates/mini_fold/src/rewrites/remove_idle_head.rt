@@ -1,5 +1,5 @@
-//! Row 22 of the head of a `for`: `for (0; a; b) c` becomes `for (; a; b) c`, and `for (; a; i) c` becomes `for (; a;) c`. What is
-//! written is lighter in every place.
+//! Row 22 of the head of a `for`: `for (0; a; b) c` becomes `for (; a; b) c`, and `for (; a; i) c`
+//! becomes `for (; a;) c`. What is written is lighter in every place.
 
 ghost use Rattle.std.specs.Prelude.{◌≡◌, ◌<◌, true, is_some, unwrap_or};
 ghost use Rattle.mini_model.specs.Tree.{children, count};
@@ -51,8 +51,9 @@ fn without(node: Node, at: usize) -> Node
     Node::new(Shape::ForStatement, children)
 }
 
-/// A part of the head of a `for` whose value nobody asks for goes, where it does nothing: what the loop begins with, or what it
-/// does after each turn (ECMA-262, "The for Statement"). The answer says whether one did.
+/// A part of the head of a `for` whose value nobody asks for goes, where it does nothing: what the
+/// loop begins with, or what it does after each turn (ECMA-262, "The for Statement"). The answer
+/// says whether one did.
 pub fn remove_idle_head(alloc: Global, node: &mut Node) -> bool
     ensures tree { node.new ≡ unwrap_or (row.written node.old) node.old }
     ensures said { result ≡ is_some (row.written node.old) }

@@ -1,6 +1,8 @@
-//! Row 50: `!a && b;` becomes `a || b;`, and `!a || b;` `a && b;`, where that is lighter; so of what a `for` begins with or does after
-//! each turn: `for (!a && b;;) c` becomes `for (a || b;;) c`; of the last part of a sequence in one of these places: `a(), !b && c();` becomes
-//! `a(), b || c();`; and of a part of any sequence but the last: `f((!a && b(), c))` becomes `f((a || b(), c))`.
+//! Row 50: `!a && b;` becomes `a || b;`, and `!a || b;` `a && b;`, where that is lighter; so of
+//! what a `for` begins with or does after each turn: `for (!a && b;;) c` becomes
+//! `for (a || b;;) c`; of the last part of a sequence in one of these places: `a(), !b && c();`
+//! becomes `a(), b || c();`; and of a part of any sequence but the last: `f((!a && b(), c))`
+//! becomes `f((a || b(), c))`.
 
 ghost use Rattle.std.specs.Prelude.{◌≡◌, ◌+◌, ◌<◌, true, is_some, unwrap_or, OnOk, IfOk, IfSome};
 ghost use Rattle.mini_model.specs.declared.place.Position.TheVariants.{Expr};
@@ -38,7 +40,8 @@ fn turned(operator: LogicalOperator) -> LogicalOperator
     }
 }
 
-// The weight of the logical expression of this operator over the negation of its left side, as a statement's.
+// The weight of the logical expression of this operator over the negation of its left side, as a
+// statement's.
 #[tactic(auto, using(crate::proofs::Weights::weight_logical))]
 fn turned_weight(operator: LogicalOperator, left: &Node, right: &Node) -> u64
     ensures { result ≡ capped (weight_at (Expr statement_seat) (logical_of operator (told_lightest (left_seat operator statement_seat) left.now) right.now)) }
@@ -49,7 +52,8 @@ fn turned_weight(operator: LogicalOperator, left: &Node, right: &Node) -> u64
         .saturating_add(expr_weight(right, seats::right_operand(operator, seat)))
 }
 
-// Whether a logical expression of this operator is lighter under the other one, and its right side is none of the operator.
+// Whether a logical expression of this operator is lighter under the other one, and its right side
+// is none of the operator.
 fn turns(operator: LogicalOperator, expression: &Node) -> bool
     requires { count (children expression.now) ≡ 2 }
     ensures { result ≡ it_turns operator expression.now }
@@ -202,8 +206,10 @@ fn turn_at(alloc: Global, node: &mut Node, at: usize) -> Result<(), OutOfMemory>
     turn(alloc, node.children_mut().child_mut(at))
 }
 
-/// `!a && b;` becomes `a || b;`, and `!a || b;` `a && b;`, where that is lighter, and so do what a `for` begins with and what it does after each
-/// turn, and of a sequence there its last part. The answer says whether one did; the only error is that memory runs out, and then the statement is fit only to be dropped.
+/// `!a && b;` becomes `a || b;`, and `!a || b;` `a && b;`, where that is lighter, and so do what a
+/// `for` begins with and what it does after each turn, and of a sequence there its last part. The
+/// answer says whether one did; the only error is that memory runs out, and then the statement is
+/// fit only to be dropped.
 pub fn de_morgan_for_void_expr(alloc: Global, node: &mut Node) -> Result<bool, OutOfMemory>
     ensures tree { OnOk result (node.new ≡ unwrap_or (written node.old) node.old) }
     ensures said { IfOk result (λ changed. changed ≡ is_some (written node.old)) }
@@ -233,9 +239,9 @@ fn turned_at(nodes: &Nodes) -> Option<usize>
     None
 }
 
-/// `a(), !b && c(), d()` becomes `a(), b || c(), d()`, where that is lighter: the value of a part but the last is asked by nobody (ECMA-262,
-/// "Comma Operator"). The answer says whether one did; the only error is that memory runs out, and then the expression is fit only to be
-/// dropped.
+/// `a(), !b && c(), d()` becomes `a(), b || c(), d()`, where that is lighter: the value of a part
+/// but the last is asked by nobody (ECMA-262, "Comma Operator"). The answer says whether one did;
+/// the only error is that memory runs out, and then the expression is fit only to be dropped.
 pub fn de_morgan_for_part(alloc: Global, node: &mut Node, seat: Seat) -> Result<bool, OutOfMemory>
     ensures { IfOk result (λ changed. Applied Gives Rests (Position.Expr seat) node.old node.new changed) }
 {

@@ -1,4 +1,5 @@
-//! Branches of `if` and bodies of loops as a rule: 79, and where it does nothing 78 of loops, then of a `do` that is run once, and then 84.
+//! Branches of `if` and bodies of loops as a rule: 79, and where it does nothing 78 of loops, then
+//! of a `do` that is run once, and then 84.
 
 ghost use Rattle.std.specs.Prelude.{◌≡◌, is_some, unwrap_or, IfOk, OnOk};
 ghost use Rattle.mini_logic.specs.Lighter.{body_lighter};
@@ -38,9 +39,10 @@ fn minimize_loop(alloc: Global, node: &mut Node) -> Result<bool, OutOfMemory>
     minimize_once(alloc, node)
 }
 
-/// A block of one statement that isn't scoped becomes that statement, the last `continue;` of a loop goes, and the last `break;`
-/// of a `do` that is run once, and what leaves a `for` first goes into its test. The answer says whether one of them was done; the only error is that memory runs out, and then
-/// the statement is fit only to be dropped.
+/// A block of one statement that isn't scoped becomes that statement, the last `continue;` of a
+/// loop goes, and the last `break;` of a `do` that is run once, and what leaves a `for` first goes
+/// into its test. The answer says whether one of them was done; the only error is that memory runs
+/// out, and then the statement is fit only to be dropped.
 #[tactic(auto, using(crate::proofs::MinimizeBody::first_there, crate::proofs::MinimizeBody::first_said, crate::proofs::MinimizeBody::body_there, crate::proofs::MinimizeBody::body_said))]
 pub fn minimize_body(alloc: Global, node: &mut Node) -> Result<bool, OutOfMemory>
     ensures tree { OnOk result (node.new ≡ unwrap_or (written node.old) node.old) }

@@ -1,4 +1,5 @@
-//! Row 40: `!a ? b : c` becomes `a ? c : b`, and `a != b ? c : d` becomes `a == b ? d : c`. Each is lighter in every seat.
+//! Row 40: `!a ? b : c` becomes `a ? c : b`, and `a != b ? c : d` becomes `a == b ? d : c`. Each is
+//! lighter in every seat.
 
 ghost use Rattle.std.specs.Prelude.{◌≡◌, is_some, unwrap_or, OnOk, IfOk};
 ghost use Rattle.mini_tree.specs.Rule.{Applied};
@@ -58,8 +59,9 @@ fn turned(alloc: Global, node: Node, operator: BinaryOperator) -> Result<Node, O
     conditional(alloc, equality, alternate, consequent)
 }
 
-/// `!a ? b : c` becomes `a ? c : b`, and `a != b ? c : d` becomes `a == b ? d : c`. The answer says whether it did; the only
-/// error is that memory runs out, and then the expression is fit only to be dropped.
+/// `!a ? b : c` becomes `a ? c : b`, and `a != b ? c : d` becomes `a == b ? d : c`. The answer says
+/// whether it did; the only error is that memory runs out, and then the expression is fit only to
+/// be dropped.
 pub fn minimize_conditional_expression(alloc: Global, node: &mut Node) -> Result<bool, OutOfMemory>
     ensures tree { OnOk result (node.new ≡ unwrap_or (written node.old) node.old) }
     ensures said { IfOk result (λ changed. changed ≡ is_some (written node.old)) }

@@ -1,6 +1,6 @@
-//! Rows 24, 25 and 26, where only the truth of an expression is asked: `!0` becomes `1`, `a && 1` becomes `a`, and `a ? 1 : b`
-//! becomes `a || b`. And of rows 47 and 48, where the value is asked: `a ? false : b` becomes `!a && b`, `a ? true : false` `!!a`, and
-//! `a ? 0 : 1` `+!a`.
+//! Rows 24, 25 and 26, where only the truth of an expression is asked: `!0` becomes `1`, `a && 1`
+//! becomes `a`, and `a ? 1 : b` becomes `a || b`. And of rows 47 and 48, where the value is asked:
+//! `a ? false : b` becomes `!a && b`, `a ? true : false` `!!a`, and `a ? 0 : 1` `+!a`.
 
 ghost use Rattle.std.specs.Prelude.{◌≡◌, ◌+◌, [], true, not, is_some, unwrap_or, OnOk, IfOk};
 ghost use Rattle.mini_model.specs.Position.{is_and_or as is_it_and_or, left_operand_seat as left_seat};
@@ -499,9 +499,10 @@ fn minimize_conditional(alloc: Global, node: &mut Node, seat: Seat) -> Result<bo
     minimize_known_branches(alloc, node, seat)
 }
 
-/// Where only the truth of an expression is asked, `!0` becomes `1`, `a && 1` becomes `a`, and `a ? 1 : b` becomes `a || b`; where
-/// its value is, `a ? false : b` becomes `!a && b`, `a ? true : false` `!!a`, and `a ? 0 : 1` `+!a`. The answer says whether it did; the only error is that memory runs out, and then
-/// the expression is fit only to be dropped.
+/// Where only the truth of an expression is asked, `!0` becomes `1`, `a && 1` becomes `a`, and
+/// `a ? 1 : b` becomes `a || b`; where its value is, `a ? false : b` becomes `!a && b`,
+/// `a ? true : false` `!!a`, and `a ? 0 : 1` `+!a`. The answer says whether it did; the only error
+/// is that memory runs out, and then the expression is fit only to be dropped.
 pub fn minimize_expression_in_boolean_context(
     alloc: Global,
     node: &mut Node,

@@ -1,5 +1,6 @@
-//! Row 84: `for (i; t; u) { if (x) break; s }` becomes `for (i; t && !x; u) { s }`, and `for (i; t; u) if (x) s; else break;`
-//! becomes `for (i; t && x; u) s`, each of which is lighter in every place.
+//! Row 84: `for (i; t; u) { if (x) break; s }` becomes `for (i; t && !x; u) { s }`, and
+//! `for (i; t; u) if (x) s; else break;` becomes `for (i; t && x; u) s`, each of which is lighter
+//! in every place.
 
 ghost use Rattle.std.specs.Prelude.{◌≡◌, ◌<◌, ◌&&◌, true, is_some, unwrap_or, IfOk, OnOk};
 ghost use Rattle.mini_model.specs.Tree.{children, child_or_absent, count};
@@ -147,7 +148,8 @@ fn is_leaving_for(node: &Node) -> bool
     tests(node) && (leaves(node.child(3)) || begins_leaving(node.child(3)))
 }
 
-/// `for (i; t; u) { if (x) break; s }`, whatever the statements are behind the first, as the test may take what leaves the loop.
+/// `for (i; t; u) { if (x) break; s }`, whatever the statements are behind the first, as the test
+/// may take what leaves the loop.
 #[tactic(auto, using(crate::proofs::MinimizeForStatement::tests_and))]
 pub fn leads_from_block(node: &Node) -> bool
     ensures { result ≡ row.leads_from_block node.now }
@@ -222,7 +224,8 @@ fn also(alloc: Global, test: Node, other: Node) -> Result<Node, OutOfMemory>
     logical(alloc, LogicalOperator::And, test, other)
 }
 
-/// A loop whose body begins by leaving it, with that in its test. The only error is that memory runs out.
+/// A loop whose body begins by leaving it, with that in its test. The only error is that memory
+/// runs out.
 #[tactic(auto, using(crate::proofs::MinimizeForStatement::leading_four, crate::proofs::MinimizeForStatement::leading_body))]
 pub fn with_test(alloc: Global, node: Node) -> Result<Node, OutOfMemory>
     requires { row.is_leading_for node ≡ true }
@@ -236,9 +239,9 @@ pub fn with_test(alloc: Global, node: Node) -> Result<Node, OutOfMemory>
     Ok(Node::new(Shape::ForStatement, children))
 }
 
-/// A body that begins by leaving the loop has that in the test of the loop, which is asked right before it (ECMA-262,
-/// "ForBodyEvaluation"). The answer says whether it did; the only error is that memory runs out, and then the statement is fit
-/// only to be dropped.
+/// A body that begins by leaving the loop has that in the test of the loop, which is asked right
+/// before it (ECMA-262, "ForBodyEvaluation"). The answer says whether it did; the only error is
+/// that memory runs out, and then the statement is fit only to be dropped.
 #[tactic(auto, using(crate::proofs::MinimizeForStatement::leaving_leads))]
 pub fn minimize_for_statement(alloc: Global, node: &mut Node) -> Result<bool, OutOfMemory>
     ensures tree { OnOk result (node.new ≡ unwrap_or (row.written node.old) node.old) }

@@ -1,6 +1,8 @@
-//! Rows 82 and 83: `if (a) b; else c;` becomes `a ? b : c;`, `if (a) b;` becomes `a && b;`, and `if (!a) b;` becomes `a || b;`, and so
-//! does `if (a, !b) c;` become `(a, b) || c;`; an empty consequent goes, `if (a) if (b) c;` becomes `if (a && b) c;`, an `if` with `else` as a consequent gets a block, and
-//! `if (!a) return b; else throw c;` becomes `if (a) throw c; else return b;`. Each is lighter in every place.
+//! Rows 82 and 83: `if (a) b; else c;` becomes `a ? b : c;`, `if (a) b;` becomes `a && b;`, and
+//! `if (!a) b;` becomes `a || b;`, and so does `if (a, !b) c;` become `(a, b) || c;`; an empty
+//! consequent goes, `if (a) if (b) c;` becomes `if (a && b) c;`, an `if` with `else` as a
+//! consequent gets a block, and `if (!a) return b; else throw c;` becomes
+//! `if (a) throw c; else return b;`. Each is lighter in every place.
 
 ghost use Rattle.std.specs.Prelude.{◌≡◌, true, is_some, unwrap_or, OnOk, IfOk};
 ghost use Rattle.mini_model.specs.Position.{statement_expression_seat, left_operand_seat};
@@ -246,10 +248,12 @@ fn swapped(alloc: Global, node: Node) -> Result<Node, OutOfMemory>
     if_statement(alloc, one(test), alternate, consequent)
 }
 
-/// `if (a) b; else c;` becomes `a ? b : c;`, `if (a) b;` becomes `a && b;`, and where a ends in a `!`, alone or as the last part of a
-/// sequence, `!a || b;` with the `!` taken off; an empty consequent goes; `if (a) if (b) c;` becomes `if (a && b) c;`; an `if` with `else` as a consequent
-/// gets a block; and `if (!a) return b; else throw c;` becomes `if (a) throw c; else return b;`. The answer says whether it did; the only error is that memory runs out, and then the statement is fit only to
-/// be dropped.
+/// `if (a) b; else c;` becomes `a ? b : c;`, `if (a) b;` becomes `a && b;`, and where a ends in a
+/// `!`, alone or as the last part of a sequence, `!a || b;` with the `!` taken off; an empty
+/// consequent goes; `if (a) if (b) c;` becomes `if (a && b) c;`; an `if` with `else` as a
+/// consequent gets a block; and `if (!a) return b; else throw c;` becomes
+/// `if (a) throw c; else return b;`. The answer says whether it did; the only error is that memory
+/// runs out, and then the statement is fit only to be dropped.
 pub fn try_minimize_if(alloc: Global, node: &mut Node) -> Result<bool, OutOfMemory>
     ensures tree { OnOk result (node.new ≡ unwrap_or (written node.old) node.old) }
     ensures said { IfOk result (λ changed. changed ≡ is_some (written node.old)) }

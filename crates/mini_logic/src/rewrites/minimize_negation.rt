@@ -1,5 +1,5 @@
-//! Row 23, of what is read inside the operand too: `!(a && typeof x < "u")` becomes `!a || typeof x > "u"`, and `!(a, b == c)` becomes
-//! `a, b != c`, where that is lighter.
+//! Row 23, of what is read inside the operand too: `!(a && typeof x < "u")` becomes
+//! `!a || typeof x > "u"`, and `!(a, b == c)` becomes `a, b != c`, where that is lighter.
 
 ghost use Rattle.std.specs.Prelude.{◌≡◌, is_some, unwrap_or, OnOk, IfOk};
 ghost use Rattle.mini_tree.specs.Rule.{Applied};
@@ -21,8 +21,9 @@ fn minimizes(node: &Node, seat: Seat) -> bool
         && told_weight(node.child(0), seat) < expr_weight(node, seat)
 }
 
-/// `!(a && typeof x < "u")` becomes `!a || typeof x > "u"`, and `!(a, b == c)` becomes `a, b != c`, where that is lighter in the seat.
-/// The answer says whether it did; the only error is that memory runs out, and then the expression is fit only to be dropped.
+/// `!(a && typeof x < "u")` becomes `!a || typeof x > "u"`, and `!(a, b == c)` becomes `a, b != c`,
+/// where that is lighter in the seat. The answer says whether it did; the only error is that memory
+/// runs out, and then the expression is fit only to be dropped.
 pub fn minimize_negation(alloc: Global, node: &mut Node, seat: Seat) -> Result<bool, OutOfMemory>
     ensures tree { OnOk result (node.new ≡ unwrap_or (written seat node.old) node.old) }
     ensures said { IfOk result (λ changed. changed ≡ is_some (written seat node.old)) }

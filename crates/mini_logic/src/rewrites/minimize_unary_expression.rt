@@ -26,8 +26,8 @@ fn is_minimized(node: &Node, seat: Seat) -> bool
     is_negation(node) && has_lighter_negation(node.child(0), seat)
 }
 
-/// `!e` becomes the negation of e where that is lighter in the seat. The answer says whether it did; the only error is
-/// that memory runs out, and then the expression is fit only to be dropped.
+/// `!e` becomes the negation of e where that is lighter in the seat. The answer says whether it
+/// did; the only error is that memory runs out, and then the expression is fit only to be dropped.
 pub fn minimize_unary(alloc: Global, node: &mut Node, seat: Seat) -> Result<bool, OutOfMemory>
     ensures tree { OnOk result (node.new ≡ minimized_unary seat node.old) }
     ensures said { IfOk result (λ changed. changed ≡ minimizes_unary seat node.old) }

@@ -1,5 +1,6 @@
-//! Row 78 of a `do` that is run once: `do { a(); break; } while (0);` becomes `do { a(); } while (0);`, and
-//! `do break; while (0);` becomes `do ; while (0);`, each of which is lighter in every place.
+//! Row 78 of a `do` that is run once: `do { a(); break; } while (0);` becomes
+//! `do { a(); } while (0);`, and `do break; while (0);` becomes `do ; while (0);`, each of which is
+//! lighter in every place.
 
 ghost use Rattle.std.specs.Prelude.{◌≡◌, ◌<◌, true, is_some, unwrap_or, IfOk, OnOk};
 ghost use Rattle.mini_model.specs.Tree.{children, count};
@@ -112,9 +113,10 @@ fn left_in(alloc: Global, mut node: Node) -> Result<Node, OutOfMemory>
     Ok(node.over(children))
 }
 
-/// The last `break;` of the body of a `do` goes, where its test does nothing but give a value that is false, so that the loop ends behind its body
-/// either way (ECMA-262, "Runtime Semantics: DoWhileLoopEvaluation"). The answer says whether it did; the only error is that
-/// memory runs out, and then the statement is fit only to be dropped.
+/// The last `break;` of the body of a `do` goes, where its test does nothing but give a value that
+/// is false, so that the loop ends behind its body either way (ECMA-262, "Runtime Semantics:
+/// DoWhileLoopEvaluation"). The answer says whether it did; the only error is that memory runs out,
+/// and then the statement is fit only to be dropped.
 pub fn remove_last_break(alloc: Global, node: &mut Node) -> Result<bool, OutOfMemory>
     ensures tree { OnOk result (node.new ≡ unwrap_or (written node.old) node.old) }
     ensures said { IfOk result (λ changed. changed ≡ is_some (written node.old)) }

@@ -1,5 +1,5 @@
-//! Row 78 of loops: `while (a) { b(); continue; }` becomes `while (a) { b(); }`, and `while (a) continue;` becomes
-//! `while (a);`, each of which is lighter in every place.
+//! Row 78 of loops: `while (a) { b(); continue; }` becomes `while (a) { b(); }`, and
+//! `while (a) continue;` becomes `while (a);`, each of which is lighter in every place.
 
 ghost use Rattle.std.specs.Prelude.{◌≡◌, ◌<◌, true, is_some, unwrap_or, IfSome, IfOk, OnOk};
 ghost use Rattle.mini_model.specs.Tree.{children, count};
@@ -99,8 +99,9 @@ fn left_at(alloc: Global, mut node: Node, at: usize) -> Result<Node, OutOfMemory
     Ok(node.over(children))
 }
 
-/// The last `continue;` of the body of a loop goes, after which the loop goes on by itself (ECMA-262, "LoopContinues"). The answer
-/// says whether it did; the only error is that memory runs out, and then the statement is fit only to be dropped.
+/// The last `continue;` of the body of a loop goes, after which the loop goes on by itself
+/// (ECMA-262, "LoopContinues"). The answer says whether it did; the only error is that memory runs
+/// out, and then the statement is fit only to be dropped.
 pub fn remove_last_continue(alloc: Global, node: &mut Node) -> Result<bool, OutOfMemory>
     ensures tree { OnOk result (node.new ≡ unwrap_or (written node.old) node.old) }
     ensures said { IfOk result (λ changed. changed ≡ is_some (written node.old)) }

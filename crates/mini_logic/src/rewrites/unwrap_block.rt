@@ -1,5 +1,6 @@
-//! Row 79 of branches and bodies: `if (a) { b(); } else { c(); }` becomes `if (a) b(); else c();`, a branch at a time, and
-//! `while (a) { b(); }` becomes `while (a) b();`, each of which is lighter in every place.
+//! Row 79 of branches and bodies: `if (a) { b(); } else { c(); }` becomes `if (a) b(); else c();`,
+//! a branch at a time, and `while (a) { b(); }` becomes `while (a) b();`, each of which is lighter
+//! in every place.
 
 ghost use Rattle.std.specs.Prelude.{◌≡◌, ◌<◌, true, is_some, unwrap_or, IfSome, OnOk, IfOk};
 ghost use Rattle.mini_model.specs.Tree.{children, count};
@@ -109,8 +110,9 @@ fn unwrapped_at(mut node: Node, at: usize) -> Node
     node.over(children)
 }
 
-/// A block of one statement that isn't scoped becomes that statement, as a branch of an `if` or as the body of a loop; an
-/// `if` with `else` keeps its block as a consequent. The answer says whether it did; the only error is that memory runs out.
+/// A block of one statement that isn't scoped becomes that statement, as a branch of an `if` or as
+/// the body of a loop; an `if` with `else` keeps its block as a consequent. The answer says whether
+/// it did; the only error is that memory runs out.
 pub fn unwrap_block(alloc: Global, node: &mut Node) -> Result<bool, OutOfMemory>
     ensures tree { OnOk result (node.new ≡ unwrap_or (written node.old) node.old) }
     ensures said { IfOk result (λ changed. changed ≡ is_some (written node.old)) }

@@ -1,4 +1,5 @@
-//! 77: what never runs after a jump goes, and its `var` names stay. `return a; if (b) { var x = 1; }` becomes `return a; var x;`.
+//! 77: what never runs after a jump goes, and its `var` names stay.
+//! `return a; if (b) { var x = 1; }` becomes `return a; var x;`.
 
 ghost use Rattle.std.specs.Prelude.{◌≡◌, ◌<◌, true, Some, IfOk};
 ghost use Rattle.mini_laws.specs.DeclaredNames.{names_of as declared_in};
@@ -70,7 +71,8 @@ fn declared_bare(alloc: Global, declarators: Nodes) -> Result<Node, OutOfMemory>
     ))
 }
 
-/// What is left of a statement that goes: its `var` names, in a `var` without initializers. The only error is that memory runs out.
+/// What is left of a statement that goes: its `var` names, in a `var` without initializers. The
+/// only error is that memory runs out.
 pub fn left_behind(alloc: Global, node: &Node) -> Result<Nodes, OutOfMemory>
     ensures { IfOk result (λ left. left ≡ list.left_behind node.now) }
 {
@@ -90,7 +92,8 @@ fn is_lighter(going: Going, left: &Node, node: &Node) -> bool
     weight(left, Position::StatementList) < stmt_weight(node, StmtSeat::List)
 }
 
-/// Whether what is left of a statement that goes is lighter than it. The only error is that memory runs out.
+/// Whether what is left of a statement that goes is lighter than it. The only error is that memory
+/// runs out.
 pub fn is_left_lighter(alloc: Global, node: &Node) -> Result<bool, OutOfMemory>
     ensures { IfOk result (λ lighter. lighter ≡ list.is_lighter_left node.now) }
 {
@@ -100,7 +103,8 @@ pub fn is_left_lighter(alloc: Global, node: &Node) -> Result<bool, OutOfMemory>
     Ok(lighter)
 }
 
-// Whether the statement declares nothing else in its list, and takes along each name in it that can't be written.
+// Whether the statement declares nothing else in its list, and takes along each name in it that
+// can't be written.
 fn is_loose(node: &Node) -> bool
     ensures { result ≡ row.is_loose node.now }
 {
@@ -126,7 +130,8 @@ fn remains(alloc: Global, going: Going, node: &Node) -> Result<Nodes, OutOfMemor
     }
 }
 
-// Puts what is left of a statement that may go after the others, if that is lighter, or else the statement.
+// Puts what is left of a statement that may go after the others, if that is lighter, or else the
+// statement.
 fn put_lighter(
     alloc: Global,
     going: Going,
@@ -203,8 +208,9 @@ fn drop_after(alloc: Global, going: Going, list: &mut Nodes, at: usize) -> Resul
     Ok(changed)
 }
 
-/// What comes after the first statement that ends in a jump goes, as far as it may, but for what is left of it. The answer says whether
-/// anything does; the only error is that memory runs out, and then the list is fit only to be dropped.
+/// What comes after the first statement that ends in a jump goes, as far as it may, but for what is
+/// left of it. The answer says whether anything does; the only error is that memory runs out, and
+/// then the list is fit only to be dropped.
 pub fn drop_behind(alloc: Global, going: Going, list: &mut Nodes) -> Result<bool, OutOfMemory>
     ensures { IfOk result (λ changed. LeftBehind going list.old list.new changed) }
 {
@@ -214,8 +220,9 @@ pub fn drop_behind(alloc: Global, going: Going, list: &mut Nodes) -> Result<bool
     }
 }
 
-/// What comes after the first statement that ends in a jump goes, but for what it declares. The answer says whether anything
-/// does; the only error is that memory runs out, and then the list is fit only to be dropped.
+/// What comes after the first statement that ends in a jump goes, but for what it declares. The
+/// answer says whether anything does; the only error is that memory runs out, and then the list is
+/// fit only to be dropped.
 pub fn drop_unreached(alloc: Global, list: &mut Nodes) -> Result<bool, OutOfMemory>
     ensures { IfOk result (λ changed. Dropped list.old list.new changed) }
 {

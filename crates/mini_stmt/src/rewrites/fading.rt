@@ -1,4 +1,5 @@
-//! 77: what is left of a class, a `let` or a `const` that never runs: its names, which nothing initializes.
+//! 77: what is left of a class, a `let` or a `const` that never runs: its names, which nothing
+//! initializes.
 
 ghost use Rattle.std.specs.Prelude.{◌≡◌, IfOk};
 ghost use Rattle.mini_laws.specs.DeclaredNames.{names_of as declared_in};
@@ -83,7 +84,8 @@ fn gives(node: &Node) -> bool
     }
 }
 
-// Whether it takes along each other name in it that can't be written. A declaration has one list of declarators.
+// Whether it takes along each other name in it that can't be written. A declaration has one list of
+// declarators.
 fn goes_whole(node: &Node) -> bool
     ensures { result ≡ row.goes_whole node.now }
 {
@@ -95,8 +97,8 @@ fn goes_whole(node: &Node) -> bool
     }
 }
 
-/// Whether it is a class, a `let` or a `const` that gives the names it declares, and takes along each other name in it that can't be
-/// written.
+/// Whether it is a class, a `let` or a `const` that gives the names it declares, and takes along
+/// each other name in it that can't be written.
 pub fn may_fade(node: &Node) -> bool
     ensures { result ≡ row.may_fade node.now }
 {
@@ -171,8 +173,8 @@ fn declaration(
     Ok(Node::new(Shape::VariableDeclaration(kind), children))
 }
 
-/// What is left of it: its names, in a declaration that initializes nothing but each name of a `const`, with `0`. The only error is that
-/// memory runs out.
+/// What is left of it: its names, in a declaration that initializes nothing but each name of a
+/// `const`, with `0`. The only error is that memory runs out.
 pub fn faded(alloc: Global, node: &Node) -> Result<Nodes, OutOfMemory>
     ensures { IfOk result (λ left. left ≡ row.faded node.now) }
 {

@@ -1,5 +1,5 @@
-//! 70: `var a, c; a = b;` becomes `var a = b, c;`, and `var a; return a = b, c;` becomes `var a = b; return c;`. 69:
-//! `var a; for (a of b) c` becomes `for (var a of b) c`.
+//! 70: `var a, c; a = b;` becomes `var a = b, c;`, and `var a; return a = b, c;` becomes
+//! `var a = b; return c;`. 69: `var a; for (a of b) c` becomes `for (var a of b) c`.
 
 ghost use Rattle.std.specs.Prelude.{◌≡◌, ◌<◌, ◌&&◌, ◌||◌, true, false, Some, IfOk};
 ghost use Rattle.mini_model.specs.Tree.{Trees, none, ◌▸◌, child_or_absent, children, count};
@@ -554,8 +554,8 @@ fn put_headed(
     Ok(true)
 }
 
-// Puts the statement after the others; where it begins with an assignment that goes into the last of them, what is left of
-// it is put back. The answer says whether one did.
+// Puts the statement after the others; where it begins with an assignment that goes into the last
+// of them, what is left of it is put back. The answer says whether one did.
 fn put_entered(
     alloc: Global,
     options: CompressOptions,
@@ -592,9 +592,9 @@ fn enter_all(alloc: Global, options: CompressOptions, list: &mut Nodes) -> Resul
     Ok(changed)
 }
 
-/// Each assignment that begins the statement after a `var` as an initializer in it, and each `var` in the head of the loop after
-/// it that assigns to its name. The answer says whether there was one; the only error is that memory runs out, and then the list
-/// is fit only to be dropped.
+/// Each assignment that begins the statement after a `var` as an initializer in it, and each `var`
+/// in the head of the loop after it that assigns to its name. The answer says whether there was
+/// one; the only error is that memory runs out, and then the list is fit only to be dropped.
 pub fn join_assignments(
     alloc: Global,
     options: CompressOptions,

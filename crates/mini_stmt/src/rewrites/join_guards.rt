@@ -1,5 +1,5 @@
-//! 74: `if (a) s; if (b) s;` becomes `if (a || b) s`, where s ends in a jump. 77: `return a; b();` becomes `return a;`, and what else never
-//! runs goes with it.
+//! 74: `if (a) s; if (b) s;` becomes `if (a || b) s`, where s ends in a jump. 77: `return a; b();`
+//! becomes `return a;`, and what else never runs goes with it.
 
 ghost use Rattle.std.specs.Prelude.{◌≡◌, ◌<◌, IfOk};
 ghost use Rattle.mini_model.specs.Tree.{count};
@@ -23,7 +23,8 @@ use mini_tree::CompressOptions;
 use std::alloc::Global;
 use std::mem;
 
-// Whether it is `if (a) s`, and then an `if (b)` with the branch s, where `a || b` may be put deeper.
+// Whether it is `if (a) s`, and then an `if (b)` with the branch s, where `a || b` may be put
+// deeper.
 fn are_guards(first: &Node, next: &Node) -> bool
     ensures { result ≡ row.are_guards first.now next.now }
 {
@@ -129,7 +130,8 @@ fn meets_last(before: &Nodes, statement: &Node) -> bool
     meets(before.child(count - 1), statement)
 }
 
-// Puts the statement after the others, or joins it to the last of them. The answer says whether it is joined.
+// Puts the statement after the others, or joins it to the last of them. The answer says whether it
+// is joined.
 fn put_joined(alloc: Global, before: &mut Nodes, statement: Node) -> Result<bool, OutOfMemory>
     ensures { IfOk result (λ changed. PutJoined before.old statement before.new changed) }
 {
@@ -178,9 +180,10 @@ fn settle(alloc: Global, list: &mut Nodes) -> Result<bool, OutOfMemory>
     drop_unreached(alloc, list)
 }
 
-/// Each `if` that ends in a jump, and the next one with that branch, as one; and what ends in a jump without what never runs
-/// after it, but for the names that it declares. The answer says whether there was anything to do; the only
-/// error is that memory runs out, and then the list is fit only to be dropped.
+/// Each `if` that ends in a jump, and the next one with that branch, as one; and what ends in a
+/// jump without what never runs after it, but for the names that it declares. The answer says
+/// whether there was anything to do; the only error is that memory runs out, and then the list is
+/// fit only to be dropped.
 pub fn join_guards(
     alloc: Global,
     options: CompressOptions,

@@ -1,4 +1,5 @@
-//! 67: `a; return b;` becomes `return a, b;`, and so with the heads of `throw`, `if`, `switch`, `for` and `for..in`.
+//! 67: `a; return b;` becomes `return a, b;`, and so with the heads of `throw`, `if`, `switch`,
+//! `for` and `for..in`.
 
 ghost use Rattle.std.specs.Prelude.{◌≡◌, ◌<◌, true, IfOk};
 ghost use Rattle.mini_model.specs.Tree.{absent, children, count};
@@ -71,7 +72,8 @@ fn is_bare_var(node: &Node) -> bool
         && are_bare(node.child(0))
 }
 
-/// Whether the left side of a `for..in` or `for..of` declares no lexical name and has no initializer.
+/// Whether the left side of a `for..in` or `for..of` declares no lexical name and has no
+/// initializer.
 pub fn is_plain_left(node: &Node) -> bool
     ensures { result ≡ list.is_plain_left node.now }
 {

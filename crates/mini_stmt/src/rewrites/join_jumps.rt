@@ -1,5 +1,5 @@
-//! 73: `if (a) return b; return c;` becomes `return a ? b : c;`, and `throw` likewise; `if (a) return; return;` becomes
-//! `a; return;`.
+//! 73: `if (a) return b; return c;` becomes `return a ? b : c;`, and `throw` likewise;
+//! `if (a) return; return;` becomes `a; return;`.
 
 ghost use Rattle.std.specs.Prelude.{◌≡◌, true, IfOk};
 ghost use Rattle.mini_model.specs.Tree.{children, count, is_absent};

@@ -1,4 +1,5 @@
-//! 70: `let a; a = 1;` becomes `let a = 1;`, and `let a; return a = 1, b;` becomes `let a = 1; return b;`, where a can be written.
+//! 70: `let a; a = 1;` becomes `let a = 1;`, and `let a; return a = 1, b;` becomes
+//! `let a = 1; return b;`, where a can be written.
 
 ghost use Rattle.std.specs.Prelude.{◌≡◌, ◌<◌, true, IfOk};
 ghost use Rattle.mini_model.specs.Tree.{absent, children, count};
@@ -184,7 +185,8 @@ fn join_let(alloc: Global, first: Node, next: Node) -> Result<(Node, Nodes), Out
     Ok((declared, left))
 }
 
-// Puts the statement after the others, joined to the last of them where the row does that. The answer says whether it did.
+// Puts the statement after the others, joined to the last of them where the row does that. The
+// answer says whether it did.
 fn put_joined(
     alloc: Global,
     before: &mut Nodes,
@@ -219,9 +221,9 @@ fn join_all(alloc: Global, list: &mut Nodes, scopes: &Scopes) -> Result<bool, Ou
     Ok(changed)
 }
 
-/// Each value that is written out and assigned to the last name of the `let` before it as an initializer in it, where the program
-/// lets the name be written. The answer says whether there was one; the only error is that memory runs out, and then the list is fit
-/// only to be dropped.
+/// Each value that is written out and assigned to the last name of the `let` before it as an
+/// initializer in it, where the program lets the name be written. The answer says whether there was
+/// one; the only error is that memory runs out, and then the list is fit only to be dropped.
 pub fn join_lets(alloc: Global, node: &mut Node, scopes: &Scopes) -> Result<bool, OutOfMemory>
     ensures { IfOk result (JoinsValues (marked scopes.now) node.old node.new) }
 {
@@ -231,9 +233,10 @@ pub fn join_lets(alloc: Global, node: &mut Node, scopes: &Scopes) -> Result<bool
     join_all(alloc, node.children_mut(), scopes)
 }
 
-/// A list of statements without what either row of `let`s reads: values that are assigned go into the `let` before them, and where none
-/// does, what would initialize a class, a `let` or a `const` that never runs goes. The answer says whether the list changed; the only
-/// error is that memory runs out, and then the list is fit only to be dropped.
+/// A list of statements without what either row of `let`s reads: values that are assigned go into
+/// the `let` before them, and where none does, what would initialize a class, a `let` or a `const`
+/// that never runs goes. The answer says whether the list changed; the only error is that memory
+/// runs out, and then the list is fit only to be dropped.
 pub fn minimize_lets(alloc: Global, node: &mut Node, scopes: &Scopes) -> Result<bool, OutOfMemory>
     ensures { IfOk result (JoinsLets (marked scopes.now) node.old node.new) }
 {
@@ -250,8 +253,9 @@ fn is_list_place(place: Position) -> bool
     matches!(place, Position::StatementList | Position::BodyList)
 }
 
-/// The rows of a `let` and an assignment after it, and of lexical declarations that never run, as a rule: of each list of statements. Its context says which names the program that
-/// it knows lets be written.
+/// The rows of a `let` and an assignment after it, and of lexical declarations that never run, as a
+/// rule: of each list of statements. Its context says which names the program that it knows lets be
+/// written.
 pub struct JoinLets;
 
 impl Rule<TraverseCtx> for JoinLets {

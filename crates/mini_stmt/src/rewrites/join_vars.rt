@@ -1,4 +1,5 @@
-//! 68: `var a; var b;` becomes `var a, b;`, and so with `let` and `const`; `var a; for (var b;;) c` becomes `for (var a, b;;) c`.
+//! 68: `var a; var b;` becomes `var a, b;`, and so with `let` and `const`; `var a; for (var b;;) c`
+//! becomes `for (var a, b;;) c`.
 
 ghost use Rattle.std.specs.Prelude.{◌≡◌, ◌<◌, ◌||◌, true, IfOk};
 ghost use Rattle.mini_model.specs.Tree.{children, count};

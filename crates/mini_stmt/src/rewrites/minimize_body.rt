@@ -1,5 +1,5 @@
-//! The list of a function's body. 78: its last `return;` goes. 75: `if (a) return; b; c;` becomes `if (!a) { b; c; }`, and
-//! `if (a) { b; return; } c;` becomes `if (a) { b; } else { c; }`.
+//! The list of a function's body. 78: its last `return;` goes. 75: `if (a) return; b; c;` becomes
+//! `if (!a) { b; c; }`, and `if (a) { b; return; } c;` becomes `if (a) { b; } else { c; }`.
 
 ghost use Rattle.std.specs.Prelude.{◌≡◌, true, Some, IfOk, OnOk};
 ghost use Rattle.mini_rows.specs.Lists.{alternate_of as its_alternate};
@@ -208,9 +208,9 @@ fn end_body(alloc: Global, options: CompressOptions, node: &mut Node) -> Result<
     turn_guards(alloc, node.children_mut())
 }
 
-/// The list of a function's body without what the rows of lists read, and without what those at its end do: the function
-/// returns there by itself. The answer says whether it changed; the only error is that memory runs out, and then the list is
-/// fit only to be dropped.
+/// The list of a function's body without what the rows of lists read, and without what those at its
+/// end do: the function returns there by itself. The answer says whether it changed; the only error
+/// is that memory runs out, and then the list is fit only to be dropped.
 pub fn minimize_body(
     alloc: Global,
     options: CompressOptions,

@@ -1,5 +1,6 @@
-//! Row 75 of loops. `while (a) { if (b) continue; c(); }` becomes `while (a) { if (!b) { c(); } }`, and
-//! `while (a) { if (b) { c(); continue; } d(); }` becomes `while (a) { if (b) { c(); } else { d(); } }`; and `while (a) if (b) { c(); continue; }` becomes
+//! Row 75 of loops. `while (a) { if (b) continue; c(); }` becomes `while (a) { if (!b) { c(); } }`,
+//! and `while (a) { if (b) { c(); continue; } d(); }` becomes
+//! `while (a) { if (b) { c(); } else { d(); } }`; and `while (a) if (b) { c(); continue; }` becomes
 //! `while (a) if (b) { c(); }`.
 
 ghost use Rattle.std.specs.Prelude.{◌≡◌, ◌<◌, true, false, Some, IfSome, IfOk};
@@ -100,9 +101,10 @@ fn turn_in_body(alloc: Global, node: &mut Node, at: usize) -> Result<bool, OutOf
     }
 }
 
-/// The last guard in the body of a loop that goes on with the next turn takes in what follows it, where that nests no deeper than 500 nodes, or nothing where it is the body:
-/// where the body ends the loop goes on by itself (ECMA-262, "LoopContinues"). The answer says whether there was one; the only error
-/// is that memory runs out, and then the statement is fit only to be dropped.
+/// The last guard in the body of a loop that goes on with the next turn takes in what follows it,
+/// where that nests no deeper than 500 nodes, or nothing where it is the body: where the body ends
+/// the loop goes on by itself (ECMA-262, "LoopContinues"). The answer says whether there was one;
+/// the only error is that memory runs out, and then the statement is fit only to be dropped.
 pub fn turn_loop_guard(alloc: Global, node: &mut Node) -> Result<bool, OutOfMemory>
     ensures { IfOk result (λ changed. TurnsLoop node.old node.new changed) }
 {

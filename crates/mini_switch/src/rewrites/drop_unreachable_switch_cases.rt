@@ -1,5 +1,6 @@
-//! Row 81: of a `switch` over a value that is known one case is left. `switch (2) { case 1: a(); case 2: b(); case 3: c(); }`
-//! becomes `switch (2) { case 2: b(); c(); }`, which is lighter in every place.
+//! Row 81: of a `switch` over a value that is known one case is left.
+//! `switch (2) { case 1: a(); case 2: b(); case 3: c(); }` becomes
+//! `switch (2) { case 2: b(); c(); }`, which is lighter in every place.
 
 ghost use Rattle.std.specs.Prelude.{◌≡◌, ◌≤◌, ◌<◌, ◌&&◌, ◌||◌, true, false, not, is_some, unwrap_or, OnOk, IfOk, IfSome};
 ghost use Rattle.mini_model.specs.Tree.{children, count, shape_of, is_absent as is_it_absent, node_count};
@@ -84,7 +85,8 @@ fn count_of(cases: &[Node]) -> usize
     cases.len()
 }
 
-// How many cases there are from the first on whose test is the value; 0 where none is, and None where a test before isn't known.
+// How many cases there are from the first on whose test is the value; 0 where none is, and None
+// where a test before isn't known.
 #[tactic(auto, using(crate::proofs::DeadCases::two_parts, crate::proofs::DeadCases::rest_cases, crate::proofs::DeadCases::counted))]
 fn selected(
     alloc: Global,
@@ -154,7 +156,8 @@ fn default_left(cases: &[Node]) -> usize
     }
 }
 
-// How many cases there are from the only `default` on; 0 where there is none, and None where there are two.
+// How many cases there are from the only `default` on; 0 where there is none, and None where there
+// are two.
 fn only_default(cases: &[Node]) -> Option<usize>
     requires { row.are_cases (trees_of cases.now) ≡ true }
     ensures kind { result ≡ row.only_default (trees_of cases.now) }
@@ -277,7 +280,8 @@ fn leaves_little(alloc: Global, node: &Node) -> Result<bool, OutOfMemory>
     }
 }
 
-// Whether the statement takes along each name in it that can't be written, and nothing is left behind but names of `var`s.
+// Whether the statement takes along each name in it that can't be written, and nothing is left
+// behind but names of `var`s.
 fn goes(alloc: Global, statement: &Node) -> Result<bool, OutOfMemory>
     ensures { IfOk result (λ gone. gone ≡ (list.encloses false statement.now && dead.leaves_little statement.now)) }
 {
@@ -333,7 +337,8 @@ fn cases_go(alloc: Global, cases: &[Node]) -> Result<bool, OutOfMemory>
     }
 }
 
-// Whether nothing is left behind of the cases after some statements but statements that run after these.
+// Whether nothing is left behind of the cases after some statements but statements that run after
+// these.
 #[tactic(auto, using(crate::proofs::DeadCases::two_parts, crate::proofs::DeadCases::rest_cases))]
 fn rest_goes(alloc: Global, statements: &Nodes, cases: &[Node]) -> Result<bool, OutOfMemory>
     requires { row.are_cases (trees_of cases.now) ≡ true }
@@ -362,7 +367,8 @@ fn later_go(alloc: Global, cases: &[Node]) -> Result<bool, OutOfMemory>
     }
 }
 
-// Whether nothing is left behind of the cases around the one at a place but statements that run after its own.
+// Whether nothing is left behind of the cases around the one at a place but statements that run
+// after its own.
 #[tactic(auto, using(crate::proofs::DeadCases::first_window, crate::proofs::DeadCases::last_window, crate::proofs::DeadCases::first_cases, crate::proofs::DeadCases::last_cases))]
 fn others_go(alloc: Global, cases: &Nodes, at: usize) -> Result<bool, OutOfMemory>
     requires shaped { row.are_cases cases.now ≡ true }
@@ -473,8 +479,8 @@ fn left_cases(alloc: Global, mut cases: Nodes) -> Result<Nodes, OutOfMemory>
     Ok(left)
 }
 
-// The statements that run: these, and those of the cases after them, up to the first list that ends in a jump; of the cases after that
-// the names.
+// The statements that run: these, and those of the cases after them, up to the first list that ends
+// in a jump; of the cases after that the names.
 #[tactic(auto, using(crate::proofs::DeadCases::runs_alone, crate::proofs::DeadCases::runs_ended, crate::proofs::DeadCases::runs_on, crate::proofs::DeadCases::some_node))]
 fn running(alloc: Global, mut statements: Nodes, mut cases: Nodes) -> Result<Nodes, OutOfMemory>
     ensures { IfOk result (λ r. r ≡ dead.running statements (choices_of cases)) }
@@ -546,8 +552,8 @@ fn dropped_at(alloc: Global, node: Node, at: usize) -> Result<Node, OutOfMemory>
     Ok(Node::new(Shape::SwitchStatement, parts))
 }
 
-/// Of a `switch` over a value that is known one case is left, with the statements that run. The answer says whether others
-/// went; the only error is that memory runs out.
+/// Of a `switch` over a value that is known one case is left, with the statements that run. The
+/// answer says whether others went; the only error is that memory runs out.
 pub fn drop_unreachable_switch_cases(alloc: Global, node: &mut Node) -> Result<bool, OutOfMemory>
     ensures tree { OnOk result (node.new ≡ unwrap_or (written node.old) node.old) }
     ensures said { IfOk result (λ changed. changed ≡ is_some (written node.old)) }

@@ -1,5 +1,7 @@
-//! Row 80: `switch (a) { case 1: b(); break; }` becomes `if (a === 1) { b(); }`, `switch (a) { default: b(); break; }` becomes
-//! `{ a; b(); }`, and `switch (a) { default: let x = b(); c(x); }` `{ a; { let x = b(); c(x); } }`, each of which is lighter in every place.
+//! Row 80: `switch (a) { case 1: b(); break; }` becomes `if (a === 1) { b(); }`,
+//! `switch (a) { default: b(); break; }` becomes `{ a; b(); }`, and
+//! `switch (a) { default: let x = b(); c(x); }` `{ a; { let x = b(); c(x); } }`, each of which is
+//! lighter in every place.
 
 ghost use Rattle.std.specs.Prelude.{◌≡◌, ◌≤◌, ◌<◌, ◌&&◌, true, not, is_some, unwrap_or, OnOk, IfOk};
 ghost use Rattle.mini_model.specs.declared.operator.BinaryOperator.TheVariants.{StrictEquality};
@@ -27,8 +29,8 @@ use mini_syntax::{is_list_of, is_plain};
 use mini_tree::{Context, Rule};
 use std::alloc::Global;
 
-// Whether a `break` in the child at an index ends what is around the node too: in the body of a loop, in the cases of a `switch`
-// and in a function it doesn't.
+// Whether a `break` in the child at an index ends what is around the node too: in the body of a
+// loop, in the cases of a `switch` and in a function it doesn't.
 fn lets_out(shape: &Shape, at: usize) -> bool
     ensures { result ≡ case.lets_out (turn_of shape.now at) }
 {
@@ -138,7 +140,8 @@ fn unbroken_count(nodes: &Nodes) -> usize
     }
 }
 
-/// Whether none of the statements of a case but a last `break;` leaves it by a `break` without a label (ECMA-262, "BreakStatement").
+/// Whether none of the statements of a case but a last `break;` leaves it by a `break` without a
+/// label (ECMA-262, "BreakStatement").
 pub fn stay_inside(nodes: &Nodes) -> bool
     ensures { result ≡ row.stay_inside nodes.now }
 {
@@ -163,8 +166,9 @@ fn may_be_tested(test: &Node, statements: &Nodes) -> bool
     is_absent_part(test) || (is_plain(test) && are_unscoped(statements))
 }
 
-/// Whether the statements of a case may stand in a branch or a block: it has no test, or one that writes a value out, and then nothing in it is
-/// scoped; and none but a last `break;` leaves it by a `break` without a label (ECMA-262, "The switch Statement").
+/// Whether the statements of a case may stand in a branch or a block: it has no test, or one that
+/// writes a value out, and then nothing in it is scoped; and none but a last `break;` leaves it by
+/// a `break` without a label (ECMA-262, "The switch Statement").
 pub fn can_switch_case_be_inlined(case: &Node) -> bool
     ensures { result ≡ row.can_be_inlined case.now }
 {
@@ -261,8 +265,8 @@ fn written_for(
     }
 }
 
-/// Of a `switch` of one case the `if`, or of `default` the block, without a last `break;`, whatever stands in it. The only error is that memory runs
-/// out.
+/// Of a `switch` of one case the `if`, or of `default` the block, without a last `break;`, whatever
+/// stands in it. The only error is that memory runs out.
 pub fn inlined(alloc: Global, node: Node) -> Result<Node, OutOfMemory>
     ensures { IfOk result (λ w. w ≡ row.inlined node) }
 {
@@ -276,8 +280,9 @@ pub fn inlined(alloc: Global, node: Node) -> Result<Node, OutOfMemory>
     )
 }
 
-/// A `switch` of one case becomes an `if`, or of `default` alone a block, in which what declares names has a block of its own. The answer says whether it did; the only error is that
-/// memory runs out.
+/// A `switch` of one case becomes an `if`, or of `default` alone a block, in which what declares
+/// names has a block of its own. The answer says whether it did; the only error is that memory runs
+/// out.
 pub fn minimize_switch_statement(alloc: Global, node: &mut Node) -> Result<bool, OutOfMemory>
     ensures tree { OnOk result (node.new ≡ unwrap_or (written node.old) node.old) }
     ensures said { IfOk result (λ changed. changed ≡ is_some (written node.old)) }

@@ -1,5 +1,5 @@
-//! Row 53: a property that is assigned to whose key is the name assigned to becomes the shorthand, `({ x: x } = o)` the same as
-//! `({ x } = o)`. It is lighter in every place.
+//! Row 53: a property that is assigned to whose key is the name assigned to becomes the shorthand,
+//! `({ x: x } = o)` the same as `({ x } = o)`. It is lighter in every place.
 
 ghost use Rattle.std.specs.Prelude.{◌≡◌, Some, true, IfOk, OnOk};
 ghost use Rattle.mini_model.specs.Tree.{children, count};
@@ -87,9 +87,10 @@ fn shorthand(alloc: Global, node: Node) -> Result<Node, OutOfMemory>
     property(alloc, Shape::AssignmentTargetPropertyIdentifier, key, value)
 }
 
-/// Of what is assigned to a property whose key is the name assigned to becomes the shorthand: `x: x` is `x`, and `x: x = d` is `x = d`
-/// (ECMA-262, "Destructuring Assignment", AssignmentProperty). The answer says whether it did; the only error is that memory runs
-/// out, and then the property is fit only to be dropped.
+/// Of what is assigned to a property whose key is the name assigned to becomes the shorthand:
+/// `x: x` is `x`, and `x: x = d` is `x = d` (ECMA-262, "Destructuring Assignment",
+/// AssignmentProperty). The answer says whether it did; the only error is that memory runs out, and
+/// then the property is fit only to be dropped.
 pub fn compress_assignment_target_property(
     alloc: Global,
     node: &mut Node,

@@ -1,5 +1,5 @@
-//! Row 33: `o["x"]` becomes `o.x`, and `o["1"]` becomes `o[1]`, also where the member is assigned to or updated. It is
-//! lighter in every seat.
+//! Row 33: `o["x"]` becomes `o.x`, and `o["1"]` becomes `o[1]`, also where the member is assigned
+//! to or updated. It is lighter in every seat.
 
 ghost use Rattle.std.specs.Prelude.{◌≡◌, true, is_some, unwrap_or, OnOk, IfOk};
 ghost use Rattle.std.specs.Option.{option_copied};
@@ -150,8 +150,9 @@ fn turn_updated(alloc: Global, node: &mut Node) -> Result<bool, OutOfMemory>
     Ok(changed)
 }
 
-/// `o["x"]` becomes `o.x`, and `o["1"]` becomes `o[1]`, also where the member is assigned to or updated. The answer says
-/// whether it did; the only error is that memory runs out, and then the expression is fit only to be dropped.
+/// `o["x"]` becomes `o.x`, and `o["1"]` becomes `o[1]`, also where the member is assigned to or
+/// updated. The answer says whether it did; the only error is that memory runs out, and then the
+/// expression is fit only to be dropped.
 pub fn convert_to_dotted_properties(alloc: Global, node: &mut Node) -> Result<bool, OutOfMemory>
     ensures tree { OnOk result (node.new ≡ unwrap_or (written node.old) node.old) }
     ensures said { IfOk result (λ changed. changed ≡ is_some (written node.old)) }

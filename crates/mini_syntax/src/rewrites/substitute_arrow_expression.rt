@@ -75,7 +75,8 @@ fn unwrapped(mut node: Node) -> Node
     node.over(children)
 }
 
-/// `() => { return a; }` becomes `() => a`. The answer says whether it did; the only error is that memory runs out.
+/// `() => { return a; }` becomes `() => a`. The answer says whether it did; the only error is that
+/// memory runs out.
 pub fn substitute_arrow_expression(alloc: Global, node: &mut Node) -> Result<bool, OutOfMemory>
     ensures tree { OnOk result (node.new ≡ unwrap_or (written node.old) node.old) }
     ensures said { IfOk result (λ changed. changed ≡ is_some (written node.old)) }

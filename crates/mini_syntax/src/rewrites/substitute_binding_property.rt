@@ -1,5 +1,6 @@
-//! Row 52 of brackets in a pattern that is declared: a text or a whole number in brackets loses them. Among parameters they stay, for they
-//! decide whether the body's `var`s are the parameters; so the row is read at what declares the pattern, a declarator or a `catch`.
+//! Row 52 of brackets in a pattern that is declared: a text or a whole number in brackets loses
+//! them. Among parameters they stay, for they decide whether the body's `var`s are the parameters;
+//! so the row is read at what declares the pattern, a declarator or a `catch`.
 
 ghost use Rattle.std.specs.Prelude.{◌≡◌, true, IfOk, OnOk};
 ghost use Rattle.mini_model.specs.Tree.{children, count};
@@ -73,7 +74,8 @@ fn is_pattern_part(shape: &Shape) -> bool
     }
 }
 
-// The first such key in a part of a pattern loses its brackets. The answer says whether there is one.
+// The first such key in a part of a pattern loses its brackets. The answer says whether there is
+// one.
 #[cycle(baring)]
 fn bare_part(alloc: Global, node: &mut Node) -> Result<bool, OutOfMemory>
     ensures tree { OnOk result (node.new ≡ bared node.old) }
@@ -116,8 +118,9 @@ fn is_declaring(node: &Node) -> bool
     }
 }
 
-/// Of the pattern of a declarator or a `catch` the first key in brackets that is a text or a whole number from 0 loses them. The answer
-/// says whether there is one; the only error is that memory runs out.
+/// Of the pattern of a declarator or a `catch` the first key in brackets that is a text or a whole
+/// number from 0 loses them. The answer says whether there is one; the only error is that memory
+/// runs out.
 pub fn substitute_binding_property(alloc: Global, node: &mut Node) -> Result<bool, OutOfMemory>
     ensures tree { OnOk result (node.new ≡ declared_bare node.old) }
     ensures said { IfOk result (λ changed. changed ≡ declares_brackets node.old) }

@@ -18,8 +18,8 @@ fn negated_digit(alloc: Global, value: bool) -> Result<Node, OutOfMemory>
     }
 }
 
-/// `true` becomes `!0`, and `false` becomes `!1`. The answer says whether it did; the only error is that memory runs out,
-/// and then the expression is fit only to be dropped.
+/// `true` becomes `!0`, and `false` becomes `!1`. The answer says whether it did; the only error is
+/// that memory runs out, and then the expression is fit only to be dropped.
 pub fn substitute_boolean(alloc: Global, node: &mut Node) -> Result<bool, OutOfMemory>
     ensures tree { OnOk result (node.new ≡ unwrap_or (written node.old) node.old) }
     ensures said { IfOk result (λ changed. changed ≡ is_some (written node.old)) }

@@ -48,8 +48,8 @@ fn with_null_right(alloc: Global, operator: BinaryOperator, node: Node) -> Resul
     binary(alloc, operator, one(node), null_literal(alloc))
 }
 
-/// `undefined` or `void 0` in `==` and `!=` becomes `null`. The answer says whether it did; the only error is that memory
-/// runs out, and then the expression is fit only to be dropped.
+/// `undefined` or `void 0` in `==` and `!=` becomes `null`. The answer says whether it did; the
+/// only error is that memory runs out, and then the expression is fit only to be dropped.
 pub fn substitute_loose_equals_undefined(
     alloc: Global,
     node: &mut Node,

@@ -1,5 +1,5 @@
-//! Rows 51 and 52 of object literals: of each property a key in brackets loses them, a text becomes a name or a number, and
-//! `x: x` becomes `x`. Each is lighter in every seat.
+//! Rows 51 and 52 of object literals: of each property a key in brackets loses them, a text becomes
+//! a name or a number, and `x: x` becomes `x`. Each is lighter in every seat.
 
 ghost use Rattle.std.specs.Prelude.{◌≡◌, [], Some, true, false, OnOk, IfOk};
 ghost use Rattle.mini_model.specs.Tree.{node, none, ◌▸◌, children, count};
@@ -294,9 +294,10 @@ fn is_object_literal(node: &Node) -> bool
     }
 }
 
-/// Of each property of an object literal a key in brackets loses them where it is a text or a whole number, a text becomes the
-/// name or the number that it writes, and `x: x` becomes `x`; a key `__proto__` stays but of a method, a getter or a setter. The
-/// answer says whether anything changed; the only error is that memory runs out, and then the literal is fit only to be dropped.
+/// Of each property of an object literal a key in brackets loses them where it is a text or a whole
+/// number, a text becomes the name or the number that it writes, and `x: x` becomes `x`; a key
+/// `__proto__` stays but of a method, a getter or a setter. The answer says whether anything
+/// changed; the only error is that memory runs out, and then the literal is fit only to be dropped.
 pub fn substitute_object_property(alloc: Global, node: &mut Node) -> Result<bool, OutOfMemory>
     ensures tree { OnOk result (node.new ≡ written node.old) }
     ensures said { IfOk result (λ changed. changed ≡ is_written node.old) }

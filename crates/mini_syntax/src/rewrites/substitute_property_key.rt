@@ -1,6 +1,6 @@
-//! Row 52 of patterns and classes: of a property of a pattern, a method or a field a text becomes the name or the number that it
-//! writes, and a text or a whole number in brackets loses them, but of a parameter. It is lighter in every place. The rule over it has row
-//! 53 too.
+//! Row 52 of patterns and classes: of a property of a pattern, a method or a field a text becomes
+//! the name or the number that it writes, and a text or a whole number in brackets loses them, but
+//! of a parameter. It is lighter in every place. The rule over it has row 53 too.
 
 ghost use Rattle.std.specs.Prelude.{◌≡◌, true, IfOk, OnOk};
 ghost use Rattle.mini_model.specs.Tree.{children, count, shape_of};
@@ -59,8 +59,9 @@ fn respell(alloc: Global, key: &mut Node) -> bool
     false
 }
 
-/// Of a property of a pattern, a method or a field of a class a key that is a text becomes the name or the number from 0 that the
-/// text writes; a key in brackets and a private name stay. The answer says whether it did.
+/// Of a property of a pattern, a method or a field of a class a key that is a text becomes the name
+/// or the number from 0 that the text writes; a key in brackets and a private name stay. The answer
+/// says whether it did.
 pub fn substitute_property_key(alloc: Global, node: &mut Node) -> bool
     ensures tree { node.new ≡ spelled node.old }
     ensures said { result ≡ is_spelled node.old }
@@ -130,8 +131,9 @@ impl ClassPropertyKeyParent {
         }
     }
 
-    /// Whether a text stays in the brackets that it stands in as a key there: `constructor` of a method that isn't static and of a
-    /// field, `prototype` where static, and `#constructor`. Without them it would be another thing, or an early error.
+    /// Whether a text stays in the brackets that it stands in as a key there: `constructor` of a
+    /// method that isn't static and of a field, `prototype` where static, and `#constructor`.
+    /// Without them it would be another thing, or an early error.
     pub fn should_keep_as_computed_property(&self, key: &Text) -> bool
         ensures { result ≡ stays_in_brackets (row.is_method self.now.kind) self.now.is_static key.now }
     {
@@ -236,10 +238,12 @@ fn unbracket(alloc: Global, node: &mut Node) -> Result<bool, OutOfMemory>
     Ok(true)
 }
 
-/// Of a property of a pattern that is assigned to (`[{ ["x"]: a } = b]`), a method or a field of a class a key in brackets loses them where it
-/// is a text or a whole number from 0, but where `should_keep_as_computed_property`; another key that is a text becomes the name or the
-/// number that it writes. The answer says whether anything changed; the only error is that memory runs out. It is handed on as
-/// `substitute_assignment_target_property_property`, `substitute_method_definition` and `substitute_property_definition`.
+/// Of a property of a pattern that is assigned to (`[{ ["x"]: a } = b]`), a method or a field of a
+/// class a key in brackets loses them where it is a text or a whole number from 0, but where
+/// `should_keep_as_computed_property`; another key that is a text becomes the name or the number
+/// that it writes. The answer says whether anything changed; the only error is that memory runs
+/// out. It is handed on as `substitute_assignment_target_property_property`,
+/// `substitute_method_definition` and `substitute_property_definition`.
 pub fn substitute_held_key(alloc: Global, node: &mut Node) -> Result<bool, OutOfMemory>
     ensures tree { OnOk result (node.new ≡ row.held_written node.old) }
     ensures said { IfOk result (λ changed. changed ≡ row.is_held_written node.old) }
@@ -250,10 +254,11 @@ pub fn substitute_held_key(alloc: Global, node: &mut Node) -> Result<bool, OutOf
     Ok(substitute_property_key(alloc, node))
 }
 
-/// Of a property of a pattern, a method or a field a key in brackets loses them where it is a text or a whole number from 0, but of
-/// a parameter and where `should_keep_as_computed_property`; another key that is a text becomes the name or the number that it
-/// writes. Of a pattern that is declared the brackets go at what declares it. The answer says whether anything changed; the only error
-/// is that memory runs out.
+/// Of a property of a pattern, a method or a field a key in brackets loses them where it is a text
+/// or a whole number from 0, but of a parameter and where `should_keep_as_computed_property`;
+/// another key that is a text becomes the name or the number that it writes. Of a pattern that is
+/// declared the brackets go at what declares it. The answer says whether anything changed; the only
+/// error is that memory runs out.
 #[tactic(auto, using(crate::proofs::PropertyKeys::held_instead, crate::proofs::PropertyKeys::held_said, crate::proofs::PropertyKeys::bared_instead))]
 pub fn substitute_key(alloc: Global, node: &mut Node) -> Result<bool, OutOfMemory>
     ensures tree { OnOk result (node.new ≡ key_written node.old) }
@@ -266,8 +271,9 @@ pub fn substitute_key(alloc: Global, node: &mut Node) -> Result<bool, OutOfMemor
     Ok(changed)
 }
 
-/// A property that is assigned to becomes the shorthand, as `x: x` becomes `x`, or its key is spelled otherwise, as of `"x": a` and `["x"]: a`. The
-/// answer says whether anything changed; the only error is that memory runs out, and then the property is fit only to be dropped.
+/// A property that is assigned to becomes the shorthand, as `x: x` becomes `x`, or its key is
+/// spelled otherwise, as of `"x": a` and `["x"]: a`. The answer says whether anything changed; the
+/// only error is that memory runs out, and then the property is fit only to be dropped.
 #[tactic(auto, using(crate::proofs::PropertyKeys::target_instead, crate::proofs::PropertyKeys::target_said, crate::proofs::PropertyKeys::shorthand_instead))]
 pub fn substitute_assignment_target_property(
     alloc: Global,
@@ -283,7 +289,8 @@ pub fn substitute_assignment_target_property(
     Ok(changed)
 }
 
-// A property that is assigned to becomes the shorthand, or a key is spelled otherwise. The answer says whether anything changed.
+// A property that is assigned to becomes the shorthand, or a key is spelled otherwise. The answer
+// says whether anything changed.
 #[tactic(auto, using(crate::proofs::PropertyKeys::key_instead, crate::proofs::PropertyKeys::key_said, crate::proofs::PropertyKeys::doubled_instead))]
 fn rewrite_key(alloc: Global, node: &mut Node) -> Result<bool, OutOfMemory>
     ensures tree { OnOk result (node.new ≡ written node.old) }
@@ -296,8 +303,8 @@ fn rewrite_key(alloc: Global, node: &mut Node) -> Result<bool, OutOfMemory>
     Ok(changed)
 }
 
-/// The rows on keys of patterns and classes as a rule: of each property of a pattern, each method, each field and what declares a
-/// pattern.
+/// The rows on keys of patterns and classes as a rule: of each property of a pattern, each method,
+/// each field and what declares a pattern.
 pub struct SubstitutePropertyKeys;
 
 impl<C: Context> Rule<C> for SubstitutePropertyKeys {

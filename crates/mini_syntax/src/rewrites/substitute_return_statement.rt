@@ -1,5 +1,5 @@
-//! Row 60 of `return`: `return undefined;`, `return void 0;` and `return void a;`, where a has no effect, become `return;`, which is
-//! lighter in every place.
+//! Row 60 of `return`: `return undefined;`, `return void 0;` and `return void a;`, where a has no
+//! effect, become `return;`, which is lighter in every place.
 
 ghost use Rattle.std.specs.Prelude.{◌≡◌, is_some, unwrap_or, OnOk, IfOk};
 ghost use Rattle.mini_model.specs.Tree.{absent as no_part};
@@ -42,8 +42,9 @@ fn returns_nothing(alloc: Global) -> Result<Node, OutOfMemory>
     return_statement(alloc, absent(alloc))
 }
 
-/// `return undefined;`, `return void 0;` and `return void a;`, where a has no effect, become `return;`. The answer says whether it
-/// did; the only error is that memory runs out, and then the statement is as it was.
+/// `return undefined;`, `return void 0;` and `return void a;`, where a has no effect, become
+/// `return;`. The answer says whether it did; the only error is that memory runs out, and then the
+/// statement is as it was.
 pub fn substitute_return_statement(alloc: Global, node: &mut Node) -> Result<bool, OutOfMemory>
     ensures tree { OnOk result (node.new ≡ unwrap_or (written node.old) node.old) }
     ensures said { IfOk result (λ changed. changed ≡ is_some (written node.old)) }

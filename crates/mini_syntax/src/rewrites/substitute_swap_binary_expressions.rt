@@ -104,8 +104,9 @@ fn swapped(alloc: Global, operator: BinaryOperator, node: Node) -> Result<Node, 
     binary(alloc, operator, right, left)
 }
 
-/// `1 == b` becomes `b == 1`, where the left side of an equality is a value written out and the right side isn't. The answer
-/// says whether it did; the only error is that memory runs out, and then the expression is fit only to be dropped.
+/// `1 == b` becomes `b == 1`, where the left side of an equality is a value written out and the
+/// right side isn't. The answer says whether it did; the only error is that memory runs out, and
+/// then the expression is fit only to be dropped.
 pub fn substitute_swap_binary_expressions(
     alloc: Global,
     node: &mut Node,

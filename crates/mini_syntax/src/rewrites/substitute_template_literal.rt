@@ -44,8 +44,8 @@ fn text_of(alloc: Global, node: &Node) -> Result<Option<Node>, OutOfMemory>
     piece_text(alloc, node.child(0).child(0))
 }
 
-/// A template without expressions becomes its text, as abc in backticks becomes `"abc"`. The answer says whether it did; the only
-/// error is that memory runs out.
+/// A template without expressions becomes its text, as abc in backticks becomes `"abc"`. The answer
+/// says whether it did; the only error is that memory runs out.
 pub fn substitute_template_literal(alloc: Global, node: &mut Node) -> Result<bool, OutOfMemory>
     ensures tree { OnOk result (node.new ≡ unwrap_or (written node.old) node.old) }
     ensures said { IfOk result (λ changed. changed ≡ is_some (written node.old)) }

@@ -1,5 +1,6 @@
-//! Row 55: `typeof x == "undefined"` becomes `typeof x > "u"`, of a name that no scope declares, and of an inequality `typeof x < "u"`.
-//! It is lighter in every seat. What is no such name is another row's.
+//! Row 55: `typeof x == "undefined"` becomes `typeof x > "u"`, of a name that no scope declares,
+//! and of an inequality `typeof x < "u"`. It is lighter in every seat. What is no such name is
+//! another row's.
 
 ghost use Rattle.std.specs.Prelude.{◌≡◌, codes, is_some, unwrap_or, OnOk, IfOk, IfSome};
 ghost use Rattle.mini_model.specs.Tree.{children, count};
@@ -89,9 +90,10 @@ fn compared(alloc: Global, operator: BinaryOperator, node: Node) -> Result<Node,
     binary(alloc, operator, one(node), letter(alloc)?)
 }
 
-/// `typeof x == "undefined"` becomes `typeof x > "u"`, of a name that no scope declares and any of the four equalities; of what `typeof`
-/// reads by its value it becomes `x === void 0`. The answer says
-/// whether it did; the only error is that memory runs out, and then the expression is fit only to be dropped.
+/// `typeof x == "undefined"` becomes `typeof x > "u"`, of a name that no scope declares and any of
+/// the four equalities; of what `typeof` reads by its value it becomes `x === void 0`. The answer
+/// says whether it did; the only error is that memory runs out, and then the expression is fit only
+/// to be dropped.
 pub fn substitute_typeof_undefined(alloc: Global, node: &mut Node) -> Result<bool, OutOfMemory>
     ensures tree { OnOk result (node.new ≡ unwrap_or (written node.old) node.old) }
     ensures said { IfOk result (λ changed. changed ≡ is_some (written node.old)) }

@@ -1,5 +1,5 @@
-//! Row 55 of what `typeof` reads by its value: `typeof a == "undefined"` becomes `a === void 0`, and of an inequality `a !== void 0`.
-//! It is lighter in every seat.
+//! Row 55 of what `typeof` reads by its value: `typeof a == "undefined"` becomes `a === void 0`,
+//! and of an inequality `a !== void 0`. It is lighter in every seat.
 
 ghost use Rattle.std.specs.Prelude.{◌≡◌, is_some, unwrap_or, OnOk, IfOk, IfSome};
 ghost use Rattle.mini_model.specs.Tree.{children, count};
@@ -78,9 +78,9 @@ fn compared(alloc: Global, operator: BinaryOperator, node: Node) -> Result<Node,
     binary(alloc, operator, one(one(node)), void_zero(alloc)?)
 }
 
-/// `typeof a == "undefined"` becomes `a === void 0`, of what `typeof` reads by its value and any of the four equalities (ECMA-262, "The
-/// typeof Operator"). The answer says whether it did; the only error is that memory runs out, and then the expression is fit only to be
-/// dropped.
+/// `typeof a == "undefined"` becomes `a === void 0`, of what `typeof` reads by its value and any of
+/// the four equalities (ECMA-262, "The typeof Operator"). The answer says whether it did; the only
+/// error is that memory runs out, and then the expression is fit only to be dropped.
 pub fn substitute_typeof_value(alloc: Global, node: &mut Node) -> Result<bool, OutOfMemory>
     ensures tree { OnOk result (node.new ≡ unwrap_or (written node.old) node.old) }
     ensures said { IfOk result (λ changed. changed ≡ is_some (written node.old)) }

@@ -1,5 +1,5 @@
-//! Row 61: `let x = undefined` and `let x = void 0` become `let x`, as a statement, exported, and in the head of a `for`. It is
-//! lighter in every place.
+//! Row 61: `let x = undefined` and `let x = void 0` become `let x`, as a statement, exported, and
+//! in the head of a `for`. It is lighter in every place.
 
 ghost use Rattle.std.specs.Prelude.{◌≡◌, ◌<◌, true, IfSome, is_some};
 ghost use Rattle.mini_model.specs.declared.place.Position.{Position as PositionSpec};
@@ -194,7 +194,8 @@ fn drop_in_list(node: &mut Node, at: usize)
     put_child(node, at, statement);
 }
 
-// Of a list of statements, `let x = undefined;` becomes `let x;`, exported or not. The answer says whether one did.
+// Of a list of statements, `let x = undefined;` becomes `let x;`, exported or not. The answer says
+// whether one did.
 fn substitute_in_list(node: &mut Node) -> bool
     ensures { (p : PositionSpec) → is_statement_list p ≡ true → Applied p node.old node.new result }
 {
@@ -221,8 +222,8 @@ fn substitute_in_loop(node: &mut Node) -> bool
     true
 }
 
-/// A `let` loses an initializer that is `undefined` or `void 0`, as a statement of a list or in the head of a `for`. The answer
-/// says whether one did.
+/// A `let` loses an initializer that is `undefined` or `void 0`, as a statement of a list or in the
+/// head of a `for`. The answer says whether one did.
 pub fn substitute_variable_declaration(node: &mut Node, place: Position) -> bool
     ensures { Applied place node.old node.new result }
 {

@@ -28,8 +28,8 @@ fn yields_nothing(alloc: Global) -> Result<Node, OutOfMemory>
     Ok(Node::new(Shape::YieldExpression(false), children))
 }
 
-/// `yield void 0` becomes `yield`. The answer says whether it did; the only error is that memory runs out, and then the
-/// expression is fit only to be dropped.
+/// `yield void 0` becomes `yield`. The answer says whether it did; the only error is that memory
+/// runs out, and then the expression is fit only to be dropped.
 pub fn substitute_yield_expression(alloc: Global, node: &mut Node) -> Result<bool, OutOfMemory>
     ensures tree { OnOk result (node.new ≡ unwrap_or (written node.old) node.old) }
     ensures said { IfOk result (λ changed. changed ≡ is_some (written node.old)) }

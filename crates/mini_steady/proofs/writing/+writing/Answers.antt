@@ -28,4 +28,4 @@ any_write-returns t c =
 pub writes-returns-then-is_writer : goal.writes-returns-then-is_writer
 writes-returns-then-is_writer t c =
     c.is_mentioned_from.ensures ∙ ap (λ ts. any_names c.args.name.now (rest_children 0 ts)) c.children.ensures
-    ∙ sym (by_writer c.args.name.now c.args.node.now c.is_writer.result (c.is_writer.ensures ∙ ap is_writer c.shape.ensures) c.if-is_writer.true)
+    ∙ sym (by_writer c.args.name.now c.args.node.now c.is_own_write.result c.is_writer.result c.is_own_write.ensures c.if-is_own_write.false (c.is_writer.ensures ∙ ap is_writer c.shape.ensures) c.if-is_writer.true)
