@@ -7,9 +7,9 @@ use Rattle.mini_model.specs.declared.name.Name.{Name}
 use Rattle.mini_model.specs.declared.name.SymbolId.{SymbolId}
 use Rattle.mini_model.specs.declared.shape.Shape.{Shape}
 use Rattle.mini_model.specs.declared.shape.Shape.TheVariants as shape
-use Rattle.mini_model.specs.Tree.{Tree, Trees, node, none, ◌▸◌}
+use Rattle.mini_model.specs.Tree.{Tree, Trees, node, none, ◌▸◌, is_absent}
 use Rattle.mini_laws.specs.declared.names.Use.{Use}
-use Rattle.mini_laws.specs.declared.names.Use.TheVariants.{Read}
+use Rattle.mini_laws.specs.declared.names.Use.TheVariants.{Read, Write}
 use Rattle.mini_laws.specs.declared.names.Around.{Around}
 use Rattle.mini_laws.specs.declared.names.Binding.{Binding}
 use Rattle.mini_laws.specs.declared.names.Declared.{Declared}
@@ -22,10 +22,10 @@ use Rattle.mini_laws.specs.DeclaredNames.{place_of, names_by, names_of, first_na
 use Rattle.mini_laws.specs.Foreign.{imported_by, imported_names, all_imported_names, own_pattern_names, pattern_names, all_pattern_names, is_body_by, own_lexical, lexical_variables, all_lexical_variables, has_number, own_params_around, params_around, all_params_around, is_write, is_declared_in, switched, is_read_early, moments, is_foreign}
 use Rattle.mini_laws.specs.Mentions.{Mention, own_mentions, around_child, outermost, mentions, mentions_from, program_mentions, is_elsewhere, same_variable, is_among}
 use Rattle.mini_laws.specs.References.{writes}
-use Rattle.mini_laws.specs.Resolved.{Environment, or_else, is_for, own_symbol, symbol_of}
+use Rattle.mini_laws.specs.Resolved.{Environment, or_else, is_for, own_symbol, symbol_of, with_symbol, gives_value}
 use Rattle.mini_laws.specs.ScopeList.{Scope, with_names_alone, entered, names_in, least_scopes, scope_list, scope_list_from, any_has_eval, scopes_of, seen_in, seen_by_eval}
 use Rattle.mini_laws.specs.Scopes.{use_of, opening_of, scopes_by, at_or_empty, opened, name_if, merged}
-use Rattle.mini_laws.specs.Shared.{script_tops, module_names_by, module_names, all_module_names, names_arguments, reached_params, reached_by_arguments, all_reached_by_arguments, spelled_among, own_caught, caught, all_caught, given_values, write_at, var_writes, var_writes_from, program_var_writes, own_catch_params, catch_params, all_catch_params, is_shared}
+use Rattle.mini_laws.specs.Shared.{script_tops, module_names_by, module_names, all_module_names, names_arguments, reached_params, reached_by_arguments, all_reached_by_arguments, spelled_among, own_caught, caught, all_caught, written_by, given_values, write_at, var_writes, var_writes_from, program_var_writes, names_in_pattern, own_pattern_writes, pattern_writes, pattern_writes_from, program_pattern_writes, is_shared}
 use Rattle.mini_laws.specs.Strict.{is_strict_in}
 use Rattle.mini_laws.specs.Value.{Declared as Variable, variables, variable_eq, variable_by}
 use Rattle.mini_laws.specs.Congruence.{NoneIn, Avoids, AllAvoid}
@@ -270,11 +270,6 @@ module _ (k : ℕ) where
   caught_own shape.CatchClause (p ▸ ts) a = spelled_other (bound_names p) (all_names declared.Hoisted ts) (all_named declared.Hoisted ts a.1)
   caught_own h ts a = tt
 
-  catch_own : (h : Shape) (ts : Trees) → AllAvoid (alone (Variable k)) ts → Other (own_catch_params h ts)
-  catch_own shape.CatchClause none a = tt
-  catch_own shape.CatchClause (p ▸ ts) a = named declared.Bound p a.0
-  catch_own h ts a = tt
-
   pattern_own : (h : Shape) (n : ℕ) (ts : Trees) → AllAvoid (alone (Variable k)) ts → Other (own_pattern_names h n ts)
   pattern_own shape.ObjectPattern n ts a = all_named declared.Bound ts a
   pattern_own shape.ArrayPattern n ts a = all_named declared.Bound ts a
@@ -306,7 +301,7 @@ module _ (k : ℕ) where
   params_own b h ts a = tt
 
   mutual
-    unfolding reached_by_arguments caught catch_params pattern_names lexical_variables params_around
+    unfolding reached_by_arguments caught pattern_names lexical_variables params_around
 
     reached_other : (strict : Bool) (t : Tree) → Avoids (alone (Variable k)) t → Other (reached_by_arguments strict t)
     reached_other strict (node h xs n ts) a = both (reached_params (is_strict_in strict h) h ts) (all_reached_by_arguments (is_strict_in strict h) ts) (reached_own (is_strict_in strict h) h ts a.1) (all_reached_other (is_strict_in strict h) ts a.1)
@@ -321,13 +316,6 @@ module _ (k : ℕ) where
     all_caught_other : (ts : Trees) → AllAvoid (alone (Variable k)) ts → Other (all_caught ts)
     all_caught_other none a = tt
     all_caught_other (t ▸ ts) a = both (caught t) (all_caught ts) (caught_other t a.0) (all_caught_other ts a.1)
-
-    catch_other : (t : Tree) → Avoids (alone (Variable k)) t → Other (catch_params t)
-    catch_other (node h xs n ts) a = both (own_catch_params h ts) (all_catch_params ts) (catch_own h ts a.1) (all_catch_other ts a.1)
-
-    all_catch_other : (ts : Trees) → AllAvoid (alone (Variable k)) ts → Other (all_catch_params ts)
-    all_catch_other none a = tt
-    all_catch_other (t ▸ ts) a = both (catch_params t) (all_catch_params ts) (catch_other t a.0) (all_catch_other ts a.1)
 
     pattern_other : (t : Tree) → Avoids (alone (Variable k)) t → Other (pattern_names t)
     pattern_other (node h xs n ts) a = both (own_pattern_names h n ts) (all_pattern_names ts) (pattern_own h n ts a.1) (all_pattern_other ts a.1)
@@ -410,21 +398,41 @@ module _ (k : ℕ) where
   env_both [] bs o p = p
   env_both (b ∷ env) bs o p = (o.0, env_both env bs o.1 p)
 
-  written_other : (env : Environment) → Other (names_in env) → (r : Around) (ys : List Name) → Unmentioned (map (write_at env r) ys)
-  written_other env o r [] = tt
-  written_other env o r (y ∷ ys) = (any_spelling y.spelling (symbol_of Read y.spelling env) (unfound Read y.spelling env o), written_other env o r ys)
+  found_other : (env : Environment) → Other (names_in env) → (ys : List Name) → Other (map (with_symbol Read env) ys)
+  found_other env o [] = tt
+  found_other env o (y ∷ ys) = (any_spelling y.spelling (symbol_of Read y.spelling env) (unfound Read y.spelling env o), found_other env o ys)
+
+  patterned_own : (u : Use) (env : Environment) → Other (names_in env) → (h : Shape) (ts : Trees) → Other (own_pattern_writes u env h ts)
+  patterned_own u env o shape.VariableDeclarator none = tt
+  patterned_own u env o shape.VariableDeclarator (t ▸ none) = tt
+  patterned_own u env o shape.VariableDeclarator (t ▸ (init ▸ ts)) = if_other (gives_value u (is_absent init)) (map (with_symbol Read env) (names_in_pattern t)) (found_other env o (names_in_pattern t))
+  patterned_own u env o h ts = tt
+
+  given_own : (u : Use) (h : Shape) (xs : List Name) (ts : Trees) → Other xs → AllAvoid (alone (Variable k)) ts → Other (given_values u h xs ts)
+  given_own u shape.VariableDeclarator xs none o a = tt
+  given_own u shape.VariableDeclarator xs (t ▸ none) o a = tt
+  given_own u shape.VariableDeclarator [] (t ▸ (init ▸ ts)) o a = if_other (gives_value u (is_absent init)) (written_by [] t) (named declared.Bound t a.0)
+  given_own u shape.VariableDeclarator (y ∷ ys) (t ▸ (init ▸ ts)) o a = if_other (gives_value u (is_absent init)) (written_by (y ∷ ys) t) o
+  given_own u h xs ts o a = tt
 
   mutual
-    unfolding var_writes
+    unfolding var_writes pattern_writes
 
-    writes_other : (u : Use) (env : Environment) → Other (names_in env) → (r : Around) (t : Tree) → Avoids (alone (Variable k)) t → Unmentioned (var_writes u env r t)
-    writes_other u env o r (node h xs n ts) a = mention_both (map (write_at env r) (given_values u h ts)) (var_writes_from (opened u h ts) (use_of h u) (around_child h r n) 0 env ts) (written_other env o r (given_values u h ts)) (all_writes_other (opened u h ts) (scope_here u h ts a.1) (use_of h u) (around_child h r n) 0 env o ts a.1)
+    writes_other : (u : Use) (r : Around) (t : Tree) → Avoids (alone (Variable k)) t → Unmentioned (var_writes u r t)
+    writes_other u r (node h xs n ts) a = mention_both (map (write_at r) (given_values u h xs ts)) (var_writes_from (use_of h u) (around_child h r n) 0 ts) (names_mentioned Write false r (given_values u h xs ts) (given_own u h xs ts (own xs a.0) a.1)) (all_writes_other (use_of h u) (around_child h r n) 0 ts a.1)
 
-    all_writes_other : (sc : ℕ → List Binding) → ((i : ℕ) → Other (names_in (sc i))) → (us : ℕ → Use) (rs : ℕ → Around) (i : ℕ) (env : Environment) → Other (names_in env) → (ts : Trees) → AllAvoid (alone (Variable k)) ts → Unmentioned (var_writes_from sc us rs i env ts)
-    all_writes_other sc p us rs i env o none a = tt
-    all_writes_other sc p us rs i env o (t ▸ ts) a =
+    all_writes_other : (us : ℕ → Use) (rs : ℕ → Around) (i : ℕ) (ts : Trees) → AllAvoid (alone (Variable k)) ts → Unmentioned (var_writes_from us rs i ts)
+    all_writes_other us rs i none a = tt
+    all_writes_other us rs i (t ▸ ts) a = mention_both (var_writes (us i) (rs i) t) (var_writes_from us rs (suc i) ts) (writes_other (us i) (rs i) t a.0) (all_writes_other us rs (suc i) ts a.1)
+
+    patterned_other : (u : Use) (env : Environment) → Other (names_in env) → (t : Tree) → Avoids (alone (Variable k)) t → Other (pattern_writes u env t)
+    patterned_other u env o (node h xs n ts) a = both (own_pattern_writes u env h ts) (pattern_writes_from (opened u h ts) (use_of h u) 0 env ts) (patterned_own u env o h ts) (all_patterned_other (opened u h ts) (scope_here u h ts a.1) (use_of h u) 0 env o ts a.1)
+
+    all_patterned_other : (sc : ℕ → List Binding) → ((i : ℕ) → Other (names_in (sc i))) → (us : ℕ → Use) (i : ℕ) (env : Environment) → Other (names_in env) → (ts : Trees) → AllAvoid (alone (Variable k)) ts → Other (pattern_writes_from sc us i env ts)
+    all_patterned_other sc p us i env o none a = tt
+    all_patterned_other sc p us i env o (t ▸ ts) a =
         let inner = env_both env (sc i) o (p i) in
-        mention_both (var_writes (us i) (env ++ sc i) (rs i) t) (var_writes_from sc us rs (suc i) (env ++ sc i) ts) (writes_other (us i) (env ++ sc i) inner (rs i) t a.0) (all_writes_other sc p us rs (suc i) (env ++ sc i) inner ts a.1)
+        both (pattern_writes (us i) (env ++ sc i) t) (pattern_writes_from sc us (suc i) (env ++ sc i) ts) (patterned_other (us i) (env ++ sc i) inner t a.0) (all_patterned_other sc p us (suc i) (env ++ sc i) inner ts a.1)
 
   -- no test that asks for the variable holds of one of them
   none_passes : (p : Mention → Bool) (ms : List Mention) → Unmentioned ms → list_any (λ m. same_variable x m.name && p m) ms ≡ false
@@ -447,21 +455,21 @@ module _ (k : ℕ) where
     arguments : is_among x (reached_by_arguments false t) ≡ false
     arguments = none_among (reached_by_arguments false t) (reached_other false t a)
 
-    in_catch : is_among x (catch_params t) ≡ false
-    in_catch = none_among (catch_params t) (catch_other t a)
+    patterned : is_among x (program_pattern_writes t) ≡ false
+    patterned = none_among (program_pattern_writes t) (patterned_other Read [] tt t a)
 
     mentioned : Unmentioned (program_mentions t)
     mentioned = mentioned_other Read outermost t a
 
     written : Unmentioned (program_var_writes t ++ program_mentions t)
-    written = mention_both (program_var_writes t) (program_mentions t) (writes_other Read [] tt outermost t a) mentioned
+    written = mention_both (program_var_writes t) (program_mentions t) (writes_other Read outermost t a) mentioned
 
     pub unshared : (b : ℕ) → is_shared t b x ≡ false
     unshared b =
         let modules = none_among (module_names t) (module_other t a) in
         let under = none_among (caught t) (caught_other t a) in
         let outside = none_passes (λ m. is_elsewhere b m.around) (program_mentions t) mentioned in
-        λ j. (false || tops j || modules j || evals j || arguments j || under j || (in_catch j && list_any (λ m. same_variable x m.name) (program_var_writes t))) || outside j
+        λ j. (false || tops j || modules j || evals j || arguments j || under j || patterned j) || outside j
 
     pub native : (b : ℕ) → is_foreign t b x ≡ false
     native b =
@@ -470,7 +478,7 @@ module _ (k : ℕ) where
         let writes_none = none_written (program_var_writes t ++ program_mentions t) written in
         let lexicals = none_among (lexical_variables false t) (lexical_other false t a) in
         let around = none_among (params_around b t) (params_other b t a) in
-        (λ j. (false || imports j || tops j || evals j || arguments j || patterns j || (in_catch j && list_any (λ m. same_variable x m.name) (program_var_writes t)))
+        (λ j. (false || imports j || tops j || evals j || arguments j || patterns j || patterned j)
         || (unshared b j && list_any (λ m. is_write x m && is_elsewhere b m.around) (program_var_writes t ++ program_mentions t))
         || (not (is_declared_in t b x) && writes_none j)
         || ((lexicals j && (not (is_declared_in t b x) || is_among x (switched t) || is_read_early b x (moments Read outermost t))) || around j))
