@@ -8,29 +8,28 @@ use Rattle.mini_model.specs.declared.name.SymbolId.{SymbolId}
 use Rattle.mini_model.specs.declared.place.Position.{Position}
 use Rattle.mini_model.specs.declared.shape.Shape.{Shape}
 use Rattle.mini_model.specs.declared.shape.Shape.TheVariants as shape
-use Rattle.mini_model.specs.Tree.{Tree, Trees, none, ◌▸◌, count, is_absent}
+use Rattle.mini_model.specs.Tree.{Tree, Trees, none, ◌▸◌, count, shape_of, is_absent}
 use Rattle.mini_model.specs.Position.{child_position}
 use Rattle.mini_model.specs.Rewriting.{Step, here, inside, StepIn, first, later}
 use Rattle.mini_laws.specs.declared.names.Use.{Use}
-use Rattle.mini_laws.specs.declared.names.Use.TheVariants.{Read, Hoisted}
+use Rattle.mini_laws.specs.declared.names.Use.TheVariants.{Read, Hoisted, Headed}
 use Rattle.mini_laws.specs.declared.names.Binding.{Binding}
-use Rattle.mini_laws.specs.declared.names.Around.{Around}
-use Rattle.mini_laws.specs.declared.names.Declared.TheVariants as declared
-use Rattle.mini_laws.specs.DeclaredNames.{names_of, bound_names}
+use Rattle.mini_laws.specs.DeclaredNames.{bound_names}
 use Rattle.mini_laws.specs.Scopes.{opened}
-use Rattle.mini_laws.specs.Resolved.{Environment}
+use Rattle.mini_laws.specs.Resolved.{Environment, with_symbol, gives_value}
 use Rattle.mini_laws.specs.Strict.{is_strict_in}
 use Rattle.mini_laws.specs.Symbols.{symbols_in, is_same, times, Within}
 use Rattle.mini_laws.specs.ScopeList.{names_in, any_has_eval, by_symbol}
 use Rattle.mini_laws.specs.Mentions.{Mention, same_variable, is_among}
-use Rattle.mini_laws.specs.Shared.{names_arguments, reached_params, given_by_declarator, given_by_head, given_values, write_at}
+use Rattle.mini_laws.specs.Shared.{names_arguments, reached_params, written_by, given_values, write_at, is_pattern, names_in_pattern, own_pattern_writes}
+use Rattle.mini_kept.specs.Frames.{unbracketed}
 use Rattle.mini_kept.specs.KeepsShapes.{KeepsShapes}
 use Rattle.mini_kept.proofs.LooseScopes.{AllKeep}
 use Rattle.mini_shrink.specs.Pace.{reads_if, Setting}
 use Rattle.mini_shrink.specs.Shrinking.{SameFound, LooksUp, OwnShrinks}
-use Rattle.mini_shrink.specs.Questions.{asks, mentions_such, gives_such, names_at, arguments_at, seen_from, seen_at}
+use Rattle.mini_shrink.specs.Questions.{asks, mentions_such, gives_such, pattern_gives, names_at, arguments_at, seen_from, seen_at}
 use Rattle.mini_shrink.proofs.Fitting.{AsksFewerThere}
-use Rattle.mini_shrink.proofs.Owns.{implied, or_implied, and_implied, if_implied, any_same, any_map, names_shrink, arguments_less, evals_less}
+use Rattle.mini_shrink.proofs.Owns.{implied, or_implied, and_implied, if_implied, any_map, names_shrink, arguments_less, evals_less}
 
 -- ---- what is asked of an environment
 
@@ -43,12 +42,21 @@ mentions_look_up p = record { before = λ c env env' f h xs n ts. refl }
 pub seen_looks_up : (s : ℕ) → LooksUp (asks (seen_at s))
 seen_looks_up s = record { before = λ c env env' f h xs n ts. refl }
 
-same_write : (env env' : Environment) → SameFound env env' → (a : Around) (ys : List Name) → map (write_at env a) ys ≡ map (write_at env' a) ys
-same_write env env' f a [] = refl
-same_write env env' f a (y ∷ ys) = λ j. record { name = record { spelling = y.spelling; symbol = f Read y.spelling j }; used = (write_at env a y).used; binds = false; around = a } ∷ same_write env env' f a ys j
-
 pub gives_look_up : (p : Mention → Bool) → LooksUp (asks (gives_such p))
-gives_look_up p = record { before = λ c env env' f h xs n ts. ap (λ ms. reads_if (list_any p ms)) (same_write env env' f c.around (given_values c.used h ts)) }
+gives_look_up p = record { before = λ c env env' f h xs n ts. refl }
+
+same_found : (env env' : Environment) → SameFound env env' → (ys : List Name) → map (with_symbol Read env) ys ≡ map (with_symbol Read env') ys
+same_found env env' f [] = refl
+same_found env env' f (y ∷ ys) = λ j. record { spelling = y.spelling; symbol = f Read y.spelling j } ∷ same_found env env' f ys j
+
+same_patterned : (u : Use) (env env' : Environment) → SameFound env env' → (h : Shape) (ts : Trees) → own_pattern_writes u env h ts ≡ own_pattern_writes u env' h ts
+same_patterned u env env' f shape.VariableDeclarator none = refl
+same_patterned u env env' f shape.VariableDeclarator (t ▸ none) = refl
+same_patterned u env env' f shape.VariableDeclarator (t ▸ (i ▸ ts)) = ap (λ ys. if gives_value u (is_absent i) then ys else []) (same_found env env' f (names_in_pattern t))
+same_patterned u env env' f h ts = refl
+
+pub pattern_gives_looks_up : (s : ℕ) → LooksUp (asks (pattern_gives s))
+pattern_gives_looks_up s = record { before = λ c env env' f h xs n ts. ap (λ ys. reads_if (is_among (by_symbol s) ys)) (same_patterned c.used env env' f h ts) }
 
 -- ---- a symbol among the names of a scope
 
@@ -135,39 +143,68 @@ module _ (R : Position → Tree → Tree → Type 0) (shapes : KeepsShapes R) wh
   absent_stays (here p n w r) e = (shapes.asked p n w r).absent e
   absent_stays (inside p h xs n ts us z) e = e
 
-  module _ (g : Name → Bool) where
-    given_if : (i j : Tree) (b d : Tree) → bound_names d ≡ bound_names b → (is_absent i ≡ true → is_absent j ≡ true) → list_any g (if is_absent j then [] else bound_names d) ≡ true → list_any g (if is_absent i then [] else bound_names b) ≡ true
-    given_if i j b d e f k = by (is_absent i) (is_absent j) f k
-      where
-        by : (x y : Bool) → (x ≡ true → y ≡ true) → list_any g (if y then [] else bound_names d) ≡ true → list_any g (if x then [] else bound_names b) ≡ true
-        by true true f k = k
-        by true false f k = absurd (true≢false (sym (f refl)))
-        by false true f k = absurd (cc k)
-        by false false f k = sym (ap (list_any g) e) ∙ k
+  -- a declarator gives a value only if it did
+  gives_still : (v : Use) (i j : Tree) → (is_absent i ≡ true → is_absent j ≡ true) → gives_value v (is_absent j) ≡ true → gives_value v (is_absent i) ≡ true
+  gives_still Headed i j f e = refl
+  gives_still Hoisted i j f e = by (is_absent i) (is_absent j) f e
+    where
+      by : (x y : Bool) → (x ≡ true → y ≡ true) → not y ≡ true → not x ≡ true
+      by true true f e = e
+      by true false f e = absurd (true≢false (sym (f refl)))
+      by false y f e = refl
+  gives_still v i j f e = absurd (true≢false (sym e))
 
-    declarator_less : (v : Use) (π : ℕ → Position) (ts us : Trees) → AllKeep π 0 ts us → StepIn R π ts us → list_any g (given_by_declarator v us) ≡ true → list_any g (given_by_declarator v ts) ≡ true
-    declarator_less Hoisted π _ _ k (first _ t u none z) e = e
-    declarator_less Hoisted π _ _ k (first _ t u (i ▸ ts) z) e = given_if i i t u k.0.bound (λ x. x) e
-    declarator_less Hoisted π _ _ k (later _ t _ _ (first _ i j ts z)) e = given_if i j t t refl (absent_stays z) e
-    declarator_less Hoisted π _ _ k (later _ t _ _ (later _ i ts us z)) e = e
-    declarator_less v π ts us k z e = absurd (cc e)
+  given_if : (g : Name → Bool) (a c : Bool) (ys zs : List Name) → ys ≡ zs → (a ≡ true → c ≡ true) → list_any g (if a then ys else []) ≡ true → list_any g (if c then zs else []) ≡ true
+  given_if g true true ys zs e f k = sym (ap (list_any g) e) ∙ k
+  given_if g true false ys zs e f k = absurd (true≢false (sym (f refl)))
+  given_if g false c ys zs e f k = absurd (true≢false (sym k))
 
-    head_less : (π : ℕ → Position) (ts us : Trees) → AllKeep π 0 ts us → list_any g (given_by_head us) ≡ true → list_any g (given_by_head ts) ≡ true
-    head_less π none none k e = e
-    head_less π none (u ▸ us) k e = absurd k
-    head_less π (t ▸ ts) none k e = absurd k
-    head_less π (t ▸ ts) (u ▸ us) k e = any_same g (names_of declared.Hoisted u) (names_of declared.Hoisted t) k.0.hoisted e
+  written_same : (xs : List Name) (t u : Tree) → bound_names u ≡ bound_names t → written_by xs u ≡ written_by xs t
+  written_same [] t u e = e
+  written_same (x ∷ xs) t u e = refl
 
-    given_less : (v : Use) (h : Shape) (π : ℕ → Position) (ts us : Trees) → AllKeep π 0 ts us → StepIn R π ts us → list_any g (given_values v h us) ≡ true → list_any g (given_values v h ts) ≡ true
-    given_less v shape.VariableDeclarator π ts us k z e = declarator_less v π ts us k z e
-    given_less v shape.ForInStatement π ts us k z e = head_less π ts us k e
-    given_less v shape.ForOfStatement π ts us k z e = head_less π ts us k e
-    given_less v h π ts us k z e = absurd (cc e)
+  given_less : (g : Name → Bool) (v : Use) (h : Shape) (xs : List Name) (π : ℕ → Position) (ts us : Trees) → AllKeep π 0 ts us → StepIn R π ts us → list_any g (given_values v h xs us) ≡ true → list_any g (given_values v h xs ts) ≡ true
+  given_less g v shape.VariableDeclarator xs π _ _ k (first _ t u none z) e = e
+  given_less g v shape.VariableDeclarator xs π _ _ k (first _ t u (i ▸ ts) z) e = given_if g (gives_value v (is_absent i)) (gives_value v (is_absent i)) (written_by xs u) (written_by xs t) (written_same xs t u k.0.bound) (λ x. x) e
+  given_less g v shape.VariableDeclarator xs π _ _ k (later _ t _ _ (first _ i j ts z)) e = given_if g (gives_value v (is_absent j)) (gives_value v (is_absent i)) (written_by xs t) (written_by xs t) refl (gives_still v i j (absent_stays z)) e
+  given_less g v shape.VariableDeclarator xs π _ _ k (later _ t _ _ (later _ i ts us z)) e = e
+  given_less g v h xs π ts us k z e = absurd (true≢false (sym e))
 
   pub gives_shrink : (p : Mention → Bool) → OwnShrinks R (asks (gives_such p))
   gives_shrink p = record {
-    before = λ o c env h xs n ts us z. implied (list_any p (map (write_at env c.around) (given_values c.used h us))) (list_any p (map (write_at env c.around) (given_values c.used h ts)))
-        (λ e. any_map p (write_at env c.around) (given_values c.used h ts) ∙ given_less (λ y. p (write_at env c.around y)) c.used h (child_position h o (count ts)) ts us z.kept z.step (sym (any_map p (write_at env c.around) (given_values c.used h us)) ∙ e));
+    before = λ o c env h xs n ts us z. implied (list_any p (map (write_at c.around) (given_values c.used h xs us))) (list_any p (map (write_at c.around) (given_values c.used h xs ts)))
+        (λ e. any_map p (write_at c.around) (given_values c.used h xs ts) ∙ given_less (λ y. p (write_at c.around y)) c.used h xs (child_position h o (count ts)) ts us z.kept z.step (sym (any_map p (write_at c.around) (given_values c.used h xs us)) ∙ e));
+    orders = λ o c h ts us z. refl;
+    ends = λ c t u z. refl;
+  }
+
+  -- ---- what a pattern of a `var` is given
+
+  pattern_by : (h : Shape) → is_pattern (unbracketed h) ≡ is_pattern h
+  pattern_by (shape.BindingProperty shorthand computed) = refl
+  pattern_by (shape.AssignmentTargetPropertyProperty computed) = refl
+  pattern_by shape.AssignmentTargetPropertyIdentifier = refl
+  pattern_by (shape.MethodDefinition k computed is_static) = refl
+  pattern_by (shape.PropertyDefinition computed is_static) = refl
+  pattern_by h = refl
+
+  pattern_same : (t u : Tree) → unbracketed (shape_of u) ≡ unbracketed (shape_of t) → bound_names u ≡ bound_names t → names_in_pattern u ≡ names_in_pattern t
+  pattern_same t u e b = λ j. if (sym (pattern_by (shape_of u)) ∙ ap is_pattern e ∙ pattern_by (shape_of t)) j then b j else []
+
+  patterned_less : (g : Name → Bool) (v : Use) (env : Environment) (h : Shape) (p : Position) (m : ℕ) (ts us : Trees) → AllKeep (child_position h p m) 0 ts us → StepIn R (child_position h p m) ts us → list_any g (own_pattern_writes v env h us) ≡ true → list_any g (own_pattern_writes v env h ts) ≡ true
+  patterned_less g v env shape.VariableDeclarator p m _ _ k (first _ t u none z) e = e
+  patterned_less g v env shape.VariableDeclarator p m _ _ k (first _ t u (i ▸ ts) z) e =
+      let found : Tree → List Name = λ d. map (with_symbol Read env) (names_in_pattern d) in
+      given_if g (gives_value v (is_absent i)) (gives_value v (is_absent i)) (found u) (found t) (ap (map (with_symbol Read env)) (pattern_same t u (k.0.root refl) k.0.bound)) (λ x. x) e
+  patterned_less g v env shape.VariableDeclarator p m _ _ k (later _ t _ _ (first _ i j ts z)) e =
+      let found : List Name = map (with_symbol Read env) (names_in_pattern t) in
+      given_if g (gives_value v (is_absent j)) (gives_value v (is_absent i)) found found refl (gives_still v i j (absent_stays z)) e
+  patterned_less g v env shape.VariableDeclarator p m _ _ k (later _ t _ _ (later _ i ts us z)) e = e
+  patterned_less g v env h p m ts us k z e = absurd (true≢false (sym e))
+
+  pub pattern_gives_shrink : (s : ℕ) → OwnShrinks R (asks (pattern_gives s))
+  pattern_gives_shrink s = record {
+    before = λ o c env h xs n ts us z. implied (pattern_gives s c env h xs n us) (pattern_gives s c env h xs n ts) (patterned_less (same_variable (by_symbol s)) c.used env h o (count ts) ts us z.kept z.step);
     orders = λ o c h ts us z. refl;
     ends = λ c t u z. refl;
   }

@@ -1,7 +1,8 @@
 -- The same of what no node writes.
-use Rattle.std.specs.Prelude.{ℕ, ◌≡◌, ◌⊎◌, refl, Bool, true, false, not, ◌&&◌, ◌||◌, []}
+use Rattle.std.specs.Prelude.{ℕ, ◌≡◌, ◌⊎◌, refl, Bool, true, false, not, ◌&&◌, []}
 use Rattle.std.specs.List.{list_any}
-use Rattle.std.proofs.Common.{◌∙◌, sym, inl, inr, true≢false}
+use Rattle.std.proofs.Common.{sym, inl, inr, true≢false}
+use Rattle.std.proofs.lemmas.Bool.{and_parts}
 use Rattle.mini_model.specs.declared.place.Position.{Position}
 use Rattle.mini_model.specs.declared.place.Position.TheVariants.{Elsewhere}
 use Rattle.mini_model.specs.Tree.{Tree}
@@ -14,51 +15,32 @@ use Rattle.mini_laws.specs.Symbols.{declared_symbols, Distinct}
 use Rattle.mini_laws.specs.Value.{Variable, Declared, Global}
 use Rattle.mini_laws.specs.Bodies.{bodies_in}
 use Rattle.mini_laws.specs.Mentions.{is_among, program_mentions}
-use Rattle.mini_laws.specs.Shared.{program_var_writes}
-use Rattle.mini_laws.specs.Foreign.{lexical_variables, is_write, is_foreign}
+use Rattle.mini_laws.specs.Foreign.{lexical_variables, is_write}
 use Rattle.mini_kept.specs.KeepsShapes.{KeepsShapes}
 use Rattle.mini_kept.specs.Lifted.{KeepsNames}
 use Rattle.mini_kept.specs.Loosely.{undeclared}
 use Rattle.mini_kept.specs.Without.{Within}
-use Rattle.mini_kept.proofs.Undeclared.{native}
 use Rattle.mini_shrink.specs.Facts.{ReadsLess}
 use Rattle.mini_shrink.specs.Told.{is_foreign_name, is_steady}
 use Rattle.mini_shrink.specs.ToldOn.{told_of, ShowsLess}
 use Rattle.mini_shrink.specs.Exact.{exactly_of, ExactIsSo, ExactWithin}
-use Rattle.mini_shrink.proofs.Foreigns.{foreign_by_scopes}
-use Rattle.mini_shrink.proofs.ToldOn.{or_parts, not_true, false_not, either, refuted, stays_there, writes_none, not_foreign, gone, later, shrunk, lexical_on, within}
+use Rattle.mini_shrink.proofs.ToldOn.{not_true, false_not, either, steady_there, gone, still_native, later, shrunk, lexical_on, within}
 use Rattle.mini_shrink.proofs.Within.{asks_less}
 use Rattle.mini_shrink.proofs.Imports.{lent_shrinks}
 use Rattle.mini_shrink.proofs.Exports.{shown_shrinks}
 
-abbrev written : Tree → ℕ → Bool
-written t s = list_any (is_write (by_symbol s)) (program_mentions t)
-
-parts : (t : Tree) (b s : ℕ) → is_steady t b s ≡ true → (written t s ≡ false) × (is_foreign_name t b s ≡ false)
-parts t b s e = or_parts (written t s) (is_foreign_name t b s) (not_true (written t s || is_foreign_name t b s) e)
-
 pub exact_is_so : ExactIsSo
-exact_is_so t b s r a = record { steady = steady; unwritten = λ e. (parts t b s e).0 }
-  where
-    steady : is_steady t b s ≡ true → is_foreign t b (by_symbol s) ≡ false
-    steady e = by (either (undeclared t (Declared s)))
-      where
-        by : (undeclared t (Declared s) ≡ true) ⊎ (undeclared t (Declared s) ≡ false) → is_foreign t b (by_symbol s) ≡ false
-        by (inl g) = native s t (gone t s a g) b
-        by (inr d) = refuted (is_foreign t b (by_symbol s)) (λ f. true≢false (sym (foreign_by_scopes t b s r d f) ∙ (parts t b s e).1))
+exact_is_so t b s r a = record {
+  steady = λ e. still_native t b s r a (not_true (is_foreign_name t b s) (and_parts (not (list_any (is_write (by_symbol s)) (program_mentions t))) _ e).1);
+  unwritten = λ e. not_true (list_any (is_write (by_symbol s)) (program_mentions t)) (and_parts (not (list_any (is_write (by_symbol s)) (program_mentions t))) _ e).0;
+}
 
 module _ (R : Position → Tree → Tree → Type 0) (l : KeepsNames R) (shapes : KeepsShapes R) (reads : ReadsLess R) (shows : ShowsLess R) (q v : Tree) (r : Reaches R Elsewhere q v) (e : IsWellShaped q) (a : Scoped Read [] q) (d : Distinct (declared_symbols q)) (b : ℕ) where
-  nothing_there : (s : ℕ) → undeclared v (Declared s) ≡ true → is_steady v b s ≡ true
-  nothing_there s g =
-      let silent = gone v s (later R l shapes reads shows q v r e a d b) g in
-      let unwritten = (or_parts (list_any (is_write (by_symbol s)) (program_var_writes v)) (written v s) (writes_none v s silent b)).1 in
-      false_not (written v s || is_foreign_name v b s) (λ i. unwritten i || not_foreign v b s (stays_there v s silent b) i)
-
   steady_on : (s : ℕ) → is_steady q b s ≡ true → is_steady v b s ≡ true
   steady_on s h = by (either (undeclared v (Declared s)))
     where
       by : (undeclared v (Declared s) ≡ true) ⊎ (undeclared v (Declared s) ≡ false) → is_steady v b s ≡ true
-      by (inl g) = nothing_there s g
+      by (inl g) = steady_there v s (gone v s (later R l shapes reads shows q v r e a d b) g) b
       by (inr g) = (shrunk R l shapes reads shows q v r e a d b s g).steady h
 
   initial_on : (s : ℕ) (m k : Bool) → is_steady q b s ≡ m → not (is_among (by_symbol s) (lexical_variables false q)) ≡ k → (m && k) ≡ true → (is_steady v b s && not (is_among (by_symbol s) (lexical_variables false v))) ≡ true

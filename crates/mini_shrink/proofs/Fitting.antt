@@ -2,7 +2,7 @@
 use Rattle.std.specs.Prelude.{ℕ, suc, ◌≡◌, ◌||◌, ◌&&◌, Bool, true, [], ◌∷◌}
 use Rattle.mini_model.specs.declared.place.Position.{Position}
 use Rattle.mini_model.specs.declared.place.Position.TheVariants.{Expr}
-use Rattle.mini_model.specs.Tree.{Tree, Trees, ◌▸◌, count}
+use Rattle.mini_model.specs.Tree.{Tree, Trees, count}
 use Rattle.mini_model.specs.Position.{callee_seat}
 use Rattle.mini_model.specs.Rewriting.{Step, here, inside, StepIn, first, later}
 use Rattle.mini_accept.specs.WellShaped.{Slot, Filling, refused, these, each, each_or_last, pieces, filling, class_of, is_whole, is_strict_in, is_last, fits, fill}
@@ -10,7 +10,7 @@ use Rattle.mini_laws.specs.ScopeList.{has_eval, is_eval_callee}
 use Rattle.mini_laws.specs.Shared.{names_arguments}
 use Rattle.mini_laws.specs.Foreign.{has_number}
 use Rattle.mini_kept.specs.KeepsShapes.{KeepsShapes}
-use Rattle.mini_kept.specs.Lifted.{KeepsNames, InitStays}
+use Rattle.mini_kept.specs.Lifted.{KeepsNames}
 use Rattle.mini_kept.specs.Placed.{fits_place}
 use Rattle.mini_kept.proofs.Bools.{left, right}
 use Rattle.mini_kept.proofs.Placed.{Placed, placed_below}

@@ -15,7 +15,7 @@ use Rattle.mini_laws.specs.declared.names.Declared.TheVariants as declared
 use Rattle.mini_laws.specs.DeclaredNames.{names_of, all_names, bound_names, is_spelled}
 use Rattle.mini_laws.specs.ScopeList.{has_eval, any_has_eval, is_eval_call, calls_eval, is_eval_callee, by_symbol}
 use Rattle.mini_laws.specs.Mentions.{Mention, same_variable, is_among}
-use Rattle.mini_laws.specs.Shared.{is_of_function, names_arguments, any_names_arguments, is_name_of_variable, is_arguments, spelled_among, own_caught, own_catch_params}
+use Rattle.mini_laws.specs.Shared.{is_of_function, names_arguments, any_names_arguments, is_name_of_variable, is_arguments, spelled_among, own_caught}
 use Rattle.mini_laws.specs.Foreign.{own_pattern_names, own_lexical, own_switched, has_number, any_has_number, params_with, own_params_around}
 use Rattle.mini_kept.specs.SameNames.{SameNames, is_name, is_among as is_listed}
 use Rattle.mini_kept.proofs.SameScopes.{same_name, name_itself}
@@ -23,7 +23,7 @@ use Rattle.mini_kept.proofs.LooseScopes.{AllKeep}
 use Rattle.mini_kept.proofs.Below.{all_bound, first_bound}
 use Rattle.mini_shrink.specs.Pace.{AtMost, reads_if, Setting}
 use Rattle.mini_shrink.specs.Shrinking.{Changed, OwnShrinks}
-use Rattle.mini_shrink.specs.Questions.{asks, mentions_such, names_at, lexical_at, switched_at, pattern_at, catch_at, caught_at, params_at}
+use Rattle.mini_shrink.specs.Questions.{asks, mentions_such, names_at, lexical_at, switched_at, pattern_at, caught_at, params_at}
 use Rattle.mini_shrink.proofs.Fitting.{AsksFewerThere}
 use Rattle.mini_shrink.proofs.Paces.{itself}
 
@@ -147,13 +147,6 @@ switched_same : (h : Shape) (π : ℕ → Position) (ts us : Trees) → AllKeep 
 switched_same shape.SwitchStatement π ts us k = all_lexical π 0 ts us k
 switched_same h π ts us k = refl
 
-catch_same : (h : Shape) (π : ℕ → Position) (ts us : Trees) → AllKeep π 0 ts us → own_catch_params h us ≡ own_catch_params h ts
-catch_same shape.CatchClause π none none k = refl
-catch_same shape.CatchClause π none (u ▸ us) k = absurd k
-catch_same shape.CatchClause π (t ▸ ts) none k = absurd k
-catch_same shape.CatchClause π (t ▸ ts) (u ▸ us) k = k.0.bound
-catch_same h π ts us k = refl
-
 -- ---- questions about names
 
 module _ (R : Position → Tree → Tree → Type 0) where
@@ -176,9 +169,6 @@ module _ (R : Position → Tree → Tree → Type 0) where
 
   pub switched_shrinks : (s : ℕ) → OwnShrinks R (asks (names_at switched_at s))
   switched_shrinks s = names_shrink switched_at s (λ p c h n ts us z. among_same (by_symbol s) (own_switched h us) (own_switched h ts) (switched_same h (child_position h p (count ts)) ts us z.kept))
-
-  pub catch_shrinks : (s : ℕ) → OwnShrinks R (asks (names_at catch_at s))
-  catch_shrinks s = names_shrink catch_at s (λ p c h n ts us z. among_same (by_symbol s) (own_catch_params h us) (own_catch_params h ts) (catch_same h (child_position h p (count ts)) ts us z.kept))
 
   -- `var`s under a parameter of `catch` of their name
   spelled_any : (x : Name) (ps ys : List Name) → is_among x (spelled_among ps ys) ≡ list_any (λ y. is_spelled y.spelling ps && same_variable x y) ys

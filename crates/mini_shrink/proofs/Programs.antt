@@ -27,14 +27,14 @@ use Rattle.mini_kept.proofs.LooseScopes.{AllKeep}
 use Rattle.mini_kept.proofs.Using.{also}
 use Rattle.mini_kept.proofs.Whole.{any_reaches_keep}
 use Rattle.mini_shrink.specs.Pace.{AtMost, pace}
-use Rattle.mini_shrink.specs.Questions.{at_program, lexical_at, switched_at, pattern_at, catch_at, caught_at, arguments_at, params_at, hands_on, listed_names, early}
+use Rattle.mini_shrink.specs.Questions.{at_program, lexical_at, switched_at, pattern_at, caught_at, arguments_at, params_at, hands_on, listed_names, early}
 use Rattle.mini_shrink.specs.Shrinking.{LooksUp, OwnShrinks, OrGone}
-use Rattle.mini_shrink.specs.Facts.{Fact, Written, WrittenElsewhere, Given, GivenElsewhere, MentionedElsewhere, BoundElsewhere, IsLexical, IsSwitched, InPattern, OfCatch, UnderCatch, ByArguments, ByEval, AmongParameters, ReadEarly, question, ReadsLess, ReadsLessShrinks}
+use Rattle.mini_shrink.specs.Facts.{Fact, Written, WrittenElsewhere, Given, GivenElsewhere, MentionedElsewhere, BoundElsewhere, IsLexical, IsSwitched, InPattern, GivenByPattern, UnderCatch, ByArguments, ByEval, AmongParameters, ReadEarly, question, ReadsLess, ReadsLessShrinks}
 use Rattle.mini_shrink.proofs.Fitting.{Fitting, AsksFewerThere, fewer_there, names_there, shapes_there, step_there}
 use Rattle.mini_shrink.proofs.Paces.{itself, through}
 use Rattle.mini_shrink.proofs.Lifting.{step_less}
-use Rattle.mini_shrink.proofs.Owns.{lexical_shrinks, pattern_shrinks, switched_shrinks, catch_shrinks, caught_shrinks, mentions_shrink, params_shrink}
-use Rattle.mini_shrink.proofs.Deeper.{names_look_up, mentions_look_up, seen_looks_up, gives_look_up, seen_shrinks, arguments_shrink, gives_shrink}
+use Rattle.mini_shrink.proofs.Owns.{lexical_shrinks, pattern_shrinks, switched_shrinks, caught_shrinks, mentions_shrink, params_shrink}
+use Rattle.mini_shrink.proofs.Deeper.{names_look_up, mentions_look_up, seen_looks_up, gives_look_up, pattern_gives_looks_up, seen_shrinks, arguments_shrink, gives_shrink, pattern_gives_shrink}
 
 -- ---- the order of reads and declarations
 
@@ -66,7 +66,7 @@ looks_up BoundElsewhere b s = mentions_look_up (λ m. same_variable (by_symbol s
 looks_up IsLexical b s = names_look_up lexical_at s
 looks_up IsSwitched b s = names_look_up switched_at s
 looks_up InPattern b s = names_look_up pattern_at s
-looks_up OfCatch b s = names_look_up catch_at s
+looks_up GivenByPattern b s = pattern_gives_looks_up s
 looks_up UnderCatch b s = names_look_up caught_at s
 looks_up ByArguments b s = names_look_up arguments_at s
 looks_up ByEval b s = seen_looks_up s
@@ -91,7 +91,7 @@ module _ (R : Position → Tree → Tree → Type 0) where
   own_shrinks k a IsLexical b s = lexical_shrinks R s
   own_shrinks k a IsSwitched b s = switched_shrinks R s
   own_shrinks k a InPattern b s = pattern_shrinks R s
-  own_shrinks k a OfCatch b s = catch_shrinks R s
+  own_shrinks k a GivenByPattern b s = pattern_gives_shrink R k s
   own_shrinks k a UnderCatch b s = caught_shrinks R s
   own_shrinks k a ByArguments b s = arguments_shrink s R a
   own_shrinks k a ByEval b s = seen_shrinks s R a

@@ -12,6 +12,7 @@ use Rattle.mini_laws.specs.Bodies.{bodies_in}
 use Rattle.mini_laws.specs.Foreign.{is_foreign, is_write, lexical_variables}
 use Rattle.mini_laws.specs.Mentions.{is_among, program_mentions}
 use Rattle.mini_laws.specs.ScopeList.{by_symbol}
+use Rattle.mini_laws.specs.Shared.{is_shared}
 use Rattle.mini_laws.specs.Scoped.{Scoped}
 use Rattle.mini_laws.specs.Symbols.{declared_symbols, Distinct}
 use Rattle.mini_laws.specs.Value.{VariableSet}
@@ -20,13 +21,13 @@ use Rattle.mini_kept.specs.Lifted.{KeepsNames}
 use Rattle.mini_kept.specs.Without.{BodySets, BodiesUnder, Within}
 use Rattle.mini_shrink.specs.Facts.{ReadsLess}
 use Rattle.mini_shrink.specs.Regular.{IsRegular}
-use Rattle.mini_shrink.specs.Told.{shares, is_steady}
+use Rattle.mini_shrink.specs.Told.{is_steady}
 use Rattle.mini_shrink.specs.ToldOn.{of_symbols, asks_as, TopsLess, ImportsLess, PortsLess}
 
 abbrev pub exactly_of : Tree → BodySets
 exactly_of t b = record {
   steady = of_symbols (is_steady t b);
-  unshared = of_symbols (λ s. not (shares t b s));
+  unshared = of_symbols (λ s. not (is_shared t b (by_symbol s)));
   initial = of_symbols (λ s. is_steady t b s && not (is_among (by_symbol s) (lexical_variables false t)));
   has_this = not (list_any (asks_as b) (bodies_in t));
 }

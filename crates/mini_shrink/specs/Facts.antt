@@ -17,7 +17,7 @@ use Rattle.mini_kept.specs.KeepsShapes.{KeepsShapes}
 use Rattle.mini_kept.specs.Lifted.{KeepsNames}
 use Rattle.mini_kept.specs.Loosely.{undeclared}
 use Rattle.mini_shrink.specs.Pace.{AtMost, Question, pace}
-use Rattle.mini_shrink.specs.Questions.{asks, at_program, mentions_such, gives_such, names_at, lexical_at, switched_at, pattern_at, catch_at, caught_at, arguments_at, params_at, seen_at, early}
+use Rattle.mini_shrink.specs.Questions.{asks, at_program, mentions_such, gives_such, pattern_gives, names_at, lexical_at, switched_at, pattern_at, caught_at, arguments_at, params_at, seen_at, early}
 use Rattle.mini_shrink.specs.Shrinking.{AsksLess, AsksFewer}
 
 -- of a symbol, and of a body
@@ -25,9 +25,10 @@ pub data Fact : Type 0 where
   -- a node writes it, in any body or in another than this
   Written : Fact
   WrittenElsewhere : Fact
-  -- a `var` of it has a value where it stands
+  -- a `var` gives it a value, in any body or in another; or a pattern of a `var` does
   Given : Fact
   GivenElsewhere : Fact
+  GivenByPattern : Fact
   -- another body mentions it, or declares it
   MentionedElsewhere : Fact
   BoundElsewhere : Fact
@@ -35,7 +36,6 @@ pub data Fact : Type 0 where
   IsLexical : Fact
   IsSwitched : Fact
   InPattern : Fact
-  OfCatch : Fact
   UnderCatch : Fact
   -- what else reaches it
   ByArguments : Fact
@@ -55,7 +55,7 @@ question BoundElsewhere b s = asks (mentions_such (λ m. same_variable (by_symbo
 question IsLexical b s = asks (names_at lexical_at s)
 question IsSwitched b s = asks (names_at switched_at s)
 question InPattern b s = asks (names_at pattern_at s)
-question OfCatch b s = asks (names_at catch_at s)
+question GivenByPattern b s = asks (pattern_gives s)
 question UnderCatch b s = asks (names_at caught_at s)
 question ByArguments b s = asks (names_at arguments_at s)
 question ByEval b s = asks (seen_at s)

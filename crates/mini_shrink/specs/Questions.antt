@@ -17,7 +17,7 @@ use Rattle.mini_laws.specs.Resolved.{Environment}
 use Rattle.mini_laws.specs.Strict.{is_strict_in}
 use Rattle.mini_laws.specs.ScopeList.{names_in, any_has_eval, by_symbol}
 use Rattle.mini_laws.specs.Mentions.{Mention, own_mentions, is_elsewhere, same_variable, is_among, outermost}
-use Rattle.mini_laws.specs.Shared.{reached_params, own_caught, own_catch_params, given_values, write_at}
+use Rattle.mini_laws.specs.Shared.{reached_params, own_caught, given_values, write_at, own_pattern_writes}
 use Rattle.mini_laws.specs.Foreign.{own_pattern_names, own_lexical, own_switched, own_params_around}
 use Rattle.mini_shrink.specs.Pace.{reads_if, Setting, below, Question}
 
@@ -52,7 +52,11 @@ abbrev pub mentions_such : (Mention → Bool) → Own
 mentions_such p c env h xs n ts = list_any p (own_mentions c.used c.around h xs)
 
 abbrev pub gives_such : (Mention → Bool) → Own
-gives_such p c env h xs n ts = list_any p (map (write_at env c.around) (given_values c.used h ts))
+gives_such p c env h xs n ts = list_any p (map (write_at c.around) (given_values c.used h xs ts))
+
+-- a pattern of a `var` gives a value to the innermost variable of a name
+abbrev pub pattern_gives : ℕ → Own
+pattern_gives s c env h xs n ts = is_among (by_symbol s) (own_pattern_writes c.used env h ts)
 
 -- ---- names that stand at a node
 
@@ -67,9 +71,6 @@ switched_at c h n ts = own_switched h ts
 
 abbrev pub pattern_at : Setting → Shape → ℕ → Trees → List Name
 pattern_at c h n ts = own_pattern_names h n ts
-
-abbrev pub catch_at : Setting → Shape → ℕ → Trees → List Name
-catch_at c h n ts = own_catch_params h ts
 
 abbrev pub caught_at : Setting → Shape → ℕ → Trees → List Name
 caught_at c h n ts = own_caught h ts

@@ -21,7 +21,7 @@ use Rattle.mini_kept.specs.Lifted.{KeepsNames}
 use Rattle.mini_kept.specs.Without.{BodySets, BodiesUnder, Within}
 use Rattle.mini_shrink.specs.Facts.{ReadsLess}
 use Rattle.mini_shrink.specs.Regular.{IsRegular}
-use Rattle.mini_shrink.specs.Told.{is_shown, is_lent, shares, stays}
+use Rattle.mini_shrink.specs.Told.{is_shown, is_lent, stays}
 
 -- of declared names alone
 abbrev pub of_symbols : (ℕ → Bool) → VariableSet
@@ -38,16 +38,15 @@ asks_as n b = nat_eq b.number n && b.asks_this
 abbrev pub told_of : Tree → BodySets
 told_of t b = record {
   steady = of_symbols (stays t b);
-  unshared = of_symbols (λ s. not (shares t b s));
+  unshared = of_symbols (λ s. not (is_shared t b (by_symbol s)));
   initial = of_symbols (λ s. stays t b s && not (is_among (by_symbol s) (lexical_variables false t)));
   has_this = not (list_any (asks_as b) (bodies_in t));
 }
 
--- what is told is so: of each symbol where the program is regular, which every program is
+-- what is told is so, of each symbol: no answer changes it, and nothing writes it
 pub record IsSo (t : Tree) (b s : ℕ) : Type 0 where
   pub steady : (told_of t b).steady (Declared s) ≡ true → is_foreign t b (by_symbol s) ≡ false
   pub unwritten : (told_of t b).steady (Declared s) ≡ true → list_any (is_write (by_symbol s)) (all_writes t) ≡ false
-  pub unshared : (told_of t b).unshared (Declared s) ≡ true → is_shared t b (by_symbol s) ≡ false
 
 abbrev pub ToldIsSo : Type 0
 ToldIsSo = (t : Tree) (b s : ℕ) → IsRegular s t → Scoped Read [] t → IsSo t b s

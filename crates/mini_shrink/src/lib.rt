@@ -6,7 +6,7 @@ ghost use Rattle.mini_shrink.specs.Exact.{ExactIsSo, ExactWithin};
 ghost use Rattle.mini_shrink.specs.Examples.{after_it};
 ghost use Rattle.mini_shrink.specs.Facts.{ReadsLessShrinks};
 ghost use Rattle.mini_shrink.specs.Regular.{EarlyByScopes, ForeignByScopes};
-ghost use Rattle.mini_shrink.specs.Told.{SharesAsEver, ToldShrinks};
+ghost use Rattle.mini_shrink.specs.Told.{ToldShrinks};
 ghost use Rattle.mini_shrink.specs.ToldOn.{LentShrinks, ShownShrinks, ToldIsSo, ToldOn, ToldWithin};
 
 use mini_laws::Rewrites;
@@ -21,8 +21,7 @@ pub fn reads_less_shrinks<R: Rewrites>()
 /// So what is told of a body of a program is so of it after any number of steps: what no body
 /// writes and no answer changes, and what no other body sees.
 pub fn told_shrinks<R: Rewrites>()
-    ensures shrinks { ToldShrinks R.gives }
-    ensures shared { SharesAsEver }
+    ensures { ToldShrinks R.gives }
 {}
 
 /// What is foreign by all names and all moments of a program is so by what shrinks.
