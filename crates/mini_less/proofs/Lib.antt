@@ -31,3 +31,4 @@ pub mod ChainsLess
 pub mod ChoicesLess
 pub mod Steps
 pub mod WritesLess
+pub mod KeysLess

@@ -1,6 +1,8 @@
 -- What is made of an expression or a statement of which nothing is called that wasn't: whatever holds of trees by their parts holds of it, too. So it asks less.
 use Rattle.std.specs.Prelude.{ℕ, zero, suc, ◌≡◌, refl, Bool, true, false, ◌||◌, []}
 use Rattle.std.proofs.Common.{ap, ◌∙◌, sym, subst, inl, true≢false}
+use Rattle.mini_model.specs.declared.kind.PropertyKind.{PropertyKind}
+use Rattle.mini_model.specs.declared.kind.PropertyKind.TheVariants.{Init}
 use Rattle.mini_model.specs.declared.name.Name.{Name}
 use Rattle.mini_model.specs.declared.place.Position.TheVariants.{Expr, Stmt}
 use Rattle.mini_model.specs.declared.seat.Seat.{Seat}
@@ -18,10 +20,11 @@ use Rattle.mini_laws.specs.Shared.{names_arguments}
 use Rattle.mini_laws.specs.Value.{Declared}
 use Rattle.mini_kept.specs.KeepsNames.{is_read}
 use Rattle.mini_laws.specs.Resolved.{Environment}
-use Rattle.mini_shrink.specs.Pace.{AtMost, Setting, pace}
-use Rattle.mini_shrink.specs.Questions.{Own, asks, finds, early}
+use Rattle.mini_laws.specs.Scopes.{opened}
+use Rattle.mini_shrink.specs.Pace.{AtMost, Setting, below, pace}
+use Rattle.mini_shrink.specs.Questions.{Own, asks, any_of, finds, finds_each, early}
 use Rattle.mini_shrink.specs.Shrinking.{AsksLess}
-use Rattle.mini_rows.specs.Sketches.{Head, AList, If, Block, Call, shape_by, Asked, AsValue, AsValues, AsWhole, AsTarget, AsUpdated, asked_below, leaps, is_expression_head, is_statement_head}
+use Rattle.mini_rows.specs.Sketches.{Head, AList, If, Block, Call, shape_by, Asked, AsValue, AsValues, AsWhole, AsTarget, AsUpdated, asked_below, use_by, leaps, is_expression_head, is_statement_head}
 use Rattle.mini_less.specs.Families.{FewerAt, LessAt}
 use Rattle.mini_less.specs.Flags.{FlagsLess}
 use Rattle.mini_less.specs.Less.{TellsPlainly, Plain}
@@ -43,9 +46,17 @@ is_uncalled h = true
 abbrev pub Updated : (Asked → Tree → Type 0) → Type 0
 Updated Q = (x : Name) → Q AsTarget (identifier x) → Q AsValue (identifier x) → Q AsUpdated (identifier x)
 
+-- whether a property is a method or an accessor doesn't matter
+abbrev pub SameProperty : (Asked → Tree → Type 0) → PropertyKind → Bool → PropertyKind → Bool → Type 0
+SameProperty Q k m k' m' = (c : Asked) (is_shorthand is_computed : Bool) (ts : Trees) → Q c (node (shape.ObjectProperty k m is_shorthand is_computed) [] 0 ts) → Q c (node (shape.ObjectProperty k' m' is_shorthand is_computed) [] 0 ts)
+
+abbrev pub Properties : (Asked → Tree → Type 0) → Type 0
+Properties Q = (k : PropertyKind) (m : Bool) → SameProperty Q k m Init false × SameProperty Q Init false k m
+
 -- what holds of such a node where it does of what is below, of a call where something more does of what is called, and of a name that is updated
 pub record ByParts (Q : Asked → Tree → Type 0) : Type 1 where
   pub updated : Updated Q
+  pub properties : Properties Q
   pub down : (h : Head) → is_uncalled h ≡ true → (c : Asked) (ts : Trees) → Plain h ts → Q c (node (shape_by h) [] 0 ts) → Below Q (asked_below h c) 0 ts
   pub up : (h : Head) → is_uncalled h ≡ true → (c : Asked) (ts : Trees) → Plain h ts → Below Q (asked_below h c) 0 ts → Q c (node (shape_by h) [] 0 ts)
   pub Called : Tree → Type 0
@@ -53,9 +64,10 @@ pub record ByParts (Q : Asked → Tree → Type 0) : Type 1 where
   pub call_down : (c : Asked) (f arguments : Tree) → Q c (node (shape.CallExpression false) [] 0 (f ▸ arguments ▸ none)) → Called f × (Q AsValue f × Q AsValues arguments)
   pub call_up : (c : Asked) (f arguments : Tree) → Called f → Q AsValue f → Q AsValues arguments → Q c (node (shape.CallExpression false) [] 0 (f ▸ arguments ▸ none))
 
-pub by_parts : (Q : Asked → Tree → Type 0) → Updated Q → Local Any Q → ByParts Q
-by_parts Q u l = record {
+pub by_parts : (Q : Asked → Tree → Type 0) → Updated Q → Properties Q → Local Any Q → ByParts Q
+by_parts Q u s l = record {
   updated = u;
+  properties = s;
   down = λ h e c ts p a. (l.down h c ts p a).1;
   up = λ h e c ts p a. l.up h c ts p (leaping (leaps h)) a;
   Called = λ t. Unit {0};
@@ -87,6 +99,7 @@ pub spared_by_parts : ByParts Spared
 unfolding has_eval
 spared_by_parts = record {
   updated = λ x e f. e;
+  properties = λ k m. (λ c s b ts a. a, λ c s b ts a. a);
   Called = λ t. is_eval_callee t ≡ false;
   nameless = λ t e. e;
   call_down = λ c f ts a.
@@ -110,15 +123,34 @@ calm_updated : (m s : ℕ) (c : Setting) (env : Environment) → Updated (Calmly
 unfolding pace
 calm_updated m s c env x e f = f
 
+spares_properties : Properties (λ c t. names_arguments t ≡ false)
+unfolding names_arguments
+spares_properties k m = (λ c s b ts a. a, λ c s b ts a. a)
+
+numbers_properties : (n : ℕ) → Properties (λ c t. has_number (suc n) t ≡ false)
+unfolding has_number
+numbers_properties n k m = (λ c s b ts a. a, λ c s b ts a. a)
+
+lacks_properties : (o : Own) (t : TellsPlainly o) (c : Setting) (env : Environment) → Properties (Lacks o t c env)
+unfolding finds
+lacks_properties o t c env k m = (
+  λ d s b ts a. (λ j. sym (t.property (setting o t c env d) env k m s b ts) j || any_of (finds_each o (opened (use_by c.used d) (shape.ObjectProperty Init false s b) ts) (below false (setting o t c env d) (shape.ObjectProperty Init false s b) 0) 0 env ts)) ∙ a,
+  λ d s b ts a. (λ j. t.property (setting o t c env d) env k m s b ts j || any_of (finds_each o (opened (use_by c.used d) (shape.ObjectProperty Init false s b) ts) (below false (setting o t c env d) (shape.ObjectProperty Init false s b) 0) 0 env ts)) ∙ a,
+)
+
+calm_properties : (m s : ℕ) (c : Setting) (env : Environment) → Properties (Calmly m s c env)
+unfolding pace
+calm_properties m s c env k d = (λ e t b ts a. a, λ e t b ts a. a)
+
 -- ---- what a node tells besides names
 
 module _ (c : Asked) (n w : Tree) (root : has_number 0 n ≡ true) (made : (Q : Asked → Tree → Type 0) → ByParts Q → Q c n → Q c w) where
   pub flags_made : FlagsLess n w
-  flags_made = record { arguments = never (names_arguments n) (names_arguments w) (made (λ d t. names_arguments t ≡ false) (by_parts (λ d t. names_arguments t ≡ false) (λ x e f. e) spares_local)); number = numbers }
+  flags_made = record { arguments = never (names_arguments n) (names_arguments w) (made (λ d t. names_arguments t ≡ false) (by_parts (λ d t. names_arguments t ≡ false) (λ x e f. e) spares_properties spares_local)); number = numbers }
     where
       numbers : (k : ℕ) → has_number k w ≡ true → has_number k n ≡ true
       numbers zero e = root
-      numbers (suc k) e = never (has_number (suc k) n) (has_number (suc k) w) (made (λ d t. has_number (suc k) t ≡ false) (by_parts (λ d t. has_number (suc k) t ≡ false) (λ x e f. e) (numbers_local k))) e
+      numbers (suc k) e = never (has_number (suc k) n) (has_number (suc k) w) (made (λ d t. has_number (suc k) t ≡ false) (by_parts (λ d t. has_number (suc k) t ≡ false) (λ x e f. e) (numbers_properties k) (numbers_local k))) e
 
   pub evals_made : has_eval w ≡ true → has_eval n ≡ true
   evals_made = never (has_eval n) (has_eval w) (made Spared spared_by_parts)
@@ -147,7 +179,7 @@ module _ (q : Seat) (n w : Tree) (h : Head) (ts : Trees) (e : is_expression_head
     by = λ strict x _ fit c env st _.
         let same : alone c ≡ setting o t (alone c) env AsValue = as_asked (alone c) (used c.used st) refl refl in
         let less : finds o (alone c) env n ≡ false → finds o (alone c) env w ≡ false = λ y.
-        subst (λ d. finds o d env w ≡ false) (sym same) (made strict x fit (Lacks o t (alone c) env) (by_parts (Lacks o t (alone c) env) (lacks_updated o t (alone c) env) (lacks_local o t (alone c) env)) (subst (λ d. finds o d env n ≡ false) same y)) in
+        subst (λ d. finds o d env w ≡ false) (sym same) (made strict x fit (Lacks o t (alone c) env) (by_parts (Lacks o t (alone c) env) (lacks_updated o t (alone c) env) (lacks_properties o t (alone c) env) (lacks_local o t (alone c) env)) (subst (λ d. finds o d env n ≡ false) same y)) in
         inl (found_less o c env n w (never (finds o c env n) (finds o c env w) (λ y. z c env w (value strict x fit) ∙ less (sym (z c env n n_value) ∙ y))));
   }
 
@@ -158,7 +190,7 @@ module _ (q : Seat) (n w : Tree) (h : Head) (ts : Trees) (e : is_expression_head
         let n_is = early_alone m s c env n n_value ∙ ap (λ d. pace (early m s) d env n) same in
         let w_is = early_alone m s c env w (value strict x fit) ∙ ap (λ d. pace (early m s) d env w) same in
         inl (subst (λ x. AtMost x (pace (early m s) c env n)) (sym w_is) (subst (AtMost (pace (early m s) (standing m s c env AsValue) env w)) (sym n_is)
-        (less_by (pace (early m s) (standing m s c env AsValue) env w) (pace (early m s) (standing m s c env AsValue) env n) (made strict x fit (Calmly m s c env) (by_parts (Calmly m s c env) (calm_updated m s c env) (calm_local m s c env)))
+        (less_by (pace (early m s) (standing m s c env AsValue) env w) (pace (early m s) (standing m s c env AsValue) env n) (made strict x fit (Calmly m s c env) (by_parts (Calmly m s c env) (calm_updated m s c env) (calm_properties m s c env) (calm_local m s c env)))
         (subst (λ t. is_ended (pace (early m s) (standing m s c env AsValue) env t) ≡ false) (sym a) (root_ended m s c env AsValue h ts p)))));
   }
 
@@ -178,7 +210,7 @@ module _ (q : StmtSeat) (n w : Tree) (h g : Head) (ts us : Trees) (e : is_statem
   statement_asked k o t z = record {
     by = λ strict x _ fit c env st _.
         inl (found_less o c env n w (never (finds o c env n) (finds o c env w) (λ y.
-        unordered o z c false env w ∙ made strict x fit (Lacks o t c env) (by_parts (Lacks o t c env) (lacks_updated o t c env) (lacks_local o t c env)) (sym (unordered o z c false env n) ∙ y))));
+        unordered o z c false env w ∙ made strict x fit (Lacks o t c env) (by_parts (Lacks o t c env) (lacks_updated o t c env) (lacks_properties o t c env) (lacks_local o t c env)) (sym (unordered o z c false env n) ∙ y))));
   }
 
   statement_in_order : (k m s : ℕ) → AsksLess (early m s) (Declared k) (Stmt q) n w
@@ -187,7 +219,7 @@ module _ (q : StmtSeat) (n w : Tree) (h g : Head) (ts us : Trees) (e : is_statem
         let n_is = ap (pace (early m s) c env) a ∙ anywhere m s c env h ts e ∙ sym (ap (pace (early m s) (record c { ordered = false }) env) a) in
         let w_is = ap (pace (early m s) c env) b ∙ anywhere m s c env g us f ∙ sym (ap (pace (early m s) (record c { ordered = false }) env) b) in
         inl (subst (λ x. AtMost x (pace (early m s) c env n)) (sym w_is) (subst (AtMost (pace (early m s) (record c { ordered = false }) env w)) (sym n_is)
-        (less_by (pace (early m s) (record c { ordered = false }) env w) (pace (early m s) (record c { ordered = false }) env n) (made strict x fit (Calmly m s c env) (by_parts (Calmly m s c env) (calm_updated m s c env) (calm_local m s c env)))
+        (less_by (pace (early m s) (record c { ordered = false }) env w) (pace (early m s) (record c { ordered = false }) env n) (made strict x fit (Calmly m s c env) (by_parts (Calmly m s c env) (calm_updated m s c env) (calm_properties m s c env) (calm_local m s c env)))
         (subst (λ t. is_ended (pace (early m s) (record c { ordered = false }) env t) ≡ false) (sym a) (root_ended m s c env AsWhole h ts p)))));
   }
 

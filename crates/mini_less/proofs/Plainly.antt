@@ -7,6 +7,8 @@ use Rattle.std.proofs.lemmas.List.{append-nil}
 use Rattle.mini_accept.specs.WellShaped.{Slot, fits}
 use Rattle.mini_laws.specs.declared.names.Declared.TheVariants as declared
 use Rattle.mini_laws.specs.References.{reads}
+use Rattle.mini_model.specs.declared.kind.PropertyKind.{PropertyKind}
+use Rattle.mini_model.specs.declared.kind.PropertyKind.TheVariants.{Init}
 use Rattle.mini_model.specs.declared.name.Name.{Name}
 use Rattle.mini_model.specs.declared.place.Position.TheVariants.{Expr}
 use Rattle.mini_model.specs.declared.seat.Seat.{Seat}
@@ -62,7 +64,7 @@ or_none true = refl
 or_none false = refl
 
 pub mentions_plainly : (p : Mention → Bool) → Updates p → TellsPlainly (mentions_such p)
-mentions_plainly p u = record { updated = λ c env x e f. or_none _ ∙ u x c.around (sym (or_none _) ∙ e) (sym (or_none _) ∙ f); plain = λ c env h ts q. no_mention p c (shape_by h); moved = λ c v b env h n ts e. no_mention p c h ∙ sym (no_mention p (record c { used = v; is_body = b }) h) }
+mentions_plainly p u = record { property = λ c env k m s b ts. refl; updated = λ c env x e f. or_none _ ∙ u x c.around (sym (or_none _) ∙ e) (sym (or_none _) ∙ f); plain = λ c env h ts q. no_mention p c (shape_by h); moved = λ c v b env h n ts e. no_mention p c h ∙ sym (no_mention p (record c { used = v; is_body = b }) h) }
 
 gives_no : (p : Mention → Bool) (c : Setting) (h : Head) (ts : Trees) → list_any p (map (write_at c.around) (given_values c.used (shape_by h) [] ts)) ≡ false
 gives_no p c AList ts = refl
@@ -73,7 +75,7 @@ gives_anyhow p c v shape.VariableDeclarator ts e = absurd (cc e)
 gives_anyhow p c v h ts e = refl
 
 pub gives_plainly : (p : Mention → Bool) → TellsPlainly (gives_such p)
-gives_plainly p = record { updated = λ c env x e f. e; plain = λ c env h ts q. gives_no p c h ts; moved = λ c v b env h n ts e. gives_anyhow p c v h ts e }
+gives_plainly p = record { property = λ c env k m s b ts. refl; updated = λ c env x e f. e; plain = λ c env h ts q. gives_no p c h ts; moved = λ c v b env h n ts e. gives_anyhow p c v h ts e }
 
 pattern_no : (c : Setting) (env : Environment) (h : Head) (ts : Trees) → own_pattern_writes c.used env (shape_by h) ts ≡ []
 pattern_no c env AList ts = refl
@@ -84,10 +86,10 @@ pattern_anyhow u v env shape.VariableDeclarator ts e = absurd (cc e)
 pattern_anyhow u v env h ts e = refl
 
 pub pattern_gives_plainly : (s : ℕ) → TellsPlainly (pattern_gives s)
-pattern_gives_plainly s = record { updated = λ c env x e f. e; plain = λ c env h ts q. ap (is_among (by_symbol s)) (pattern_no c env h ts); moved = λ c v b env h n ts e. ap (is_among (by_symbol s)) (pattern_anyhow c.used v env h ts e) }
+pattern_gives_plainly s = record { property = λ c env k m s b ts. refl; updated = λ c env x e f. e; plain = λ c env h ts q. ap (is_among (by_symbol s)) (pattern_no c env h ts); moved = λ c v b env h n ts e. ap (is_among (by_symbol s)) (pattern_anyhow c.used v env h ts e) }
 
-pub names_plainly : (ys : Setting → Shape → ℕ → Trees → List Name) (s : ℕ) → ((c : Setting) (h : Head) (ts : Trees) → ys c (shape_by h) 0 ts ≡ []) → ((c : Setting) (v : Use) (b : Bool) (h : Shape) (n : ℕ) (ts : Trees) → ys c h n ts ≡ ys (record c { used = v; is_body = b }) h n ts) → TellsPlainly (names_at ys s)
-names_plainly ys s f g = record { updated = λ c env x e f. sym (ap (is_among (by_symbol s)) (g (record c { used = Write }) ReadWrite c.is_body shape.Identifier 0 none)) ∙ e; plain = λ c env h ts q. ap (is_among (by_symbol s)) (f c h ts); moved = λ c v b env h n ts e. ap (is_among (by_symbol s)) (g c v b h n ts) }
+pub names_plainly : (ys : Setting → Shape → ℕ → Trees → List Name) (s : ℕ) → ((c : Setting) (h : Head) (ts : Trees) → ys c (shape_by h) 0 ts ≡ []) → ((c : Setting) (v : Use) (b : Bool) (h : Shape) (n : ℕ) (ts : Trees) → ys c h n ts ≡ ys (record c { used = v; is_body = b }) h n ts) → ((c : Setting) (k : PropertyKind) (m d b : Bool) (ts : Trees) → ys c (shape.ObjectProperty k m d b) 0 ts ≡ ys c (shape.ObjectProperty Init false d b) 0 ts) → TellsPlainly (names_at ys s)
+names_plainly ys s f g r = record { property = λ c env k m d b ts. ap (is_among (by_symbol s)) (r c k m d b ts); updated = λ c env x e f. sym (ap (is_among (by_symbol s)) (g (record c { used = Write }) ReadWrite c.is_body shape.Identifier 0 none)) ∙ e; plain = λ c env h ts q. ap (is_among (by_symbol s)) (f c h ts); moved = λ c v b env h n ts e. ap (is_among (by_symbol s)) (g c v b h n ts) }
 
 pub no_switched : (c : Setting) (h : Head) (ts : Trees) → switched_at c (shape_by h) 0 ts ≡ []
 no_switched c AList ts = refl
@@ -123,6 +125,7 @@ seen_alike x sc sc' z i (t ▸ ts) = λ j. (any_has_eval (t ▸ ts) && is_among 
 
 pub seen_plainly : (s : ℕ) → TellsPlainly (seen_at s)
 seen_plainly s = record {
+  property = λ c env k m s b ts. refl;
   updated = λ c env x e f. e;
   plain = λ c env h ts q. unseen (by_symbol s) (opened c.used (shape_by h) ts) (nothing_opened c.used h ts q) 0 ts;
   moved = λ c v b env h n ts e. seen_alike (by_symbol s) (opened c.used h ts) (opened v h ts) (same_scopes c.used v h e ts) 0 ts;
@@ -190,7 +193,7 @@ early_alone b k c env (node h xs n ts) e =
     by o = ap (λ x. x && o) (hands_value h e) ∙ sym (ap (λ x. x && false) (hands_value h e))
 
 pub lexical_plainly : (s : ℕ) → TellsPlainly (names_at lexical_at s)
-lexical_plainly s = record { updated = λ c env x e f. e; plain = λ c env h ts q. ap (is_among (by_symbol s)) (no_lexical c.is_body h ts); moved = λ c v b env h n ts e. ap (is_among (by_symbol s)) (moved_lexical c.is_body b h ts e) }
+lexical_plainly s = record { property = λ c env k m s b ts. refl; updated = λ c env x e f. e; plain = λ c env h ts q. ap (is_among (by_symbol s)) (no_lexical c.is_body h ts); moved = λ c v b env h n ts e. ap (is_among (by_symbol s)) (moved_lexical c.is_body b h ts e) }
   where
     no_lexical : (b : Bool) (h : Head) (ts : Trees) → own_lexical b (shape_by h) ts ≡ []
     no_lexical true AList ts = refl
@@ -432,11 +435,11 @@ arranged_asks_less f ps u s r e q n w a b GivenElsewhere c k = asks_less f ps u 
 arranged_asks_less f ps u s r e q n w a b MentionedElsewhere c k = asks_less f ps u q n w _ (mentions_plainly (λ m. same_variable (by_symbol k) m.name && is_elsewhere c m.around) (λ x a e f. e)) (λ c b d env h xs n ts. refl) k s r e a b
 arranged_asks_less f ps u s r e q n w a b BoundElsewhere c k = asks_less f ps u q n w _ (mentions_plainly (λ m. same_variable (by_symbol k) m.name && m.binds && is_elsewhere c m.around) (λ x a e f. e)) (λ c b d env h xs n ts. refl) k s r e a b
 arranged_asks_less f ps u s r e q n w a b IsLexical c k = lexical_less f ps u q n w k s r e a b
-arranged_asks_less f ps u s r e q n w a b IsSwitched c k = asks_less f ps u q n w _ (names_plainly switched_at k no_switched (λ c v b h n ts. refl)) (λ c b d env h xs n ts. refl) k s r e a b
-arranged_asks_less f ps u s r e q n w a b InPattern c k = asks_less f ps u q n w _ (names_plainly pattern_at k no_pattern (λ c v b h n ts. refl)) (λ c b d env h xs n ts. refl) k s r e a b
+arranged_asks_less f ps u s r e q n w a b IsSwitched c k = asks_less f ps u q n w _ (names_plainly switched_at k no_switched (λ c v b h n ts. refl) (λ c k m d b ts. refl)) (λ c b d env h xs n ts. refl) k s r e a b
+arranged_asks_less f ps u s r e q n w a b InPattern c k = asks_less f ps u q n w _ (names_plainly pattern_at k no_pattern (λ c v b h n ts. refl) (λ c k m d b ts. refl)) (λ c b d env h xs n ts. refl) k s r e a b
 arranged_asks_less f ps u s r e q n w a b GivenByPattern c k = asks_less f ps u q n w _ (pattern_gives_plainly k) (λ c b d env h xs n ts. refl) k s r e a b
-arranged_asks_less f ps u s r e q n w a b UnderCatch c k = asks_less f ps u q n w _ (names_plainly caught_at k no_caught (λ c v b h n ts. refl)) (λ c b d env h xs n ts. refl) k s r e a b
-arranged_asks_less f ps u s r e q n w a b ByArguments c k = asks_less f ps u q n w _ (names_plainly arguments_at k no_arguments (λ c v b h n ts. refl)) (λ c b d env h xs n ts. refl) k s r e a b
+arranged_asks_less f ps u s r e q n w a b UnderCatch c k = asks_less f ps u q n w _ (names_plainly caught_at k no_caught (λ c v b h n ts. refl) (λ c k m d b ts. refl)) (λ c b d env h xs n ts. refl) k s r e a b
+arranged_asks_less f ps u s r e q n w a b ByArguments c k = asks_less f ps u q n w _ (names_plainly arguments_at k no_arguments (λ c v b h n ts. refl) (λ c k m d b ts. refl)) (λ c b d env h xs n ts. refl) k s r e a b
 arranged_asks_less f ps u s r e q n w a b ByEval c k = asks_less f ps u q n w _ (seen_plainly k) (λ c b d env h xs n ts. refl) k s r e a b
-arranged_asks_less f ps u s r e q n w a b AmongParameters c k = asks_less f ps u q n w _ (names_plainly (params_at c) k (no_params c) (λ c v b h n ts. refl)) (λ c b d env h xs n ts. refl) k s r e a b
+arranged_asks_less f ps u s r e q n w a b AmongParameters c k = asks_less f ps u q n w _ (names_plainly (params_at c) k (no_params c) (λ c v b h n ts. refl) (λ c k m d b ts. refl)) (λ c b d env h xs n ts. refl) k s r e a b
 arranged_asks_less f ps u s r e q n w a b ReadEarly c k = early_less f ps u q n w c k s r e a b

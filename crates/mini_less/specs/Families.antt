@@ -24,6 +24,7 @@ use Rattle.mini_shrink.specs.Pace.{AtMost, pace}
 use Rattle.mini_shrink.specs.Questions.{at_program}
 use Rattle.mini_shrink.specs.Facts.{Fact, question, ReadsLess}
 use Rattle.mini_rows.specs.Turns.{TurnContracts}
+use Rattle.mini_rows.specs.SpellKeys.{KeyContracts}
 use Rattle.mini_rows.specs.Writes.{WriteContracts}
 use Rattle.mini_rows.specs.Choices.{ChoiceContracts}
 use Rattle.mini_rows.specs.Negations.{NegationContracts}
@@ -132,3 +133,6 @@ ChoicesReadLess = ReadsLess ChoiceContracts
 
 abbrev pub WritesReadLess : Type 0
 WritesReadLess = (W : VariableSet) → ReadsLess (WriteContracts W)
+
+abbrev pub KeysReadLess : Type 0
+KeysReadLess = ReadsLess KeyContracts

@@ -1,7 +1,7 @@
 //! What each family of rewrites has to show for Shared and Foreign to shrink. Each function's contract is a law, and its body is empty.
 #![tactic(auto)]
 
-ghost use Rattle.mini_less.specs.Families.{ConstantsReadLess, SequencesReadLess, TemplatesReadLess, BooleansReadLess, NegationsReadLess, ChoicesReadLess, WritesReadLess, FirstRowsReadLess, OperandsReadLess, SpellingsReadLess, ReadsLessJoins, ReadsLessNarrows, ListRowsLess, MoreRowsLess, TurnsReadLess, TurnsShrink};
+ghost use Rattle.mini_less.specs.Families.{ConstantsReadLess, SequencesReadLess, TemplatesReadLess, BooleansReadLess, NegationsReadLess, ChoicesReadLess, WritesReadLess, KeysReadLess, FirstRowsReadLess, OperandsReadLess, SpellingsReadLess, ReadsLessJoins, ReadsLessNarrows, ListRowsLess, MoreRowsLess, TurnsReadLess, TurnsShrink};
 ghost use Rattle.mini_less.specs.Rebuilt.{ListsAskLess, StatementsAskLess};
 
 use mini_laws::Rewrites;
@@ -86,4 +86,9 @@ pub fn choices_read_less()
 /// Rows of names that can be written: 34, 37 and 46.
 pub fn writes_read_less()
     ensures { WritesReadLess }
+{}
+
+/// Rows on the keys of object literals: 51 and 52.
+pub fn keys_read_less()
+    ensures { KeysReadLess }
 {}
