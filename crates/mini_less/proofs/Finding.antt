@@ -93,13 +93,13 @@ module _ (o : Own) (plainly : TellsPlainly o) (k : Setting) (env : Environment) 
   abbrev pub setting : Asked → Setting
   setting c = record { used = use_by k.used c; around = k.around; strict = k.strict; is_body = body_by k.is_body c; belongs = k.belongs; ordered = false }
 
-  setting_below : (h : Head) (c : Asked) (j : ℕ) → below false (setting c) (shape_by h) 0 j ≡ setting (asked_below h c j)
+  pub setting_below : (h : Head) (c : Asked) (j : ℕ) → below false (setting c) (shape_by h) 0 j ≡ setting (asked_below h c j)
   setting_below h c j = λ i. record { used = used_below k.used h c j i; around = around_same h k.around j i; strict = strict_same h k.strict i; is_body = no_body k.is_body h c j i; belongs = belongs_same h k.belongs j i; ordered = false }
 
   abbrev pub Lacks : Asked → Tree → Type 0
   Lacks c t = finds o (setting c) env t ≡ false
 
-  lacks_below : (cs : ℕ → Asked) (scope : ℕ → List Binding) → ((j : ℕ) → scope j ≡ []) → (ks : ℕ → Setting) → ((j : ℕ) → ks j ≡ setting (cs j)) → (i : ℕ) (e : Environment) → e ≡ env → (ts : Trees) → any_of (finds_each o scope ks i e ts) ≡ false → Below Lacks cs i ts
+  pub lacks_below : (cs : ℕ → Asked) (scope : ℕ → List Binding) → ((j : ℕ) → scope j ≡ []) → (ks : ℕ → Setting) → ((j : ℕ) → ks j ≡ setting (cs j)) → (i : ℕ) (e : Environment) → e ≡ env → (ts : Trees) → any_of (finds_each o scope ks i e ts) ≡ false → Below Lacks cs i ts
   unfolding finds
   lacks_below cs scope z ks w i e q none a = tt
   lacks_below cs scope z ks w i e q (t ▸ ts) a =
@@ -107,7 +107,7 @@ module _ (o : Own) (plainly : TellsPlainly o) (k : Setting) (env : Environment) 
       let (x, y) = none_of (finds o (ks i) (e ++ scope i) t) (any_of (finds_each o scope ks (suc i) (e ++ scope i) ts)) a in
       (subst (λ s. finds o s env t ≡ false) (w i) (subst (λ r. finds o (ks i) r t ≡ false) same x), lacks_below cs scope z ks w (suc i) (e ++ scope i) same ts y)
 
-  below_lacks : (cs : ℕ → Asked) (scope : ℕ → List Binding) → ((j : ℕ) → scope j ≡ []) → (ks : ℕ → Setting) → ((j : ℕ) → ks j ≡ setting (cs j)) → (i : ℕ) (e : Environment) → e ≡ env → (ts : Trees) → Below Lacks cs i ts → any_of (finds_each o scope ks i e ts) ≡ false
+  pub below_lacks : (cs : ℕ → Asked) (scope : ℕ → List Binding) → ((j : ℕ) → scope j ≡ []) → (ks : ℕ → Setting) → ((j : ℕ) → ks j ≡ setting (cs j)) → (i : ℕ) (e : Environment) → e ≡ env → (ts : Trees) → Below Lacks cs i ts → any_of (finds_each o scope ks i e ts) ≡ false
   unfolding finds
   below_lacks cs scope z ks w i e q none a = refl
   below_lacks cs scope z ks w i e q (t ▸ ts) a =

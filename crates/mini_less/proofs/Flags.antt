@@ -31,14 +31,14 @@ of_function h i = refl
 abbrev Spares : Asked → Tree → Type 0
 Spares c t = names_arguments t ≡ false
 
-spares_below : (cs : ℕ → Asked) (g : ℕ → Bool) → ((j : ℕ) → g j ≡ true) → (i : ℕ) (ts : Trees) → any_names_arguments g i ts ≡ false → Below Spares cs i ts
+pub spares_below : (cs : ℕ → Asked) (g : ℕ → Bool) → ((j : ℕ) → g j ≡ true) → (i : ℕ) (ts : Trees) → any_names_arguments g i ts ≡ false → Below Spares cs i ts
 unfolding names_arguments
 spares_below cs g w i none a = tt
 spares_below cs g w i (t ▸ ts) a =
     let (x, y) = none_of (g i && names_arguments t) (any_names_arguments g (suc i) ts) a in
     (ap (λ b. b && names_arguments t) (sym (w i)) ∙ x, spares_below cs g w (suc i) ts y)
 
-below_spares : (cs : ℕ → Asked) (g : ℕ → Bool) → ((j : ℕ) → g j ≡ true) → (i : ℕ) (ts : Trees) → Below Spares cs i ts → any_names_arguments g i ts ≡ false
+pub below_spares : (cs : ℕ → Asked) (g : ℕ → Bool) → ((j : ℕ) → g j ≡ true) → (i : ℕ) (ts : Trees) → Below Spares cs i ts → any_names_arguments g i ts ≡ false
 unfolding names_arguments
 below_spares cs g w i none a = refl
 below_spares cs g w i (t ▸ ts) a = λ j. (ap (λ b. b && names_arguments t) (w i) ∙ a.0) j || below_spares cs g w (suc i) ts a.1 j
@@ -54,17 +54,17 @@ module _ (b : ℕ) where
   abbrev Unnumbered : Asked → Tree → Type 0
   Unnumbered c t = has_number (suc b) t ≡ false
 
-  numbers_below : (cs : ℕ → Asked) (i : ℕ) (ts : Trees) → any_has_number (suc b) ts ≡ false → Below Unnumbered cs i ts
+  pub numbers_below : (cs : ℕ → Asked) (i : ℕ) (ts : Trees) → any_has_number (suc b) ts ≡ false → Below Unnumbered cs i ts
   unfolding has_number
   numbers_below cs i none a = tt
   numbers_below cs i (t ▸ ts) a = let (x, y) = none_of (has_number (suc b) t) (any_has_number (suc b) ts) a in (x, numbers_below cs (suc i) ts y)
 
-  below_numbers : (cs : ℕ → Asked) (i : ℕ) (ts : Trees) → Below Unnumbered cs i ts → any_has_number (suc b) ts ≡ false
+  pub below_numbers : (cs : ℕ → Asked) (i : ℕ) (ts : Trees) → Below Unnumbered cs i ts → any_has_number (suc b) ts ≡ false
   unfolding has_number
   below_numbers cs i none a = refl
   below_numbers cs i (t ▸ ts) a = λ j. a.0 j || below_numbers cs (suc i) ts a.1 j
 
-  unlike : nat_eq 0 (suc b) ≡ false
+  pub unlike : nat_eq 0 (suc b) ≡ false
   unlike = by (nat_eq 0 (suc b)) refl
     where
       by : (c : Bool) → nat_eq 0 (suc b) ≡ c → c ≡ false

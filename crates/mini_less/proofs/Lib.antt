@@ -32,3 +32,7 @@ pub mod ChoicesLess
 pub mod Steps
 pub mod WritesLess
 pub mod KeysLess
+pub mod ForLess
+pub mod DeMorganLess
+pub mod Whole
+pub mod IfsLess

@@ -24,17 +24,18 @@ use Rattle.mini_laws.specs.Scopes.{opened}
 use Rattle.mini_shrink.specs.Pace.{AtMost, Setting, below, pace}
 use Rattle.mini_shrink.specs.Questions.{Own, asks, any_of, finds, finds_each, early}
 use Rattle.mini_shrink.specs.Shrinking.{AsksLess}
-use Rattle.mini_rows.specs.Sketches.{Head, AList, If, Block, Call, shape_by, Asked, AsValue, AsValues, AsWhole, AsTarget, AsUpdated, asked_below, use_by, leaps, is_expression_head, is_statement_head}
+use Rattle.mini_rows.specs.Sketches.{Head, AList, If, Block, Call, shape_by, Asked, AsValue, AsValues, AsWhole, AsTarget, AsUpdated, AsBranch, AsItem, asked_below, use_by, leaps, is_expression_head, is_statement_head}
 use Rattle.mini_less.specs.Families.{FewerAt, LessAt}
 use Rattle.mini_less.specs.Flags.{FlagsLess}
 use Rattle.mini_less.specs.Less.{TellsPlainly, Plain}
 use Rattle.mini_rows.proofs.Arranging.{Any, Below, Local}
-use Rattle.mini_rows.proofs.ArrangedValues.{is_value}
+use Rattle.mini_rows.specs.Lists.{is_unscoped}
+use Rattle.mini_rows.proofs.ArrangedValues.{is_value, Calm}
 use Rattle.mini_less.proofs.EachFact.{AloneToo, Unordered, unordered, by_value, by_fact, found_less}
 use Rattle.mini_less.proofs.Evals.{no_callee}
-use Rattle.mini_less.proofs.Finding.{Lacks, lacks_local, as_asked, never, setting}
+use Rattle.mini_less.proofs.Finding.{Lacks, lacks_local, lacks_moves, as_asked, never, setting}
 use Rattle.mini_less.proofs.Flags.{none_of, leaping, spares_local, numbers_local, root_number}
-use Rattle.mini_less.proofs.Plainly.{alone, early_alone, read, is_reads, is_ended, less_by, Calmly, calm_local, root_ended, standing}
+use Rattle.mini_less.proofs.Plainly.{alone, early_alone, read, is_reads, is_ended, less_by, Calmly, calm_local, calm_moves, root_ended, standing}
 use Rattle.mini_less.proofs.Statements.{alone as anywhere}
 
 -- no call, of which more is asked than of its parts: a direct eval is one of the name `eval`
@@ -53,10 +54,15 @@ SameProperty Q k m k' m' = (c : Asked) (is_shorthand is_computed : Bool) (ts : T
 abbrev pub Properties : (Asked → Tree → Type 0) → Type 0
 Properties Q = (k : PropertyKind) (m : Bool) → SameProperty Q k m Init false × SameProperty Q Init false k m
 
+-- an unscoped statement stands as a branch and in a block alike
+abbrev pub Moved : (Asked → Tree → Type 0) → Type 0
+Moved Q = (t : Tree) → is_unscoped t ≡ true → Calm t → (Q AsBranch t → Q AsItem t) × (Q AsItem t → Q AsBranch t)
+
 -- what holds of such a node where it does of what is below, of a call where something more does of what is called, and of a name that is updated
 pub record ByParts (Q : Asked → Tree → Type 0) : Type 1 where
   pub updated : Updated Q
   pub properties : Properties Q
+  pub moved : Moved Q
   pub down : (h : Head) → is_uncalled h ≡ true → (c : Asked) (ts : Trees) → Plain h ts → Q c (node (shape_by h) [] 0 ts) → Below Q (asked_below h c) 0 ts
   pub up : (h : Head) → is_uncalled h ≡ true → (c : Asked) (ts : Trees) → Plain h ts → Below Q (asked_below h c) 0 ts → Q c (node (shape_by h) [] 0 ts)
   pub Called : Tree → Type 0
@@ -64,10 +70,11 @@ pub record ByParts (Q : Asked → Tree → Type 0) : Type 1 where
   pub call_down : (c : Asked) (f arguments : Tree) → Q c (node (shape.CallExpression false) [] 0 (f ▸ arguments ▸ none)) → Called f × (Q AsValue f × Q AsValues arguments)
   pub call_up : (c : Asked) (f arguments : Tree) → Called f → Q AsValue f → Q AsValues arguments → Q c (node (shape.CallExpression false) [] 0 (f ▸ arguments ▸ none))
 
-pub by_parts : (Q : Asked → Tree → Type 0) → Updated Q → Properties Q → Local Any Q → ByParts Q
-by_parts Q u s l = record {
+pub by_parts : (Q : Asked → Tree → Type 0) → Updated Q → Properties Q → Moved Q → Local Any Q → ByParts Q
+by_parts Q u s m l = record {
   updated = u;
   properties = s;
+  moved = m;
   down = λ h e c ts p a. (l.down h c ts p a).1;
   up = λ h e c ts p a. l.up h c ts p (leaping (leaps h)) a;
   Called = λ t. Unit {0};
@@ -85,12 +92,12 @@ no_call (Call false) e ts = absurd (cc e)
 no_call AList e ts = refl
 no_call h e ts = refl
 
-spared_below : (cs : ℕ → Asked) (i : ℕ) (ts : Trees) → any_has_eval ts ≡ false → Below Spared cs i ts
+pub spared_below : (cs : ℕ → Asked) (i : ℕ) (ts : Trees) → any_has_eval ts ≡ false → Below Spared cs i ts
 unfolding has_eval
 spared_below cs i none a = tt
 spared_below cs i (t ▸ ts) a = let (x, y) = none_of (has_eval t) (any_has_eval ts) a in (x, spared_below cs (suc i) ts y)
 
-below_spared : (cs : ℕ → Asked) (i : ℕ) (ts : Trees) → Below Spared cs i ts → any_has_eval ts ≡ false
+pub below_spared : (cs : ℕ → Asked) (i : ℕ) (ts : Trees) → Below Spared cs i ts → any_has_eval ts ≡ false
 unfolding has_eval
 below_spared cs i none a = refl
 below_spared cs i (t ▸ ts) a = λ j. a.0 j || below_spared cs (suc i) ts a.1 j
@@ -100,6 +107,7 @@ unfolding has_eval
 spared_by_parts = record {
   updated = λ x e f. e;
   properties = λ k m. (λ c s b ts a. a, λ c s b ts a. a);
+  moved = λ t e k. (λ a. a, λ a. a);
   Called = λ t. is_eval_callee t ≡ false;
   nameless = λ t e. e;
   call_down = λ c f ts a.
@@ -111,7 +119,7 @@ spared_by_parts = record {
   up = λ h e c ts p a j. no_call h e ts j || below_spared (asked_below h c) 0 ts a j;
 }
 
-lacks_updated : (o : Own) (t : TellsPlainly o) (c : Setting) (env : Environment) → Updated (Lacks o t c env)
+pub lacks_updated : (o : Own) (t : TellsPlainly o) (c : Setting) (env : Environment) → Updated (Lacks o t c env)
 unfolding finds
 lacks_updated o t c env x e f = or_none _ ∙ t.updated (record c { is_body = false; ordered = false }) env x (sym (or_none _) ∙ e) (sym (or_none _) ∙ f)
   where
@@ -119,26 +127,32 @@ lacks_updated o t c env x e f = or_none _ ∙ t.updated (record c { is_body = fa
     or_none true = refl
     or_none false = refl
 
-calm_updated : (m s : ℕ) (c : Setting) (env : Environment) → Updated (Calmly m s c env)
+pub calm_updated : (m s : ℕ) (c : Setting) (env : Environment) → Updated (Calmly m s c env)
 unfolding pace
 calm_updated m s c env x e f = f
 
-spares_properties : Properties (λ c t. names_arguments t ≡ false)
+pub spares_properties : Properties (λ c t. names_arguments t ≡ false)
 unfolding names_arguments
 spares_properties k m = (λ c s b ts a. a, λ c s b ts a. a)
 
-numbers_properties : (n : ℕ) → Properties (λ c t. has_number (suc n) t ≡ false)
+pub numbers_properties : (n : ℕ) → Properties (λ c t. has_number (suc n) t ≡ false)
 unfolding has_number
 numbers_properties n k m = (λ c s b ts a. a, λ c s b ts a. a)
 
-lacks_properties : (o : Own) (t : TellsPlainly o) (c : Setting) (env : Environment) → Properties (Lacks o t c env)
+pub lacks_properties : (o : Own) (t : TellsPlainly o) (c : Setting) (env : Environment) → Properties (Lacks o t c env)
 unfolding finds
 lacks_properties o t c env k m = (
   λ d s b ts a. (λ j. sym (t.property (setting o t c env d) env k m s b ts) j || any_of (finds_each o (opened (use_by c.used d) (shape.ObjectProperty Init false s b) ts) (below false (setting o t c env d) (shape.ObjectProperty Init false s b) 0) 0 env ts)) ∙ a,
   λ d s b ts a. (λ j. t.property (setting o t c env d) env k m s b ts j || any_of (finds_each o (opened (use_by c.used d) (shape.ObjectProperty Init false s b) ts) (below false (setting o t c env d) (shape.ObjectProperty Init false s b) 0) 0 env ts)) ∙ a,
 )
 
-calm_properties : (m s : ℕ) (c : Setting) (env : Environment) → Properties (Calmly m s c env)
+pub lacks_moved : (o : Own) (p : TellsPlainly o) (c : Setting) (env : Environment) → Moved (Lacks o p c env)
+lacks_moved o p c env t e k = (lacks_moves o p (record c { used = Read }) env refl AsBranch AsItem refl refl t e k, lacks_moves o p (record c { used = Read }) env refl AsItem AsBranch refl refl t e k)
+
+pub calm_moved : (m s : ℕ) (c : Setting) (env : Environment) → Moved (Calmly m s c env)
+calm_moved m s c env t e k = (calm_moves m s (record c { used = Read }) env refl AsBranch AsItem refl refl t e k, calm_moves m s (record c { used = Read }) env refl AsItem AsBranch refl refl t e k)
+
+pub calm_properties : (m s : ℕ) (c : Setting) (env : Environment) → Properties (Calmly m s c env)
 unfolding pace
 calm_properties m s c env k d = (λ e t b ts a. a, λ e t b ts a. a)
 
@@ -146,11 +160,11 @@ calm_properties m s c env k d = (λ e t b ts a. a, λ e t b ts a. a)
 
 module _ (c : Asked) (n w : Tree) (root : has_number 0 n ≡ true) (made : (Q : Asked → Tree → Type 0) → ByParts Q → Q c n → Q c w) where
   pub flags_made : FlagsLess n w
-  flags_made = record { arguments = never (names_arguments n) (names_arguments w) (made (λ d t. names_arguments t ≡ false) (by_parts (λ d t. names_arguments t ≡ false) (λ x e f. e) spares_properties spares_local)); number = numbers }
+  flags_made = record { arguments = never (names_arguments n) (names_arguments w) (made (λ d t. names_arguments t ≡ false) (by_parts (λ d t. names_arguments t ≡ false) (λ x e f. e) spares_properties (λ t e k. (λ a. a, λ a. a)) spares_local)); number = numbers }
     where
       numbers : (k : ℕ) → has_number k w ≡ true → has_number k n ≡ true
       numbers zero e = root
-      numbers (suc k) e = never (has_number (suc k) n) (has_number (suc k) w) (made (λ d t. has_number (suc k) t ≡ false) (by_parts (λ d t. has_number (suc k) t ≡ false) (λ x e f. e) (numbers_properties k) (numbers_local k))) e
+      numbers (suc k) e = never (has_number (suc k) n) (has_number (suc k) w) (made (λ d t. has_number (suc k) t ≡ false) (by_parts (λ d t. has_number (suc k) t ≡ false) (λ x e f. e) (numbers_properties k) (λ t e k. (λ a. a, λ a. a)) (numbers_local k))) e
 
   pub evals_made : has_eval w ≡ true → has_eval n ≡ true
   evals_made = never (has_eval n) (has_eval w) (made Spared spared_by_parts)
@@ -179,7 +193,7 @@ module _ (q : Seat) (n w : Tree) (h : Head) (ts : Trees) (e : is_expression_head
     by = λ strict x _ fit c env st _.
         let same : alone c ≡ setting o t (alone c) env AsValue = as_asked (alone c) (used c.used st) refl refl in
         let less : finds o (alone c) env n ≡ false → finds o (alone c) env w ≡ false = λ y.
-        subst (λ d. finds o d env w ≡ false) (sym same) (made strict x fit (Lacks o t (alone c) env) (by_parts (Lacks o t (alone c) env) (lacks_updated o t (alone c) env) (lacks_properties o t (alone c) env) (lacks_local o t (alone c) env)) (subst (λ d. finds o d env n ≡ false) same y)) in
+        subst (λ d. finds o d env w ≡ false) (sym same) (made strict x fit (Lacks o t (alone c) env) (by_parts (Lacks o t (alone c) env) (lacks_updated o t (alone c) env) (lacks_properties o t (alone c) env) (lacks_moved o t (alone c) env) (lacks_local o t (alone c) env)) (subst (λ d. finds o d env n ≡ false) same y)) in
         inl (found_less o c env n w (never (finds o c env n) (finds o c env w) (λ y. z c env w (value strict x fit) ∙ less (sym (z c env n n_value) ∙ y))));
   }
 
@@ -190,7 +204,7 @@ module _ (q : Seat) (n w : Tree) (h : Head) (ts : Trees) (e : is_expression_head
         let n_is = early_alone m s c env n n_value ∙ ap (λ d. pace (early m s) d env n) same in
         let w_is = early_alone m s c env w (value strict x fit) ∙ ap (λ d. pace (early m s) d env w) same in
         inl (subst (λ x. AtMost x (pace (early m s) c env n)) (sym w_is) (subst (AtMost (pace (early m s) (standing m s c env AsValue) env w)) (sym n_is)
-        (less_by (pace (early m s) (standing m s c env AsValue) env w) (pace (early m s) (standing m s c env AsValue) env n) (made strict x fit (Calmly m s c env) (by_parts (Calmly m s c env) (calm_updated m s c env) (calm_properties m s c env) (calm_local m s c env)))
+        (less_by (pace (early m s) (standing m s c env AsValue) env w) (pace (early m s) (standing m s c env AsValue) env n) (made strict x fit (Calmly m s c env) (by_parts (Calmly m s c env) (calm_updated m s c env) (calm_properties m s c env) (calm_moved m s c env) (calm_local m s c env)))
         (subst (λ t. is_ended (pace (early m s) (standing m s c env AsValue) env t) ≡ false) (sym a) (root_ended m s c env AsValue h ts p)))));
   }
 
@@ -210,7 +224,7 @@ module _ (q : StmtSeat) (n w : Tree) (h g : Head) (ts us : Trees) (e : is_statem
   statement_asked k o t z = record {
     by = λ strict x _ fit c env st _.
         inl (found_less o c env n w (never (finds o c env n) (finds o c env w) (λ y.
-        unordered o z c false env w ∙ made strict x fit (Lacks o t c env) (by_parts (Lacks o t c env) (lacks_updated o t c env) (lacks_properties o t c env) (lacks_local o t c env)) (sym (unordered o z c false env n) ∙ y))));
+        unordered o z c false env w ∙ made strict x fit (Lacks o t c env) (by_parts (Lacks o t c env) (lacks_updated o t c env) (lacks_properties o t c env) (lacks_moved o t c env) (lacks_local o t c env)) (sym (unordered o z c false env n) ∙ y))));
   }
 
   statement_in_order : (k m s : ℕ) → AsksLess (early m s) (Declared k) (Stmt q) n w
@@ -219,7 +233,7 @@ module _ (q : StmtSeat) (n w : Tree) (h g : Head) (ts us : Trees) (e : is_statem
         let n_is = ap (pace (early m s) c env) a ∙ anywhere m s c env h ts e ∙ sym (ap (pace (early m s) (record c { ordered = false }) env) a) in
         let w_is = ap (pace (early m s) c env) b ∙ anywhere m s c env g us f ∙ sym (ap (pace (early m s) (record c { ordered = false }) env) b) in
         inl (subst (λ x. AtMost x (pace (early m s) c env n)) (sym w_is) (subst (AtMost (pace (early m s) (record c { ordered = false }) env w)) (sym n_is)
-        (less_by (pace (early m s) (record c { ordered = false }) env w) (pace (early m s) (record c { ordered = false }) env n) (made strict x fit (Calmly m s c env) (by_parts (Calmly m s c env) (calm_updated m s c env) (calm_properties m s c env) (calm_local m s c env)))
+        (less_by (pace (early m s) (record c { ordered = false }) env w) (pace (early m s) (record c { ordered = false }) env n) (made strict x fit (Calmly m s c env) (by_parts (Calmly m s c env) (calm_updated m s c env) (calm_properties m s c env) (calm_moved m s c env) (calm_local m s c env)))
         (subst (λ t. is_ended (pace (early m s) (record c { ordered = false }) env t) ≡ false) (sym a) (root_ended m s c env AsWhole h ts p)))));
   }
 

@@ -37,13 +37,13 @@ module _ (strict : Bool) where
   abbrev Fits : Tree → Type 0
   Fits t = fits strict expression t ≡ true
 
-  operands_fit : (o : LogicalOperator) (a b : Tree) → Fits (logical o a b) → Fits a × Fits b
+  pub operands_fit : (o : LogicalOperator) (a b : Tree) → Fits (logical o a b) → Fits a × Fits b
   operands_fit o a b e = let (x, y) = and_parts (fits strict expression a) (fits strict expression b && true) e in (x, left (fits strict expression b) true y)
 
-  parts_fit : (ts : Trees) → Fits (sequence ts) → fill strict (each expression) ts ≡ true
+  pub parts_fit : (ts : Trees) → Fits (sequence ts) → fill strict (each expression) ts ≡ true
   parts_fit ts e = left (fill strict (each expression) ts) true (and_parts (nat_le 2 (count ts)) (fill strict (each expression) ts && true) e).1
 
-  one_fits : (t : Tree) (ts : Trees) → fill strict (each expression) (t ▸ ts) ≡ true → Fits t × (fill strict (each expression) ts ≡ true)
+  pub one_fits : (t : Tree) (ts : Trees) → fill strict (each expression) (t ▸ ts) ≡ true → Fits t × (fill strict (each expression) ts ≡ true)
   one_fits t ts e = and_parts (fits strict expression t) (fill strict (each expression) ts) e
 
   module _ (Q : Asked → Tree → Type 0) (l : ByParts Q) where

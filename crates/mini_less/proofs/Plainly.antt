@@ -19,7 +19,7 @@ use Rattle.mini_laws.specs.declared.names.Use.{Use}
 use Rattle.mini_laws.specs.declared.names.Use.TheVariants.{Read, Write, ReadWrite}
 use Rattle.mini_laws.specs.declared.names.Binding.{Binding}
 use Rattle.mini_laws.specs.DeclaredNames.{names_of, is_inner}
-use Rattle.mini_laws.specs.Scopes.{opened, scopes_by, at_or_empty}
+use Rattle.mini_laws.specs.Scopes.{opened, scopes_by, lexical_scope}
 use Rattle.mini_laws.specs.Resolved.{Environment}
 use Rattle.mini_laws.specs.ScopeList.{names_in, any_has_eval, by_symbol}
 use Rattle.mini_laws.specs.Strict.{is_strict_in}
@@ -64,7 +64,7 @@ or_none true = refl
 or_none false = refl
 
 pub mentions_plainly : (p : Mention → Bool) → Updates p → TellsPlainly (mentions_such p)
-mentions_plainly p u = record { property = λ c env k m s b ts. refl; updated = λ c env x e f. or_none _ ∙ u x c.around (sym (or_none _) ∙ e) (sym (or_none _) ∙ f); plain = λ c env h ts q. no_mention p c (shape_by h); moved = λ c v b env h n ts e. no_mention p c h ∙ sym (no_mention p (record c { used = v; is_body = b }) h) }
+mentions_plainly p u = record { property = λ c env k m s b ts. refl; looped = λ c env i j ts us e f g. g; updated = λ c env x e f. or_none _ ∙ u x c.around (sym (or_none _) ∙ e) (sym (or_none _) ∙ f); plain = λ c env h ts q. no_mention p c (shape_by h); moved = λ c v b env h n ts e. no_mention p c h ∙ sym (no_mention p (record c { used = v; is_body = b }) h) }
 
 gives_no : (p : Mention → Bool) (c : Setting) (h : Head) (ts : Trees) → list_any p (map (write_at c.around) (given_values c.used (shape_by h) [] ts)) ≡ false
 gives_no p c AList ts = refl
@@ -75,7 +75,7 @@ gives_anyhow p c v shape.VariableDeclarator ts e = absurd (cc e)
 gives_anyhow p c v h ts e = refl
 
 pub gives_plainly : (p : Mention → Bool) → TellsPlainly (gives_such p)
-gives_plainly p = record { property = λ c env k m s b ts. refl; updated = λ c env x e f. e; plain = λ c env h ts q. gives_no p c h ts; moved = λ c v b env h n ts e. gives_anyhow p c v h ts e }
+gives_plainly p = record { property = λ c env k m s b ts. refl; looped = λ c env i j ts us e f g. g; updated = λ c env x e f. e; plain = λ c env h ts q. gives_no p c h ts; moved = λ c v b env h n ts e. gives_anyhow p c v h ts e }
 
 pattern_no : (c : Setting) (env : Environment) (h : Head) (ts : Trees) → own_pattern_writes c.used env (shape_by h) ts ≡ []
 pattern_no c env AList ts = refl
@@ -86,10 +86,10 @@ pattern_anyhow u v env shape.VariableDeclarator ts e = absurd (cc e)
 pattern_anyhow u v env h ts e = refl
 
 pub pattern_gives_plainly : (s : ℕ) → TellsPlainly (pattern_gives s)
-pattern_gives_plainly s = record { property = λ c env k m s b ts. refl; updated = λ c env x e f. e; plain = λ c env h ts q. ap (is_among (by_symbol s)) (pattern_no c env h ts); moved = λ c v b env h n ts e. ap (is_among (by_symbol s)) (pattern_anyhow c.used v env h ts e) }
+pattern_gives_plainly s = record { property = λ c env k m s b ts. refl; looped = λ c env i j ts us e f g. g; updated = λ c env x e f. e; plain = λ c env h ts q. ap (is_among (by_symbol s)) (pattern_no c env h ts); moved = λ c v b env h n ts e. ap (is_among (by_symbol s)) (pattern_anyhow c.used v env h ts e) }
 
-pub names_plainly : (ys : Setting → Shape → ℕ → Trees → List Name) (s : ℕ) → ((c : Setting) (h : Head) (ts : Trees) → ys c (shape_by h) 0 ts ≡ []) → ((c : Setting) (v : Use) (b : Bool) (h : Shape) (n : ℕ) (ts : Trees) → ys c h n ts ≡ ys (record c { used = v; is_body = b }) h n ts) → ((c : Setting) (k : PropertyKind) (m d b : Bool) (ts : Trees) → ys c (shape.ObjectProperty k m d b) 0 ts ≡ ys c (shape.ObjectProperty Init false d b) 0 ts) → TellsPlainly (names_at ys s)
-names_plainly ys s f g r = record { property = λ c env k m d b ts. ap (is_among (by_symbol s)) (r c k m d b ts); updated = λ c env x e f. sym (ap (is_among (by_symbol s)) (g (record c { used = Write }) ReadWrite c.is_body shape.Identifier 0 none)) ∙ e; plain = λ c env h ts q. ap (is_among (by_symbol s)) (f c h ts); moved = λ c v b env h n ts e. ap (is_among (by_symbol s)) (g c v b h n ts) }
+pub names_plainly : (ys : Setting → Shape → ℕ → Trees → List Name) (s : ℕ) → ((c : Setting) (h : Head) (ts : Trees) → ys c (shape_by h) 0 ts ≡ []) → ((c : Setting) (v : Use) (b : Bool) (h : Shape) (n : ℕ) (ts : Trees) → ys c h n ts ≡ ys (record c { used = v; is_body = b }) h n ts) → ((c : Setting) (k : PropertyKind) (m d b : Bool) (ts : Trees) → ys c (shape.ObjectProperty k m d b) 0 ts ≡ ys c (shape.ObjectProperty Init false d b) 0 ts) → ((c : Setting) (ts : Trees) → ys c shape.ForStatement 0 ts ≡ []) → TellsPlainly (names_at ys s)
+names_plainly ys s f g r v = record { property = λ c env k m d b ts. ap (is_among (by_symbol s)) (r c k m d b ts); looped = λ c env i j ts us e x y. absurd (true≢false (sym y ∙ ap (is_among (by_symbol s)) (v c (j ▸ us)))); updated = λ c env x e f. sym (ap (is_among (by_symbol s)) (g (record c { used = Write }) ReadWrite c.is_body shape.Identifier 0 none)) ∙ e; plain = λ c env h ts q. ap (is_among (by_symbol s)) (f c h ts); moved = λ c v b env h n ts e. ap (is_among (by_symbol s)) (g c v b h n ts) }
 
 pub no_switched : (c : Setting) (h : Head) (ts : Trees) → switched_at c (shape_by h) 0 ts ≡ []
 no_switched c AList ts = refl
@@ -123,9 +123,43 @@ seen_alike : (x : Name) (sc sc' : ℕ → List Binding) → ((j : ℕ) → sc j 
 seen_alike x sc sc' z i none = refl
 seen_alike x sc sc' z i (t ▸ ts) = λ j. (any_has_eval (t ▸ ts) && is_among x (names_in (z i j))) || seen_alike x sc sc' z (suc i) ts j
 
+later_unseen : (x : Name) (sc : ℕ → List Binding) → ((j : ℕ) → sc (suc j) ≡ []) → (i : ℕ) (ts : Trees) → seen_from sc (suc i) ts x ≡ false
+later_unseen x sc z i none = refl
+later_unseen x sc z i (t ▸ ts) = λ j. (ap (λ bs. any_has_eval (t ▸ ts) && is_among x (names_in bs)) (z i) ∙ by (any_has_eval (t ▸ ts))) j || later_unseen x sc z (suc i) ts j
+  where
+    by : (b : Bool) → (b && false) ≡ false
+    by true = refl
+    by false = refl
+
+or_off : (a b : Bool) → b ≡ false → (a || b) ≡ a
+or_off true b e = refl
+or_off false b e = e
+
+both_true : (a b : Bool) → a ≡ true → b ≡ true → (a && b) ≡ true
+both_true true b e f = f
+both_true false b e f = e
+
+-- a `for` opens one scope, for all its parts
+pub head_scope : (u : Use) (i : Tree) (ts : Trees) → opened u shape.ForStatement (i ▸ ts) 0 ≡ lexical_scope (names_of declared.Lexical i)
+unfolding scopes_by
+head_scope u i ts = refl
+
+pub later_scopes : (u : Use) (i : Tree) (ts : Trees) (j : ℕ) → opened u shape.ForStatement (i ▸ ts) (suc j) ≡ []
+unfolding scopes_by
+later_scopes u i ts j = refl
+
+seen_looped : (x : Name) (u : Use) (i j : Tree) (ts us : Trees) → names_of declared.Lexical j ≡ names_of declared.Lexical i → (any_has_eval (j ▸ us) ≡ true → any_has_eval (i ▸ ts) ≡ true) → seen_from (opened u shape.ForStatement (j ▸ us)) 0 (j ▸ us) x ≡ true → seen_from (opened u shape.ForStatement (i ▸ ts)) 0 (i ▸ ts) x ≡ true
+seen_looped x u i j ts us e f g =
+    let here = opened u shape.ForStatement (i ▸ ts) in
+    let there = opened u shape.ForStatement (j ▸ us) in
+    let (a, b) = and_parts (any_has_eval (j ▸ us)) (is_among x (names_in (there 0))) (sym (or_off (any_has_eval (j ▸ us) && is_among x (names_in (there 0))) (seen_from there 1 us x) (later_unseen x there (later_scopes u j us) 0 us)) ∙ g) in
+    let same : there 0 ≡ here 0 = head_scope u j us ∙ ap lexical_scope e ∙ sym (head_scope u i ts) in
+    ap (λ y. y || seen_from here 1 ts x) (both_true (any_has_eval (i ▸ ts)) (is_among x (names_in (here 0))) (f a) (sym (ap (λ bs. is_among x (names_in bs)) same) ∙ b))
+
 pub seen_plainly : (s : ℕ) → TellsPlainly (seen_at s)
 seen_plainly s = record {
   property = λ c env k m s b ts. refl;
+  looped = λ c env i j ts us e f g. seen_looped (by_symbol s) c.used i j ts us e f g;
   updated = λ c env x e f. e;
   plain = λ c env h ts q. unseen (by_symbol s) (opened c.used (shape_by h) ts) (nothing_opened c.used h ts q) 0 ts;
   moved = λ c v b env h n ts e. seen_alike (by_symbol s) (opened c.used h ts) (opened v h ts) (same_scopes c.used v h e ts) 0 ts;
@@ -193,7 +227,7 @@ early_alone b k c env (node h xs n ts) e =
     by o = ap (λ x. x && o) (hands_value h e) ∙ sym (ap (λ x. x && false) (hands_value h e))
 
 pub lexical_plainly : (s : ℕ) → TellsPlainly (names_at lexical_at s)
-lexical_plainly s = record { property = λ c env k m s b ts. refl; updated = λ c env x e f. e; plain = λ c env h ts q. ap (is_among (by_symbol s)) (no_lexical c.is_body h ts); moved = λ c v b env h n ts e. ap (is_among (by_symbol s)) (moved_lexical c.is_body b h ts e) }
+lexical_plainly s = record { property = λ c env k m s b ts. refl; looped = λ c env i j ts us e f g. g; updated = λ c env x e f. e; plain = λ c env h ts q. ap (is_among (by_symbol s)) (no_lexical c.is_body h ts); moved = λ c v b env h n ts e. ap (is_among (by_symbol s)) (moved_lexical c.is_body b h ts e) }
   where
     no_lexical : (b : Bool) (h : Head) (ts : Trees) → own_lexical b (shape_by h) ts ≡ []
     no_lexical true AList ts = refl
@@ -244,13 +278,13 @@ module _ (b s : ℕ) (k : Setting) (env : Environment) where
   no_order c o Block (t ▸ ts) p = ap (is_among (by_symbol s)) p.0
   no_order c o h ts p = refl
 
-  standing_below : (h : Head) (c : Asked) (o : Bool) → o ≡ false → (j : ℕ) → below o (standing c) (shape_by h) 0 j ≡ standing (asked_below h c j)
+  pub standing_below : (h : Head) (c : Asked) (o : Bool) → o ≡ false → (j : ℕ) → below o (standing c) (shape_by h) 0 j ≡ standing (asked_below h c j)
   standing_below h c o z j = λ i. record { used = used_below k.used h c j i; around = around_same h k.around j i; strict = strict_same h k.strict i; is_body = no_body k.is_body h c j i; belongs = belongs_same h k.belongs j i; ordered = z i }
 
   abbrev pub Calmly : Asked → Tree → Type 0
   Calmly c t = is_reads (pace q (standing c) env t) ≡ false
 
-  calm_below : (cs : ℕ → Asked) (scope : ℕ → List Binding) → ((j : ℕ) → scope j ≡ []) → (ks : ℕ → Setting) → ((j : ℕ) → ks j ≡ standing (cs j)) → (i : ℕ) (e : Environment) → e ≡ env → (ts : Trees) → is_reads (all_followed (paces q scope ks i e ts)) ≡ false → Below Calmly cs i ts
+  pub calm_below : (cs : ℕ → Asked) (scope : ℕ → List Binding) → ((j : ℕ) → scope j ≡ []) → (ks : ℕ → Setting) → ((j : ℕ) → ks j ≡ standing (cs j)) → (i : ℕ) (e : Environment) → e ≡ env → (ts : Trees) → is_reads (all_followed (paces q scope ks i e ts)) ≡ false → Below Calmly cs i ts
   unfolding pace
   calm_below cs scope z ks w i e r none a = tt
   calm_below cs scope z ks w i e r (t ▸ ts) a =
@@ -259,7 +293,7 @@ module _ (b s : ℕ) (k : Setting) (env : Environment) where
       let (x, y) = split (pace q (ks i) (e ++ scope i) t) (all_followed (paces q scope ks (suc i) (e ++ scope i) ts)) (subst (λ o. is_reads (followed (ends_after o (pace q (ks i) (e ++ scope i) t)) (all_followed (paces q scope ks (suc i) (e ++ scope i) ts))) ≡ false) never_ends a) in
       (subst (λ c. is_reads (pace q c env t) ≡ false) (w i) (subst (λ x. is_reads (pace q (ks i) x t) ≡ false) same x), calm_below cs scope z ks w (suc i) (e ++ scope i) same ts y)
 
-  below_calm : (cs : ℕ → Asked) (scope : ℕ → List Binding) → ((j : ℕ) → scope j ≡ []) → (ks : ℕ → Setting) → ((j : ℕ) → ks j ≡ standing (cs j)) → (i : ℕ) (e : Environment) → e ≡ env → (ts : Trees) → Below Calmly cs i ts → is_reads (all_followed (paces q scope ks i e ts)) ≡ false
+  pub below_calm : (cs : ℕ → Asked) (scope : ℕ → List Binding) → ((j : ℕ) → scope j ≡ []) → (ks : ℕ → Setting) → ((j : ℕ) → ks j ≡ standing (cs j)) → (i : ℕ) (e : Environment) → e ≡ env → (ts : Trees) → Below Calmly cs i ts → is_reads (all_followed (paces q scope ks i e ts)) ≡ false
   unfolding pace
   below_calm cs scope z ks w i e r none a = refl
   below_calm cs scope z ks w i e r (t ▸ ts) a =
@@ -318,7 +352,7 @@ module _ (b s : ℕ) (k : Setting) (env : Environment) where
   not_ended Silent r e = e
   not_ended Reads r e = refl
 
-  none_ended : (scope : ℕ → List Binding) (ks : ℕ → Setting) → ((j : ℕ) → (ks j).ordered ≡ false) → (i : ℕ) (e : Environment) (ts : Trees) → is_ended (all_followed (paces q scope ks i e ts)) ≡ false
+  pub none_ended : (scope : ℕ → List Binding) (ks : ℕ → Setting) → ((j : ℕ) → (ks j).ordered ≡ false) → (i : ℕ) (e : Environment) (ts : Trees) → is_ended (all_followed (paces q scope ks i e ts)) ≡ false
   unfolding pace
   none_ended scope ks w i e none = refl
   none_ended scope ks w i e (t ▸ ts) =
@@ -435,11 +469,11 @@ arranged_asks_less f ps u s r e q n w a b GivenElsewhere c k = asks_less f ps u 
 arranged_asks_less f ps u s r e q n w a b MentionedElsewhere c k = asks_less f ps u q n w _ (mentions_plainly (λ m. same_variable (by_symbol k) m.name && is_elsewhere c m.around) (λ x a e f. e)) (λ c b d env h xs n ts. refl) k s r e a b
 arranged_asks_less f ps u s r e q n w a b BoundElsewhere c k = asks_less f ps u q n w _ (mentions_plainly (λ m. same_variable (by_symbol k) m.name && m.binds && is_elsewhere c m.around) (λ x a e f. e)) (λ c b d env h xs n ts. refl) k s r e a b
 arranged_asks_less f ps u s r e q n w a b IsLexical c k = lexical_less f ps u q n w k s r e a b
-arranged_asks_less f ps u s r e q n w a b IsSwitched c k = asks_less f ps u q n w _ (names_plainly switched_at k no_switched (λ c v b h n ts. refl) (λ c k m d b ts. refl)) (λ c b d env h xs n ts. refl) k s r e a b
-arranged_asks_less f ps u s r e q n w a b InPattern c k = asks_less f ps u q n w _ (names_plainly pattern_at k no_pattern (λ c v b h n ts. refl) (λ c k m d b ts. refl)) (λ c b d env h xs n ts. refl) k s r e a b
+arranged_asks_less f ps u s r e q n w a b IsSwitched c k = asks_less f ps u q n w _ (names_plainly switched_at k no_switched (λ c v b h n ts. refl) (λ c k m d b ts. refl) (λ c ts. refl)) (λ c b d env h xs n ts. refl) k s r e a b
+arranged_asks_less f ps u s r e q n w a b InPattern c k = asks_less f ps u q n w _ (names_plainly pattern_at k no_pattern (λ c v b h n ts. refl) (λ c k m d b ts. refl) (λ c ts. refl)) (λ c b d env h xs n ts. refl) k s r e a b
 arranged_asks_less f ps u s r e q n w a b GivenByPattern c k = asks_less f ps u q n w _ (pattern_gives_plainly k) (λ c b d env h xs n ts. refl) k s r e a b
-arranged_asks_less f ps u s r e q n w a b UnderCatch c k = asks_less f ps u q n w _ (names_plainly caught_at k no_caught (λ c v b h n ts. refl) (λ c k m d b ts. refl)) (λ c b d env h xs n ts. refl) k s r e a b
-arranged_asks_less f ps u s r e q n w a b ByArguments c k = asks_less f ps u q n w _ (names_plainly arguments_at k no_arguments (λ c v b h n ts. refl) (λ c k m d b ts. refl)) (λ c b d env h xs n ts. refl) k s r e a b
+arranged_asks_less f ps u s r e q n w a b UnderCatch c k = asks_less f ps u q n w _ (names_plainly caught_at k no_caught (λ c v b h n ts. refl) (λ c k m d b ts. refl) (λ c ts. refl)) (λ c b d env h xs n ts. refl) k s r e a b
+arranged_asks_less f ps u s r e q n w a b ByArguments c k = asks_less f ps u q n w _ (names_plainly arguments_at k no_arguments (λ c v b h n ts. refl) (λ c k m d b ts. refl) (λ c ts. refl)) (λ c b d env h xs n ts. refl) k s r e a b
 arranged_asks_less f ps u s r e q n w a b ByEval c k = asks_less f ps u q n w _ (seen_plainly k) (λ c b d env h xs n ts. refl) k s r e a b
-arranged_asks_less f ps u s r e q n w a b AmongParameters c k = asks_less f ps u q n w _ (names_plainly (params_at c) k (no_params c) (λ c v b h n ts. refl) (λ c k m d b ts. refl)) (λ c b d env h xs n ts. refl) k s r e a b
+arranged_asks_less f ps u s r e q n w a b AmongParameters c k = asks_less f ps u q n w _ (names_plainly (params_at c) k (no_params c) (λ c v b h n ts. refl) (λ c k m d b ts. refl) (λ c ts. refl)) (λ c b d env h xs n ts. refl) k s r e a b
 arranged_asks_less f ps u s r e q n w a b ReadEarly c k = early_less f ps u q n w c k s r e a b

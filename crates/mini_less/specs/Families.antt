@@ -24,6 +24,9 @@ use Rattle.mini_shrink.specs.Pace.{AtMost, pace}
 use Rattle.mini_shrink.specs.Questions.{at_program}
 use Rattle.mini_shrink.specs.Facts.{Fact, question, ReadsLess}
 use Rattle.mini_rows.specs.Turns.{TurnContracts}
+use Rattle.mini_rows.specs.Branches.{IfRow, Row60}
+use Rattle.mini_rows.specs.DeMorgan.{DeMorganContracts}
+use Rattle.mini_rows.specs.Folding.{FoldingContracts}
 use Rattle.mini_rows.specs.SpellKeys.{KeyContracts}
 use Rattle.mini_rows.specs.Writes.{WriteContracts}
 use Rattle.mini_rows.specs.Choices.{ChoiceContracts}
@@ -136,3 +139,24 @@ WritesReadLess = (W : VariableSet) → ReadsLess (WriteContracts W)
 
 abbrev pub KeysReadLess : Type 0
 KeysReadLess = ReadsLess KeyContracts
+
+abbrev pub FoldingsReadLess : Type 0
+FoldingsReadLess = ReadsLess FoldingContracts
+
+abbrev pub DeMorganReadsLess : Type 0
+DeMorganReadsLess = ReadsLess DeMorganContracts
+
+-- rows of `if`, 82 and 83, and 60
+pub record IfRowsLess : Type 0 where
+  pub ifs : (q : StmtSeat) (n w : Tree) → IfRow n w → LessAt (Stmt q) n w
+  pub returns : (q : StmtSeat) (n w : Tree) → Row60 n w → LessAt (Stmt q) n w
+
+-- ---- all families of which each row asks less
+
+abbrev pub WholeFamilies : VariableSet → Position → Tree → Tree → Type 0
+WholeFamilies W p n w =
+    Contracts p n w ⊎ (SpellingContracts p n w ⊎ (KeyContracts p n w ⊎ (ChoiceContracts p n w ⊎ (FoldingContracts p n w ⊎ (TurnContracts p n w ⊎ (ConstantContracts p n w
+    ⊎ (BooleanContracts p n w ⊎ (DeMorganContracts p n w ⊎ (SequenceContracts p n w ⊎ (OperandContracts p n w ⊎ (NegationContracts p n w ⊎ (TemplateContracts p n w ⊎ WriteContracts W p n w))))))))))))
+
+abbrev pub WholeFamiliesReadLess : Type 0
+WholeFamiliesReadLess = (W : VariableSet) → ReadsLess (WholeFamilies W)

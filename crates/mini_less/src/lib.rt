@@ -1,7 +1,7 @@
 //! What each family of rewrites has to show for Shared and Foreign to shrink. Each function's contract is a law, and its body is empty.
 #![tactic(auto)]
 
-ghost use Rattle.mini_less.specs.Families.{ConstantsReadLess, SequencesReadLess, TemplatesReadLess, BooleansReadLess, NegationsReadLess, ChoicesReadLess, WritesReadLess, KeysReadLess, FirstRowsReadLess, OperandsReadLess, SpellingsReadLess, ReadsLessJoins, ReadsLessNarrows, ListRowsLess, MoreRowsLess, TurnsReadLess, TurnsShrink};
+ghost use Rattle.mini_less.specs.Families.{ConstantsReadLess, SequencesReadLess, TemplatesReadLess, BooleansReadLess, NegationsReadLess, ChoicesReadLess, WritesReadLess, KeysReadLess, FoldingsReadLess, DeMorganReadsLess, WholeFamiliesReadLess, IfRowsLess, FirstRowsReadLess, OperandsReadLess, SpellingsReadLess, ReadsLessJoins, ReadsLessNarrows, ListRowsLess, MoreRowsLess, TurnsReadLess, TurnsShrink};
 ghost use Rattle.mini_less.specs.Rebuilt.{ListsAskLess, StatementsAskLess};
 
 use mini_laws::Rewrites;
@@ -91,4 +91,24 @@ pub fn writes_read_less()
 /// Rows on the keys of object literals: 51 and 52.
 pub fn keys_read_less()
     ensures { KeysReadLess }
+{}
+
+/// Rows on what is known of an expression from its text: 9, 12, 13, 22, 28, 36 and 49.
+pub fn foldings_read_less()
+    ensures { FoldingsReadLess }
+{}
+
+/// De Morgan's laws where nobody asks for the value: 50.
+pub fn de_morgan_reads_less()
+    ensures { DeMorganReadsLess }
+{}
+
+/// All of these families, as one relation.
+pub fn whole_families_read_less()
+    ensures { WholeFamiliesReadLess }
+{}
+
+/// Rows of `if`, and of `return` without a value: 60, 82 and 83.
+pub fn if_rows_less()
+    ensures { IfRowsLess }
 {}
