@@ -3,9 +3,9 @@
 //!
 //! A line that begins with `#` is a title, and its own answer. Each other one is a word and a value of ESTree as JSON:
 //! `tell` and a depth, `numbers`, `again`, `echo`, `lighter`, `expression`, `statement`, or `minify` or `answer` and a number of
-//! passes.
-//! The lines of `answer` are those that `bench/cases.js` writes. Or it asks for a whole run over memory (`run` and its like, in
-//! `memory.rt`) or for a part of a library: `text`, `numeral`, `cooked`, `list`, `statements`, `sizes`, `read` and more (`cases.rt`).
+//! passes. Or it asks for a whole run over memory (`run` and its like, `memory.rt`), for a program that nests deep (`depth.rt`)
+//! or for a part of a library: `text`, `numeral`, `cooked`, `list`, `statements`, `sizes` and more (`cases.rt`).
+//! `bench/cases.js` writes the lines below the title `Whole runs: which numbers and symbols stay`.
 //!
 //! With the word `--echo` all of standard input is one program, which is written as the minifier would: every field of each
 //! type of node, and no other. With `--json` it is read and written as plain JSON, so that the time of that can be told from
