@@ -103,7 +103,7 @@ def deep_inputs():
     for times in (NESTING - 1, NESTING, NESTING + 1, 1_000, LIMIT // 2):
         yield f"{times} lists", nested(times, b"[", b"", b"]"), 3 if times <= NESTING else 2
         yield f"{times} lists that don't end", b"[" * times, 2
-    for times in (NESTING - 1, NESTING, 1_000, LIMIT // 8):
+    for times in (NESTING - 1, NESTING, NESTING + 1, 1_000, LIMIT // 8):
         yield f"{times} objects", nested(times, b'{"a":', b"0", b"}"), 3 if times <= NESTING else 2
 
 

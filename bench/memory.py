@@ -144,8 +144,10 @@ def main():
         shim, mark = build(folder), os.path.join(folder, "refused")
         for name, data in inputs():
             if word in name:
-                made = [refuse_each(name, program, data, shim, mark, on, count) for on in (False, True)]
-                print(f"{name}: {made[0]} allocations, {made[1]} up to the first that ends it")
+                one, all_on = (refuse_each(name, program, data, shim, mark, on, count) for on in (False, True))
+                print(f"{name}: {one} allocations, and {all_on} where none is answered behind a refused one")
+    if count.wanting == 0:
+        sys.exit("nothing was refused: the program doesn't ask the C library for memory")
     print(f"{count.runs} runs, status {WANTING} in {count.wanting}, of which {count.begun} wrote something; {count.wrong} wrong")
     sys.exit(1 if count.wrong else 0)
 
