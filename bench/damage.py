@@ -9,7 +9,8 @@ damaged inputs there are, 10,000 unless it is given, or with an `s` behind it fo
 First come odd inputs whose status is known: JSON that nests to and past the limits, names and texts of 1 MB, 2,000,000
 keys, UTF-8 cut in two, and inputs as long as the limit and longer. Then comes one of examples/*.json or of the stored runs
 of crates/mini_cases at a time, with one to four damages: of the tree (nodes dropped, doubled, moved, swapped, wrapped in
-negations, named or typed otherwise, and lists made many times as long), and then of the text (bits, bytes and tokens).
+negations, named or typed otherwise, and lists made many times as long), or of that and then of the text (bits, bytes and
+tokens).
 
 Each run must end with a status of its table that such a run can have (0, 2 or 3; 6 beyond the limit), write to standard
 output only with status 0, one line of JSON with the members of an answer, and tell of a refusal, in one line, only with
@@ -259,7 +260,8 @@ TEXT_DAMAGES = (flip_bit, cut_bytes, repeat_bytes, change_token)
 def damaged(texts, chance):
     """A copy of one of the texts, with one to four damages."""
     program = [json.loads(chance.choice(texts))]
-    damages = [chance.choice(TREE_DAMAGES if chance.random() < 0.7 else TEXT_DAMAGES) for _ in range(chance.randint(1, 4))]
+    kinds = TREE_DAMAGES if chance.random() < 0.7 else TREE_DAMAGES + TEXT_DAMAGES
+    damages = [chance.choice(kinds) for _ in range(chance.randint(1, 4))]
     for damage in damages:
         if damage in TREE_DAMAGES and nodes(program):
             damage(program, chance)
@@ -373,7 +375,8 @@ def damaged_inputs(count, seed):
     made = 0
     while time.monotonic() < ends if ends else made < int(count):
         made += 1
-        yield damaged(texts, chance)
+        label, data = damaged(texts, chance)
+        yield f"damaged input {made} ({label})", data
 
 
 def main():
