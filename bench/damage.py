@@ -7,10 +7,10 @@ PROGRAM is crates/mini_app/out/mini_app of this repository unless it is given, S
 damaged inputs there are, 10,000 unless it is given, or with an `s` behind it for how many seconds some are made, as `120s`.
 
 First come odd inputs whose status is known: JSON that nests to and past the limits, names and texts of 1 MB, 2,000,000
-keys, UTF-8 cut in two, and inputs as long as the limit and longer. Then comes one of examples/*.json or of the stored runs
-of crates/mini_cases at a time, with one to four damages: of the tree (nodes dropped, doubled, moved, swapped, wrapped in
-negations, named or typed otherwise, and lists made many times as long), or of that and then of the text (bits, bytes and
-tokens).
+keys, UTF-8 cut in two, and inputs as long as the limit and longer. Then comes one of examples/*.json, of bench/forms.js
+(which wants node) or of the stored runs of crates/mini_cases at a time, with one to four damages: of the tree (nodes
+dropped, doubled, moved, swapped, wrapped in negations, named or typed otherwise, and lists made many times as long), or of
+that and then of the text (bits, bytes and tokens).
 
 Each run must end with a status of its table that such a run can have (0, 2 or 3; 6 beyond the limit), write to standard
 output only with status 0, one line of JSON with the members of an answer, and tell of a refusal, in one line, only with
@@ -32,6 +32,8 @@ import sys
 import tempfile
 import time
 from concurrent.futures import ThreadPoolExecutor
+
+from memory import forms
 
 ROOT = pathlib.Path(__file__).resolve().parent.parent
 LIMIT = 16_777_216  # bytes that the program reads at most
@@ -362,6 +364,7 @@ class Results:
 def stored():
     """The programs that are damaged."""
     texts = [path.read_bytes() for path in sorted((ROOT / "examples").glob("*.json"))]
+    texts += [data for _, data in forms()]
     for line in (ROOT / "crates/mini_cases/stdin").read_bytes().splitlines():
         if line.startswith(b"answer "):
             texts.append(line.split(b" ", 2)[2])
