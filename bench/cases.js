@@ -22,7 +22,7 @@ const fs = require("fs");
 const path = require("path");
 const { text } = require("./estree.js");
 const odd = require("./odd.js");
-const { estree, outcomeOf, parsed } = require("./outcome.js");
+const { estree, outcomeOf, saidOptions } = require("./outcome.js");
 
 const TITLE = "# Whole runs: which numbers and symbols stay, how many passes it takes, and the program";
 const ODD = "# Odd input, calls that fail, and programs that nest deep: whole runs over memory, as above";
@@ -43,7 +43,7 @@ function caseOf(line) {
   const [source, after] = refusal ? [refusal[1]] : programs.split(/(?<=[;}]) =>(?: |$)/);
   const { bound, answer } = refusal
     ? { bound: UNBOUNDED, answer: `${refusal[2]} ${refusal[3]}` }
-    : answered(source, after, parsed(said));
+    : answered(source, after, saidOptions(said));
   return { source, line: `answer ${bound} ${text(estree(source))}`, answer };
 }
 

@@ -54,7 +54,7 @@ def name(text):
     return {"type": "Identifier", "name": text}
 
 
-def negated(argument, times):
+def negations(argument, times):
     for _ in range(times):
         argument = {"type": "UnaryExpression", "operator": "!", "prefix": True, "argument": argument}
     return argument
@@ -88,11 +88,11 @@ def with_keys(count, make):
     return f'{{{keys},"type":"Program","sourceType":"script","body":[]}}'.encode()
 
 
-def nested(times, opening, inside, closing):
+def nest_text(times, opening, inside, closing):
     return opening * times + inside + closing * times
 
 
-def cut(value, piece, at):
+def cut_character(value, piece, at):
     """The text of a value, with the first bytes of a piece alone."""
     return text(value).replace(piece, piece[:at])
 
@@ -100,14 +100,14 @@ def cut(value, piece, at):
 def deep_inputs():
     # A statement's expression stands 3 deep, as JSON and as a node; each negation adds a level to both.
     for times in range(DEPTH - 5, DEPTH):
-        yield f"{times} negations", text(script(negated(name("a"), times))), 0 if times + 3 <= DEPTH else 3
+        yield f"{times} negations", text(script(negations(name("a"), times))), 0 if times + 3 <= DEPTH else 3
     for times in range(NESTING - 5, NESTING + 1):
-        yield f"{times} negations", text(script(negated(name("a"), times))), 3 if times + 4 <= NESTING else 2
+        yield f"{times} negations", text(script(negations(name("a"), times))), 3 if times + 4 <= NESTING else 2
     for times in (NESTING - 1, NESTING, NESTING + 1, 1_000, LIMIT // 2):
-        yield f"{times} lists", nested(times, b"[", b"", b"]"), 3 if times <= NESTING else 2
+        yield f"{times} lists", nest_text(times, b"[", b"", b"]"), 3 if times <= NESTING else 2
         yield f"{times} lists that don't end", b"[" * times, 2
     for times in (NESTING - 1, NESTING, NESTING + 1, 1_000, LIMIT // 8):
-        yield f"{times} objects", nested(times, b'{"a":', b"0", b"}"), 3 if times <= NESTING else 2
+        yield f"{times} objects", nest_text(times, b'{"a":', b"0", b"}"), 3 if times <= NESTING else 2
 
 
 def long_inputs():
@@ -132,7 +132,7 @@ def long_inputs():
 def broken_texts():
     for piece in ("é", "€", "\U00010330"):
         for at in range(1, len(piece.encode())):
-            yield f"a name with {at} bytes of {piece}", cut(script(name(f"a{piece}b")), piece.encode(), at), 2
+            yield f"a name with {at} bytes of {piece}", cut_character(script(name(f"a{piece}b")), piece.encode(), at), 2
             yield f"{at} bytes of {piece} at the end", text(script()) + piece.encode()[:at], 2
     for piece in (b"\xc0\x80", b"\xed\xa0\x80", b"\xf4\x90\x80\x80", b"\xff", b"\x80"):
         yield f"a name with {piece!r}", text(script(name("a#b"))).replace(b"#", piece), 2
@@ -210,7 +210,7 @@ def swap_nodes(program, chance):
 
 def wrap_node(program, chance):
     at, here = chance.choice(nodes(program))
-    at[here] = negated(at[here], chance.choice((1, 2, 3, 40, DEPTH - 3, NESTING)))
+    at[here] = negations(at[here], chance.choice((1, 2, 3, 40, DEPTH - 3, NESTING)))
 
 
 def change_text(program, chance):
@@ -361,7 +361,7 @@ class Results:
         return 1 if self.wrong or above else 0
 
 
-def stored():
+def stored_programs():
     """The programs that are damaged."""
     texts = [path.read_bytes() for path in sorted((ROOT / "examples").glob("*.json"))]
     texts += [data for _, data in forms()]
@@ -373,7 +373,7 @@ def stored():
 
 def damaged_inputs(count, seed):
     """So many damaged inputs, or as many as are made in so many seconds."""
-    texts, chance = stored(), random.Random(seed)
+    texts, chance = stored_programs(), random.Random(seed)
     ends = time.monotonic() + float(count[:-1]) if count.endswith("s") else None
     made = 0
     while time.monotonic() < ends if ends else made < int(count):

@@ -8,7 +8,7 @@
 const fs = require("fs");
 const path = require("path");
 const { text, written } = require("./estree.js");
-const { estree, outcomeOf, parsed } = require("./outcome.js");
+const { estree, outcomeOf, saidOptions } = require("./outcome.js");
 
 const FILE = path.join(__dirname, "odd-input.txt");
 const EXAMPLE = path.join(__dirname, "..", "examples", "choice.json");
@@ -36,26 +36,26 @@ function answerText(source, after, said = {}) {
 function run(title, input, answer, { limit = 100, reads = "-", writes = "-", notes = "-" } = {}) {
   return { title, line: `run ${limit} ${Math.max(ROOM, answer.length)} ${reads} ${writes} ${notes} ${input}`, answer };
 }
-const done = (answer) => `0 0 ${answer.length} 0 ${answer.trimEnd()}`;
-const refused = (note) => `3 0 0 ${note.length} ${note.trimEnd()}`;
+const doneLine = (answer) => `0 0 ${answer.length} 0 ${answer.trimEnd()}`;
+const refusedLine = (note) => `3 0 0 ${note.length} ${note.trimEnd()}`;
 const noteOf = (error, pointer) => `refused: ${error} at ${pointer}\n`;
 
 // The run that a line tells.
-function told(title, line) {
+function runOfLine(title, line) {
   const [, word, rest] = /^(\w+) (.*)$/.exec(line);
   const refusal = /^(.*) \/\/ (\w+) at ?(\S*)$/.exec(rest);
-  if (refusal) return run(title, GIVEN[word](refusal[1]), refused(noteOf(refusal[2], refusal[3])));
+  if (refusal) return run(title, GIVEN[word](refusal[1]), refusedLine(noteOf(refusal[2], refusal[3])));
   const [programs, said = "{}"] = rest.split(/ \/\/ (?={.*}$)/);
   const [source, after] = programs.split(/(?<=}) => /);
-  return run(title, GIVEN[word](source), done(answerText(source, after === "stays" ? source : after, parsed(said))));
+  return run(title, GIVEN[word](source), doneLine(answerText(source, after === "stays" ? source : after, saidOptions(said))));
 }
 
-function toldRuns() {
+function runsOfFile() {
   const runs = [];
   let title = "";
   for (const line of fs.readFileSync(FILE, "utf8").split("\n")) {
     if (line.startsWith("#")) title = line.slice(2);
-    else if (line) runs.push(told(title, line));
+    else if (line) runs.push(runOfLine(title, line));
   }
   return runs;
 }
@@ -71,37 +71,37 @@ function eachCall(title, input, calls, answer, failing) {
 // Each read of so many bytes, the last of which gives the end, and each write of so many.
 function failingReads(title, input, answer, limit) {
   const failing = (at) => ({ setting: { limit, reads: at + 1 }, ended: `4 ${Math.max(0, input.length - limit * at)} 0 0` });
-  return eachCall(`each read of ${title} fails`, input, Math.ceil(input.length / limit) + 1, done(answer), failing);
+  return eachCall(`each read of ${title} fails`, input, Math.ceil(input.length / limit) + 1, doneLine(answer), failing);
 }
 function failingWrites(title, input, answer, limit) {
   const failing = (at) => ({ setting: { limit, writes: at + 1 }, ended: `5 0 ${limit * at} 0 ${answer.slice(0, limit * at)}`.trimEnd() });
-  return eachCall(`each write of ${title} fails`, input, Math.ceil(answer.length / limit), done(answer), failing);
+  return eachCall(`each write of ${title} fails`, input, Math.ceil(answer.length / limit), doneLine(answer), failing);
 }
 function failingNotes(input, note, limit) {
   const failing = (at) => ({ setting: { limit, notes: at + 1 }, ended: `3 0 0 ${limit * at} ${note.slice(0, limit * at)}`.trimEnd() });
-  return eachCall("each call of the notes fails, which changes no status", input, Math.ceil(note.length / limit), refused(note), failing);
+  return eachCall("each call of the notes fails, which changes no status", input, Math.ceil(note.length / limit), refusedLine(note), failing);
 }
 
 // The same where no call can fail.
-const plain = (title, input, answer) => ({ title, line: `plain ${input}`, answer });
+const plainRun = (title, input, answer) => ({ title, line: `plain ${input}`, answer });
 
 // A name below so many `!`, as a value in memory, where nodes may nest so deep.
-const deep = (title, depth, count, answer) => ({ title, line: `deep ${depth} ${count}`, answer });
+const deepRun = (title, depth, count, answer) => ({ title, line: `deep ${depth} ${count}`, answer });
 
 function plainRuns(example, answer) {
   return [
-    plain("the first example, with a source and sinks that never fail", example, `0 0 ${answer.length} 0`),
-    plain("words that are refused, before anything is read", `-h|${example}`, `1 ${example.length} 0 0`),
-    plain("no JSON", "", "2 0 0 0"),
-    plain("no program", "{}", `3 0 0 ${noteOf("BadShape", "").length}`),
+    plainRun("the first example, with a source and sinks that never fail", example, `0 0 ${answer.length} 0`),
+    plainRun("words that are refused, before anything is read", `-h|${example}`, `1 ${example.length} 0 0`),
+    plainRun("no JSON", "", "2 0 0 0"),
+    plainRun("no program", "{}", `3 0 0 ${noteOf("BadShape", "").length}`),
   ];
 }
 
 function deepRuns() {
   const place = `/body/0/expression${"/argument".repeat(NEGATIONS)}`;
   return [
-    deep(`a name below ${NEGATIONS} negations is at depth ${NEGATIONS + 3}`, NEGATIONS + 3, NEGATIONS, `2 true ${text(written(estree("!a;")))}`),
-    deep("which is one too deep", NEGATIONS + 2, NEGATIONS, `TooDeep ${place}`),
+    deepRun(`a name below ${NEGATIONS} negations is at depth ${NEGATIONS + 3}`, NEGATIONS + 3, NEGATIONS, `2 true ${text(written(estree("!a;")))}`),
+    deepRun("which is one too deep", NEGATIONS + 2, NEGATIONS, `TooDeep ${place}`),
   ];
 }
 
@@ -115,14 +115,14 @@ function guardRun() {
   const after = `${guards(GUARDS - CHAIN)} return ${conditionals(GUARDS - CHAIN)}s;`;
   const [long, short] = [before, after].map((statements) => `function f() { ${statements} }`);
   const title = `${GUARDS} guards become a chain of ${CHAIN} conditionals, which nests deeper than what is read may`;
-  return run(title, text(estree(long)), done(answerText(long, short)));
+  return run(title, text(estree(long)), doneLine(answerText(long, short)));
 }
 
 function oddRuns() {
   const example = fs.readFileSync(EXAMPLE, "utf8").trimEnd();
   const answer = answerText("if (!a) b(); else c();", "a ? c() : b();");
   return [
-    ...toldRuns(),
+    ...runsOfFile(),
     guardRun(),
     ...failingReads("the first example", example, answer, 100),
     ...failingWrites("the first example", example, answer, 10),

@@ -10,7 +10,7 @@ const typeOf = (source) => (/^(import|export)\b|\bimport\.meta/m.test(source) ? 
 const estree = (source) => parseLeniently(source, typeOf(source));
 
 // What a line says of an answer: `{ kept: 2, symbols: [0, 2] }`.
-const parsed = (said) => Function(`return (${said});`)();
+const saidOptions = (said) => Function(`return (${said});`)();
 
 // The parts of an answer, as text. `said` tells what is not as usual: `kept` and `symbols` are numbers in the input, in order, or
 // how many there are where each stays at its place.
@@ -22,4 +22,4 @@ function outcomeOf(source, after, said) {
   return { kept: numbers(kept), symbols: numbers(symbols), passes, settled, program, bound };
 }
 
-module.exports = { estree, outcomeOf, parsed };
+module.exports = { estree, outcomeOf, saidOptions };
