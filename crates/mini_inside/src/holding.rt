@@ -231,7 +231,8 @@ fn remove_idle_in_head(alloc: Global, node: &mut Node, context: &TraverseCtx) ->
     }
 }
 
-// Or else one that the next declarator reads, whose initializer goes there.
+// From the head of a `for` a declarator goes that nothing else mentions, or else one that the next
+// declarator reads, whose initializer goes there.
 fn remove_in_head(alloc: Global, node: &mut Node, context: &TraverseCtx) -> bool
     requires head { row.has_head node.old ≡ true }
     requires parts { 0 < count (children node.old) }

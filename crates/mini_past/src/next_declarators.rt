@@ -92,7 +92,7 @@ fn is_read_past_then<S: SteadyNames>(
     }
 }
 
-// Such a declarator, whose initializer may move.
+// A declarator that the next one reads past others, and whose initializer may move.
 fn is_past_by<S: PastNames>(
     is_free: bool,
     declarator: &Node,
