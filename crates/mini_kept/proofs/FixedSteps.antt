@@ -42,11 +42,11 @@ fixed_anyway p n w f = record { by = λ strict s k e v env st a x. inl (f x) }
 
 -- ---- from an index on
 
-stand_on : (π : ℕ → Position) (vs : ℕ → Use) (i : ℕ) (ts : Trees) → AllStand π vs (suc i) ts → AllStand (λ j. π (suc j)) (λ j. vs (suc j)) i ts
+pub stand_on : (π : ℕ → Position) (vs : ℕ → Use) (i : ℕ) (ts : Trees) → AllStand π vs (suc i) ts → AllStand (λ j. π (suc j)) (λ j. vs (suc j)) i ts
 stand_on π vs i none s = tt
 stand_on π vs i (t ▸ ts) s = (s.0, stand_on π vs (suc i) ts s.1)
 
-scoped_on : (sc : ℕ → List Binding) (vs : ℕ → Use) (i : ℕ) (env : Environment) (ts : Trees) → AllScoped sc vs (suc i) env ts → AllScoped (λ j. sc (suc j)) (λ j. vs (suc j)) i env ts
+pub scoped_on : (sc : ℕ → List Binding) (vs : ℕ → Use) (i : ℕ) (env : Environment) (ts : Trees) → AllScoped sc vs (suc i) env ts → AllScoped (λ j. sc (suc j)) (λ j. vs (suc j)) i env ts
 unfolding Scoped
 scoped_on sc vs i env none a = tt
 scoped_on sc vs i env (t ▸ ts) a = (a.0, scoped_on sc vs (suc i) (env ++ sc (suc i)) ts a.1)
@@ -72,7 +72,7 @@ module _ (k : Option SymbolId) where
         rest_within sc sc' w vs (suc i) ts,
       )
 
-  first_less : (sc sc' : ℕ → List Binding) → ((j : ℕ) → Within (symbols_in (sc' j)) (symbols_in (sc j))) → (vs : ℕ → Use) (t u : Tree) (ts : Trees) → times k (declared_in (vs 0) u) + 1 ≤ times k (declared_in (vs 0) t)
+  pub first_less : (sc sc' : ℕ → List Binding) → ((j : ℕ) → Within (symbols_in (sc' j)) (symbols_in (sc j))) → (vs : ℕ → Use) (t u : Tree) (ts : Trees) → times k (declared_in (vs 0) u) + 1 ≤ times k (declared_in (vs 0) t)
       → times k (declared_from sc' vs 0 (u ▸ ts)) + 1 ≤ times k (declared_from sc vs 0 (t ▸ ts))
   unfolding declared_in
   first_less sc sc' w vs t u ts less =
@@ -85,7 +85,7 @@ module _ (k : Option SymbolId) where
         rest_within sc sc' w vs 1 ts,
       )
 
-  later_less : (sc sc' : ℕ → List Binding) → ((j : ℕ) → Within (symbols_in (sc' j)) (symbols_in (sc j))) → (vs : ℕ → Use) (t : Tree) (ts us : Trees)
+  pub later_less : (sc sc' : ℕ → List Binding) → ((j : ℕ) → Within (symbols_in (sc' j)) (symbols_in (sc j))) → (vs : ℕ → Use) (t : Tree) (ts us : Trees)
       → times k (declared_from (λ j. sc' (suc j)) (λ j. vs (suc j)) 0 us) + 1 ≤ times k (declared_from (λ j. sc (suc j)) (λ j. vs (suc j)) 0 ts) → times k (declared_from sc' vs 0 (t ▸ us)) + 1 ≤ times k (declared_from sc vs 0 (t ▸ ts))
   unfolding declared_in
   later_less sc sc' w vs t ts us less =

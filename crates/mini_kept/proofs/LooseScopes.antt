@@ -37,10 +37,10 @@ AllStand π v i (t ▸ ts) = Stands (π i) (v i) t × AllStand π v (suc i) ts
 
 -- ---- environments that give each name one symbol
 
-abbrev SameFound : Environment → Environment → Type 0
+abbrev pub SameFound : Environment → Environment → Type 0
 SameFound env env' = (u : Use) (s : List ℕ) → symbol_of u s env ≡ symbol_of u s env'
 
-found_both : (env env' bs bs' : Environment) → SameFound env env' → SameFound bs bs' → SameFound (env ++ bs) (env' ++ bs')
+pub found_both : (env env' bs bs' : Environment) → SameFound env env' → SameFound bs bs' → SameFound (env ++ bs) (env' ++ bs')
 found_both env env' bs bs' e f u s = symbol_of_both u s env bs ∙ (λ k. or_else (f u s k) (e u s k)) ∙ sym (symbol_of_both u s env' bs')
 
 names_moved : (u : Use) (env env' : Environment) → SameFound env env' → (xs : List Name) → NamesScoped u env xs → NamesScoped u env' xs
@@ -199,3 +199,7 @@ children_within x o π vs env ts us m k s a =
 pub children_alike : (o : Opening) (π : ℕ → Position) (vs : ℕ → Use) (env : Environment) (ts us : Trees) → Merges o ts → AllKeep π 0 ts us → AllStand π vs 0 ts → AllScoped (at_or_empty (scopes_by o ts)) vs 0 env ts
     → (i : ℕ) → Within (symbols_in (at_or_empty (scopes_by o us) i)) (symbols_in (at_or_empty (scopes_by o ts) i))
 children_alike o π vs env ts us m k s a i = (at_alike (scopes_by o ts) (scopes_by o us) (scopes_alike o π vs env ts us m k s a) i).within
+
+-- and each name that is looked up in one is found as it was
+pub children_found : (o : Opening) (π : ℕ → Position) (vs : ℕ → Use) (env : Environment) (ts us : Trees) → Merges o ts → AllKeep π 0 ts us → AllStand π vs 0 ts → AllScoped (at_or_empty (scopes_by o ts)) vs 0 env ts → (i : ℕ) → SameFound (at_or_empty (scopes_by o ts) i) (at_or_empty (scopes_by o us) i)
+children_found o π vs env ts us m k s a i = (at_alike (scopes_by o ts) (scopes_by o us) (scopes_alike o π vs env ts us m k s a) i).found

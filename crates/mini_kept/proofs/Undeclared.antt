@@ -487,3 +487,9 @@ module _ (k : ℕ) where
         by : (c : Bool) → ((not c && false) || false) ≡ false
         by true = refl
         by false = refl
+
+    pub never_written : list_any (is_write x) (program_var_writes t ++ program_mentions t) ≡ false
+    never_written = none_written (program_var_writes t ++ program_mentions t) written
+
+    pub never_lexical : is_among x (lexical_variables false t) ≡ false
+    never_lexical = none_among (lexical_variables false t) (lexical_other false t a)

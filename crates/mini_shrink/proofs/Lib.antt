@@ -1,0 +1,17 @@
+pub mod Paces
+pub mod Fitting
+pub mod Lifting
+pub mod Finding
+pub mod Owns
+pub mod Deeper
+pub mod Programs
+pub mod Telling
+pub mod Moments
+pub mod Bound
+pub mod Foreigns
+pub mod ToldOn
+pub mod Tops
+pub mod Imports
+pub mod Exports
+pub mod Within
+pub mod Exact
