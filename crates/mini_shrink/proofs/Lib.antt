@@ -7,6 +7,8 @@ pub mod Deeper
 pub mod Programs
 pub mod Telling
 pub mod Moments
+pub mod Alone
+pub mod Regulars
 pub mod Bound
 pub mod Foreigns
 pub mod ToldOn

@@ -20,7 +20,6 @@ use Rattle.mini_kept.specs.KeepsShapes.{KeepsShapes}
 use Rattle.mini_kept.specs.Lifted.{KeepsNames}
 use Rattle.mini_kept.specs.Without.{BodySets, BodiesUnder, Within}
 use Rattle.mini_shrink.specs.Facts.{ReadsLess}
-use Rattle.mini_shrink.specs.Regular.{IsRegular}
 use Rattle.mini_shrink.specs.Told.{is_steady}
 use Rattle.mini_shrink.specs.ToldOn.{of_symbols, asks_as, TopsLess, ImportsLess, PortsLess}
 
@@ -38,7 +37,7 @@ pub record IsExactlySo (t : Tree) (b s : ℕ) : Type 0 where
   pub unwritten : is_steady t b s ≡ true → list_any (is_write (by_symbol s)) (program_mentions t) ≡ false
 
 abbrev pub ExactIsSo : Type 0
-ExactIsSo = (t : Tree) (b s : ℕ) → IsRegular s t → Scoped Read [] t → IsExactlySo t b s
+ExactIsSo = (t : Tree) (b s : ℕ) → IsWellShaped t → Scoped Read [] t → IsExactlySo t b s
 
 abbrev pub ExactWithin : (Position → Tree → Tree → Type 0) → Type 0
 ExactWithin R =

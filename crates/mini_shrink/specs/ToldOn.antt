@@ -20,7 +20,6 @@ use Rattle.mini_kept.specs.KeepsShapes.{KeepsShapes}
 use Rattle.mini_kept.specs.Lifted.{KeepsNames}
 use Rattle.mini_kept.specs.Without.{BodySets, BodiesUnder, Within}
 use Rattle.mini_shrink.specs.Facts.{ReadsLess}
-use Rattle.mini_shrink.specs.Regular.{IsRegular}
 use Rattle.mini_shrink.specs.Told.{is_shown, is_lent, stays}
 
 -- of declared names alone
@@ -49,7 +48,7 @@ pub record IsSo (t : Tree) (b s : ℕ) : Type 0 where
   pub unwritten : (told_of t b).steady (Declared s) ≡ true → list_any (is_write (by_symbol s)) (all_writes t) ≡ false
 
 abbrev pub ToldIsSo : Type 0
-ToldIsSo = (t : Tree) (b s : ℕ) → IsRegular s t → Scoped Read [] t → IsSo t b s
+ToldIsSo = (t : Tree) (b s : ℕ) → IsWellShaped t → Scoped Read [] t → IsSo t b s
 
 -- a step in a program shows no name to others that it didn't, and lends none
 pub record ShowsLess (R : Position → Tree → Tree → Type 0) : Type 0 where

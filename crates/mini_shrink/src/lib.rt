@@ -5,7 +5,7 @@
 ghost use Rattle.mini_shrink.specs.Exact.{ExactIsSo, ExactWithin};
 ghost use Rattle.mini_shrink.specs.Examples.{after_it};
 ghost use Rattle.mini_shrink.specs.Facts.{ReadsLessShrinks};
-ghost use Rattle.mini_shrink.specs.Regular.{EarlyByScopes, ForeignByScopes};
+ghost use Rattle.mini_shrink.specs.Regular.{EarlyByScopes, ForeignByScopes, ProgramsAreRegular};
 ghost use Rattle.mini_shrink.specs.Told.{ToldShrinks};
 ghost use Rattle.mini_shrink.specs.ToldOn.{LentShrinks, ShownShrinks, ToldIsSo, ToldOn, ToldWithin};
 
@@ -22,6 +22,11 @@ pub fn reads_less_shrinks<R: Rewrites>()
 /// writes and no answer changes, and what no other body sees.
 pub fn told_shrinks<R: Rewrites>()
     ensures { ToldShrinks R.gives }
+{}
+
+/// Each program has the shape on which the order of reads and declarations rests.
+pub fn programs_are_regular()
+    ensures { ProgramsAreRegular }
 {}
 
 /// What is foreign by all names and all moments of a program is so by what shrinks.
