@@ -1,11 +1,11 @@
 -- What a slot of a list of statements, declarators or cases takes binds names by declarators alone.
-use Rattle.std.specs.Prelude.{ℕ, ◌≡◌, refl, Bool, true, false, ◌&&◌, List, [], ◌∷◌, Option, None, Some}
+use Rattle.std.specs.Prelude.{ℕ, ◌≡◌, refl, Bool, true, false, ◌&&◌, List, [], ◌∷◌, None}
 use Rattle.std.proofs.Common.{ap, sym, true≢false}
 use Rattle.mini_model.specs.declared.name.Name.{Name}
 use Rattle.mini_model.specs.declared.shape.Shape.{Shape}
 use Rattle.mini_model.specs.declared.shape.Shape.TheVariants as shape
 use Rattle.mini_model.specs.Tree.{Tree, Trees, node, none, ◌▸◌}
-use Rattle.mini_accept.specs.WellShaped.{Depth, in_module, in_body, nested, Class, a_statement, a_block, a_case, an_init, a_loop_left, a_declarator, a_pattern, a_binding, an_expression, a_string, an_export, an_exported_declaration, a_default_export, Slot, one, one_or_absent, many, refused, these, each, filling_by, filling, slots_of, variable_slots, function_slots, module_slots, pattern_target_slots, member_slots, unchained_slots, statement_slots, or_else, none_if, in_depth, is_sloppy_function, class_of, is_whole, is_strict_in, fits, fill}
+use Rattle.mini_accept.specs.WellShaped.{Depth, in_module, in_body, nested, Class, a_statement, a_block, a_case, an_init, a_loop_left, a_declarator, a_pattern, a_binding, an_expression, a_string, an_export, an_exported_declaration, a_default_export, Slot, one, one_or_absent, many, these, each, filling_by, slots_of, variable_slots, function_slots, pattern_target_slots, member_slots, unchained_slots, statement_slots, or_else, none_if, in_depth, is_sloppy_function, is_whole, fits, fill}
 use Rattle.mini_kept.proofs.Bools.{left, right}
 use Rattle.mini_kept.proofs.Expressions.{refused_here}
 use Rattle.mini_shrink.specs.Regular.{is_item, declares_alone, all_declare_alone, is_listed_alone}

@@ -8,16 +8,15 @@ use Rattle.mini_model.specs.declared.operator.AssignmentOperator.TheVariants.{As
 use Rattle.mini_model.specs.declared.shape.Shape.{Shape}
 use Rattle.mini_model.specs.declared.shape.Shape.TheVariants as shape
 use Rattle.mini_model.specs.Tree.{Tree, Trees, node, none, ◌▸◌}
-use Rattle.mini_accept.specs.WellShaped.{Tagging, Depth, in_module, in_body, nested, Class, a_program, a_statement, a_block, a_case, a_catch, an_init, a_loop_left, a_declarator, a_pattern, a_pattern_element, a_pattern_property, a_pattern_rest, a_parameter, a_binding, a_label, a_private_name, a_function_body, an_arrow_body, a_class_body, a_class_member, a_method, an_expression, a_link, a_chain, an_argument, an_inner_argument, an_inner, a_super, an_object_property, a_key, a_private_or_key, an_inner_key, a_tagged_template, a_target, a_simple_target, an_element_target, a_member_target, a_named_target, a_target_name, a_target_element, a_target_property, a_target_rest, an_import, a_module_name, a_string, an_export, an_exported_name, an_exported_declaration, a_default_export, a_word, Slot, one, one_or_absent, many, many_or_holes, many_and_rest, many_or_holes_and_rest, quasis, Filling, refused, these, each, each_or_last, pieces, filling_by, filling, slots_of, expression_slots, unchained_slots, is_optional, is_chained, variable_slots, function_slots, module_slots, pattern_slots, pattern_target_slots, member_slots, key_slots, private_or_key_slots, inner_slots, word_slots, statement_slots, or_else, none_if, in_depth, is_sloppy_function, is_init, is_text, class_of, is_whole, is_strict_in, is_last, is_quasi, is_quasi_by, are_quasis, fits, fill, IsWellShaped}
-use Rattle.mini_laws.specs.declared.names.Declared.TheVariants as declared
-use Rattle.mini_laws.specs.DeclaredNames.{names_of, all_names}
+use Rattle.mini_accept.specs.WellShaped.{Tagging, Depth, in_module, in_body, nested, Class, a_program, a_statement, a_block, a_case, a_catch, an_init, a_loop_left, a_declarator, a_pattern, a_pattern_element, a_pattern_property, a_pattern_rest, a_parameter, a_binding, a_label, a_private_name, a_function_body, an_arrow_body, a_class_body, a_class_member, a_method, an_expression, a_link, a_chain, an_argument, an_inner_argument, an_inner, a_super, an_object_property, a_key, a_private_or_key, an_inner_key, a_tagged_template, a_target, a_simple_target, an_element_target, a_member_target, a_named_target, a_target_name, a_target_element, a_target_property, a_target_rest, an_import, a_module_name, a_string, an_export, an_exported_name, an_exported_declaration, a_default_export, a_word, Slot, one, one_or_absent, many, many_or_holes, many_and_rest, many_or_holes_and_rest, quasis, these, each, each_or_last, filling_by, slots_of, expression_slots, unchained_slots, is_optional, is_chained, variable_slots, function_slots, module_slots, pattern_slots, pattern_target_slots, member_slots, key_slots, private_or_key_slots, inner_slots, word_slots, statement_slots, or_else, none_if, in_depth, is_sloppy_function, is_init, is_text, is_whole, is_strict_in, is_last, is_quasi, are_quasis, fits, fill}
+use Rattle.mini_laws.specs.DeclaredNames.{names_of}
 use Rattle.mini_laws.specs.Foreign.{imported_names, all_imported_names}
 use Rattle.mini_laws.specs.Mentions.{same_variable, is_among}
 use Rattle.mini_laws.specs.ScopeList.{by_symbol}
 use Rattle.mini_kept.proofs.Bools.{left, right, both}
 use Rattle.mini_kept.proofs.Expressions.{refused_here}
 use Rattle.mini_shrink.specs.Regular.{declares_in_order, declares_alone, all_declare_alone, items_of, imports_no, is_regular, all_regular, ProgramsAreRegular}
-use Rattle.mini_shrink.proofs.Alone.{lone_slot, lone_slots, slot_alone, slots_alone, pattern_alone, nothing_there}
+use Rattle.mini_shrink.proofs.Alone.{lone_slots, slots_alone, pattern_alone, nothing_there}
 use Rattle.mini_shrink.proofs.Finding.{any_both}
 
 -- ---- what stands below the top
