@@ -21,9 +21,9 @@ use std::alloc::Global;
 /// What passes of two rules over a program came to.
 #[derive(Clone, Copy)]
 pub struct SteadyPasses {
-    /// How many there were.
+    /// How many passes there were.
     pub passes: u32,
-    /// Whether the last one found nothing to do.
+    /// Whether the last pass found nothing to do.
     pub settled: bool,
     /// Whether what was known of bodies stayed so.
     pub steady: bool,

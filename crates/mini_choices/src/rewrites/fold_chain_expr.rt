@@ -109,7 +109,7 @@ fn may_end_after(node: &Node) -> bool
     is_chain(node) && ends_after(node.child(0))
 }
 
-/// `void 0`
+/// A new `void 0`. The only error is that memory runs out.
 pub fn void_zero(alloc: Global) -> Result<Node, OutOfMemory>
     ensures { IfOk result (λ w. w ≡ void_zero_of) }
 {

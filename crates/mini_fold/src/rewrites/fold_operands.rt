@@ -278,7 +278,7 @@ fn is_zero(number: Option<i64>) -> bool
     }
 }
 
-// Whether they are bits beside 0.
+// Whether the left side has numbers of 32 bits, as `a & 1` has, and the right one is 0.
 pub fn tests_bits(left: &Node, right: &Node) -> bool
     ensures { result ≡ operand.tests_bits left.now right.now }
 {
@@ -357,6 +357,7 @@ pub fn truth_in(node: &Node) -> Option<bool>
     }
 }
 
+/// Whether the two truths are the same.
 pub fn are_same(left: bool, right: bool) -> bool
     ensures { result ≡ are_they_same left right }
 {
@@ -375,7 +376,7 @@ fn may_stand(seat: Seat, holds: bool, boolean: &Node) -> bool
     }
 }
 
-// Whether the boolean tells the whole.
+// Whether the boolean, or its negation, stands for the whole equality in the seat.
 pub fn is_told(seat: Seat, holds: bool, boolean: &Node) -> bool
     ensures { result ≡ operand.is_told seat holds boolean.now }
 {
@@ -404,6 +405,7 @@ pub fn digit(alloc: Global, truth: bool) -> Node
     }
 }
 
+/// `==`, or `!=` where they are to be unequal.
 pub fn loosely(equal: bool) -> BinaryOperator
     ensures { result ≡ loose equal }
 {

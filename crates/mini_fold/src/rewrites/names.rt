@@ -93,7 +93,7 @@ fn write_digit(alloc: Global, node: &mut Node, equal: bool) -> Result<bool, OutO
     Ok(false)
 }
 
-// The same by the operator.
+// `a == 1` of `a == !0`, and `1 == a` of `!0 == a`, of an equality by this operator.
 fn write_digits(
     alloc: Global,
     node: &mut Node,

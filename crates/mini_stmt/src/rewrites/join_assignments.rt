@@ -3,7 +3,7 @@
 
 ghost use Rattle.std.specs.Prelude.{◌≡◌, ◌<◌, ◌&&◌, ◌||◌, true, false, Some, IfOk};
 ghost use Rattle.mini_model.specs.Tree.{Trees, none, ◌▸◌, child_or_absent, children, count};
-ghost use Rattle.mini_node.specs.Children.{part, with_part, rest_children, without};
+ghost use Rattle.mini_node.specs.Children.{names, part, with_part, rest_children, without};
 ghost use Rattle.mini_rows.specs.Lists as list;
 ghost use Rattle.mini_node.specs.Kinds.{is_sequence as is_it_sequence};
 ghost use Rattle.mini_stmt.specs.JoinAssignments as row;
@@ -18,7 +18,7 @@ use crate::rewrites::join_heads::{
 use crate::rewrites::join_vars::{declared_kind, declares};
 use crate::statements::{put_reversed, take_last};
 use crate::terms::{declares_nothing, is_one_part};
-use mini_model::{AssignmentOperator, OutOfMemory, Shape, VariableDeclarationKind};
+use mini_model::{AssignmentOperator, Name, OutOfMemory, Shape, VariableDeclarationKind};
 use mini_node::{
     Node, Nodes, discard, is_absent_part, is_expression_statement, is_identifier, is_listed,
     is_same_symbol, is_sequence, listed, of_one, one, sequence, two,
@@ -40,6 +40,23 @@ fn assigns_name(node: &Node) -> bool
         && declares_nothing(node.child(1))
 }
 
+// Whether both are names of the same spelling.
+fn is_spelled_alike(first: &Option<Name>, second: &Option<Name>) -> bool
+    ensures { result ≡ row.spelled_alike (names first.now) (names second.now) }
+{
+    match (first, second) {
+        (Some(one), Some(other)) => one.spelling.as_slice() == other.spelling.as_slice(),
+        _ => false,
+    }
+}
+
+// Whether both are one name: of the same spelling, and with one symbol.
+fn is_one_name(first: &Option<Name>, second: &Option<Name>) -> bool
+    ensures { result ≡ row.one_name (names first.now) (names second.now) }
+{
+    is_same_symbol(first, second) && is_spelled_alike(first, second)
+}
+
 /// Whether the declarator has no initializer, and the name that is assigned to.
 pub fn declares_bare(declarator: &Node, target: &Node) -> bool
     ensures { result ≡ row.declares_bare declarator.now target.now }
@@ -48,7 +65,7 @@ pub fn declares_bare(declarator: &Node, target: &Node) -> bool
         && declarator.is_bare(2)
         && matches!(declarator.child(0).shape(), Shape::BindingIdentifier)
         && declarator.child(0).is_named_leaf()
-        && is_same_symbol(declarator.child(0).name(), target.name())
+        && is_one_name(declarator.child(0).name(), target.name())
         && is_absent_part(declarator.child(1))
 }
 
@@ -236,7 +253,7 @@ pub fn beginning_of(node: &Node) -> &Node
     node.child(0)
 }
 
-/// Whether it begins with an assignment, which leaves a statement, or nothing.
+/// Whether the statement begins with an assignment, which leaves a statement, or nothing.
 pub fn assigns_first(node: &Node) -> bool
     ensures kind { result ≡ row.assigns_first node.now }
     ensures parts { result ≡ true → 0 < count (children node.now) }
