@@ -12,6 +12,8 @@ pub mod Regulars
 pub mod Bound
 pub mod Foreigns
 pub mod ToldOn
+pub mod Ports
+pub mod PortSteps
 pub mod Tops
 pub mod Imports
 pub mod Exports

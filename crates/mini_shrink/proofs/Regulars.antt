@@ -226,7 +226,7 @@ slots_right strict a_default_export h e = right_or h (function_slots (one_or_abs
 slots_right strict c h e = refl
 
 -- no import stands there
-no_import : (strict : Bool) (c : Class) → is_deep c ≡ true → slots_of strict c shape.ImportDeclaration ≡ None
+pub no_import : (strict : Bool) (c : Class) → is_deep c ≡ true → slots_of strict c shape.ImportDeclaration ≡ None
 no_import strict (a_statement in_module) e = absurd (true≢false (sym e))
 no_import strict (a_statement in_body) e = nothing_there (is_sloppy_function strict in_body shape.ImportDeclaration) in_body
 no_import strict (a_statement nested) e = nothing_there (is_sloppy_function strict nested shape.ImportDeclaration) nested
