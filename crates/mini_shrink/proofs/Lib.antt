@@ -15,7 +15,5 @@ pub mod ToldOn
 pub mod Ports
 pub mod PortSteps
 pub mod Tops
-pub mod Imports
-pub mod Exports
 pub mod Within
 pub mod Exact

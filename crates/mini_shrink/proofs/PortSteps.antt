@@ -3,19 +3,19 @@ use Rattle.std.specs.Prelude.{ℕ, suc, ◌≡◌, refl, ◌⊎◌, ◌||◌, �
 use Rattle.std.proofs.Common.{ap, ◌∙◌, sym, subst, inl, inr, true≢false}
 use Rattle.mini_model.specs.declared.name.Name.{Name}
 use Rattle.mini_model.specs.declared.place.Position.{Position}
-use Rattle.mini_model.specs.declared.place.Position.TheVariants.{Elsewhere, StatementList, CommaList}
+use Rattle.mini_model.specs.declared.place.Position.TheVariants.{Elsewhere, CommaList}
 use Rattle.mini_model.specs.declared.shape.Shape.{Shape}
 use Rattle.mini_model.specs.declared.shape.Shape.TheVariants as shape
 use Rattle.mini_model.specs.Tree.{Tree, Trees, node, none, ◌▸◌, count, shape_of, children}
 use Rattle.mini_model.specs.Position.{child_position}
 use Rattle.mini_model.specs.Rewriting.{Step, here, inside, StepIn, first, later}
-use Rattle.mini_accept.specs.WellShaped.{Depth, in_module, in_body, nested, Class, a_program, a_statement, an_export, a_module_name, an_exported_name, a_string, an_exported_declaration, Slot, one, one_or_absent, many, refused, these, each, filling_by, filling, none_if, in_depth, module_slots, is_sloppy_function, class_of, is_whole, is_strict_in, fits, fill, IsWellShaped}
+use Rattle.mini_accept.specs.WellShaped.{Depth, in_module, in_body, nested, a_program, a_statement, an_export, a_module_name, an_exported_name, a_string, an_exported_declaration, Slot, one, one_or_absent, many, refused, these, each, filling_by, filling, none_if, in_depth, module_slots, is_sloppy_function, is_whole, is_strict_in, fits, fill, IsWellShaped}
 use Rattle.mini_laws.specs.declared.names.Declared.TheVariants as declared
 use Rattle.mini_laws.specs.DeclaredNames.{names_of}
 use Rattle.mini_laws.specs.ScopeList.{by_symbol}
 use Rattle.mini_laws.specs.Mentions.{same_variable, is_among}
 use Rattle.mini_laws.specs.Foreign.{imported_names, all_imported_names}
-use Rattle.mini_laws.specs.Shared.{script_tops, module_names, all_module_names}
+use Rattle.mini_laws.specs.Shared.{module_names, all_module_names}
 use Rattle.mini_kept.specs.Frames.{is_port, own, ports}
 use Rattle.mini_kept.specs.KeepsFrames.{KeepsPlaces, KeepsFunction, KeepsModule, NoPort, IsShownAlike, KeepsHolder, is_body_slot, is_keyed_slot, function_over, module_over}
 use Rattle.mini_kept.specs.KeepsShapes.{KeepsShapes}
@@ -27,7 +27,7 @@ use Rattle.mini_kept.proofs.Steps.{any_step_fits}
 use Rattle.mini_kept.proofs.StepDeclares.{step_declares}
 use Rattle.mini_shrink.proofs.Finding.{any_both}
 use Rattle.mini_shrink.proofs.Owns.{or_implied, any_same}
-use Rattle.mini_shrink.proofs.Ports.{no_list_there, no_program_there, no_names_there, all_imports_shown, statements_shown, statement_shown, shows_names, exported_of, quiet_declared, quiet_source}
+use Rattle.mini_shrink.proofs.Ports.{no_list_there, no_program_there, no_names_there, all_imports_shown, statements_shown, statement_shown, shows_names, quiet_declared}
 
 module _ (R : Position → Tree → Tree → Type 0) (l : KeepsPlaces R) (shapes : KeepsShapes R) where
   -- ---- where nothing is rewritten
@@ -160,9 +160,11 @@ module _ (R : Position → Tree → Tree → Type 0) (l : KeepsPlaces R) (shapes
         let lexical = names_of declared.Lexical (node shape.ExportNamedDeclaration xs n ts) in
         let hoisted = names_of declared.Hoisted (node shape.ExportNamedDeclaration xs n ts) in
         let lexical' = names_of declared.Lexical (node shape.ExportNamedDeclaration xs n us) in
-        let hoisted' = names_of declared.Hoisted (node shape.ExportNamedDeclaration xs n us) in
-        (λ g. g, among_both (lexical ++ hoisted) (all_module_names ts) (lexical' ++ hoisted') (all_module_names us)
-        (among_both lexical hoisted lexical' hoisted' (λ g. ap (is_among x) (sym kept.lexical) ∙ g) (λ g. any_same (same_variable x) hoisted' hoisted kept.hoisted g)) (exported_less strict z refl placed f))
+        let hoisted' = names_of declared.Hoisted (node shape.ExportNamedDeclaration xs n us) in (
+          λ g. g,
+          among_both (lexical ++ hoisted) (all_module_names ts) (lexical' ++ hoisted') (all_module_names us)
+              (among_both lexical hoisted lexical' hoisted' (λ g. ap (is_among x) (sym kept.lexical) ∙ g) (λ g. any_same (same_variable x) hoisted' hoisted kept.hoisted g)) (exported_less strict z refl placed f),
+        )
 
     -- what stands inside another statement is neither imported nor exported
     others_less : (strict : Bool) (d : Depth) (h : Shape) (xs : List Name) (n : ℕ) (ts us : Trees) → is_port true h ≡ false → fits strict (one (a_statement d)) (node h xs n ts) ≡ true → Less (node h xs n ts) (node h xs n us)
@@ -194,3 +196,67 @@ module _ (R : Position → Tree → Tree → Type 0) (l : KeepsPlaces R) (shapes
     statement_less (inside p shape.ExportNamedDeclaration xs n ts us z) strict nested o e = absurd (no_export strict nested xs n ts refl e)
     statement_less (inside p shape.ExportAllDeclaration xs n ts us z) strict d o e = (λ f. f, λ f. f)
     statement_less (inside p h xs n ts us z) strict d o e = others_less strict d h xs n ts us refl e
+
+    -- ---- lists of statements
+
+    list_imports : (strict : Bool) (d : Depth) (t : Tree) → fits strict (many (a_statement d)) t ≡ true → imported_names t ≡ all_imported_names (ports true (children t))
+    unfolding imported_names
+    list_imports strict d (node shape.Listed xs n ts) e = all_imports_shown strict d ts (right (is_whole (a_statement d) shape.Listed xs n ts) _ e)
+    list_imports strict d (node h xs n ts) e = absurd (refused_here strict (many (a_statement d)) h xs n ts refl e)
+
+    list_modules : (strict : Bool) (d : Depth) (t : Tree) → fits strict (many (a_statement d)) t ≡ true → is_among x (module_names t) ≡ shows_names k (ports true (children t))
+    unfolding module_names
+    list_modules strict d (node shape.Listed xs n ts) e = statements_shown k strict d ts (right (is_whole (a_statement d) shape.Listed xs n ts) _ e)
+    list_modules strict d (node h xs n ts) e = absurd (refused_here strict (many (a_statement d)) h xs n ts refl e)
+
+    list_less : (strict : Bool) (d : Depth) (t u : Tree) → fits strict (many (a_statement d)) t ≡ true → fits strict (many (a_statement d)) u ≡ true → ports true (children t) ≡ ports true (children u) → Less t u
+    list_less strict d t u e f same =
+        (λ g. ap (is_among x) (list_imports strict d t e ∙ ap all_imported_names same ∙ sym (list_imports strict d u f)) ∙ g, λ g. list_modules strict d t e ∙ ap (shows_names k) same ∙ sym (list_modules strict d u f) ∙ g)
+
+    items_less : {π : ℕ → Position} {ts us : Trees} → StepIn R π ts us → (strict : Bool) (d : Depth) → ((j : ℕ) → fits_place (π j) (one (a_statement d)) ≡ true) → fill strict (each (one (a_statement d))) ts ≡ true → AllLess ts us
+    items_less (first π t u ts z) strict d o e = both_less t u ts ts (statement_less z strict d (o 0) (left (fits strict (one (a_statement d)) t) _ e)) ((λ g. g), (λ g. g))
+    items_less (later π t ts us z) strict d o e = both_less t t ts us ((λ g. g), (λ g. g)) (items_less z strict d (λ j. o (suc j)) (right (fits strict (one (a_statement d)) t) _ e))
+
+    list_step : {p : Position} {t u : Tree} → Step R p t u → is_statement_list p ≡ true → (strict : Bool) (d : Depth) → fits_place p (many (a_statement d)) ≡ true → fits strict (many (a_statement d)) t ≡ true → Less t u
+    unfolding imported_names module_names
+    list_step (here p t u r) q strict d o e = list_less strict d t u e (shapes.fitting p t u r strict (many (a_statement d)) o e) (l.listed p t u q r strict d e true)
+    list_step (inside p shape.Listed xs n ts us z) q strict d o e = items_less z strict d (placed_below strict (many (a_statement d)) shape.Listed p (count ts) o) (right (is_whole (a_statement d) shape.Listed xs n ts) _ e)
+    list_step (inside p h xs n ts us z) q strict d o e = absurd (refused_here strict (many (a_statement d)) h xs n ts refl e)
+
+    -- ---- a program
+
+    statements_less : {π : ℕ → Position} {ts us : Trees} → StepIn R π ts us → is_statement_list (π 0) ≡ true → (strict : Bool) (d : Depth) → Placed π (these (many (a_statement d) ∷ [])) → fill strict (these (many (a_statement d) ∷ [])) ts ≡ true → AllLess ts us
+    statements_less (first π t u ts z) q strict d o e = both_less t u ts ts (list_step z q strict d o.0 (left (fits strict (many (a_statement d)) t) _ e)) ((λ g. g), (λ g. g))
+    statements_less (later π t ts us z) q strict d o e = absurd (no_step z (emptied strict ts (right (fits strict (many (a_statement d)) t) _ e)))
+
+    module_less : (ds : List (List ℕ)) (n : ℕ) (a b : Tree) → fits false (one a_program) (module_over ds n a) ≡ true → fits false (one a_program) (module_over ds n b) ≡ true → ports true (children a) ≡ ports true (children b) → Less (module_over ds n a) (module_over ds n b)
+    unfolding imported_names module_names
+    module_less ds n a b e f same =
+        let statements : Slot = many (a_statement in_module) in
+        both_less a b none none
+        (list_less true in_module a b (left (fits true statements a) _ (right (is_whole a_program (shape.Program true ds) [] n (a ▸ none)) _ e)) (left (fits true statements b) _ (right (is_whole a_program (shape.Program true ds) [] n (b ▸ none)) _ f)) same) ((λ g. g), (λ g. g))
+
+    -- what replaces a whole program is a module with its imports and exports
+    pub root_module : (p : Position) (t u : Tree) → R p t u → p ≡ Elsewhere → IsWellShaped t → KeepsModule t u
+    root_module p t u r q e = by (l.slots p t u r false (one a_program) (ap (λ o. fits_place o (one a_program)) q) e)
+      where
+        by : ((is_body_slot p (one a_program) ≡ true) ⊎ IsShownAlike (one a_program) t u) ⊎ KeepsHolder t u → KeepsModule t u
+        by (inl (inl c)) = absurd (true≢false (sym c))
+        by (inl (inr c)) = absurd (true≢false (sym c.0))
+        by (inr (inl f)) = absurd (refused_here false (one a_program) (shape.Function f.is_declared f.is_generator f.directives) [] (suc f.number) (f.name ▸ (f.parameters ▸ (f.earlier ▸ none))) refl (sym (ap (fits false (one a_program)) f.before) ∙ e))
+        by (inr (inr m)) = m
+
+    root_less : (p : Position) (t u : Tree) → R p t u → p ≡ Elsewhere → IsWellShaped t → Less t u
+    root_less p t u r q e =
+        let m = root_module p t u r q e in
+        let f : fits false (one a_program) u ≡ true = shapes.fitting p t u r false (one a_program) (ap (λ o. fits_place o (one a_program)) q) e in
+        subst (λ v. Less v u) (sym m.before) (subst (λ v. Less (module_over m.directives m.number m.earlier) v) (sym m.after)
+        (module_less m.directives m.number m.earlier m.later (sym (ap (fits false (one a_program)) m.before) ∙ e) (sym (ap (fits false (one a_program)) m.after) ∙ f) m.ported))
+
+    pub program_less : (p : Position) (t u : Tree) → Step R p t u → p ≡ Elsewhere → IsWellShaped t → Less t u
+    unfolding imported_names module_names
+    program_less _ _ _ (here p t u r) q e = root_less p t u r q e
+    program_less _ _ _ (inside p (shape.Program m ds) xs n ts us z) q e =
+        statements_less z refl (is_strict_in false (shape.Program m ds)) (if m then in_module else in_body) (placed_below false (one a_program) (shape.Program m ds) p (count ts) (ap (λ o. fits_place o (one a_program)) q))
+        (right (is_whole a_program (shape.Program m ds) xs n ts) _ e)
+    program_less _ _ _ (inside p h xs n ts us z) q e = absurd (refused_here false (one a_program) h xs n ts refl e)

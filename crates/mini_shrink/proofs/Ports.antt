@@ -1,33 +1,26 @@
--- A step in a program imports and exports what it did, and a step in a script gives it no more top names: by the places at which a relation rewrites.
-use Rattle.std.specs.Prelude.{ℕ, zero, suc, ◌≡◌, refl, ◌⊎◌, ◌||◌, ◌&&◌, ◌==◌, not, Bool, true, false, List, [], ◌∷◌, ◌++◌, None, if◌then◌else◌}
-use Rattle.std.proofs.Common.{ap, ◌∙◌, sym, subst, inl, inr, true≢false}
+-- A step in a program imports and exports what it did, and a step in a script gives it no more top
+-- names: by the places at which a relation rewrites.
+use Rattle.std.specs.Prelude.{ℕ, zero, suc, ◌≡◌, refl, ◌||◌, ◌&&◌, Bool, true, false, List, [], ◌∷◌, ◌++◌, None, if◌then◌else◌}
+use Rattle.std.proofs.Common.{ap, ◌∙◌, sym, subst, true≢false}
 use Rattle.std.proofs.lemmas.Bool.{eqb-true}
 use Rattle.std.proofs.lemmas.List.{append-nil}
 use Rattle.mini_model.specs.declared.name.Name.{Name}
-use Rattle.mini_model.specs.declared.place.Position.{Position}
-use Rattle.mini_model.specs.declared.place.Position.TheVariants.{Elsewhere, StatementList, CommaList, Stmt}
 use Rattle.mini_model.specs.declared.shape.Shape.{Shape}
 use Rattle.mini_model.specs.declared.shape.Shape.TheVariants as shape
-use Rattle.mini_model.specs.Tree.{Tree, Trees, node, none, ◌▸◌, count, shape_of, children}
-use Rattle.mini_model.specs.Rewriting.{Step, here, inside, StepIn, first, later}
-use Rattle.mini_accept.specs.WellShaped.{Depth, in_module, in_body, nested, Class, a_program, a_statement, an_import, an_export, a_module_name, an_exported_name, a_binding, a_string, an_exported_declaration, a_default_export, Slot, one, one_or_absent, many, Filling, these, each, filling_by, filling, none_if, in_depth, statement_slots, class_of, is_whole, is_strict_in, is_sloppy_function, has_names, has_its_number, has_plain_fields, has_its_parts, fits, fill, IsWellShaped}
+use Rattle.mini_model.specs.Tree.{Tree, Trees, node, none, ◌▸◌, shape_of}
+use Rattle.mini_accept.specs.WellShaped.{Depth, in_module, in_body, nested, Class, a_statement, an_import, an_export, a_module_name, an_exported_name, a_binding, a_string, an_exported_declaration, a_default_export, Slot, one, one_or_absent, many, these, each, filling_by, none_if, in_depth, statement_slots, is_whole, is_sloppy_function, has_names, has_its_number, has_plain_fields, has_its_parts, fits, fill}
 use Rattle.mini_laws.specs.declared.names.Declared.{Declared}
 use Rattle.mini_laws.specs.declared.names.Declared.TheVariants as declared
 use Rattle.mini_laws.specs.DeclaredNames.{names_of, first_names, all_names, body_names, own_names}
 use Rattle.mini_laws.specs.ScopeList.{by_symbol}
 use Rattle.mini_laws.specs.Mentions.{same_variable, is_among}
 use Rattle.mini_laws.specs.Foreign.{imported_names, all_imported_names}
-use Rattle.mini_laws.specs.Shared.{script_tops, module_names, all_module_names}
+use Rattle.mini_laws.specs.Shared.{module_names, all_module_names}
 use Rattle.mini_kept.specs.Frames.{showing, shown_from, is_port, declaration, own, ports, part, parts, in_full, keyed}
-use Rattle.mini_kept.specs.KeepsFrames.{KeepsPlaces, KeepsFunction, KeepsModule, NoPort, IsShownAlike, KeepsHolder, is_body_slot}
-use Rattle.mini_kept.specs.KeepsShapes.{KeepsShapes}
-use Rattle.mini_kept.specs.Placed.{fits_place}
 use Rattle.mini_kept.proofs.Bools.{left, right}
 use Rattle.mini_kept.proofs.Expressions.{refused_here}
-use Rattle.mini_kept.proofs.StepDeclares.{step_declares}
 use Rattle.mini_shrink.proofs.Alone.{nothing_there}
 use Rattle.mini_shrink.proofs.Finding.{any_both}
-use Rattle.mini_shrink.proofs.Owns.{or_implied}
 use Rattle.mini_shrink.proofs.Regulars.{no_import}
 
 -- ---- what an import shows in the frame of a program

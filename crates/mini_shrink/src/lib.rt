@@ -7,7 +7,7 @@ ghost use Rattle.mini_shrink.specs.Examples.{after_it};
 ghost use Rattle.mini_shrink.specs.Facts.{ReadsLessShrinks};
 ghost use Rattle.mini_shrink.specs.Regular.{EarlyByScopes, ForeignByScopes, ProgramsAreRegular};
 ghost use Rattle.mini_shrink.specs.Told.{ToldShrinks};
-ghost use Rattle.mini_shrink.specs.ToldOn.{LentShrinks, ShownShrinks, ToldIsSo, ToldOn, ToldWithin};
+ghost use Rattle.mini_shrink.specs.ToldOn.{PlacesShow, ToldIsSo, ToldOn, ToldWithin};
 
 use mini_laws::Rewrites;
 
@@ -39,8 +39,7 @@ pub fn foreign_by_scopes()
 pub fn told_on<R: Rewrites>()
     ensures so { ToldIsSo }
     ensures on { ToldOn R.gives }
-    ensures lent { LentShrinks R.gives }
-    ensures shown { ShownShrinks R.gives }
+    ensures shown { PlacesShow R.gives }
     ensures within { ToldWithin R.gives }
 {}
 
