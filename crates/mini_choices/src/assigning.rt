@@ -81,7 +81,7 @@ pub fn has_written_key(node: &Node) -> bool
         || is_computed_member(node) && is_written_key(node.child(1))
 }
 
-// The same where a scope declares x.
+// Whether it is a member with a key that is written out, of a name that a scope declares.
 fn is_member_of_name(node: &Node) -> bool
     ensures { result ≡ is_it_member_of_name node.now }
 {

@@ -231,7 +231,8 @@ fn remove_idle_in_head(alloc: Global, node: &mut Node, context: &TraverseCtx) ->
     }
 }
 
-// Or else one that the next declarator reads, whose initializer goes there.
+// From the head of a `for` a declarator goes that nothing else mentions, or else one that the next
+// declarator reads, whose initializer goes there.
 fn remove_in_head(alloc: Global, node: &mut Node, context: &TraverseCtx) -> bool
     requires head { row.has_head node.old ≡ true }
     requires parts { 0 < count (children node.old) }
@@ -335,9 +336,9 @@ pub fn is_function(node: &Node) -> bool
         && are_statements(node.child(2))
 }
 
-/// Of a function that is no arrow function, as `function f(a) { let x = b(); return x + a; }`,
-/// whose own name and whose parameters don't mention x either, wherever it stands. The answer says
-/// whether a name went; the only error is that memory runs out.
+/// In a function that is no arrow function, wherever it stands, rows 71 and 72 are made, as in
+/// `function f(a) { let x = b(); return x + a; }`: its own name and its parameters don't mention x
+/// either. The answer says whether a name went; the only error is that memory runs out.
 #[tactic(auto, using(mini_unused::proofs::Unused::same_parts, mini_unused::proofs::Unused::part_twice))]
 pub fn remove_unused_in_function(
     alloc: Global,
@@ -392,9 +393,9 @@ fn holds_statements(node: &Node) -> bool
     is_block(node) || holds_list(node)
 }
 
-/// Of a module, as `import "a"; const x = f(); g();`, in which nothing else mentions x, of a static
-/// block of a class, of each block of a `try`, and of a function that is exported. The answer says
-/// whether a name went; the only error is that memory runs out.
+/// In a module, a static block of a class, a block of a `try`, or a function that is exported rows
+/// 71 and 72 are made, as in `import "a"; const x = f(); g();`, in which nothing else mentions x.
+/// The answer says whether a name went; the only error is that memory runs out.
 #[tactic(auto, using(mini_unused::proofs::Unused::same_parts, mini_unused::proofs::Unused::part_twice))]
 pub fn remove_unused_in_module(
     alloc: Global,

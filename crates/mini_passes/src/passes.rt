@@ -106,7 +106,8 @@ fn go_on<C: Renews, A: Rule<C>, B: Rule<C>>(
     Ok(Some(Passes { passes, settled }))
 }
 
-// The same, where the program is left as it was where what was known of bodies didn't stay so.
+// The pass with this number and those after it; the program is left as it was where what was known
+// of bodies didn't stay so.
 fn go_on_or_stay<C: Renews, A: Rule<C>, B: Rule<C>>(
     first: &A,
     second: &B,

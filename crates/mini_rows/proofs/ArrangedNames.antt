@@ -31,13 +31,13 @@ opened_by [] zero e = refl
 opened_by [] (suc j) e = refl
 opened_by (x ∷ xs) j e = absurd (cc e)
 
-nothing_opened : (v : Use) (h : Head) (ts : Trees) → Plain h ts → (j : ℕ) → opened v (shape_by h) ts j ≡ []
+pub nothing_opened : (v : Use) (h : Head) (ts : Trees) → Plain h ts → (j : ℕ) → opened v (shape_by h) ts j ≡ []
 unfolding scopes_by
 nothing_opened v Block none p j = refl
 nothing_opened v Block (t ▸ ts) p j = opened_by (lexical_names t) j p.0
 nothing_opened v h ts p j = refl
 
-used_below : (v : Use) (h : Head) (c : Asked) (j : ℕ) → use_of (shape_by h) (use_by v c) j ≡ use_by v (asked_below h c j)
+pub used_below : (v : Use) (h : Head) (c : Asked) (j : ℕ) → use_of (shape_by h) (use_by v c) j ≡ use_by v (asked_below h c j)
 used_below v AList AsWhole j = refl
 used_below v AList c j = refl
 used_below v (Call b) c zero = refl

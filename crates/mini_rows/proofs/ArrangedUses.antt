@@ -29,7 +29,7 @@ unfolding Scoped
 scoped_anyhow u v x y env (node h xs n ts) e c a =
     (subst (λ xs. OwnScoped v env h xs ts) (sym c.0) (own_none v env h ts (unscoped_undeclaring h e)), scoped_as (opened u h ts) (opened v h ts) (use_of h u) (use_of h v) (same_scopes u v h e ts) (λ j. same_use u v x y h j e) 0 env ts a.1)
 
-statement_use : (v : Use) → is_statement_use v ≡ true → (c : Asked) → is_statement_asked c ≡ true → is_statement_use (use_by v c) ≡ true
+pub statement_use : (v : Use) → is_statement_use v ≡ true → (c : Asked) → is_statement_asked c ≡ true → is_statement_use (use_by v c) ≡ true
 statement_use v x AsWholeItem e = x
 statement_use v x AsBranch e = refl
 statement_use v x AsItem e = refl

@@ -137,11 +137,11 @@ module _ (J : Leap → Type 0) (Q : Asked → Tree → Type 0) where
       let (x, y) = and_parts (stands_in gs h) (has_each gs hs) e in
       (one_each ps gs h x a, some_each ps gs hs y a)
 
-  first_all : (c : Asked) (ts us : Trees) → All Q c (append ts us) → All Q c ts
+  pub first_all : (c : Asked) (ts us : Trees) → All Q c (append ts us) → All Q c ts
   first_all c none us a = tt
   first_all c (t ▸ ts) us a = (a.0, first_all c ts us a.1)
 
-  second_all : (c : Asked) (ts us : Trees) → All Q c (append ts us) → All Q c us
+  pub second_all : (c : Asked) (ts us : Trees) → All Q c (append ts us) → All Q c us
   second_all c none us a = a
   second_all c (t ▸ ts) us a = second_all c ts us a.1
 
@@ -149,11 +149,11 @@ module _ (J : Leap → Type 0) (Q : Asked → Tree → Type 0) where
   both_all c none us a b = b
   both_all c (t ▸ ts) us a b = (a.0, both_all c ts us a.1 b)
 
-  all_of : (c : Asked) (i : ℕ) (ts : Trees) → Below Q (λ j. c) i ts → All Q c ts
+  pub all_of : (c : Asked) (i : ℕ) (ts : Trees) → Below Q (λ j. c) i ts → All Q c ts
   all_of c i none a = tt
   all_of c i (t ▸ ts) a = (a.0, all_of c (suc i) ts a.1)
 
-  of_all : (c : Asked) (i : ℕ) (ts : Trees) → All Q c ts → Below Q (λ j. c) i ts
+  pub of_all : (c : Asked) (i : ℕ) (ts : Trees) → All Q c ts → Below Q (λ j. c) i ts
   of_all c i none a = tt
   of_all c i (t ▸ ts) a = (a.0, of_all c (suc i) ts a.1)
 
@@ -170,7 +170,7 @@ module _ (J : Leap → Type 0) (Q : Asked → Tree → Type 0) where
       to_parts_from cs i end p a = tt
       to_parts_from cs i (s ▹ ss) p a = both_each ps (parts_of (cs i) s) (parts_from cs (suc i) ss) (to_parts (cs i) s p.0 a.0) (to_parts_from cs (suc i) ss p.1 a.1)
 
-      to_parts_in : (c : Asked) (is : Items) → ItemsPlain ps is → All Q c (items_filled ps is) → Each J Q ps (parts_in c is)
+      pub to_parts_in : (c : Asked) (is : Items) → ItemsPlain ps is → All Q c (items_filled ps is) → Each J Q ps (parts_in c is)
       to_parts_in c no_items p a = tt
       to_parts_in c (item s is) p a = both_each ps (parts_of c s) (parts_in c is) (to_parts c s p.0 a.0) (to_parts_in c is p.1 a.1)
       to_parts_in c (items i is) p a = (first_all c (list_at ps.lists i) (items_filled ps is) a, to_parts_in c is p (second_all c (list_at ps.lists i) (items_filled ps is) a))
@@ -187,7 +187,7 @@ module _ (J : Leap → Type 0) (Q : Asked → Tree → Type 0) where
       of_parts_from cs i (s ▹ ss) p a =
           (of_parts (cs i) s p.0 (first_each ps (parts_of (cs i) s) (parts_from cs (suc i) ss) a), of_parts_from cs (suc i) ss p.1 (second_each ps (parts_of (cs i) s) (parts_from cs (suc i) ss) a))
 
-      of_parts_in : (c : Asked) (is : Items) → ItemsPlain ps is → Each J Q ps (parts_in c is) → All Q c (items_filled ps is)
+      pub of_parts_in : (c : Asked) (is : Items) → ItemsPlain ps is → Each J Q ps (parts_in c is) → All Q c (items_filled ps is)
       of_parts_in c no_items p a = tt
       of_parts_in c (item s is) p a = (of_parts c s p.0 (first_each ps (parts_of c s) (parts_in c is) a), of_parts_in c is p.1 (second_each ps (parts_of c s) (parts_in c is) a))
       of_parts_in c (items i is) p a = both_all c (list_at ps.lists i) (items_filled ps is) a.0 (of_parts_in c is p a.1)

@@ -30,7 +30,7 @@ module _ (k : ℕ) where
       by false f = f
       by true f = absurd (true≢false (sym (eq-eqb k m (sym (eqb-true m k f))) ∙ e))
 
-  pub out : (ys : List Variable) → NoneIn D ys → Out ys
+  out : (ys : List Variable) → NoneIn D ys → Out ys
   out [] a = refl
   out (y ∷ ys) a = ap (λ b. choose b true (is_in (Symbol k) ys)) (turned y a.0) ∙ out ys a.1
 

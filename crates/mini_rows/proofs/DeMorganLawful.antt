@@ -115,18 +115,18 @@ alone strict (one_or_absent k) x e = let a = alone_in strict k x e in record { i
 alone strict s x e = absurd (refused_here strict s shape.ExpressionStatement [] 0 (x ▸ none) refl e)
 
 -- an expression in the head of a `for` stands there as anywhere
-record InHead (x : Tree) : Type 0 where
+pub record InHead (x : Tree) : Type 0 where
   quiet : IsQuiet x
   inner : is_inner (shape_of x) ≡ false
   piece : is_piece (shape_of x) ≡ false
   begins : (strict : Bool) → fits strict (one_or_absent an_init) x ≡ fits strict expression x
   turns : (strict : Bool) → fits strict (one_or_absent an_expression) x ≡ fits strict expression x
 
-in_head : (before : Trees) (o : LogicalOperator) (a b : Tree) → InHead (ended before (logical o a b))
+pub in_head : (before : Trees) (o : LogicalOperator) (a b : Tree) → InHead (ended before (logical o a b))
 in_head none o a b = record { quiet = refl; inner = refl; piece = refl; begins = λ strict. refl; turns = λ strict. refl }
 in_head (p ▸ ps) o a b = record { quiet = refl; inner = refl; piece = refl; begins = λ strict. refl; turns = λ strict. refl }
 
-place_inner : (strict : Bool) (s : Slot) (v : VoidPlace) (x : Tree) → InHead x → fits strict s (void_of v x) ≡ true → fits strict expression x ≡ true
+pub place_inner : (strict : Bool) (s : Slot) (v : VoidPlace) (x : Tree) → InHead x → fits strict s (void_of v x) ≡ true → fits strict expression x ≡ true
 place_inner strict s Alone x h e = (alone strict s x e).inner
 place_inner strict s (Begins t u c) x h e = sym (h.begins strict) ∙ of_init strict x t u c (as_statement strict s (for_loop x t u c) refl refl e)
 place_inner strict s (Turns i t c) x h e = sym (h.turns strict) ∙ of_update strict i t x c (as_statement strict s (for_loop i t x c) refl refl e)

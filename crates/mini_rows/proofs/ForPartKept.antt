@@ -100,7 +100,7 @@ plain_shape_is_quiet shape.AssignmentTargetPropertyIdentifier b e = absurd (true
 plain_shape_is_quiet (shape.AssignmentTargetPropertyProperty computed) b e = absurd (true≢false (sym e))
 plain_shape_is_quiet h b e = refl
 
-plain_is_quiet : (t : Tree) → is_plain_part t ≡ true → IsQuiet t
+pub plain_is_quiet : (t : Tree) → is_plain_part t ≡ true → IsQuiet t
 plain_is_quiet (node h xs n ts) e = plain_shape_is_quiet h _ e
 
 plain_piece : (h : Shape) (b : Bool) → is_plain_part_by h b ≡ true → is_piece h ≡ false

@@ -1,5 +1,5 @@
 -- What neither declares nor writes a name spares its variable, wherever a value is asked of it.
-use Rattle.std.proofs.Common.{◌≡◌, ℕ, zero, suc, Bool, true, false, List, [], Option, Some, None, refl, true≢false}
+use Rattle.std.proofs.Common.{◌≡◌, ℕ, zero, suc, Bool, true, false, List, [], Option, Some, None, refl, subst, true≢false}
 use Rattle.std.specs.Prelude.{◌&&◌, length, if◌then◌else◌}
 use Rattle.mini_model.specs.declared.kind.VariableDeclarationKind.{VariableDeclarationKind}
 use Rattle.mini_model.specs.declared.name.Name.{Name}
@@ -15,11 +15,11 @@ use Rattle.mini_laws.specs.Demand.{Want, Val, Test, Unused, Tail, LoopTail, Dema
 use Rattle.mini_laws.specs.Naming.{Declared, Variables, AClass, Facts, first_facts, Summary, summaries, facts, written_of, naming}
 use Rattle.mini_laws.specs.Asking.{pass, demand, first_demand, logical_demand, operand_demand, chained, parts_demand, sequence_demand, tail_demand, tail_of, try_demand, do_demand, head_demand, for_demand, declaration_demand, lexically, exported_demand, list_demand}
 use Rattle.mini_laws.specs.Steady.{SparedBy, Spares, AllSpare}
-use Rattle.mini_rows.specs.Past.{is_binding, has_symbol, binds, any_bind, is_writer, written_names, writes, any_write}
-use Rattle.mini_rows.specs.Unused.{is_like_one, any_names}
-use Rattle.mini_rows.proofs.Avoiding.{Out, AllWithout, out, spared_by, all_spare}
+use Rattle.mini_rows.specs.Past.{is_binding, has_symbol, binds, any_bind, is_writer, written_names, has_its_symbol, writes, any_write}
+use Rattle.mini_rows.specs.Unused.{any_names}
+use Rattle.mini_rows.proofs.Avoiding.{Out, AllWithout, spared_by, all_spare}
 use Rattle.mini_rows.proofs.Unbound.{out_names, all_without}
-use Rattle.mini_rows.proofs.UnusedNames.{or_parts, none_in, all_avoided}
+use Rattle.mini_rows.proofs.UnusedNames.{or_parts, all_avoided}
 
 -- it isn't asked for what is written
 abbrev pub Untargeted : Demand → Type 0
@@ -166,8 +166,8 @@ module _ (y : Name) (k : ℕ) (named : y.symbol ≡ Some (record { 0 = k })) whe
     pub left_alone : (t : Tree) → binds k t ≡ false → writes y t ≡ false → (q : Demand) → Untargeted q → Spares (Symbol k) q t
     left_alone (node h xs n ts) b w q u =
         let (own, below) = or_parts (is_binding h && has_symbol k xs) (any_bind k ts) b in
-        let (other, parts) = or_parts (is_like_one y (written_names h xs)) (if is_writer h then any_names y ts else any_write y ts) w in
-        let away = out k (variables (written_names h xs)) (none_in y k named (written_names h xs) other) in
+        let (other, parts) = or_parts (has_its_symbol y.symbol (written_names h xs)) (if is_writer h then any_names y ts else any_write y ts) w in
+        let away = out_names k (written_names h xs) (subst (λ o. has_its_symbol o (written_names h xs) ≡ false) named other) in
         (node_spared k h q xs n (summaries ts) own away u (all_without k ts below), parts_alone h (facts ts) q u ts parts (λ f v. all_left_alone ts below f (demand h (facts ts) q) v))
 
     all_left_alone : (ts : Trees) → any_bind k ts ≡ false → any_write y ts ≡ false → (σ : ℕ → Demand) → ((i : ℕ) → Untargeted (σ i)) → AllSpare (Symbol k) σ ts

@@ -47,7 +47,7 @@ module _ (x : Name) (k : ℕ) (e : x.symbol ≡ symbol k) where
   another s None f = refl
   another s (Some y) f = f
 
-  pub none_in : (xs : List Name) → is_like_one x xs ≡ false → NoneIn (alone (Variable k)) (variables xs)
+  none_in : (xs : List Name) → is_like_one x xs ≡ false → NoneIn (alone (Variable k)) (variables xs)
   none_in [] f = tt
   none_in (y ∷ ys) f =
       let (one, others) = or_parts (same_text x.spelling y.spelling || is_same x.symbol y.symbol) (is_like_one x ys) f in

@@ -30,7 +30,7 @@ use Rattle.mini_rows.specs.Declarations.{declarator}
 use Rattle.mini_rows.specs.Inside.{is_lexical_shape}
 use Rattle.mini_rows.specs.Switches.{Liberties}
 use Rattle.mini_rows.specs.Nesting.{fits_in}
-use Rattle.mini_rows.specs.Unused.{resolved, is_like_one, names, any_names, declared_among, declared_left, lets_go, begins_with, suits, is_sure, is_placed, is_first, put_first, is_constant, is_plain_assignment, is_word, is_member, is_field, Gathered, OfValues, OfTexts, of_entries, gathered_below, reads_head, evaluated, is_declarator, declares_list, is_childless, may_move, statements, function_with}
+use Rattle.mini_rows.specs.Unused.{resolved, names, any_names, declared_among, declared_left, lets_go, begins_with, suits, is_sure, is_placed, is_first, put_first, is_constant, is_plain_assignment, is_word, is_member, is_field, Gathered, OfValues, OfTexts, of_entries, gathered_below, reads_head, evaluated, is_declarator, declares_list, is_childless, may_move, statements, function_with}
 
 -- ---- what may be evaluated before the initializer
 
@@ -122,10 +122,15 @@ abbrev pub written_names : Shape → List Name → List Name
 written_names shape.VariableDeclarator xs = xs
 written_names h xs = []
 
+-- one of them has this symbol
+abbrev pub has_its_symbol : Option SymbolId → List Name → Bool
+has_its_symbol (Some s) xs = has_symbol s.0 xs
+has_its_symbol None xs = false
+
 -- a name like it stands in such a node
 abbrev mutual
   pub writes : Name → Tree → Bool
-  writes x (node h xs n ts) = is_like_one x (written_names h xs) || (if is_writer h then any_names x ts else any_write x ts)
+  writes x (node h xs n ts) = has_its_symbol x.symbol (written_names h xs) || (if is_writer h then any_names x ts else any_write x ts)
 
   pub any_write : Name → Trees → Bool
   any_write x none = false

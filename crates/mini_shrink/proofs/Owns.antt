@@ -201,7 +201,7 @@ module _ (R : Position → Tree → Tree → Type 0) where
   -- ---- what stands below a step
 
   module _ (a : AsksFewerThere R) where
-    callee_less : {p : Position} {t u : Tree} → Step R p t u → p ≡ Expr callee_seat → is_eval_callee u ≡ true → is_eval_callee t ≡ true
+    pub callee_less : {p : Position} {t u : Tree} → Step R p t u → p ≡ Expr callee_seat → is_eval_callee u ≡ true → is_eval_callee t ≡ true
     callee_less (here p n w r) e k = a.callee n w (subst (λ q. R q n w) e r) k
     callee_less (inside p shape.Identifier xs n ts us z) e k = k
     callee_less (inside p h xs n ts us z) e k = absurd (cc k)

@@ -56,7 +56,7 @@ listed_same shape.SwitchStatement π (a ▸ (t ▸ ts)) (b ▸ (u ▸ us)) k = k
 listed_same shape.CatchClause π (t ▸ ts) (u ▸ us) k = k.0.bound
 listed_same h π ts us k = refl
 
-looks_up : (f : Fact) (b s : ℕ) → LooksUp (question f b s)
+pub looks_up : (f : Fact) (b s : ℕ) → LooksUp (question f b s)
 looks_up Written b s = mentions_look_up (is_write (by_symbol s))
 looks_up WrittenElsewhere b s = mentions_look_up (λ m. is_write (by_symbol s) m && is_elsewhere b m.around)
 looks_up Given b s = gives_look_up (is_write (by_symbol s))
@@ -81,7 +81,7 @@ module _ (R : Position → Tree → Tree → Type 0) where
     ends = λ c t u z. λ j. c.ordered && (is_among (by_symbol s) (z.lexical j) || is_among (by_symbol s) (z.bound j));
   }
 
-  own_shrinks : KeepsShapes R → AsksFewerThere R → (f : Fact) (b s : ℕ) → OwnShrinks R (question f b s)
+  pub own_shrinks : KeepsShapes R → AsksFewerThere R → (f : Fact) (b s : ℕ) → OwnShrinks R (question f b s)
   own_shrinks k a Written b s = mentions_shrink R (is_write (by_symbol s))
   own_shrinks k a WrittenElsewhere b s = mentions_shrink R (λ m. is_write (by_symbol s) m && is_elsewhere b m.around)
   own_shrinks k a Given b s = gives_shrink R k (is_write (by_symbol s))

@@ -5,12 +5,12 @@ use Rattle.mini_model.specs.declared.name.Name.{Name}
 use Rattle.mini_model.specs.Tree.{Tree, Trees, node, count, child_or_absent, children, shape_of}
 use Rattle.mini_node.specs.Children.{names_of, rest_children}
 use Rattle.mini_node.specs.Walks.{from_first, next_child, no_rest}
-use Rattle.mini_rows.specs.Past.{is_writer, written_names, writes, any_write}
-use Rattle.mini_rows.specs.Unused.{is_like_one, any_names}
+use Rattle.mini_rows.specs.Past.{is_writer, written_names, has_its_symbol, writes, any_write}
+use Rattle.mini_rows.specs.Unused.{any_names}
 
 module _ (x : Name) where
   abbrev own : Tree → Bool
-  own n = is_like_one x (written_names (shape_of n) (names_of n))
+  own n = has_its_symbol x.symbol (written_names (shape_of n) (names_of n))
 
   opened : (n : Tree) → writes x n ≡ (own n || (if is_writer (shape_of n) then any_names x (children n) else any_write x (children n)))
   opened (node h xs m ts) = refl

@@ -19,7 +19,7 @@ fn is_symbol(symbol: SymbolId, other: Option<SymbolId>) -> bool
 }
 
 #[tactic(auto, using(crate::proofs::BoundNames::or_none))]
-fn has_symbol(symbol: SymbolId, name: &Option<Name>) -> bool
+pub fn has_symbol(symbol: SymbolId, name: &Option<Name>) -> bool
     ensures { result ≡ reading.has_symbol symbol.0 (names name.now) }
 {
     match name {

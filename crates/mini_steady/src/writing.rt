@@ -2,13 +2,13 @@
 
 ghost use Rattle.std.specs.Prelude.{◌≡◌};
 ghost use Rattle.mini_model.specs.Tree.{shape_of};
-ghost use Rattle.mini_node.specs.Children.{names_of};
+ghost use Rattle.mini_node.specs.Children.{names, names_of};
 ghost use Rattle.mini_rows.specs.Past as reading;
-ghost use Rattle.mini_rows.specs.Unused.{is_like_one};
 
+use crate::bindings::has_symbol;
 use mini_model::{Name, Shape};
 use mini_node::{Node, Nodes};
-use mini_unused::{is_like, is_mentioned_from};
+use mini_unused::is_mentioned_from;
 
 // Whether a node of this shape writes a part of it.
 fn is_writer(shape: &Shape) -> bool
@@ -23,13 +23,23 @@ fn is_writer(shape: &Shape) -> bool
     )
 }
 
-// Whether the node is a declarator that carries a name like this one: that of the variable that it
-// writes.
+// Whether the other name has the symbol of this one.
+fn has_its_symbol(name: &Name, other: &Option<Name>) -> bool
+    ensures { result ≡ reading.has_its_symbol name.now.symbol (names other.now) }
+{
+    match name.symbol {
+        Some(symbol) => has_symbol(symbol, other),
+        None => false,
+    }
+}
+
+// Whether the node is a declarator that carries a name with the symbol of this one: that of the
+// variable that it writes.
 fn is_own_write(name: &Name, node: &Node) -> bool
-    ensures { result ≡ is_like_one name.now (reading.written_names (shape_of node.now) (names_of node.now)) }
+    ensures { result ≡ reading.has_its_symbol name.now.symbol (reading.written_names (shape_of node.now) (names_of node.now)) }
 {
     match node.shape() {
-        Shape::VariableDeclarator => is_like(name, node.name()),
+        Shape::VariableDeclarator => has_its_symbol(name, node.name()),
         _ => false,
     }
 }

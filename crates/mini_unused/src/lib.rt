@@ -31,7 +31,7 @@ pub use declarations::{
 pub use evals::{either_has_eval, has_eval};
 pub use first_reads::{is_childless, is_first, is_member};
 pub use heads::{evaluated, reads_head};
-pub use mentions::{is_like, is_mentioned, is_mentioned_before, is_mentioned_from};
+pub use mentions::{is_mentioned, is_mentioned_before, is_mentioned_from};
 pub use names::{RemoveUnusedNames, remove_unused_name};
 pub use next_uses::{
     is_declarator, is_mentioned_beside, is_mentioned_elsewhere, next_of, substitute_next,

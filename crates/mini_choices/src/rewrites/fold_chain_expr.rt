@@ -51,7 +51,7 @@ fn base(node: &Node) -> &Node
     base(node.child(0))
 }
 
-// The same, taken out of them.
+// What stands before the links, taken out of them.
 #[tactic(auto, using(crate::proofs::ChainEnds::none_before, crate::proofs::ChainEnds::below_before))]
 fn taken_base(node: Node) -> Node
     ensures { result ≡ base_of node }

@@ -255,7 +255,7 @@ fn chain(alloc: Global, test: Node, read: Node) -> Result<Node, OutOfMemory>
     Ok(Node::new(Shape::ChainExpression, of_one(alloc, links)?))
 }
 
-// That chain, behind a `0` where a reference is asked.
+// The chain of these links over what a test compares, behind a `0` where a reference is asked.
 fn kept_chain(alloc: Global, test: Node, read: Node, guard: Guard) -> Result<Node, OutOfMemory>
     ensures { IfOk result (λ w. w ≡ kept_by_value guard (chain_of (optional_over_it (part test 0) read))) }
 {

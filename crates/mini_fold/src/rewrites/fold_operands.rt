@@ -527,7 +527,7 @@ pub fn fold_kept(
     Ok(false)
 }
 
-// The same with the number on either side: `a | 0` of `0 ^ a`
+// `a | 0` of bits that stay, with the number on either side: of `a << 0`, and of `0 ^ a`.
 pub fn fold_bits(
     alloc: Global,
     node: &mut Node,
@@ -650,8 +650,8 @@ fn fold_masks(
     fold_sides(alloc, node, seat, operator)
 }
 
-// The same where this operator of bits stands over the same one, and else by what is known of an
-// operand.
+// `a & 2` of `a & 6 & 3`, where this operator of bits stands over the same one, and else by what is
+// known of an operand.
 fn fold_mask(
     alloc: Global,
     node: &mut Node,

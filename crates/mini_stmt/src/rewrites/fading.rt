@@ -145,7 +145,7 @@ fn declarator(alloc: Global, kind: VariableDeclarationKind, name: Name) -> Resul
     Ok(Node::new(Shape::VariableDeclarator, children))
 }
 
-// Such a declarator of each name.
+// A declarator of each name: `x`, or `x = 0`.
 fn declarators(
     alloc: Global,
     kind: VariableDeclarationKind,

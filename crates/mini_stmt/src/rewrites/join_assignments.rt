@@ -189,7 +189,7 @@ fn holds(node: &Node) -> bool
     loops_first(node) || holds_plainly(node)
 }
 
-// That expression.
+// The expression that a statement evaluates first.
 fn held(node: &Node) -> &Node
     ensures { result.now ≡ row.held node.now }
 {
@@ -199,7 +199,7 @@ fn held(node: &Node) -> &Node
     held_plainly(node)
 }
 
-// That of any other.
+// The expression that a statement other than a `for` over a `var` evaluates first.
 fn held_plainly(node: &Node) -> &Node
     ensures { result.now ≡ row.held_plainly node.now }
 {
@@ -312,7 +312,7 @@ fn split(alloc: Global, sequence: Node) -> Result<(Node, Node), OutOfMemory>
     Ok((value, rest))
 }
 
-// The same of a sequence that is a child.
+// `b`, and the child with `c`, of a child `(a = b, c)`.
 #[tactic(auto, using(crate::proofs::Parts::same_parts, crate::proofs::Parts::part_twice))]
 fn leave_child(alloc: Global, mut next: Node, at: usize) -> Result<(Node, Node), OutOfMemory>
     requires within { at < count (children next) }
@@ -325,7 +325,7 @@ fn leave_child(alloc: Global, mut next: Node, at: usize) -> Result<(Node, Node),
     Ok((value, over_child(next, at, rest)))
 }
 
-// The same of the first initializer of a declaration.
+// `b`, and the declaration with `c`, of one whose first initializer is `(a = b, c)`.
 #[tactic(auto, using(crate::proofs::Parts::same_parts, crate::proofs::Parts::part_twice))]
 fn leave_first(alloc: Global, mut next: Node) -> Result<(Node, Node), OutOfMemory>
     requires some { 0 < count (children next) }
@@ -342,7 +342,7 @@ fn leave_first(alloc: Global, mut next: Node) -> Result<(Node, Node), OutOfMemor
     Ok((value, over_child(next, 0, others)))
 }
 
-// The same of the first initializer of a `var` in the head of a `for`.
+// `b`, and the `for` with `c`, of a `for` over a `var` whose first initializer is `(a = b, c)`.
 #[tactic(auto, using(crate::proofs::Parts::same_parts, crate::proofs::Parts::part_twice))]
 fn leave_looped(alloc: Global, mut next: Node) -> Result<(Node, Node), OutOfMemory>
     requires some { 0 < count (children next) }
@@ -358,7 +358,7 @@ fn leave_looped(alloc: Global, mut next: Node) -> Result<(Node, Node), OutOfMemo
     Ok((value, over_child(next, 0, rest)))
 }
 
-// The same of the sequence that a statement holds.
+// `b`, and the statement with `c`, of one that holds `(a = b, c)`.
 fn leave_held(alloc: Global, next: Node) -> Result<(Node, Node), OutOfMemory>
     requires { row.holds_sequence next ≡ true }
     ensures value { IfOk result (λ made. made.0 ≡ part (part (part (row.held next) 0) 0) 1) }
@@ -370,7 +370,7 @@ fn leave_held(alloc: Global, next: Node) -> Result<(Node, Node), OutOfMemory>
     leave_plainly(alloc, next)
 }
 
-// And of any other.
+// `b`, and the statement with `c`, of any other that begins with `(a = b, c)`.
 fn leave_plainly(alloc: Global, next: Node) -> Result<(Node, Node), OutOfMemory>
     requires whole { row.holds_sequence next ≡ true }
     requires plain { row.loops_first next ≡ false }
@@ -499,7 +499,8 @@ fn enters(first: &Node, next: &Node) -> bool
     enters_at(first, next).is_some()
 }
 
-// Either of them.
+// Whether a `var` goes into the head of the next statement, or an assignment that begins that goes
+// into it.
 fn joins_var(options: CompressOptions, first: &Node, next: &Node) -> bool
     ensures { result ≡ row.joins_var (switches_of options) first.now next.now }
 {

@@ -1,0 +1,90 @@
+-- All families of which each row asks less, as one.
+use Rattle.std.specs.Prelude.{◌⊎◌}
+use Rattle.mini_model.specs.declared.place.Position.{Position}
+use Rattle.mini_model.specs.Tree.{Tree}
+use Rattle.mini_laws.specs.Value.{VariableSet}
+use Rattle.mini_shrink.specs.Facts.{ReadsLess}
+use Rattle.mini_model.specs.Redex.{Contracts}
+use Rattle.mini_rows.specs.Spellings.{SpellingContracts}
+use Rattle.mini_rows.specs.SpellKeys.{KeyContracts}
+use Rattle.mini_rows.specs.Choices.{ChoiceContracts}
+use Rattle.mini_rows.specs.Folding.{FoldingContracts}
+use Rattle.mini_rows.specs.Turns.{TurnContracts}
+use Rattle.mini_rows.specs.Constants.{ConstantContracts}
+use Rattle.mini_rows.specs.Booleans.{BooleanContracts}
+use Rattle.mini_rows.specs.DeMorgan.{DeMorganContracts}
+use Rattle.mini_rows.specs.Sequences.{SequenceContracts}
+use Rattle.mini_rows.specs.Operands.{OperandContracts}
+use Rattle.mini_rows.specs.Negations.{NegationContracts}
+use Rattle.mini_rows.specs.Templates.{TemplateContracts}
+use Rattle.mini_rows.specs.Writes.{WriteContracts}
+use Rattle.mini_less.specs.Families.{WholeFamiliesReadLess}
+use Rattle.mini_less.proofs.FirstRowsLess.{first_rows_read_less}
+use Rattle.mini_less.proofs.SpellingsLess.{spellings_read_less}
+use Rattle.mini_less.proofs.KeysLess.{keys_read_less}
+use Rattle.mini_less.proofs.ChoicesLess.{choices_read_less}
+use Rattle.mini_less.proofs.FoldingsLess.{foldings_read_less}
+use Rattle.mini_less.proofs.TurnsLess.{turns_read_less}
+use Rattle.mini_less.proofs.ConstantsLess.{constants_read_less}
+use Rattle.mini_less.proofs.BooleansLess.{booleans_read_less}
+use Rattle.mini_less.proofs.DeMorganLess.{de_morgan_reads_less}
+use Rattle.mini_less.proofs.SequencesLess.{sequences_read_less}
+use Rattle.mini_less.proofs.OperandsLess.{operands_read_less}
+use Rattle.mini_less.proofs.NegationsLess.{negations_read_less}
+use Rattle.mini_less.proofs.TemplatesLess.{templates_read_less}
+use Rattle.mini_less.proofs.WritesLess.{writes_read_less}
+use Rattle.mini_less.proofs.Joined.{reads_less_joins}
+
+module _ (W : VariableSet) where
+  abbrev From12 : Position → Tree → Tree → Type 0
+  From12 p n w = TemplateContracts p n w ⊎ WriteContracts W p n w
+
+  abbrev From11 : Position → Tree → Tree → Type 0
+  From11 p n w = NegationContracts p n w ⊎ From12 p n w
+
+  abbrev From10 : Position → Tree → Tree → Type 0
+  From10 p n w = OperandContracts p n w ⊎ From11 p n w
+
+  abbrev From9 : Position → Tree → Tree → Type 0
+  From9 p n w = SequenceContracts p n w ⊎ From10 p n w
+
+  abbrev From8 : Position → Tree → Tree → Type 0
+  From8 p n w = DeMorganContracts p n w ⊎ From9 p n w
+
+  abbrev From7 : Position → Tree → Tree → Type 0
+  From7 p n w = BooleanContracts p n w ⊎ From8 p n w
+
+  abbrev From6 : Position → Tree → Tree → Type 0
+  From6 p n w = ConstantContracts p n w ⊎ From7 p n w
+
+  abbrev From5 : Position → Tree → Tree → Type 0
+  From5 p n w = TurnContracts p n w ⊎ From6 p n w
+
+  abbrev From4 : Position → Tree → Tree → Type 0
+  From4 p n w = FoldingContracts p n w ⊎ From5 p n w
+
+  abbrev From3 : Position → Tree → Tree → Type 0
+  From3 p n w = ChoiceContracts p n w ⊎ From4 p n w
+
+  abbrev From2 : Position → Tree → Tree → Type 0
+  From2 p n w = KeyContracts p n w ⊎ From3 p n w
+
+  abbrev From1 : Position → Tree → Tree → Type 0
+  From1 p n w = SpellingContracts p n w ⊎ From2 p n w
+
+pub whole_families_read_less : WholeFamiliesReadLess
+whole_families_read_less W =
+    reads_less_joins Contracts (From1 W) first_rows_read_less
+    (reads_less_joins SpellingContracts (From2 W) spellings_read_less
+    (reads_less_joins KeyContracts (From3 W) keys_read_less
+    (reads_less_joins ChoiceContracts (From4 W) choices_read_less
+    (reads_less_joins FoldingContracts (From5 W) foldings_read_less
+    (reads_less_joins TurnContracts (From6 W) turns_read_less
+    (reads_less_joins ConstantContracts (From7 W) constants_read_less
+    (reads_less_joins BooleanContracts (From8 W) booleans_read_less
+    (reads_less_joins DeMorganContracts (From9 W) de_morgan_reads_less
+    (reads_less_joins SequenceContracts (From10 W) sequences_read_less
+    (reads_less_joins OperandContracts (From11 W) operands_read_less
+    (reads_less_joins NegationContracts (From12 W) negations_read_less
+    (reads_less_joins TemplateContracts (WriteContracts W) templates_read_less
+    (writes_read_less W)))))))))))))

@@ -1,0 +1,5 @@
+pub mod Families
+pub mod Flags
+pub mod Less
+pub mod Neighbours
+pub mod Rebuilt

@@ -1,0 +1,114 @@
+//! What each family of rewrites has to show for Shared and Foreign to shrink. Each function's contract is a law, and its body is empty.
+#![tactic(auto)]
+
+ghost use Rattle.mini_less.specs.Families.{ConstantsReadLess, SequencesReadLess, TemplatesReadLess, BooleansReadLess, NegationsReadLess, ChoicesReadLess, WritesReadLess, KeysReadLess, FoldingsReadLess, DeMorganReadsLess, WholeFamiliesReadLess, IfRowsLess, FirstRowsReadLess, OperandsReadLess, SpellingsReadLess, ReadsLessJoins, ReadsLessNarrows, ListRowsLess, MoreRowsLess, TurnsReadLess, TurnsShrink};
+ghost use Rattle.mini_less.specs.Rebuilt.{ListsAskLess, StatementsAskLess};
+
+use mini_laws::Rewrites;
+
+/// A statement that is built anew of the same parts answers at most what that did, of every fact, and whatever their order.
+pub fn statements_ask_less()
+    ensures { StatementsAskLess }
+{}
+
+/// Neighbours in a list that are built anew of the parts of others, none of which is a mere part, answer at most what those did, of every fact.
+pub fn lists_ask_less()
+    ensures { ListsAskLess }
+{}
+
+/// Two relations that read less make one, and so does what makes no more than one.
+pub fn reads_less_joins<R: Rewrites, S: Rewrites>()
+    ensures joins { ReadsLessJoins R.gives S.gives }
+    ensures narrows { ReadsLessNarrows R.gives S.gives }
+{}
+
+/// Rows on negations and on `if` over expressions: 23, 40 and 82.
+pub fn first_rows_read_less()
+    ensures { FirstRowsReadLess }
+{}
+
+/// Rows that turn a test: so Shared and Foreign only shrink by any number of their steps.
+pub fn turns_read_less()
+    ensures turns { TurnsReadLess }
+    ensures shrink { TurnsShrink }
+{}
+
+/// Rows on neighbours in a list ask less: 66, 73, 76 and 79.
+pub fn list_rows_less()
+    ensures { ListRowsLess }
+{}
+
+/// Further rows ask less: 67, 77 and 78, and 40 and 82 but for a negated test.
+pub fn more_rows_less()
+    ensures { MoreRowsLess }
+{}
+
+/// Rows on expressions whose value is calculated from their text: 1, 3, 4, 8 and 9.
+pub fn constants_read_less()
+    ensures { ConstantsReadLess }
+{}
+
+/// Rows on operands whose value is known, and on operators.
+pub fn operands_read_less()
+    ensures { OperandsReadLess }
+{}
+
+/// Rows on spellings: 19, 33, 54, 55, 58, 60 and 65.
+pub fn spellings_read_less()
+    ensures { SpellingsReadLess }
+{}
+
+/// Rows on sequences: 20 and 21.
+pub fn sequences_read_less()
+    ensures { SequencesReadLess }
+{}
+
+/// Rows on templates: 5, 6 and 18.
+pub fn templates_read_less()
+    ensures { TemplatesReadLess }
+{}
+
+/// Rows of which only the truth is asked, and of conditionals one of whose branches is a boolean: 24 to 26, 47 and 48.
+pub fn booleans_read_less()
+    ensures { BooleansReadLess }
+{}
+
+/// Negations that reach into the operand: 23.
+pub fn negations_read_less()
+    ensures { NegationsReadLess }
+{}
+
+/// Rows of choices: 10 to 13, 21, 35, 37 to 39, 41 to 46, 49, 57 and 64.
+pub fn choices_read_less()
+    ensures { ChoicesReadLess }
+{}
+
+/// Rows of names that can be written: 34, 37 and 46.
+pub fn writes_read_less()
+    ensures { WritesReadLess }
+{}
+
+/// Rows on the keys of object literals: 51 and 52.
+pub fn keys_read_less()
+    ensures { KeysReadLess }
+{}
+
+/// Rows on what is known of an expression from its text: 9, 12, 13, 22, 28, 36 and 49.
+pub fn foldings_read_less()
+    ensures { FoldingsReadLess }
+{}
+
+/// De Morgan's laws where nobody asks for the value: 50.
+pub fn de_morgan_reads_less()
+    ensures { DeMorganReadsLess }
+{}
+
+/// All of these families, as one relation.
+pub fn whole_families_read_less()
+    ensures { WholeFamiliesReadLess }
+{}
+
+/// Rows of `if`, and of `return` without a value: 60, 82 and 83.
+pub fn if_rows_less()
+    ensures { IfRowsLess }
+{}
