@@ -55,6 +55,7 @@ pub mod Lawful
 pub mod Gone
 pub mod FixedSteps
 pub mod Loosely
+pub mod Unbound
 pub mod Undeclared
 pub mod Refixed
 pub mod ProgramPlaces

@@ -1,5 +1,5 @@
 -- A variable that no name of a program stands for is neither shared nor foreign to any body of it.
-use Rattle.std.specs.Prelude.{ℕ, zero, suc, ◌≡◌, refl, Bool, true, false, ◌&&◌, ◌||◌, not, List, [], ◌∷◌, ◌++◌, length, drop, map, Option, Some, None, if◌then◌else◌}
+use Rattle.std.specs.Prelude.{ℕ, zero, suc, ◌≡◌, refl, Bool, true, false, ◌&&◌, ◌||◌, not, List, [], ◌∷◌, ◌++◌, map, Option, Some, None, if◌then◌else◌}
 use Rattle.std.specs.List.{list_any}
 use Rattle.std.proofs.Common.{ap, ◌∙◌}
 use Rattle.mini_model.specs.declared.kind.VariableDeclarationKind.TheVariants.{Var}
@@ -14,23 +14,20 @@ use Rattle.mini_laws.specs.declared.names.Around.{Around}
 use Rattle.mini_laws.specs.declared.names.Binding.{Binding}
 use Rattle.mini_laws.specs.declared.names.Declared.{Declared}
 use Rattle.mini_laws.specs.declared.names.Declared.TheVariants as declared
-use Rattle.mini_laws.specs.declared.names.Opening.{Opening}
-use Rattle.mini_laws.specs.declared.names.Opening.TheVariants as opening
-use Rattle.mini_laws.specs.declared.names.Place.{Place}
-use Rattle.mini_laws.specs.declared.names.Place.TheVariants as place
-use Rattle.mini_laws.specs.DeclaredNames.{place_of, names_by, names_of, first_names, all_names, is_statement_list, body_names, all_body_names, bound_names, has_inner, is_spelled, with_name, with_names}
+use Rattle.mini_laws.specs.DeclaredNames.{names_of, first_names, all_names, bound_names, is_spelled}
 use Rattle.mini_laws.specs.Foreign.{imported_by, imported_names, all_imported_names, own_pattern_names, pattern_names, all_pattern_names, is_body_by, own_lexical, lexical_variables, all_lexical_variables, has_number, own_params_around, params_around, all_params_around, is_write, is_declared_in, switched, is_read_early, moments, is_foreign}
 use Rattle.mini_laws.specs.Mentions.{Mention, own_mentions, around_child, outermost, mentions, mentions_from, program_mentions, is_elsewhere, same_variable, is_among}
 use Rattle.mini_laws.specs.References.{writes}
 use Rattle.mini_laws.specs.Resolved.{Environment, or_else, is_for, own_symbol, symbol_of, with_symbol, gives_value}
 use Rattle.mini_laws.specs.ScopeList.{Scope, with_names_alone, entered, names_in, least_scopes, scope_list, scope_list_from, any_has_eval, scopes_of, seen_in, seen_by_eval}
-use Rattle.mini_laws.specs.Scopes.{use_of, opening_of, scopes_by, at_or_empty, opened, name_if, merged}
+use Rattle.mini_laws.specs.Scopes.{use_of, opened}
 use Rattle.mini_laws.specs.Shared.{script_tops, module_names_by, module_names, all_module_names, names_arguments, reached_params, reached_by_arguments, all_reached_by_arguments, spelled_among, own_caught, caught, all_caught, written_by, given_values, write_at, var_writes, var_writes_from, program_var_writes, names_in_pattern, own_pattern_writes, pattern_writes, pattern_writes_from, program_pattern_writes, is_shared}
 use Rattle.mini_laws.specs.Strict.{is_strict_in}
 use Rattle.mini_laws.specs.Value.{Declared as Variable, variables, variable_eq, variable_by}
 use Rattle.mini_laws.specs.Congruence.{NoneIn, Avoids, AllAvoid}
 use Rattle.mini_laws.specs.Substitution.{alone}
 use Rattle.mini_kept.specs.Loosely.{symbol}
+use Rattle.mini_kept.proofs.Unbound.{bound_at, Other as OtherThan, both as others_both, pick as others_pick, Unbound, AllUnbound, named as other_named, first_named as other_first, all_named as all_other, scope_here as scope_other}
 
 module _ (k : ℕ) where
   abbrev x : Name
@@ -39,16 +36,17 @@ module _ (k : ℕ) where
   -- ---- names
 
   abbrev Other : List Name → Type 0
-  Other [] = Unit {0}
-  Other (y ∷ ys) = (same_variable x y ≡ false) × Other ys
+  Other ys = OtherThan k ys
+
+  both : (ys zs : List Name) → Other ys → Other zs → Other (ys ++ zs)
+  both ys zs o p = others_both k ys zs o p
+
+  pick : (b : Bool) (ys zs : List Name) → Other ys → Other zs → Other (if b then ys else zs)
+  pick b ys zs o p = others_pick k b ys zs o p
 
   none_among : (ys : List Name) → Other ys → is_among x ys ≡ false
   none_among [] o = refl
   none_among (y ∷ ys) o = ap (λ b. b || is_among x ys) o.0 ∙ none_among ys o.1
-
-  both : (ys zs : List Name) → Other ys → Other zs → Other (ys ++ zs)
-  both [] zs o p = p
-  both (y ∷ ys) zs o p = (o.0, both ys zs o.1 p)
 
   other_name : (s : List ℕ) (y : Option SymbolId) → variable_eq (Variable k) (variable_by s y) ≡ false → same_variable x (record { spelling = s; symbol = y }) ≡ false
   other_name s None e = refl
@@ -58,121 +56,30 @@ module _ (k : ℕ) where
   own [] a = tt
   own (y ∷ ys) a = (other_name y.spelling y.symbol a.0, own ys a.1)
 
-  pick : (b : Bool) (ys zs : List Name) → Other ys → Other zs → Other (if b then ys else zs)
-  pick true ys zs o p = o
-  pick false ys zs o p = p
-
-  by_place : (p : Place) (xs first bound below : List Name) → Other xs → Other first → Other bound → Other below → Other (names_by p xs first bound below)
-  by_place place.Here xs first bound below a b c d = a
-  by_place place.FirstBound xs first bound below a b c d = b
-  by_place place.Bound xs first bound below a b c d = c
-  by_place place.Below xs first bound below a b c d = d
-  by_place place.Nowhere xs first bound below a b c d = tt
+  -- no name is bound as it
+  at_node : (h : Shape) (xs : List Name) → Other xs → Other (bound_at h xs)
+  at_node shape.BindingIdentifier xs o = o
+  at_node h xs o = tt
 
   mutual
-    unfolding names_of
+    unbound : (t : Tree) → Avoids (alone (Variable k)) t → Unbound k t
+    unbound (node h xs n ts) a = (at_node h xs (own xs a.0), all_unbound ts a.1)
 
-    named : (d : Declared) (t : Tree) → Avoids (alone (Variable k)) t → Other (names_of d t)
-    named d (node h xs n ts) a = by_place (place_of d h) xs (first_names ts) (all_names declared.Bound ts) (all_names d ts) (own xs a.0) (first_named ts a.1) (all_named declared.Bound ts a.1) (all_named d ts a.1)
+    all_unbound : (ts : Trees) → AllAvoid (alone (Variable k)) ts → AllUnbound k ts
+    all_unbound none a = tt
+    all_unbound (t ▸ ts) a = (unbound t a.0, all_unbound ts a.1)
 
-    first_named : (ts : Trees) → AllAvoid (alone (Variable k)) ts → Other (first_names ts)
-    first_named none a = tt
-    first_named (t ▸ ts) a = named declared.Bound t a.0
+  named : (d : Declared) (t : Tree) → Avoids (alone (Variable k)) t → Other (names_of d t)
+  named d t a = other_named k d t (unbound t a)
 
-    all_named : (d : Declared) (ts : Trees) → AllAvoid (alone (Variable k)) ts → Other (all_names d ts)
-    all_named d none a = tt
-    all_named d (t ▸ ts) a = both (names_of d t) (all_names d ts) (named d t a.0) (all_named d ts a.1)
+  first_named : (ts : Trees) → AllAvoid (alone (Variable k)) ts → Other (first_names ts)
+  first_named ts a = other_first k ts (all_unbound ts a)
 
-  mutual
-    unfolding body_names
-
-    body_named : (t : Tree) → Avoids (alone (Variable k)) t → Other (body_names t)
-    body_named (node h xs n ts) a =
-        let lexical = names_of declared.Lexical (node h xs n ts) in
-        let hoisted = names_of declared.Hoisted (node h xs n ts) in
-        pick (is_statement_list h) (all_body_names ts) (lexical ++ hoisted) (all_body_named ts a.1) (both lexical hoisted (named declared.Lexical (node h xs n ts) a) (named declared.Hoisted (node h xs n ts) a))
-
-    all_body_named : (ts : Trees) → AllAvoid (alone (Variable k)) ts → Other (all_body_names ts)
-    all_body_named none a = tt
-    all_body_named (t ▸ ts) a = both (body_names t) (all_body_names ts) (body_named t a.0) (all_body_named ts a.1)
-
-  -- ---- scopes
-
-  with_named : (seen xs : List Name) → Other seen → Other xs → Other (with_names seen xs)
-  unfolding with_names
-  with_named seen [] o p = o
-  with_named seen (y ∷ ys) o p = with_named (with_name seen y) ys (by (is_spelled y.spelling seen)) p.1
-    where
-      by : (b : Bool) → Other (if b then seen else seen ++ y ∷ [])
-      by true = o
-      by false = both seen (y ∷ []) o (p.0, tt)
-
-  dropped : (n : ℕ) (xs : List Name) → Other xs → Other (drop n xs)
-  dropped zero xs o = o
-  dropped (suc n) [] o = o
-  dropped (suc n) (y ∷ ys) o = dropped n ys o.1
-
-  bound_as : (h : Bool) (xs : List Name) → Other xs → Other (names_in (map (λ y. record { name = y; hoists = h }) xs))
-  bound_as h [] o = tt
-  bound_as h (y ∷ ys) o = (o.0, bound_as h ys o.1)
-
-  lexical : (xs : List Name) → Other xs → Other (names_in (map (λ y. record { name = y; hoists = false }) (with_names [] xs)))
-  lexical xs o = bound_as false (with_names [] xs) (with_named [] xs tt o)
-
-  bodily : (params xs : List Name) → Other params → Other xs → Other (names_in (map (λ y. record { name = y; hoists = true }) (drop (length params) (with_names params xs))))
-  bodily params xs o p = bound_as true (drop (length params) (with_names params xs)) (dropped (length params) (with_names params xs) (with_named params xs o p))
-
-  if_named : (b : Bool) (t : Tree) → Avoids (alone (Variable k)) t → Other (name_if b t)
-  if_named true t a = named declared.Bound t a
-  if_named false t a = tt
-
-  merged_named : (t : Tree) → Avoids (alone (Variable k)) t → Other (merged t)
-  merged_named t a = by (has_inner t)
-    where
-      by : (b : Bool) → Other (if b then [] else bound_names t)
-      by true = tt
-      by false = named declared.Bound t a
-
-  scope_named : (o : Opening) (ts : Trees) → AllAvoid (alone (Variable k)) ts → (i : ℕ) → Other (names_in (at_or_empty (scopes_by o ts) i))
-  unfolding scopes_by
-  scope_named opening.Nothing none a i = tt
-  scope_named opening.Nothing (t ▸ ts) a i = tt
-  scope_named opening.Body none a i = tt
-  scope_named opening.Body (t ▸ ts) a zero = bodily [] (body_names t) tt (body_named t a.0)
-  scope_named opening.Body (t ▸ ts) a (suc i) = tt
-  scope_named opening.First none a i = tt
-  scope_named opening.First (t ▸ ts) a zero = lexical (names_of declared.Lexical t) (named declared.Lexical t a.0)
-  scope_named opening.First (t ▸ ts) a (suc i) = tt
-  scope_named opening.Bound none a i = tt
-  scope_named opening.Bound (t ▸ ts) a zero = lexical (bound_names t) (named declared.Bound t a.0)
-  scope_named opening.Bound (t ▸ ts) a (suc i) = tt
-  scope_named opening.Second none a i = tt
-  scope_named opening.Second (t ▸ none) a i = tt
-  scope_named opening.Second (t ▸ (u ▸ ts)) a zero = tt
-  scope_named opening.Second (t ▸ (u ▸ ts)) a (suc zero) = lexical (names_of declared.Lexical u) (named declared.Lexical u a.1.0)
-  scope_named opening.Second (t ▸ (u ▸ ts)) a (suc (suc i)) = tt
-  scope_named opening.Arrow none a i = tt
-  scope_named opening.Arrow (p ▸ none) a i = tt
-  scope_named opening.Arrow (p ▸ (t ▸ ts)) a zero = bodily [] (bound_names p) tt (named declared.Bound p a.0)
-  scope_named opening.Arrow (p ▸ (t ▸ ts)) a (suc zero) = bodily (merged p) (body_names t) (merged_named p a.0) (body_named t a.1.0)
-  scope_named opening.Arrow (p ▸ (t ▸ ts)) a (suc (suc i)) = tt
-  scope_named (opening.Class own inner) none a i = tt
-  scope_named (opening.Class own inner) (t ▸ none) a i = tt
-  scope_named (opening.Class own inner) (t ▸ (b ▸ none)) a i = tt
-  scope_named (opening.Class own inner) (t ▸ (b ▸ (c ▸ none))) a i = tt
-  scope_named (opening.Class own inner) (t ▸ (b ▸ (c ▸ (d ▸ ts)))) a zero = lexical (name_if own t) (if_named own t a.0)
-  scope_named (opening.Class own inner) (t ▸ (b ▸ (c ▸ (d ▸ ts)))) a (suc zero) = lexical (name_if inner d) (if_named inner d a.1.1.1.0)
-  scope_named (opening.Class own inner) (t ▸ (b ▸ (c ▸ (d ▸ ts)))) a (suc (suc i)) = tt
-  scope_named (opening.Function own) none a i = tt
-  scope_named (opening.Function own) (t ▸ none) a i = tt
-  scope_named (opening.Function own) (t ▸ (p ▸ none)) a i = tt
-  scope_named (opening.Function own) (t ▸ (p ▸ (b ▸ ts))) a zero = lexical (name_if own t) (if_named own t a.0)
-  scope_named (opening.Function own) (t ▸ (p ▸ (b ▸ ts))) a (suc zero) = bodily [] (bound_names p) tt (named declared.Bound p a.1.0)
-  scope_named (opening.Function own) (t ▸ (p ▸ (b ▸ ts))) a (suc (suc zero)) = bodily (merged p) (body_names b) (merged_named p a.1.0) (body_named b a.1.1.0)
-  scope_named (opening.Function own) (t ▸ (p ▸ (b ▸ ts))) a (suc (suc (suc i))) = tt
+  all_named : (d : Declared) (ts : Trees) → AllAvoid (alone (Variable k)) ts → Other (all_names d ts)
+  all_named d ts a = all_other k d ts (all_unbound ts a)
 
   scope_here : (u : Use) (h : Shape) (ts : Trees) → AllAvoid (alone (Variable k)) ts → (i : ℕ) → Other (names_in (opened u h ts i))
-  scope_here u h ts a i = scope_named (opening_of u h) ts a i
+  scope_here u h ts a i = scope_other k u h ts (all_unbound ts a) i
 
   -- ---- what a direct eval can see
 

@@ -13,7 +13,6 @@ use Rattle.mini_laws.specs.ScopeList.{by_symbol}
 use Rattle.mini_laws.specs.Scoped.{Scoped}
 use Rattle.mini_laws.specs.Symbols.{declared_symbols, Distinct}
 use Rattle.mini_laws.specs.Value.{Variable, Declared, Global}
-use Rattle.mini_laws.specs.Bodies.{bodies_in}
 use Rattle.mini_laws.specs.Mentions.{is_among, program_mentions}
 use Rattle.mini_laws.specs.Foreign.{lexical_variables, is_write}
 use Rattle.mini_kept.specs.KeepsShapes.{KeepsShapes}
@@ -24,10 +23,9 @@ use Rattle.mini_shrink.specs.Facts.{ReadsLess}
 use Rattle.mini_shrink.specs.Told.{is_foreign_name, is_steady}
 use Rattle.mini_shrink.specs.ToldOn.{told_of, ShowsLess}
 use Rattle.mini_shrink.specs.Exact.{exactly_of, ExactIsSo, ExactWithin}
-use Rattle.mini_shrink.proofs.ToldOn.{not_true, false_not, either, steady_there, gone, still_native, later, shrunk, lexical_on, within}
-use Rattle.mini_shrink.proofs.Within.{asks_less}
-use Rattle.mini_shrink.proofs.Imports.{lent_shrinks}
-use Rattle.mini_shrink.proofs.Exports.{shown_shrinks}
+use Rattle.mini_shrink.proofs.ToldOn.{not_true, false_not, either, steady_there, gone, still_native, later, shrunk, lexical_on}
+use Rattle.mini_shrink.proofs.Within.{told_within}
+use Rattle.mini_shrink.proofs.Tops.{shows_less}
 
 pub exact_is_so : ExactIsSo
 exact_is_so t b s r a = record {
@@ -60,6 +58,4 @@ module _ (R : Position → Tree → Tree → Type 0) (l : KeepsNames R) (shapes 
       initial (Global s) h = absurd (true≢false (sym h))
 
 pub exact_within : (R : Position → Tree → Tree → Type 0) → ExactWithin R
-exact_within R l shapes reads tops imports ports q v r e a d W D S k b =
-    let shows : ShowsLess R = record { shown = shown_shrinks R l shapes tops ports; lent = lent_shrinks R l shapes tops imports } in
-    exactly_within R l shapes reads shows q v r e a d b (within R l shapes reads shows q v r e a d b (λ n f. asks_less W D S n (bodies_in q) (bodies_in v) k f))
+exact_within R K W S l reads q v r e a d b = exactly_within R l.places.names l.shapes reads (shows_less R l.places l.shapes) q v r e a d b (told_within R K W S l reads q v r e a d b)

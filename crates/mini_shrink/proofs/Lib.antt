@@ -7,11 +7,13 @@ pub mod Deeper
 pub mod Programs
 pub mod Telling
 pub mod Moments
+pub mod Alone
+pub mod Regulars
 pub mod Bound
 pub mod Foreigns
 pub mod ToldOn
+pub mod Ports
+pub mod PortSteps
 pub mod Tops
-pub mod Imports
-pub mod Exports
 pub mod Within
 pub mod Exact

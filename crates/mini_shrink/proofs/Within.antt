@@ -5,12 +5,13 @@ use Rattle.std.proofs.Common.{◌∙◌, sym, inl, inr, true≢false}
 use Rattle.mini_model.specs.declared.place.Position.{Position}
 use Rattle.mini_model.specs.Tree.{Tree}
 use Rattle.mini_laws.specs.Value.{VariableSet}
-use Rattle.mini_laws.specs.Bodies.{Body}
+use Rattle.mini_laws.specs.Bodies.{Body, bodies_in}
+use Rattle.mini_kept.specs.Loosely.{undeclared}
+use Rattle.mini_kept.proofs.Loosely.{steadily_keeps}
 use Rattle.mini_kept.specs.Without.{BodySets, IsOneUnder, BodiesUnder}
 use Rattle.mini_shrink.specs.ToldOn.{asks_as, ToldWithin}
 use Rattle.mini_shrink.proofs.ToldOn.{told_on}
-use Rattle.mini_shrink.proofs.Imports.{lent_shrinks}
-use Rattle.mini_shrink.proofs.Exports.{shown_shrinks}
+use Rattle.mini_shrink.proofs.Tops.{shows_less}
 
 module _ (W D : VariableSet) (S : BodySets) (n : ℕ) where
   left_of : (a c : Bool) → a ≡ true → (a || c) ≡ true
@@ -35,5 +36,6 @@ module _ (W D : VariableSet) (S : BodySets) (n : ℕ) where
   asks_less bs (c ∷ cs) k e = either_so (asks_as n c) (list_any (asks_as n) cs) (list_any (asks_as n) bs) (is_one bs c k.0) (asks_less bs cs k.1) e
 
 pub told_within : (R : Position → Tree → Tree → Type 0) → ToldWithin R
-told_within R l shapes reads tops imports ports q v r e a d W D S k b =
-    told_on R l shapes reads (record { shown = shown_shrinks R l shapes tops ports; lent = lent_shrinks R l shapes tops imports }) q v r e a d (λ n f. asks_less W D S n _ _ k f) b
+told_within R K W S l reads q v r e a d b =
+    let bodies = (steadily_keeps R K W S l q v r e).bodies a d in
+    told_on R l.places.names l.shapes reads (shows_less R l.places l.shapes) q v r e a d (λ n f. asks_less W (undeclared v) S n (bodies_in q) (bodies_in v) bodies f) b

@@ -1,9 +1,10 @@
 -- The same of what no node writes and what isn't foreign: what the body's own declarators give a
 -- name doesn't count, as it runs between two statements of the body and no answer runs it.
-use Rattle.std.specs.Prelude.{ℕ, ◌≡◌, true, false, not, ◌&&◌, []}
+use Rattle.std.specs.Prelude.{ℕ, ◌≡◌, Bool, true, false, not, ◌&&◌, []}
 use Rattle.std.specs.List.{list_any}
 use Rattle.mini_model.specs.declared.place.Position.{Position}
 use Rattle.mini_model.specs.declared.place.Position.TheVariants.{Elsewhere}
+use Rattle.mini_model.specs.declared.shape.Shape.{Shape}
 use Rattle.mini_model.specs.Tree.{Tree}
 use Rattle.mini_model.specs.Rewriting.{Reaches}
 use Rattle.mini_accept.specs.WellShaped.{IsWellShaped}
@@ -16,13 +17,11 @@ use Rattle.mini_laws.specs.Shared.{is_shared}
 use Rattle.mini_laws.specs.Scoped.{Scoped}
 use Rattle.mini_laws.specs.Symbols.{declared_symbols, Distinct}
 use Rattle.mini_laws.specs.Value.{VariableSet}
-use Rattle.mini_kept.specs.KeepsShapes.{KeepsShapes}
-use Rattle.mini_kept.specs.Lifted.{KeepsNames}
-use Rattle.mini_kept.specs.Without.{BodySets, BodiesUnder, Within}
+use Rattle.mini_kept.specs.Loosely.{LawfulUnder}
+use Rattle.mini_kept.specs.Without.{BodySets, Within}
 use Rattle.mini_shrink.specs.Facts.{ReadsLess}
-use Rattle.mini_shrink.specs.Regular.{IsRegular}
 use Rattle.mini_shrink.specs.Told.{is_steady}
-use Rattle.mini_shrink.specs.ToldOn.{of_symbols, asks_as, TopsLess, ImportsLess, PortsLess}
+use Rattle.mini_shrink.specs.ToldOn.{of_symbols, asks_as}
 
 abbrev pub exactly_of : Tree → BodySets
 exactly_of t b = record {
@@ -38,9 +37,9 @@ pub record IsExactlySo (t : Tree) (b s : ℕ) : Type 0 where
   pub unwritten : is_steady t b s ≡ true → list_any (is_write (by_symbol s)) (program_mentions t) ≡ false
 
 abbrev pub ExactIsSo : Type 0
-ExactIsSo = (t : Tree) (b s : ℕ) → IsRegular s t → Scoped Read [] t → IsExactlySo t b s
+ExactIsSo = (t : Tree) (b s : ℕ) → IsWellShaped t → Scoped Read [] t → IsExactlySo t b s
 
 abbrev pub ExactWithin : (Position → Tree → Tree → Type 0) → Type 0
 ExactWithin R =
-    KeepsNames R → KeepsShapes R → ReadsLess R → TopsLess R → ImportsLess R → PortsLess R → (q v : Tree) → Reaches R Elsewhere q v → IsWellShaped q → Scoped Read [] q → Distinct (declared_symbols q)
-    → (W D : VariableSet) (S : BodySets) → BodiesUnder W S D (bodies_in q) (bodies_in v) → (b : ℕ) → Within (exactly_of q b) (exactly_of v b)
+    (K : Shape → Bool) (W : VariableSet) (S : BodySets) → LawfulUnder K W S R → ReadsLess R → (q v : Tree) → Reaches R Elsewhere q v → IsWellShaped q → Scoped Read [] q → Distinct (declared_symbols q)
+    → (b : ℕ) → Within (exactly_of q b) (exactly_of v b)

@@ -13,7 +13,7 @@ use Rattle.mini_laws.specs.Shared.{module_names, names_arguments, reached_by_arg
 use Rattle.mini_laws.specs.Foreign.{imported_names, pattern_names, lexical_variables, switched, has_number, params_around}
 use Rattle.mini_laws.specs.NameBodies.{bodies, fixed_names}
 use Rattle.mini_laws.specs.Programs.{script, module_of, reference, binding, said, block, declares, var_of, let_of, function, function_expression, arrow, with_default, class_with, method_of, assigns, calls, zero_literal, catches, case_of, switches, for_of, object_pattern, array_pattern, exports, imports, a, b, e, f, g, p, x, eval, arguments}
-use Rattle.mini_shrink.specs.Told.{is_foreign_name, is_steady, stays}
+use Rattle.mini_shrink.specs.Told.{is_foreign_name}
 use Rattle.mini_shrink.specs.Regular.{declares_alone, is_regular}
 use Rattle.mini_shrink.specs.Pace.{pace}
 
@@ -176,13 +176,3 @@ a_function_of_a_body = (refl, refl)
 a_name_held_again : Says (resolved_program (module_of (class_with true 1 (binding a) (binding a) absent (method_of (function_expression 2 absent none (said (reference a) ▸ none)) ▸ none) ▸ none))) 2 1 true
 unfolding resolved scopes_by body_names names_of with_names has_inner symbols has_eval scope_list mentions module_names names_arguments reached_by_arguments caught var_writes pattern_writes imported_names pattern_names lexical_variables switched pace is_regular declares_alone has_number params_around bodies fixed_names
 a_name_held_again = (refl, refl)
-
--- `function g() { var a = 0; function f() { a; } }`: a is steady in g exactly, where its own
--- declarator doesn't count, and in f neither way
-steady_but_for_its_own : (is_steady (resolved_program (script (function 1 (binding g) none (declares Var (binding a) (zero_literal) ▸ function 2 (binding f) none (said (reference a) ▸ none) ▸ none) ▸ none))) 1 1 ≡ true) × (stays (resolved_program (script (function 1 (binding g) none (declares Var (binding a) (zero_literal) ▸ function 2 (binding f) none (said (reference a) ▸ none) ▸ none) ▸ none))) 1 1 ≡ false)
-unfolding resolved scopes_by body_names names_of with_names has_inner symbols has_eval scope_list mentions module_names names_arguments reached_by_arguments caught var_writes pattern_writes imported_names pattern_names lexical_variables switched pace is_regular declares_alone has_number params_around bodies fixed_names
-steady_but_for_its_own = (refl, refl)
-
-not_in_another : (is_steady (resolved_program (script (function 1 (binding g) none (declares Var (binding a) (zero_literal) ▸ function 2 (binding f) none (said (reference a) ▸ none) ▸ none) ▸ none))) 2 1 ≡ false) × (stays (resolved_program (script (function 1 (binding g) none (declares Var (binding a) (zero_literal) ▸ function 2 (binding f) none (said (reference a) ▸ none) ▸ none) ▸ none))) 2 1 ≡ false)
-unfolding resolved scopes_by body_names names_of with_names has_inner symbols has_eval scope_list mentions module_names names_arguments reached_by_arguments caught var_writes pattern_writes imported_names pattern_names lexical_variables switched pace is_regular declares_alone has_number params_around bodies fixed_names
-not_in_another = (refl, refl)

@@ -1,6 +1,6 @@
 -- What of a program's shape the order of reads and declarations rests on: a list that declares
 -- names holds statements, declarators and cases, and imports stand at the top.
-use Rattle.std.specs.Prelude.{ℕ, ◌≡◌, ◌⊎◌, Bool, true, false, not, ◌&&◌, []}
+use Rattle.std.specs.Prelude.{ℕ, ◌≡◌, ◌⊎◌, Bool, true, false, not, ◌&&◌, ◌||◌, []}
 use Rattle.mini_model.specs.declared.shape.Shape.{Shape}
 use Rattle.mini_model.specs.declared.shape.Shape.TheVariants as shape
 use Rattle.mini_model.specs.Tree.{Tree, Trees, node, none, ◌▸◌}
@@ -42,23 +42,26 @@ abbrev pub is_listed_alone : Tree → Bool
 is_listed_alone (node shape.Listed xs n ts) = all_declare_alone ts
 is_listed_alone t = true
 
--- of the children of a node in which names are declared one after another
+-- the nodes in whose children names are declared one after another
+abbrev pub declares_in_order : Shape → Bool
+declares_in_order shape.SwitchCase = true
+declares_in_order (shape.VariableDeclaration k) = true
+declares_in_order shape.ExportNamedDeclaration = true
+declares_in_order shape.ExportDefaultDeclaration = true
+declares_in_order (shape.Program m ds) = true
+declares_in_order shape.FunctionBody = true
+declares_in_order shape.StaticBlock = true
+declares_in_order shape.BlockStatement = true
+declares_in_order shape.ForStatement = true
+declares_in_order shape.ForInStatement = true
+declares_in_order shape.ForOfStatement = true
+declares_in_order shape.SwitchStatement = true
+declares_in_order h = false
+
+-- those hold no other binders, and neither does a `catch` behind its parameter
 abbrev pub items_of : Shape → Trees → Bool
-items_of shape.Listed ts = true
-items_of shape.SwitchCase ts = all_declare_alone ts
-items_of (shape.VariableDeclaration k) ts = all_declare_alone ts
-items_of shape.ExportNamedDeclaration ts = all_declare_alone ts
-items_of shape.ExportDefaultDeclaration ts = all_declare_alone ts
-items_of (shape.Program m ds) ts = all_declare_alone ts
-items_of shape.FunctionBody ts = all_declare_alone ts
-items_of shape.StaticBlock ts = all_declare_alone ts
-items_of shape.BlockStatement ts = all_declare_alone ts
-items_of shape.ForStatement ts = all_declare_alone ts
-items_of shape.ForInStatement ts = all_declare_alone ts
-items_of shape.ForOfStatement ts = all_declare_alone ts
-items_of shape.SwitchStatement ts = all_declare_alone ts
 items_of shape.CatchClause (t ▸ ts) = is_listed_alone t && all_declare_alone ts
-items_of h ts = true
+items_of h ts = not (declares_in_order h) || all_declare_alone ts
 
 -- no node imports the symbol
 abbrev pub imports_no : ℕ → Shape → Trees → Bool
@@ -87,6 +90,6 @@ IsRegular s t = (is_regular s t ≡ true) ⊎ (is_among (by_symbol s) (imported_
 abbrev pub ForeignByScopes : Type 0
 ForeignByScopes = (t : Tree) (b s : ℕ) → IsRegular s t → undeclared t (Declared s) ≡ false → is_foreign t b (by_symbol s) ≡ true → is_foreign_name t b s ≡ true
 
--- Each program is (not proved here)
+-- Each program is
 abbrev pub ProgramsAreRegular : Type 0
 ProgramsAreRegular = (t : Tree) (s : ℕ) → IsWellShaped t → IsRegular s t

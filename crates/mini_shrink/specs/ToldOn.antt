@@ -3,24 +3,26 @@
 use Rattle.std.specs.Prelude.{ℕ, ◌≡◌, nat_eq, Bool, true, false, not, ◌&&◌, []}
 use Rattle.std.specs.List.{list_any}
 use Rattle.mini_model.specs.declared.place.Position.{Position}
-use Rattle.mini_model.specs.declared.place.Position.TheVariants.{Elsewhere, StatementList, BodyList, CommaList, Stmt}
+use Rattle.mini_model.specs.declared.place.Position.TheVariants.{Elsewhere}
+use Rattle.mini_model.specs.declared.shape.Shape.{Shape}
 use Rattle.mini_model.specs.Tree.{Tree}
 use Rattle.mini_model.specs.Rewriting.{Step, Reaches}
 use Rattle.mini_accept.specs.WellShaped.{IsWellShaped}
 use Rattle.mini_laws.specs.declared.names.Use.TheVariants.{Read}
 use Rattle.mini_laws.specs.Bodies.{Body, bodies_in}
-use Rattle.mini_laws.specs.Foreign.{all_writes, imported_names, is_foreign, is_write, lexical_variables}
+use Rattle.mini_laws.specs.Foreign.{all_writes, is_foreign, is_write, lexical_variables}
 use Rattle.mini_laws.specs.Mentions.{is_among}
 use Rattle.mini_laws.specs.ScopeList.{by_symbol}
 use Rattle.mini_laws.specs.Scoped.{Scoped}
-use Rattle.mini_laws.specs.Shared.{script_tops, module_names, is_shared}
+use Rattle.mini_laws.specs.Shared.{is_shared}
 use Rattle.mini_laws.specs.Symbols.{declared_symbols, Distinct}
 use Rattle.mini_laws.specs.Value.{Declared, Global, VariableSet}
+use Rattle.mini_kept.specs.KeepsFrames.{KeepsPlaces}
 use Rattle.mini_kept.specs.KeepsShapes.{KeepsShapes}
 use Rattle.mini_kept.specs.Lifted.{KeepsNames}
-use Rattle.mini_kept.specs.Without.{BodySets, BodiesUnder, Within}
+use Rattle.mini_kept.specs.Loosely.{LawfulUnder}
+use Rattle.mini_kept.specs.Without.{BodySets, Within}
 use Rattle.mini_shrink.specs.Facts.{ReadsLess}
-use Rattle.mini_shrink.specs.Regular.{IsRegular}
 use Rattle.mini_shrink.specs.Told.{is_shown, is_lent, stays}
 
 -- of declared names alone
@@ -49,7 +51,7 @@ pub record IsSo (t : Tree) (b s : ℕ) : Type 0 where
   pub unwritten : (told_of t b).steady (Declared s) ≡ true → list_any (is_write (by_symbol s)) (all_writes t) ≡ false
 
 abbrev pub ToldIsSo : Type 0
-ToldIsSo = (t : Tree) (b s : ℕ) → IsRegular s t → Scoped Read [] t → IsSo t b s
+ToldIsSo = (t : Tree) (b s : ℕ) → IsWellShaped t → Scoped Read [] t → IsSo t b s
 
 -- a step in a program shows no name to others that it didn't, and lends none
 pub record ShowsLess (R : Position → Tree → Tree → Type 0) : Type 0 where
@@ -67,49 +69,18 @@ ToldOn R =
     KeepsNames R → KeepsShapes R → ReadsLess R → ShowsLess R → (q v : Tree) → Reaches R Elsewhere q v → IsWellShaped q → Scoped Read [] q → Distinct (declared_symbols q)
     → AskNoMore q v → (b : ℕ) → Within (told_of q b) (told_of v b)
 
--- ---- the top names of a script
+-- ---- what a program shows to others
 
--- what is written for a node is no script with more of them: for all but a program, nothing at all
-abbrev pub TopsLess : (Position → Tree → Tree → Type 0) → Type 0
-TopsLess R = (p : Position) (n w : Tree) → R p n w → (s : ℕ) → is_among (by_symbol s) (script_tops w) ≡ true → is_among (by_symbol s) (script_tops n) ≡ true
+-- a relation that keeps its places shows no more: where it rewrites stand no imports and no
+-- exports, but in a list that has the same ones
+abbrev pub PlacesShow : (Position → Tree → Tree → Type 0) → Type 0
+PlacesShow R = KeepsPlaces R → KeepsShapes R → ShowsLess R
 
--- then a step in a program gives it no more
-abbrev pub TopsShrink : (Position → Tree → Tree → Type 0) → Type 0
-TopsShrink R = KeepsNames R → KeepsShapes R → TopsLess R → (t u : Tree) → Step R Elsewhere t u → IsWellShaped t → Scoped Read [] t → (s : ℕ) → is_among (by_symbol s) (script_tops u) ≡ true → is_among (by_symbol s) (script_tops t) ≡ true
+-- ---- the whole
 
--- ---- imports
-
--- what is written for a node imports no more: all but an import, a list with one and a program
--- import nothing
-abbrev pub ImportsLess : (Position → Tree → Tree → Type 0) → Type 0
-ImportsLess R = (p : Position) (n w : Tree) → R p n w → (s : ℕ) → is_among (by_symbol s) (imported_names w) ≡ true → is_among (by_symbol s) (imported_names n) ≡ true
-
--- then after a step in a program no other may change what it couldn't
-abbrev pub LentShrinks : (Position → Tree → Tree → Type 0) → Type 0
-LentShrinks R = KeepsNames R → KeepsShapes R → TopsLess R → ImportsLess R → (t u : Tree) → Step R Elsewhere t u → IsWellShaped t → Scoped Read [] t → (s : ℕ) → is_lent u s ≡ true → is_lent t s ≡ true
-
--- ---- imports and exports
-
--- where a statement, a list or a part of an export stands, and no expression
-abbrev pub is_port_place : Position → Bool
-is_port_place Elsewhere = true
-is_port_place StatementList = true
-is_port_place BodyList = true
-is_port_place CommaList = true
-is_port_place (Stmt z) = true
-is_port_place p = false
-
--- what is written for a node there imports and exports no more
-abbrev pub PortsLess : (Position → Tree → Tree → Type 0) → Type 0
-PortsLess R = (p : Position) (n w : Tree) → R p n w → is_port_place p ≡ true → (s : ℕ) → is_among (by_symbol s) (module_names w) ≡ true → is_among (by_symbol s) (module_names n) ≡ true
-
--- then a step in a program shows no name to others that it didn't
-abbrev pub ShownShrinks : (Position → Tree → Tree → Type 0) → Type 0
-ShownShrinks R = KeepsNames R → KeepsShapes R → TopsLess R → PortsLess R → (t u : Tree) → Step R Elsewhere t u → IsWellShaped t → Scoped Read [] t → (s : ℕ) → is_shown u s ≡ true → is_shown t s ≡ true
-
--- ---- the whole: by what a relation keeps of one node, and with bodies that stand for others, as any lawful one gives them
-
+-- So what is told of a body of a program is told of it after any number of steps of a lawful
+-- relation that reads less
 abbrev pub ToldWithin : (Position → Tree → Tree → Type 0) → Type 0
 ToldWithin R =
-    KeepsNames R → KeepsShapes R → ReadsLess R → TopsLess R → ImportsLess R → PortsLess R → (q v : Tree) → Reaches R Elsewhere q v → IsWellShaped q → Scoped Read [] q → Distinct (declared_symbols q)
-    → (W D : VariableSet) (S : BodySets) → BodiesUnder W S D (bodies_in q) (bodies_in v) → (b : ℕ) → Within (told_of q b) (told_of v b)
+    (K : Shape → Bool) (W : VariableSet) (S : BodySets) → LawfulUnder K W S R → ReadsLess R → (q v : Tree) → Reaches R Elsewhere q v → IsWellShaped q → Scoped Read [] q → Distinct (declared_symbols q)
+    → (b : ℕ) → Within (told_of q b) (told_of v b)

@@ -5,9 +5,9 @@
 ghost use Rattle.mini_shrink.specs.Exact.{ExactIsSo, ExactWithin};
 ghost use Rattle.mini_shrink.specs.Examples.{after_it};
 ghost use Rattle.mini_shrink.specs.Facts.{ReadsLessShrinks};
-ghost use Rattle.mini_shrink.specs.Regular.{EarlyByScopes, ForeignByScopes};
+ghost use Rattle.mini_shrink.specs.Regular.{EarlyByScopes, ForeignByScopes, ProgramsAreRegular};
 ghost use Rattle.mini_shrink.specs.Told.{ToldShrinks};
-ghost use Rattle.mini_shrink.specs.ToldOn.{LentShrinks, ShownShrinks, ToldIsSo, ToldOn, ToldWithin};
+ghost use Rattle.mini_shrink.specs.ToldOn.{PlacesShow, ToldIsSo, ToldOn, ToldWithin};
 
 use mini_laws::Rewrites;
 
@@ -24,6 +24,11 @@ pub fn told_shrinks<R: Rewrites>()
     ensures { ToldShrinks R.gives }
 {}
 
+/// Each program has the shape on which the order of reads and declarations rests.
+pub fn programs_are_regular()
+    ensures { ProgramsAreRegular }
+{}
+
 /// What is foreign by all names and all moments of a program is so by what shrinks.
 pub fn foreign_by_scopes()
     ensures early { EarlyByScopes }
@@ -34,8 +39,7 @@ pub fn foreign_by_scopes()
 pub fn told_on<R: Rewrites>()
     ensures so { ToldIsSo }
     ensures on { ToldOn R.gives }
-    ensures lent { LentShrinks R.gives }
-    ensures shown { ShownShrinks R.gives }
+    ensures shown { PlacesShow R.gives }
     ensures within { ToldWithin R.gives }
 {}
 
