@@ -4,7 +4,8 @@
 //     node --expose-internals bench/cases.js
 //
 // reads the files of bench/rows and writes the lines under the title below into crates/mini_cases/stdin and
-// crates/mini_cases/stdout, with a checksum of those files, by which .ci/quick sees whether they are as old as the lines.
+// crates/mini_cases/stdout, with a checksum of those files, by which .ci/quick sees whether they are as old as the lines. Behind them
+// stand the runs of odd.js, with a checksum of odd-input.txt.
 //
 // A file of bench/rows has a case a line. A line that begins with `#` is the title of those that follow. A case is one of
 //
@@ -19,37 +20,30 @@
 const { createHash } = require("crypto");
 const fs = require("fs");
 const path = require("path");
-const { countNumbers, countSymbols, parseLeniently, text, written } = require("./estree.js");
+const { text } = require("./estree.js");
+const odd = require("./odd.js");
+const { estree, outcomeOf, saidOptions } = require("./outcome.js");
 
 const TITLE = "# Whole runs: which numbers and symbols stay, how many passes it takes, and the program";
+const ODD = "# Odd input, calls that fail, and programs that nest deep: whole runs over memory, as above";
 const UNBOUNDED = 4294967295;
 const ROWS = path.join(__dirname, "rows");
 const CASES = path.join(__dirname, "..", "crates", "mini_cases");
 
-const upTo = (count) => Array.from({ length: count }, (_, at) => at);
-const numbers = (said) => `[${(Array.isArray(said) ? said : upTo(said)).join(",")}]`;
-
-// A module is told by what only a module has.
-const typeOf = (source) => (/^(import|export)\b|\bimport\.meta/m.test(source) ? "module" : "script");
-const estree = (source) => parseLeniently(source, typeOf(source));
-
 // What the answer says of a program that becomes another one, or stays.
-function answered(source, after, told) {
-  const [before, program] = [estree(source), text(written(estree(after)))];
-  const stays = text(written(before)) === program;
-  const usual = { kept: countNumbers(before), symbols: countSymbols(before), passes: stays ? 1 : 2, settled: true };
-  const { kept, symbols, passes, settled, bound = UNBOUNDED } = { ...usual, ...told };
-  return { bound, answer: `${numbers(kept)} ${numbers(symbols)} ${passes} ${settled} ${program}` };
+function answered(source, after, said) {
+  const { kept, symbols, passes, settled, program, bound = UNBOUNDED } = outcomeOf(source, after, said);
+  return { bound, answer: `${kept} ${symbols} ${passes} ${settled} ${program}` };
 }
 
 // The case that a line tells.
 function caseOf(line) {
   const refusal = /^(.*) \/\/ (\w+) at (\/\S*)$/.exec(line);
-  const [programs, told = "{}"] = line.split(/ \/\/ (?={.*}$)/);
+  const [programs, said = "{}"] = line.split(/ \/\/ (?={.*}$)/);
   const [source, after] = refusal ? [refusal[1]] : programs.split(/(?<=[;}]) =>(?: |$)/);
   const { bound, answer } = refusal
     ? { bound: UNBOUNDED, answer: `${refusal[2]} ${refusal[3]}` }
-    : answered(source, after, Function(`return (${told});`)());
+    : answered(source, after, saidOptions(said));
   return { source, line: `answer ${bound} ${text(estree(source))}`, answer };
 }
 
@@ -71,9 +65,16 @@ function extend(file, lines) {
 
 const files = fs.readdirSync(ROWS).filter((name) => name.endsWith(".txt")).sort();
 const rows = files.map((name) => fs.readFileSync(path.join(ROWS, name), "utf8"));
-const checksum = `# bench/rows: ${createHash("sha256").update(rows.join("")).digest("hex")}`;
+const checksum = (name, told) => `# ${name}: ${createHash("sha256").update(told).digest("hex")}`;
 const cases = rows.flatMap(casesOf);
-const lines = (told) => [checksum, ...cases.flatMap((item) => [item.title, `# ${item.source}`, told(item)])];
+const runs = odd.oddRuns();
+const lines = (told) => [
+  checksum("bench/rows", rows.join("")),
+  ...cases.flatMap((item) => [item.title, `# ${item.source}`, told(item)]),
+  ODD,
+  checksum("bench/odd-input.txt", fs.readFileSync(odd.FILE)),
+  ...runs.flatMap((item, at) => (item.title === runs[at - 1]?.title ? [told(item)] : [`# ${item.title}`, told(item)])),
+];
 extend("stdin", lines((item) => item.line));
 extend("stdout", lines((item) => item.answer));
-console.log(`${cases.length} runs`);
+console.log(`${cases.length + runs.length} runs`);

@@ -30,7 +30,7 @@ fn assigned(
     }
 }
 
-// And `x?.m`.
+// 46: `x?.m`, and else `(x = a) ?? b` or `(x = a)?.m`.
 #[tactic(auto, using(crate::proofs::Joining::chained_first, crate::proofs::Joining::chained_told, crate::proofs::Joining::chained_then, crate::proofs::Joining::chained_says))]
 fn chained(alloc: Global, node: &mut Node, seat: Seat, scopes: &Scopes) -> Result<bool, OutOfMemory>
     ensures tree { OnOk result (node.new ≡ unwrap_or (joined.chained_written (marked scopes.now) seat node.old) node.old) }

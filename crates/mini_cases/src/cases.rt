@@ -1,11 +1,11 @@
 // Cases and their answers.
 
 use crate::answer::Answer;
-use crate::depth::{read_deep, write_deep};
+use crate::depth::{DeepTask, do_deep, write_deep};
 use crate::library::lighter;
 use crate::lists::{change_nodes, change_numbers};
 use crate::literals::{answer_text, join, number_text};
-use crate::memory::{choose, code, run_in_memory, run_on_spaces};
+use crate::memory::{choose, code, run_in_memory, run_on_spaces, run_plainly};
 use crate::nested::resolve_nested;
 use crate::programs::{Task, answer_program, echo, write_again};
 use crate::weights::{Weighed, weigh};
@@ -32,13 +32,16 @@ enum Case {
     /// The weights of what is read are told.
     Weight(Weighed),
     Run,
+    /// A run whose source and sinks never fail.
+    Plain,
     Options,
     Numeral,
     Joined,
     List,
     Statements,
     Expressions,
-    Read,
+    /// A value that nests deeper than the text of JSON may.
+    Deep(DeepTask),
     /// Something is done with a number.
     Number(NumberCase),
 }
@@ -52,7 +55,7 @@ enum NumberCase {
     Nested,
 }
 
-const CASES: [(&str, Case); 28] = [
+const CASES: [(&str, Case); 30] = [
     ("#", Case::Title),
     ("tell", Case::Program(Task::Tell)),
     ("numbers", Case::Program(Task::Numbers)),
@@ -65,6 +68,7 @@ const CASES: [(&str, Case); 28] = [
     ("expression", Case::Weight(Weighed::Expression)),
     ("statement", Case::Weight(Weighed::Statement)),
     ("run", Case::Run),
+    ("plain", Case::Plain),
     ("options", Case::Options),
     ("text", Case::Text(TextCase::Name)),
     ("shortened", Case::Text(TextCase::Shortened)),
@@ -76,7 +80,8 @@ const CASES: [(&str, Case); 28] = [
     ("list", Case::List),
     ("statements", Case::Statements),
     ("expressions", Case::Expressions),
-    ("read", Case::Read),
+    ("read", Case::Deep(DeepTask::Read)),
+    ("deep", Case::Deep(DeepTask::Minify)),
     ("spaces", Case::Number(NumberCase::Spaces)),
     ("code", Case::Number(NumberCase::Code)),
     ("write", Case::Number(NumberCase::Write)),
@@ -104,13 +109,14 @@ fn answer_case(alloc: Global, case: Case, rest: &str, out: &mut Answer) {
         Case::Echo => echo(alloc, rest, out),
         Case::Weight(weighed) => weigh(alloc, weighed, rest, out),
         Case::Run => run_in_memory(alloc, rest, out),
+        Case::Plain => run_plainly(alloc, rest, out),
         Case::Options => choose(alloc, rest, out),
         Case::Numeral => number_text(alloc, rest, out),
         Case::Joined => join(alloc, rest, out),
         Case::List => change_numbers(alloc, rest, out),
         Case::Statements => change_nodes(alloc, rest, Position::Stmt(StmtSeat::List), out),
         Case::Expressions => change_nodes(alloc, rest, Position::Expr(seats::if_test()), out),
-        Case::Read => read_deep(alloc, rest, out),
+        Case::Deep(task) => do_deep(alloc, task, rest, out),
         Case::Number(case) => answer_number(alloc, case, rest, out),
     }
 }

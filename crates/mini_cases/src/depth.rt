@@ -6,7 +6,7 @@ ghost use Rattle.mini_writer.proofs.Loads.{name_count, name_counts};
 
 use crate::answer::Answer;
 use crate::lists::name_node;
-use crate::programs::tell;
+use crate::programs::{minify_within, tell};
 use crate::words::small_numbered;
 use mini_estree::write_program;
 use mini_model::{OutOfMemory, Shape, TextList};
@@ -75,18 +75,34 @@ fn first_expression(program: &Value) -> Option<&Value> {
     program.get("body")?.get(0)?.get("expression")
 }
 
-fn read_nested(alloc: Global, max_depth: u32, count: u32, out: &mut Answer) {
+/// What is done with a value that nests deep.
+#[derive(Clone, Copy)]
+pub enum DeepTask {
+    /// It is read.
+    Read,
+    /// It is minified.
+    Minify,
+}
+
+fn do_nested(alloc: Global, task: DeepTask, max_depth: u32, value: &Value, out: &mut Answer) {
+    match task {
+        DeepTask::Read => tell(alloc, max_depth, value, out),
+        DeepTask::Minify => minify_within(alloc, max_depth, value, out),
+    }
+}
+
+fn make_nested(alloc: Global, task: DeepTask, max_depth: u32, count: u32, out: &mut Answer) {
     match nested_value(alloc, count) {
-        Some(value) => tell(alloc, max_depth, &value, out),
+        Some(value) => do_nested(alloc, task, max_depth, &value, out),
         None => out.fail(),
     }
 }
 
-/// Whether a value with so many `!` is read where nodes may nest so deep.
-pub fn read_deep(alloc: Global, text: &str, out: &mut Answer) {
+/// Whether a value with so many `!` is read, or what is made of it, where nodes may nest so deep.
+pub fn do_deep(alloc: Global, task: DeepTask, text: &str, out: &mut Answer) {
     match small_numbered(text) {
         Some((max_depth, count)) => match count.parse::<u32>() {
-            Ok(count) => read_nested(alloc, max_depth, count, out),
+            Ok(count) => make_nested(alloc, task, max_depth, count, out),
             Err(_) => out.fail(),
         },
         None => out.fail(),

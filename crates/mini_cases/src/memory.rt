@@ -4,7 +4,7 @@
 use crate::answer::Answer;
 use crate::words::numbered;
 use mini_peephole::{Status, run};
-use mini_run::{MemSink, MemSource, Words, read_options};
+use mini_run::{MemSink, MemSource, PlainSink, PlainSource, Words, read_options};
 use std::alloc::Global;
 
 /// What a run is over: how many bytes a call moves, for how many bytes the sink has room, and which
@@ -168,6 +168,20 @@ fn run_with(alloc: Global, setting: Setting, text: &str, out: &mut Answer) {
     let (words, input) = words_of(alloc, text, out);
     let input = bytes_of(alloc, input, out);
     run_on(alloc, setting, &words, input, out);
+}
+
+/// A run whose source and sinks never fail, over words, each with a bar behind it, and the input: the status, and how many bytes are
+/// left, written and told.
+pub fn run_plainly(alloc: Global, text: &str, out: &mut Answer) {
+    let (words, input) = words_of(alloc, text, out);
+    let mut source = PlainSource::new(bytes_of(alloc, input, out));
+    let mut sink = PlainSink::new();
+    let mut notes = PlainSink::new();
+    let status = run(alloc, &words, &mut source, &mut sink, &mut notes);
+    out.show(&status.code());
+    out.word(&source.left().len());
+    out.word(&sink.taken());
+    out.word(&notes.taken());
 }
 
 /// A run on so many spaces, where no call fails and each moves all that it can.

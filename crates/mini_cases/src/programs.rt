@@ -32,7 +32,7 @@ pub enum Task {
 const MAX_DEPTH: u32 = 30;
 
 // How long a pointer may be that is told.
-const MAX_POINTER: usize = 1_000;
+const MAX_POINTER: usize = 4_000;
 
 /// What is asked of the value of a text, before which a number may stand.
 pub fn answer_program(alloc: Global, task: Task, text: &str, out: &mut Answer) {
@@ -51,8 +51,8 @@ fn answer_value(alloc: Global, task: Task, number: u32, value: &Value, out: &mut
         Task::Tell => tell(alloc, number, value, out),
         Task::Numbers => count_numbers(alloc, value, out),
         Task::Sizes => sizes(value, out),
-        Task::Minify => minify(alloc, number, value, false, out),
-        Task::Answer => minify(alloc, number, value, true, out),
+        Task::Minify => minify(alloc, &passes_of(number), value, false, out),
+        Task::Answer => minify(alloc, &passes_of(number), value, true, out),
     }
 }
 
@@ -135,21 +135,39 @@ fn tell_minified(found: &Minified, with_numbers: bool, out: &mut Answer) {
     out.word(&found.program);
 }
 
-fn options_of(passes: u32) -> CompressOptions {
+fn passes_of(passes: u32) -> CompressOptions {
     CompressOptions {
         passes,
         ..CompressOptions::new()
     }
 }
 
-fn minify(alloc: Global, passes: u32, value: &Value, with_numbers: bool, out: &mut Answer) {
+fn depth_of(max_depth: u32) -> CompressOptions {
+    CompressOptions {
+        max_depth,
+        ..CompressOptions::new()
+    }
+}
+
+fn minify(
+    alloc: Global,
+    options: &CompressOptions,
+    value: &Value,
+    with_numbers: bool,
+    out: &mut Answer,
+) {
     if !fits(value) {
         return out.fail();
     }
-    match minify_estree(alloc, value, &options_of(passes)) {
+    match minify_estree(alloc, value, options) {
         Ok(found) => tell_minified(&found, with_numbers, out),
         Err(error) => refuse(&error, out),
     }
+}
+
+/// What the minifier makes of a value whose nodes may nest so deep.
+pub fn minify_within(alloc: Global, max_depth: u32, value: &Value, out: &mut Answer) {
+    minify(alloc, &depth_of(max_depth), value, false, out);
 }
 
 fn echoed_text(alloc: Global, text: &str) -> Option<String> {

@@ -16,7 +16,7 @@ use mini_node::{
 };
 use mini_terms::is_effect_free;
 
-/// `x = b`
+/// Whether the expression is `x = b`, an assignment to a name.
 pub fn assigns_name(node: &Node) -> bool
     ensures kind { result ≡ it_assigns_name node.now }
     ensures parts { result ≡ true → count (children node.now) ≡ 2 }
@@ -39,7 +39,7 @@ fn is_same_operator(first: AssignmentOperator, second: AssignmentOperator) -> bo
     are_equal(first, second)
 }
 
-/// Whether it is an assignment by this operator.
+/// Whether the expression is an assignment by this operator.
 pub fn assigns_by(operator: AssignmentOperator, node: &Node) -> bool
     ensures kind { result ≡ is_operator operator (its_operator node.now) }
     ensures parts { result ≡ true → count (children node.now) ≡ 2 }
@@ -50,7 +50,7 @@ pub fn assigns_by(operator: AssignmentOperator, node: &Node) -> bool
     }
 }
 
-/// Whether it is an assignment by `=`.
+/// Whether the expression is an assignment by `=`.
 pub fn assigns_plainly(node: &Node) -> bool
     ensures kind { result ≡ is_plain (its_operator node.now) }
     ensures parts { result ≡ true → count (children node.now) ≡ 2 }
@@ -72,7 +72,7 @@ fn is_written_key(node: &Node) -> bool
     string(node).is_some() || number(node).is_some()
 }
 
-/// Whether it is a member with a key that is written out: `x.k`, `x["a-b"]` or `x[0]`.
+/// Whether the expression is a member with a key that is written out: `x.k`, `x["a-b"]` or `x[0]`.
 pub fn has_written_key(node: &Node) -> bool
     ensures kind { result ≡ has_it_written_key node.now }
     ensures parts { result ≡ true → count (children node.now) ≡ 2 }
@@ -81,14 +81,14 @@ pub fn has_written_key(node: &Node) -> bool
         || is_computed_member(node) && is_written_key(node.child(1))
 }
 
-// The same where a scope declares x.
+// Whether it is a member with a key that is written out, of a name that a scope declares.
 fn is_member_of_name(node: &Node) -> bool
     ensures { result ≡ is_it_member_of_name node.now }
 {
     has_written_key(node) && is_identifier(node.child(0)) && is_declared(node.child(0))
 }
 
-/// Whether they are two members of names with keys that are written out, and one.
+/// Whether the two are members of names with keys that are written out, and one member.
 pub fn is_same_member(first: &Node, second: &Node) -> bool
     ensures { result ≡ is_it_same_member first.now second.now }
 {
@@ -106,21 +106,22 @@ fn is_indexed_name(node: &Node, asked: bool) -> bool
         && is_declared(node.child(0))
 }
 
-/// Whether they are two members of names with keys in brackets that have no effect, and one.
+/// Whether the two are members of names with keys in brackets that have no effect, and one member.
+/// `asked` says that `this` is asked of the world, and so has an effect.
 pub fn is_same_indexed(first: &Node, second: &Node, asked: bool) -> bool
     ensures { result ≡ is_it_same_indexed asked first.now second.now }
 {
     is_indexed_name(first, asked) && is_same_tree(first, second)
 }
 
-/// Whether they are two names, or members of names with keys that are written out, and one.
+/// Whether the two are names, or members of names with keys that are written out, and one of them.
 pub fn is_same_target(first: &Node, second: &Node) -> bool
     ensures { result ≡ is_it_same_target first.now second.now }
 {
     (is_identifier(first) || is_member_of_name(first)) && is_same_tree(first, second)
 }
 
-/// Whether they are two names, and one.
+/// Whether the two are names, and one name.
 pub fn is_same_name(first: &Node, second: &Node) -> bool
     ensures { result ≡ is_it_same_name first.now second.now }
 {
@@ -136,7 +137,7 @@ fn is_declared_in(name: &Option<Name>) -> bool
     }
 }
 
-/// Whether a scope declares the name.
+/// Whether a scope declares the name that the expression is.
 pub fn is_declared(node: &Node) -> bool
     ensures { result ≡ is_it_declared node.now }
 {
@@ -156,7 +157,7 @@ fn may_write(name: &Option<Name>, scopes: &Scopes) -> bool
     }
 }
 
-/// `x = b`, where x can be written
+/// Whether the expression is `x = b`, where x can be written.
 pub fn writes_name(node: &Node, scopes: &Scopes) -> bool
     ensures kind { result ≡ it_writes_name (marked scopes.now) node.now }
     ensures parts { result ≡ true → count (children node.now) ≡ 2 }

@@ -119,7 +119,7 @@ fn chosen_first(alloc: Global, test: Node, first: Node, second: Node) -> Result<
     conditional(alloc, test, first, second)
 }
 
-/// `f(a ? p : q, r)`
+/// `f(a ? p : q, r)` of `a ? f(p, r) : f(q, r)`. The only error is that memory runs out.
 pub fn called(alloc: Global, node: Node) -> Result<Node, OutOfMemory>
     ensures { IfOk result (λ w. w ≡ called_of node) }
 {

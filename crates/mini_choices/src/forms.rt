@@ -20,7 +20,7 @@ fn is_zero(node: &Node) -> bool
     }
 }
 
-/// `void 0`
+/// Whether the expression is `void 0`.
 pub fn is_void_zero(node: &Node) -> bool
     ensures { result ≡ is_it_void_zero node.now }
 {
@@ -46,14 +46,14 @@ fn is_global_undefined(node: &Node) -> bool
     is_identifier(node) && is_undefined_name(node.name())
 }
 
-/// `undefined`, which no scope declares, or `void 0`.
+/// Whether the expression is `void 0`, or the name `undefined` that no scope declares.
 pub fn is_undefined(node: &Node) -> bool
     ensures { result ≡ is_it_undefined node.now }
 {
     is_void_zero(node) || is_global_undefined(node)
 }
 
-/// Whether they are `null` and what stands for undefined, in one order or the other.
+/// Whether the two are `null` and what stands for undefined, in one order or the other.
 pub fn are_nullish(first: &Node, second: &Node) -> bool
     ensures { result ≡ are_they_nullish first.now second.now }
 {

@@ -1,5 +1,5 @@
 -- What is foreign to a body.
-use Rattle.std.specs.Prelude.{ℕ, suc, ◌≡◌, ◌<◌, refl, ◌&&◌, ◌||◌, not, Bool, true, false, cond, List, [], ◌∷◌, ◌++◌, map}
+use Rattle.std.specs.Prelude.{ℕ, suc, ◌≡◌, ◌<◌, refl, ◌&&◌, ◌||◌, not, Bool, true, false, cond, List, [], ◌∷◌, map}
 use Rattle.std.specs.List.{filter, list_any}
 use Rattle.std.proofs.Common.{ap, ◌∙◌, sym}
 use Rattle.std.proofs.lemmas.List.Folds.{list_any-append}
@@ -8,21 +8,19 @@ use Rattle.mini_model.specs.Tree.{Tree, Trees, node, none, ◌▸◌}
 use Rattle.mini_laws.specs.declared.names.Use.{Use}
 use Rattle.mini_laws.specs.declared.names.Use.TheVariants.{Read}
 use Rattle.mini_laws.specs.declared.names.Around.{Around}
-use Rattle.mini_laws.specs.declared.names.Binding.{Binding}
-use Rattle.mini_laws.specs.Resolved.{Environment}
 use Rattle.mini_laws.specs.References.{writes}
-use Rattle.mini_laws.specs.Scopes.{use_of, opened}
+use Rattle.mini_laws.specs.Scopes.{use_of}
 use Rattle.mini_laws.specs.Mentions.{Mention, around_child, same_variable, is_among, is_elsewhere, outermost, program_mentions}
 use Rattle.mini_laws.specs.ScopeList.{seen_by_eval}
 use Rattle.mini_laws.specs.Shared.{given_values, is_shared, program_var_writes, reached_by_arguments, script_tops, var_writes, var_writes_from, write_at}
 use Rattle.mini_laws.specs.Foreign.{all_writes, imported_names, is_declared_in, is_foreign, is_foreign_always, is_read_early, is_write, lexical_variables, may_be_uninitialised, moments, pattern_names, switched as switched_names}
 use Rattle.mini_context.specs.Enclosing.{is_around}
-use Rattle.mini_context.specs.Facts.{Facts, Looked, foreign, foreign_always, is_changed, is_changed_outside, may_be_unset, shares, written_in_catch}
+use Rattle.mini_context.specs.Facts.{Facts, Looked, foreign, foreign_always, is_changed, is_changed_outside, may_be_unset, shares}
 use Rattle.mini_context.specs.Lists.{holds}
 use Rattle.mini_context.specs.Mentioned.{is_outside, is_somewhere, mentioned_at}
 use Rattle.mini_context.specs.Tables.{mark_at, named}
 use Rattle.mini_context.specs.Visits.{is_writing}
-use Rattle.mini_context.proofs.Shares.{catch_told, somewhere_told, tables_share}
+use Rattle.mini_context.proofs.Shares.{somewhere_told, tables_share}
 
 -- ---- what a `var` writes is a write
 
@@ -34,27 +32,27 @@ and_false : (v : Bool) → (v && false) ≡ false
 and_false true = refl
 and_false false = refl
 
-map_any : (p q : Mention → Bool) (env : Environment) (a : Around) → ((y : Name) → p (write_at env a y) ≡ q (write_at env a y)) → (xs : List Name) → list_any p (map (write_at env a) xs) ≡ list_any q (map (write_at env a) xs)
-map_any p q env a e [] = refl
-map_any p q env a e (x ∷ xs) = ap (λ v. v || list_any p (map (write_at env a) xs)) (e x) ∙ ap (λ v. q (write_at env a x) || v) (map_any p q env a e xs)
+map_any : (p q : Mention → Bool) (a : Around) → ((y : Name) → p (write_at a y) ≡ q (write_at a y)) → (xs : List Name) → list_any p (map (write_at a) xs) ≡ list_any q (map (write_at a) xs)
+map_any p q a e [] = refl
+map_any p q a e (x ∷ xs) = ap (λ v. v || list_any p (map (write_at a) xs)) (e x) ∙ ap (λ v. q (write_at a x) || v) (map_any p q a e xs)
 
 mutual
   unfolding var_writes
 
-  given_any : (p q : Mention → Bool) → ((env : Environment) (a : Around) (y : Name) → p (write_at env a y) ≡ q (write_at env a y)) → (u : Use) (env : Environment) (a : Around) (t : Tree) → list_any p (var_writes u env a t) ≡ list_any q (var_writes u env a t)
-  given_any p q e u env a (node h xs n ts) =
-      let own = map (write_at env a) (given_values u h ts) in
-      let rest = var_writes_from (opened u h ts) (use_of h u) (around_child h a n) 0 env ts in
-      list_any-append p own rest ∙ ap (λ v. v || list_any p rest) (map_any p q env a (e env a) (given_values u h ts))
-      ∙ ap (λ v. list_any q own || v) (all_given_any p q e (opened u h ts) (use_of h u) (around_child h a n) 0 env ts) ∙ sym (list_any-append q own rest)
+  given_any : (p q : Mention → Bool) → ((a : Around) (y : Name) → p (write_at a y) ≡ q (write_at a y)) → (u : Use) (a : Around) (t : Tree) → list_any p (var_writes u a t) ≡ list_any q (var_writes u a t)
+  given_any p q e u a (node h xs n ts) =
+      let own = map (write_at a) (given_values u h xs ts) in
+      let rest = var_writes_from (use_of h u) (around_child h a n) 0 ts in
+      list_any-append p own rest ∙ ap (λ v. v || list_any p rest) (map_any p q a (e a) (given_values u h xs ts))
+      ∙ ap (λ v. list_any q own || v) (all_given_any p q e (use_of h u) (around_child h a n) 0 ts) ∙ sym (list_any-append q own rest)
 
-  all_given_any : (p q : Mention → Bool) → ((env : Environment) (a : Around) (y : Name) → p (write_at env a y) ≡ q (write_at env a y)) → (scope : ℕ → List Binding) (uses : ℕ → Use) (arounds : ℕ → Around) (i : ℕ) (env : Environment) (ts : Trees) → list_any p (var_writes_from scope uses arounds i env ts) ≡ list_any q (var_writes_from scope uses arounds i env ts)
-  all_given_any p q e scope uses arounds i env none = refl
-  all_given_any p q e scope uses arounds i env (t ▸ ts) =
-      let one = var_writes (uses i) (env ++ scope i) (arounds i) t in
-      let rest = var_writes_from scope uses arounds (suc i) (env ++ scope i) ts in
-      list_any-append p one rest ∙ ap (λ v. v || list_any p rest) (given_any p q e (uses i) (env ++ scope i) (arounds i) t)
-      ∙ ap (λ v. list_any q one || v) (all_given_any p q e scope uses arounds (suc i) (env ++ scope i) ts) ∙ sym (list_any-append q one rest)
+  all_given_any : (p q : Mention → Bool) → ((a : Around) (y : Name) → p (write_at a y) ≡ q (write_at a y)) → (uses : ℕ → Use) (arounds : ℕ → Around) (i : ℕ) (ts : Trees) → list_any p (var_writes_from uses arounds i ts) ≡ list_any q (var_writes_from uses arounds i ts)
+  all_given_any p q e uses arounds i none = refl
+  all_given_any p q e uses arounds i (t ▸ ts) =
+      let one = var_writes (uses i) (arounds i) t in
+      let rest = var_writes_from uses arounds (suc i) ts in
+      list_any-append p one rest ∙ ap (λ v. v || list_any p rest) (given_any p q e (uses i) (arounds i) t)
+      ∙ ap (λ v. list_any q one || v) (all_given_any p q e uses arounds (suc i) ts) ∙ sym (list_any-append q one rest)
 
 -- ---- of the other mentions those that write
 
@@ -87,13 +85,13 @@ writing_outside s b (m ∷ ms) =
 
 -- ---- what the tables tell
 
-value_writes : (s : ℕ) (env : Environment) (a : Around) (y : Name) → same_variable (named s) (write_at env a y).name ≡ is_write (named s) (write_at env a y)
-value_writes s env a y = sym (and_true (same_variable (named s) (write_at env a y).name && true) ∙ and_true (same_variable (named s) (write_at env a y).name))
+value_writes : (s : ℕ) (a : Around) (y : Name) → same_variable (named s) y ≡ is_write (named s) (write_at a y)
+value_writes s a y = sym (and_true (same_variable (named s) y && true) ∙ and_true (same_variable (named s) y))
 
 pub changed_told : (f : Facts) (n : ℕ) (t : Tree) → Looked f n t → (s : ℕ) → s < n → is_changed f s ≡ list_any (is_write (named s)) (all_writes t)
 changed_told f n t w s h =
     let p : Mention → Bool = λ m. same_variable (named s) m.name in
-    ap (λ v. v || is_somewhere (mentioned_at f.written s)) (somewhere_told p (mentioned_at f.given s) (program_var_writes t) (λ b. w.given_told s h b) ∙ given_any p (is_write (named s)) (value_writes s) Read [] outermost t)
+    ap (λ v. v || is_somewhere (mentioned_at f.written s)) (somewhere_told p (mentioned_at f.given s) (program_var_writes t) (λ b. w.given_told s h b) ∙ given_any p (is_write (named s)) (value_writes s) Read outermost t)
     ∙ ap (λ v. list_any (is_write (named s)) (program_var_writes t) || v) (somewhere_told p (mentioned_at f.written s) (filter is_writing (program_mentions t)) (λ b. w.written_told s h b) ∙ writing s (program_mentions t))
     ∙ sym (list_any-append (is_write (named s)) (program_var_writes t) (program_mentions t))
 
@@ -101,7 +99,7 @@ pub changed_outside_told : (f : Facts) (n : ℕ) (t : Tree) → Looked f n t →
 changed_outside_told f n t w s b h =
     let p : Mention → Bool = λ m. same_variable (named s) m.name && is_elsewhere b m.around in
     let q : Mention → Bool = λ m. is_write (named s) m && is_elsewhere b m.around in
-    ap (λ v. v || is_outside (mentioned_at f.written s) b) (w.given_told s h b ∙ given_any p q (λ env a y. ap (λ v. v && is_elsewhere b a) (value_writes s env a y)) Read [] outermost t)
+    ap (λ v. v || is_outside (mentioned_at f.written s) b) (w.given_told s h b ∙ given_any p q (λ a y. ap (λ v. v && is_elsewhere b a) (value_writes s a y)) Read outermost t)
     ∙ ap (λ v. list_any q (program_var_writes t) || v) (w.written_told s h b ∙ writing_outside s b (program_mentions t))
     ∙ sym (list_any-append q (program_var_writes t) (program_mentions t))
 
@@ -115,12 +113,12 @@ unset_told f n t w s b h =
 
 pub always_told : (f : Facts) (n : ℕ) (t : Tree) → Looked f n t → (s : ℕ) → s < n → foreign_always f s ≡ is_foreign_always t (named s)
 always_told f n t w s h =
-    ap (λ v. v || mark_at f.now_top s || mark_at f.seen s || mark_at f.reached s || mark_at f.patterns s || written_in_catch f s) (w.imported_told s h)
-    ∙ ap (λ v. is_among (named s) (imported_names t) || v || mark_at f.seen s || mark_at f.reached s || mark_at f.patterns s || written_in_catch f s) (w.tops_told s h)
-    ∙ ap (λ v. is_among (named s) (imported_names t) || is_among (named s) (script_tops t) || v || mark_at f.reached s || mark_at f.patterns s || written_in_catch f s) (w.seen_told s h)
-    ∙ ap (λ v. is_among (named s) (imported_names t) || is_among (named s) (script_tops t) || is_among (named s) (seen_by_eval t) || v || mark_at f.patterns s || written_in_catch f s) (w.reached_told s h)
-    ∙ ap (λ v. is_among (named s) (imported_names t) || is_among (named s) (script_tops t) || is_among (named s) (seen_by_eval t) || is_among (named s) (reached_by_arguments false t) || v || written_in_catch f s) (w.patterns_told s h)
-    ∙ ap (λ v. is_among (named s) (imported_names t) || is_among (named s) (script_tops t) || is_among (named s) (seen_by_eval t) || is_among (named s) (reached_by_arguments false t) || is_among (named s) (pattern_names t) || v) (catch_told f n t w s h)
+    ap (λ v. v || mark_at f.now_top s || mark_at f.seen s || mark_at f.reached s || mark_at f.patterns s || mark_at f.pattern_writes s) (w.imported_told s h)
+    ∙ ap (λ v. is_among (named s) (imported_names t) || v || mark_at f.seen s || mark_at f.reached s || mark_at f.patterns s || mark_at f.pattern_writes s) (w.tops_told s h)
+    ∙ ap (λ v. is_among (named s) (imported_names t) || is_among (named s) (script_tops t) || v || mark_at f.reached s || mark_at f.patterns s || mark_at f.pattern_writes s) (w.seen_told s h)
+    ∙ ap (λ v. is_among (named s) (imported_names t) || is_among (named s) (script_tops t) || is_among (named s) (seen_by_eval t) || v || mark_at f.patterns s || mark_at f.pattern_writes s) (w.reached_told s h)
+    ∙ ap (λ v. is_among (named s) (imported_names t) || is_among (named s) (script_tops t) || is_among (named s) (seen_by_eval t) || is_among (named s) (reached_by_arguments false t) || v || mark_at f.pattern_writes s) (w.patterns_told s h)
+    ∙ ap (λ v. is_among (named s) (imported_names t) || is_among (named s) (script_tops t) || is_among (named s) (seen_by_eval t) || is_among (named s) (reached_by_arguments false t) || is_among (named s) (pattern_names t) || v) (w.pattern_writes_told s h)
 
 pub tables_foreign : (f : Facts) (n : ℕ) (t : Tree) → Looked f n t → (s b : ℕ) → s < n → foreign f s b ≡ is_foreign t b (named s)
 tables_foreign f n t w s b h =

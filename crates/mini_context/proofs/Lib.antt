@@ -16,6 +16,7 @@ mod Told
 mod Reached
 mod Shares
 pub mod Known
+mod Patterns
 mod Values
 mod Foreigns
 mod Uses

@@ -18,9 +18,8 @@ use Rattle.mini_laws.specs.declared.names.Declared.TheVariants as declared
 use Rattle.mini_context.specs.declared.parts.Part.{Part}
 use Rattle.mini_context.specs.Own.{is_class_shape}
 use Rattle.mini_laws.specs.Foreign.{own_lexical, own_pattern_names, own_switched}
-use Rattle.mini_laws.specs.Shared.{own_catch_params}
 use Rattle.mini_node.specs.Children.{number_of, trees_of}
-use Rattle.mini_context.specs.Parts.{bound_at, names_at, fixed_part, caught_part, lexical_part, pattern_part, switched_part}
+use Rattle.mini_context.specs.Parts.{bound_at, names_at, fixed_part, lexical_part, pattern_part, switched_part}
 use Rattle.mini_laws.specs.Mentions.{same_variable, same_variable_by, is_among}
 use Rattle.mini_laws.specs.NameBodies.{Frame, Body, own_fixed}
 use Rattle.mini_context.specs.Tables.{mark_at, named, Marked, Noted}
@@ -132,11 +131,6 @@ switched_are : (h : Shape) (ts : Trees) → own_switched h ts ≡ names_at (swit
 switched_are shape.SwitchStatement ts = refl
 switched_are h ts = refl
 
-params_are : (h : Shape) (ts : Trees) → own_catch_params h ts ≡ names_at (caught_part h) ts
-params_are shape.CatchClause none = refl
-params_are shape.CatchClause (t ▸ ts) = refl
-params_are h ts = refl
-
 lexical_are : (b : Bool) (h : Shape) (ts : Trees) → is_class_shape h ≡ false → own_lexical b h ts ≡ names_at (lexical_part b h) ts
 lexical_are b (shape.VariableDeclaration Var) ts e = refl
 lexical_are b (shape.VariableDeclaration k) ts e = refl
@@ -152,9 +146,6 @@ pattern_marks n h k p ts old new e f g i m = part_marks n (own_pattern_names (sh
 
 pub switched_marks : (n : Tree) (h : Shape) (p : Part) (ts : Trees) (old new : List Bool) → h ≡ shape_of n → p ≡ switched_part h → ts ≡ children n → Marked (names_at p ts) old new → Marked (own_switched (shape_of n) (children n)) old new
 switched_marks n h p ts old new e g i m = part_marks n (own_switched (shape_of n)) p (switched_part (shape_of n)) ts old new (switched_are (shape_of n)) (g ∙ ap switched_part e) i m
-
-pub param_marks : (n : Tree) (h : Shape) (p : Part) (ts : Trees) (old new : List Bool) → h ≡ shape_of n → p ≡ caught_part h → ts ≡ children n → Marked (names_at p ts) old new → Marked (own_catch_params (shape_of n) (children n)) old new
-param_marks n h p ts old new e g i m = part_marks n (own_catch_params (shape_of n)) p (caught_part (shape_of n)) ts old new (params_are (shape_of n)) (g ∙ ap caught_part e) i m
 
 pub lexical_marks : (b : Bool) (n : Tree) (h : Shape) (p : Part) (ts : Trees) (old new : List Bool) → h ≡ shape_of n → is_class_shape h ≡ false → p ≡ lexical_part b h → ts ≡ children n → Marked (names_at p ts) old new → Marked (own_lexical b (shape_of n) (children n)) old new
 lexical_marks b n h p ts old new e c g i m = part_marks n (own_lexical b (shape_of n)) p (lexical_part b (shape_of n)) ts old new (λ us. lexical_are b (shape_of n) us (ap is_class_shape (sym e) ∙ c)) (g ∙ ap (lexical_part b) e) i m

@@ -7,13 +7,13 @@ use Rattle.mini_model.specs.declared.name.SymbolId.{SymbolId}
 use Rattle.mini_model.specs.Tree.{Tree}
 use Rattle.mini_laws.specs.Mentions.{Mention, same_variable, is_among, is_elsewhere, is_value_spelling, program_mentions}
 use Rattle.mini_laws.specs.ScopeList.{seen_by_eval}
-use Rattle.mini_laws.specs.Shared.{caught, catch_params, module_names, program_var_writes, reached_by_arguments, script_tops, is_written_in_catch, is_shared}
+use Rattle.mini_laws.specs.Shared.{caught, module_names, program_pattern_writes, reached_by_arguments, script_tops, is_shared}
 use Rattle.mini_context.specs.declared.mentions.Mentioned.{Mentioned}
 use Rattle.mini_context.specs.declared.mentions.Mentioned.TheVariants as mentioned
 use Rattle.mini_context.specs.Outside.{is_mentioned_outside}
 use Rattle.mini_context.specs.Tables.{mark_at, named}
 use Rattle.mini_context.specs.Mentioned.{is_outside, is_somewhere, mentioned_at}
-use Rattle.mini_context.specs.Facts.{Facts, Looked, shares, written_in_catch}
+use Rattle.mini_context.specs.Facts.{Facts, Looked, shares}
 use Rattle.mini_context.proofs.Equal.{apart}
 use Rattle.mini_context.proofs.Marking.{among_by_symbol, same_by_symbol}
 
@@ -25,37 +25,26 @@ any_by_symbol x s q (m ∷ ms) e =
     ap (λ b. (b && q m) || list_any (λ r. same_variable x r.name && q r) ms) (same_by_symbol x s m.name e)
     ∙ ap (λ b. (same_variable (named s.0) m.name && q m) || b) (any_by_symbol x s q ms e)
 
-same_any : (x : Name) (s : SymbolId) (ms : List Mention) → x.symbol ≡ Some s → list_any (λ m. same_variable x m.name) ms ≡ list_any (λ m. same_variable (named s.0) m.name) ms
-same_any x s [] e = refl
-same_any x s (m ∷ ms) e =
-    ap (λ b. b || list_any (λ r. same_variable x r.name) ms) (same_by_symbol x s m.name e)
-    ∙ ap (λ b. same_variable (named s.0) m.name || b) (same_any x s ms e)
-
-caught_by_symbol : (t : Tree) (x : Name) (s : SymbolId) → x.symbol ≡ Some s → is_written_in_catch t x ≡ is_written_in_catch t (named s.0)
-caught_by_symbol t x s e =
-    ap (λ b. b && list_any (λ m. same_variable x m.name) (program_var_writes t)) (among_by_symbol x s (catch_params t) e)
-    ∙ ap (λ b. is_among (named s.0) (catch_params t) && b) (same_any x s (program_var_writes t) e)
-
 -- what it is to be shared, of a name that has a symbol
 abbrev pub shared_by : Tree → ℕ → Name → Bool
 shared_by t b x =
-    (is_among x (script_tops t) || is_among x (module_names t) || is_among x (seen_by_eval t) || is_among x (reached_by_arguments false t) || is_among x (caught t) || is_written_in_catch t x)
+    (is_among x (script_tops t) || is_among x (module_names t) || is_among x (seen_by_eval t) || is_among x (reached_by_arguments false t) || is_among x (caught t) || is_among x (program_pattern_writes t))
     || is_mentioned_outside t b x
 
 resolved_shared : (t : Tree) (b : ℕ) (x : Name) (s : SymbolId) → x.symbol ≡ Some s → is_shared t b x ≡ shared_by t b x
 resolved_shared t b x s e =
-    ap (λ o. not (is_none o && is_value_spelling x.spelling) && ((is_none o || is_among x (script_tops t) || is_among x (module_names t) || is_among x (seen_by_eval t) || is_among x (reached_by_arguments false t) || is_among x (caught t) || is_written_in_catch t x) || is_mentioned_outside t b x)) e
+    ap (λ o. not (is_none o && is_value_spelling x.spelling) && ((is_none o || is_among x (script_tops t) || is_among x (module_names t) || is_among x (seen_by_eval t) || is_among x (reached_by_arguments false t) || is_among x (caught t) || is_among x (program_pattern_writes t)) || is_mentioned_outside t b x)) e
 
 pub shared_by_symbol : (t : Tree) (b : ℕ) (x : Name) (s : SymbolId) → x.symbol ≡ Some s → is_shared t b x ≡ is_shared t b (named s.0)
 shared_by_symbol t b x s e =
     resolved_shared t b x s e
-    ∙ ap (λ v. (v || is_among x (module_names t) || is_among x (seen_by_eval t) || is_among x (reached_by_arguments false t) || is_among x (caught t) || is_written_in_catch t x) || is_mentioned_outside t b x) (among_by_symbol x s (script_tops t) e)
-    ∙ ap (λ v. (is_among (named s.0) (script_tops t) || v || is_among x (seen_by_eval t) || is_among x (reached_by_arguments false t) || is_among x (caught t) || is_written_in_catch t x) || is_mentioned_outside t b x) (among_by_symbol x s (module_names t) e)
-    ∙ ap (λ v. (is_among (named s.0) (script_tops t) || is_among (named s.0) (module_names t) || v || is_among x (reached_by_arguments false t) || is_among x (caught t) || is_written_in_catch t x) || is_mentioned_outside t b x) (among_by_symbol x s (seen_by_eval t) e)
-    ∙ ap (λ v. (is_among (named s.0) (script_tops t) || is_among (named s.0) (module_names t) || is_among (named s.0) (seen_by_eval t) || v || is_among x (caught t) || is_written_in_catch t x) || is_mentioned_outside t b x) (among_by_symbol x s (reached_by_arguments false t) e)
-    ∙ ap (λ v. (is_among (named s.0) (script_tops t) || is_among (named s.0) (module_names t) || is_among (named s.0) (seen_by_eval t) || is_among (named s.0) (reached_by_arguments false t) || v || is_written_in_catch t x) || is_mentioned_outside t b x) (among_by_symbol x s (caught t) e)
-    ∙ ap (λ v. (is_among (named s.0) (script_tops t) || is_among (named s.0) (module_names t) || is_among (named s.0) (seen_by_eval t) || is_among (named s.0) (reached_by_arguments false t) || is_among (named s.0) (caught t) || v) || is_mentioned_outside t b x) (caught_by_symbol t x s e)
-    ∙ ap (λ v. (is_among (named s.0) (script_tops t) || is_among (named s.0) (module_names t) || is_among (named s.0) (seen_by_eval t) || is_among (named s.0) (reached_by_arguments false t) || is_among (named s.0) (caught t) || is_written_in_catch t (named s.0)) || v) (any_by_symbol x s (λ m. is_elsewhere b m.around) (program_mentions t) e)
+    ∙ ap (λ v. (v || is_among x (module_names t) || is_among x (seen_by_eval t) || is_among x (reached_by_arguments false t) || is_among x (caught t) || is_among x (program_pattern_writes t)) || is_mentioned_outside t b x) (among_by_symbol x s (script_tops t) e)
+    ∙ ap (λ v. (is_among (named s.0) (script_tops t) || v || is_among x (seen_by_eval t) || is_among x (reached_by_arguments false t) || is_among x (caught t) || is_among x (program_pattern_writes t)) || is_mentioned_outside t b x) (among_by_symbol x s (module_names t) e)
+    ∙ ap (λ v. (is_among (named s.0) (script_tops t) || is_among (named s.0) (module_names t) || v || is_among x (reached_by_arguments false t) || is_among x (caught t) || is_among x (program_pattern_writes t)) || is_mentioned_outside t b x) (among_by_symbol x s (seen_by_eval t) e)
+    ∙ ap (λ v. (is_among (named s.0) (script_tops t) || is_among (named s.0) (module_names t) || is_among (named s.0) (seen_by_eval t) || v || is_among x (caught t) || is_among x (program_pattern_writes t)) || is_mentioned_outside t b x) (among_by_symbol x s (reached_by_arguments false t) e)
+    ∙ ap (λ v. (is_among (named s.0) (script_tops t) || is_among (named s.0) (module_names t) || is_among (named s.0) (seen_by_eval t) || is_among (named s.0) (reached_by_arguments false t) || v || is_among x (program_pattern_writes t)) || is_mentioned_outside t b x) (among_by_symbol x s (caught t) e)
+    ∙ ap (λ v. (is_among (named s.0) (script_tops t) || is_among (named s.0) (module_names t) || is_among (named s.0) (seen_by_eval t) || is_among (named s.0) (reached_by_arguments false t) || is_among (named s.0) (caught t) || v) || is_mentioned_outside t b x) (among_by_symbol x s (program_pattern_writes t) e)
+    ∙ ap (λ v. (is_among (named s.0) (script_tops t) || is_among (named s.0) (module_names t) || is_among (named s.0) (seen_by_eval t) || is_among (named s.0) (reached_by_arguments false t) || is_among (named s.0) (caught t) || is_among (named s.0) (program_pattern_writes t)) || v) (any_by_symbol x s (λ m. is_elsewhere b m.around) (program_mentions t) e)
     ∙ sym (resolved_shared t b (named s.0) s refl)
 
 -- ---- mentions of which it is known in which bodies they are not
@@ -108,17 +97,12 @@ somewhere_told p mentioned.Widely ms f = sym (somewhere p 0 ms (sym (f 0)))
 
 -- ---- what the tables tell
 
-pub catch_told : (f : Facts) (n : ℕ) (t : Tree) → Looked f n t → (s : ℕ) → s < n → written_in_catch f s ≡ is_written_in_catch t (named s)
-catch_told f n t w s h =
-    ap (λ v. v && is_somewhere (mentioned_at f.given s)) (w.params_told s h)
-    ∙ ap (λ v. is_among (named s) (catch_params t) && v) (somewhere_told (λ m. same_variable (named s) m.name) (mentioned_at f.given s) (program_var_writes t) (λ b. w.given_told s h b))
-
 pub tables_share : (f : Facts) (n : ℕ) (t : Tree) → Looked f n t → (s b : ℕ) → s < n → shares f s b ≡ is_shared t b (named s)
 tables_share f n t w s b h =
-    ap (λ v. (v || mark_at f.exchanged s || mark_at f.seen s || mark_at f.reached s || mark_at f.caught s || written_in_catch f s) || is_outside (mentioned_at f.mentioned s) b) (w.tops_told s h)
-    ∙ ap (λ v. (is_among (named s) (script_tops t) || v || mark_at f.seen s || mark_at f.reached s || mark_at f.caught s || written_in_catch f s) || is_outside (mentioned_at f.mentioned s) b) (w.exchanged_told s h)
-    ∙ ap (λ v. (is_among (named s) (script_tops t) || is_among (named s) (module_names t) || v || mark_at f.reached s || mark_at f.caught s || written_in_catch f s) || is_outside (mentioned_at f.mentioned s) b) (w.seen_told s h)
-    ∙ ap (λ v. (is_among (named s) (script_tops t) || is_among (named s) (module_names t) || is_among (named s) (seen_by_eval t) || v || mark_at f.caught s || written_in_catch f s) || is_outside (mentioned_at f.mentioned s) b) (w.reached_told s h)
-    ∙ ap (λ v. (is_among (named s) (script_tops t) || is_among (named s) (module_names t) || is_among (named s) (seen_by_eval t) || is_among (named s) (reached_by_arguments false t) || v || written_in_catch f s) || is_outside (mentioned_at f.mentioned s) b) (w.caught_told s h)
-    ∙ ap (λ v. (is_among (named s) (script_tops t) || is_among (named s) (module_names t) || is_among (named s) (seen_by_eval t) || is_among (named s) (reached_by_arguments false t) || is_among (named s) (caught t) || v) || is_outside (mentioned_at f.mentioned s) b) (catch_told f n t w s h)
-    ∙ ap (λ v. (is_among (named s) (script_tops t) || is_among (named s) (module_names t) || is_among (named s) (seen_by_eval t) || is_among (named s) (reached_by_arguments false t) || is_among (named s) (caught t) || is_written_in_catch t (named s)) || v) (w.mentioned_told s h b)
+    ap (λ v. (v || mark_at f.exchanged s || mark_at f.seen s || mark_at f.reached s || mark_at f.caught s || mark_at f.pattern_writes s) || is_outside (mentioned_at f.mentioned s) b) (w.tops_told s h)
+    ∙ ap (λ v. (is_among (named s) (script_tops t) || v || mark_at f.seen s || mark_at f.reached s || mark_at f.caught s || mark_at f.pattern_writes s) || is_outside (mentioned_at f.mentioned s) b) (w.exchanged_told s h)
+    ∙ ap (λ v. (is_among (named s) (script_tops t) || is_among (named s) (module_names t) || v || mark_at f.reached s || mark_at f.caught s || mark_at f.pattern_writes s) || is_outside (mentioned_at f.mentioned s) b) (w.seen_told s h)
+    ∙ ap (λ v. (is_among (named s) (script_tops t) || is_among (named s) (module_names t) || is_among (named s) (seen_by_eval t) || v || mark_at f.caught s || mark_at f.pattern_writes s) || is_outside (mentioned_at f.mentioned s) b) (w.reached_told s h)
+    ∙ ap (λ v. (is_among (named s) (script_tops t) || is_among (named s) (module_names t) || is_among (named s) (seen_by_eval t) || is_among (named s) (reached_by_arguments false t) || v || mark_at f.pattern_writes s) || is_outside (mentioned_at f.mentioned s) b) (w.caught_told s h)
+    ∙ ap (λ v. (is_among (named s) (script_tops t) || is_among (named s) (module_names t) || is_among (named s) (seen_by_eval t) || is_among (named s) (reached_by_arguments false t) || is_among (named s) (caught t) || v) || is_outside (mentioned_at f.mentioned s) b) (w.pattern_writes_told s h)
+    ∙ ap (λ v. (is_among (named s) (script_tops t) || is_among (named s) (module_names t) || is_among (named s) (seen_by_eval t) || is_among (named s) (reached_by_arguments false t) || is_among (named s) (caught t) || is_among (named s) (program_pattern_writes t)) || v) (w.mentioned_told s h b)

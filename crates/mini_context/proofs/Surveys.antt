@@ -1,5 +1,5 @@
 -- The walk that fills the tables, and what each table says then.
-use Rattle.std.specs.Prelude.{ℕ, zero, suc, ◌≤◌, ◌<◌, ◌≡◌, refl, nat_eq, List, [], ◌∷◌, ◌++◌, Bool, true, false, ◌&&◌, ◌||◌, cond}
+use Rattle.std.specs.Prelude.{ℕ, zero, suc, ◌≤◌, ◌<◌, ◌≡◌, refl, nat_eq, List, [], ◌∷◌, ◌++◌, map, Bool, true, false, ◌&&◌, ◌||◌, cond}
 use Rattle.std.proofs.Common.{ap, ◌∙◌, sym, subst, arith, append_assoc}
 use Rattle.mini_model.specs.Tree.{Tree, Trees, node, none, ◌▸◌, children, count, child_or_absent, first_or_absent, node_count, node_counts, shape_of}
 use Rattle.mini_laws.specs.NameBodies.{Frame, frame_at, frame_of_body, own_body, own_fixed, bodies, bodies_from, fixed_names, all_fixed_names}
@@ -10,7 +10,7 @@ use Rattle.mini_model.specs.declared.shape.Shape.TheVariants as shape
 use Rattle.mini_laws.specs.declared.names.Declared.TheVariants as declared
 use Rattle.mini_laws.specs.DeclaredNames.{names_of}
 use Rattle.mini_laws.specs.Strict.{is_strict_in}
-use Rattle.mini_laws.specs.Shared.{reached_params, reached_by_arguments, all_reached_by_arguments, own_catch_params, catch_params, all_catch_params, own_caught, caught, all_caught, module_names, module_names_by, all_module_names}
+use Rattle.mini_laws.specs.Shared.{reached_params, reached_by_arguments, all_reached_by_arguments, given_values, write_at, var_writes, var_writes_from, own_caught, caught, all_caught, module_names, module_names_by, all_module_names}
 use Rattle.mini_context.specs.declared.exchanges.Exchange.{Exchange}
 use Rattle.mini_context.specs.declared.exchanges.Exchange.TheVariants as exchange
 use Rattle.mini_laws.specs.declared.names.Use.{Use}
@@ -35,7 +35,7 @@ use Rattle.mini_context.proofs.Joining.{joins_add}
 use Rattle.mini_context.specs.declared.standing.Standing.{Standing}
 use Rattle.mini_context.specs.declared.survey.Tables.{Tables}
 use Rattle.mini_context.specs.Tables.{Marked, Noted}
-use Rattle.mini_context.specs.Visits.{Visit, visits, visits_from, given, below, frame_in, fixed_at, bodies_at, mentions_at, exchanged_at, exchanged_by, exchange_of, is_exchange_shape, imported_here, imported_at, is_import_shape, patterns_at, lexical_at, switched_at, params_at, caught_at, writes_at, binds_at, enclosing_at, reached_at, Surveyed}
+use Rattle.mini_context.specs.Visits.{Visit, visits, visits_from, given, below, frame_in, fixed_at, bodies_at, mentions_at, exchanged_at, exchanged_by, exchange_of, is_exchange_shape, imported_here, imported_at, is_import_shape, patterns_at, lexical_at, switched_at, values_at, caught_at, writes_at, binds_at, enclosing_at, reached_at, Surveyed}
 use Rattle.mini_context.proofs.Gathering.{Adds, Gathers}
 use Rattle.mini_context.proofs.Marking.{marks_add, notes_add, or_false}
 use Rattle.mini_laws.specs.declared.names.Numbering.{Numbering}
@@ -60,12 +60,12 @@ surveys_add = record {
     patterns = marks_add.nothing s.patterns.items;
     lexical = marks_add.nothing s.lexical.items;
     switched = marks_add.nothing s.switched.items;
-    params = marks_add.nothing s.params.items;
     caught = marks_add.nothing s.caught.items;
     this_events = (notes_add (λ f. f.binds_this)).nothing s.this_events.items;
     arguments = (notes_add (λ f. f.has_arguments)).nothing s.arguments.items;
     mentions = joins_add.nothing s.mentioned.items;
     written = joins_add.nothing s.written.items;
+    values = joins_add.nothing s.given.items;
     homes = houses_add.nothing s.homes.items;
     enclosing = enclosed_add.nothing s.enclosing;
   };
@@ -77,12 +77,12 @@ surveys_add = record {
     patterns = of_both (λ ns. Marked ns a.patterns.items c.patterns.items) patterns_at xs ys (marks_add.both (given patterns_at xs) (given patterns_at ys) a.patterns.items b.patterns.items c.patterns.items f.patterns g.patterns);
     lexical = of_both (λ ns. Marked ns a.lexical.items c.lexical.items) lexical_at xs ys (marks_add.both (given lexical_at xs) (given lexical_at ys) a.lexical.items b.lexical.items c.lexical.items f.lexical g.lexical);
     switched = of_both (λ ns. Marked ns a.switched.items c.switched.items) switched_at xs ys (marks_add.both (given switched_at xs) (given switched_at ys) a.switched.items b.switched.items c.switched.items f.switched g.switched);
-    params = of_both (λ ns. Marked ns a.params.items c.params.items) params_at xs ys (marks_add.both (given params_at xs) (given params_at ys) a.params.items b.params.items c.params.items f.params g.params);
     caught = of_both (λ ns. Marked ns a.caught.items c.caught.items) caught_at xs ys (marks_add.both (given caught_at xs) (given caught_at ys) a.caught.items b.caught.items c.caught.items f.caught g.caught);
     this_events = of_both (λ bs. Noted (λ f. f.binds_this) bs a.this_events.items c.this_events.items) bodies_at xs ys ((notes_add (λ f. f.binds_this)).both (given bodies_at xs) (given bodies_at ys) a.this_events.items b.this_events.items c.this_events.items f.this_events g.this_events);
     arguments = of_both (λ bs. Noted (λ f. f.has_arguments) bs a.arguments.items c.arguments.items) bodies_at xs ys ((notes_add (λ f. f.has_arguments)).both (given bodies_at xs) (given bodies_at ys) a.arguments.items b.arguments.items c.arguments.items f.arguments g.arguments);
     mentions = of_both (λ ms. Joined ms a.mentioned.items c.mentioned.items) mentions_at xs ys (joins_add.both (given mentions_at xs) (given mentions_at ys) a.mentioned.items b.mentioned.items c.mentioned.items f.mentions g.mentions);
     written = of_both (λ ms. Joined ms a.written.items c.written.items) writes_at xs ys (joins_add.both (given writes_at xs) (given writes_at ys) a.written.items b.written.items c.written.items f.written g.written);
+    values = of_both (λ ms. Joined ms a.given.items c.given.items) values_at xs ys (joins_add.both (given values_at xs) (given values_at ys) a.given.items b.given.items c.given.items f.values g.values);
     enclosing = of_both (λ ps. Enclosed ps a.enclosing c.enclosing) enclosing_at xs ys (enclosed_add.both (given enclosing_at xs) (given enclosing_at ys) a.enclosing b.enclosing c.enclosing f.enclosing g.enclosing);
     homes = of_both (λ ms. Housed ms a.homes.items c.homes.items) binds_at xs ys (houses_add.both (given binds_at xs) (given binds_at ys) a.homes.items b.homes.items c.homes.items f.homes g.homes);
   };
@@ -257,17 +257,17 @@ mutual
       ∙ ap (λ r. switched_names t ++ r) (all_switched_told at (suc i) ts)
 
 mutual
-  unfolding visits catch_params
+  unfolding visits var_writes
 
-  pub params_told : (a : Standing) (t : Tree) → given params_at (visits a t) ≡ catch_params t
-  params_told a (node h xs n ts) = ap (λ r. own_catch_params h ts ++ r) (all_params_told (below a (node h xs n ts)) 0 ts)
+  pub values_told : (a : Standing) (t : Tree) → given values_at (visits a t) ≡ var_writes a.usage a.around t
+  values_told a (node h xs n ts) = ap (λ r. map (write_at a.around) (given_values a.usage h xs ts) ++ r) (all_values_told (use_of h a.usage) (around_child h a.around n) (below a (node h xs n ts)) (λ k. refl) (λ k. refl) 0 ts)
 
-  all_params_told : (at : ℕ → Standing) (i : ℕ) (ts : Trees) → given params_at (visits_from at i ts) ≡ all_catch_params ts
-  all_params_told at i none = refl
-  all_params_told at i (t ▸ ts) =
-      given_both params_at (visits (at i) t) (visits_from at (suc i) ts)
-      ∙ ap (λ r. r ++ given params_at (visits_from at (suc i) ts)) (params_told (at i) t)
-      ∙ ap (λ r. catch_params t ++ r) (all_params_told at (suc i) ts)
+  all_values_told : (uses : ℕ → Use) (arounds : ℕ → Around) (at : ℕ → Standing) → ((k : ℕ) → (at k).usage ≡ uses k) → ((k : ℕ) → (at k).around ≡ arounds k) → (i : ℕ) (ts : Trees) → given values_at (visits_from at i ts) ≡ var_writes_from uses arounds i ts
+  all_values_told uses arounds at e f i none = refl
+  all_values_told uses arounds at e f i (t ▸ ts) =
+      given_both values_at (visits (at i) t) (visits_from at (suc i) ts)
+      ∙ ap (λ r. r ++ given values_at (visits_from at (suc i) ts)) (values_told (at i) t ∙ ap (λ u. var_writes u (at i).around t) (e i) ∙ ap (λ r. var_writes (uses i) r t) (f i))
+      ∙ ap (λ r. var_writes (uses i) (arounds i) t ++ r) (all_values_told uses arounds at e f (suc i) ts)
 
 mutual
   unfolding visits caught

@@ -17,7 +17,7 @@ use Rattle.mini_context.specs.Mentioned.{is_outside, mentioned_at, Joined}
 use Rattle.mini_context.specs.Outside.{is_mentioned_outside}
 use Rattle.mini_laws.specs.NameBodies.{Frame, Body, no_frame, bodies, fixed_names}
 use Rattle.mini_laws.specs.Resolved.{Environment}
-use Rattle.mini_laws.specs.Shared.{caught, catch_params, program_var_writes, script_tops, var_writes, module_names, reached_by_arguments}
+use Rattle.mini_laws.specs.Shared.{caught, pattern_writes, program_pattern_writes, program_var_writes, script_tops, var_writes, module_names, reached_by_arguments}
 use Rattle.mini_laws.specs.Foreign.{imported_names, is_declared_in, lexical_variables, pattern_names, switched as switched_names}
 use Rattle.mini_context.specs.declared.early.Moments.{Moments}
 use Rattle.mini_context.specs.declared.params.Params.{Params}
@@ -35,8 +35,8 @@ use Rattle.mini_context.specs.declared.standing.Reading.{Reading}
 use Rattle.mini_context.specs.declared.standing.Standing.{Standing}
 use Rattle.mini_context.specs.Own.{is_script_shape}
 use Rattle.mini_context.specs.Tables.{mark_at, named, Listed, Marked, Noted, Owned, Unlisted}
-use Rattle.mini_context.specs.Visits.{visits, given, fixed_at, bodies_at, mentions_at, exchanged_at, reached_at, imported_at, patterns_at, lexical_at, switched_at, params_at, caught_at, writes_at, binds_at, enclosing_at, is_writing, is_binding, frame_in, first_reading, top}
-use Rattle.mini_context.proofs.Surveys.{fixed_told, bodies_told, mentions_told, modules_told, reached_told, imported_told, patterns_told, lexical_told, switched_told, params_told, caught_told, enclosed_told, filtered}
+use Rattle.mini_context.specs.Visits.{visits, given, fixed_at, bodies_at, mentions_at, exchanged_at, reached_at, imported_at, patterns_at, lexical_at, switched_at, values_at, caught_at, writes_at, binds_at, enclosing_at, is_writing, is_binding, frame_in, first_reading, top}
+use Rattle.mini_context.proofs.Surveys.{fixed_told, bodies_told, mentions_told, modules_told, reached_told, imported_told, patterns_told, lexical_told, switched_told, values_told, caught_told, enclosed_told, filtered}
 use Rattle.mini_context.proofs.Marking.{marks_add}
 
 blank : (n s : ℕ) → mark_at (replicate n false) s ≡ false
@@ -130,9 +130,6 @@ patterns_by n a t old new f m s h = from_blank n (given patterns_at (visits a t)
 pub switched_by : (n : ℕ) (a : Standing) (t : Tree) (old new : List Bool) → old ≡ replicate n false → Marked (given switched_at (visits a t)) old new → (s : ℕ) → s < n → mark_at new s ≡ is_among (named s) (switched_names t)
 switched_by n a t old new f m s h = from_blank n (given switched_at (visits a t)) old new f m s h ∙ ap (is_among (named s)) (switched_told a t)
 
-pub params_by : (n : ℕ) (a : Standing) (t : Tree) (old new : List Bool) → old ≡ replicate n false → Marked (given params_at (visits a t)) old new → (s : ℕ) → s < n → mark_at new s ≡ is_among (named s) (catch_params t)
-params_by n a t old new f m s h = from_blank n (given params_at (visits a t)) old new f m s h ∙ ap (is_among (named s)) (params_told a t)
-
 pub caught_by : (n : ℕ) (a : Standing) (t : Tree) (old new : List Bool) → old ≡ replicate n false → Marked (given caught_at (visits a t)) old new → (s : ℕ) → s < n → mark_at new s ≡ is_among (named s) (caught t)
 caught_by n a t old new f m s h = from_blank n (given caught_at (visits a t)) old new f m s h ∙ ap (is_among (named s)) (caught_told a t)
 
@@ -156,6 +153,10 @@ some_mentions p a t e = filtered p (visits a t) ∙ ap (filter p) (mentions_told
 pub written_by : (n : ℕ) (a : Standing) (t : Tree) (old new : List Mentioned) → a ≡ top → old ≡ replicate n mentioned.Nowhere → Joined (given writes_at (visits a t)) old new → (s : ℕ) → s < n → (b : ℕ) → is_outside (mentioned_at new s) b ≡ list_any (λ m. same_variable (named s) m.name && is_elsewhere b m.around) (filter is_writing (program_mentions t))
 written_by n a t old new e f j s h b =
     joined_blank n (given writes_at (visits a t)) old new f j s h b ∙ ap (list_any (λ m. same_variable (named s) m.name && is_elsewhere b m.around)) (some_mentions is_writing a t e)
+
+pub given_by : (n : ℕ) (a : Standing) (t : Tree) (old new : List Mentioned) → a ≡ top → old ≡ replicate n mentioned.Nowhere → Joined (given values_at (visits a t)) old new → (s : ℕ) → s < n → (b : ℕ) → is_outside (mentioned_at new s) b ≡ list_any (λ m. same_variable (named s) m.name && is_elsewhere b m.around) (program_var_writes t)
+given_by n a t old new e f j s h b =
+    joined_blank n (given values_at (visits a t)) old new f j s h b ∙ ap (list_any (λ m. same_variable (named s) m.name && is_elsewhere b m.around)) (values_told a t ∙ ap (λ r. var_writes r.usage r.around t) e)
 
 unlisted : (n s b : ℕ) → holds (replicate n []) s b ≡ false
 unlisted zero s b = refl
@@ -197,8 +198,8 @@ homes_by n a t old new e f j s h b =
     ∙ ap (list_any p) (some_mentions is_binding a t e)
     ∙ bound_by s b (program_mentions t)
 
-pub values_by : (a : Reading) (env : Environment) (t : Tree) (old new : List Mentioned) → a ≡ first_reading → env ≡ [] → Joined (var_writes a.usage env a.around t) old new → Joined (program_var_writes t) old new
-values_by a env t old new e f j = subst (λ r. Joined (var_writes Read r outermost t) old new) f (subst (λ r. Joined (var_writes r.usage env r.around t) old new) e j)
+pub patterned_by : (a : Reading) (env : Environment) (t : Tree) (old new : List Bool) → a ≡ first_reading → env ≡ [] → Marked (pattern_writes a.usage env t) old new → Marked (program_pattern_writes t) old new
+patterned_by a env t old new e f m = subst (λ r. Marked (pattern_writes Read r t) old new) f (subst (λ r. Marked (pattern_writes r.usage env t) old new) e m)
 
 not_true : (b : Bool) → b ≡ true → b ≡ false → ⊥
 not_true true e f = absurd (cc f)
@@ -237,9 +238,9 @@ early_by n a t old new e f g p s h b =
     ∙ ap (λ r. is_read_early b (named s) (moments r.usage r.around t)) e
 
 -- what is found of the scopes, where the walk over them ended well
-found_scopes : (n : ℕ) (a : Reading) (env : Environment) (t : Tree) (old new : ScopeTables) (before after : List Mentioned) → a ≡ first_reading → env ≡ [] → Unlisted n old → before ≡ replicate n mentioned.Nowhere →
-    Listed (scope_list a.usage a.strict t) old new → Joined (var_writes a.usage env a.around t) before after → FoundScopes new after n t
-found_scopes n a env t old new before after e f blank g l j =
+found_scopes : (n : ℕ) (a : Reading) (env : Environment) (t : Tree) (old new : ScopeTables) (before after : List Bool) → a ≡ first_reading → env ≡ [] → Unlisted n old → before ≡ replicate n false →
+    Listed (scope_list a.usage a.strict t) old new → Marked (pattern_writes a.usage env t) before after → FoundScopes new after n t
+found_scopes n a env t old new before after e f blank g l m =
     let ss = scopes_of t in
     let listed = subst (λ r. Listed (scope_list r.usage r.strict t) old new) e l in
     record {
@@ -247,10 +248,10 @@ found_scopes n a env t old new before after e f blank g l j =
       strict = flags_by (λ r. r.strict) ss old.strict.items new.strict.items blank.strict listed.stricts;
       evals = flags_by (λ r. r.evals) ss old.evals.items new.evals.items blank.evals listed.evals;
       seen = subst (λ o. Marked (seen_in ss) o new.seen.items) blank.seen listed.seen;
-      given = subst (λ o. Joined (program_var_writes t) o after) g (values_by a env t before after e f j);
+      patterns = subst (λ o. Marked (program_pattern_writes t) o after) g (patterned_by a env t before after e f m);
     }
 
-pub scopes_found : (n : ℕ) (a : Reading) (env : Environment) (t : Tree) (old new : ScopeTables) (before after : List Mentioned) → a ≡ first_reading → env ≡ [] → Unlisted n old → before ≡ replicate n mentioned.Nowhere →
-    (r : Result Unit OutOfMemory) → OnOk r (Listed (scope_list a.usage a.strict t) old new) → OnOk r (Joined (var_writes a.usage env a.around t) before after) → OnOk r (FoundScopes new after n t)
-scopes_found n a env t old new before after e f blank g (Ok x) l j = found_scopes n a env t old new before after e f blank g l j
-scopes_found n a env t old new before after e f blank g (Err x) l j = tt
+pub scopes_found : (n : ℕ) (a : Reading) (env : Environment) (t : Tree) (old new : ScopeTables) (before after : List Bool) → a ≡ first_reading → env ≡ [] → Unlisted n old → before ≡ replicate n false →
+    (r : Result Unit OutOfMemory) → OnOk r (Listed (scope_list a.usage a.strict t) old new) → OnOk r (Marked (pattern_writes a.usage env t) before after) → OnOk r (FoundScopes new after n t)
+scopes_found n a env t old new before after e f blank g (Ok x) l m = found_scopes n a env t old new before after e f blank g l m
+scopes_found n a env t old new before after e f blank g (Err x) l m = tt

@@ -9,50 +9,55 @@ use Rattle.mini_model.specs.declared.shape.Shape.{Shape}
 use Rattle.mini_model.specs.declared.shape.Shape.TheVariants as shape
 use Rattle.mini_model.specs.Tree.{Tree, Trees, node, none, ◌▸◌}
 use Rattle.mini_laws.specs.declared.names.Use.{Use}
-use Rattle.mini_laws.specs.Scopes.{use_of}
+use Rattle.mini_laws.specs.declared.names.Use.TheVariants.{Write, Hoisted, Headed}
+use Rattle.mini_laws.specs.Scopes.{hoisted_by, use_of}
 use Rattle.mini_laws.specs.References.{Reference, own_references, references, references_from, has_symbol}
 use Rattle.mini_laws.specs.Counts.{times_of}
 
--- a part is used either as its node is, or in one way
-use_alike : (p : Use → Bool) (h : Shape) (u v : Use) (i : ℕ) → p u ≡ p v → p (use_of h u i) ≡ p (use_of h v i)
-use_alike p shape.Listed u v i e = e
-use_alike p shape.ObjectPattern u v i e = e
-use_alike p shape.ArrayPattern u v i e = e
-use_alike p (shape.BindingProperty shorthand computed) u v i e = e
-use_alike p shape.RestElement u v i e = e
-use_alike p shape.ImportSpecifier u v i e = e
-use_alike p shape.ImportDefaultSpecifier u v i e = e
-use_alike p shape.ImportNamespaceSpecifier u v i e = e
-use_alike p shape.AssignmentPattern u v i e = e
-use_alike p shape.ObjectAssignmentTarget u v i e = e
-use_alike p shape.ArrayAssignmentTarget u v i e = e
-use_alike p shape.AssignmentTargetPropertyIdentifier u v i e = e
-use_alike p (shape.AssignmentTargetPropertyProperty computed) u v i e = e
-use_alike p shape.VariableDeclarator u v zero e = e
-use_alike p shape.VariableDeclarator u v (suc i) e = refl
-use_alike p (shape.VariableDeclaration Var) u v i e = refl
-use_alike p (shape.VariableDeclaration k) u v i e = refl
-use_alike p (shape.AssignmentExpression Assign) u v zero e = refl
-use_alike p (shape.AssignmentExpression o) u v zero e = refl
-use_alike p (shape.AssignmentExpression o) u v (suc i) e = refl
-use_alike p (shape.UpdateExpression o prefix) u v i e = refl
-use_alike p shape.IfStatement u v zero e = refl
-use_alike p shape.IfStatement u v (suc i) e = refl
-use_alike p shape.WhileStatement u v zero e = refl
-use_alike p shape.WhileStatement u v (suc i) e = refl
-use_alike p shape.DoWhileStatement u v zero e = refl
-use_alike p shape.DoWhileStatement u v (suc i) e = refl
-use_alike p shape.ForStatement u v zero e = refl
-use_alike p shape.ForStatement u v (suc zero) e = refl
-use_alike p shape.ForStatement u v (suc (suc zero)) e = refl
-use_alike p shape.ForStatement u v (suc (suc (suc i))) e = refl
-use_alike p shape.ForInStatement u v zero e = refl
-use_alike p shape.ForInStatement u v (suc zero) e = refl
-use_alike p shape.ForInStatement u v (suc (suc i)) e = refl
-use_alike p shape.ForOfStatement u v zero e = refl
-use_alike p shape.ForOfStatement u v (suc zero) e = refl
-use_alike p shape.ForOfStatement u v (suc (suc i)) e = refl
-use_alike p h u v i e = refl
+hoisted_alike : (p : Use → Bool) → p Headed ≡ p Hoisted → (u : Use) → p (hoisted_by u) ≡ p Hoisted
+hoisted_alike p q Write = q
+hoisted_alike p q u = refl
+
+-- a part is used as its node is, or in one way, or as a `var`
+use_alike : (p : Use → Bool) → p Headed ≡ p Hoisted → (h : Shape) (u v : Use) (i : ℕ) → p u ≡ p v → p (use_of h u i) ≡ p (use_of h v i)
+use_alike p q shape.Listed u v i e = e
+use_alike p q shape.ObjectPattern u v i e = e
+use_alike p q shape.ArrayPattern u v i e = e
+use_alike p q (shape.BindingProperty shorthand computed) u v i e = e
+use_alike p q shape.RestElement u v i e = e
+use_alike p q shape.ImportSpecifier u v i e = e
+use_alike p q shape.ImportDefaultSpecifier u v i e = e
+use_alike p q shape.ImportNamespaceSpecifier u v i e = e
+use_alike p q shape.AssignmentPattern u v i e = e
+use_alike p q shape.ObjectAssignmentTarget u v i e = e
+use_alike p q shape.ArrayAssignmentTarget u v i e = e
+use_alike p q shape.AssignmentTargetPropertyIdentifier u v i e = e
+use_alike p q (shape.AssignmentTargetPropertyProperty computed) u v i e = e
+use_alike p q shape.VariableDeclarator u v zero e = e
+use_alike p q shape.VariableDeclarator u v (suc i) e = refl
+use_alike p q (shape.VariableDeclaration Var) u v i e = hoisted_alike p q u ∙ sym (hoisted_alike p q v)
+use_alike p q (shape.VariableDeclaration k) u v i e = refl
+use_alike p q (shape.AssignmentExpression Assign) u v zero e = refl
+use_alike p q (shape.AssignmentExpression o) u v zero e = refl
+use_alike p q (shape.AssignmentExpression o) u v (suc i) e = refl
+use_alike p q (shape.UpdateExpression o prefix) u v i e = refl
+use_alike p q shape.IfStatement u v zero e = refl
+use_alike p q shape.IfStatement u v (suc i) e = refl
+use_alike p q shape.WhileStatement u v zero e = refl
+use_alike p q shape.WhileStatement u v (suc i) e = refl
+use_alike p q shape.DoWhileStatement u v zero e = refl
+use_alike p q shape.DoWhileStatement u v (suc i) e = refl
+use_alike p q shape.ForStatement u v zero e = refl
+use_alike p q shape.ForStatement u v (suc zero) e = refl
+use_alike p q shape.ForStatement u v (suc (suc zero)) e = refl
+use_alike p q shape.ForStatement u v (suc (suc (suc i))) e = refl
+use_alike p q shape.ForInStatement u v zero e = refl
+use_alike p q shape.ForInStatement u v (suc zero) e = refl
+use_alike p q shape.ForInStatement u v (suc (suc i)) e = refl
+use_alike p q shape.ForOfStatement u v zero e = refl
+use_alike p q shape.ForOfStatement u v (suc zero) e = refl
+use_alike p q shape.ForOfStatement u v (suc (suc i)) e = refl
+use_alike p q h u v i e = refl
 
 both_times : (p : Use → Bool) (s : ℕ) (xs ys : List Reference) → times_of p s (xs ++ ys) ≡ times_of p s xs + times_of p s ys
 both_times p s xs ys = sum_by-append (λ r. cond (p r.used && has_symbol s r.name.symbol) 1 0) xs ys
@@ -69,17 +74,17 @@ own_alike p s u v h xs e = refl
 mutual
   unfolding references
 
-  pub alike : (p : Use → Bool) (u v : Use) → p u ≡ p v → (t : Tree) (s : ℕ) → times_of p s (references u t) ≡ times_of p s (references v t)
-  alike p u v e (node h xs n ts) s =
+  pub alike : (p : Use → Bool) → p Headed ≡ p Hoisted → (u v : Use) → p u ≡ p v → (t : Tree) (s : ℕ) → times_of p s (references u t) ≡ times_of p s (references v t)
+  alike p q u v e (node h xs n ts) s =
       both_times p s (own_references u h xs) (references_from (use_of h u) 0 ts)
       ∙ ap (λ k. k + times_of p s (references_from (use_of h u) 0 ts)) (own_alike p s u v h xs e)
-      ∙ ap (λ k. times_of p s (own_references v h xs) + k) (all_alike p (use_of h u) (use_of h v) (λ i. use_alike p h u v i e) 0 ts s)
+      ∙ ap (λ k. times_of p s (own_references v h xs) + k) (all_alike p q (use_of h u) (use_of h v) (λ i. use_alike p q h u v i e) 0 ts s)
       ∙ sym (both_times p s (own_references v h xs) (references_from (use_of h v) 0 ts))
 
-  all_alike : (p : Use → Bool) (us vs : ℕ → Use) → ((i : ℕ) → p (us i) ≡ p (vs i)) → (i : ℕ) (ts : Trees) (s : ℕ) → times_of p s (references_from us i ts) ≡ times_of p s (references_from vs i ts)
-  all_alike p us vs e i none s = refl
-  all_alike p us vs e i (t ▸ ts) s =
+  all_alike : (p : Use → Bool) → p Headed ≡ p Hoisted → (us vs : ℕ → Use) → ((i : ℕ) → p (us i) ≡ p (vs i)) → (i : ℕ) (ts : Trees) (s : ℕ) → times_of p s (references_from us i ts) ≡ times_of p s (references_from vs i ts)
+  all_alike p q us vs e i none s = refl
+  all_alike p q us vs e i (t ▸ ts) s =
       both_times p s (references (us i) t) (references_from us (suc i) ts)
-      ∙ ap (λ k. k + times_of p s (references_from us (suc i) ts)) (alike p (us i) (vs i) (e i) t s)
-      ∙ ap (λ k. times_of p s (references (vs i) t) + k) (all_alike p us vs e (suc i) ts s)
+      ∙ ap (λ k. k + times_of p s (references_from us (suc i) ts)) (alike p q (us i) (vs i) (e i) t s)
+      ∙ ap (λ k. times_of p s (references (vs i) t) + k) (all_alike p q us vs e (suc i) ts s)
       ∙ sym (both_times p s (references (vs i) t) (references_from vs (suc i) ts))

@@ -24,7 +24,7 @@ writes_without_a_sum = refl
 -- ---- tables of one symbol
 
 abbrev untold : Facts
-untold = record { reads = 0 ∷ []; writes = 0 ∷ []; fixed = []; tops = []; owners = []; now_top = []; seen = []; exchanged = []; imported = []; reached = []; patterns = []; lexical = []; switched = []; params = []; caught = []; mentioned = []; written = []; given = []; homes = []; early = []; functions = []; writable = []; strict = []; evals = []; this_events = []; arguments = []; enclosed = []; asking = [] }
+untold = record { reads = 0 ∷ []; writes = 0 ∷ []; fixed = []; tops = []; owners = []; now_top = []; seen = []; exchanged = []; imported = []; reached = []; patterns = []; lexical = []; switched = []; caught = []; pattern_writes = []; mentioned = []; written = []; given = []; homes = []; early = []; functions = []; writable = []; strict = []; evals = []; this_events = []; arguments = []; enclosed = []; asking = [] }
 
 -- a parameter of the function with the body 1
 abbrev parameter : Facts

@@ -12,7 +12,7 @@ use Rattle.mini_context.specs.Lists.{holds}
 use Rattle.mini_context.specs.Mentioned.{is_outside, is_somewhere, mentioned_at}
 use Rattle.mini_laws.specs.NameBodies.{fixed_names, this_has_event, has_arguments}
 use Rattle.mini_laws.specs.ScopeList.{scopes_of, scope_of_symbol, seen_by_eval}
-use Rattle.mini_laws.specs.Shared.{caught, catch_params, program_var_writes, script_tops, module_names, reached_by_arguments}
+use Rattle.mini_laws.specs.Shared.{caught, program_var_writes, program_pattern_writes, script_tops, module_names, reached_by_arguments}
 use Rattle.mini_laws.specs.Foreign.{imported_names, is_declared_in, is_read_early, lexical_variables, moments, params_around, pattern_names, switched as switched_names}
 use Rattle.mini_context.specs.Outside.{is_mentioned_outside}
 use Rattle.mini_context.specs.Tables.{mark_at, named}
@@ -24,7 +24,7 @@ use Rattle.mini_laws.specs.Bodies.{bodies_in}
 -- by symbol: how often it is read, and written; whether it can't be written; whether it was one of a script's top names when the
 -- program was resolved; its scope; whether it is a top name; whether a direct eval can see it; whether a module imports or exports
 -- it, or imports it; whether it is a parameter that an `arguments` reaches; whether a pattern binds it; whether it is lexical, and
--- directly in a `switch`; whether it is a parameter of `catch`, and whether it is a `var` under one of its name; where it is
+-- directly in a `switch`; whether it is a `var` under a parameter of `catch` of its name, and whether the pattern of a `var` writes it; where it is
 -- mentioned, where a reference writes it, and where a `var` does; in which bodies it is bound, and which
 -- read it before its declaration has ended; the functions whose parameters bind it; whether it is mentioned and can be written. By scope: whether its code
 -- is strict; whether a direct eval stands in it. By body: whether `this` is an event in it; whether it has an `arguments`; the functions in whose parameters it stands;
@@ -43,8 +43,8 @@ pub record Facts : Type 0 where
   pub patterns : List Bool
   pub lexical : List Bool
   pub switched : List Bool
-  pub params : List Bool
   pub caught : List Bool
+  pub pattern_writes : List Bool
   pub mentioned : List Mentioned
   pub written : List Mentioned
   pub given : List Mentioned
@@ -61,7 +61,7 @@ pub record Facts : Type 0 where
 
 -- what a look at a program found, beside a script's top names when it was resolved
 abbrev pub facts_of : Look → List Bool → Facts
-facts_of b tops = record { reads = b.counts.reads.items; writes = b.counts.writes.items; fixed = b.tables.fixed.items; tops = tops; owners = b.scopes.owners.items; now_top = b.tops.items; seen = b.scopes.seen.items; exchanged = b.tables.exchanged.items; imported = b.tables.imported.items; reached = b.tables.reached.items; patterns = b.tables.patterns.items; lexical = b.tables.lexical.items; switched = b.tables.switched.items; params = b.tables.params.items; caught = b.tables.caught.items; mentioned = b.tables.mentioned.items; written = b.tables.written.items; given = b.given.items; homes = b.tables.homes.items; early = b.moments.early.items; functions = b.tables.enclosing.by_symbol.items; writable = b.writable.items; strict = b.scopes.strict.items; evals = b.scopes.evals.items; this_events = b.tables.this_events.items; arguments = b.tables.arguments.items; enclosed = b.tables.enclosing.by_number.items; asking = b.asking.items }
+facts_of b tops = record { reads = b.counts.reads.items; writes = b.counts.writes.items; fixed = b.tables.fixed.items; tops = tops; owners = b.scopes.owners.items; now_top = b.tops.items; seen = b.scopes.seen.items; exchanged = b.tables.exchanged.items; imported = b.tables.imported.items; reached = b.tables.reached.items; patterns = b.tables.patterns.items; lexical = b.tables.lexical.items; switched = b.tables.switched.items; caught = b.tables.caught.items; pattern_writes = b.pattern_writes.items; mentioned = b.tables.mentioned.items; written = b.tables.written.items; given = b.tables.given.items; homes = b.tables.homes.items; early = b.moments.early.items; functions = b.tables.enclosing.by_symbol.items; writable = b.writable.items; strict = b.scopes.strict.items; evals = b.scopes.evals.items; this_events = b.tables.this_events.items; arguments = b.tables.arguments.items; enclosed = b.tables.enclosing.by_number.items; asking = b.asking.items }
 
 -- of so many symbols they say what is shared, and what is foreign, in a tree
 pub record Looked (f : Facts) (n : ℕ) (t : Tree) : Type 0 where
@@ -73,8 +73,8 @@ pub record Looked (f : Facts) (n : ℕ) (t : Tree) : Type 0 where
   pub patterns_told : (s : ℕ) → s < n → mark_at f.patterns s ≡ is_among (named s) (pattern_names t)
   pub lexical_told : (s : ℕ) → s < n → mark_at f.lexical s ≡ is_among (named s) (lexical_variables false t)
   pub switched_told : (s : ℕ) → s < n → mark_at f.switched s ≡ is_among (named s) (switched_names t)
-  pub params_told : (s : ℕ) → s < n → mark_at f.params s ≡ is_among (named s) (catch_params t)
   pub caught_told : (s : ℕ) → s < n → mark_at f.caught s ≡ is_among (named s) (caught t)
+  pub pattern_writes_told : (s : ℕ) → s < n → mark_at f.pattern_writes s ≡ is_among (named s) (program_pattern_writes t)
   pub mentioned_told : (s : ℕ) → s < n → (b : ℕ) → is_outside (mentioned_at f.mentioned s) b ≡ is_mentioned_outside t b (named s)
   pub written_told : (s : ℕ) → s < n → (b : ℕ) → is_outside (mentioned_at f.written s) b ≡ list_any (λ m. same_variable (named s) m.name && is_elsewhere b m.around) (filter is_writing (program_mentions t))
   pub given_told : (s : ℕ) → s < n → (b : ℕ) → is_outside (mentioned_at f.given s) b ≡ list_any (λ m. same_variable (named s) m.name && is_elsewhere b m.around) (program_var_writes t)
@@ -110,13 +110,9 @@ pub record Refreshed (old new : Facts) (t : Tree) : Type 0 where
   pub told : Told new (length old.reads) t
   pub tops_kept : new.tops ≡ old.tops
 
--- whether a `var` writes a parameter of `catch`
-abbrev pub written_in_catch : Facts → ℕ → Bool
-written_in_catch f s = mark_at f.params s && is_somewhere (mentioned_at f.given s)
-
 -- whether every body that mentions it shares the symbol with a number, and whether a body does, as the tables tell it
 abbrev pub shared_always : Facts → ℕ → Bool
-shared_always f s = mark_at f.now_top s || mark_at f.exchanged s || mark_at f.seen s || mark_at f.reached s || mark_at f.caught s || written_in_catch f s
+shared_always f s = mark_at f.now_top s || mark_at f.exchanged s || mark_at f.seen s || mark_at f.reached s || mark_at f.caught s || mark_at f.pattern_writes s
 
 abbrev pub shares : Facts → ℕ → ℕ → Bool
 shares f s b = shared_always f s || is_outside (mentioned_at f.mentioned s) b
@@ -134,7 +130,7 @@ may_be_unset f s b = (mark_at f.lexical s && (not (holds f.homes s b) || mark_at
 
 -- whether the symbol is foreign to every body
 abbrev pub foreign_always : Facts → ℕ → Bool
-foreign_always f s = mark_at f.imported s || mark_at f.now_top s || mark_at f.seen s || mark_at f.reached s || mark_at f.patterns s || written_in_catch f s
+foreign_always f s = mark_at f.imported s || mark_at f.now_top s || mark_at f.seen s || mark_at f.reached s || mark_at f.patterns s || mark_at f.pattern_writes s
 
 -- whether it is foreign to a body, as the tables tell it
 abbrev pub foreign : Facts → ℕ → ℕ → Bool

@@ -2,7 +2,7 @@
 use Rattle.std.specs.Prelude.{ℕ, ◌≡◌, ◌<◌, Bool, List, slice_index, Some, length}
 use Rattle.mini_model.specs.Tree.{Tree}
 use Rattle.mini_laws.specs.declared.names.Use.{Use}
-use Rattle.mini_laws.specs.declared.names.Use.TheVariants.{Hoisted, Read}
+use Rattle.mini_laws.specs.declared.names.Use.TheVariants.{Headed, Hoisted, Read}
 use Rattle.mini_laws.specs.References.{reads, writes, read_count, write_count, counts_of, references}
 use Rattle.mini_laws.specs.Mentions.{is_among}
 use Rattle.mini_laws.specs.Foreign.{is_foreign}
@@ -37,9 +37,10 @@ ForeignTells = (f : Facts) (n : ℕ) (t : Tree) → Looked f n t → (s b : ℕ)
 abbrev pub RefreshTells : Type 0
 RefreshTells = (old new : Facts) (t : Tree) → Refreshed old new t → (s b : ℕ) → s < length old.reads → (shares new s b ≡ is_shared t b (named s)) × (foreign new s b ≡ is_foreign t b (named s))
 
--- what is used in two ways that are counted alike is counted alike: so the counts of a part that a `var` declares are those of one that is read
+-- what is used in two ways that are counted alike is counted alike, where a `var` in the head of a loop is counted as any other: so the counts of a part that
+-- a `var` declares are those of one that is read
 abbrev pub UsesTell : Type 0
-UsesTell = (p : Use → Bool) (u v : Use) → p u ≡ p v → (t : Tree) (s : ℕ) → times_of p s (references u t) ≡ times_of p s (references v t)
+UsesTell = (p : Use → Bool) → p Headed ≡ p Hoisted → (u v : Use) → p u ≡ p v → (t : Tree) (s : ℕ) → times_of p s (references u t) ≡ times_of p s (references v t)
 
 abbrev pub DeclaratorsTell : Type 0
 DeclaratorsTell = (t : Tree) (s : ℕ) → (times_of reads s (references Hoisted t) ≡ times_of reads s (references Read t)) × (times_of writes s (references Hoisted t) ≡ times_of writes s (references Read t))

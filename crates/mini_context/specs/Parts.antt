@@ -36,14 +36,10 @@ pattern_part shape.ArrayPattern n = part.Every declared.Bound
 pattern_part shape.AssignmentPattern (suc n) = part.Every declared.Bound
 pattern_part h n = part.Nothing
 
--- the lexical names directly in a `switch`, and the parameter of a `catch`
+-- the lexical names directly in a `switch`
 abbrev pub switched_part : Shape → Part
 switched_part shape.SwitchStatement = part.Every declared.Lexical
 switched_part h = part.Nothing
-
-abbrev pub caught_part : Shape → Part
-caught_part shape.CatchClause = part.At 0
-caught_part h = part.Nothing
 
 -- where a node has lexical names, directly in the body of a script or a function (true), or elsewhere: classes aside, which
 -- hold their name twice

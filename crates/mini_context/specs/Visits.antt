@@ -1,5 +1,5 @@
 -- A walk over a tree, as the list of its nodes, each before what is below it.
-use Rattle.std.specs.Prelude.{ℕ, suc, false, List, [], ◌∷◌, ◌++◌, Bool, true, ◌&&◌, not}
+use Rattle.std.specs.Prelude.{ℕ, suc, false, List, [], ◌∷◌, ◌++◌, map, Bool, true, ◌&&◌, not}
 use Rattle.std.specs.List.{filter}
 use Rattle.mini_model.specs.declared.name.Name.{Name}
 use Rattle.mini_model.specs.Tree.{Tree, Trees, node, none, ◌▸◌, shape_of, children}
@@ -14,7 +14,7 @@ use Rattle.mini_laws.specs.declared.names.Declared.TheVariants as declared
 use Rattle.mini_laws.specs.DeclaredNames.{own_names}
 use Rattle.mini_laws.specs.DeclaredNames.{names_of as names_declared}
 use Rattle.mini_laws.specs.References.{writes}
-use Rattle.mini_laws.specs.Shared.{own_catch_params, own_caught, reached_params}
+use Rattle.mini_laws.specs.Shared.{given_values, write_at, own_caught, reached_params}
 use Rattle.mini_laws.specs.Foreign.{is_body_by, own_lexical, own_pattern_names, own_switched}
 use Rattle.mini_context.specs.declared.exchanges.Exchange.{Exchange}
 use Rattle.mini_context.specs.declared.exchanges.Exchange.TheVariants as exchange
@@ -133,8 +133,9 @@ lexical_at v = own_lexical v.standing.in_body (shape_of v.tree) (children v.tree
 abbrev pub switched_at : Visit → List Name
 switched_at v = own_switched (shape_of v.tree) (children v.tree)
 
-abbrev pub params_at : Visit → List Name
-params_at v = own_catch_params (shape_of v.tree) (children v.tree)
+-- what `var`s write
+abbrev pub values_at : Visit → List Mention
+values_at v = map (write_at v.standing.around) (given_values v.standing.usage (shape_of v.tree) (names_of v.tree) (children v.tree))
 
 abbrev pub caught_at : Visit → List Name
 caught_at v = own_caught (shape_of v.tree) (children v.tree)
@@ -170,8 +171,8 @@ pub record Surveyed (vs : List Visit) (old new : Tables) : Type 0 where
   pub patterns : Marked (given patterns_at vs) old.patterns.items new.patterns.items
   pub lexical : Marked (given lexical_at vs) old.lexical.items new.lexical.items
   pub switched : Marked (given switched_at vs) old.switched.items new.switched.items
-  pub params : Marked (given params_at vs) old.params.items new.params.items
   pub caught : Marked (given caught_at vs) old.caught.items new.caught.items
+  pub values : Joined (given values_at vs) old.given.items new.given.items
   pub written : Joined (given writes_at vs) old.written.items new.written.items
   pub homes : Housed (given binds_at vs) old.homes.items new.homes.items
   pub enclosing : Enclosed (given enclosing_at vs) old.enclosing new.enclosing

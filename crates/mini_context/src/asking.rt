@@ -17,7 +17,7 @@ use std::alloc::Global;
 /// What the nodes around a place say of whether bodies there ask the world for `this`.
 #[derive(Clone, Copy)]
 pub struct Asking {
-    /// Whether an arrow function around the place does.
+    /// Whether an arrow function around the place asks the world for `this`.
     pub asks: bool,
     /// Whether the class around the place has a superclass.
     pub extends: bool,

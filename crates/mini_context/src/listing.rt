@@ -2,20 +2,17 @@
 
 ghost use Rattle.std.specs.Prelude.{◌≡◌, ◌<◌, ℕ, nat_eq, ◌&&◌, ◌∷◌, [], ◌++◌, take, length, replicate, slice_index, false, IfOk, OnOk, if◌then◌else◌};
 ghost use Rattle.mini_model.specs.Tree.{children, shape_of};
-ghost use Rattle.mini_node.specs.Children.{trees_of, names, number_of, rest_children};
-ghost use Rattle.mini_laws.specs.Mentions.{around_child};
-ghost use Rattle.mini_laws.specs.Shared.{var_writes, var_writes_from};
+ghost use Rattle.mini_node.specs.Children.{trees_of, names, rest_children};
+ghost use Rattle.mini_laws.specs.Shared.{pattern_writes as pattern_writes_of, pattern_writes_from};
 ghost use Rattle.mini_laws.specs.Strict.{is_strict_in as is_strict_at};
-ghost use Rattle.mini_context.specs.Mentioned.{Joined};
 ghost use Rattle.mini_laws.specs.Scopes.{use_of as use_at};
 ghost use Rattle.mini_laws.specs.ScopeList.{any_has_eval as any_has_eval_in, calls_eval as calls_eval_in, entered, has_eval as has_eval_in, is_eval, is_eval_call as is_eval_call_in, is_eval_callee as is_eval_callee_in, least_scopes as least_in, names_in, scope_list, scope_list_from};
 ghost use Rattle.mini_scope.specs.ScopeAt.{scope_at};
-ghost use Rattle.mini_context.specs.Tables.{Listed, OwnedBy, Unlisted};
+ghost use Rattle.mini_context.specs.Tables.{Listed, Marked, OwnedBy, Unlisted};
 
 use crate::count::zeros;
-use crate::giving::{enter_scope, join_values};
+use crate::giving::{enter_scope, mark_pattern_writes};
 use crate::marks::{mark_bindings, no_marks};
-use crate::mentions::Mentioned;
 use crate::standing::{Reading, reading_below};
 use crate::strictness::is_strict_in;
 use mini_laws::Binding;
@@ -245,14 +242,14 @@ fn push_entered(
     Ok(evals)
 }
 
-/// Lists the scopes that are entered in a tree that stands so, and adds what its `var`s write. The
-/// environment is what is declared around the tree. Where no direct eval may stand in it none is
-/// looked for.
+/// Lists the scopes that are entered in a tree that stands so, and marks what the patterns of its
+/// `var`s write. The environment is what is declared around the tree. Where no direct eval may
+/// stand in it none is looked for.
 #[cycle(listing)]
 pub fn list_scopes(
     alloc: Global,
     tables: &mut ScopeTables,
-    given: &mut Vec<Mentioned>,
+    pattern_writes: &mut Vec<bool>,
     environment: &mut Environment,
     may_eval: bool,
     reading: Reading,
@@ -260,10 +257,10 @@ pub fn list_scopes(
 ) -> Result<(), OutOfMemory>
     requires { may_eval ≡ false → has_eval_in node.now ≡ false }
     ensures listed { OnOk result (Listed (scope_list reading.usage reading.strict node.now) tables.old tables.new) }
-    ensures given { OnOk result (Joined (var_writes reading.usage environment.old reading.around node.now) given.old.items given.new.items) }
+    ensures patterns { OnOk result (Marked (pattern_writes_of reading.usage environment.old node.now) pattern_writes.old.items pattern_writes.new.items) }
     ensures left { OnOk result (environment.new ≡ environment.old) }
 {
-    join_values(alloc, given, environment, reading, node)?;
+    mark_pattern_writes(alloc, pattern_writes, environment, reading.usage, node)?;
     if is_leaf(node) {
         return Ok(());
     }
@@ -272,7 +269,7 @@ pub fn list_scopes(
     let listed = list_below(
         alloc,
         tables,
-        given,
+        pattern_writes,
         environment,
         may_eval,
         reading,
@@ -287,7 +284,7 @@ pub fn list_scopes(
 fn list_below(
     alloc: Global,
     tables: &mut ScopeTables,
-    given: &mut Vec<Mentioned>,
+    pattern_writes: &mut Vec<bool>,
     environment: &mut Environment,
     may_eval: bool,
     reading: Reading,
@@ -296,7 +293,7 @@ fn list_below(
 ) -> Result<(), OutOfMemory>
     requires { may_eval ≡ false → any_has_eval_in (children node.now) ≡ false }
     ensures listed { OnOk result (Listed (scope_list_from (scope_at scopes.old) (use_at (shape_of node.now) reading.usage) (least_in (shape_of node.now)) (is_strict_at reading.strict (shape_of node.now)) 0 (children node.now)) tables.old tables.new) }
-    ensures given { OnOk result (Joined (var_writes_from (scope_at scopes.old) (use_at (shape_of node.now) reading.usage) (around_child (shape_of node.now) reading.around (number_of node.now)) 0 environment.old (children node.now)) given.old.items given.new.items) }
+    ensures patterns { OnOk result (Marked (pattern_writes_from (scope_at scopes.old) (use_at (shape_of node.now) reading.usage) 0 environment.old (children node.now)) pattern_writes.old.items pattern_writes.new.items) }
     ensures around { OnOk result (take (length environment.old) environment.new ≡ environment.old) }
 {
     let mut may_eval = may_eval;
@@ -309,7 +306,15 @@ fn list_below(
         enter_scope(environment, scope)?;
         let stands = reading_below(reading, node, at);
         let child = nodes.child(at);
-        list_scopes(alloc, tables, given, environment, may_eval, stands, child)?;
+        list_scopes(
+            alloc,
+            tables,
+            pattern_writes,
+            environment,
+            may_eval,
+            stands,
+            child,
+        )?;
     }
     Ok(())
 }

@@ -31,7 +31,8 @@ pub fn is_marked(marks: &[bool], at: u32) -> bool
     }
 }
 
-fn mark_symbol(marks: &mut Vec<bool>, symbol: SymbolId)
+/// Marks a symbol.
+pub fn mark_symbol(marks: &mut Vec<bool>, symbol: SymbolId)
     ensures symbols { length marks.new.items ≡ length marks.old.items }
     ensures each { (s : ℕ) → s < length marks.old.items → mark_at marks.new.items s ≡ (mark_at marks.old.items s || nat_eq symbol.0 s) }
 {

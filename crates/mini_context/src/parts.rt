@@ -1,7 +1,7 @@
 //! Which of the names of a node's children a definition speaks of.
 
 ghost use Rattle.std.specs.Prelude.{◌≡◌};
-ghost use Rattle.mini_context.specs.Parts.{caught_part as caught_part_of, fixed_part as fixed_part_of, lexical_part as lexical_part_of, names_at, pattern_part as pattern_part_of, switched_part as switched_part_of};
+ghost use Rattle.mini_context.specs.Parts.{fixed_part as fixed_part_of, lexical_part as lexical_part_of, names_at, pattern_part as pattern_part_of, switched_part as switched_part_of};
 ghost use Rattle.mini_context.specs.Tables.{Marked};
 
 use crate::marks::{mark_all_names, mark_names};
@@ -66,16 +66,6 @@ pub fn switched_part(shape: &Shape) -> Part
 {
     match shape {
         Shape::SwitchStatement => Part::Every(Declared::Lexical),
-        _ => Part::Nothing,
-    }
-}
-
-/// Where a node of this shape has the parameter of a `catch`.
-pub fn caught_part(shape: &Shape) -> Part
-    ensures { result ≡ caught_part_of shape.now }
-{
-    match shape {
-        Shape::CatchClause => Part::At(0),
         _ => Part::Nothing,
     }
 }

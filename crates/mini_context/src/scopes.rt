@@ -21,7 +21,7 @@ use crate::early::{Moments, empty_moments, open_moments, pass_node};
 use crate::listing::{ScopeTables, empty_scopes, has_eval, list_scopes, open_scopes};
 use crate::lists::holds_number;
 use crate::marks::{is_marked, mark_bindings, no_marks};
-use crate::mentions::{Mentioned, is_outside, mentioned_at, no_mentions};
+use crate::mentions::{is_outside, mentioned_at};
 use crate::params::is_around;
 use crate::standing::{at_top, first_reading};
 use crate::steady::{is_changed, is_foreign_always, is_shared_always, look_stays};
@@ -50,8 +50,8 @@ pub struct Look {
     pub tables: Tables,
     /// The scopes, and the symbols that a direct eval can see.
     pub scopes: ScopeTables,
-    /// Where `var`s write each symbol.
-    pub given: Vec<Mentioned>,
+    /// The symbols that the patterns of `var`s write.
+    pub pattern_writes: Vec<bool>,
     /// Which bodies read each symbol before its declaration has ended.
     pub moments: Moments,
     /// By symbol, whether it is one of a script's top names.
@@ -124,23 +124,23 @@ fn survey_program(
     survey_node(alloc, tables, at_top(), program)
 }
 
-// Sets the scopes of a program with so many symbols, and what its `var`s write.
+// Sets the scopes of a program with so many symbols, and which of these the patterns of its `var`s write.
 fn list_program(
     alloc: Global,
     scopes: &mut ScopeTables,
-    given: &mut Vec<Mentioned>,
+    pattern_writes: &mut Vec<bool>,
     program: &Node,
     symbols: u32,
 ) -> Result<(), OutOfMemory>
-    ensures { OnOk result (FoundScopes scopes.new given.new.items symbols program.now) }
+    ensures { OnOk result (FoundScopes scopes.new pattern_writes.new.items symbols program.now) }
 {
     open_scopes(alloc, symbols, scopes)?;
-    *given = no_mentions(alloc, symbols)?;
+    *pattern_writes = no_marks(alloc, symbols)?;
     let mut environment = Environment::new(alloc);
     list_scopes(
         alloc,
         scopes,
-        given,
+        pattern_writes,
         &mut environment,
         has_eval(program),
         first_reading(),
@@ -167,7 +167,7 @@ fn no_look(alloc: Global) -> Look {
         counts: no_counts(alloc),
         tables: empty_tables(alloc),
         scopes: empty_scopes(alloc),
-        given: Vec::new(alloc),
+        pattern_writes: Vec::new(alloc),
         moments: empty_moments(alloc),
         tops: Vec::new(alloc),
         writable: Vec::new(alloc),
@@ -184,7 +184,13 @@ fn look_at(look: &mut Look, alloc: Global, program: &Node, symbols: u32) -> Resu
 {
     look.counts = own_counts::<Brand>(alloc, program, symbols, Blank::new(1))?;
     survey_program(alloc, &mut look.tables, program, symbols)?;
-    list_program(alloc, &mut look.scopes, &mut look.given, program, symbols)?;
+    list_program(
+        alloc,
+        &mut look.scopes,
+        &mut look.pattern_writes,
+        program,
+        symbols,
+    )?;
     pass_program(alloc, &mut look.moments, program, symbols)?;
     let room = mark_writable(alloc, &mut look.writable, program)?;
     if room > symbols as usize {
@@ -414,11 +420,13 @@ impl Scopes {
     fn is_changed_outside(&self, symbol: u32, body: u32) -> bool
         ensures { result ≡ is_changed_outside self.now symbol body }
     {
-        is_outside(mentioned_at(self.look.given.as_slice(), symbol), body)
-            || is_outside(
-                mentioned_at(self.look.tables.written.as_slice(), symbol),
-                body,
-            )
+        is_outside(
+            mentioned_at(self.look.tables.given.as_slice(), symbol),
+            body,
+        ) || is_outside(
+            mentioned_at(self.look.tables.written.as_slice(), symbol),
+            body,
+        )
     }
 
     // Whether a body declares the symbol.

@@ -2,7 +2,7 @@
 
 ghost use Rattle.std.specs.Prelude.{◌≡◌, ℕ, ◌||◌, [], true, false, OnOk, IfOk};
 ghost use Rattle.std.specs.List.{list_all};
-ghost use Rattle.mini_context.specs.Facts.{facts_of, foreign_always, is_changed as changes, shared_always, written_in_catch};
+ghost use Rattle.mini_context.specs.Facts.{facts_of, foreign_always, is_changed as changes, shared_always};
 ghost use Rattle.mini_context.specs.Lists.{holds};
 ghost use Rattle.mini_context.specs.Tables.{mark_at};
 ghost use Rattle.mini_context.specs.Steady.{has_origin, home_stays as stays_home, homes_stay as stay_homes, is_origin, is_unsteady as unsteady, is_widely as stands_widely, all_stays as stays_all, stays_alone as alone_stays, stays_set as set_stays, stays_unshared as unshared_stays, symbol_stays as stays_symbol, Answers, AskingStays, FunctionsStay, Stays, SymbolsStay};
@@ -19,16 +19,8 @@ use std::alloc::Global;
 pub fn is_changed(look: &Look, symbol: u32) -> bool
     ensures { result ≡ changes (facts_of look.now []) symbol }
 {
-    is_somewhere(mentioned_at(look.given.as_slice(), symbol))
+    is_somewhere(mentioned_at(look.tables.given.as_slice(), symbol))
         || is_somewhere(mentioned_at(look.tables.written.as_slice(), symbol))
-}
-
-/// Whether a `var` writes the symbol, which is a parameter of `catch`.
-pub fn is_written_in_catch(look: &Look, symbol: u32) -> bool
-    ensures { result ≡ written_in_catch (facts_of look.now []) symbol }
-{
-    is_marked(look.tables.params.as_slice(), symbol)
-        && is_somewhere(mentioned_at(look.given.as_slice(), symbol))
 }
 
 /// Whether the symbol is foreign to every body.
@@ -40,7 +32,7 @@ pub fn is_foreign_always(look: &Look, symbol: u32) -> bool
         || is_marked(look.scopes.seen.as_slice(), symbol)
         || is_marked(look.tables.reached.as_slice(), symbol)
         || is_marked(look.tables.patterns.as_slice(), symbol)
-        || is_written_in_catch(look, symbol)
+        || is_marked(look.pattern_writes.as_slice(), symbol)
 }
 
 /// Whether every body shares the symbol that mentions it.
@@ -52,7 +44,7 @@ pub fn is_shared_always(look: &Look, symbol: u32) -> bool
         || is_marked(look.scopes.seen.as_slice(), symbol)
         || is_marked(look.tables.reached.as_slice(), symbol)
         || is_marked(look.tables.caught.as_slice(), symbol)
-        || is_written_in_catch(look, symbol)
+        || is_marked(look.pattern_writes.as_slice(), symbol)
 }
 
 fn is_unsteady(look: &Look, symbol: u32) -> bool

@@ -14,11 +14,12 @@ ghost use Rattle.mini_context.specs.Visits.{below, bodies_at, imported_here, vis
 
 use crate::catching::mark_caught;
 use crate::exchanges::mark_exchanged;
+use crate::giving::join_values;
 use crate::lists::no_lists;
 use crate::marks::{mark_names, no_marks};
 use crate::mentions::{Mentioned, join_own, join_write, no_mentions, put_home};
 use crate::params::{Params, empty_params, enclose, no_params};
-use crate::parts::{caught_part, fixed_part, lexical_part, mark_part, pattern_part, switched_part};
+use crate::parts::{fixed_part, lexical_part, mark_part, pattern_part, switched_part};
 use crate::reach::mark_reached;
 use crate::standing::{Standing, frame_in_body, numbering_of, standing_below};
 use mini_laws::{Declared, Numbering};
@@ -43,14 +44,14 @@ pub struct Tables {
     pub lexical: Vec<bool>,
     /// By symbol, whether its name is lexical and declared directly in a `switch`.
     pub switched: Vec<bool>,
-    /// By symbol, whether it is the parameter of a `catch`.
-    pub params: Vec<bool>,
     /// By symbol, whether it is a `var` under a parameter of `catch` of its name.
     pub caught: Vec<bool>,
     /// By symbol, where it is mentioned.
     pub mentioned: Vec<Mentioned>,
     /// By symbol, where it is written.
     pub written: Vec<Mentioned>,
+    /// By symbol, where `var`s write it.
+    pub given: Vec<Mentioned>,
     /// By symbol, the bodies in which it is bound.
     pub homes: Vec<OwnedList<u32>>,
     /// In whose parameters bodies stand, and symbols are bound.
@@ -71,10 +72,10 @@ pub fn empty_tables(alloc: Global) -> Tables {
         patterns: Vec::new(alloc),
         lexical: Vec::new(alloc),
         switched: Vec::new(alloc),
-        params: Vec::new(alloc),
         caught: Vec::new(alloc),
         mentioned: Vec::new(alloc),
         written: Vec::new(alloc),
+        given: Vec::new(alloc),
         homes: Vec::new(alloc),
         enclosing: empty_params(alloc),
         this_events: Vec::new(alloc),
@@ -135,14 +136,10 @@ pub fn open_tables(alloc: Global, symbols: u32, tables: &mut Tables) -> Result<(
         &mut tables.patterns,
         &mut tables.lexical,
     )?;
-    open_marks(
-        alloc,
-        symbols,
-        &mut tables.switched,
-        &mut tables.params,
-        &mut tables.caught,
-    )?;
+    tables.switched = no_marks(alloc, symbols)?;
+    tables.caught = no_marks(alloc, symbols)?;
     open_mentions(alloc, symbols, &mut tables.mentioned, &mut tables.written)?;
+    tables.given = no_mentions(alloc, symbols)?;
     tables.homes = no_lists(alloc, symbols)?;
     tables.enclosing = no_params(alloc, symbols)?;
     tables.this_events = Vec::new(alloc);
@@ -248,7 +245,6 @@ fn visit(
     let nodes = node.children();
     mark_part(&mut tables.fixed, fixed_part(shape), nodes);
     mark_part(&mut tables.switched, switched_part(shape), nodes);
-    mark_part(&mut tables.params, caught_part(shape), nodes);
     let pattern = pattern_part(shape, node.number());
     mark_part(&mut tables.patterns, pattern, nodes);
     mark_exchanged(&mut tables.exchanged, standing.exchanges, node);
@@ -258,6 +254,7 @@ fn visit(
     mark_caught(alloc, &mut tables.caught, node)?;
     join_own(&mut tables.mentioned, standing, node);
     join_write(&mut tables.written, standing, node);
+    join_values(alloc, &mut tables.given, standing, node)?;
     put_home(&mut tables.homes, standing, node)?;
     mark_body(
         &mut tables.this_events,

@@ -16,12 +16,17 @@ const MAX_SAFE_INTEGER: u64 = 9_007_199_254_740_991;
 /// What a literal is.
 #[derive(Clone, Copy)]
 pub enum LiteralValue<'v> {
+    /// A regular expression, by its pattern and flags.
     RegExp { pattern: &'v str, flags: &'v str },
     /// The digits of a BigInt.
     BigInt(&'v str),
+    /// `null`
     Null,
+    /// `true` or `false`
     Boolean(bool),
+    /// A safe number from 0.
     Numeric(u64),
+    /// A text.
     String(&'v str),
 }
 

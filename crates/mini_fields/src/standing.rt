@@ -331,7 +331,7 @@ fn stands_otherwise(class: Class, kind: Kind, value: &Value) -> bool
     }
 }
 
-// The same of the classes that ask for one of some types.
+// Whether a value of the type may stand where a class is asked for that takes one of some types.
 fn stands_in_list(class: Class, kind: Kind, value: &Value) -> bool
     ensures { result ≡ stands_in_list class kind (view value.now) }
 {
@@ -526,7 +526,7 @@ fn is_unread_at(strict: bool, place: Place, kind: Kind, value: &Value) -> bool
     }
 }
 
-// The same of the type that the node has.
+// Whether the value, by the type that it has, is a form that isn't read where it stands.
 fn is_unread_of(strict: bool, place: Place, kind: Kind, value: &Value) -> bool
     ensures { result ≡ is_unread_of strict (place_of place) kind (view value.now) }
 {

@@ -17,7 +17,7 @@ use std::alloc::Global;
 /// declares (ECMA-262, "The typeof Operator").
 pub const UNDEFINED: [u16; 9] = [117, 110, 100, 101, 102, 105, 110, 101, 100];
 
-// Those of the other texts that it gives, and of one that it gave of old.
+// The UTF-16 units of the other texts that `typeof` gives, and of one that it gave of old.
 const OBJECT: [u16; 6] = [111, 98, 106, 101, 99, 116];
 
 const BOOLEAN: [u16; 7] = [98, 111, 111, 108, 101, 97, 110];
@@ -34,7 +34,7 @@ const FUNCTION: [u16; 8] = [102, 117, 110, 99, 116, 105, 111, 110];
 
 const UNKNOWN: [u16; 7] = [117, 110, 107, 110, 111, 119, 110];
 
-/// `!0` for true, `!1` for false. The only error is that memory runs out.
+/// `!0` of true, `!1` of false. The only error is that memory runs out.
 pub fn negated_digit(alloc: Global, truth: bool) -> Result<Node, OutOfMemory>
     ensures { IfOk result (λ w. w ≡ negated_digit_of truth) }
 {
@@ -42,7 +42,7 @@ pub fn negated_digit(alloc: Global, truth: bool) -> Result<Node, OutOfMemory>
     negation(alloc, numeric_literal(alloc, digit))
 }
 
-/// `typeof a`
+/// Whether the expression is `typeof a`.
 pub fn is_typeof(node: &Node) -> bool
     ensures kind { result ≡ types.is_typeof node.now }
     ensures parts { result ≡ true → count (children node.now) ≡ 1 }
@@ -90,7 +90,7 @@ fn is_no_type(node: &Node) -> bool
 }
 
 /// Whether `typeof` stands beside what none of its texts equals, where nothing is done and nothing
-/// left behind. It is said whether `this` has an effect, as it has where it is asked of the world.
+/// left behind. `asked` says that `this` is asked of the world, and so has an effect.
 pub fn is_never_type(node: &Node, asked: bool) -> bool
     requires { count (children node.now) ≡ 2 }
     ensures { result ≡ types.is_never_type asked node.now }
@@ -101,7 +101,7 @@ pub fn is_never_type(node: &Node, asked: bool) -> bool
         && leaves_nothing(node)
 }
 
-/// `==`, `!=`, `===` or `!==`.
+/// Whether the operator is `==`, `!=`, `===` or `!==`.
 pub fn is_equality(operator: BinaryOperator) -> bool
     ensures { result ≡ is_it_equality operator }
 {
@@ -114,7 +114,7 @@ pub fn is_equality(operator: BinaryOperator) -> bool
     }
 }
 
-/// Whether it says that its sides are equal, and not that they aren't.
+/// Whether the operator says that its sides are equal, and not that they aren't.
 pub fn says_equal(operator: BinaryOperator) -> bool
     ensures { result ≡ row.says_equal operator }
 {

@@ -109,7 +109,9 @@ pub fn remove_inside_function<E: EndRewrites>(
     remove_in_body(alloc, node, 2, ends)
 }
 
-/// Of an arrow function with statements, and of any other function that stands as an expression.
+/// Of an arrow function with statements, and of any other function that stands as an expression,
+/// what is done at the ends of the ways in it. The answer says whether a name went; the only error
+/// is that memory runs out, and then the node is fit only to be dropped.
 pub fn remove_inside_arrow<E: EndRewrites>(
     alloc: Global,
     node: &mut Node,
@@ -123,7 +125,9 @@ pub fn remove_inside_arrow<E: EndRewrites>(
     remove_in_body(alloc, node, 1, ends)
 }
 
-/// Of a module, a static block, and a function that is exported.
+/// Of a module, a static block, and a function that is exported, what is done at the ends of the
+/// ways in it. The answer says whether a name went; the only error is that memory runs out, and
+/// then the node is fit only to be dropped.
 pub fn remove_inside_module<E: EndRewrites>(
     alloc: Global,
     node: &mut Node,

@@ -24,7 +24,7 @@ use std::mem;
 
 /// What is done at the end of a way, by the nodes above it, each without what the way goes into.
 pub trait EndRewrites {
-    /// What is read there as what.
+    /// Which tree may become which at the end of a way.
     ghost ends: { Self → Ends };
 
     /// Writes there what a row says, once or more often, and answers true; or leaves it, if none
@@ -40,7 +40,7 @@ pub trait EndRewrites {
         requires { is_it_listed above.now ≡ true }
         ensures { IfOk result (λ changed. HereWalked (ends self.now) (children above.now) way node.old node.new changed) };
 
-    /// What holds the body is lighter then.
+    /// What holds the body gets lighter by each rewrite at the end of a way in it.
     ghost lighter: { (c : Self) → EndsLighten (Self.ends c) };
 }
 
@@ -60,7 +60,8 @@ fn remove_in_statements(
     remove_in_list(alloc, above, node, context)
 }
 
-/// The node, taken out of its place, as the only one of a list.
+/// A node, taken out of its place, as the only one of a list. The only error is that memory runs
+/// out.
 pub fn take_alone(alloc: Global, node: &mut Node) -> Result<Node, OutOfMemory>
     ensures { IfOk result (λ list. list ≡ as_list (node.old ▸ none)) }
 {
@@ -68,7 +69,7 @@ pub fn take_alone(alloc: Global, node: &mut Node) -> Result<Node, OutOfMemory>
     Ok(listed(of_one(alloc, moved)?))
 }
 
-/// The first of a list, put into the place.
+/// Puts the first node of a list into a place.
 pub fn put_first(node: &mut Node, list: Node)
     ensures { node.new ≡ part list 0 }
 {

@@ -27,8 +27,9 @@ fn next_in_head(alloc: Global, node: &Node, context: &TraverseCtx) -> Option<usi
     found
 }
 
-/// Of the head of a `for` over a `let` or a `const` such a declarator goes, and its initializer
-/// into the next. The answer says whether one did.
+/// From the head of a `for` over a `let` or a `const` the first declarator goes whose name the next
+/// one reads first, and nothing else in the `for` mentions; its initializer goes into the next. The
+/// answer says whether one did.
 pub fn substitute_next_in_head(alloc: Global, node: &mut Node, context: &TraverseCtx) -> bool
     requires head { row.has_head node.old ≡ true }
     requires parts { 0 < count (children node.old) }

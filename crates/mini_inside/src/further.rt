@@ -34,9 +34,9 @@ fn remove_in<E: EndRewrites>(
     Ok(below | here)
 }
 
-/// Of a node on the way to `var`s further inside, with the nodes above it, each without what the
-/// way goes into, that is done at the ends of the ways in it. The answer says whether anything was;
-/// the only error is that memory runs out, and then the nodes are fit only to be dropped.
+/// Makes what is done at the ends of the ways in a node on the way to `var`s further inside, with
+/// the nodes above it, each without what the way goes into. The answer says whether anything was
+/// done; the only error is that memory runs out, and then the nodes are fit only to be dropped.
 #[cycle(inside)]
 pub fn remove_below<E: EndRewrites>(
     alloc: Global,

@@ -28,7 +28,7 @@ use mini_unused::{
 };
 use std::alloc::Global;
 
-/// A switch over a list of cases.
+/// Whether the node is a `switch` over a list of cases.
 pub fn is_switch(node: &Node) -> bool
     ensures kind { result ≡ row.is_switch node.now }
     ensures parts { result ≡ true → count (children node.now) ≡ 2 }
@@ -44,7 +44,7 @@ fn is_case(node: &Node) -> bool
     matches!(node.shape(), Shape::SwitchCase) && node.is_bare(2) && is_listed(node.child(1))
 }
 
-/// Of a switch, what stands at the place is a case with its statements in a list.
+/// Whether the child at the place of a `switch` is a case with its statements in a list.
 pub fn is_case_at(node: &Node, at: usize) -> bool
     requires cases { 1 < count (children node.now) }
     requires case { at < count (children (part node.now 1)) }
@@ -54,7 +54,7 @@ pub fn is_case_at(node: &Node, at: usize) -> bool
     is_case(node.child(1).child(at))
 }
 
-/// Of a switch, the statements of the case at the place, taken out of it.
+/// The statements of the case at the place of a `switch`, taken out of it.
 #[tactic(auto, using(mini_unused::proofs::Unused::same_parts, mini_unused::proofs::Unused::part_twice))]
 pub fn take_statements(node: &mut Node, at: usize) -> Node
     requires cases { 1 < count (children node.old) }
@@ -71,7 +71,7 @@ pub fn take_statements(node: &mut Node, at: usize) -> Node
     list
 }
 
-/// Of a switch, these are the statements of the case at the place.
+/// Puts these statements into the case at the place of a `switch`.
 #[tactic(auto, using(mini_unused::proofs::Unused::same_parts, mini_unused::proofs::Unused::part_twice))]
 pub fn put_statements(node: &mut Node, at: usize, list: Node)
     requires cases { 1 < count (children node.old) }
@@ -141,7 +141,7 @@ fn remove_unused_in_switch(
     remove_in_cases(alloc, node, 0, context)
 }
 
-/// A `for` over a `let` or a `const`.
+/// Whether the node is a `for` over a `let` or a `const`.
 pub fn has_head(node: &Node) -> bool
     ensures kind { result ≡ row.has_head node.now }
     ensures parts { result ≡ true → count (children node.now) ≡ 4 }
@@ -164,8 +164,8 @@ fn unused_in_head(alloc: Global, node: &Node, context: &TraverseCtx) -> Option<u
     found
 }
 
-/// Of a list of declarators the one at the index has a name, and an initializer that nothing
-/// misses.
+/// Whether the declarator at the index of a list has a name, and nothing is lost with its
+/// initializer.
 pub fn is_idle_at(list: &Node, which: usize) -> bool
     requires { which < count (children list.now) }
     ensures { result ≡ row.is_idle_at list.now which }
@@ -174,7 +174,8 @@ pub fn is_idle_at(list: &Node, which: usize) -> bool
     declares_name(declarator) && is_idle(declarator.child(1))
 }
 
-/// Of what a `for` begins with the declarator at the index goes, and with the only one all of it.
+/// From the declaration that a `for` begins with the declarator at the index goes, and with the
+/// only one all of it.
 pub fn drop_from_head(alloc: Global, head: &mut Node, which: usize)
     requires list { 0 < count (children head.old) }
     requires declarator { which < count (children (part head.old 0)) }
@@ -230,7 +231,8 @@ fn remove_idle_in_head(alloc: Global, node: &mut Node, context: &TraverseCtx) ->
     }
 }
 
-// Or else one that the next declarator reads, whose initializer goes there.
+// From the head of a `for` a declarator goes that nothing else mentions, or else one that the next
+// declarator reads, whose initializer goes there.
 fn remove_in_head(alloc: Global, node: &mut Node, context: &TraverseCtx) -> bool
     requires head { row.has_head node.old ≡ true }
     requires parts { 0 < count (children node.old) }
@@ -286,7 +288,7 @@ fn are_statements(node: &Node) -> bool
     matches!(node.shape(), Shape::FunctionBody) && node.is_bare(1) && is_listed(node.child(0))
 }
 
-/// An arrow function with statements.
+/// Whether the node is an arrow function with statements.
 pub fn has_statements(node: &Node) -> bool
     ensures kind { result ≡ row.has_statements node.now }
     ensures parts { result ≡ true → count (children node.now) ≡ 2 }
@@ -321,7 +323,7 @@ pub fn remove_unused_in_arrow(
     changed
 }
 
-/// Any other function.
+/// Whether the node is a function with statements that is no arrow function.
 pub fn is_function(node: &Node) -> bool
     ensures kind { result ≡ row.is_function node.now }
     ensures parts { result ≡ true → count (children node.now) ≡ 3 }
@@ -334,9 +336,9 @@ pub fn is_function(node: &Node) -> bool
         && are_statements(node.child(2))
 }
 
-/// Of a function that is no arrow function, as `function f(a) { let x = b(); return x + a; }`,
-/// whose own name and whose parameters don't mention x either, wherever it stands. The answer says
-/// whether a name went; the only error is that memory runs out.
+/// In a function that is no arrow function, wherever it stands, rows 71 and 72 are made, as in
+/// `function f(a) { let x = b(); return x + a; }`: its own name and its parameters don't mention x
+/// either. The answer says whether a name went; the only error is that memory runs out.
 #[tactic(auto, using(mini_unused::proofs::Unused::same_parts, mini_unused::proofs::Unused::part_twice))]
 pub fn remove_unused_in_function(
     alloc: Global,
@@ -356,7 +358,7 @@ pub fn remove_unused_in_function(
     changed
 }
 
-/// A module with its statements.
+/// Whether the node is a module with its statements.
 pub fn is_module(node: &Node) -> bool
     ensures kind { result ≡ row.is_module node.now }
     ensures parts { result ≡ true → count (children node.now) ≡ 1 }
@@ -364,7 +366,7 @@ pub fn is_module(node: &Node) -> bool
     matches!(node.shape(), Shape::Program(true, _)) && node.is_bare(1) && is_listed(node.child(0))
 }
 
-/// A static block with its statements.
+/// Whether the node is a static block with its statements.
 pub fn is_static_block(node: &Node) -> bool
     ensures kind { result ≡ row.is_static_block node.now }
     ensures parts { result ≡ true → count (children node.now) ≡ 1 }
@@ -375,7 +377,7 @@ pub fn is_static_block(node: &Node) -> bool
         && is_listed(node.child(0))
 }
 
-/// A module or a static block.
+/// Whether the node is a module or a static block.
 pub fn holds_list(node: &Node) -> bool
     ensures kind { result ≡ row.holds_list node.now }
     ensures parts { result ≡ true → count (children node.now) ≡ 1 }
@@ -391,9 +393,9 @@ fn holds_statements(node: &Node) -> bool
     is_block(node) || holds_list(node)
 }
 
-/// Of a module, as `import "a"; const x = f(); g();`, in which nothing else mentions x, of a static
-/// block of a class, of each block of a `try`, and of a function that is exported. The answer says
-/// whether a name went; the only error is that memory runs out.
+/// In a module, a static block of a class, a block of a `try`, or a function that is exported rows
+/// 71 and 72 are made, as in `import "a"; const x = f(); g();`, in which nothing else mentions x.
+/// The answer says whether a name went; the only error is that memory runs out.
 #[tactic(auto, using(mini_unused::proofs::Unused::same_parts, mini_unused::proofs::Unused::part_twice))]
 pub fn remove_unused_in_module(
     alloc: Global,

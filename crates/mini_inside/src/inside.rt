@@ -13,9 +13,9 @@ use mini_node::Node;
 use mini_tree::Rule;
 use std::alloc::Global;
 
-/// Of what holds a body, as it stands at a place: each function with statements, each static block,
-/// and a module. The answer says whether anything was done; the only error is that memory runs out,
-/// and then the node is fit only to be dropped.
+/// Makes what is done at the ends of ways in what holds a body, as it stands at a place: in a
+/// function with statements, in a static block, and in a module. The answer says whether anything
+/// was done; the only error is that memory runs out, and then the node is fit only to be dropped.
 #[tactic(auto, using(crate::proofs::FurtherHolders::nowhere))]
 pub fn remove_inside<E: EndRewrites>(
     alloc: Global,

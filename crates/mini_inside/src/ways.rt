@@ -98,7 +98,8 @@ fn catch_way(shape: &Shape, at: usize) -> Option<Way>
     }
 }
 
-/// What stands at the child of a node on the way.
+/// What stands on the way at the child at an index of a node that stands there like this; None
+/// where the way doesn't go into it.
 pub fn way_in(way: Way, shape: &Shape, at: usize) -> Option<Way>
     ensures { result ≡ inside.way_in way shape.now at }
 {

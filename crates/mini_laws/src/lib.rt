@@ -76,6 +76,7 @@ pub fn rewriting_is_lighter()
 
 /// What may be made of which tree at a place, as a rule says it.
 pub trait Rewrites {
+    /// At this place the second tree may be made of the first.
     ghost gives: { Position → Tree → Tree → Type 0 };
 }
 

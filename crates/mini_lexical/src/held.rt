@@ -22,7 +22,8 @@ fn is_unshared<S: SteadyNames>(symbol: Option<SymbolId>, body: u32, steady: &S) 
     }
 }
 
-// So it is, and the name doesn't stand in what is outside.
+// A scope declares the name, no event of the body shows it, and it doesn't stand in what is
+// outside.
 #[tactic(auto, using(crate::proofs::HeldNames::and_one))]
 fn passes<S: SteadyNames>(name: &Option<Name>, outside: &Node, body: u32, steady: &S) -> bool
     ensures { result ≡ lexical.all_pass (lexical.is_of_outside (S.sets steady.now body).unshared outside.now) (names name.now) }

@@ -14,7 +14,7 @@ use mini_node::Node;
 use mini_steady::{BodyCode, OwnRewrites, SteadyNames};
 use std::alloc::Global;
 
-// Either of a statement.
+// Row 80 or 84 of a statement.
 fn minimize_lexical_statement<S: SteadyNames>(
     alloc: Global,
     node: &mut Node,

@@ -21,9 +21,9 @@ use std::alloc::Global;
 /// What passes of two rules over a program came to.
 #[derive(Clone, Copy)]
 pub struct SteadyPasses {
-    /// How many there were.
+    /// How many passes there were.
     pub passes: u32,
-    /// Whether the last one found nothing to do.
+    /// Whether the last pass found nothing to do.
     pub settled: bool,
     /// Whether what was known of bodies stayed so.
     pub steady: bool,
@@ -106,7 +106,8 @@ fn go_on<C: Renews, A: Rule<C>, B: Rule<C>>(
     Ok(Some(Passes { passes, settled }))
 }
 
-// The same, where the program is left as it was where what was known of bodies didn't stay so.
+// The pass with this number and those after it; the program is left as it was where what was known
+// of bodies didn't stay so.
 fn go_on_or_stay<C: Renews, A: Rule<C>, B: Rule<C>>(
     first: &A,
     second: &B,

@@ -12,15 +12,16 @@ use std::alloc::Global;
 /// A context that looks at a program anew, and tells whether what was known of the bodies of the
 /// one that it knew is known of those of this one.
 pub trait Renews: Context {
-    /// That what is known of the bodies of one program is known of those of another.
+    /// What is known of the bodies of one program is known of those of another.
     ghost stays: { Tree → Tree → Type 0 };
 
-    /// If it stays from one program to a second and from that to a third, it stays from the first
-    /// to the third.
+    /// What is known stays from one program to a third, if it stays from the first to a second and
+    /// from that to the third.
     ghost goes_on: { (p q r : Tree) → stays p q → stays q r → stays p r };
 
-    /// Looks at a program, and then knows it. True says that what was known stays so. The only
-    /// error is that memory runs out, and then it is fit only to be dropped.
+    /// Looks at a program, so that the context knows this one. True says that what was known of
+    /// bodies stays so. The only error is that memory runs out, and then the context is fit only to
+    /// be dropped.
     fn renew(&mut self, alloc: Global, program: &Node) -> Result<bool, OutOfMemory>
         ensures knows { OnOk result (KnowsAnew Self.knows self.old self.new program.now) }
         ensures stays { IfOk result (λ answer. answer ≡ true → ByKnown Self.knows self.old (λ o q. stays q program.now)) };

@@ -21,8 +21,9 @@ use mini_steady::{BodyCode, OwnRewrites, SteadyNames};
 use mini_unused::{put_child, take_child};
 use std::alloc::Global;
 
-/// Of a block in the code of a body, as `{ let x = a(); return g(x); }`, which becomes
-/// `{ ; return g(a()); }`. The answer says whether a name went.
+/// In a block in the code of a body row 71 past steady names is made:
+/// `{ let x = a(); return g(x); }` becomes `{ ; return g(a()); }`. The answer says whether a name
+/// went.
 #[tactic(auto, using(crate::proofs::Holders::same_parts, crate::proofs::Holders::part_twice))]
 pub fn substitute_past_in_block<S: SteadyNames>(
     alloc: Global,
@@ -45,9 +46,9 @@ pub fn substitute_past_in_block<S: SteadyNames>(
     changed
 }
 
-/// Of a statement in the code of a body: of a block, of the cases of a switch, or of the head of a
-/// `for`. The answer says whether a name went; the only error is that memory runs out, and then the
-/// node is fit only to be dropped.
+/// In a statement in the code of a body row 71 past steady names is made: in a block, in the cases
+/// of a `switch`, or in the head of a `for`. The answer says whether a name went; the only error is
+/// that memory runs out, and then the node is fit only to be dropped.
 pub fn substitute_past_in_statement<S: SteadyNames>(
     alloc: Global,
     node: &mut Node,

@@ -43,7 +43,8 @@ fn substitute_past_in_case<S: SteadyNames>(
     changed
 }
 
-/// Of the first case from the index on that has such a name. The answer says whether one had.
+/// Of the first case of a `switch`, from the index on, in whose statements row 71 past steady names
+/// finds a name, that name goes. The answer says whether there was one.
 pub fn substitute_past_in_cases<S: SteadyNames>(
     alloc: Global,
     node: &mut Node,

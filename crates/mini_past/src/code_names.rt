@@ -12,8 +12,8 @@ use mini_steady::{BodyCode, SteadyNames, is_initialised};
 use mini_tree::CompressOptions;
 use mini_unused::may_move;
 
-/// What is known at the place of a scope in the code of a body, of whichever number it is asked; of
-/// such a scope no `var` goes.
+/// What is known at the place of a scope in the code of a body, whatever the number of the body is
+/// that is asked for. No `var` goes from such a scope.
 #[derive(Drop)]
 pub struct CodeNames<'a, S: SteadyNames> {
     /// What is known of all bodies.

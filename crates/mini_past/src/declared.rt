@@ -38,7 +38,8 @@ fn may_pass<S: PastNames>(init: &Node, steady: &S) -> bool
     steady.lets_move(init) && !is_constant(init)
 }
 
-/// A declarator of such a name with such an initializer.
+/// Whether the declarator has a name that may go, and an initializer that may move and is no
+/// constant.
 pub fn may_pass_by<S: PastNames>(is_free: bool, declarator: &Node, steady: &S) -> bool
     ensures kind { result ≡ row.may_pass_by is_free (S.lets steady.now) declarator.now }
     ensures parts { result ≡ true → count (children declarator.now) ≡ 2 }

@@ -10,9 +10,9 @@ use mini_node::Node;
 use mini_unused::{put_child, take_child};
 use std::alloc::Global;
 
-/// Of a function with statements that is no arrow function, as
-/// `function f(g) { let x = a(); return g(x); }`, which becomes
-/// `function f(g) { ; return g(a()); }`, wherever it stands. The answer says whether a name went.
+/// In a function with statements that is no arrow function, wherever it stands, row 71 past steady
+/// names is made: `function f(g) { let x = a(); return g(x); }` becomes
+/// `function f(g) { ; return g(a()); }`. The answer says whether a name went.
 #[tactic(auto, using(crate::proofs::Holders::same_parts, crate::proofs::Holders::part_twice))]
 pub fn substitute_past_in_function<S: PastNames>(alloc: Global, node: &mut Node, steady: &S) -> bool
     ensures { AppliedPast (S.sets steady.now) (S.lets steady.now) node.old node.new result }
@@ -29,8 +29,9 @@ pub fn substitute_past_in_function<S: PastNames>(alloc: Global, node: &mut Node,
     changed
 }
 
-/// Of an arrow function with statements, as `g => { let x = a(); return g(x); }`, which becomes
-/// `g => { ; return g(a()); }`. The answer says whether a name went.
+/// In an arrow function with statements row 71 past steady names is made:
+/// `g => { let x = a(); return g(x); }` becomes `g => { ; return g(a()); }`. The answer says
+/// whether a name went.
 #[tactic(auto, using(crate::proofs::Holders::same_parts, crate::proofs::Holders::part_twice))]
 pub fn substitute_past_in_arrow<S: PastNames>(alloc: Global, node: &mut Node, steady: &S) -> bool
     ensures { AppliedPastArrow (S.sets steady.now) (S.lets steady.now) node.old node.new result }
@@ -47,7 +48,8 @@ pub fn substitute_past_in_arrow<S: PastNames>(alloc: Global, node: &mut Node, st
     changed
 }
 
-/// Of a module, as `import g from "g"; const y = a(); const x = b(); c(y, x);`, which becomes
+/// In a module row 71 past steady names is made:
+/// `import g from "g"; const y = a(); const x = b(); c(y, x);` becomes
 /// `import g from "g"; const y = a(); ; c(y, b());`. The answer says whether a name went.
 #[tactic(auto, using(crate::proofs::Holders::same_parts, crate::proofs::Holders::part_twice))]
 pub fn substitute_past_in_module<S: PastNames>(alloc: Global, node: &mut Node, steady: &S) -> bool
@@ -62,7 +64,8 @@ pub fn substitute_past_in_module<S: PastNames>(alloc: Global, node: &mut Node, s
     changed
 }
 
-/// Of a static block, as `class A { static { const y = a(), x = b(); c(y, x); } }`, which becomes
+/// In a static block row 71 past steady names is made:
+/// `class A { static { const y = a(), x = b(); c(y, x); } }` becomes
 /// `class A { static { const y = a(); c(y, b()); } }`. The answer says whether a name went.
 #[tactic(auto, using(crate::proofs::Holders::same_parts, crate::proofs::Holders::part_twice))]
 pub fn substitute_past_in_static<S: PastNames>(alloc: Global, node: &mut Node, steady: &S) -> bool

@@ -16,9 +16,9 @@ use mini_steady::{BodyCode, SteadyNames};
 use mini_unused::{put_child, take_child};
 use std::alloc::Global;
 
-/// Of a `for` in the code of a body, whose head is read as a list of this one declaration. The
-/// answer says whether a name went; the only error is that memory runs out, and then the node is
-/// fit only to be dropped.
+/// In the head of a `for` in the code of a body, which is read as a list of this one declaration,
+/// row 71 past steady names is made. The answer says whether a name went; the only error is that
+/// memory runs out, and then the node is fit only to be dropped.
 pub fn substitute_past_in_head<S: SteadyNames>(
     alloc: Global,
     node: &mut Node,

@@ -121,8 +121,8 @@ fn is_free(statements: &Nodes, at: usize) -> bool
     is_lexical(statements.child(at).shape())
 }
 
-/// One of the statements before the one at the place, or of the declarators before the other place
-/// in it, has initialised the name, and no scope in them hides it.
+/// Whether a statement before the one at the place, or a declarator before the other place in that,
+/// has initialised the name, and no scope in them hides it.
 pub fn is_let(
     symbol: SymbolId,
     statements: &Nodes,

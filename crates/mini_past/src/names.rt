@@ -59,10 +59,11 @@ impl PastNames for TraverseCtx {
     }
 }
 
-/// A context that tells so of the program that it knows.
+/// A context that tells which names can be written, and what the minifier may do, of the program
+/// that it knows.
 pub trait PastContext: SteadyContext + PastNames {
-    /// Of options and a program, the variables that can be written in it, and what the minifier may
-    /// do.
+    /// The variables that can be written in a program, and what the minifier may do under these
+    /// options.
     ghost lets_in: { CompressOptions → Tree → Liberties };
 
     /// What the context tells of what can be written and done is that of the program that it knows,

@@ -92,7 +92,7 @@ fn is_read_past_then<S: SteadyNames>(
     }
 }
 
-// Such a declarator, whose initializer may move.
+// A declarator that the next one reads past others, and whose initializer may move.
 fn is_past_by<S: PastNames>(
     is_free: bool,
     declarator: &Node,
@@ -127,7 +127,9 @@ fn is_past_by<S: PastNames>(
         )
 }
 
-/// Of a list the declarator at the place.
+/// Whether row 71 past steady names takes the declarator at the place of a list: its name and
+/// initializer may go, the next declarator reads the name after parts that pass the initializer,
+/// and nothing else mentions it.
 #[tactic(auto, using(crate::proofs::NextPlaces::next_is))]
 pub fn is_past_by_next<S: PastNames>(
     is_free: bool,
@@ -234,9 +236,9 @@ fn next_at<S: PastNames>(
     None
 }
 
-/// Of a list of statements in which none reads a name of the one before so, with what stands
-/// outside of them, `let x = a(), y = g(x);` becomes `let y = g(a());`, as often as there is one.
-/// The answer says whether there was.
+/// In a list of statements `let x = a(), y = g(x);` becomes `let y = g(a());`, as often as there is
+/// such a declaration, where g is steady in the body around. No statement of the list may read a
+/// name of the one before it like that. The answer says whether there was one.
 pub fn substitute_next_past<S: PastNames>(
     alloc: Global,
     outside: &Node,

@@ -124,7 +124,9 @@ fn is_past_declarator<S: PastNames>(
         )
 }
 
-/// The statement is a declaration from which names may go, whose last declarator is such a one.
+/// Whether row 71 past steady names takes the last declarator of the statement at the place: that
+/// is a declaration from which names may go, the next statement reads the name after parts that
+/// pass the initializer, and nothing else mentions it.
 #[tactic(auto, using(crate::proofs::Places::no_declarator, crate::proofs::Places::last_is))]
 pub fn is_past<S: PastNames>(
     outside: &Node,

@@ -136,8 +136,9 @@ fn sweep_statement<S: PastNames>(
     }
 }
 
-/// Of a list of statements, which with what stands outside of them is the body with this number,
-/// from a place on, each name goes that the next statement or the next declarator reads so.
+/// In a list of statements, which with what stands outside of them is the body with this number,
+/// row 71 past steady names is made from a place on: each name goes that the next statement or the
+/// next declarator reads after parts that pass its initializer, and that nothing else mentions.
 pub fn sweep<S: PastNames>(
     alloc: Global,
     outside: &Node,

@@ -11,9 +11,9 @@ use Rattle.mini_model.specs.Tree.{Tree, Trees, node, none, ◌▸◌, count}
 use Rattle.mini_model.specs.Position.{child_position}
 use Rattle.mini_model.specs.Weight.{Outline, outline, outlines, outline_by, same_text, spelled_weight, name_weight, names_weight, text_weight, own_weight, weight, weights}
 use Rattle.mini_laws.specs.Resolved.{resolved_program}
-use Rattle.mini_laws.specs.Symbols.{with_new, mapped, all_mapped, bare}
+use Rattle.mini_laws.specs.Symbols.{with_new, no_symbol, bare_names, bare, all_bare}
 use Rattle.mini_accept.specs.Symbols.{has_no_symbol}
-use Rattle.mini_kept.proofs.Texts.{no_symbol, bare_same, bare_resolved}
+use Rattle.mini_kept.proofs.Texts.{bare_same, bare_resolved}
 
 at_least : (a b c : Bool) → 2 ≤ (if a then 18 else (if b then 16 else (if c then 6 else 2)))
 at_least true b c = omega arith
@@ -32,42 +32,42 @@ names_heaviest : (xs : List Name) → names_weight xs ≤ names_weight (map (wit
 names_heaviest [] = omega arith
 names_heaviest (x ∷ xs) = let a = name_heaviest x in let b = names_heaviest xs in omega (arith, a, b)
 
-text_heaviest : (h : Shape) (xs : List Name) (p : Position) (os : List Outline) → text_weight h xs p os ≤ text_weight h (map (with_new no_symbol) xs) p os
+text_heaviest : (h : Shape) (xs : List Name) (p : Position) (os : List Outline) → text_weight h xs p os ≤ text_weight h (bare_names h xs) p os
 text_heaviest shape.Identifier xs p os = names_heaviest xs
 text_heaviest h xs p os = omega arith
 
-own_heaviest : (p : Position) (h : Shape) (xs : List Name) (os : List Outline) → own_weight p h xs os ≤ own_weight p h (map (with_new no_symbol) xs) os
+own_heaviest : (p : Position) (h : Shape) (xs : List Name) (os : List Outline) → own_weight p h xs os ≤ own_weight p h (bare_names h xs) os
 own_heaviest Unwritten h xs os = omega arith
 own_heaviest p h xs os = let a = text_heaviest h xs p os in omega (arith, a)
 
 mutual
-  unfolding mapped
+  unfolding bare
 
   outline_bare : (t : Tree) → outline (bare t) ≡ outline t
   outline_bare (node h xs n ts) = ap (outline_by h) (outlines_bare ts)
 
-  outlines_bare : (ts : Trees) → outlines (all_mapped no_symbol ts) ≡ outlines ts
+  outlines_bare : (ts : Trees) → outlines (all_bare ts) ≡ outlines ts
   outlines_bare none = refl
   outlines_bare (t ▸ ts) = λ k. outline_bare t k ∷ outlines_bare ts k
 
 mutual
-  unfolding mapped
+  unfolding bare
 
-  count_bare : (ts : Trees) → count (all_mapped no_symbol ts) ≡ count ts
+  count_bare : (ts : Trees) → count (all_bare ts) ≡ count ts
   count_bare none = refl
   count_bare (t ▸ ts) = ap suc (count_bare ts)
 
 mutual
-  unfolding mapped
+  unfolding bare
 
   heaviest : (p : Position) (t : Tree) → weight p t ≤ weight p (bare t)
   heaviest p (node h xs n ts) =
       let a = own_heaviest p h xs (outlines ts) in
       let b = all_heaviest (child_position h p (count ts)) ts in
-      subst (λ os. weight p (node h xs n ts) ≤ own_weight p h (map (with_new no_symbol) xs) os + weights (child_position h p (count (all_mapped no_symbol ts))) (all_mapped no_symbol ts)) (sym (outlines_bare ts))
-      (subst (λ m. weight p (node h xs n ts) ≤ own_weight p h (map (with_new no_symbol) xs) (outlines ts) + weights (child_position h p m) (all_mapped no_symbol ts)) (sym (count_bare ts)) (omega (arith, a, b)))
+      subst (λ os. weight p (node h xs n ts) ≤ own_weight p h (bare_names h xs) os + weights (child_position h p (count (all_bare ts))) (all_bare ts)) (sym (outlines_bare ts))
+      (subst (λ m. weight p (node h xs n ts) ≤ own_weight p h (bare_names h xs) (outlines ts) + weights (child_position h p m) (all_bare ts)) (sym (count_bare ts)) (omega (arith, a, b)))
 
-  all_heaviest : (π : ℕ → Position) (ts : Trees) → weights π ts ≤ weights π (all_mapped no_symbol ts)
+  all_heaviest : (π : ℕ → Position) (ts : Trees) → weights π ts ≤ weights π (all_bare ts)
   all_heaviest π none = omega arith
   all_heaviest π (t ▸ ts) = let a = heaviest (π zero) t in let b = all_heaviest (λ i. π (suc i)) ts in omega (arith, a, b)
 

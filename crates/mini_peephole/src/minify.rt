@@ -460,7 +460,7 @@ fn weighed_answer(
     })
 }
 
-// The same for a program as it was read, which is let go.
+// The answer for a program as it was read, which is let go, with what it weighs before and after.
 fn weigh_read(
     alloc: Global,
     read: Numbered,

@@ -21,7 +21,7 @@ use Rattle.mini_rows.proofs.ArrangedBodies.{HasBodies, bodies_local, HasFrames, 
 use Rattle.mini_rows.proofs.DeclaredKept.{Named, unmentioned_left, scoped_both, symbols_both, numbers_both, inner_both, once_both, targets_both, frames_both, bodies_both, declares_both, fixed_both, inner_back, fixed_back, named_names, named_declares}
 use Rattle.mini_rows.proofs.ListKeptBegun.{declared_with, inner_spots, fixed_spots, declares_spots, frames_spots, bodies_spots, targets_spots, number_sums, symbols_through, looped_same, once_looped, scoped_looped}
 use Rattle.mini_rows.proofs.ListKeptValues.{Opens}
-use Rattle.mini_rows.proofs.SingleUse.{Step, led, Well, Spared, swapped, taken, swapped_sum, unnamed, found, swapped_back}
+use Rattle.mini_rows.proofs.SingleUse.{Step, led, Well, Spared, swapped, taken, swapped_sum, unnamed, found, swapped_back, both_there, plain_there}
 use Rattle.mini_rows.proofs.UnusedKept.{LeavesThere, NamesThere, DeclaresThere}
 use Rattle.mini_rows.proofs.UnusedNames.{unmentioned}
 
@@ -81,7 +81,7 @@ module _ (K : VariableDeclarationKind) (x : Name) (k : ℕ) (e : x.symbol ≡ sy
   begun_leaves = record {
     inner = λ b. moved Any (InnerIf b) (inner_local b) (inner_both K x init first b) ((inner_spots b).looped id ds u v w value put tt tt);
     inner_back = λ b. moved_back (InnerIf b) (inner_local b) refl (inner_back K x init first b) ((inner_spots b).looped id ds u v w put value tt tt);
-    scoped = λ env. moved Any (ScopedAs Read env) (scoped_local Read env) (scoped_both K x init first env) (scoped_looped id ds u v w value put env);
+    scoped = λ env. moved Any (ScopedAs Read env) (scoped_local Read env) (scoped_both K x init first env) (scoped_looped id ds u v w value put (both_there ss init r (plain_there init plain)) env);
     unmentioned = (unmentioned_left K x k e first f, (unmentioned x k e (loops id ds u v w put) free, tt));
     symbols = λ z.
         let parts = symbols_both K x init first z in

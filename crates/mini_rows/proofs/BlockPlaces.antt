@@ -7,11 +7,14 @@ use Rattle.mini_model.specs.declared.seat.StmtSeat.{StmtSeat}
 use Rattle.mini_model.specs.declared.seat.StmtSeat.TheVariants as stmt_seat
 use Rattle.mini_model.specs.Tree.{Trees, listed}
 use Rattle.mini_model.specs.Weight.{weight}
+use Rattle.mini_laws.specs.declared.names.Use.TheVariants.{Read}
 use Rattle.mini_laws.specs.Demand.{Tail, Demand, Stat}
 use Rattle.mini_laws.specs.Early.{Path, body_declarations}
 use Rattle.mini_laws.specs.Same.{Goes, Same}
 use Rattle.mini_laws.specs.State.{Environment}
+use Rattle.mini_laws.specs.Scoped.{Scoped}
 use Rattle.mini_laws.specs.Step.{step, means, meaning}
+use Rattle.mini_laws.specs.Symbols.{declared}
 use Rattle.mini_laws.specs.Value.{VariableSet}
 use Rattle.mini_kept.specs.KeepsLoosely.{KeepsLoosely}
 use Rattle.mini_kept.specs.KeepsNames.{is_rewritten_place}
@@ -38,15 +41,17 @@ block_placed p h ts us = absurd (cc h)
 
 -- what is kept of it as a statement is kept of it elsewhere, where it declares nothing that clashes more
 module _ (ts us : Trees) (q : StmtSeat) (k : KeepsLoosely (Stmt q) (block ts) (block us)) (clash : (b : Bool) (r : Path) → NoMoreClash (body_declarations b r (listed us)) (body_declarations b r (listed ts))) where
+  -- however it is used there: the names in it are used as in any block
   elsewhere_kept : KeepsLoosely Elsewhere (block ts) (block us)
+  unfolding Scoped declared
   elsewhere_kept = record {
     bound = k.bound;
     lexical = k.lexical;
     hoisted = k.hoisted;
-    body = λ v env s a. k.body v env s a;
+    body = λ v env s a. k.body Read env refl a;
     inner = k.inner;
-    scoped = λ v env s a. k.scoped v env s a;
-    symbols = λ v env s a. k.symbols v env s a;
+    scoped = λ v env s a. k.scoped Read env refl a;
+    symbols = λ v env s a. k.symbols Read env refl a;
     numbers = k.numbers;
     declared_as_body = k.declared_as_body;
     once = k.once;

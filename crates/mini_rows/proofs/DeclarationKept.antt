@@ -1,26 +1,26 @@
 -- What the rows of declarations write keeps what a program has to keep: an initializer goes that declares nothing and holds nothing.
-use Rattle.std.specs.Prelude.{ℕ, suc, ◌≡◌, refl, Bool, true, false, List, [], ◌++◌, Contains, Option, None, codes, if◌then◌else◌}
+use Rattle.std.specs.Prelude.{ℕ, suc, ◌≡◌, refl, Bool, true, false, List, [], ◌++◌, Contains, Option, None, codes, if◌then◌else◌, ◌≤◌, ◌⊎◌, ◌||◌, ◌∷◌}
 use Rattle.std.proofs.Common.{ap, ◌∙◌, sym, subst, arith, inl, inr}
 use Rattle.mini_model.specs.declared.kind.VariableDeclarationKind.TheVariants.{Let}
 use Rattle.mini_model.specs.declared.kind.PropertyKind.{PropertyKind}
 use Rattle.mini_model.specs.declared.name.Name.{Name}
 use Rattle.mini_model.specs.declared.place.Position.{Position}
-use Rattle.mini_model.specs.declared.place.Position.TheVariants.{Expr, Stmt, StatementList, BodyList, CommaList, Elsewhere}
+use Rattle.mini_model.specs.declared.place.Position.TheVariants.{Expr, Stmt, StatementList, BodyList, Elsewhere}
 use Rattle.mini_model.specs.declared.seat.Seat.{Seat}
 use Rattle.mini_model.specs.declared.seat.StmtSeat.{StmtSeat}
 use Rattle.mini_model.specs.declared.seat.StmtSeat.TheVariants as stmt_seat
 use Rattle.mini_model.specs.declared.shape.Shape.TheVariants as shape
-use Rattle.mini_model.specs.Tree.{Tree, Trees, node, none, ◌▸◌, count, shape_of, absent, listed, unresolved, identifier}
+use Rattle.mini_model.specs.Tree.{Tree, Trees, node, none, ◌▸◌, count, shape_of, absent, listed, unresolved, identifier, is_absent}
 use Rattle.mini_model.specs.Paths.{append}
 use Rattle.mini_model.specs.Position.{argument_seat, statement_expression_seat, child_position}
 use Rattle.mini_model.specs.Rewriting.{Step, here, inside, StepIn, first, later}
 use Rattle.mini_laws.specs.declared.names.Declared.{Declared}
 use Rattle.mini_laws.specs.declared.names.Declared.TheVariants as declared
-use Rattle.mini_laws.specs.DeclaredNames.{has_inner, names_of, all_names, body_names}
-use Rattle.mini_laws.specs.Scopes.{scopes_by}
+use Rattle.mini_laws.specs.DeclaredNames.{has_inner, names_of, all_names, body_names, any_inner}
+use Rattle.mini_laws.specs.Scopes.{scopes_by, lexical_scope, opened}
 use Rattle.mini_laws.specs.Scoped.{Scoped}
-use Rattle.mini_laws.specs.Symbols.{declared as declared_in}
-use Rattle.mini_laws.specs.Early.{declarations, body_declarations, scope_declarations, early_names, targets_of, early_jumps, is_loop}
+use Rattle.mini_laws.specs.Symbols.{declared as declared_in, symbols_in, times}
+use Rattle.mini_laws.specs.Early.{declarations, body_declarations, scope_declarations, early_names, targets_of, early_jumps, is_loop, Path, own_declarations}
 use Rattle.mini_laws.specs.Value.{Variable}
 use Rattle.mini_laws.specs.Fixity.{stricter, fixed_by, fixed_by_any}
 use Rattle.mini_laws.specs.Bodies.{Around, bodies, bodies_from}
@@ -28,9 +28,9 @@ use Rattle.mini_kept.specs.AlikeBodies.{BodiesKept}
 use Rattle.mini_kept.specs.Carried.{numbers}
 use Rattle.mini_kept.specs.Declaring.{declared as names_declared, declared_all}
 use Rattle.mini_kept.specs.Frames.{showing, shown_from, is_port, own, ports, frames, frames_from, FramesKept}
-use Rattle.mini_kept.specs.KeepsNames.{is_rewritten_place, Keeps}
+use Rattle.mini_kept.specs.KeepsNames.{is_rewritten_place, Keeps, count_of}
 use Rattle.mini_kept.specs.KeepsLoosely.{KeepsLoosely}
-use Rattle.mini_kept.specs.Lifted.{is_piece, KeepsNames}
+use Rattle.mini_kept.specs.Lifted.{is_piece, KeepsNames, KeepsRoot, InitStays}
 use Rattle.mini_kept.proofs.BodyLists.{kept_itself}
 use Rattle.mini_kept.proofs.Fixed.{of_children}
 use Rattle.mini_kept.proofs.FrameLists.{same_frames}
@@ -41,95 +41,200 @@ use Rattle.mini_rows.specs.Lists.{declaration, for_loop, InList}
 use Rattle.mini_rows.specs.Spellings.{void_zero, IsUndefined}
 use Rattle.mini_rows.specs.Declarations.{binding, declarator, Row61, Item, Alone, Exported, held, Row61Item, Row61For, DeclarationRow}
 use Rattle.mini_rows.proofs.BodyLists.{body_kept}
-use Rattle.mini_rows.proofs.ListKeptDeclarations.{body_are, all_both}
+use Rattle.mini_rows.proofs.ListKeptDeclarations.{body_are, all_both, names_are, names_if, declares_as, declarations_are, scope_if, opens, opened_is, symbols_are, inner_is, numbers_are, once_is, jumps_are}
+use Rattle.mini_model.specs.declared.name.SymbolId.{SymbolId}
+use Rattle.mini_laws.specs.declared.names.Use.{Use}
+use Rattle.mini_laws.specs.declared.names.Use.TheVariants.{Read}
+use Rattle.mini_laws.specs.declared.names.Targets.{Targets}
+use Rattle.mini_laws.specs.Resolved.{Environment}
+use Rattle.mini_kept.proofs.Anywhere.{once_anywhere, targets_anywhere}
+use Rattle.mini_kept.proofs.Unplaced.{as_body, all_as_body, body_same}
+use Rattle.mini_rows.specs.Sketches.{AsWholeItem, AsWholeList}
+use Rattle.mini_rows.proofs.Arranging.{Any}
+use Rattle.mini_rows.proofs.ArrangedNames.{ScopedAs, scoped_local, symbol_times, symbols_summed, number_times, numbers_summed, Once, once_local, HasTarget, Aimed, aimed_local}
+use Rattle.mini_rows.proofs.ListKeptStretch.{stretched, sum_stretched}
 
--- ---- names: an initializer goes by a step in the declarator
-
-abbrev Drops : Position → Tree → Tree → Type 0
-Drops (Expr s) n w = IsUndefined n × (w ≡ absent)
-Drops p n w = ⊥
+-- ---- names
 
 abbrev undefined : Tree
 undefined = identifier (unresolved (codes "undefined"))
 
-name_keeps : (s : Seat) → Keeps (Expr s) undefined absent
-unfolding names_of body_names has_inner declared_in scopes_by Scoped numbers body_declarations declarations early_names scope_declarations early_jumps targets_of is_loop
-name_keeps s = record {
-  kept = record { names = λ d. by d; body = refl; inner = refl; symbols = λ u x. omega arith };
-  scoped = λ v env st a. (tt, tt);
-  numbers = λ k. omega arith;
-  declared_as_body = λ b q. refl;
-  once = λ q a. refl;
-  targets = λ g q a. refl;
-  loop = refl;
-  root = λ e. absurd (cc e);
-  block = λ e. absurd (cc e);
-}
-  where
-    by : (d : Declared) → names_of d absent ≡ names_of d undefined
-    by declared.Bound = refl
-    by declared.Lexical = refl
-    by declared.Hoisted = refl
+module _ (name : Name) (v : Tree) (u : IsUndefined v) (before after : Trees) where
+  abbrev given : Tree
+  given = declarator (binding name) v
 
-void_keeps : (s : Seat) → Keeps (Expr s) void_zero absent
-unfolding names_of body_names has_inner declared_in scopes_by Scoped numbers body_declarations declarations early_names scope_declarations early_jumps targets_of is_loop
-void_keeps s = record {
-  kept = record { names = λ d. by d; body = refl; inner = refl; symbols = λ u x. omega arith };
-  scoped = λ v env st a. (tt, tt);
-  numbers = λ k. omega arith;
-  declared_as_body = λ b q. refl;
-  once = λ q a. refl;
-  targets = λ g q a. refl;
-  loop = refl;
-  root = λ e. absurd (cc e);
-  block = λ e. absurd (cc e);
-}
-  where
-    by : (d : Declared) → names_of d absent ≡ names_of d void_zero
-    by declared.Bound = refl
-    by declared.Lexical = refl
-    by declared.Hoisted = refl
+  abbrev bare : Tree
+  bare = declarator (binding name) absent
 
-drop_keeps : (s : Seat) (n w : Tree) → IsUndefined n → w ≡ absent → Keeps (Expr s) n w
-drop_keeps s n w (inl h) e = subst (λ t. Keeps (Expr s) t w) (sym h) (subst (Keeps (Expr s) undefined) (sym e) (name_keeps s))
-drop_keeps s n w (inr h) e = subst (λ t. Keeps (Expr s) t w) (sym h) (subst (Keeps (Expr s) void_zero) (sym e) (void_keeps s))
+  abbrev ts : Trees
+  ts = append before (given ▸ after)
+
+  abbrev us : Trees
+  us = append before (bare ▸ after)
+
+  abbrev with_init : Tree
+  with_init = declaration Let ts
+
+  abbrev without_init : Tree
+  without_init = declaration Let us
+
+  -- whatever is the same of both declarators for each of the two initializers
+  one_of : {A : Type 0} (f : Tree → A) → f (declarator (binding name) undefined) ≡ f bare → f (declarator (binding name) void_zero) ≡ f bare → f given ≡ f bare
+  one_of f x y = by u
+    where
+      by : IsUndefined v → f given ≡ f bare
+      by (inl h) = ap (λ t. f (declarator (binding name) t)) h ∙ x
+      by (inr h) = ap (λ t. f (declarator (binding name) t)) h ∙ y
+
+  bound_same : all_names declared.Bound us ≡ all_names declared.Bound ts
+  unfolding names_of
+  bound_same = all_both declared.Bound before (bare ▸ after) ∙ sym (all_both declared.Bound before (given ▸ after))
+
+  -- what holds of its declarators
+
+  item_inner : has_inner given ≡ has_inner bare
+  unfolding has_inner
+  item_inner = one_of has_inner refl refl
+
+  inner_there : (xs : Trees) → any_inner (append xs (bare ▸ after)) ≡ any_inner (append xs (given ▸ after))
+  unfolding has_inner
+  inner_there none = ap (λ b. b || any_inner after) (sym item_inner)
+  inner_there (x ▸ xs) = ap (λ b. has_inner x || b) (inner_there xs)
+
+  list_inner : has_inner (listed us) ≡ has_inner (listed ts)
+  unfolding has_inner
+  list_inner = inner_there before
+
+  item_numbers : (k : ℕ) → number_times k AsWholeItem given ≡ number_times k AsWholeItem bare
+  unfolding numbers
+  item_numbers k = one_of (number_times k AsWholeItem) refl refl
+
+  list_numbers : (k : ℕ) → number_times k AsWholeList (listed us) ≤ number_times k AsWholeList (listed ts)
+  list_numbers k = let e = item_numbers k in sum_stretched (number_times k) (numbers_summed k) before after (given ▸ none) (bare ▸ none) (omega arith)
+
+  item_symbols : (x : Option SymbolId) → symbol_times Read x AsWholeItem given ≡ symbol_times Read x AsWholeItem bare
+  unfolding declared_in scopes_by
+  item_symbols x = one_of (symbol_times Read x AsWholeItem) refl refl
+
+  list_symbols : (x : Option SymbolId) → symbol_times Read x AsWholeList (listed us) ≤ symbol_times Read x AsWholeList (listed ts)
+  list_symbols x = let e = item_symbols x in sum_stretched (symbol_times Read x) (symbols_summed Read x) before after (given ▸ none) (bare ▸ none) (omega arith)
+
+  item_scoped : (env : Environment) → Scoped Read env given → Scoped Read env bare
+  unfolding Scoped scopes_by
+  item_scoped env a = (tt, (a.1.0, ((tt, tt), tt)))
+
+  list_scoped : (env : Environment) → Scoped Read env (listed ts) → Scoped Read env (listed us)
+  list_scoped env = stretched Any (ScopedAs Read env) (scoped_local Read env) before after (given ▸ none) (bare ▸ none) (λ a. (item_scoped env a.0, tt))
+
+  item_once : early_names [] bare ≡ early_names [] given
+  unfolding early_names scope_declarations
+  item_once = sym (one_of (early_names []) refl refl)
+
+  list_once : Once AsWholeList (listed ts) → Once AsWholeList (listed us)
+  list_once = stretched Any Once once_local before after (given ▸ none) (bare ▸ none) (λ a. (item_once ∙ a.0, tt))
+
+  item_jumps : (g : Targets) → early_jumps g [] bare ≡ early_jumps g [] given
+  unfolding early_jumps targets_of
+  item_jumps g = sym (one_of (early_jumps g []) refl refl)
+
+  list_jumps : (g : Targets) → Aimed g AsWholeList (listed ts) → Aimed g AsWholeList (listed us)
+  list_jumps g = stretched (HasTarget g) (Aimed g) (aimed_local g) before after (given ▸ none) (bare ▸ none) (λ a. (item_jumps g ∙ a.0, tt))
+
+  item_as_body : (b : Bool) → as_body b bare ≡ as_body b given
+  unfolding names_of
+  item_as_body b = sym (one_of (as_body b) refl refl)
+
+  as_body_there : (b : Bool) (xs : Trees) → all_as_body b (append xs (bare ▸ after)) ≡ all_as_body b (append xs (given ▸ after))
+  as_body_there b none = ap (λ ds. ds ++ all_as_body b after) (item_as_body b)
+  as_body_there b (x ▸ xs) = ap (λ ds. as_body b x ++ ds) (as_body_there b xs)
+
+  -- and of the declaration
+
+  same_scope : (c : Bool) → scope_if c (listed us) ≡ scope_if c (listed ts)
+  unfolding names_of
+  same_scope true = ap lexical_scope bound_same
+  same_scope false = refl
+
+  same_opened : (w : Use) → opened w (shape.VariableDeclaration Let) (listed us ▸ none) 0 ≡ opened w (shape.VariableDeclaration Let) (listed ts ▸ none) 0
+  same_opened w = opened_is w Let (listed us) ∙ same_scope (opens w Let) ∙ sym (opened_is w Let (listed ts))
+
+  declaration_scoped : (w : Use) (env : Environment) → Scoped w env with_init → Scoped w env without_init
+  unfolding Scoped
+  declaration_scoped w env a =
+      let inner = env ++ opened w (shape.VariableDeclaration Let) (listed ts ▸ none) 0 in
+      (tt, (subst (λ bs. Scoped Read (env ++ bs) (listed us)) (sym (same_opened w)) (list_scoped inner a.1.0), tt))
+
+  declaration_symbols : (w : Use) (x : Option SymbolId) → times x (declared_in w without_init) ≤ times x (declared_in w with_init)
+  declaration_symbols w x = omega (arith, symbols_are w Let x (listed us), symbols_are w Let x (listed ts), ap (λ bs. times x (symbols_in bs)) (same_scope (opens w Let)), list_symbols x)
+
+  declaration_names : (d : Declared) → names_of d without_init ≡ names_of d with_init
+  declaration_names d = names_are d Let us ∙ ap (names_if (declares_as d Let)) bound_same ∙ sym (names_are d Let ts)
+
+  declaration_as_body : (b : Bool) → as_body b without_init ≡ as_body b with_init
+  declaration_as_body b = declarations_are b Let us ∙ ap (own_declarations true []) bound_same ∙ sym (declarations_are b Let ts)
+
+  declaration_once : (q : Path) → early_names q with_init ≡ [] → early_names q without_init ≡ []
+  declaration_once q a =
+      once_anywhere [] q without_init
+      (once_is Let (listed us) ∙ once_anywhere [] (0 ∷ []) (listed us) (list_once (once_anywhere (0 ∷ []) [] (listed ts) (sym (once_is Let (listed ts)) ∙ once_anywhere q [] with_init a))))
+
+  declaration_jumps : (g : Targets) (q : Path) → early_jumps g q with_init ≡ [] → early_jumps g q without_init ≡ []
+  declaration_jumps g q a =
+      targets_anywhere g [] q without_init
+      (jumps_are Let g (listed us) ∙ targets_anywhere g [] (0 ∷ []) (listed us) (list_jumps g (targets_anywhere g (0 ∷ []) [] (listed ts) (sym (jumps_are Let g (listed ts)) ∙ targets_anywhere g q [] with_init a))))
+
+  declaration_numbers : (k : ℕ) → count_of k (numbers without_init) ≤ count_of k (numbers with_init)
+  declaration_numbers k = omega (arith, ap (count_of k) (numbers_are Let (listed us)), ap (count_of k) (numbers_are Let (listed ts)), list_numbers k)
+
+  not_a_loop : is_loop without_init ≡ is_loop with_init
+  unfolding is_loop
+  not_a_loop = refl
+
+  declaration_keeps : (p : Position) → Keeps p with_init without_init
+  declaration_keeps p = record {
+    kept = record {
+      names = declaration_names;
+      body = body_are Let us ∙ bound_same ∙ sym (body_are Let ts);
+      inner = inner_is Let (listed us) ∙ list_inner ∙ sym (inner_is Let (listed ts));
+      symbols = declaration_symbols;
+    };
+    scoped = λ w env st a. declaration_scoped w env a;
+    numbers = declaration_numbers;
+    declared_as_body = λ b q. body_same b q q with_init without_init (declaration_as_body b);
+    once = declaration_once;
+    targets = declaration_jumps;
+    loop = not_a_loop;
+    root = λ e. refl;
+    block = λ e b q. body_same b (q ++ 0 ∷ []) (q ++ 0 ∷ []) (listed ts) (listed us) (as_body_there b before);
+  }
+
+-- a `let`, where a statement or the head of a `for` stands, or under `export`
+abbrev pub Drops : Position → Tree → Tree → Type 0
+Drops p n w = ((is_rewritten_place p ≡ true) ⊎ (p ≡ Elsewhere)) × Row61 n w
+
+row_keeps : (p : Position) (n w : Tree) → Row61 n w → Keeps p n w
+row_keeps p n w r = subst (λ t. Keeps p t w) (sym r.shape) (subst (Keeps p (declaration Let (append r.before (declarator (binding r.name) r.init ▸ r.after)))) (sym r.written) (declaration_keeps r.name r.init r.undefined r.before r.after p))
 
 drops_keep : KeepsNames Drops
-drops_keep = record { places = λ p n w r. inl (place p n w r); pieces = piece; keeps = λ p n w r strict sl k f. keep p n w r }
+drops_keep = record { places = place; pieces = λ p n w r. ap (λ t. is_piece (shape_of t)) r.1.shape; keeps = λ p n w r strict s k f. in_order p n w (row_keeps p n w r.1) }
   where
-    place : (p : Position) (n w : Tree) → Drops p n w → is_rewritten_place p ≡ true
-    place (Expr s) n w r = refl
-    place p n w r = absurd r
+    elsewhere : (n w : Tree) → Row61 n w → KeepsRoot Elsewhere n w
+    elsewhere n w r =
+        let f = declaration Let (append r.before (declarator (binding r.name) r.init ▸ r.after)) in
+        subst (λ t. KeepsRoot Elsewhere t w) (sym r.shape) (subst (KeepsRoot Elsewhere f) (sym r.written) (record { place = refl; shape = refl; names = refl; number = refl; counted = refl; second = refl }))
 
-    whole : (n : Tree) → IsUndefined n → is_piece (shape_of n) ≡ false
-    whole n (inl h) = ap (λ t. is_piece (shape_of t)) h
-    whole n (inr h) = ap (λ t. is_piece (shape_of t)) h
+    place : (p : Position) (n w : Tree) → Drops p n w → (is_rewritten_place p ≡ true) ⊎ KeepsRoot p n w
+    place p n w (inl h, r) = inl h
+    place p n w (inr h, r) = inr (subst (λ q. KeepsRoot q n w) (sym h) (elsewhere n w r))
 
-    piece : (p : Position) (n w : Tree) → Drops p n w → is_piece (shape_of n) ≡ false
-    piece (Expr s) n w r = whole n r.0
-    piece p n w r = absurd r
-
-    keep : (p : Position) (n w : Tree) → Drops p n w → KeepsLoosely p n w
-    keep (Expr s) n w r = in_order (Expr s) n w (drop_keeps s n w r.0 r.1)
-    keep p n w r = absurd r
+-- what goes there is no initializer itself
+drops_none : InitStays Drops
+drops_none n w r strict e = ap is_absent r.1.shape ∙ sym (ap is_absent r.1.written)
 
 -- a step in one of some children
 step_at : (π : ℕ → Position) (before : Trees) (x y : Tree) (after : Trees) → ((i : ℕ) → Step Drops (π i) x y) → StepIn Drops π (append before (x ▸ after)) (append before (y ▸ after))
 step_at π none x y after s = first π x y after (s 0)
 step_at π (t ▸ before) x y after s = later π t (append before (x ▸ after)) (append before (y ▸ after)) (step_at (λ i. π (suc i)) before x y after (λ i. s (suc i)))
-
-declarator_step : (id v : Tree) → IsUndefined v → Step Drops Elsewhere (declarator id v) (declarator id absent)
-declarator_step id v u =
-    let π = child_position shape.VariableDeclarator Elsewhere 2 in
-    inside Elsewhere shape.VariableDeclarator [] 0 (id ▸ (v ▸ none)) (id ▸ (absent ▸ none)) (later π id (v ▸ none) (absent ▸ none) (first (λ i. π (suc i)) v absent none (here (Expr argument_seat) v absent (u, refl))))
-
-declaration_step : (p : Position) (before : Trees) (id v : Tree) (after : Trees) → IsUndefined v → Step Drops p (declaration Let (append before (declarator id v ▸ after))) (declaration Let (append before (declarator id absent ▸ after)))
-declaration_step p before id v after u =
-    let ts = append before (declarator id v ▸ after) in
-    let us = append before (declarator id absent ▸ after) in
-    inside p (shape.VariableDeclaration Let) [] 0 (listed ts ▸ none) (listed us ▸ none)
-    (first (child_position (shape.VariableDeclaration Let) p 1) (listed ts) (listed us) none
-    (inside CommaList shape.Listed [] 0 ts us (step_at (child_position shape.Listed CommaList (count ts)) before (declarator id v) (declarator id absent) after (λ i. declarator_step id v u))))
 
 -- ---- what else a tree has, of which the children have it alone
 
@@ -217,12 +322,8 @@ loop_same u v b n w s = record {
 
 -- ---- what is exported
 
-bound_same : (before : Trees) (name : Name) (v : Tree) (after : Trees) → all_names declared.Bound (append before (declarator (binding name) v ▸ after)) ≡ all_names declared.Bound (append before (declarator (binding name) absent ▸ after))
-unfolding names_of
-bound_same before name v after = all_both declared.Bound before (declarator (binding name) v ▸ after) ∙ sym (all_both declared.Bound before (declarator (binding name) absent ▸ after))
-
 row_names : (n w : Tree) → Row61 n w → body_names n ≡ body_names w
-row_names n w r = ap body_names r.shape ∙ body_are Let _ ∙ bound_same r.before r.name r.init r.after ∙ sym (body_are Let _) ∙ sym (ap body_names r.written)
+row_names n w r = ap body_names r.shape ∙ body_are Let _ ∙ sym (bound_same r.name r.init r.undefined r.before r.after) ∙ sym (body_are Let _) ∙ sym (ap body_names r.written)
 
 -- a row reads a declaration, whose shape tells
 abbrev Shown : List Name → Tree
@@ -242,21 +343,16 @@ ports_at m (t ▸ before) a b h = ap (λ ts. if is_port m (shape_of t) then own 
 
 -- ---- a list, and a `for`
 
-row_step : (p : Position) (n w : Tree) → Row61 n w → Step Drops p n w
-row_step p n w r =
-    subst (λ t. Step Drops p t w) (sym r.shape)
-    (subst (Step Drops p (declaration Let (append r.before (declarator (binding r.name) r.init ▸ r.after)))) (sym r.written) (declaration_step p r.before (binding r.name) r.init r.after r.undefined))
-
 held_step : (item : Item) (n w : Tree) → Row61 n w → Step Drops (Stmt stmt_seat.List) (held item n) (held item w)
-held_step Alone n w r = row_step (Stmt stmt_seat.List) n w r
+held_step Alone n w r = here (Stmt stmt_seat.List) n w (inl refl, r)
 held_step (Exported specifiers source) n w r =
     inside (Stmt stmt_seat.List) shape.ExportNamedDeclaration [] 0 (n ▸ (specifiers ▸ (source ▸ none))) (w ▸ (specifiers ▸ (source ▸ none)))
-    (first (child_position shape.ExportNamedDeclaration (Stmt stmt_seat.List) 3) n w (specifiers ▸ (source ▸ none)) (row_step Elsewhere n w r))
+    (first (child_position shape.ExportNamedDeclaration (Stmt stmt_seat.List) 3) n w (specifiers ▸ (source ▸ none)) (here Elsewhere n w (inr refl, r)))
 
 loop_step : (q : StmtSeat) (test update body : Tree) (n w : Tree) → Row61 n w → Step Drops (Stmt q) (for_loop n test update body) (for_loop w test update body)
 loop_step q u v b n w r =
     inside (Stmt q) shape.ForStatement [] 0 (n ▸ (u ▸ (v ▸ (b ▸ none)))) (w ▸ (u ▸ (v ▸ (b ▸ none))))
-    (first (child_position shape.ForStatement (Stmt q) 4) n w (u ▸ (v ▸ (b ▸ none))) (row_step (Expr statement_expression_seat) n w r))
+    (first (child_position shape.ForStatement (Stmt q) 4) n w (u ▸ (v ▸ (b ▸ none))) (here (Expr statement_expression_seat) n w (inl refl, r)))
 
 module _ (n w : Tree) (s : Same n w) where
   kept_bodies : (a : Around) → BodiesKept (bodies a n) (bodies a w)
@@ -275,7 +371,7 @@ list_kept before after item n w r =
     let same = list_same before (held item n) (held item w) after (held_same item n w (row_same n w r)) in
     let step = inside StatementList shape.Listed [] 0 ts us (step_at (child_position shape.Listed StatementList (count ts)) before (held item n) (held item w) after (λ i. held_step item n w r)) in
     record {
-      keeps = λ strict s o f. step_keeps Drops drops_keep step strict s o f;
+      keeps = λ strict s o f. step_keeps Drops drops_keep drops_none step strict s o f;
       piece = refl;
       kind = λ strict s f. refl;
       bodies = λ strict s o f a st. kept_bodies (listed ts) (listed us) same a;
@@ -291,7 +387,7 @@ loop_kept : (q : StmtSeat) (test update body : Tree) (n w : Tree) → Row61 n w 
 loop_kept q u v b n w r =
     let same = loop_same u v b n w (row_same n w r) in
     record {
-      keeps = λ strict s o f. step_keeps Drops drops_keep (loop_step q u v b n w r) strict s o f;
+      keeps = λ strict s o f. step_keeps Drops drops_keep drops_none (loop_step q u v b n w r) strict s o f;
       piece = refl;
       kind = λ strict s f. refl;
       bodies = λ strict s o f a st. kept_bodies (for_loop n u v b) (for_loop w u v b) same a;

@@ -214,6 +214,7 @@ key_alike i k v = record {
   names = λ d. key_names i v d k;
   body = key_body_names i v k;
   patterned = refl;
+  plain = refl;
   scoped = key_scoped i v k;
   symbols = key_symbols i v k;
   numbers = λ j. omega (arith, ap (count_of j) (key_numbers i v k));

@@ -10,7 +10,7 @@ use Rattle.mini_model.specs.declared.shape.Shape.{Shape}
 use Rattle.mini_model.specs.declared.shape.Shape.TheVariants as shape
 use Rattle.mini_model.specs.Paths.{append}
 use Rattle.mini_model.specs.Position.{item_position, child_position}
-use Rattle.mini_model.specs.Tree.{Tree, Trees, node, none, ◌▸◌, shape_of, count}
+use Rattle.mini_model.specs.Tree.{Tree, Trees, node, none, ◌▸◌, shape_of, count, is_absent}
 use Rattle.mini_model.specs.Weight.{outline, outlines, outline_by, own_weight, weight, weights}
 use Rattle.mini_accept.specs.WellShaped.{Class, a_loop_left, a_method, Tagging, untagged, tagged, Slot, Filling, refused, these, each, each_or_last, pieces, filling, class_of, has_names, has_its_number, has_plain_fields, has_its_parts, is_whole, is_strict_in, is_quasi, is_quasi_by, are_quasis, is_last, fits, fill}
 use Rattle.mini_laws.specs.declared.names.Binding.{Binding}
@@ -20,9 +20,9 @@ use Rattle.mini_laws.specs.declared.names.Targets.{Targets}
 use Rattle.mini_laws.specs.declared.names.Use.{Use}
 use Rattle.mini_laws.specs.DeclaredNames.{place_of, names_by, names_of, first_names, all_names, is_statement_list, body_names, all_body_names}
 use Rattle.mini_laws.specs.Early.{Path, choose_by, own_declarations, declarations, first_declarations, all_declarations, holds_statements, is_function_shape, body_declarations, all_body_declarations, is_pattern_shape, scope_declarations, clashing, early_names, all_early_names, is_bad_jump, targets_of, early_jumps, all_early_jumps}
-use Rattle.mini_laws.specs.Resolved.{Environment}
+use Rattle.mini_laws.specs.Resolved.{Environment, gives_value, plain_name, other_name, written_name}
 use Rattle.mini_laws.specs.Scopes.{use_of, opened}
-use Rattle.mini_laws.specs.Scoped.{Scoped, AllScoped}
+use Rattle.mini_laws.specs.Scoped.{Scoped, AllScoped, AreNames, OwnScoped}
 use Rattle.mini_laws.specs.Symbols.{declared as declared_in, declared_from, symbols_in}
 use Rattle.mini_laws.specs.Value.{Variable, nothing}
 use Rattle.mini_laws.specs.State.{State, Writable, Environment as Surroundings}
@@ -61,6 +61,7 @@ pub record Alike (t u : Tree) : Type 0 where
   pub names : (d : Declared) → names_of d u ≡ names_of d t
   pub body : body_names u ≡ body_names t
   pub patterned : is_pattern_shape (shape_of u) ≡ is_pattern_shape (shape_of t)
+  pub plain : plain_name u ≡ plain_name t
   pub scoped : (v : Use) (env : Environment) → Scoped v env t → Scoped v env u
   pub symbols : (v : Use) → declared_in v u ≡ declared_in v t
   pub numbers : (k : ℕ) → count_of k (numbers u) ≤ count_of k (numbers t)
@@ -275,6 +276,20 @@ holds (shape.BindingProperty false c) e = a_property c
 holds shape.RestElement e = a_rest
 holds shape.AssignmentPattern e = a_default
 holds h e = absurd (true≢false (sym e))
+
+absent_outlined : (t : Tree) → (outline t).absent ≡ is_absent t
+absent_outlined (node shape.Absent xs n ts) = refl
+absent_outlined (node h xs n ts) = refl
+
+no_plain : (h : Shape) → Holds h → (xs : List Name) (n : ℕ) (ts : Trees) → plain_name (node h xs n ts) ≡ []
+no_plain _ a_list xs n ts = refl
+no_plain _ an_object xs n ts = refl
+no_plain _ an_array xs n ts = refl
+no_plain _ (a_property c) xs n ts = refl
+no_plain _ a_rest xs n ts = refl
+no_plain _ a_default xs n ts = refl
+no_plain _ a_declaration xs n ts = refl
+no_plain _ a_handler xs n ts = refl
 
 no_body : (h : Shape) → Holds h → (a : Around) (n : ℕ) (t : Tree) (ts : Trees) → body_of a h n t ts ≡ []
 no_body _ a_list a n t ts = refl
@@ -517,9 +532,32 @@ module _ (h : Shape) (o : Holds h) (xs : List Name) (n : ℕ) (before after : Tr
       let same : is_whole c h xs n us ≡ is_whole c h xs n ts = ap (λ b. has_names h xs && (has_its_number c h n && (has_plain_fields h && b))) (any_parts h o c us ∙ sym (any_parts h o c ts)) in
       both (is_whole c h xs n us) (fill (is_strict_in strict h) (filling strict s h) us) (same ∙ w) (all_fit t u k after (is_strict_in strict h) (filling strict s h) before f)
 
+  -- a declarator has the name that it had
+  same_written : (v : Use) (env : Environment) (b : Trees) → written_name v env (append b (t ▸ after)) ≡ written_name v env (append b (u ▸ after))
+  same_written v env none = by after
+    where
+      by : (a : Trees) → written_name v env (t ▸ a) ≡ written_name v env (u ▸ a)
+      by none = refl
+      by (i ▸ a) = ap (λ ns. if gives_value v (is_absent i) then other_name v env ns else []) (sym k.plain)
+  same_written v env (c ▸ none) = ap (λ a. if gives_value v a then other_name v env (plain_name c) else []) (sym (absent_outlined t) ∙ ap (λ l. l.absent) (sym k.outlined) ∙ absent_outlined u)
+  same_written v env (c ▸ (d ▸ b)) = refl
+
+  own_of : (v : Use) (env : Environment) → OwnScoped v env h xs ts → OwnScoped v env h xs us
+  own_of v env = by h o
+    where
+      by : (g : Shape) → Holds g → OwnScoped v env g xs ts → OwnScoped v env g xs us
+      by _ a_declaration a = subst (AreNames xs) (same_written v env before) a
+      by _ a_list a = a
+      by _ an_object a = a
+      by _ an_array a = a
+      by _ (a_property c) a = a
+      by _ a_rest a = a
+      by _ a_default a = a
+      by _ a_handler a = a
+
   scoped_of : ((v : Use) → opened v h us ≡ opened v h ts) → (v : Use) (env : Environment) → Scoped v env earlier → Scoped v env later
   unfolding Scoped
-  scoped_of opens v env a = (a.0, subst (λ f. AllScoped f (use_of h v) 0 env us) (sym (opens v)) (all_scoped t u k after (opened v h ts) (use_of h v) 0 env before a.1))
+  scoped_of opens v env a = (own_of v env a.0, subst (λ f. AllScoped f (use_of h v) 0 env us) (sym (opens v)) (all_scoped t u k after (opened v h ts) (use_of h v) 0 env before a.1))
 
   symbols_of : ((v : Use) → opened v h us ≡ opened v h ts) → (v : Use) → declared_in v later ≡ declared_in v earlier
   unfolding declared_in
@@ -536,6 +574,7 @@ module _ (h : Shape) (o : Holds h) (xs : List Name) (n : ℕ) (before after : Tr
     names = same_names;
     body = same_body;
     patterned = refl;
+    plain = no_plain h o xs n us ∙ sym (no_plain h o xs n ts);
     scoped = scoped_of opens;
     symbols = symbols_of opens;
     numbers = fewer;

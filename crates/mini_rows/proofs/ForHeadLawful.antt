@@ -270,7 +270,7 @@ next_head o q n w r =
       is = heads.is_read o n w r;
       now = heads.is_left o n w r;
       fitting = λ strict. next_head_fits strict c.kind x c.first c.init c.binds c.value c.last (movable o c.init c.moves) c.once (inr (value_passed (resolved c.spelling c.symbol) c.init c.value c.passed));
-      gone = dropped q c.spelling c.symbol d v r.test r.update r.body (next_leaves c.kind x c.symbol refl c.first c.init c.binds c.value c.last c.once c.declared_earlier c.initial c.other c.declared_later)
+      gone = dropped q c.spelling c.symbol d v r.test r.update r.body (next_leaves c.kind x c.symbol refl c.first c.init c.binds c.value c.last c.once c.declared_earlier c.initial c.other c.declared_later (movable o c.init c.moves))
           (next_names c.kind x c.symbol refl c.first c.init c.binds c.value c.last c.once c.declared_earlier c.initial c.other c.declared_later (lexical_alone c.kind c.goes)) (heads.unread o n w r) (for_next_same o n w r);
     }
 

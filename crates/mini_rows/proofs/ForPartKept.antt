@@ -30,7 +30,7 @@ use Rattle.mini_kept.specs.Declaring.{declared as names_declared, declared_all}
 use Rattle.mini_kept.specs.Frames.{Frame, frames, frames_from, FramesKept}
 use Rattle.mini_kept.specs.KeepsNames.{is_read, is_rewritten_place, unplaced, Keeps}
 use Rattle.mini_kept.specs.KeepsLoosely.{KeepsLoosely}
-use Rattle.mini_kept.specs.Lifted.{is_piece, KeepsNames}
+use Rattle.mini_kept.specs.Lifted.{is_piece, KeepsNames, InitStays}
 use Rattle.mini_kept.specs.Placed.{fits_place}
 use Rattle.mini_kept.proofs.BodyLists as body_lists
 use Rattle.mini_kept.proofs.BodyLists.{kept_itself}
@@ -215,6 +215,15 @@ rewrites_keep c = record { places = λ p n w r. inl (ap is_rewritten_place r.0);
     keep : (p : Position) (n w : Tree) → p ≡ Place → PartKept c n w → (strict : Bool) (s : Slot) → fits_place p s ≡ true → fits strict s n ≡ true → KeepsLoosely p n w
     keep p n w e k strict s o f = subst (λ p. KeepsLoosely p n w) (sym e) (k.names strict s (subst (λ p. fits_place p s ≡ true) e o) f)
 
+-- none is made in an initializer
+is_unused : Position → Bool
+is_unused (Expr s) = s.unused
+is_unused p = false
+
+no_initializer : (c : Class) → InitStays (Rewrites c)
+unfolding is_unused
+no_initializer c n w r strict e = absurd (true≢false (sym (ap is_unused r.0)))
+
 each_declared : (ns ms ks ls : List Name) → ((x : Name) → Contains ms x → Contains ns x) → ((x : Name) → Contains ls x → Contains ks x) → (x : Name) → Contains (ms ++ ls) x → Contains (ns ++ ks) x
 each_declared ns ms ks ls h k x c = go (Contains-append_cases ms ls x c)
   where
@@ -251,7 +260,7 @@ module _ (q : StmtSeat) (x y : Tree) where
 
     pub init_kept : KeptAt (Stmt q) (for_loop x t u b) (for_loop y t u b)
     init_kept = record {
-      keeps = λ strict s o f. step_keeps (Rewrites an_init) (rewrites_keep an_init) init_step strict s o f;
+      keeps = λ strict s o f. step_keeps (Rewrites an_init) (rewrites_keep an_init) (no_initializer an_init) init_step strict s o f;
       piece = refl;
       kind = λ strict s f. refl;
       bodies = λ strict s o f a st. init_bodies strict (as_statement strict s (for_loop x t u b) refl refl f) a;
@@ -311,7 +320,7 @@ module _ (q : StmtSeat) (x y : Tree) where
 
     pub update_kept : KeptAt (Stmt q) (for_loop i t x b) (for_loop i t y b)
     update_kept = record {
-      keeps = λ strict s o f. step_keeps (Rewrites an_expression) (rewrites_keep an_expression) update_step strict s o f;
+      keeps = λ strict s o f. step_keeps (Rewrites an_expression) (rewrites_keep an_expression) (no_initializer an_expression) update_step strict s o f;
       piece = refl;
       kind = λ strict s f. refl;
       bodies = λ strict s o f a st. update_bodies strict (as_statement strict s (for_loop i t x b) refl refl f) a;

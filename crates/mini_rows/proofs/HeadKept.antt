@@ -6,7 +6,7 @@ use Rattle.std.proofs.lemmas.List.{append-nil}
 use Rattle.mini_model.specs.declared.kind.VariableDeclarationKind.{VariableDeclarationKind}
 use Rattle.mini_model.specs.declared.name.Name.{Name}
 use Rattle.mini_model.specs.declared.shape.Shape.TheVariants as shape
-use Rattle.mini_model.specs.Tree.{Tree, Trees, none, ◌▸◌, listed, identifier}
+use Rattle.mini_model.specs.Tree.{Tree, Trees, none, ◌▸◌, listed, identifier, is_absent}
 use Rattle.mini_model.specs.Paths.{append}
 use Rattle.mini_laws.specs.declared.names.Declared.TheVariants as declared
 use Rattle.mini_laws.specs.declared.names.Use.TheVariants.{Read}
@@ -39,7 +39,7 @@ use Rattle.mini_rows.proofs.ListKeptHeads.{seated}
 use Rattle.mini_rows.proofs.OpeningKept.{opening_leaves, opening_names, opening_declares}
 use Rattle.mini_rows.proofs.BegunKept.{looped, begun_leaves, begun_names, begun_declares}
 use Rattle.mini_rows.proofs.OverKept.{over_leaves, over_names, over_declares}
-use Rattle.mini_rows.proofs.SingleUse.{Step, led, Well, Spared, Path, path, Initial, Outside, Over, Begun, Heads, heads, swapped, taken, swapped_sum, found, swapped_back}
+use Rattle.mini_rows.proofs.SingleUse.{Step, led, Well, Spared, Path, path, Initial, Outside, Over, Begun, Heads, heads, swapped, taken, swapped_sum, found, swapped_back, both_there, plain_there}
 use Rattle.mini_rows.proofs.UnusedKept.{LeavesThere, NamesThere, DeclaresThere}
 use Rattle.mini_rows.proofs.UnusedNames.{Other, all_other}
 
@@ -87,9 +87,9 @@ module _ (K : VariableDeclarationKind) (x : Name) (k : ℕ) (e : x.symbol ≡ sy
   unfolding has_inner
   no_inner b = refl
 
-  initial_there : LeavesThere x earlier later
+  initial_there : is_absent init ≡ false → LeavesThere x earlier later
   unfolding Unmentioned
-  initial_there = record {
+  initial_there some = record {
     inner = λ b a. let (p, i) = inner_both K x init first b a.0 in (p, (inner_left H b here (with_it Any (InnerIf b) (inner_local b) (λ v q. inner_value id v b q) (λ q p. inner_other id value put b q p) i (inner_down H b there a.1.0)), tt));
     inner_back = λ b a.
         let down = λ (v : Tree) (q : InnerIf b AsWholeItem (given id v)). inner_value id v b q in
@@ -97,7 +97,7 @@ module _ (K : VariableDeclarationKind) (x : Name) (k : ℕ) (e : x.symbol ≡ sy
         (inner_back K x init first b a.0 (moved_out Any (InnerIf b) (inner_local b) down q), (inner_up H b there (without_it Any (InnerIf b) (inner_local b) down (λ q p. inner_other id put value b q p) (no_inner b) q), tt));
     scoped = λ env a.
         let (p, i) = scoped_both K x init first env a.0 in
-        (p, (scoped_left H env here (with_it Any (ScopedAs (used Read H) env) (scoped_local (used Read H) env) (λ v q. scoped_value id v (used Read H) env q) (λ q p. scoped_other id value put (used Read H) env q p) i (scoped_down H env (listed there) a.1.0)), tt));
+        (p, (scoped_left H env here (with_it Any (ScopedAs (used Read H) env) (scoped_local (used Read H) env) (λ v q. scoped_value id v (used Read H) env q) (λ q p. scoped_other id value put (both_there ss init r some) (used Read H) env q p) i (scoped_down H env (listed there) a.1.0)), tt));
     unmentioned = (unmentioned_left K x k e first f, (unmentioned_left H x k e here g, tt));
     symbols = λ z.
         let parts = symbols_both K x init first z in
@@ -212,7 +212,7 @@ module _ (K : VariableDeclarationKind) (x : Name) (k : ℕ) (e : x.symbol ≡ sy
 
   pub head_leaves : Written (LeavesThere x) head (put_first x init head)
   head_leaves =
-      by_head (LeavesThere x) (λ o. single_leaves K x k e first init head plain o i f) (λ t. initial_along t (LeavesThere x) (λ ss w r g. initial_there K x k e first init f t.kind t.binds t.last ss w r g))
+      by_head (LeavesThere x) (λ o. single_leaves K x k e first init head plain o i f) (λ t. initial_along t (LeavesThere x) (λ ss w r g. initial_there K x k e first init f t.kind t.binds t.last ss w r g (plain_there init plain)))
       (λ t. outside_along t (LeavesThere x) (λ ss w g r. opening_leaves K x k e first init plain f i t.seat t.beside ss w g r))
       (λ t. over_along t (LeavesThere x) (λ ss w g r. over_leaves K x k e first init plain f i t.kind t.left t.body t.plain t.other t.later ss w g r))
       (λ t. begun_along t (LeavesThere x) (λ ss w g r. begun_leaves K x k e first init plain f i t.binds t.last t.test t.update t.body t.other t.later t.beside ss w g r))

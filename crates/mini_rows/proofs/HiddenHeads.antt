@@ -12,6 +12,7 @@ use Rattle.mini_model.specs.Tree.{Tree, Trees, node, none, ◌▸◌, shape_of}
 use Rattle.mini_laws.specs.Naming.{is_lexical}
 use Rattle.mini_laws.specs.Resolved.{Environment}
 use Rattle.mini_laws.specs.Scoped.{Scoped}
+use Rattle.mini_laws.specs.Scopes.{scopes_by}
 use Rattle.mini_laws.specs.declared.names.Use.{Use}
 use Rattle.mini_laws.specs.declared.names.Use.TheVariants.{Read}
 use Rattle.mini_node.specs.Children.{part, is_bare, rest_children}
@@ -71,7 +72,7 @@ unfolding Scoped
 value_scoped u env h f = (own_none u env h none (value_undeclaring h f), tt)
 
 operated_scoped : (env : Environment) (h g : Shape) → is_value_operator h ≡ true → is_written_value g ≡ true → Scoped Read env (node h [] 0 (node g [] 0 none ▸ none))
-unfolding Scoped
+unfolding Scoped scopes_by
 operated_scoped env (shape.UnaryExpression LogicalNot) g o f = (tt, (value_scoped Read (env ++ []) g f, tt))
 operated_scoped env (shape.UnaryExpression Void) g o f = (tt, (value_scoped Read (env ++ []) g f, tt))
 operated_scoped env h g o f = absurd (true≢false (sym o))

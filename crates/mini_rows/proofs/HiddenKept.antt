@@ -6,7 +6,7 @@ use Rattle.mini_model.specs.declared.kind.VariableDeclarationKind.{VariableDecla
 use Rattle.mini_model.specs.declared.name.Name.{Name}
 use Rattle.mini_model.specs.declared.name.SymbolId.{SymbolId}
 use Rattle.mini_model.specs.declared.shape.Shape.TheVariants as shape
-use Rattle.mini_model.specs.Tree.{Tree, Trees, none, ◌▸◌, absent, shape_of, identifier}
+use Rattle.mini_model.specs.Tree.{Tree, Trees, none, ◌▸◌, absent, shape_of, identifier, is_absent}
 use Rattle.mini_laws.specs.declared.names.Binding.{Binding}
 use Rattle.mini_laws.specs.declared.names.Declared.TheVariants as declared
 use Rattle.mini_laws.specs.declared.names.Targets.{Targets}
@@ -45,7 +45,7 @@ use Rattle.mini_rows.proofs.ListKeptKeys as keys
 use Rattle.mini_rows.proofs.ListKeptSpots as spots
 use Rattle.mini_rows.proofs.ListKeptValues.{Opens}
 use Rattle.mini_rows.proofs.OpeningKept.{plain_value, led_value, found_value}
-use Rattle.mini_rows.proofs.SingleUse.{Step, led, Well, swapped, taken as taken_out, swapped_sum, path, found, swapped_back}
+use Rattle.mini_rows.proofs.SingleUse.{Step, led, Well, swapped, taken as taken_out, swapped_sum, path, found, swapped_back, both_there, plain_there}
 use Rattle.mini_rows.proofs.UnusedKept.{LeavesThere, NamesThere, DeclaresThere}
 use Rattle.mini_rows.proofs.UnusedNames.{unmentioned}
 
@@ -66,7 +66,7 @@ record Hides (hold : Tree → Tree) : Type 1 where
   targets : (g : Targets) (e d : Tree) → Opens (Aimed g) hold e d
   once : (e d : Tree) → Opens Once hold e d
   within : Environment → Environment
-  scoped : (env : Environment) (e d : Tree) → OpensIn env (within env) hold e d
+  scoped : (env : Environment) (e d : Tree) → is_absent e ≡ is_absent d → OpensIn env (within env) hold e d
   symbols : (z : Option SymbolId) → (n : ℕ) × ((e : Tree) → symbol_times Read z AsWholeItem (hold e) ≡ symbol_times Read z AsValue e + n)
   numbers : (m : ℕ) → (n : ℕ) × ((e : Tree) → number_times m AsWholeItem (hold e) ≡ number_times m AsValue e + n)
   named : (e d : Tree) → is_value (shape_of e) ≡ true → is_value (shape_of d) ≡ true → Named (hold e) (hold d)
@@ -145,9 +145,9 @@ module _ (K : VariableDeclarationKind) (id : Tree) (ds : Trees) (u v w : Tree) w
   unfolding Scoped scopes_by
   scoped_up env e q r = (tt, subst (λ bs. AllScoped (at_or_empty (bs ∷ [])) (use_of shape.ForStatement Read) 0 env (heads e ▸ beside)) (sym (scope_is e)) (q, r))
 
-  scoped_for : (env : Environment) (e d : Tree) → OpensIn env (env ++ scope) loops e d
-  scoped_for env e d =
-      let o = spots.scoped_first K id ds e d (env ++ scope) in
+  scoped_for : (env : Environment) (e d : Tree) → is_absent e ≡ is_absent d → OpensIn env (env ++ scope) loops e d
+  scoped_for env e d same =
+      let o = spots.scoped_first K id ds e d same (env ++ scope) in
       record {
         Beside = o.Beside × Behind scope env;
         down = λ q.
@@ -251,7 +251,7 @@ module _ (c : Each) (l w : Tree) where
     targets = λ g e d. spots.targets_loop c l w e d g;
     once = λ e d. spots.once_loop c l w e d;
     within = λ env. (env ++ keys.scope l w) ++ [];
-    scoped = scoped_over;
+    scoped = λ env e d same. scoped_over env e d;
     symbols = spots.symbols_loop c l w Read;
     numbers = spots.numbers_loop c l w;
     named = named_over;
@@ -294,7 +294,7 @@ module _ (K : VariableDeclarationKind) (x : Name) (k : ℕ) (e : x.symbol ≡ sy
       inner_back = λ b. moved_back (InnerIf b) (inner_local b) refl (inner_back K x init first b) (o.inner b put value);
       scoped = λ env a.
           let (p, q) = scoped_both K x init first env a.0 in
-          let opens = o.scoped env value put in
+          let opens = o.scoped env value put (both_there ss init r (plain_there init plain)) in
           let inner = o.within env in
           let (v, b) = opens.down a.1.0 in
           (p, (opens.up (swapped Any (ScopedAs Read inner) (scoped_local Read inner) AsValue ss well (identifier r) init (λ z. closed_scoped init whole inner) v) b, tt));

@@ -26,7 +26,7 @@ use Rattle.mini_rows.proofs.ListLawful.{list_asked, list_slot}
 use Rattle.mini_rows.proofs.ListShapes.{Fitting, like, begun_fit, stretch_in_list}
 
 row_fits : (W : VariableSet) (strict : Bool) (a b : Trees) → LetsRow W a b → Fitting strict a b
-row_fits W strict a b (inl r) = like strict r.shape r.written (begun_fit strict Let r.ds (resolved r.spelling r.symbol) (resolved r.target r.symbol) none (known r.value) r.beginning (known_declares r.value) r.parts)
+row_fits W strict a b (inl r) = like strict r.shape r.written (begun_fit strict Let r.ds (resolved r.spelling r.symbol) (resolved r.spelling r.symbol) none (known r.value) r.beginning (known_declares r.value) r.parts)
 row_fits W strict a b (inr r) = lexical_fits strict a b r
 
 list_fits : (W : VariableSet) (n w : Tree) → InList (LetsRow W) n w → (strict : Bool) (s : Slot) → fits_place StatementList s ≡ true → fits strict s n ≡ true → fits strict s w ≡ true

@@ -127,22 +127,22 @@ module _ (W : VariableSet) (a b : Trees) (r : Row70Let W a b) where
   new = declaration Let (append r.ds (declarator (binding (resolved r.spelling r.symbol)) (known r.value) ▸ none))
 
   abbrev whole : Tree
-  whole = begun r.beginning (assigned (resolved r.target r.symbol) (known r.value))
+  whole = begun r.beginning (assigned (resolved r.spelling r.symbol) (known r.value))
 
   abbrev alone : Tree
-  alone = expression_statement (assigned (resolved r.target r.symbol) (known r.value))
+  alone = expression_statement (assigned (resolved r.spelling r.symbol) (known r.value))
 
   abbrev left : Trees
   left = begun_without r.beginning
 
   apart : SameStretch (old ▸ (whole ▸ none)) (old ▸ (alone ▸ left))
-  apart = stretch_after old _ _ (back_same (alone ▸ left) (whole ▸ none) (begun_same r.beginning (resolved r.target r.symbol) (known r.value) r.parts))
+  apart = stretch_after old _ _ (back_same (alone ▸ left) (whole ▸ none) (begun_same r.beginning (resolved r.spelling r.symbol) (known r.value) r.parts))
 
   row_does : (e : Environment) → e.fixed (Declared r.symbol) ≡ Writes → (s : State) → exec e a None s ≡ exec e b None s
   row_does e free s =
       ap (λ ts. exec e ts None s) r.shape
       ∙ apart.by e s
-      ∙ in_list_by e none (old ▸ (alone ▸ none)) (new ▸ none) left (value_enters e r.spelling r.target r.symbol free r.ds r.value) s
+      ∙ in_list_by e none (old ▸ (alone ▸ none)) (new ▸ none) left (value_enters e r.spelling r.spelling r.symbol free r.ds r.value) s
       ∙ sym (ap (λ ts. exec e ts None s) r.written)
 
   names_same : lets_all (summaries (old ▸ (alone ▸ none))) ≡ lets_all (summaries (new ▸ none))

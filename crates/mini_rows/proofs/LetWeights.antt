@@ -15,7 +15,7 @@ use Rattle.mini_rows.proofs.ListWeights.{Falls, replaced, value_falls, list_ligh
 
 row_falls : (W : VariableSet) (a b : Trees) → LetsRow W a b → Falls a b
 row_falls W a b (inr r) = lexical_falls a b r
-row_falls W a b (inl r) = replaced a _ b _ r.shape r.written (value_falls Let r.ds r.spelling r.target r.symbol none (known r.value) r.beginning)
+row_falls W a b (inl r) = replaced a _ b _ r.shape r.written (value_falls Let r.ds r.spelling r.spelling r.symbol none (known r.value) r.beginning)
 
 pub lets_lighter : LetsLighter
 lets_lighter W StatementList n w r = list_lighter (LetsRow W) n w r (row_falls W r.read r.put r.row)

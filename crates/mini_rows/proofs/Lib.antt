@@ -34,6 +34,7 @@ pub mod ListParts
 pub mod ListStatements
 pub mod ListHeads
 pub mod ListBegun
+pub mod WrittenNames
 pub mod ListKeptValues
 pub mod ListKeptSpots
 pub mod ListKeptBegun

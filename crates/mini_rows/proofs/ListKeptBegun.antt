@@ -1,6 +1,6 @@
 -- An assignment that begins the statement after a `var`, and becomes an initializer in it, is kept.
 use Rattle.std.specs.Prelude.{ℕ, ◌+◌, ◌≤◌, ◌≡◌, refl, not, ◌&&◌, ◌||◌, Bool, true, false, List, [], ◌∷◌, ◌++◌, Option}
-use Rattle.std.proofs.Common.{ap, ◌∙◌, sym, subst, arith}
+use Rattle.std.proofs.Common.{ap, ◌∙◌, sym, subst, arith, true≢false}
 use Rattle.std.proofs.lemmas.Bool.{and_parts}
 use Rattle.mini_model.specs.declared.kind.VariableDeclarationKind.{VariableDeclarationKind}
 use Rattle.mini_model.specs.declared.kind.VariableDeclarationKind.TheVariants.{Var, Let}
@@ -9,7 +9,7 @@ use Rattle.mini_model.specs.declared.name.SymbolId.{SymbolId}
 use Rattle.mini_model.specs.declared.operator.AssignmentOperator.TheVariants.{Assign}
 use Rattle.mini_model.specs.declared.place.Position.TheVariants.{StatementList}
 use Rattle.mini_model.specs.declared.shape.Shape.TheVariants as shape
-use Rattle.mini_model.specs.Tree.{Tree, Trees, none, ◌▸◌, absent, listed, identifier, shape_of, expression_statement, if_else}
+use Rattle.mini_model.specs.Tree.{Tree, Trees, node, none, ◌▸◌, absent, is_absent, listed, identifier, shape_of, expression_statement, if_else}
 use Rattle.mini_model.specs.Paths.{append}
 use Rattle.mini_accept.specs.WellShaped.{Depth, a_loop_left, a_statement, a_case, an_init, an_expression, one, one_or_absent, many, each, fits, fill, nested}
 use Rattle.mini_laws.specs.declared.names.Use.{Use}
@@ -54,6 +54,7 @@ use Rattle.mini_rows.proofs.ListShapes as shape_law
 use Rattle.mini_rows.proofs.ListShapes.{of_expression, of_return, of_throw, of_if, parts_fit, of_parts_fits, first_fits}
 use Rattle.mini_rows.proofs.ListKeptValues.{Opens, Names, stricter_alone, bare, given, inner_value, no_inner, fixed_value, fixed_bare, frames_value, bodies_value, numbers_value, symbols_value, once_value, jumps_value, scoped_value, among_value}
 use Rattle.mini_rows.proofs.ListKeptSpots as spots
+use Rattle.mini_rows.proofs.WrittenNames.{target_found}
 use Rattle.mini_rows.proofs.ListKeptKeys.{left_lexical, left_scope}
 use Rattle.mini_rows.proofs.ListKeptStretch.{stretched, parted, sum_joined, NamesStretched, Stretched, stretch_kept}
 use Rattle.mini_rows.proofs.ListKeptDeclarations.{over, names_if, is_var, declares_as, scope_if, opens, used, names_are, body_are, declarations_are, all_both, scoped_down as var_scoped_down, scoped_up as var_scoped_up, symbols_are, inner_is, numbers_are, declared_are, frames_are, bodies_are, once_is, jumps_are}
@@ -62,21 +63,22 @@ use Rattle.mini_rows.proofs.ListKeptHeads.{parts_of_it, it_of_parts, of_statemen
 -- ---- a statement that holds an expression, and what is beside that
 
 -- what has to be known of the expression in the statement, and of the one that is left
-Needs : (Tree → Type 0) → (Holder → Type 0) → Beginning → Tree → Type 0
-Needs P H Alone a = Unit {0}
-Needs P H (Init u v w) a = P a × P absent
-Needs P H (Before h q qs) a = H h × (P (sequence (a ▸ (q ▸ qs))) × P (of_parts q qs))
+Needs : (P F : Tree → Type 0) → (Holder → Type 0) → Beginning → Tree → Type 0
+Needs P F H Alone a = Unit {0}
+Needs P F H (Init u v w) a = P a × P absent
+Needs P F H (Before h q qs) a = H h × ((P (sequence (a ▸ (q ▸ qs))) × P (of_parts q qs)) × (F (sequence (a ▸ (q ▸ qs))) × F (of_parts q qs)))
 
 -- nothing of the statement
 abbrev pub anything : Holder → Type 0
 anything h = Unit {0}
 
--- of what stands in a statement that opens a scope, on the right of a loop, or as a first initializer
-pub record Spots (Q : Asked → Tree → Type 0) (P : Tree → Type 0) (H : Holder → Type 0) : Type 1 where
+-- of what stands in a statement that opens a scope or on the right of a loop, of which P is known, or as a first initializer, of
+-- which F is
+pub record Spots (Q : Asked → Tree → Type 0) (P F : Tree → Type 0) (H : Holder → Type 0) : Type 1 where
   pub seats : (s : Seat) (e d : Tree) → P e → P d → Opens Q (seated s) e d
   pub loops : (k : Each) (l w : Tree) → H (Going k l w) → (e d : Tree) → P e → P d → Opens Q (λ t. each_loop k l t w) e d
-  pub firsts : (kind : VariableDeclarationKind) (id : Tree) (ds : Trees) (e d : Tree) → P e → P d → Opens Q (λ t. declaration kind (declarator id t ▸ ds)) e d
-  pub looped : (id : Tree) (ds : Trees) (u v w e d : Tree) → P e → P d → Opens Q (λ t. for_loop (declaration Var (declarator id t ▸ ds)) u v w) e d
+  pub firsts : (kind : VariableDeclarationKind) (id : Tree) (ds : Trees) (e d : Tree) → F e → F d → Opens Q (λ t. declaration kind (declarator id t ▸ ds)) e d
+  pub looped : (id : Tree) (ds : Trees) (u v w e d : Tree) → F e → F d → Opens Q (λ t. for_loop (declaration Var (declarator id t ▸ ds)) u v w) e d
 
 -- a declaration stands in the head of a `for` as an expression does
 pub through : (Q : Asked → Tree → Type 0) → ((t : Tree) → Q AsValue t → Q AsWholeItem t) → ((t : Tree) → Q AsWholeItem t → Q AsValue t) → (f g : Tree → Tree) (e d : Tree) → Opens Q g (f e) (f d) → Opens Q f e d → Opens Q (λ t. g (f t)) e d
@@ -115,20 +117,20 @@ module _ (J : Leap → Type 0) (Q : Asked → Tree → Type 0) (l : Local J Q) w
     up = λ q r. l.up sketch.If AsWholeItem (d ▸ (u ▸ (v ▸ none))) tt tt (q, (r.0, (r.1, tt)));
   }
 
-  holder_opens : (P : Tree → Type 0) (H : Holder → Type 0) → Spots Q P H → (e d : Tree) → P e → P d → (h : Holder) → H h → Opens Q (holding h) e d
-  holder_opens P H k e d p q Statement n = statement_opens e d
-  holder_opens P H k e d p q (Heading Return) n = return_opens e d
-  holder_opens P H k e d p q (Heading Throw) n = throw_opens e d
-  holder_opens P H k e d p q (Heading (If u v)) n = if_opens u v e d
-  holder_opens P H k e d p q (Heading (Switch cases)) n = k.seats (Choice cases) e d p q
-  holder_opens P H k e d p q (Heading (For u v w)) n = k.seats (Loop u v w) e d p q
-  holder_opens P H k e d p q (Going c l w) n = k.loops c l w n e d p q
-  holder_opens P H k e d p q (Declaring kind x ds) n = k.firsts kind x ds e d p q
-  holder_opens P H k e d p q (Looping x ds u v w) n = k.looped x ds u v w e d p q
+  holder_opens : (P F : Tree → Type 0) (H : Holder → Type 0) → Spots Q P F H → (e d : Tree) → P e × P d → F e × F d → (h : Holder) → H h → Opens Q (holding h) e d
+  holder_opens P F H k e d p f Statement n = statement_opens e d
+  holder_opens P F H k e d p f (Heading Return) n = return_opens e d
+  holder_opens P F H k e d p f (Heading Throw) n = throw_opens e d
+  holder_opens P F H k e d p f (Heading (If u v)) n = if_opens u v e d
+  holder_opens P F H k e d p f (Heading (Switch cases)) n = k.seats (Choice cases) e d p.0 p.1
+  holder_opens P F H k e d p f (Heading (For u v w)) n = k.seats (Loop u v w) e d p.0 p.1
+  holder_opens P F H k e d p f (Going c l w) n = k.loops c l w n e d p.0 p.1
+  holder_opens P F H k e d p f (Declaring kind x ds) n = k.firsts kind x ds e d f.0 f.1
+  holder_opens P F H k e d p f (Looping x ds u v w) n = k.looped x ds u v w e d f.0 f.1
 
-  module _ (P : Tree → Type 0) (H : Holder → Type 0) (k : Spots Q P H) where
+  module _ (P F : Tree → Type 0) (H : Holder → Type 0) (k : Spots Q P F H) where
     -- an assignment, and what is left without it
-    apart : (b : Beginning) (a : Tree) → Needs P H b a → Q AsWholeItem (begun b a) → Q AsValue a × All Q AsWholeItem (begun_without b)
+    apart : (b : Beginning) (a : Tree) → Needs P F H b a → Q AsWholeItem (begun b a) → Q AsValue a × All Q AsWholeItem (begun_without b)
     unfolding Needs
     apart Alone a n q = (of_statement J Q l a q, tt)
     apart (Init u v w) a n q =
@@ -136,22 +138,22 @@ module _ (J : Leap → Type 0) (Q : Asked → Tree → Type 0) (l : Local J Q) w
         let (x, r) = o.down q in
         (x, (o.up (nothing_there J Q l) r, tt))
     apart (Before h p ps) a n q =
-        let o = holder_opens P H k (sequence (a ▸ (p ▸ ps))) (of_parts p ps) n.1.0 n.1.1 h n.0 in
+        let o = holder_opens P F H k (sequence (a ▸ (p ▸ ps))) (of_parts p ps) n.1.0 n.1.1 h n.0 in
         let (x, r) = o.down q in
         let all = parts_of_it J Q l a (p ▸ ps) x in
         (all.0, (o.up (it_of_parts J Q l p ps all.1) r, tt))
 
-    -- the value that is assigned
-    value_of : (x : Name) (value : Tree) → Q AsValue (assigned x value) → Q AsValue value
-    value_of x value q = (l.down (Assignment Assign) AsValue (identifier x ▸ (value ▸ none)) tt q).1.1.0
+    -- what is assigned to, and the value
+    assigned_parts : (x : Name) (value : Tree) → Q AsValue (assigned x value) → Q AsTarget (identifier x) × Q AsValue value
+    assigned_parts x value q = let (j, (t, (v, z))) = l.down (Assignment Assign) AsValue (identifier x ▸ (value ▸ none)) tt q in (t, v)
 
 -- both together again
-module _ (Q : Asked → Tree → Type 0) (l : Local Any Q) (k : Spots Q (λ t. Unit {0}) anything) where
+module _ (Q : Asked → Tree → Type 0) (l : Local Any Q) (k : Spots Q (λ t. Unit {0}) (λ t. Unit {0}) anything) where
   together : (b : Beginning) (a : Tree) → Q AsValue a → All Q AsWholeItem (begun_without b) → Q AsWholeItem (begun b a)
   together Alone a q r = statement_of Any Q l a q
   together (Init u v w) a q r = let o = k.seats (Loop u v w) absent a tt tt in o.up q (o.down r.0).1
   together (Before h p ps) a q r =
-      let o = holder_opens Any Q l (λ t. Unit {0}) anything k (of_parts p ps) (sequence (a ▸ (p ▸ ps))) tt tt h tt in
+      let o = holder_opens Any Q l (λ t. Unit {0}) (λ t. Unit {0}) anything k (of_parts p ps) (sequence (a ▸ (p ▸ ps))) (tt, tt) (tt, tt) h tt in
       let (x, y) = o.down r.0 in
       o.up (it_of_parts Any Q l a (p ▸ ps) (q, parts_of_it Any Q l p ps x)) y
 
@@ -178,13 +180,13 @@ module _ (m : Asked → Tree → ℕ) (l : Summed m) (P : Tree → Type 0) (k : 
   held_sum (Declaring kind x ds) = let (n, is) = k.firsts kind x ds in (n, λ e p. is e)
   held_sum (Looping x ds u v w) = let (n, is) = k.looped x ds u v w in (n, λ e p. is e)
 
-  begun_sum : m AsValue absent ≡ 0 → (b : Beginning) (a : Tree) → Needs P anything b a → m AsValue a + sum_all m AsWholeItem (begun_without b) ≤ m AsWholeItem (begun b a)
+  begun_sum : m AsValue absent ≡ 0 → (b : Beginning) (a : Tree) → Needs P (λ t. Unit {0}) anything b a → m AsValue a + sum_all m AsWholeItem (begun_without b) ≤ m AsWholeItem (begun b a)
   unfolding Needs
   begun_sum z Alone a n = omega (arith, sum_statement m l a)
   begun_sum z (Init u v w) a n = let (c, is) = k.seats (Loop u v w) in omega (arith, is a n.0, is absent n.1, z)
   begun_sum z (Before h q qs) a n =
       let (c, is) = held_sum h in
-      omega (arith, is (sequence (a ▸ (q ▸ qs))) n.1.0, is (of_parts q qs) n.1.1, sum_parts m l a (q ▸ qs), sum_parts m l q qs)
+      omega (arith, is (sequence (a ▸ (q ▸ qs))) n.1.0.0, is (of_parts q qs) n.1.0.1, sum_parts m l a (q ▸ qs), sum_parts m l q qs)
 
   value_sum : (x : Name) (value : Tree) → m AsValue value ≤ m AsValue (assigned x value)
   value_sum x value = omega (arith, l (Assignment Assign) AsValue (identifier x ▸ (value ▸ none)) tt)
@@ -265,8 +267,11 @@ module _ (kind : VariableDeclarationKind) (ds : Trees) (x : Name) (es : Trees) (
       ∙ once_anywhere [] (0 ∷ []) (listed new_list)
       (filled Any Once once_local (λ a. once_value x value ∙ once_anywhere [] (1 ∷ []) value v) (once_anywhere (0 ∷ []) [] (listed old_list) (sym (once_is kind (listed old_list)) ∙ q)))
 
-  scoped_given : (env : Environment) → ScopedAs Read env AsWholeItem old_declaration → ScopedAs Read env AsValue value → ScopedAs Read env AsWholeItem new_declaration
-  scoped_given env q v = var_scoped_up kind env (listed new_list) (filled Any (ScopedAs (used Read kind) env) (scoped_local (used Read kind) env) (λ a. scoped_value x value (used Read kind) env a v) (var_scoped_down kind env (listed old_list) q))
+  -- the assignment writes the innermost variable of the name
+  scoped_given : (env : Environment) → ScopedAs Read env AsWholeItem old_declaration → ScopedAs Read env AsTarget (identifier x) → ScopedAs Read env AsValue value → ScopedAs Read env AsWholeItem new_declaration
+  scoped_given env q t v =
+      let u = used Read kind in
+      var_scoped_up kind env (listed new_list) (filled Any (ScopedAs u env) (scoped_local u env) (λ a. scoped_value x value u env (λ e. target_found env x t) a v) (var_scoped_down kind env (listed old_list) q))
 
   list_sum : (m : Asked → Tree → ℕ) → Summed m → m AsWholeItem (given x value) ≤ m AsWholeItem (bare x value) + m AsValue value → m AsWholeList (listed new_list) ≤ m AsWholeList (listed old_list) + m AsValue value
   list_sum m l k =
@@ -350,7 +355,7 @@ Plainly (Going k l w) = lexical_names l ≡ []
 Plainly h = Unit {0}
 
 abbrev pub Freely : (Asked → Tree → Type 0) → Type 1
-Freely Q = Spots Q (λ t. Unit {0}) anything
+Freely Q = Spots Q (λ t. Unit {0}) (λ t. Unit {0}) anything
 
 abbrev pub declared_with : Tree → Trees → Tree → Tree
 declared_with id ds t = declaration Var (declarator id t ▸ ds)
@@ -376,15 +381,19 @@ targets_spots g = record { seats = λ s e d p q. targets_seat s e d g; loops = �
 pub once_looped : (x : Tree) (ds : Trees) (u v w e d : Tree) → Opens Once (λ t. for_loop (declared_with x ds t) u v w) e d
 once_looped x ds u v w e d = through Once (λ t r. r) (λ t r. r) (declared_with x ds) (seated (Loop u v w)) e d (once_seat (Loop u v w) (declared_with x ds e) (declared_with x ds d) (var_unlexical (declarator x e ▸ ds)) (var_unlexical (declarator x d ▸ ds))) (spots.once_first Var x ds e d)
 
-once_spots : Spots Once Unlexical anything
+once_spots : Spots Once Unlexical (λ t. Unit {0}) anything
 once_spots = record { seats = once_seat; loops = λ k l w n e d p q. spots.once_loop k l w e d; firsts = λ kind x ds e d p q. spots.once_first kind x ds e d; looped = λ x ds u v w e d p q. once_looped x ds u v w e d }
 
-pub scoped_looped : (x : Tree) (ds : Trees) (u v w e d : Tree) (env : Environment) → Opens (ScopedAs Read env) (λ t. for_loop (declared_with x ds t) u v w) e d
-scoped_looped x ds u v w e d env = through (ScopedAs Read env) (λ t r. r) (λ t r. r) (declared_with x ds) (seated (Loop u v w)) e d (scoped_seat (Loop u v w) (declared_with x ds e) (declared_with x ds d) env (var_unlexical (declarator x e ▸ ds)) (var_unlexical (declarator x d ▸ ds))) (spots.scoped_first Var x ds e d env)
+pub scoped_looped : (x : Tree) (ds : Trees) (u v w e d : Tree) → is_absent e ≡ is_absent d → (env : Environment) → Opens (ScopedAs Read env) (λ t. for_loop (declared_with x ds t) u v w) e d
+scoped_looped x ds u v w e d same env = through (ScopedAs Read env) (λ t r. r) (λ t r. r) (declared_with x ds) (seated (Loop u v w)) e d (scoped_seat (Loop u v w) (declared_with x ds e) (declared_with x ds d) env (var_unlexical (declarator x e ▸ ds)) (var_unlexical (declarator x d ▸ ds))) (spots.scoped_first Var x ds e d same env)
 
-scoped_spots : (env : Environment) → Spots (ScopedAs Read env) Unlexical Plainly
-unfolding Plainly
-scoped_spots env = record { seats = λ s e d. scoped_seat s e d env; loops = λ k l w n e d p q. spots.scoped_loop k l w e d (left_scope l n) env; firsts = λ kind x ds e d p q. spots.scoped_first kind x ds e d env; looped = λ x ds u v w e d p q. scoped_looped x ds u v w e d env }
+-- a first initializer is there
+Present : Tree → Type 0
+Present t = is_absent t ≡ false
+
+scoped_spots : (env : Environment) → Spots (ScopedAs Read env) Unlexical Present Plainly
+unfolding Plainly Present
+scoped_spots env = record { seats = λ s e d. scoped_seat s e d env; loops = λ k l w n e d p q. spots.scoped_loop k l w e d (left_scope l n) env; firsts = λ kind x ds e d p q. spots.scoped_first kind x ds e d (p ∙ sym q) env; looped = λ x ds u v w e d p q. scoped_looped x ds u v w e d (p ∙ sym q) env }
 
 pub summed_through : (m : Asked → Tree → ℕ) (f g : Tree → Tree) (a : ℕ) → ((e : Tree) → m AsWholeItem (g (f e)) ≡ m AsWholeItem (f e) + a) → (b : ℕ) × ((e : Tree) → m AsWholeItem (f e) ≡ m AsValue e + b) → (c : ℕ) × ((e : Tree) → m AsWholeItem (g (f e)) ≡ m AsValue e + c)
 summed_through m f g a h (b, k) = (b + a, λ e. omega (arith, h e, k e))
@@ -489,7 +498,7 @@ held_same (Looping x ds u v w) e j p q = looped_same x ds u v w e j
 
 -- the expression that is left is one
 LeftValue : Beginning → Type 0
-LeftValue (Before h q qs) = (is_value (shape_of (of_parts q qs)) ≡ true) × Plainly h
+LeftValue (Before h q qs) = ((is_value (shape_of (of_parts q qs)) ≡ true) × Present (of_parts q qs)) × Plainly h
 LeftValue b = Unit {0}
 
 -- whatever it gives of the names of a statement
@@ -497,49 +506,50 @@ left_same : {A : Type 0} (g : Tree → List A) (b : Beginning) (a : Tree) → is
 unfolding LeftValue
 left_same g Alone a p v z k = sym (ap (λ r. r ++ []) (z a))
 left_same g (Init x y w) a p v z k = ap (λ r. r ++ []) (k _ _ (seat_same (Loop x y w) a absent p refl))
-left_same g (Before h q qs) a p v z k = ap (λ r. r ++ []) (k _ _ (held_same h (sequence (a ▸ (q ▸ qs))) (of_parts q qs) refl v.0))
+left_same g (Before h q qs) a p v z k = ap (λ r. r ++ []) (k _ _ (held_same h (sequence (a ▸ (q ▸ qs))) (of_parts q qs) refl v.0.0))
 
 -- ---- the two statements, and what is written
 
-abbrev read_as : (kind : VariableDeclarationKind) (ds : Trees) (x y : Name) (es : Trees) (value : Tree) (b : Beginning) → Trees
-read_as kind ds x y es value b = old_declaration kind ds x es value ▸ (begun b (assigned y value) ▸ none)
+abbrev read_as : (kind : VariableDeclarationKind) (ds : Trees) (x : Name) (es : Trees) (value : Tree) (b : Beginning) → Trees
+read_as kind ds x es value b = old_declaration kind ds x es value ▸ (begun b (assigned x value) ▸ none)
 
 abbrev put_as : (kind : VariableDeclarationKind) (ds : Trees) (x : Name) (es : Trees) (value : Tree) (b : Beginning) → Trees
 put_as kind ds x es value b = new_declaration kind ds x es value ▸ begun_without b
 
-module _ (kind : VariableDeclarationKind) (free : IsWritten kind) (ds : Trees) (x y : Name) (es : Trees) (value : Tree) (b : Beginning) where
+module _ (kind : VariableDeclarationKind) (free : IsWritten kind) (ds : Trees) (x : Name) (es : Trees) (value : Tree) (b : Beginning) where
   abbrev assignment : Tree
-  assignment = assigned y value
+  assignment = assigned x value
 
   abbrev read : Trees
-  read = read_as kind ds x y es value b
+  read = read_as kind ds x es value b
 
   abbrev put : Trees
   put = put_as kind ds x es value b
 
-  forward : (J : Leap → Type 0) (Q : Asked → Tree → Type 0) (l : Local J Q) (P : Tree → Type 0) (H : Holder → Type 0) → Spots Q P H → Needs P H b assignment → (Q AsWholeItem (old_declaration kind ds x es value) → Q AsValue value → Q AsWholeItem (new_declaration kind ds x es value)) → All Q AsWholeItem read → All Q AsWholeItem put
-  forward J Q l P H k n g a =
-      let (p, q) = apart J Q l P H k b assignment n a.1.0 in
-      (g a.0 (value_of J Q l P H k y value p), q)
+  forward : (J : Leap → Type 0) (Q : Asked → Tree → Type 0) (l : Local J Q) (P F : Tree → Type 0) (H : Holder → Type 0) → Spots Q P F H → Needs P F H b assignment → (Q AsWholeItem (old_declaration kind ds x es value) → Q AsTarget (identifier x) → Q AsValue value → Q AsWholeItem (new_declaration kind ds x es value)) → All Q AsWholeItem read → All Q AsWholeItem put
+  forward J Q l P F H k n g a =
+      let (p, q) = apart J Q l P F H k b assignment n a.1.0 in
+      let (t, v) = assigned_parts J Q l P F H k x value p in
+      (g a.0 t v, q)
 
-  nothing_needed : (c : Beginning) (a : Tree) → Needs (λ t. Unit {0}) anything c a
+  nothing_needed : (c : Beginning) (a : Tree) → Needs (λ t. Unit {0}) (λ t. Unit {0}) anything c a
   unfolding Needs
   nothing_needed Alone a = tt
   nothing_needed (Init u v w) a = (tt, tt)
-  nothing_needed (Before h q qs) a = (tt, (tt, tt))
+  nothing_needed (Before h q qs) a = (tt, ((tt, tt), (tt, tt)))
 
   freely : (J : Leap → Type 0) (Q : Asked → Tree → Type 0) (l : Local J Q) → Freely Q → (Q AsWholeItem (old_declaration kind ds x es value) → Q AsValue value → Q AsWholeItem (new_declaration kind ds x es value)) → All Q AsWholeItem read → All Q AsWholeItem put
-  freely J Q l k = forward J Q l (λ t. Unit {0}) anything k (nothing_needed b assignment)
+  freely J Q l k g = forward J Q l (λ t. Unit {0}) (λ t. Unit {0}) anything k (nothing_needed b assignment) (λ o t v. g o v)
 
-  backward : (Q : Asked → Tree → Type 0) (l : Local Any Q) → Freely Q → Q AsTarget (identifier y) → (Q AsWholeItem (new_declaration kind ds x es value) → Q AsWholeItem (old_declaration kind ds x es value) × Q AsValue value) → All Q AsWholeItem put → All Q AsWholeItem read
-  backward Q l k t g a = let (o, v) = g a.0 in (o, (together Q l k b assignment (assigned_of Q l k y value t v) a.1, tt))
+  backward : (Q : Asked → Tree → Type 0) (l : Local Any Q) → Freely Q → Q AsTarget (identifier x) → (Q AsWholeItem (new_declaration kind ds x es value) → Q AsWholeItem (old_declaration kind ds x es value) × Q AsValue value) → All Q AsWholeItem put → All Q AsWholeItem read
+  backward Q l k t g a = let (o, v) = g a.0 in (o, (together Q l k b assignment (assigned_of Q l k x value t v) a.1, tt))
 
-  inner_target : (c : Bool) → InnerIf c AsTarget (identifier y)
+  inner_target : (c : Bool) → InnerIf c AsTarget (identifier x)
   unfolding has_inner
   inner_target c = refl
 
-  fixed_target : (z : Variable) (k : ℕ) → FixedBy z k AsTarget (identifier y)
-  fixed_target z k = subst (λ f. rank f ≤ k) (sym (of_children shape.Identifier (y ∷ []) 0 none z refl)) (omega arith)
+  fixed_target : (z : Variable) (k : ℕ) → FixedBy z k AsTarget (identifier x)
+  fixed_target z k = subst (λ f. rank f ≤ k) (sym (of_children shape.Identifier (x ∷ []) 0 none z refl)) (omega arith)
 
   no_number : (n : ℕ) → number_times n AsValue absent ≡ 0
   unfolding numbers
@@ -556,18 +566,18 @@ module _ (kind : VariableDeclarationKind) (free : IsWritten kind) (ds : Trees) (
         arith,
         numbers_given kind ds x es value n,
         begun_sum (number_times n) (numbers_summed n) (λ t. Unit {0}) seats (no_number n) b assignment (nothing_needed b assignment),
-        value_sum (number_times n) (numbers_summed n) (λ t. Unit {0}) seats y value,
+        value_sum (number_times n) (numbers_summed n) (λ t. Unit {0}) seats x value,
       )
 
   module _ (v : LeftValue b) where
-    needed : (H : Holder → Type 0) → ((h : Holder) → Plainly h → H h) → (c : Beginning) → LeftValue c → Needs Unlexical H c assignment
-    unfolding Needs LeftValue
-    needed H f Alone w = tt
-    needed H f (Init p q r) w = (value_unlexical assignment refl, value_unlexical absent refl)
-    needed H f (Before h q qs) w = (f h w.1, (value_unlexical (sequence (assignment ▸ (q ▸ qs))) refl, value_unlexical (of_parts q qs) w.0))
+    needed : (F : Tree → Type 0) (H : Holder → Type 0) → ((t : Tree) → Present t → F t) → ((h : Holder) → Plainly h → H h) → (c : Beginning) → LeftValue c → Needs Unlexical F H c assignment
+    unfolding Needs LeftValue Present
+    needed F H i f Alone w = tt
+    needed F H i f (Init p q r) w = (value_unlexical assignment refl, value_unlexical absent refl)
+    needed F H i f (Before h q qs) w = (f h w.1, ((value_unlexical (sequence (assignment ▸ (q ▸ qs))) refl, value_unlexical (of_parts q qs) w.0.0), (i (sequence (assignment ▸ (q ▸ qs))) refl, i (of_parts q qs) w.0.1)))
 
-    needed_anywhere : Needs Unlexical anything b assignment
-    needed_anywhere = needed anything (λ h p. tt) b v
+    needed_anywhere : Needs Unlexical (λ t. Unit {0}) anything b assignment
+    needed_anywhere = needed (λ t. Unit {0}) anything (λ t p. tt) (λ h p. tt) b v
 
     symbols_one : (u : Use) (z : Option SymbolId) → sum_all (symbol_times u z) AsWholeItem put ≤ sum_all (symbol_times u z) AsWholeItem read
     symbols_one u z =
@@ -576,7 +586,7 @@ module _ (kind : VariableDeclarationKind) (free : IsWritten kind) (ds : Trees) (
           arith,
           symbols_given kind ds x es value u z,
           begun_sum (symbol_times u z) (symbols_summed u z) Unlexical seats (no_symbol u z) b assignment needed_anywhere,
-          value_sum (symbol_times u z) (symbols_summed u z) Unlexical seats y value,
+          value_sum (symbol_times u z) (symbols_summed u z) Unlexical seats x value,
         )
 
     names_one : NamesStretched read put
@@ -585,9 +595,9 @@ module _ (kind : VariableDeclarationKind) (free : IsWritten kind) (ds : Trees) (
       body = λ i. declaration_body kind ds x es value i ++ left_same body_names b assignment refl v statement_body (λ t u k. k.body) i;
       as_body = λ o i. declaration_as_body kind ds x es value o i ++ left_same (as_body o) b assignment refl v (statement_as_body o) (λ t u k. k.as_body o) i;
       ports = λ m. left_same (port m) b assignment refl v (λ e. refl) (λ t u k. k.ports m);
-      scoped = λ env. forward Any (ScopedAs Read env) (scoped_local Read env) Unlexical Plainly (scoped_spots env) (needed Plainly (λ h p. p) b v) (scoped_given kind ds x es value env);
+      scoped = λ env. forward Any (ScopedAs Read env) (scoped_local Read env) Unlexical Present Plainly (scoped_spots env) (needed Present Plainly (λ t p. p) (λ h p. p) b v) (scoped_given kind ds x es value env);
       symbols = symbols_one;
-      once = forward Any Once once_local Unlexical anything once_spots needed_anywhere (once_given kind ds x es value);
+      once = forward Any Once once_local Unlexical (λ t. Unit {0}) anything once_spots needed_anywhere (λ o t q. once_given kind ds x es value o q);
     }
 
   left_calm : (c : Beginning) → All Valued AsWholeItem (begun_without c)
@@ -648,34 +658,41 @@ held_plainly strict k (Going EachOf l w) e p f = left_lexical strict false l p (
 held_plainly strict k (Declaring kind x ds) e p f = tt
 held_plainly strict k (Looping x ds u v w) e p f = tt
 
+-- other parts are there
+parts_present : (q : Tree) (qs : Trees) → are_parts q qs ≡ true → Present (of_parts q qs)
+unfolding Present
+parts_present (node shape.Absent xs n ts) none e = absurd (true≢false (sym e))
+parts_present (node h xs n ts) none e = refl
+parts_present q (r ▸ qs) e = refl
+
 left_value : (strict : Bool) (k : Depth) (b : Beginning) (a : Tree) → begins_well b ≡ true → fits strict (one (a_statement k)) (begun b a) ≡ true → LeftValue b
 unfolding LeftValue
 left_value strict k Alone a g f = tt
 left_value strict k (Init u v w) a g f = tt
 left_value strict k (Before h q qs) a g f =
     let (x, y) = first_fits strict (one an_expression) a (q ▸ qs) (parts_fit strict a (q ▸ qs) (held_sequence strict k h (a ▸ (q ▸ qs)) f)) in
-    ((sketch_valued (record { trees = of_parts q qs ▸ none; lists = [] }) strict AsValue (one an_expression) (part 0) refl (of_parts_fits strict q qs y)).0, held_plainly strict k h (sequence (a ▸ (q ▸ qs))) (and_parts (holds_well h) (are_parts q qs) g).0 f)
+    let (holds, parts) = and_parts (holds_well h) (are_parts q qs) g in
+    let value = (sketch_valued (record { trees = of_parts q qs ▸ none; lists = [] }) strict AsValue (one an_expression) (part 0) refl (of_parts_fits strict q qs y)).0 in
+    ((value, parts_present q qs parts), held_plainly strict k h (sequence (a ▸ (q ▸ qs))) holds f)
 
 -- a declaration with a value in it, and what is left of the statement that wrote it, in a list
-pub values_kept : (kind : VariableDeclarationKind) → IsWritten kind → (ds : Trees) (x y : Name) (es : Trees) (value : Tree) (b : Beginning) → begins_well b ≡ true → (before after : Trees) → KeptAt StatementList (listed (append before (append (read_as kind ds x y es value b) after))) (listed (append before (append (put_as kind ds x es value b) after)))
-values_kept kind free ds x y es value b well before after =
-    let two = read_as kind ds x y es value b in
-    let values = λ (strict : Bool) (k : Depth) (h : fill strict (each (one (a_statement k))) two ≡ true). left_value strict k b (assigned y value) well (second_of strict k (old_declaration kind ds x es value) (begun b (assigned y value)) none h) in
-    stretch_kept before after two (put_as kind ds x es value b) (stretched_one kind free ds x y es value b values)
+pub values_kept : (kind : VariableDeclarationKind) → IsWritten kind → (ds : Trees) (x : Name) (es : Trees) (value : Tree) (b : Beginning) → begins_well b ≡ true → (before after : Trees) → KeptAt StatementList (listed (append before (append (read_as kind ds x es value b) after))) (listed (append before (append (put_as kind ds x es value b) after)))
+values_kept kind free ds x es value b well before after =
+    let two = read_as kind ds x es value b in
+    let values = λ (strict : Bool) (k : Depth) (h : fill strict (each (one (a_statement k))) two ≡ true). left_value strict k b (assigned x value) well (second_of strict k (old_declaration kind ds x es value) (begun b (assigned x value)) none h) in
+    stretch_kept before after two (put_as kind ds x es value b) (stretched_one kind free ds x es value b values)
 
 -- `var a; a = b;` and `var a = b;` in a list
 pub begun_kept : (before after : Trees) (n w : Tree) (a b : Trees) → Row70 a b → n ≡ listed (append before (append a after)) → w ≡ listed (append before (append b after)) → KeptAt StatementList n w
 begun_kept before after n w a b r f g =
     let x = resolved r.spelling r.symbol in
-    let y = resolved r.target r.symbol in
     subst (λ t. KeptAt StatementList t w) (sym (f ∙ ap (λ ts. listed (append before (append ts after))) r.shape))
-    (subst (KeptAt StatementList (listed (append before (append (read_as Var r.ds x y r.es r.value r.beginning) after)))) (sym (g ∙ ap (λ ts. listed (append before (append ts after))) r.written)) (values_kept Var refl r.ds x y r.es r.value r.beginning r.parts before after))
+    (subst (KeptAt StatementList (listed (append before (append (read_as Var r.ds x r.es r.value r.beginning) after)))) (sym (g ∙ ap (λ ts. listed (append before (append ts after))) r.written)) (values_kept Var refl r.ds x r.es r.value r.beginning r.parts before after))
 
 -- `let a; a = 1;` and `let a = 1;` in a list
 pub let_kept : (W : VariableSet) (n w : Tree) → InList (Row70Let W) n w → KeptAt StatementList n w
 let_kept W n w r =
     let m = r.row in
     let x = resolved m.spelling m.symbol in
-    let y = resolved m.target m.symbol in
     subst (λ t. KeptAt StatementList t w) (sym (r.shape ∙ ap (λ ts. listed (append r.before (append ts r.after))) m.shape))
-    (subst (KeptAt StatementList (listed (append r.before (append (read_as Let m.ds x y none (known m.value) m.beginning) r.after)))) (sym (r.written ∙ ap (λ ts. listed (append r.before (append ts r.after))) m.written)) (values_kept Let refl m.ds x y none (known m.value) m.beginning m.parts r.before r.after))
+    (subst (KeptAt StatementList (listed (append r.before (append (read_as Let m.ds x none (known m.value) m.beginning) r.after)))) (sym (r.written ∙ ap (λ ts. listed (append r.before (append ts r.after))) m.written)) (values_kept Let refl m.ds x none (known m.value) m.beginning m.parts r.before r.after))

@@ -12,7 +12,7 @@ use Rattle.mini_model.specs.Tree.{Tree, Trees, node, none, ◌▸◌, listed}
 use Rattle.mini_model.specs.Paths.{append}
 use Rattle.mini_model.specs.Weight.{same_text}
 use Rattle.mini_laws.specs.declared.names.Use.{Use}
-use Rattle.mini_laws.specs.declared.names.Use.TheVariants.{Read, Write, ReadWrite, Hoisted, Alone}
+use Rattle.mini_laws.specs.declared.names.Use.TheVariants.{Read, Write, ReadWrite, Hoisted, Alone, Headed}
 use Rattle.mini_laws.specs.declared.names.Binding.{Binding}
 use Rattle.mini_laws.specs.declared.names.Declared.{Declared}
 use Rattle.mini_laws.specs.declared.names.Declared.TheVariants as declared
@@ -197,7 +197,7 @@ abbrev pub opens : Use → VariableDeclarationKind → Bool
 opens u Var = false
 opens u k = is_alone u
 
-opened_is : (u : Use) (k : VariableDeclarationKind) (t : Tree) → opened u (shape.VariableDeclaration k) (t ▸ none) 0 ≡ scope_if (opens u k) t
+pub opened_is : (u : Use) (k : VariableDeclarationKind) (t : Tree) → opened u (shape.VariableDeclaration k) (t ▸ none) 0 ≡ scope_if (opens u k) t
 unfolding scopes_by
 opened_is u Var t = refl
 opened_is Alone Let t = refl
@@ -205,11 +205,13 @@ opened_is Read Let t = refl
 opened_is Write Let t = refl
 opened_is ReadWrite Let t = refl
 opened_is Hoisted Let t = refl
+opened_is Headed Let t = refl
 opened_is Alone Const t = refl
 opened_is Read Const t = refl
 opened_is Write Const t = refl
 opened_is ReadWrite Const t = refl
 opened_is Hoisted Const t = refl
+opened_is Headed Const t = refl
 
 pub read_opens : (k : VariableDeclarationKind) → opens Read k ≡ false
 read_opens Var = refl

@@ -1,5 +1,5 @@
 -- A `var` that goes into the head of the `for..in` or `for..of` after it, which assigns to its name, is kept.
-use Rattle.std.specs.Prelude.{◌≤◌, ◌≡◌, refl, ◌||◌, Bool, false, List, [], ◌∷◌, ◌++◌, Contains, None}
+use Rattle.std.specs.Prelude.{◌≤◌, ◌≡◌, refl, ◌||◌, Bool, true, false, List, [], ◌∷◌, ◌++◌, Contains, None}
 use Rattle.std.proofs.Common.{ap, ◌∙◌, sym, subst, arith, inl, inr, ◌⊎◌}
 use Rattle.std.proofs.lemmas.List.{append-nil}
 use Rattle.std.proofs.lemmas.List.Elements.{Contains-append_cases}
@@ -10,13 +10,13 @@ use Rattle.mini_model.specs.declared.shape.Shape.TheVariants as shape
 use Rattle.mini_model.specs.Tree.{Tree, Trees, none, ◌▸◌, absent, listed, identifier}
 use Rattle.mini_model.specs.Paths.{append}
 use Rattle.mini_laws.specs.declared.names.Use.{Use}
-use Rattle.mini_laws.specs.declared.names.Use.TheVariants.{Read, Write}
+use Rattle.mini_laws.specs.declared.names.Use.TheVariants.{Read, Write, Hoisted, Headed}
 use Rattle.mini_laws.specs.declared.names.Declared.{Declared}
 use Rattle.mini_laws.specs.declared.names.Declared.TheVariants as declared
 use Rattle.mini_laws.specs.declared.names.Targets.{Targets}
 use Rattle.mini_laws.specs.DeclaredNames.{has_inner, names_of, body_names, with_names}
 use Rattle.mini_laws.specs.Scopes.{scopes_by}
-use Rattle.mini_laws.specs.Resolved.{Environment}
+use Rattle.mini_laws.specs.Resolved.{Environment, symbol_of}
 use Rattle.mini_laws.specs.Scoped.{Scoped}
 use Rattle.mini_laws.specs.Symbols.{declared as declared_in, times}
 use Rattle.mini_laws.specs.Early.{own_declarations, declarations, scope_declarations, early_names, targets_of, early_jumps}
@@ -40,15 +40,16 @@ use Rattle.mini_rows.proofs.ArrangedValues.{Valued}
 use Rattle.mini_rows.proofs.ArrangedFolds.{port}
 use Rattle.mini_rows.proofs.ListKeptStretch.{NamesStretched, Stretched, stretch_kept}
 use Rattle.mini_rows.proofs.ListKeptValues.{stricter_alone}
+use Rattle.mini_rows.proofs.WrittenNames.{found_in_head, target_found, Nameless, nameless_by}
 
 -- ---- the head that assigns to the name, and the one that declares it
 
-module _ (x y : Name) (right body : Tree) where
+module _ (x : Name) (right body : Tree) where
   abbrev var : Tree
   var = bare_var x
 
   abbrev old : Each → Tree
-  old k = each_loop k (identifier y) right body
+  old k = each_loop k (identifier x) right body
 
   abbrev new : Each → Tree
   new k = each_loop k var right body
@@ -71,15 +72,15 @@ module _ (x y : Name) (right body : Tree) where
   var_fixed : (z : Variable) → fixed_by var z ≡ Writable
   var_fixed z = of_children (shape.VariableDeclaration Var) [] 0 (listed (declarator (binding x) absent ▸ none) ▸ none) z refl ∙ stricter_alone (fixed_by (listed (declarator (binding x) absent ▸ none)) z) ∙ list_fixed z
 
-  name_fixed : (z : Variable) → fixed_by (identifier y) z ≡ Writable
-  name_fixed z = of_children shape.Identifier (y ∷ []) 0 none z refl
+  name_fixed : (z : Variable) → fixed_by (identifier x) z ≡ Writable
+  name_fixed z = of_children shape.Identifier (x ∷ []) 0 none z refl
 
   each_fixed : (k : Each) (l : Tree) (z : Variable) → fixed_by (each_loop k l right body) z ≡ stricter (fixed_by l z) (fixed_by_any (right ▸ (body ▸ none)) z)
   each_fixed EachIn l z = of_children shape.ForInStatement [] 0 (l ▸ (right ▸ (body ▸ none))) z refl
   each_fixed EachOf l z = of_children shape.ForOfStatement [] 0 (l ▸ (right ▸ (body ▸ none))) z refl
 
   fixed_same : (k : Each) (z : Variable) → fixed_by (new k) z ≡ fixed_by (old k) z
-  fixed_same k z = each_fixed k var z ∙ ap (λ f. stricter f (fixed_by_any (right ▸ (body ▸ none)) z)) (var_fixed z ∙ sym (name_fixed z)) ∙ sym (each_fixed k (identifier y) z)
+  fixed_same k z = each_fixed k var z ∙ ap (λ f. stricter f (fixed_by_any (right ▸ (body ▸ none)) z)) (var_fixed z ∙ sym (name_fixed z)) ∙ sym (each_fixed k (identifier x) z)
 
   declared_same : (k : Each) → names_declared (new k) ≡ x ∷ names_declared (old k)
   declared_same EachIn = refl
@@ -113,10 +114,35 @@ module _ (x y : Name) (right body : Tree) where
   symbols_same EachIn u = refl
   symbols_same EachOf u = refl
 
+  deeper : (env : Environment) → env ≡ ((env ++ []) ++ []) ++ []
+  deeper env = sym (append-nil ((env ++ []) ++ []) ∙ append-nil (env ++ []) ∙ append-nil env)
+
+  declared_there : (env : Environment) → Scoped Read env var → x.symbol ≡ symbol_of Hoisted x.spelling env
+  unfolding Scoped scopes_by
+  declared_there env a = a.1.0.1.0.1.0.0.0 ∙ ap (symbol_of Hoisted x.spelling) (sym (deeper env))
+
+  -- in the head of a loop it writes its name
+  var_headed : (env : Environment) → x.symbol ≡ symbol_of Headed x.spelling env → x.symbol ≡ symbol_of Read x.spelling env → Scoped Write env var
+  unfolding Scoped scopes_by
+  var_headed env e f =
+      let inner = (env ++ []) ++ [] in
+      let there : env ≡ inner = sym (append-nil (env ++ []) ∙ append-nil env) in
+      let no_name : Nameless Headed inner (binding x ▸ (absent ▸ none)) = subst (λ r. Nameless Headed r (binding x ▸ (absent ▸ none))) there (nameless_by Headed env x true e (λ z. f)) in
+      let named : Scoped Headed (inner ++ []) (binding x) = ((e ∙ ap (symbol_of Headed x.spelling) (deeper env), tt), tt) in
+      let nothing : Scoped Read ((inner ++ []) ++ []) absent = (tt, tt) in
+      let alone : Scoped Headed inner (declarator (binding x) absent) = (no_name, (named, (nothing, tt))) in
+      (tt, ((tt, (alone, tt)), tt))
+
+  written_there : (env : Environment) → Scoped Read env var → Scoped Write env (identifier x) → Scoped Write env var
+  written_there env a b = var_headed env (declared_there env a ∙ found_in_head x.spelling env) (target_found env x b)
+
+  in_head : (env : Environment) → Scoped Read env var → Scoped Write (env ++ []) (identifier x) → Scoped Write (env ++ []) var
+  in_head env a b = subst (λ r. Scoped Write r var) (sym (append-nil env)) (written_there env a (subst (λ r. Scoped Write r (identifier x)) (append-nil env) b))
+
   scoped_same : (k : Each) (env : Environment) → Scoped Read env var → Scoped Read env (old k) → Scoped Read env (new k)
   unfolding Scoped scopes_by names_of with_names
-  scoped_same EachIn env a b = (b.0, (subst (λ r. Scoped Write r var) (sym (append-nil env)) a, b.1.1))
-  scoped_same EachOf env a b = (b.0, (subst (λ r. Scoped Write r var) (sym (append-nil env)) a, b.1.1))
+  scoped_same EachIn env a b = (b.0, (in_head env a b.1.0, b.1.1))
+  scoped_same EachOf env a b = (b.0, (in_head env a b.1.0, b.1.1))
 
   hoisted_same : (k : Each) → names_of declared.Hoisted (new k) ≡ x ∷ names_of declared.Hoisted (old k)
   unfolding names_of
@@ -168,22 +194,22 @@ module _ (x y : Name) (right body : Tree) where
     one = new k ▸ none
 
     names_one : (d : Declared) → names_of d (new k) ++ [] ≡ names_of d var ++ (names_of d (old k) ++ [])
-    names_one declared.Bound = (λ i. (no_names k var).0 i ++ []) ∙ (λ i. sym no_more.0 i ++ (sym (no_names k (identifier y)).0 i ++ []))
-    names_one declared.Lexical = (λ i. (no_names k var).1 i ++ []) ∙ (λ i. sym no_more.1 i ++ (sym (no_names k (identifier y)).1 i ++ []))
+    names_one declared.Bound = (λ i. (no_names k var).0 i ++ []) ∙ (λ i. sym no_more.0 i ++ (sym (no_names k (identifier x)).0 i ++ []))
+    names_one declared.Lexical = (λ i. (no_names k var).1 i ++ []) ∙ (λ i. sym no_more.1 i ++ (sym (no_names k (identifier x)).1 i ++ []))
     names_one declared.Hoisted = ap (λ r. r ++ []) (hoisted_same k) ∙ ap (λ r. r ++ (names_of declared.Hoisted (old k) ++ [])) (sym var_hoists)
 
     body_one : body_names (new k) ++ [] ≡ body_names var ++ (body_names (old k) ++ [])
-    body_one = ap (λ r. r ++ []) (each_body k var ∙ hoisted_same k) ∙ (λ i. sym var_body i ++ (sym (each_body k (identifier y)) i ++ []))
+    body_one = ap (λ r. r ++ []) (each_body k var ∙ hoisted_same k) ∙ (λ i. sym var_body i ++ (sym (each_body k (identifier x)) i ++ []))
 
     as_body_one : (o : Bool) → as_body o (new k) ++ [] ≡ as_body o var ++ (as_body o (old k) ++ [])
-    as_body_one o = ap (λ r. r ++ []) (each_as_body o k var ∙ ap (own_declarations false []) (hoisted_same k)) ∙ (λ i. sym (var_as_body o) i ++ (sym (each_as_body o k (identifier y)) i ++ []))
+    as_body_one o = ap (λ r. r ++ []) (each_as_body o k var ∙ ap (own_declarations false []) (hoisted_same k)) ∙ (λ i. sym (var_as_body o) i ++ (sym (each_as_body o k (identifier x)) i ++ []))
 
     named : NamesStretched two one
     named = record {
       names = names_one;
       body = body_one;
       as_body = as_body_one;
-      ports = λ m. ap (λ r. r ++ []) (each_port m k var ∙ sym (each_port m k (identifier y)));
+      ports = λ m. ap (λ r. r ++ []) (each_port m k var ∙ sym (each_port m k (identifier x)));
       scoped = λ env a. (scoped_same k env a.0 a.1.0, tt);
       symbols = λ u z. omega (arith, ap (times z) (symbols_same k u));
       once = λ a. (once_same k ∙ a.1.0, tt);
@@ -219,6 +245,5 @@ module _ (x y : Name) (right body : Tree) where
 pub each_kept : (k : Each) (before after : Trees) (n w : Tree) (a b : Trees) → Row69 k a b → n ≡ listed (append before (append a after)) → w ≡ listed (append before (append b after)) → KeptAt StatementList n w
 each_kept k before after n w a b r f g =
     let x = resolved r.spelling r.symbol in
-    let y = resolved r.target r.symbol in
     subst (λ t. KeptAt StatementList t w) (sym (f ∙ ap (λ ts. listed (append before (append ts after))) r.shape))
-    (subst (KeptAt StatementList (listed (append before (append (two x y r.right r.body k) after)))) (sym (g ∙ ap (λ ts. listed (append before (append ts after))) r.written)) (stretch_kept before after (two x y r.right r.body k) (one x y r.right r.body k) (stretched_one x y r.right r.body k)))
+    (subst (KeptAt StatementList (listed (append before (append (two x r.right r.body k) after)))) (sym (g ∙ ap (λ ts. listed (append before (append ts after))) r.written)) (stretch_kept before after (two x r.right r.body k) (one x r.right r.body k) (stretched_one x r.right r.body k)))

@@ -7,7 +7,7 @@ use Rattle.mini_model.specs.declared.kind.VariableDeclarationKind.{VariableDecla
 use Rattle.mini_model.specs.declared.name.Name.{Name}
 use Rattle.mini_model.specs.declared.name.SymbolId.{SymbolId}
 use Rattle.mini_model.specs.declared.shape.Shape.TheVariants as shape
-use Rattle.mini_model.specs.Tree.{Tree, Trees, none, ◌▸◌, absent, listed, shape_of}
+use Rattle.mini_model.specs.Tree.{Tree, Trees, none, ◌▸◌, absent, is_absent, listed, shape_of}
 use Rattle.mini_laws.specs.declared.names.Use.{Use}
 use Rattle.mini_laws.specs.declared.names.Use.TheVariants.{Read}
 use Rattle.mini_laws.specs.declared.names.Declared.{Declared}
@@ -45,6 +45,7 @@ use Rattle.mini_rows.proofs.ListKeptDeclarations.{names_if, is_var, declares_as,
 use Rattle.mini_rows.proofs.ListKeptValues.{Opens, Names, or_nothing, stricter_alone}
 use Rattle.mini_rows.proofs.ListKeptHeads.{or_both, both_or, split_bodies}
 use Rattle.mini_rows.proofs.ListKeptKeys as keys
+use Rattle.mini_rows.proofs.WrittenNames.{Nameless, nameless_over}
 
 -- ---- a loop is kept as a `for..in` is
 
@@ -365,23 +366,28 @@ module _ (kind : VariableDeclarationKind) (id : Tree) (ds : Trees) where
       up = λ q r. once_is kind (list d) ∙ once_anywhere [] (0 ∷ []) (list d) (first_up Any Once once_local id d ds (once_given id d ∙ both_empty (early_names (0 ∷ []) id) (early_names (1 ∷ []) d) r.0 (once_anywhere [] (1 ∷ []) d q)) r.1);
     }
 
-    value_scoped : (u : Use) (env : Environment) → Scoped u env (given id e) → Scoped Read env e × Scoped u (env ++ []) id
-    unfolding Scoped scopes_by
-    value_scoped u env a = (subst (λ r. Scoped Read r e) (append-nil (env ++ []) ∙ append-nil env) a.1.1.0, a.1.0)
+    -- what the `id` has, and the declarator itself
+    abbrev NameScoped : Use → Environment → Type 0
+    NameScoped u env = Nameless u env (id ▸ (e ▸ none)) × Scoped u (env ++ []) id
 
-    given_scoped : (u : Use) (env : Environment) → Scoped Read env d → Scoped u (env ++ []) id → Scoped u env (given id d)
+    value_scoped : (u : Use) (env : Environment) → Scoped u env (given id e) → Scoped Read env e × NameScoped u env
     unfolding Scoped scopes_by
-    given_scoped u env q a = (tt, (a, (subst (λ r. Scoped Read r d) (sym (append-nil (env ++ []) ∙ append-nil env)) q, tt)))
+    value_scoped u env a = (subst (λ r. Scoped Read r e) (append-nil (env ++ []) ∙ append-nil env) a.1.1.0, (a.0, a.1.0))
 
-    pub scoped_first : (env : Environment) → Opens (ScopedAs Read env) declares e d
-    scoped_first env =
+    given_scoped : is_absent e ≡ is_absent d → (u : Use) (env : Environment) → Scoped Read env d → NameScoped u env → Scoped u env (given id d)
+    unfolding Scoped scopes_by
+    given_scoped same u env q a = (nameless_over u env id e d same a.0, (a.1, (subst (λ r. Scoped Read r d) (sym (append-nil (env ++ []) ∙ append-nil env)) q, tt)))
+
+    -- both initializers are there
+    pub scoped_first : is_absent e ≡ is_absent d → (env : Environment) → Opens (ScopedAs Read env) declares e d
+    scoped_first same env =
         let u = used Read kind in record {
-          Beside = Scoped u (env ++ []) id × ScopedAs u env AsWholeList (listed ds);
+          Beside = NameScoped u env × ScopedAs u env AsWholeList (listed ds);
           down = λ q.
               let (v, r) = first_down Any (ScopedAs u env) (scoped_local u env) id e ds (scoped_down kind env (list e) q) in
               let (y, b) = value_scoped u env v in
               (y, (b, r));
-          up = λ q r. scoped_up kind env (list d) (first_up Any (ScopedAs u env) (scoped_local u env) id d ds (given_scoped u env q r.0) r.1);
+          up = λ q r. scoped_up kind env (list d) (first_up Any (ScopedAs u env) (scoped_local u env) id d ds (given_scoped same u env q r.0) r.1);
         }
 
     pub same_first : Names (declares e) (declares d)

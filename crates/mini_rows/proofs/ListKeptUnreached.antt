@@ -46,7 +46,7 @@ use Rattle.mini_rows.proofs.ArrangedFolds.{port}
 use Rattle.mini_rows.proofs.ArrangedGather.{concat}
 use Rattle.mini_rows.proofs.ArrangedValues.{Valued}
 use Rattle.mini_rows.proofs.ListKeptValues.{stricter_alone}
-use Rattle.mini_rows.proofs.ListKeptDeclarations.{over, names_if, names_are, body_are, declarations_are, scoped_up as var_scoped_up, symbols_are, inner_is, numbers_are, declared_are, frames_are, bodies_are, once_is, jumps_are}
+use Rattle.mini_rows.proofs.ListKeptDeclarations.{over, used, names_if, names_are, body_are, declarations_are, scoped_up as var_scoped_up, symbols_are, inner_is, numbers_are, declared_are, frames_are, bodies_are, once_is, jumps_are}
 use Rattle.mini_rows.proofs.Enclosing.{Declares as Encloses, enclosed}
 use Rattle.mini_rows.proofs.ListKeptStretch.{first_all, second_all, items_of, of_all, sum_items, sum_shortened, NamesStretched, StretchedBut, fixed_stretched, read_is, stretch_kept_by}
 use Rattle.mini_rows.proofs.UnreachedNames.{hoisted_there}
@@ -78,9 +78,9 @@ bare_numbers : (k : ℕ) (x : Name) → number_times k AsWholeItem (bare x) ≡ 
 unfolding numbers
 bare_numbers k x = refl
 
-bare_symbols : (z : Option SymbolId) (x : Name) → symbol_times Hoisted z AsWholeItem (bare x) ≡ 0
+bare_symbols : (u : Use) (z : Option SymbolId) (x : Name) → symbol_times u z AsWholeItem (bare x) ≡ 0
 unfolding declared_in scopes_by
-bare_symbols z x = refl
+bare_symbols u z x = refl
 
 bare_scoped : (env : Environment) (x : Name) → x.symbol ≡ symbol_of Hoisted x.spelling env → Scoped Hoisted env (bare x)
 unfolding Scoped scopes_by
@@ -153,7 +153,7 @@ module _ (xs : List Name) where
   var_numbers k = ap (count_of k) (numbers_are Var (listed (bare_declarators xs))) ∙ bare_sum (number_times k) (numbers_summed k) (bare_numbers k) xs
 
   pub var_symbols : (u : Use) (z : Option SymbolId) → symbol_times u z AsWholeItem var ≡ 0
-  var_symbols u z = omega (arith, symbols_are u Var z (listed (bare_declarators xs)), bare_sum (symbol_times Hoisted z) (symbols_summed Hoisted z) (bare_symbols z) xs)
+  var_symbols u z = omega (arith, symbols_are u Var z (listed (bare_declarators xs)), bare_sum (symbol_times (used u Var) z) (symbols_summed (used u Var) z) (bare_symbols (used u Var) z) xs)
 
   pub var_scoped : (env : Environment) → NamesScoped Hoisted env xs → ScopedAs Read env AsWholeItem var
   var_scoped env a = var_scoped_up Var env (listed (bare_declarators xs)) (list_of Any (ScopedAs Hoisted env) (scoped_local Hoisted env) (bare_declarators xs) (all_scoped env xs a))

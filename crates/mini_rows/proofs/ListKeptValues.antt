@@ -5,14 +5,14 @@ use Rattle.std.proofs.lemmas.List.{append-nil}
 use Rattle.std.proofs.lemmas.List.Elements.{Contains-append_cases}
 use Rattle.mini_model.specs.declared.name.Name.{Name}
 use Rattle.mini_model.specs.declared.shape.Shape.TheVariants as shape
-use Rattle.mini_model.specs.Tree.{Tree, none, ◌▸◌, absent}
+use Rattle.mini_model.specs.Tree.{Tree, none, ◌▸◌, absent, is_absent}
 use Rattle.mini_laws.specs.declared.names.Use.{Use}
 use Rattle.mini_laws.specs.declared.names.Use.TheVariants.{Read}
 use Rattle.mini_laws.specs.declared.names.Declared.{Declared}
 use Rattle.mini_laws.specs.declared.names.Targets.{Targets}
 use Rattle.mini_laws.specs.DeclaredNames.{has_inner, names_of, body_names}
 use Rattle.mini_laws.specs.Scopes.{scopes_by}
-use Rattle.mini_laws.specs.Resolved.{Environment}
+use Rattle.mini_laws.specs.Resolved.{Environment, symbol_of, gives_value}
 use Rattle.mini_laws.specs.Scoped.{Scoped}
 use Rattle.mini_laws.specs.Symbols.{declared as declared_in}
 use Rattle.mini_laws.specs.Early.{scope_declarations, early_names, targets_of, early_jumps}
@@ -29,6 +29,7 @@ use Rattle.mini_rows.specs.Lists.{binding, declarator}
 use Rattle.mini_rows.specs.Sketches.{Asked, AsWholeItem, AsValue}
 use Rattle.mini_rows.proofs.ArrangedBodies.{quiet, Among}
 use Rattle.mini_rows.proofs.ArrangedFolds.{port}
+use Rattle.mini_rows.proofs.WrittenNames.{Nameless, nameless_by}
 
 -- ---- what holds of a statement, and of an expression in it and what stands beside that
 
@@ -106,9 +107,13 @@ module _ (x : Name) (value : Tree) where
   unfolding early_jumps targets_of
   jumps_value g = append-nil (early_jumps g (1 ∷ []) value)
 
-  pub scoped_value : (u : Use) (env : Environment) → Scoped u env bare → Scoped Read env value → Scoped u env given
+  -- where the value is given to the innermost variable of the name
+  pub scoped_value : (u : Use) (env : Environment) → (gives_value u (is_absent value) ≡ true → x.symbol ≡ symbol_of Read x.spelling env) → Scoped u env bare → Scoped Read env value → Scoped u env given
   unfolding Scoped scopes_by
-  scoped_value u env a b = (a.0, (a.1.0, (subst (λ r. Scoped Read r value) (sym (append-nil (env ++ []) ∙ append-nil env)) b, tt)))
+  scoped_value u env w a b =
+      let own : x.symbol ≡ symbol_of u x.spelling env = a.1.0.0.0 ∙ ap (symbol_of u x.spelling) (append-nil env) in
+      let none_own : Nameless u env (binding x ▸ (value ▸ none)) = nameless_by u env x (gives_value u (is_absent value)) own w in
+      (none_own, (a.1.0, (subst (λ r. Scoped Read r value) (sym (append-nil (env ++ []) ∙ append-nil env)) b, tt)))
 
   pub among_value : (all : List Name) → Among all (names_declared bare) → Among all (names_declared value) → Among all (names_declared given)
   among_value all a b y c = by (Contains-append_cases (x ∷ []) (names_declared value) y (subst (λ r. Contains r y) declared_value c))

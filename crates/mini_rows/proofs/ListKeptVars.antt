@@ -32,8 +32,9 @@ use Rattle.mini_rows.proofs.Arranging.{Any, sum_all}
 use Rattle.mini_rows.proofs.ArrangedNames.{ScopedAs, symbol_times, number_times, InnerIf, inner_local, Once, Aimed}
 use Rattle.mini_rows.proofs.ArrangedBodies.{HasBodies, HasFrames, Declares, FixedBy, fixed_local}
 use Rattle.mini_rows.proofs.ListKeptStretch.{NamesStretched, Stretched, stretch_kept}
-use Rattle.mini_rows.proofs.ListKeptDeclarations.{over, symbols_are, names_one as declarations_named, stretched_one as declarations_stretched}
+use Rattle.mini_rows.proofs.ListKeptDeclarations.{over, names_one as declarations_named, stretched_one as declarations_stretched}
 use Rattle.mini_rows.proofs.ListKeptHeads.{nothing_there, Seat, Loop, seated, rest, inner_down, inner_up, fixed_down, fixed_up, declares_down, declares_up, frames_down, frames_up, bodies_down, bodies_up, numbers_beside, aimed_down, aimed_up, Unlexical, once_down, once_up, scoped_down, scoped_up, symbols_beside, seated_symbols, hoisted_beside, seated_body, seated_as_body, seated_port, seated_calm}
+use Rattle.mini_rows.proofs.StatementUses.{same_symbols}
 
 -- ---- a `var`
 
@@ -58,7 +59,7 @@ var_as_body o ds = refl
 
 -- its symbols are hoisted, however its names are used around
 var_symbols : (u : Use) (x : Option SymbolId) (ds : Trees) → times x (declared_in u (var ds)) ≡ times x (declared_in Read (var ds))
-var_symbols u x ds = symbols_are u Var x (listed ds) ∙ sym (symbols_are Read Var x (listed ds))
+var_symbols u x ds = ap (times x) (same_symbols (var ds) refl u Read)
 
 -- ---- what was declared before the loop and in its head, and is declared there now
 

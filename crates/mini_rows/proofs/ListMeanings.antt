@@ -420,18 +420,18 @@ stretch_after t x y h = subst (λ z. SameStretch (t ▸ z) (t ▸ y)) (with_none
 
 row_70 : (a b : Trees) → Row70 a b → SameStretch a b
 row_70 a b r =
-    let old = without_value r.ds r.spelling r.target r.symbol r.es r.value in
-    let new = with_value r.ds r.spelling r.target r.symbol r.es r.value in
-    let whole = begun r.beginning (assigned (resolved r.target r.symbol) r.value) in
-    let alone = expression_statement (assigned (resolved r.target r.symbol) r.value) in
+    let old = without_value r.ds r.spelling r.spelling r.symbol r.es r.value in
+    let new = with_value r.ds r.spelling r.spelling r.symbol r.es r.value in
+    let whole = begun r.beginning (assigned (resolved r.spelling r.symbol) r.value) in
+    let alone = expression_statement (assigned (resolved r.spelling r.symbol) r.value) in
     let left = begun_without r.beginning in
-    let apart : SameStretch (old ▸ (whole ▸ none)) (old ▸ (alone ▸ left)) = stretch_after old _ _ (back_same (alone ▸ left) (whole ▸ none) (begun_same r.beginning (resolved r.target r.symbol) r.value r.parts)) in
-    let entered : SameStretch (old ▸ (alone ▸ left)) (new ▸ left) = in_list none (old ▸ (alone ▸ none)) (new ▸ none) left (assignment_enters r.ds r.spelling r.target r.symbol r.es r.value r.bare r.plain) in
+    let apart : SameStretch (old ▸ (whole ▸ none)) (old ▸ (alone ▸ left)) = stretch_after old _ _ (back_same (alone ▸ left) (whole ▸ none) (begun_same r.beginning (resolved r.spelling r.symbol) r.value r.parts)) in
+    let entered : SameStretch (old ▸ (alone ▸ left)) (new ▸ left) = in_list none (old ▸ (alone ▸ none)) (new ▸ none) left (assignment_enters r.ds r.spelling r.spelling r.symbol r.es r.value r.bare r.plain) in
     replaced a _ b _ r.shape r.written (then_same _ _ _ apart entered)
 
 -- `var a; for (a of b) c`
 row_69 : (k : Each) (a b : Trees) → Row69 k a b → SameStretch a b
-row_69 k a b r = replaced a _ b _ r.shape r.written (each_enters k r.spelling r.target r.symbol r.right r.body)
+row_69 k a b r = replaced a _ b _ r.shape r.written (each_enters k r.spelling r.spelling r.symbol r.right r.body)
 
 neighbours_same : (o : Switches) (a b : Trees) → NeighbourRow o a b → SameStretch a b
 neighbours_same o a b (inl r) = stretch_same o a b r

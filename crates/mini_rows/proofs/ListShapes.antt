@@ -516,9 +516,9 @@ module _ (strict : Bool) where
 
   pub neighbours_fit : (o : Switches) (a b : Trees) → NeighbourRow o a b → Fitting a b
   neighbours_fit o a b (inl r) = stretch_fits o a b r
-  neighbours_fit o a b (inr (inr (inr (inl r)))) = like r.shape r.written (each_fit EachOf (resolved r.spelling r.symbol) (resolved r.target r.symbol) r.right r.body)
-  neighbours_fit o a b (inr (inr (inr (inr r)))) = like r.1.shape r.1.written (each_fit EachIn (resolved r.1.spelling r.1.symbol) (resolved r.1.target r.1.symbol) r.1.right r.1.body)
-  neighbours_fit o a b (inr (inr (inl r))) = like r.shape r.written (begun_fit Var r.ds (resolved r.spelling r.symbol) (resolved r.target r.symbol) r.es r.value r.beginning r.plain r.parts)
+  neighbours_fit o a b (inr (inr (inr (inl r)))) = like r.shape r.written (each_fit EachOf (resolved r.spelling r.symbol) (resolved r.spelling r.symbol) r.right r.body)
+  neighbours_fit o a b (inr (inr (inr (inr r)))) = like r.1.shape r.1.written (each_fit EachIn (resolved r.1.spelling r.1.symbol) (resolved r.1.spelling r.1.symbol) r.1.right r.1.body)
+  neighbours_fit o a b (inr (inr (inl r))) = like r.shape r.written (begun_fit Var r.ds (resolved r.spelling r.symbol) (resolved r.spelling r.symbol) r.es r.value r.beginning r.plain r.parts)
   neighbours_fit o a b (inr (inl (s, inl r))) = like r.shape r.written (guards_fit r.left r.right r.s r.u)
   neighbours_fit o a b (inr (inl (s, inr (inl r)))) = like r.shape r.written (λ d e. just d r.first (two_of d r.first (says r.saying r.e) e).0)
   neighbours_fit o a b (inr (inl (s, inr (inr (inl r))))) = like r.shape r.written (λ d e. just d r.first (two_of d r.first (leap r.leaping) e).0)

@@ -437,7 +437,7 @@ value_falls kind ds x y k es value b =
     record { lighter = omega (arith, begins, rises); chosen = inl refl; some = λ e. omega (arith, e) }
 
 row_70 : (a b : Trees) → Row70 a b → Falls a b
-row_70 a b r = replaced a _ b _ r.shape r.written (value_falls Var r.ds r.spelling r.target r.symbol r.es r.value r.beginning)
+row_70 a b r = replaced a _ b _ r.shape r.written (value_falls Var r.ds r.spelling r.spelling r.symbol r.es r.value r.beginning)
 
 -- `var a; for (a of b) c`
 
@@ -446,7 +446,7 @@ each_falls EachIn x y right body = omega arith
 each_falls EachOf x y right body = omega arith
 
 row_69 : (k : Each) (a b : Trees) → Row69 k a b → Falls a b
-row_69 k a b r = replaced a _ b _ r.shape r.written (record { lighter = each_falls k (resolved r.spelling r.symbol) (resolved r.target r.symbol) r.right r.body; chosen = inl refl; some = λ e. omega (arith, e) })
+row_69 k a b r = replaced a _ b _ r.shape r.written (record { lighter = each_falls k (resolved r.spelling r.symbol) (resolved r.spelling r.symbol) r.right r.body; chosen = inl refl; some = λ e. omega (arith, e) })
 
 sequences_fall : (a b : Trees) → SequencesRow a b → Falls a b
 sequences_fall a b (inl r) = row_66_joined a b r

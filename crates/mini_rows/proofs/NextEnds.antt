@@ -86,7 +86,7 @@ module _ (s : List ℕ) (k : ℕ) (n w : Tree) (r : ReadNext s k n w) where
   -- ---- what it keeps
 
   leaves : LeavesThere x (d ▸ none) (v ▸ none)
-  leaves = next_leaves Var x k refl r.first r.init r.binds r.value r.last r.once r.earlier r.initial r.other r.later
+  leaves = next_leaves Var x k refl r.first r.init r.binds r.value r.last r.once r.earlier r.initial r.other r.later r.moves
 
   declares : DeclaresThere x (d ▸ none) (v ▸ none)
   declares = next_declares Var x k refl r.first r.init r.binds r.value r.last r.once r.earlier r.initial r.other r.later

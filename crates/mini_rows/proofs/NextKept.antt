@@ -6,7 +6,7 @@ use Rattle.mini_model.specs.declared.kind.VariableDeclarationKind.{VariableDecla
 use Rattle.mini_model.specs.declared.name.Name.{Name}
 use Rattle.mini_model.specs.declared.name.SymbolId.{SymbolId}
 use Rattle.mini_model.specs.declared.shape.Shape.TheVariants as shape
-use Rattle.mini_model.specs.Tree.{Tree, Trees, none, ◌▸◌, listed, identifier}
+use Rattle.mini_model.specs.Tree.{Tree, Trees, none, ◌▸◌, listed, identifier, is_absent}
 use Rattle.mini_model.specs.Paths.{append}
 use Rattle.mini_laws.specs.declared.names.Declared.TheVariants as declared
 use Rattle.mini_laws.specs.declared.names.Targets.{Targets}
@@ -48,9 +48,11 @@ use Rattle.mini_rows.proofs.ArrangedBodies.{split_bodies, split_frames, split_na
 use Rattle.mini_rows.proofs.DeclaredKept.{none_in, made, scoped_left, symbols_down, symbols_left, numbers_left, inner_left, inner_down, inner_up, inner_list, once_left, once_down, targets_left, targets_down, frames_left, bodies_left, declares_left, fixed_left, fixed_list, unmentioned_left, lexical_names, lexical_names_left, hoists_nothing, hoists_nothing_left, body_names_left, clash_less}
 use Rattle.mini_rows.proofs.ListKeptDeclarations.{split_rank, both_rank, all_both, is_var, body_are, lets, own_fixed, own_both_fixed, fixed_down, fixed_up, either_up, either_down, declarations_are, used, scoped_down, numbers_are, declared_are, frames_are, bodies_are}
 use Rattle.mini_rows.proofs.ListKeptStretch.{stretched, sum_stretched}
-use Rattle.mini_rows.proofs.SingleUse.{Step, led, Well, Path, path, swapped, taken, swapped_sum, unnamed, found, swapped_back}
+use Rattle.mini_rows.proofs.SingleUse.{Step, led, Well, Path, path, swapped, taken, swapped_sum, unnamed, found, swapped_back, both_there, plain_there}
 use Rattle.mini_rows.proofs.UnusedKept.{LeavesThere, NamesThere, DeclaresThere, alone_stricter}
 use Rattle.mini_rows.proofs.UnusedNames.{Other, all_other}
+use Rattle.mini_terms.specs.Reading.{is_plain_part}
+use Rattle.mini_rows.proofs.WrittenNames.{nameless_over}
 
 or_nothing : (b : Bool) → (b || false) ≡ b
 or_nothing true = refl
@@ -143,9 +145,10 @@ module _ (id v : Tree) where
     pub bodies_other : (all : List Body) (r : Around) → HasBodies all r AsWholeItem (given id v) → HasBodies all r AsValue t → HasBodies all r AsWholeItem (declarator id t)
     bodies_other all r q p = both_bodies all (bodies (quiet r) id) (bodies (quiet r) t ++ []) (split_bodies all (bodies (quiet r) id) (bodies (quiet r) v ++ []) q).0 (subst (BodiesKept all) (sym (append-nil (bodies (quiet r) t))) p)
 
-    pub scoped_other : (u : Use) (env : Environment) → Scoped u env (given id v) → Scoped Read env t → Scoped u env (declarator id t)
+    -- where both are there
+    pub scoped_other : is_absent v ≡ is_absent t → (u : Use) (env : Environment) → Scoped u env (given id v) → Scoped Read env t → Scoped u env (declarator id t)
     unfolding Scoped scopes_by
-    scoped_other u env a b = (a.0, (a.1.0, (subst (λ r. Scoped Read r t) (sym (append-nil (env ++ []) ∙ append-nil env)) b, tt)))
+    scoped_other same u env a b = (nameless_over u env id v t same a.0, (a.1.0, (subst (λ r. Scoped Read r t) (sym (append-nil (env ++ []) ∙ append-nil env)) b, tt)))
 
     pub once_other : Once AsWholeItem (given id v) → Once AsValue t → Once AsWholeItem (declarator id t)
     unfolding early_names scope_declarations
@@ -235,12 +238,13 @@ module _ (K : VariableDeclarationKind) (x : Name) (k : ℕ) (e : x.symbol ≡ sy
   abbrev later : Trees
   later = declared_left K left ▸ none
 
-  pub there_leaves : LeavesThere x earlier later
+  -- where the initializer is there
+  pub there_leaves : is_absent init ≡ false → LeavesThere x earlier later
   unfolding Unmentioned
-  there_leaves = record {
+  there_leaves some = record {
     inner = λ b a. (inner_left K b left (shorter Any (InnerIf b) (inner_local b) (λ d v q. inner_value d v b q) (λ q p. inner_other id value put b q p) (inner_down K b whole a.0)), tt);
     inner_back = λ b a. (inner_up K b whole (longer Any (InnerIf b) (inner_local b) (λ d v q. inner_value d v b q) (inner_alone x init b) (λ q p. inner_other id put value b q p) (no_inner b) (inner_list K b left a.0)), tt);
-    scoped = λ env a. (scoped_left K env left (shorter Any (ScopedAs (used Read K) env) (scoped_local (used Read K) env) (λ d v q. scoped_value d v (used Read K) env q) (λ q p. scoped_other id value put (used Read K) env q p) (scoped_down K env (listed whole) a.0)), tt);
+    scoped = λ env a. (scoped_left K env left (shorter Any (ScopedAs (used Read K) env) (scoped_local (used Read K) env) (λ d v q. scoped_value d v (used Read K) env q) (λ q p. scoped_other id value put (both_there ss init r some) (used Read K) env q p) (scoped_down K env (listed whole) a.0)), tt);
     unmentioned = (unmentioned_left K x k e left (none_in x first (given id put ▸ last) f g), tt);
     symbols = λ z. let parts = fewer (symbol_times (used Read K) z) (symbols_summed (used Read K) z) (λ d. times z (declared_in (use_of shape.VariableDeclarator (used Read K) 0) d)) (λ d v. symbol_sum (used Read K) z d v) in omega (arith, parts, symbols_down K z whole, symbols_left K z left);
     numbered = λ n. let parts = fewer (number_times n) (numbers_summed n) (λ d. count_of n (numbers d)) (λ d v. number_sum n d v) in omega (arith, parts, ap (count_of n) (numbers_are K (listed whole)), numbers_left K n left);
@@ -333,8 +337,8 @@ module _ (K : VariableDeclarationKind) (x : Name) (k : ℕ) (e : x.symbol ≡ sy
   along : (P : Trees → Trees → Type 0) → P (made K (append first (given (binding x) init ▸ (given id (found p.steps (identifier p.read)) ▸ last))) ▸ none) (declared_left K (append first (given id (led p.steps init) ▸ last)) ▸ none) → P with_it without_it
   along P h = subst₂ P (λ j. made K (append first (given (binding x) init ▸ (given id (sym p.is j) ▸ last))) ▸ none) ((λ j. declared_left K (append first (given id (sym (p.puts init) j) ▸ last)) ▸ none) ∙ ap (λ d. d ▸ none) (left_is K first (given id (put_first x init value)) last)) h
 
-  pub next_leaves : LeavesThere x with_it without_it
-  next_leaves = along (LeavesThere x) (there_leaves K x k e first init id last p.steps p.well p.read f unnamed_there)
+  pub next_leaves : is_plain_part init ≡ true → LeavesThere x with_it without_it
+  next_leaves plain = along (LeavesThere x) (there_leaves K x k e first init id last p.steps p.well p.read f unnamed_there (plain_there init plain))
 
   pub next_names : is_lexical K ≡ true → NamesThere x with_it without_it
   next_names l = along (NamesThere x) (there_names K x k e first init id last p.steps p.well p.read f unnamed_there l)

@@ -43,6 +43,7 @@ use Rattle.mini_kept.proofs.Fixed.{step_fixed}
 use Rattle.mini_kept.proofs.FrameRows.{expression_slot}
 use Rattle.mini_kept.proofs.FrameSteps.{kept_are_shown}
 use Rattle.mini_kept.proofs.Loosely.{steady_join}
+use Rattle.mini_kept.proofs.Initializers.{init_stays}
 use Rattle.mini_kept.proofs.Stepping.{step_keeps}
 use Rattle.mini_kept.proofs.Steps.{any_step_fits}
 use Rattle.mini_kept.proofs.WithoutLists.{each_under, itself_under}
@@ -132,7 +133,7 @@ module _ (F : OwnRows) (keeps : (V : Assured) → KeepsOwn V (F V)) (S : BodySet
   whole_fits strict c z e = any_step_fits Q own.names own.shapes whole strict c z e
 
   whole_keeps : (strict : Bool) (c : Slot) → fits_place p c ≡ true → fits strict c f ≡ true → KeepsLoosely p f f'
-  whole_keeps strict c z e = step_keeps Q own.names whole strict c z e
+  whole_keeps strict c z e = step_keeps Q own.names (init_stays Q own.shapes) whole strict c z e
 
   whole_declares : (x : Name) → Contains (declared f') x → Contains (declared f) x
   whole_declares = reaches_declared Q own.declared (more p f f' f' whole (done p f'))

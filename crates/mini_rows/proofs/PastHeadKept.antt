@@ -125,7 +125,7 @@ module _ {options : Switches} (V : Assured) (test update body before after : Tre
   -- ---- it loses the name
 
   leaves : LeavesThere x (d ▸ none) (w ▸ none)
-  leaves = next_leaves r.kind x r.symbol refl r.first r.init r.binds r.value r.last r.once r.declared_earlier r.initial r.other r.declared_later
+  leaves = next_leaves r.kind x r.symbol refl r.first r.init r.binds r.value r.last r.once r.declared_earlier r.initial r.other r.declared_later (movable options r.init r.moves)
 
   named : NamesThere x (d ▸ none) (w ▸ none)
   named = next_names r.kind x r.symbol refl r.first r.init r.binds r.value r.last r.once r.declared_earlier r.initial r.other r.declared_later (lexical_alone r.kind r.goes)

@@ -14,7 +14,7 @@ use Rattle.mini_model.specs.declared.operator.UnaryOperator.TheVariants.{Logical
 use Rattle.mini_model.specs.declared.operator.UpdateOperator.{UpdateOperator}
 use Rattle.mini_model.specs.declared.shape.Shape.{Shape}
 use Rattle.mini_model.specs.declared.shape.Shape.TheVariants as shape
-use Rattle.mini_model.specs.Tree.{Tree, Trees, node, none, ◌▸◌, listed, children, identifier, shape_of}
+use Rattle.mini_model.specs.Tree.{Tree, Trees, node, none, ◌▸◌, listed, children, identifier, shape_of, is_absent_shape, is_absent}
 use Rattle.mini_model.specs.Paths.{append}
 use Rattle.mini_model.specs.Weight.{same_text}
 use Rattle.mini_laws.specs.Naming.{summary, summaries, summary_of}
@@ -23,7 +23,7 @@ use Rattle.mini_laws.specs.Symbols.{is_same}
 use Rattle.mini_node.specs.Children.{part, is_bare, rest_children}
 use Rattle.mini_node.specs.Kinds.{is_identifier}
 use Rattle.mini_terms.specs.Folds.{is_effect_free}
-use Rattle.mini_terms.specs.Reading.{is_typed_by_value}
+use Rattle.mini_terms.specs.Reading.{is_plain_part, is_typed_by_value}
 use Rattle.mini_rows.specs.Sketches.{Head, AList, Update, target_asked, AsTarget, AsUpdated, Array, Unary, Binary, Logical, Conditional, Sequence, Call, New, StaticMember, ComputedMember, Chain, Yield, Object, Property, Spread, Interpolation, Assignment, OfExpression, Throw, Return, If, shape_by, Asked, AsWholeItem, AsValue, AsValues, asked_below, Leap}
 use Rattle.mini_rows.specs.Lists.{declaration, for_loop, is_var_shape, Each, EachIn, EachOf, each_loop}
 use Rattle.mini_rows.specs.Declarations.{declarator}
@@ -189,6 +189,26 @@ ends_short s ss = s.is_short && is_end ss
 abbrev pub found : List Step → Tree → Tree
 found [] u = u
 found (s ∷ ss) u = node (shape_by (found_head (ends_short s ss) s.lead)) [] 0 (append (before s.lead) (found ss u ▸ s.rest))
+
+-- neither is absent
+head_there : (l : Lead) → is_absent_shape (shape_by (head_of l)) ≡ false
+head_there Not = refl
+head_there l = refl
+
+led_there : (ss : List Step) (u : Tree) → is_absent u ≡ false → is_absent (led ss u) ≡ false
+led_there [] u e = e
+led_there (s ∷ ss) u e = head_there s.lead
+
+found_there : (ss : List Step) (u : Tree) → is_absent u ≡ false → is_absent (found ss u) ≡ false
+found_there [] u e = e
+found_there (s ∷ ss) u e = by_front (λ l h. is_absent_shape (shape_by h) ≡ false) head_there (λ a k. refl) (ends_short s ss) s.lead
+
+pub both_there : (ss : List Step) (u : Tree) (r : Name) → is_absent u ≡ false → is_absent (found ss (identifier r)) ≡ is_absent (led ss u)
+both_there ss u r e = found_there ss (identifier r) refl ∙ sym (led_there ss u e)
+
+pub plain_there : (t : Tree) → is_plain_part t ≡ true → is_absent t ≡ false
+plain_there (node shape.Absent xs n ts) e = absurd (true≢false (sym e))
+plain_there (node h xs n ts) e = refl
 
 -- it stands there
 abbrev pub Stands : Asked → Lead → Bool → Type 0

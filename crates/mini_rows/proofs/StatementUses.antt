@@ -1,6 +1,6 @@
 -- A statement that isn't scoped uses names in one way, whether it stands in a list or alone, and declares the same symbols
 -- however it is used.
-use Rattle.std.specs.Prelude.{ℕ, zero, suc, ◌≡◌, refl, ◌×◌, ◌⊎◌, Bool, true, false, List, [], ◌++◌}
+use Rattle.std.specs.Prelude.{ℕ, zero, suc, ◌≡◌, refl, ◌⊎◌, Bool, true, false, List, [], ◌++◌}
 use Rattle.std.proofs.Common.{inl, inr, ap, ◌∙◌, sym}
 use Rattle.mini_model.specs.declared.kind.VariableDeclarationKind.{VariableDeclarationKind}
 use Rattle.mini_model.specs.declared.kind.VariableDeclarationKind.TheVariants.{Var, Let, Const}

@@ -260,7 +260,7 @@ module _ (W : VariableSet) (K : VariableDeclarationKind) (s : List ℕ) (k : ℕ
       let w = declaration K (append first (declarator binds (put_first x init value) ▸ last)) in
       let avoids_last = all_avoided x k refl last later in
       record {
-        leaves = next_leaves K x k refl first init binds value last once earlier initial other later;
+        leaves = next_leaves K x k refl first init binds value last once earlier initial other later moves;
         declares = next_declares K x k refl first init binds value last once earlier initial other later;
         read = read_alone k d w (next_read K s k first last init binds value (put_first x init value));
         same = λ e u. next_same e s k u.unseen K init binds value last moves once passed (avoided x k refl binds other) avoids_last (may_write W K e k goes u) first;

@@ -22,12 +22,11 @@ pub record Row70Let (W : VariableSet) (a b : Trees) : Type 0 where
   pub ds : Trees
   pub spelling : List ℕ
   pub symbol : ℕ
-  pub target : List ℕ
   pub value : Known
   pub beginning : Beginning
   pub writable : W (Declared symbol) ≡ true
   pub parts : begins_well beginning ≡ true
-  pub shape : a ≡ declaration Let (append ds (declarator (binding (resolved spelling symbol)) absent ▸ none)) ▸ (begun beginning (assigned (resolved target symbol) (known value)) ▸ none)
+  pub shape : a ≡ declaration Let (append ds (declarator (binding (resolved spelling symbol)) absent ▸ none)) ▸ (begun beginning (assigned (resolved spelling symbol) (known value)) ▸ none)
   pub written : b ≡ declaration Let (append ds (declarator (binding (resolved spelling symbol)) (known value) ▸ none)) ▸ begun_without beginning
 
 -- either row

@@ -605,13 +605,12 @@ pub record Row70 (a b : Trees) : Type 0 where
   pub spelling : List ℕ
   pub symbol : ℕ
   pub es : Trees
-  pub target : List ℕ
   pub value : Tree
   pub beginning : Beginning
   pub bare : are_bare_declarators es ≡ true
   pub plain : declares_nothing value ≡ true
   pub parts : begins_well beginning ≡ true
-  pub shape : a ≡ declaration Var (append ds (declarator (binding (resolved spelling symbol)) absent ▸ es)) ▸ (begun beginning (assigned (resolved target symbol) value) ▸ none)
+  pub shape : a ≡ declaration Var (append ds (declarator (binding (resolved spelling symbol)) absent ▸ es)) ▸ (begun beginning (assigned (resolved spelling symbol) value) ▸ none)
   pub written : b ≡ declaration Var (append ds (declarator (binding (resolved spelling symbol)) value ▸ es)) ▸ begun_without beginning
 
 -- `var x`
@@ -622,10 +621,9 @@ bare_var x = declaration Var (declarator (binding x) absent ▸ none)
 pub record Row69 (k : Each) (a b : Trees) : Type 0 where
   pub spelling : List ℕ
   pub symbol : ℕ
-  pub target : List ℕ
   pub right : Tree
   pub body : Tree
-  pub shape : a ≡ bare_var (resolved spelling symbol) ▸ (each_loop k (identifier (resolved target symbol)) right body ▸ none)
+  pub shape : a ≡ bare_var (resolved spelling symbol) ▸ (each_loop k (identifier (resolved spelling symbol)) right body ▸ none)
   pub written : b ≡ each_loop k (bare_var (resolved spelling symbol)) right body ▸ none
 
 -- Rows at the end of a list after which a jump would go where the list does: a function's body, after which it returns

@@ -68,10 +68,10 @@ pub fn fits_in(part: &Node, whole: &Node) -> bool
     is_shallow(part, 250) && is_shallow(whole, 250)
 }
 
-/// How much deeper a row nests what it writes than what it reads, where what it writes may be more
-/// than 500 nodes deep. Row 42, row 74, and row 75 with a block put nothing deeper. Row 73, and row
-/// 75 with a turned test, put a test deeper by one node. A tree into which row 71 puts an
-/// initializer nests at most 500 nodes deep.
+/// How deep rows nest what they write. Where what is read nests at most k nodes deep, and k is at
+/// least 503, what row 42, row 74, and row 75 with a block write nests at most k deep, and what row
+/// 73, and row 75 with a turned test write at most one deeper. A tree into which row 71 has put an
+/// initializer nests at most 500 deep.
 pub fn rows_keep_their_depth()
     ensures returns { DeeperByOne (Row73 return_statement) }
     ensures throws { DeeperByOne (Row73 throw_statement) }

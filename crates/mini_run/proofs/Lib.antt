@@ -1,7 +1,6 @@
 pub mod AnyOrder
 pub mod Filled
 pub mod Known
-pub mod Moves
 pub mod Named
 pub mod Reading
 pub mod Sizes

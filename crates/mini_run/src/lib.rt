@@ -8,6 +8,7 @@ mod generated;
 mod laws;
 mod memory;
 mod outside;
+mod plain;
 mod steps;
 mod words;
 
@@ -17,5 +18,6 @@ pub use generated::{generate, generated_fit};
 pub use laws::{no_option_stands_twice, words_name_one_choice, words_stand_in_any_order};
 pub use memory::{MemSink, MemSource};
 pub use outside::{Failed, LIMIT, Sink, Source, Stopped, read_all, write_all};
+pub use plain::{PlainSink, PlainSource};
 pub use steps::Steps;
 pub use words::Words;

@@ -1,12 +1,13 @@
 // A source and a sink in memory, for tests.
 
-ghost use Rattle.std.specs.Prelude.{◌≡◌, ◌↔◌, ◌⊎◌, ◌+◌, ◌-◌, ◌<◌, ◌≤◌, ◌++◌, [], ℕ, List, Some, Ok, IsTrue, IfOk, OnErr, IsErr, length, take, drop, true, false};
+ghost use Rattle.std.specs.Prelude.{◌≡◌, ◌↔◌, ◌⊎◌, ◌+◌, ◌-◌, ◌<◌, ◌≤◌, ◌++◌, [], ℕ, List, Some, Ok, IsTrue, IfOk, OnErr, IsErr, length, take, true, false};
 ghost use Rattle.std.specs.Io.{ReadsAtMost, WritesAtMost};
 ghost use Rattle.std.specs.Io.KnownBytes.{ReadConsumes, WriteAppends};
 ghost use Rattle.mini_run.specs.Causes.{Rose, HasCause};
 ghost use Rattle.mini_run.specs.Memory.{IsListed, after_call, after_fault, moved, after_read, after_failed_read, after_failed_write};
 
 use crate::outside::{Failed, Sink, Source};
+use crate::plain::PlainSource;
 use mini_model::OutOfMemory;
 use std::alloc::Global;
 use std::marker::Model;
@@ -77,20 +78,16 @@ impl Plan {
 /// moves at most `limit` bytes, or 1.
 #[derive(Drop)]
 pub struct MemSource {
-    bytes: Vec<u8>,
-    at: usize,
+    rest: PlainSource,
     plan: Plan,
 }
 
 impl Model for MemSource {
-    ghost use Rattle.std.specs.Prelude.{◌≤◌, length, drop};
     ghost use Rattle.mini_run.specs.Memory.{Supply};
 
     ghost Value = { Supply };
 
-    ghost view = { λ source. record { left = drop source.at source.bytes.items; schedule = source.plan } };
-
-    ghost invariant = { λ source. source.at ≤ length source.bytes.items };
+    ghost view = { λ source. record { left = source.rest; schedule = source.plan } };
 }
 
 impl MemSource {
@@ -100,8 +97,7 @@ impl MemSource {
         ensures { result ≡ record { left = bytes.items; schedule = record { limit = limit; fails = fails.items; calls = 0; faults = 0 } } }
     {
         MemSource {
-            bytes,
-            at: 0,
+            rest: PlainSource::new(bytes),
             plan: Plan::new(limit, fails),
         }
     }
@@ -110,17 +106,8 @@ impl MemSource {
     pub fn left(&self) -> &[u8]
         ensures { result.now ≡ self.now.left }
     {
-        &self.bytes[self.at..]
+        self.rest.left()
     }
-}
-
-// Copies the front of the bytes.
-fn copy_front(piece: &mut [u8], bytes: &[u8], count: usize)
-    requires room { count ≤ length piece.old }
-    requires there { count ≤ length bytes.now }
-    ensures { take count piece.new ≡ take count bytes.now }
-{
-    piece[..count].copy_from_slice(&bytes[..count]);
 }
 
 impl Source for MemSource {
@@ -143,10 +130,8 @@ impl Source for MemSource {
         if fails {
             return Err(Failed);
         }
-        let count = self.plan.moved(piece.len(), self.bytes.len() - self.at);
-        copy_front(piece, &self.bytes[self.at..], count);
-        self.at += count;
-        Ok(count)
+        let count = self.plan.moved(piece.len(), self.rest.left().len());
+        self.rest.read(&mut piece[..count])
     }
 }
 

@@ -57,8 +57,8 @@ fn first_of(paths: Vec<Path>) -> Option<Path>
 }
 
 /// Looks for an early error of a program (ECMA-262, "Static Semantics: Early Errors"). `Name` comes
-/// with the first name, in preorder, that is declared twice; else `Jump` with the first jump
-/// without a target; `OutOfMemory` for want of memory.
+/// with the first name that is declared twice; else `Jump` with the first jump without a target;
+/// `OutOfMemory` for want of memory.
 pub fn check_early(alloc: Global, program: &Node) -> Result<(), EarlyError>
     ensures ok { OnOk result (IsFree program.now) }
     ensures err { IfErr result (Stands program.now) }

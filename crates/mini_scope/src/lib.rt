@@ -22,7 +22,7 @@ pub use check::{EarlyError, check_early};
 pub use declared::{copy_text, has_inner, push_body_names, push_names};
 pub use distinct::add_all;
 pub use environment::Environment;
-pub use numbering::{resolve_node, resolve_program};
+pub use numbering::{gives_value, is_declarator, resolve_node, resolve_program};
 pub use opening::{OpenScopes, is_leaf};
 pub use pointer::under_path;
 pub use refusing::refuse_early;

@@ -25,8 +25,8 @@ fn give_symbol(environment: &Environment, usage: Use, node: &mut Node)
     }
 }
 
-// Whether a declarator that is used like this gives its name a value.
-fn gives_value(usage: Use, has_no_init: bool) -> bool
+/// Whether a declarator that is used like this gives its name a value.
+pub fn gives_value(usage: Use, has_no_init: bool) -> bool
     ensures { result ≡ is_given usage has_no_init }
 {
     match usage {
@@ -105,7 +105,8 @@ fn written_name(
     }
 }
 
-fn is_declarator(node: &Node) -> bool
+/// Whether a node is a declarator.
+pub fn is_declarator(node: &Node) -> bool
     ensures { result ≡ is_declarator_shape (shape_of node.now) }
 {
     matches!(node.shape(), Shape::VariableDeclarator)

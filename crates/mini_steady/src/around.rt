@@ -92,8 +92,8 @@ fn is_let_at(symbol: SymbolId, is_list: bool, node: &Node) -> bool
     is_let_by(symbol, is_list, node.shape(), node.parts())
 }
 
-/// Whether one of these nodes does, each below the one before, of which the first may be a list of
-/// statements.
+/// Whether one of these nodes, each below the one before, declares a name with the symbol before
+/// the place in it, with its value there. The first of them may be a list of statements.
 #[tactic(auto, using(crate::proofs::AroundPlaces::around_more))]
 pub fn is_let_around(symbol: SymbolId, is_list: bool, nodes: &[Node]) -> bool
     ensures { result ≡ reading.is_let_around symbol.0 is_list (trees_of nodes.now) }

@@ -24,10 +24,10 @@ fn is_arrow(node: &Node) -> bool
         && node.children().len() == 2
 }
 
-/// Of an arrow function its own code, be its body a block or an expression: by rows of members
-/// `x => x.k || (x.k = b)` becomes `x => x.k ||= b`. The answer says whether anything changed, and
-/// where nothing did no row reads the arrow function; the only error is that memory runs out, and
-/// then it is fit only to be dropped.
+/// Makes rows in the own code of an arrow function, be its body a block or an expression: by rows
+/// of members `x => x.k || (x.k = b)` becomes `x => x.k ||= b`. The answer says whether anything
+/// changed, and where nothing did no row reads the arrow function; the only error is that memory
+/// runs out, and then it is fit only to be dropped.
 pub fn minimize_in_arrow<S: SteadyNames, W: OwnRewrites<S>>(
     alloc: Global,
     node: &mut Node,

@@ -103,7 +103,7 @@ fn is_lexical_shape(shape: &Shape) -> bool
     )
 }
 
-/// Whether it is one.
+/// Whether the node is a `let` or a `const`.
 #[cycle(heads)]
 #[tactic(auto, using(crate::proofs::Behind::opened_lexical))]
 pub fn is_lexical(node: &Node) -> bool

@@ -35,14 +35,14 @@ pub fn is_binding(shape: &Shape) -> bool
     matches!(shape, Shape::BindingIdentifier)
 }
 
-// It declares one.
+// Whether the node itself declares the symbol.
 fn declares(symbol: SymbolId, node: &Node) -> bool
     ensures { result ≡ row.declares symbol.0 node.now }
 {
     is_binding(node.shape()) && has_symbol(symbol, node.name())
 }
 
-/// Whether one is declared in a tree.
+/// Whether the symbol is declared in a tree.
 #[cycle(bindings)]
 pub fn binds(symbol: SymbolId, node: &Node) -> bool
     ensures { result ≡ reading.binds symbol.0 node.now }
@@ -50,7 +50,7 @@ pub fn binds(symbol: SymbolId, node: &Node) -> bool
     declares(symbol, node) || any_bind(symbol, node.children())
 }
 
-/// Whether one is declared in one of these nodes.
+/// Whether the symbol is declared in one of these nodes.
 #[cycle(bindings)]
 pub fn any_bind(symbol: SymbolId, nodes: &Nodes) -> bool
     ensures { result ≡ reading.any_bind symbol.0 nodes.now }
@@ -63,7 +63,7 @@ pub fn any_bind(symbol: SymbolId, nodes: &Nodes) -> bool
     false
 }
 
-/// Whether one is declared in one of these.
+/// Whether the symbol is declared in one of the nodes of a slice.
 pub fn is_any_bound(symbol: SymbolId, nodes: &[Node]) -> bool
     ensures { result ≡ reading.any_bind symbol.0 (trees_of nodes.now) }
 {
@@ -73,7 +73,7 @@ pub fn is_any_bound(symbol: SymbolId, nodes: &[Node]) -> bool
     }
 }
 
-// Whether one is declared in a tree more than once.
+// Whether the symbol is declared in a tree more than once.
 #[cycle(twice)]
 #[tactic(auto, using(crate::proofs::Twice::twice_here, crate::proofs::Twice::twice_below))]
 fn is_bound_twice(symbol: SymbolId, node: &Node) -> bool
@@ -87,7 +87,7 @@ fn is_bound_twice(symbol: SymbolId, node: &Node) -> bool
     }
 }
 
-/// Whether one is declared in these nodes more than once.
+/// Whether the symbol is declared in these nodes more than once.
 #[cycle(twice)]
 #[tactic(auto, using(crate::proofs::Twice::twice_first, crate::proofs::Twice::twice_later))]
 pub fn are_bound_twice(symbol: SymbolId, nodes: &[Node]) -> bool

@@ -21,9 +21,9 @@ use std::alloc::Global;
 pub struct BodyCode {
     /// The number of the body.
     pub number: u32,
-    /// The symbols that are declared in it.
+    /// The symbols that are declared in the code of the body.
     pub declared: Vec<SymbolId>,
-    /// Of a place in it, those that were declared before it, and have their values there.
+    /// The symbols that were declared before the place in it, and have their values there.
     pub begun: Vec<SymbolId>,
     /// Whether the place is the list of a `let` or a `const`, or stands in an export.
     pub in_lexical: bool,
@@ -101,7 +101,8 @@ pub fn code_of(alloc: Global, number: u32, node: &Node) -> Result<BodyCode, OutO
     })
 }
 
-/// Adds to what is begun in it what a node declares in the scope around it, where that is asked.
+/// Adds to what is initialised at the place in the code what a node declares in the scope around
+/// it, where that is asked. The only error is that memory runs out.
 pub fn push_begun(code: &mut BodyCode, is_asked: bool, node: &Node) -> Result<(), OutOfMemory>
     ensures { OnOk result (BeginsBesides (lets_if is_asked node.now) code.old code.new) }
 {
@@ -112,7 +113,7 @@ pub fn push_begun(code: &mut BodyCode, is_asked: bool, node: &Node) -> Result<()
     }
 }
 
-/// How many are begun in it.
+/// How many symbols were declared before the place in the code.
 pub fn begun_count(code: &BodyCode) -> usize
     ensures { result ≡ length code.now.begun.items }
 {
@@ -126,7 +127,8 @@ pub fn is_in_lexical(code: &BodyCode) -> bool
     code.in_lexical
 }
 
-/// Goes to the children of a node, which may be so.
+/// Goes down to the children of a node. The flag says whether they are the list of a `let` or a
+/// `const`, or stand in an export.
 pub fn enter_children(code: &mut BodyCode, in_lexical: bool)
     ensures number { code.new.number ≡ code.old.number }
     ensures declared { code.new.declared.items ≡ code.old.declared.items }
@@ -136,7 +138,8 @@ pub fn enter_children(code: &mut BodyCode, in_lexical: bool)
     code.in_lexical = in_lexical;
 }
 
-/// Goes back to the node: of what is begun in the code so many are left.
+/// Goes back up to a node: that many symbols are left that were declared before the place. The flag
+/// says whether the node is the list of a `let` or a `const`, or stands in an export.
 pub fn leave_children(code: &mut BodyCode, count: usize, in_lexical: bool)
     ensures number { code.new.number ≡ code.old.number }
     ensures declared { code.new.declared.items ≡ code.old.declared.items }
@@ -173,8 +176,8 @@ fn is_listed_twice(symbol: SymbolId, symbols: &[SymbolId]) -> bool
     }
 }
 
-/// Whether the symbol is among those that have their values there: statements before have declared
-/// it, and nothing else in the code does, or it has its value throughout the code.
+/// Whether the symbol has its value at the place in the code: statements before have declared it,
+/// and nothing else in the code does, or it has its value throughout the code.
 pub fn is_initialised<S: SteadyNames>(symbol: SymbolId, code: &BodyCode, steady: &S) -> bool
     ensures { result ≡ (known_of (S.sets steady.now) code.now).initial (Declared symbol.0) }
 {

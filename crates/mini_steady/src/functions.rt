@@ -34,10 +34,10 @@ fn is_function(node: &Node) -> bool
         && node.children().len() == 3
 }
 
-/// Of a function that is no arrow function its own code, wherever it stands: by rows of members
-/// `function f(x) { x.k || (x.k = b); }` becomes `function f(x) { x.k ||= b; }`. The answer says
-/// whether anything changed, and where nothing did no row reads the function; the only error is
-/// that memory runs out, and then the function is fit only to be dropped.
+/// Makes rows in the own code of a function that is no arrow function, wherever it stands: by rows
+/// of members `function f(x) { x.k || (x.k = b); }` becomes `function f(x) { x.k ||= b; }`. The
+/// answer says whether anything changed, and where nothing did no row reads the function; the only
+/// error is that memory runs out, and then the function is fit only to be dropped.
 pub fn minimize_in_function<S: SteadyNames, W: OwnRewrites<S>>(
     alloc: Global,
     node: &mut Node,

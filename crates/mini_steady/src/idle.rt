@@ -174,7 +174,7 @@ fn drop_idle(alloc: Global, node: &mut Node, seat: Seat) -> Result<bool, OutOfMe
     }
 }
 
-// The same of any expression.
+// A part of an expression goes that has no effect. The answer says whether one did.
 fn drop_from(alloc: Global, node: &mut Node, seat: Seat) -> Result<bool, OutOfMemory>
     ensures { IfOk result (λ changed. Loses seat node.old node.new changed) }
 {

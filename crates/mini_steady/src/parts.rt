@@ -24,11 +24,12 @@ fn is_part(node: &Node) -> bool
         && node.children().len() == 1
 }
 
-/// Of a static block, or of an inner expression at its place, its own code: by rows of members
-/// `static { const x = a(); x.k || (x.k = b); }` becomes `static { const x = a(); x.k ||= b; }`,
-/// and of a field `y = this.k || (this.k = b)` becomes `y = this.k ||= b`. The answer says whether
-/// anything changed, and where nothing did no row reads the node; the only error is that memory
-/// runs out, and then it is fit only to be dropped.
+/// Makes rows in the own code of a static block, or of an inner expression at its place: by rows of
+/// members `static { const x = a(); x.k || (x.k = b); }` becomes
+/// `static { const x = a(); x.k ||= b; }`, and the value of a field `y = this.k || (this.k = b)`
+/// becomes `y = this.k ||= b`. The answer says whether anything changed, and where nothing did no
+/// row reads the node; the only error is that memory runs out, and then it is fit only to be
+/// dropped.
 pub fn minimize_in_part<S: SteadyNames, W: OwnRewrites<S>>(
     alloc: Global,
     node: &mut Node,

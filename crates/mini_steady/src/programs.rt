@@ -24,10 +24,10 @@ fn is_program(node: &Node) -> bool
         && node.children().len() == 1
 }
 
-/// Of a program its own code: by rows of members the module `const x = a(); x.k || (x.k = b);`
-/// becomes `const x = a(); x.k ||= b;`. The answer says whether anything changed, and where nothing
-/// did no row reads the program; the only error is that memory runs out, and then it is fit only to
-/// be dropped.
+/// Makes rows in the own code of a program: by rows of members the module
+/// `const x = a(); x.k || (x.k = b);` becomes `const x = a(); x.k ||= b;`. The answer says whether
+/// anything changed, and where nothing did no row reads the program; the only error is that memory
+/// runs out, and then it is fit only to be dropped.
 pub fn minimize_in_program<S: SteadyNames, W: OwnRewrites<S>>(
     alloc: Global,
     node: &mut Node,

@@ -29,7 +29,7 @@ use std::alloc::Global;
 
 /// A context that tells what is known of the bodies of the program that it knows.
 pub trait SteadyContext: Context + SteadyNames {
-    /// Of a program, by the number of a body, what is known of it.
+    /// What is known of each body of a program, by its number.
     ghost steady: { Tree → BodySets };
 
     /// What the context tells of bodies is that of the program that it knows.

@@ -14,18 +14,18 @@ use mini_tree::{CompressOptions, KeepNames};
 /// initialised as it starts; and whether it has a `this` for which it doesn't ask the world. It
 /// tells also what the minifier may do.
 pub trait SteadyNames {
-    /// What it says is known.
+    /// What it says is known, by the number of a body.
     ghost sets: { Self → BodySets };
 
-    /// Whether the symbol is among those that are steady in the body with this number.
+    /// Whether the symbol is steady in the body with this number.
     fn is_steady(&self, symbol: SymbolId, body: u32) -> bool
         ensures { result ≡ (sets self.now body).steady (Declared symbol.0) };
 
-    /// Whether it is among those that the events of the body don't show.
+    /// Whether no event of the body with this number shows the symbol.
     fn is_unshared(&self, symbol: SymbolId, body: u32) -> bool
         ensures { result ≡ (sets self.now body).unshared (Declared symbol.0) };
 
-    /// Whether it is among those that are initialised as the body starts.
+    /// Whether the symbol is initialised as the body with this number starts.
     fn is_initial(&self, symbol: SymbolId, body: u32) -> bool
         ensures { result ≡ (sets self.now body).initial (Declared symbol.0) };
 
@@ -36,7 +36,7 @@ pub trait SteadyNames {
     /// What it says that the minifier may do.
     ghost orders: { Self → CompressOptions };
 
-    /// That.
+    /// The options that say what the minifier may do.
     fn orders(&self) -> CompressOptions
         ensures { result ≡ orders self.now };
 }

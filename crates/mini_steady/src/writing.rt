@@ -10,7 +10,7 @@ use mini_model::{Name, Shape};
 use mini_node::{Node, Nodes};
 use mini_unused::{is_like, is_mentioned_from};
 
-// What writes a part of it.
+// Whether a node of this shape writes a part of it.
 fn is_writer(shape: &Shape) -> bool
     ensures { result ≡ reading.is_writer shape.now }
 {
@@ -23,7 +23,8 @@ fn is_writer(shape: &Shape) -> bool
     )
 }
 
-// Whether its declarator has a name like it.
+// Whether the node is a declarator that carries a name like this one: that of the variable that it
+// writes.
 fn is_own_write(name: &Name, node: &Node) -> bool
     ensures { result ≡ is_like_one name.now (reading.written_names (shape_of node.now) (names_of node.now)) }
 {
@@ -33,7 +34,8 @@ fn is_own_write(name: &Name, node: &Node) -> bool
     }
 }
 
-/// Whether a name like it stands in such a node.
+/// Whether a name with the spelling or the symbol of this one stands in a node of the tree that
+/// writes a part of it.
 #[cycle(writing)]
 pub fn writes(name: &Name, node: &Node) -> bool
     ensures { result ≡ reading.writes name.now node.now }
@@ -47,7 +49,7 @@ pub fn writes(name: &Name, node: &Node) -> bool
     any_write(name, node.children())
 }
 
-// Whether one does in one of these nodes.
+// Whether such a name stands in such a node of one of these trees.
 #[cycle(writing)]
 fn any_write(name: &Name, nodes: &Nodes) -> bool
     ensures { result ≡ reading.any_write name.now nodes.now }

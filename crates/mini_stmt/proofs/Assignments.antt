@@ -13,9 +13,11 @@ use Rattle.mini_model.specs.declared.place.Position.TheVariants.{StatementList}
 use Rattle.mini_model.specs.declared.shape.Shape.TheVariants as shape
 use Rattle.mini_model.specs.Tree.{Tree, Trees, node, none, ◌▸◌, count, shape_of, child_or_absent, absent, listed, children, identifier, expression_statement, node_count, node_counts}
 use Rattle.mini_model.specs.Paths.{append}
+use Rattle.mini_model.specs.Weight.{same_text}
+use Rattle.mini_kept.proofs.SameScopes.{same_texts, text_itself}
 use Rattle.mini_node.specs.Children.{part, with_part, with_child, without, is_bare, names_of, first_children, rest_children}
 use Rattle.mini_node.specs.Lends.{with_children}
-use Rattle.mini_node.specs.Kinds.{is_absent_part, is_identifier, is_named_leaf, is_listed, is_sequence, is_expression_statement, same_symbol, same_names}
+use Rattle.mini_node.specs.Kinds.{is_absent_part, is_identifier, is_named_leaf, is_listed, is_sequence, is_expression_statement, same_symbol}
 use Rattle.mini_node.specs.Made.{listed_is, absent_is, sequence_is, expression_statement_is, identifier_is}
 use Rattle.mini_node.specs.Walks.{from_first, next_child, no_rest, append_one}
 use Rattle.mini_rows.specs.Lists.{of_parts, are_parts, sequence, for_loop, declaration, declares_nothing, resolved, binding, declarator, assigned, is_declarator_shape, is_bare_declarator, are_bare_declarators, Head, Return, Throw, If, Switch, For, with_head, Holder, Statement, Heading, Going, Declaring, Looping, holding, holds_well, is_plain_left, Beginning, Alone, Init, Before, begun, begun_without, begins_well, Row70, Each, EachIn, EachOf, each_loop, bare_var, Row69, EntersRow, InList}
@@ -26,7 +28,7 @@ use Rattle.mini_rows.specs.Switches.{Switches}
 use Rattle.mini_stmt.specs.MinimizeStatements.{Changes, Moves, is_quiet, reversed, StretchRests, MinimizesList}
 use Rattle.mini_stmt.specs.MinimizeStatements as list
 use Rattle.mini_stmt.specs.JoinGuards as guards
-use Rattle.mini_stmt.specs.JoinAssignments.{is_led, goes_over, begins_with_one, is_kind, declares_first, loops_first, holds_plainly, held_plainly, with_plainly, holds, held, with_first, with_held, is_assign_shape, assigns_name, is_binding_shape, declares_bare, takes_name, TakesAt, leaves_parts, holds_sequence, holds_alone, beginning_of, assigns_first, may_enter, enters, EntersAt, other_parts, left_alone, left_of, with_value, Entered, is_for_of, takes_head, declares_one, heads, joins_var, heads_last, enters_first, are_entered, enters_last, EntersLast, PutEntered, AllEntered, Rests, JoinsAssignments}
+use Rattle.mini_stmt.specs.JoinAssignments.{is_led, goes_over, begins_with_one, is_kind, declares_first, loops_first, holds_plainly, held_plainly, with_plainly, holds, held, with_first, with_held, is_assign_shape, assigns_name, is_binding_shape, one_name, declares_bare, takes_name, TakesAt, leaves_parts, holds_sequence, holds_alone, beginning_of, assigns_first, may_enter, enters, EntersAt, other_parts, left_alone, left_of, with_value, Entered, is_for_of, takes_head, declares_one, heads, joins_var, heads_last, enters_first, are_entered, enters_last, EntersLast, PutEntered, AllEntered, Rests, JoinsAssignments}
 use Rattle.mini_stmt.proofs.Parts.{not_true, below}
 use Rattle.mini_stmt.proofs.Follows.{head_by, for_is, for_in_is, with_other, declared_is, declares_is}
 use Rattle.mini_stmt.proofs.Guards.{last_pushed, last_is, apart_rests, all_rest}
@@ -80,41 +82,41 @@ symbols_are None b e = absurd (true≢false (sym e))
 name_with : (x : Name) (o : Option SymbolId) → Name
 name_with x o = record { spelling = x.spelling; symbol = o }
 
--- a declarator and the name that is assigned to, of one symbol
+-- a declarator and the name that is assigned to, which is its own
 pub record Bound (d x : Tree) : Type 0 where
   pub name : Name
-  pub target : Name
   pub symbol : ℕ
   pub is : d ≡ declarator (binding (resolved name.spelling symbol)) absent
-  pub target_is : x ≡ identifier (resolved target.spelling symbol)
+  pub target_is : x ≡ identifier (resolved name.spelling symbol)
 
-bound_names : (d x : Tree) (y z : Name) → d ≡ declarator (binding z) absent → x ≡ identifier y → same_symbol z.symbol y.symbol ≡ true → Bound d x
+bound_names : (d x : Tree) (y z : Name) → d ≡ declarator (binding z) absent → x ≡ identifier y → same_symbol z.symbol y.symbol && same_text z.spelling y.spelling ≡ true → Bound d x
 unfolding name_with
 bound_names d x y z e f g =
-    let (k, (p, q)) = symbols_are z.symbol y.symbol g in
+    let (one, alike) = and_parts (same_symbol z.symbol y.symbol) (same_text z.spelling y.spelling) g in
+    let (k, (p, q)) = symbols_are z.symbol y.symbol one in
+    let spelled : y.spelling ≡ z.spelling = sym (same_texts z.spelling y.spelling alike) in
     record {
       name = z;
-      target = y;
       symbol = k;
       is = e ∙ ap (λ o. declarator (binding (name_with z o)) absent) p;
-      target_is = f ∙ ap (λ o. identifier (name_with y o)) q;
+      target_is = f ∙ ap (λ o. identifier (name_with y o)) q ∙ ap (λ s. identifier (resolved s k)) spelled;
     }
 
 pub bound_by : (d x : Tree) → is_identifier x ≡ true → declares_bare d x ≡ true → Bound d x
 bound_by d x i e =
     let id = part d 0 in
-    let names = same_names (names_of id) (names_of x) && is_absent_part (part d 1) in
+    let names = one_name (names_of id) (names_of x) && is_absent_part (part d 1) in
     let named = is_binding_shape (shape_of id) && is_named_leaf id in
     let (a, r) = and_parts (is_declarator_shape (shape_of d)) (is_bare d 2 && (named && names)) e in
     let (b, s) = and_parts (is_bare d 2) (named && names) r in
     let (c, q) = and_parts named names s in
-    let (same, gone) = and_parts (same_names (names_of id) (names_of x)) (is_absent_part (part d 1)) q in
+    let (same, gone) = and_parts (one_name (names_of id) (names_of x)) (is_absent_part (part d 1)) q in
     let (z, z_is) = binding_is id c in
     let (y, y_is) = identifier_is x i in
     bound_names d x y z
     (declarator_is d (both (is_declarator_shape (shape_of d)) (is_bare d 2) a b) ∙ (λ j. declarator (z_is j) (absent_is (part d 1) gone j)))
     y_is
-    ((λ j. same_names (names_of (sym z_is j)) (names_of (sym y_is j))) ∙ same)
+    ((λ j. one_name (names_of (sym z_is j)) (names_of (sym y_is j))) ∙ same)
 
 -- ---- what a statement begins with
 
@@ -375,13 +377,12 @@ enters_row t u i m =
     let a = assigns_by (beginning_of u) assigns in
     let (within, declared, others) = m.1 in
     let bound = bound_by d (part (beginning_of u) 0) a.target declared in
-    let made : assigned (resolved bound.target.spelling bound.symbol) value ≡ beginning_of u = sym (a.is ∙ ap (λ x. node (shape.AssignmentExpression Assign) [] 0 (x ▸ (value ▸ none))) bound.target_is) in
+    let made : assigned (resolved bound.name.spelling bound.symbol) value ≡ beginning_of u = sym (a.is ∙ ap (λ x. node (shape.AssignmentExpression Assign) [] 0 (x ▸ (value ▸ none))) bound.target_is) in
     record {
       ds = first_children i ts;
       spelling = bound.name.spelling;
       symbol = bound.symbol;
       es = rest_children (suc i) ts;
-      target = bound.target.spelling;
       value = value;
       beginning = begins.beginning;
       bare = others;
@@ -504,16 +505,20 @@ told_by (Before h q qs) x value k =
       first = ap (λ c. if c then part (part (held (holding h e)) 0) 0 else part (holding h e) 0) told ∙ ap (λ y. part (part y 0) 0) (holder_holds h (assigned x value ▸ (q ▸ qs)) well).same;
     }
 
-name_taken : (s t : List ℕ) (k : ℕ) (ds es : Trees) → are_bare_declarators es ≡ true → takes_name (identifier (resolved t k)) (append ds (declarator (binding (resolved s k)) absent ▸ es)) ≡ true
-name_taken s t k none es h = ap (λ b. (b && are_bare_declarators es) || takes_name (identifier (resolved t k)) es) (ap (λ b. b && true) (eq-eqb k k refl)) ∙ ap (λ b. b || takes_name (identifier (resolved t k)) es) h
-name_taken s t k (d ▸ ds) es h =
+-- a declarator of a name is found by the name
+pub declared_found : (s : List ℕ) (k : ℕ) → declares_bare (declarator (binding (resolved s k)) absent) (identifier (resolved s k)) ≡ true
+declared_found s k = λ j. (eq-eqb k k refl j && text_itself s j) && true
+
+name_taken : (s : List ℕ) (k : ℕ) (ds es : Trees) → are_bare_declarators es ≡ true → takes_name (identifier (resolved s k)) (append ds (declarator (binding (resolved s k)) absent ▸ es)) ≡ true
+name_taken s k none es h = ap (λ b. (b && are_bare_declarators es) || takes_name (identifier (resolved s k)) es) (declared_found s k) ∙ ap (λ b. b || takes_name (identifier (resolved s k)) es) h
+name_taken s k (d ▸ ds) es h =
     let rest = append ds (declarator (binding (resolved s k)) absent ▸ es) in
-    ap (λ b. (declares_bare d (identifier (resolved t k)) && are_bare_declarators rest) || b) (name_taken s t k ds es h) ∙ or_true (declares_bare d (identifier (resolved t k)) && are_bare_declarators rest)
+    ap (λ b. (declares_bare d (identifier (resolved s k)) && are_bare_declarators rest) || b) (name_taken s k ds es h) ∙ or_true (declares_bare d (identifier (resolved s k)) && are_bare_declarators rest)
 
 row_enters : (a b : Trees) → Row70 a b → Pair a
 row_enters a b r =
     let old = declaration Var (append r.ds (declarator (binding (resolved r.spelling r.symbol)) absent ▸ r.es)) in
-    let x = resolved r.target r.symbol in
+    let x = resolved r.spelling r.symbol in
     let u = begun r.beginning (assigned x r.value) in
     let told = told_by r.beginning x r.value r.parts in
     record {
@@ -523,7 +528,7 @@ row_enters a b r =
       met =
           both (declares Var old && assigns_first u) (takes_name (part (beginning_of u) 0) (children (part old 0)))
           (both (holds_sequence u || holds_alone u) (assigns_name (beginning_of u)) told.holds (ap assigns_name told.first ∙ assigned_tells x r.value r.plain))
-          (ap (λ v. takes_name (part v 0) (children (part old 0))) told.first ∙ name_taken r.spelling r.target r.symbol r.ds r.es r.bare);
+          (ap (λ v. takes_name (part v 0) (children (part old 0))) told.first ∙ name_taken r.spelling r.symbol r.ds r.es r.bare);
     }
 
 -- ---- a `var` that goes into the head of a loop
@@ -542,7 +547,6 @@ each_row k t u e is i f =
     record {
       spelling = bound.name.spelling;
       symbol = bound.symbol;
-      target = bound.target.spelling;
       right = part u 1;
       body = part u 2;
       shape = λ j. var j ▸ ((is ∙ ap (λ x. each_loop k x (part u 1) (part u 2)) bound.target_is) j ▸ none);
@@ -579,7 +583,7 @@ loop_first EachOf left right body = refl
 row_heads : (o : Switches) (k : Each) (a b : Trees) → (k ≡ EachIn → o.sequences ≡ true) → Row69 k a b → Joined o a
 row_heads o k a b s r =
     let var = bare_var (resolved r.spelling r.symbol) in
-    let x = identifier (resolved r.target r.symbol) in
+    let x = identifier (resolved r.spelling r.symbol) in
     let u = each_loop k x r.right r.body in
     record {
       first = var;
@@ -588,7 +592,7 @@ row_heads o k a b s r =
       met =
           ap (λ b. enters var u || b)
           (both (takes_head o u) (is_identifier (part u 0) && declares_one (part u 0) (children (part var 0))) (loop_taken o k x r.right r.body s)
-          (ap (λ y. is_identifier y && declares_one y (children (part var 0))) (loop_first k x r.right r.body) ∙ ap (λ b. b && true) (eq-eqb r.symbol r.symbol refl)))
+          (ap (λ y. is_identifier y && declares_one y (children (part var 0))) (loop_first k x r.right r.body) ∙ declared_found r.spelling r.symbol))
           ∙ or_true (enters var u);
     }
 
@@ -794,7 +798,7 @@ begun_smaller (Before h q qs) x value = holder_smaller h (of_parts q qs) (sequen
 
 left_smaller : (t u made : Tree) (left : Trees) → Entered t u made left → node_counts left < node_count u
 left_smaller t u made left r =
-    let small = begun_smaller r.beginning (resolved r.target r.symbol) r.value in
+    let small = begun_smaller r.beginning (resolved r.spelling r.symbol) r.value in
     let next = ap (λ ts. node_count (child_or_absent ts 1)) r.shape in
     let rest = ap (λ ts. node_counts (without ts 0)) r.written in
     omega (arith, small, next, rest)
@@ -879,7 +883,7 @@ child_twice (t ▸ ts) (suc i) x y = ap (λ us. t ▸ us) (child_twice ts i x y)
 pub two_parts : (d x : Tree) → declares_bare d x ≡ true → 1 < count (children d)
 two_parts d x e =
     let id = part d 0 in
-    let names = same_names (names_of id) (names_of x) && is_absent_part (part d 1) in
+    let names = one_name (names_of id) (names_of x) && is_absent_part (part d 1) in
     let named = is_binding_shape (shape_of id) && is_named_leaf id in
     let (a, r) = and_parts (is_declarator_shape (shape_of d)) (is_bare d 2 && (named && names)) e in
     let is = ap (λ t. count (children t)) (declarator_is d (both (is_declarator_shape (shape_of d)) (is_bare d 2) a (and_parts (is_bare d 2) (named && names) r).0)) in

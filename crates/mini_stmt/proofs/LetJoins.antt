@@ -1,7 +1,7 @@
 -- 70: the assignment of a value after a `let`.
 use Rattle.std.proofs.Common.{◌≡◌, ℕ, zero, suc, ◌+◌, ◌<◌, ◌≤◌, Bool, true, false, [], Option, Some, refl, sym, ap, ◌∙◌, subst, inl, inr, true≢false, arith}
 use Rattle.std.specs.Prelude.{ℤ, pos, not, ◌&&◌, ◌||◌, Result, Ok, Err, IfOk}
-use Rattle.std.proofs.lemmas.Bool.{and_parts, eq-eqb}
+use Rattle.std.proofs.lemmas.Bool.{and_parts}
 use Rattle.mini_model.specs.declared.kind.VariableDeclarationKind.TheVariants.{Let}
 use Rattle.mini_model.specs.declared.memory.OutOfMemory.{OutOfMemory}
 use Rattle.mini_model.specs.declared.operator.AssignmentOperator.TheVariants.{Assign}
@@ -38,7 +38,7 @@ use Rattle.mini_stmt.proofs.Parts.{not_true}
 use Rattle.mini_stmt.proofs.Follows.{declares_is}
 use Rattle.mini_stmt.proofs.Guards.{last_pushed, last_is}
 use Rattle.mini_stmt.proofs.Quiet.{append_assoc}
-use Rattle.mini_stmt.proofs.Assignments.{both, assigns_by, bound_by, begins_by, told_by, some_part, two_parts}
+use Rattle.mini_stmt.proofs.Assignments.{both, assigns_by, bound_by, begins_by, told_by, some_part, two_parts, declared_found}
 
 -- ---- a value that is written out
 
@@ -94,12 +94,11 @@ let_row W t u made left e m =
     let k = known_is value written in
     let v = m.value in
     let bound = bound_by v.last x a.target (sym (ap (λ d. declares_bare d x) (ap (last_after absent) v.declared ∙ last_pushed absent v.init v.last)) ∙ takes) in
-    let whole_is : beginning_of u ≡ assigned (resolved bound.target.spelling bound.symbol) (known k.0) = a.is ∙ (λ j. node (shape.AssignmentExpression Assign) [] 0 (bound.target_is j ▸ (k.1 j ▸ none))) in
+    let whole_is : beginning_of u ≡ assigned (resolved bound.name.spelling bound.symbol) (known k.0) = a.is ∙ (λ j. node (shape.AssignmentExpression Assign) [] 0 (bound.target_is j ▸ (k.1 j ▸ none))) in
     record {
       ds = v.init;
       spelling = bound.name.spelling;
       symbol = bound.symbol;
-      target = bound.target.spelling;
       value = k.0;
       beginning = begins.beginning;
       writable = sym (ap (λ y. may_write_in W (names_of y)) bound.target_is) ∙ free;
@@ -158,7 +157,7 @@ row_joins : (W : VariableSet) (a b : Trees) → Row70Let W a b → Pair W a
 row_joins W a b r =
     let d = declarator (binding (resolved r.spelling r.symbol)) absent in
     let old = declaration Let (append r.ds (d ▸ none)) in
-    let x = resolved r.target r.symbol in
+    let x = resolved r.spelling r.symbol in
     let u = begun r.beginning (assigned x (known r.value)) in
     let told = told_by r.beginning x (known r.value) r.parts in
     record {
@@ -169,7 +168,7 @@ row_joins W a b r =
           both (may_join old u) (writes_value W (beginning_of u))
           (both (assigns_first u) (takes_last (part (beginning_of u) 0) (children (part old 0)))
           (both (holds_sequence u || holds_alone u) (assigns_name (beginning_of u)) told.holds (ap assigns_name told.first ∙ known_declares r.value))
-          (ap (λ v. takes_last (part v 0) (children (part old 0))) told.first ∙ ap (λ c. declares_bare c (identifier x)) (last_pushed absent r.ds d) ∙ ap (λ c. c && true) (eq-eqb r.symbol r.symbol refl)))
+          (ap (λ v. takes_last (part v 0) (children (part old 0))) told.first ∙ ap (λ c. declares_bare c (identifier x)) (last_pushed absent r.ds d) ∙ declared_found r.spelling r.symbol))
           (ap (writes_value W) told.first ∙ ap (λ c. c && W (Declared r.symbol)) (known_passes r.value) ∙ r.writable);
     }
 

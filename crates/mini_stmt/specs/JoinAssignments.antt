@@ -1,6 +1,6 @@
 -- 70: `var a, c; a = b;` becomes `var a = b, c;`, and so where the assignment begins a sequence or the head of a `for`. 69:
 -- `var a; for (a of b) c` becomes `for (var a of b) c`.
-use Rattle.std.specs.Prelude.{◌≡◌, ◌<◌, ◌+◌, ℕ, suc, Bool, true, false, not, ◌&&◌, ◌||◌, Option, Some, None, if◌then◌else◌}
+use Rattle.std.specs.Prelude.{◌≡◌, ◌<◌, ◌+◌, ℕ, suc, Bool, true, false, not, ◌&&◌, ◌||◌, List, [], ◌∷◌, Option, Some, None, if◌then◌else◌}
 use Rattle.mini_model.specs.declared.kind.VariableDeclarationKind.{VariableDeclarationKind}
 use Rattle.mini_model.specs.declared.kind.VariableDeclarationKind.TheVariants.{Var}
 use Rattle.mini_model.specs.declared.operator.AssignmentOperator.TheVariants.{Assign}
@@ -9,7 +9,9 @@ use Rattle.mini_model.specs.declared.place.Position.TheVariants.{StatementList}
 use Rattle.mini_model.specs.declared.shape.Shape.{Shape}
 use Rattle.mini_model.specs.declared.shape.Shape.TheVariants as shape
 use Rattle.mini_model.specs.Tree.{Tree, Trees, none, ◌▸◌, count, shape_of, children, child_or_absent, absent, node_count, node_counts}
+use Rattle.mini_model.specs.declared.name.Name.{Name}
 use Rattle.mini_model.specs.Paths.{append}
+use Rattle.mini_model.specs.Weight.{same_text}
 use Rattle.mini_node.specs.Children.{part, with_part, with_child, is_bare, names_of, rest_children}
 use Rattle.mini_node.specs.Kinds.{is_absent_part, is_identifier, is_named_leaf, is_sequence, is_expression_statement, same_names}
 use Rattle.mini_tree.specs.Rule as rule
@@ -32,9 +34,17 @@ abbrev pub is_binding_shape : Shape → Bool
 is_binding_shape shape.BindingIdentifier = true
 is_binding_shape _ = false
 
+-- both are one name: of the same spelling, and with one symbol
+abbrev pub spelled_alike : List Name → List Name → Bool
+spelled_alike (x ∷ []) (y ∷ []) = same_text x.spelling y.spelling
+spelled_alike _ _ = false
+
+abbrev pub one_name : List Name → List Name → Bool
+one_name xs ys = same_names xs ys && spelled_alike xs ys
+
 -- a declarator without an initializer, of the name that is assigned to
 abbrev pub declares_bare : Tree → Tree → Bool
-declares_bare d x = is_declarator_shape (shape_of d) && (is_bare d 2 && ((is_binding_shape (shape_of (part d 0)) && is_named_leaf (part d 0)) && (same_names (names_of (part d 0)) (names_of x) && is_absent_part (part d 1))))
+declares_bare d x = is_declarator_shape (shape_of d) && (is_bare d 2 && ((is_binding_shape (shape_of (part d 0)) && is_named_leaf (part d 0)) && (one_name (names_of (part d 0)) (names_of x) && is_absent_part (part d 1))))
 
 -- such a declarator, after which none has an initializer
 abbrev pub takes_name : Tree → Trees → Bool

@@ -20,7 +20,7 @@ pub enum Lead {
     Return(bool),
     /// `if (a) throw b;`
     Throw,
-    /// It isn't.
+    /// It may not be joined.
     Nothing,
 }
 

@@ -8,10 +8,10 @@ use mini_node::{Node, Nodes};
 /// What may never end normally: a statement, a list of statements, and such a part that may be
 /// absent.
 pub trait IsTerminated {
-    /// Whether it is terminated.
+    /// Whether it is terminated, as a value of the definitions.
     ghost terminated: { Self → Bool };
 
-    /// That no run of it ends normally.
+    /// No run of it ends normally.
     ghost never_ends: { Self → Type 0 };
 
     /// Whether it is terminated: a jump, a list or a block in which a statement is, an `if` both of
@@ -20,7 +20,7 @@ pub trait IsTerminated {
     fn is_terminated(&self) -> bool
         ensures { result ≡ terminated self.now };
 
-    /// Then no run of it ends normally.
+    /// No run of what is terminated ends normally.
     ghost ends: { (it : Self) → terminated it ≡ true → never_ends it };
 }
 

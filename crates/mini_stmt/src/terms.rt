@@ -37,7 +37,8 @@ pub fn statement_cares_about_scope(node: &Node) -> bool
     )
 }
 
-/// Whether none of the statements does.
+/// Whether none of the statements declares a name in the list round it that isn't hoisted through
+/// it.
 pub fn are_unscoped(nodes: &Nodes) -> bool
     ensures { result ≡ list.are_unscoped nodes.now }
 {
@@ -90,7 +91,7 @@ pub fn is_terminated(node: &Node) -> bool
     }
 }
 
-/// Whether nothing is declared there, as by an expression.
+/// Whether the node declares nothing, as an expression does.
 #[tactic(auto, using(crate::proofs::Parts::operand_declares, crate::proofs::Parts::no_operand))]
 pub fn declares_nothing(node: &Node) -> bool
     ensures { result ≡ list.declares_nothing node.now }
@@ -136,7 +137,7 @@ fn has_two(nodes: &Nodes) -> bool
     nodes.len() > 1
 }
 
-/// Whether it is an expression by itself, or a sequence of two parts or more.
+/// Whether the expression is one part by itself, or a sequence of two parts or more.
 pub fn is_joinable(node: &Node) -> bool
     ensures { result ≡ term.is_joinable node.now }
 {
@@ -165,7 +166,8 @@ fn parts_of(alloc: Global, expression: Node) -> Result<Nodes, OutOfMemory>
     }
 }
 
-/// `a, b`, of which each may be a sequence: the parts of both, in order.
+/// The sequence `a, b`, of which each may be a sequence: the parts of both, in order. The only
+/// error is that memory runs out.
 pub fn join_sequence(alloc: Global, first: Node, second: Node) -> Result<Node, OutOfMemory>
     ensures { IfOk result (λ made. made ≡ term.joined first second) }
 {

@@ -85,6 +85,7 @@ pub fn text_of_both(alloc: Global, before: &[u16], after: Text) -> Result<Text, 
     Ok(text)
 }
 
+/// Undefined where the condition holds; else no value is known.
 pub fn undefined_if(condition: bool) -> Option<ConstantValue>
     ensures { value_in result ≡ term.undefined_if condition }
 {
@@ -242,6 +243,7 @@ pub fn to_text(alloc: Global, value: ConstantValue) -> Result<Text, OutOfMemory>
     }
 }
 
+/// Whether the value is a text.
 pub fn is_text(value: &ConstantValue) -> bool
     ensures { result ≡ is_text_value (value_of value.now) }
 {
@@ -319,6 +321,7 @@ fn ordered(
     }
 }
 
+/// Whether the value is undefined or null.
 pub fn is_nullish(value: &ConstantValue) -> bool
     ensures { result ≡ is_it_nullish (value_of value.now) }
 {

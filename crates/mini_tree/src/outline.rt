@@ -12,6 +12,7 @@ pub trait Outlined {
     ghost use Rattle.std.specs.Prelude.{List};
     ghost use Rattle.mini_model.specs.Weight.{Outline};
 
+    /// What the weight of a node reads of these children: an outline of each.
     ghost below: { Self → List Outline };
 
     /// How many children there are.

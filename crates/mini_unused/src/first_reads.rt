@@ -80,7 +80,7 @@ fn may_go_on(shape: &Shape) -> bool
     )
 }
 
-// Or it evaluates the third.
+// What evaluates its first part, and then its second or its third.
 fn has_branches(shape: &Shape) -> bool
     ensures { result ≡ reading.has_branches shape.now }
 {

@@ -66,7 +66,7 @@ fn reads_declarators(name: &Name, node: &Node) -> bool
         && !is_mentioned_from(name, node.children(), 1)
 }
 
-// So does a declaration, of whatever kind.
+// A declaration, of whatever kind, reads the variable first in its first initializer.
 fn reads_initially(name: &Name, node: &Node) -> bool
     ensures { result ≡ reading.reads_initially name.now node.now }
 {

@@ -92,7 +92,7 @@ pub fn is_read_then(
     }
 }
 
-// Such a declarator, whose initializer may move.
+// A declarator that the next one reads first, and whose initializer may move.
 fn is_read_by(
     is_free: bool,
     declarator: &Node,

@@ -321,7 +321,8 @@ fn gathered_first(shape: &Shape) -> Gathered
     }
 }
 
-// And from the second: a call and `new` ask for entries, too, and a template for texts.
+// What is gathered from the second part: a call and `new` ask for entries, too, and a template for
+// texts.
 fn gathered_second(shape: &Shape) -> Gathered
     ensures { result ≡ reading.gathered_by shape.now 1 }
 {

@@ -34,7 +34,7 @@ pub struct Tallies {
     pub by_spelling: Vec<u8>,
 }
 
-// The same number for the same text.
+// A number of a text: the same for the same text.
 fn hash(text: &Text) -> u64
     ensures value { result ≡ hash_of text.now }
     ensures small { result < 4294967296 }

@@ -14,7 +14,7 @@ use mini_node::{Node, is_listed, of_one, of_two, one, taken, two};
 use mini_terms::{is_plain_part, stands, stops};
 use std::alloc::Global;
 
-/// Whether it is a chain.
+/// Whether the expression is a chain.
 pub fn is_chain(node: &Node) -> bool
     ensures kind { result ≡ is_it_chain node.now }
     ensures parts { result ≡ true → count (children node.now) ≡ 1 }
@@ -37,7 +37,8 @@ fn ends_none(shape: &Shape, key: &Node) -> bool
     }
 }
 
-/// `a.k`, `a[k]` or `a(b, c)`, optional or not, whose key or arguments end no chain.
+/// Whether the expression is `a.k`, `a[k]` or `a(b, c)`, optional or not, and its key or arguments
+/// end no chain.
 pub fn is_step(node: &Node) -> bool
     ensures kind { result ≡ is_it_step node.now }
     ensures parts { result ≡ true → count (children node.now) ≡ 2 }
@@ -45,7 +46,7 @@ pub fn is_step(node: &Node) -> bool
     node.is_bare(2) && ends_none(node.shape(), node.child(1))
 }
 
-/// An optional link.
+/// Whether the expression is an optional link.
 pub fn is_marked(node: &Node) -> bool
     ensures { result ≡ is_it_marked (shape_of node.now) }
 {

@@ -51,7 +51,7 @@ fn base(node: &Node) -> &Node
     base(node.child(0))
 }
 
-// The same, taken out of them.
+// What stands before the links, taken out of them.
 #[tactic(auto, using(crate::proofs::ChainEnds::none_before, crate::proofs::ChainEnds::below_before))]
 fn taken_base(node: Node) -> Node
     ensures { result ≡ base_of node }
@@ -109,7 +109,7 @@ fn may_end_after(node: &Node) -> bool
     is_chain(node) && ends_after(node.child(0))
 }
 
-/// `void 0`
+/// A new `void 0`. The only error is that memory runs out.
 pub fn void_zero(alloc: Global) -> Result<Node, OutOfMemory>
     ensures { IfOk result (λ w. w ≡ void_zero_of) }
 {

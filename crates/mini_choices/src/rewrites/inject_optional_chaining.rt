@@ -106,7 +106,7 @@ pub fn is_calm(node: &Node) -> bool
     is_closed(node) || (is_open(node) && are_calm(node.children()))
 }
 
-/// Whether that is so of each of some nodes.
+/// Whether in each of some nodes each optional link stands in a chain of its own.
 #[cycle(calmness)]
 pub fn are_calm(nodes: &Nodes) -> bool
     ensures { result ≡ are_they_calm nodes.now }
@@ -255,7 +255,7 @@ fn chain(alloc: Global, test: Node, read: Node) -> Result<Node, OutOfMemory>
     Ok(Node::new(Shape::ChainExpression, of_one(alloc, links)?))
 }
 
-// That chain, behind a `0` where a reference is asked.
+// The chain of these links over what a test compares, behind a `0` where a reference is asked.
 fn kept_chain(alloc: Global, test: Node, read: Node, guard: Guard) -> Result<Node, OutOfMemory>
     ensures { IfOk result (λ w. w ≡ kept_by_value guard (chain_of (optional_over_it (part test 0) read))) }
 {
@@ -273,7 +273,8 @@ pub fn chain_of_last(alloc: Global, node: Node, guard: Guard) -> Result<Node, Ou
     kept_chain(alloc, test, read, guard)
 }
 
-/// That of the consequent.
+/// The chain of the consequent of a conditional, over what its test compares, behind a `0` where a
+/// reference is asked.
 pub fn chain_of_first(alloc: Global, node: Node, guard: Guard) -> Result<Node, OutOfMemory>
     ensures { IfOk result (λ w. w ≡ kept_by_value guard (chained node (part node 1))) }
 {

@@ -26,7 +26,7 @@ fn has_two(children: &Nodes) -> bool
     children.len() == 2
 }
 
-/// `b, c`
+/// Whether the expression is `b, c`, a sequence of two parts.
 pub fn is_pair(node: &Node) -> bool
     ensures kind { result ≡ is_it_pair node.now }
     ensures list { result ≡ true → count (children node.now) ≡ 1 }
@@ -168,7 +168,7 @@ fn are_both_alike(node: &Node, seat: Seat) -> bool
         && pair_weight(node.child(0), node.child(1), seat) < expr_weight(node, seat)
 }
 
-/// `a, b`
+/// The sequence `a, b`. The only error is that memory runs out.
 pub fn pair(alloc: Global, first: Node, last: Node) -> Result<Node, OutOfMemory>
     ensures { IfOk result (λ w. w ≡ pair_of first last) }
 {

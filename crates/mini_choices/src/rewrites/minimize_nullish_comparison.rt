@@ -87,7 +87,8 @@ fn loose(alloc: Global, equal: bool, comparison: Node) -> Result<Node, OutOfMemo
     binary(alloc, loosely(equal), one(comparison), null_literal(alloc))
 }
 
-/// What is written for two comparisons.
+/// What is written for two comparisons: `x == null`, or `x != null` of inequalities. The only error
+/// is that memory runs out.
 pub fn alone(alloc: Global, equal: bool, node: Node) -> Result<Node, OutOfMemory>
     ensures { IfOk result (λ w. w ≡ loose_of equal (part node 0)) }
 {
@@ -96,7 +97,8 @@ pub fn alone(alloc: Global, equal: bool, node: Node) -> Result<Node, OutOfMemory
     loose(alloc, equal, first)
 }
 
-/// What is written for two comparisons, the first behind an equal operator.
+/// What is written for two comparisons, the first behind an equal operator: `a || x == null`, or
+/// `a && x != null` of inequalities. The only error is that memory runs out.
 pub fn after(alloc: Global, equal: bool, node: Node) -> Result<Node, OutOfMemory>
     ensures { IfOk result (λ w. w ≡ after_of equal node) }
 {

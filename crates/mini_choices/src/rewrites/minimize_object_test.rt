@@ -54,7 +54,7 @@ fn is_loose(equal: bool, node: &Node) -> bool
     }
 }
 
-// Or strictly.
+// Whether the expression is `==` or `===`; `!=` or `!==` where they are to be unequal.
 fn is_equal(equal: bool, node: &Node) -> bool
     ensures kind { result ≡ is_equal_in (operator_of node.now) equal }
     ensures parts { result ≡ true → count (children node.now) ≡ 2 }
@@ -138,7 +138,7 @@ fn hold(alloc: Global, there: bool, comparison: Node) -> Result<Node, OutOfMemor
     }
 }
 
-// That of the comparison, behind an equal operator or alone.
+// `!!x` or `!x` of a comparison of x, behind an equal operator or alone.
 fn hold_last(alloc: Global, there: bool, node: Node) -> Result<Node, OutOfMemory>
     ensures { IfOk result (λ w. w ≡ last_held_of there node) }
 {

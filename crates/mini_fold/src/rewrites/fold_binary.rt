@@ -48,7 +48,7 @@ fn join_masks(alloc: Global, node: &mut Node, operator: BinaryOperator) -> Resul
     Ok(false)
 }
 
-// The same where this operator of bits stands over the same one.
+// `a & 2` of `a & 6 & 3`, where this operator of bits stands over the same one.
 fn join_mask(alloc: Global, node: &mut Node, operator: BinaryOperator) -> Result<bool, OutOfMemory>
     requires { count (children node.old) ≡ 2 }
     ensures tree { OnOk result (node.new ≡ unwrap_or (mask_written operator (part node.old 0) (part node.old 1) None) node.old) }

@@ -278,7 +278,7 @@ fn is_zero(number: Option<i64>) -> bool
     }
 }
 
-// Whether they are bits beside 0.
+// Whether the left side has numbers of 32 bits, as `a & 1` has, and the right one is 0.
 pub fn tests_bits(left: &Node, right: &Node) -> bool
     ensures { result ≡ operand.tests_bits left.now right.now }
 {
@@ -357,6 +357,7 @@ pub fn truth_in(node: &Node) -> Option<bool>
     }
 }
 
+/// Whether the two truths are the same.
 pub fn are_same(left: bool, right: bool) -> bool
     ensures { result ≡ are_they_same left right }
 {
@@ -375,7 +376,7 @@ fn may_stand(seat: Seat, holds: bool, boolean: &Node) -> bool
     }
 }
 
-// Whether the boolean tells the whole.
+// Whether the boolean, or its negation, stands for the whole equality in the seat.
 pub fn is_told(seat: Seat, holds: bool, boolean: &Node) -> bool
     ensures { result ≡ operand.is_told seat holds boolean.now }
 {
@@ -404,6 +405,7 @@ pub fn digit(alloc: Global, truth: bool) -> Node
     }
 }
 
+/// `==`, or `!=` where they are to be unequal.
 pub fn loosely(equal: bool) -> BinaryOperator
     ensures { result ≡ loose equal }
 {
@@ -525,7 +527,7 @@ pub fn fold_kept(
     Ok(false)
 }
 
-// The same with the number on either side: `a | 0` of `0 ^ a`
+// `a | 0` of bits that stay, with the number on either side: of `a << 0`, and of `0 ^ a`.
 pub fn fold_bits(
     alloc: Global,
     node: &mut Node,
@@ -648,8 +650,8 @@ fn fold_masks(
     fold_sides(alloc, node, seat, operator)
 }
 
-// The same where this operator of bits stands over the same one, and else by what is known of an
-// operand.
+// `a & 2` of `a & 6 & 3`, where this operator of bits stands over the same one, and else by what is
+// known of an operand.
 fn fold_mask(
     alloc: Global,
     node: &mut Node,

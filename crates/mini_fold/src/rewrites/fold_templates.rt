@@ -658,7 +658,9 @@ fn fold_sum_of_sum(alloc: Global, node: &mut Node, seat: Seat) -> Result<bool, O
     }
 }
 
-/// A sum with a template in it.
+/// A sum of a template and another, or of a template and what has a calculated value, becomes one
+/// template, also behind another operand, where that is lighter. The answer says whether it did;
+/// the only error is that memory runs out, and then the expression is fit only to be dropped.
 #[tactic(auto, using(crate::proofs::Templates::two_operands, crate::proofs::Templates::plain_tree, crate::proofs::Templates::plain_said))]
 pub fn fold_sum(alloc: Global, node: &mut Node, seat: Seat) -> Result<bool, OutOfMemory>
     requires outer { its_binary_operator node.old ≡ Some Addition }

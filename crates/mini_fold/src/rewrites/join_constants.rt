@@ -131,7 +131,7 @@ fn sign_weight(operator: BinaryOperator) -> u64
     }
 }
 
-// The same with one more operand, and the operator before it.
+// What an operand weighs with one more operand and the operator before it.
 #[tactic(auto, using(crate::proofs::Joins::capped_both))]
 fn both_weight(
     operator: BinaryOperator,

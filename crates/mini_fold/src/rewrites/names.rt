@@ -93,7 +93,7 @@ fn write_digit(alloc: Global, node: &mut Node, equal: bool) -> Result<bool, OutO
     Ok(false)
 }
 
-// The same by the operator.
+// `a == 1` of `a == !0`, and `1 == a` of `!0 == a`, of an equality by this operator.
 fn write_digits(
     alloc: Global,
     node: &mut Node,
@@ -204,7 +204,7 @@ fn hold_equal(alloc: Global, node: &mut Node, seat: Seat, equal: bool) -> Result
     take_boolean(alloc, node, seat, equal)
 }
 
-// The same of a loose equality, and a strict one that becomes loose.
+// A loose equality becomes shorter by what is known of its sides, and a strict one becomes loose.
 fn minimize_equality(
     alloc: Global,
     node: &mut Node,

@@ -87,7 +87,7 @@ fn leaves_last(node: &Node) -> bool
     leaves_now(node.child(2)) && is_unscoped(node.child(1))
 }
 
-// Either of them.
+// Whether it is `if (x) break;`, with or without `else`, or `if (x) s; else break;`.
 fn leaves(node: &Node) -> bool
     ensures { result ≡ row.leaves node.now }
 {
@@ -118,7 +118,7 @@ fn leads(node: &Node) -> bool
     is_block(node) && first_leaves(node.child(0).children())
 }
 
-// And in which no statement is scoped.
+// Whether it is a block that begins by leaving the loop, and in which no statement is scoped.
 fn begins_leaving(node: &Node) -> bool
     ensures { result ≡ row.begins_leaving node.now }
 {
@@ -186,7 +186,7 @@ fn split_if(alloc: Global, node: Node) -> Result<(Node, Node), OutOfMemory>
     Ok((turned, or_empty(alloc, alternate)))
 }
 
-// The same of a block.
+// The test by which the loop goes on and what is run then, of a block that begins by leaving it.
 #[tactic(auto, using(crate::proofs::MinimizeForStatement::first_there, crate::proofs::MinimizeForStatement::leads_first, crate::proofs::Negations::with_twice, crate::proofs::Negations::count_with))]
 fn split_block(alloc: Global, node: Node) -> Result<(Node, Node), OutOfMemory>
     requires { row.leads node ≡ true }
@@ -199,7 +199,7 @@ fn split_block(alloc: Global, node: Node) -> Result<(Node, Node), OutOfMemory>
     Ok((test, block(alloc, statements)?))
 }
 
-// And of a body.
+// The test by which the loop goes on and what is run then, of a body that begins by leaving it.
 #[tactic(auto, using(crate::proofs::MinimizeForStatement::block_leads, crate::proofs::MinimizeForStatement::plain_leaves))]
 fn split_body(alloc: Global, node: Node) -> Result<(Node, Node), OutOfMemory>
     requires { row.body_leads node ≡ true }

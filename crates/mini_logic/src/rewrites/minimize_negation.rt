@@ -36,7 +36,7 @@ pub fn minimize_negation(alloc: Global, node: &mut Node, seat: Seat) -> Result<b
     Ok(true)
 }
 
-/// That as a rule: of each expression.
+/// Row 23 of what is read inside the operand, as a rule: of each expression.
 pub struct MinimizeNegations;
 
 impl<C: Context> Rule<C> for MinimizeNegations {

@@ -53,7 +53,7 @@ fn ends_breaking(node: &Node) -> bool
     is_block(node) && breaks_last(node.child(0).children())
 }
 
-// Either of them.
+// Whether it is `break;`, or a block that ends with it.
 fn is_broken_end(node: &Node) -> bool
     ensures { result ≡ row.is_broken_end node.now }
 {
@@ -89,7 +89,7 @@ fn is_broken(node: &Node) -> bool
     is_do(node) && is_broken_end(node.child(0))
 }
 
-// And whose test fails.
+// Whether it is a `do` whose body ends with `break;`, and whose test fails.
 fn is_read(alloc: Global, node: &Node) -> Result<bool, OutOfMemory>
     ensures kind { IfOk result (λ b. b ≡ row.is_read node.now) }
     ensures parts { IfOk result (λ b. b ≡ true → count (children node.now) ≡ 2) }

@@ -40,7 +40,7 @@ fn ends_going(node: &Node) -> bool
     is_block(node) && goes_on_last(node.child(0).children())
 }
 
-// Either of them.
+// Whether it is `continue;`, or a block that ends with it.
 fn is_idle_end(node: &Node) -> bool
     ensures { result ≡ it_ends_idly node.now }
 {

@@ -48,7 +48,7 @@ fn bare_declarator(alloc: Global, name: Name) -> Result<Node, OutOfMemory>
     Ok(Node::new(Shape::VariableDeclarator, children))
 }
 
-// Such a declarator of each name.
+// A declarator without an initializer of each name.
 fn bare_declarators(alloc: Global, names: Vec<Name>) -> Result<Nodes, OutOfMemory>
     ensures { IfOk result (λ made. made ≡ list.bare_declarators names.items) }
 {

@@ -97,8 +97,8 @@ fn goes_whole(node: &Node) -> bool
     }
 }
 
-/// Whether it is a class, a `let` or a `const` that gives the names it declares, and takes along
-/// each other name in it that can't be written.
+/// Whether the statement is a class, a `let` or a `const` that gives the names it declares, and
+/// takes along each other name in it that can't be written.
 pub fn may_fade(node: &Node) -> bool
     ensures { result ≡ row.may_fade node.now }
 {
@@ -145,7 +145,7 @@ fn declarator(alloc: Global, kind: VariableDeclarationKind, name: Name) -> Resul
     Ok(Node::new(Shape::VariableDeclarator, children))
 }
 
-// Such a declarator of each name.
+// A declarator of each name: `x`, or `x = 0`.
 fn declarators(
     alloc: Global,
     kind: VariableDeclarationKind,
@@ -173,8 +173,9 @@ fn declaration(
     Ok(Node::new(Shape::VariableDeclaration(kind), children))
 }
 
-/// What is left of it: its names, in a declaration that initializes nothing but each name of a
-/// `const`, with `0`. The only error is that memory runs out.
+/// What is left of a class, a `let` or a `const` that never runs: its names, in a declaration that
+/// initializes nothing but each name of a `const`, with `0`. The only error is that memory runs
+/// out.
 pub fn faded(alloc: Global, node: &Node) -> Result<Nodes, OutOfMemory>
     ensures { IfOk result (λ left. left ≡ row.faded node.now) }
 {

@@ -3,7 +3,7 @@
 
 ghost use Rattle.std.specs.Prelude.{◌≡◌, ◌<◌, ◌&&◌, ◌||◌, true, false, Some, IfOk};
 ghost use Rattle.mini_model.specs.Tree.{Trees, none, ◌▸◌, child_or_absent, children, count};
-ghost use Rattle.mini_node.specs.Children.{part, with_part, rest_children, without};
+ghost use Rattle.mini_node.specs.Children.{names, part, with_part, rest_children, without};
 ghost use Rattle.mini_rows.specs.Lists as list;
 ghost use Rattle.mini_node.specs.Kinds.{is_sequence as is_it_sequence};
 ghost use Rattle.mini_stmt.specs.JoinAssignments as row;
@@ -18,7 +18,7 @@ use crate::rewrites::join_heads::{
 use crate::rewrites::join_vars::{declared_kind, declares};
 use crate::statements::{put_reversed, take_last};
 use crate::terms::{declares_nothing, is_one_part};
-use mini_model::{AssignmentOperator, OutOfMemory, Shape, VariableDeclarationKind};
+use mini_model::{AssignmentOperator, Name, OutOfMemory, Shape, VariableDeclarationKind};
 use mini_node::{
     Node, Nodes, discard, is_absent_part, is_expression_statement, is_identifier, is_listed,
     is_same_symbol, is_sequence, listed, of_one, one, sequence, two,
@@ -40,6 +40,23 @@ fn assigns_name(node: &Node) -> bool
         && declares_nothing(node.child(1))
 }
 
+// Whether both are names of the same spelling.
+fn is_spelled_alike(first: &Option<Name>, second: &Option<Name>) -> bool
+    ensures { result ≡ row.spelled_alike (names first.now) (names second.now) }
+{
+    match (first, second) {
+        (Some(one), Some(other)) => one.spelling.as_slice() == other.spelling.as_slice(),
+        _ => false,
+    }
+}
+
+// Whether both are one name: of the same spelling, and with one symbol.
+fn is_one_name(first: &Option<Name>, second: &Option<Name>) -> bool
+    ensures { result ≡ row.one_name (names first.now) (names second.now) }
+{
+    is_same_symbol(first, second) && is_spelled_alike(first, second)
+}
+
 /// Whether the declarator has no initializer, and the name that is assigned to.
 pub fn declares_bare(declarator: &Node, target: &Node) -> bool
     ensures { result ≡ row.declares_bare declarator.now target.now }
@@ -48,7 +65,7 @@ pub fn declares_bare(declarator: &Node, target: &Node) -> bool
         && declarator.is_bare(2)
         && matches!(declarator.child(0).shape(), Shape::BindingIdentifier)
         && declarator.child(0).is_named_leaf()
-        && is_same_symbol(declarator.child(0).name(), target.name())
+        && is_one_name(declarator.child(0).name(), target.name())
         && is_absent_part(declarator.child(1))
 }
 
@@ -172,7 +189,7 @@ fn holds(node: &Node) -> bool
     loops_first(node) || holds_plainly(node)
 }
 
-// That expression.
+// The expression that a statement evaluates first.
 fn held(node: &Node) -> &Node
     ensures { result.now ≡ row.held node.now }
 {
@@ -182,7 +199,7 @@ fn held(node: &Node) -> &Node
     held_plainly(node)
 }
 
-// That of any other.
+// The expression that a statement other than a `for` over a `var` evaluates first.
 fn held_plainly(node: &Node) -> &Node
     ensures { result.now ≡ row.held_plainly node.now }
 {
@@ -236,7 +253,7 @@ pub fn beginning_of(node: &Node) -> &Node
     node.child(0)
 }
 
-/// Whether it begins with an assignment, which leaves a statement, or nothing.
+/// Whether the statement begins with an assignment, which leaves a statement, or nothing.
 pub fn assigns_first(node: &Node) -> bool
     ensures kind { result ≡ row.assigns_first node.now }
     ensures parts { result ≡ true → 0 < count (children node.now) }
@@ -295,7 +312,7 @@ fn split(alloc: Global, sequence: Node) -> Result<(Node, Node), OutOfMemory>
     Ok((value, rest))
 }
 
-// The same of a sequence that is a child.
+// `b`, and the child with `c`, of a child `(a = b, c)`.
 #[tactic(auto, using(crate::proofs::Parts::same_parts, crate::proofs::Parts::part_twice))]
 fn leave_child(alloc: Global, mut next: Node, at: usize) -> Result<(Node, Node), OutOfMemory>
     requires within { at < count (children next) }
@@ -308,7 +325,7 @@ fn leave_child(alloc: Global, mut next: Node, at: usize) -> Result<(Node, Node),
     Ok((value, over_child(next, at, rest)))
 }
 
-// The same of the first initializer of a declaration.
+// `b`, and the declaration with `c`, of one whose first initializer is `(a = b, c)`.
 #[tactic(auto, using(crate::proofs::Parts::same_parts, crate::proofs::Parts::part_twice))]
 fn leave_first(alloc: Global, mut next: Node) -> Result<(Node, Node), OutOfMemory>
     requires some { 0 < count (children next) }
@@ -325,7 +342,7 @@ fn leave_first(alloc: Global, mut next: Node) -> Result<(Node, Node), OutOfMemor
     Ok((value, over_child(next, 0, others)))
 }
 
-// The same of the first initializer of a `var` in the head of a `for`.
+// `b`, and the `for` with `c`, of a `for` over a `var` whose first initializer is `(a = b, c)`.
 #[tactic(auto, using(crate::proofs::Parts::same_parts, crate::proofs::Parts::part_twice))]
 fn leave_looped(alloc: Global, mut next: Node) -> Result<(Node, Node), OutOfMemory>
     requires some { 0 < count (children next) }
@@ -341,7 +358,7 @@ fn leave_looped(alloc: Global, mut next: Node) -> Result<(Node, Node), OutOfMemo
     Ok((value, over_child(next, 0, rest)))
 }
 
-// The same of the sequence that a statement holds.
+// `b`, and the statement with `c`, of one that holds `(a = b, c)`.
 fn leave_held(alloc: Global, next: Node) -> Result<(Node, Node), OutOfMemory>
     requires { row.holds_sequence next ≡ true }
     ensures value { IfOk result (λ made. made.0 ≡ part (part (part (row.held next) 0) 0) 1) }
@@ -353,7 +370,7 @@ fn leave_held(alloc: Global, next: Node) -> Result<(Node, Node), OutOfMemory>
     leave_plainly(alloc, next)
 }
 
-// And of any other.
+// `b`, and the statement with `c`, of any other that begins with `(a = b, c)`.
 fn leave_plainly(alloc: Global, next: Node) -> Result<(Node, Node), OutOfMemory>
     requires whole { row.holds_sequence next ≡ true }
     requires plain { row.loops_first next ≡ false }
@@ -482,7 +499,8 @@ fn enters(first: &Node, next: &Node) -> bool
     enters_at(first, next).is_some()
 }
 
-// Either of them.
+// Whether a `var` goes into the head of the next statement, or an assignment that begins that goes
+// into it.
 fn joins_var(options: CompressOptions, first: &Node, next: &Node) -> bool
     ensures { result ≡ row.joins_var (switches_of options) first.now next.now }
 {

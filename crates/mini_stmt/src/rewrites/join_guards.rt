@@ -55,7 +55,8 @@ fn leaps(node: &Node) -> bool
         && is_absent_part(node.child(0))
 }
 
-// Either of them.
+// Whether it is `break;` or `continue;`, or an expression, a `return` or a `throw` that leaves
+// nothing behind.
 fn may_go(node: &Node) -> bool
     ensures { result ≡ row.may_go node.now }
 {
@@ -84,7 +85,7 @@ fn meets(first: &Node, next: &Node) -> bool
     ends_before(first, next) || are_guards(first, next)
 }
 
-// That one.
+// The one statement that is left of the two.
 fn met(alloc: Global, first: Node, next: Node) -> Result<Node, OutOfMemory>
     ensures { IfOk result (λ made. made ≡ row.met first next) }
 {

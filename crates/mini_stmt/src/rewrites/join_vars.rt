@@ -98,7 +98,9 @@ fn with_var(alloc: Global, first: Node, mut next: Node) -> Result<Node, OutOfMem
     Ok(over_child(next, 0, declared))
 }
 
-/// Either of them.
+/// A declaration of this kind and the next statement as one: the two declarations joined, or
+/// `for (var a, b; c; d) e` of `var a;` and `for (var b; c; d) e`. The only error is that memory
+/// runs out.
 pub fn with_declaration(
     alloc: Global,
     kind: VariableDeclarationKind,

@@ -68,7 +68,8 @@ fn leaves_by_block(in_loop: bool, node: &Node) -> bool
         && are_unscoped(node.child(1).child(0).children())
 }
 
-// Either of them.
+// Whether the statement is a guard: `if (a) return;`, or `if (a) { b; return; }`, and in a loop
+// with `continue`.
 pub(crate) fn is_guard(in_loop: bool, node: &Node) -> bool
     ensures { result ≡ row.is_guard in_loop node.now }
 {
@@ -136,7 +137,7 @@ fn turned_block(alloc: Global, in_loop: bool, guard: Node, rest: Nodes) -> Resul
     if_statement(alloc, test, kept, alternate)
 }
 
-// Either of them.
+// The guard with what follows it in a block: `if (!a) { b; c; }`, or `if (a) { b; } else { c; }`.
 pub(crate) fn turned(
     alloc: Global,
     in_loop: bool,

@@ -61,7 +61,7 @@ fn is_key_of(key: &Node, target: &Node) -> bool
     is_identifier(target) && names_key(key, target.name())
 }
 
-// The same of the target without its default.
+// Whether the target, without its default, is the name that the key is.
 fn repeats_key(key: &Node, value: &Node) -> bool
     ensures { result ≡ row.repeats_key key.now value.now }
 {

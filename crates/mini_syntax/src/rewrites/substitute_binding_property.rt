@@ -92,7 +92,8 @@ fn bare_part(alloc: Global, node: &mut Node) -> Result<bool, OutOfMemory>
     Ok(below)
 }
 
-// The same of the first of them that has one.
+// Of some parts of a pattern the first one with such a key loses its brackets. The answer says
+// whether there is one.
 #[cycle(baring)]
 fn bare_first(alloc: Global, parts: &mut Nodes) -> Result<bool, OutOfMemory>
     ensures tree { OnOk result (parts.new ≡ first_bared parts.old) }

@@ -109,7 +109,8 @@ fn is_static_member(shape: &Shape) -> bool
 }
 
 impl ClassPropertyKeyParent {
-    /// Of a method of a class.
+    /// What is asked of the key of a method of a class: that it is a method, and whether it is
+    /// static.
     pub fn of_method(method: &Node) -> ClassPropertyKeyParent
         ensures kind { result.kind ≡ MethodDefinition }
         ensures is_static { result.is_static ≡ row.is_static_member (shape_of method.now) }
@@ -120,7 +121,8 @@ impl ClassPropertyKeyParent {
         }
     }
 
-    /// Of a field of a class.
+    /// What is asked of the key of a field of a class: that it is a field, and whether it is
+    /// static.
     pub fn of_property(property: &Node) -> ClassPropertyKeyParent
         ensures kind { result.kind ≡ PropertyDefinition }
         ensures is_static { result.is_static ≡ row.is_static_member (shape_of property.now) }

@@ -158,7 +158,7 @@ fn drop_first(node: &mut Node)
     }
 }
 
-// The same of the declaration that is the first child.
+// Lets the first undefined initializer go of the declaration that is the first child.
 fn drop_below(node: &mut Node)
     requires child { 0 < count (children node.old) }
     requires declares { is_declared_undefined (part node.old 0) ≡ true }
@@ -170,7 +170,7 @@ fn drop_below(node: &mut Node)
     put_child(node, 0, declaration);
 }
 
-// The same of a statement of a list.
+// Lets the first undefined initializer go of a statement of a list.
 fn drop_in_statement(node: &mut Node)
     requires { is_it_read node.old ≡ true }
     ensures { Bared node.old node.new }
@@ -182,7 +182,7 @@ fn drop_in_statement(node: &mut Node)
     }
 }
 
-// The same of the statement at the index of a list.
+// Lets the first undefined initializer go of the statement at the index of a list.
 fn drop_in_list(node: &mut Node, at: usize)
     requires found { at < count (children node.old) }
     requires read { is_it_read (part node.old at) ≡ true }

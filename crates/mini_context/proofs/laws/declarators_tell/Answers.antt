@@ -5,4 +5,4 @@ use Rattle.mini_context.proofs.Uses.{alike}
 use Rattle.mini_context.proofs.laws.declarators_tell.Goals as goal
 
 pub returns : goal.returns
-returns c t s = (alike reads Hoisted Read refl t s, alike writes Hoisted Read refl t s)
+returns c t s = (alike reads refl Hoisted Read refl t s, alike writes refl Hoisted Read refl t s)

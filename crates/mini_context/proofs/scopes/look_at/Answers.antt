@@ -1,8 +1,8 @@
 use Rattle.std.proofs.Common.{refl, arith}
 use Rattle.std.proofs.lemmas.Result.{on_ok_weaker}
 use Rattle.mini_laws.specs.ScopeList.{seen_by_eval}
-use Rattle.mini_laws.specs.Shared.{program_var_writes}
-use Rattle.mini_context.proofs.Told.{from_blank, joined_blank}
+use Rattle.mini_laws.specs.Shared.{program_pattern_writes}
+use Rattle.mini_context.proofs.Told.{from_blank}
 use Rattle.mini_context.proofs.scopes.look_at.Goals as goal
 
 pub returns : goal.returns
@@ -26,14 +26,14 @@ returns c =
       looked = record {
         tops_told = from_blank n _ _ _ refl marked;
         seen_told = from_blank n (seen_by_eval t) _ c.list_program.new.scopes.seen.items refl listed.seen;
-        given_told = joined_blank n (program_var_writes t) _ c.list_program.new.given.items refl listed.given;
+        pattern_writes_told = from_blank n (program_pattern_writes t) _ c.list_program.new.pattern_writes.items refl listed.patterns;
+        given_told = found.given_told;
         exchanged_told = found.exchanged_told;
         imported_told = found.imported_told;
         reached_told = found.reached_told;
         patterns_told = found.patterns_told;
         lexical_told = found.lexical_told;
         switched_told = found.switched_told;
-        params_told = found.params_told;
         caught_told = found.caught_told;
         mentioned_told = found.mentioned_told;
         written_told = found.written_told;

@@ -1,6 +1,6 @@
 use Rattle.std.proofs.lemmas.Result.{on_ok_weaker}
 use Rattle.mini_context.specs.Found.{Found}
-use Rattle.mini_context.proofs.Told.{body_by, caught_by, enclosed_by, exchanged_by_walk, fixed_by, homes_by, imported_by_walk, lexical_by, mentions_by, params_by, patterns_by, reached_by_walk, switched_by, written_by}
+use Rattle.mini_context.proofs.Told.{body_by, caught_by, enclosed_by, exchanged_by_walk, fixed_by, given_by, homes_by, imported_by_walk, lexical_by, mentions_by, patterns_by, reached_by_walk, switched_by, written_by}
 use Rattle.mini_context.proofs.scopes.survey_program.Goals as goal
 
 pub returns : goal.returns
@@ -20,10 +20,10 @@ returns c =
       patterns_told = patterns_by n top t old.patterns.items new.patterns.items blank.patterns found.patterns;
       lexical_told = lexical_by n top t old.lexical.items new.lexical.items stands blank.lexical found.lexical;
       switched_told = switched_by n top t old.switched.items new.switched.items blank.switched found.switched;
-      params_told = params_by n top t old.params.items new.params.items blank.params found.params;
       caught_told = caught_by n top t old.caught.items new.caught.items blank.caught found.caught;
       mentioned_told = mentions_by n top t old.mentioned.items new.mentioned.items stands blank.mentioned found.mentions;
       written_told = written_by n top t old.written.items new.written.items stands blank.written found.written;
+      given_told = given_by n top t old.given.items new.given.items stands blank.given found.values;
       homes_told = homes_by n top t old.homes.items new.homes.items stands blank.homes found.homes;
       enclosed_told = enclosed_by n top t old.enclosing new.enclosing blank.functions blank.numbers found.enclosing;
       this_told = body_by (λ f. f.binds_this) top t old.this_events.items new.this_events.items stands blank.this_events found.this_events;
