@@ -81,4 +81,3 @@ module _ (b : ℕ) where
 pub root_number : (h : Head) (ts : Trees) → has_number 0 (node (shape_by h) [] 0 ts) ≡ true
 unfolding has_number
 root_number h ts = refl
-

@@ -37,3 +37,4 @@ pub mod DeMorganLess
 pub mod Whole
 pub mod IfsLess
 pub mod BodiesLess
+pub mod BodyThisLess

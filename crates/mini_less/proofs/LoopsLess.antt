@@ -268,9 +268,9 @@ module _ (f : Frame) (i j : Tree) (ts us : Trees) (same : headed f j ≡ headed 
         let cs = below false c h 0 in
         let e = in_head env f i in
         let n_is : any_of (finds_each o (opened c.used h (i ▸ ts)) cs 0 env (i ▸ ts)) ≡ any_of (finds_each o (λ k. []) cs 0 e (i ▸ ts)) =
-            ap any_of (head_finds o (opened c.used h (i ▸ ts)) (later_scopes c.used f i ts) cs env i ts ∙ ap (λ b. finds_each o (λ k. []) cs 0 b (i ▸ ts)) around_first) in
+        ap any_of (head_finds o (opened c.used h (i ▸ ts)) (later_scopes c.used f i ts) cs env i ts ∙ ap (λ b. finds_each o (λ k. []) cs 0 b (i ▸ ts)) around_first) in
         let w_is : any_of (finds_each o (opened c.used h (j ▸ us)) cs 0 env (j ▸ us)) ≡ any_of (finds_each o (λ k. []) cs 0 e (j ▸ us)) =
-            ap any_of (head_finds o (opened c.used h (j ▸ us)) (later_scopes c.used f j us) cs env j us ∙ ap (λ b. finds_each o (λ k. []) cs 0 b (j ▸ us)) around_both) in
+        ap any_of (head_finds o (opened c.used h (j ▸ us)) (later_scopes c.used f j us) cs env j us ∙ ap (λ b. finds_each o (λ k. []) cs 0 b (j ▸ us)) around_both) in
         found_less o c env (loop_node f i ts) (loop_node f j us)
         (either_or (o c env h [] 0 (j ▸ us)) (any_of (finds_each o (opened c.used h (j ▸ us)) cs 0 env (j ▸ us))) (o c env h [] 0 (i ▸ ts)) (any_of (finds_each o (opened c.used h (i ▸ ts)) cs 0 env (i ▸ ts)))
         (p.looped c env f i j ts us same evals)
@@ -320,7 +320,7 @@ module _ (f : Frame) (i j : Tree) (ts us : Trees) (same : headed f j ≡ headed 
               let e = in_head env f i in
               let n_is = n_says true z ∙ head_says m s c e f i ts z in
               let w_is : pace (early m s) c env (loop_node f j us) ≡ said_in m s c e f i (before_head f ts) =
-                  w_says true z ∙ ap (λ x. said_in m s c e f x us) g ∙ head_says m s c e f i us z ∙ ap (said_in m s c e f i) r in
+              w_says true z ∙ ap (λ x. said_in m s c e f x us) g ∙ head_says m s c e f i us z ∙ ap (said_in m s c e f i) r in
               subst (λ x. AtMost x (pace (early m s) c env (loop_node f i ts))) (sym w_is) (subst (AtMost (said_in m s c e f i (before_head f ts))) (sym n_is) (itself _))
 
   arguments : names_arguments (loop_node f j us) ≡ true → names_arguments (loop_node f i ts) ≡ true
