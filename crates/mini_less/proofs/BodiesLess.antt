@@ -1,22 +1,22 @@
 -- Rows of branches and of bodies of loops ask less.
-use Rattle.std.specs.Prelude.{◌≡◌, refl, Bool, true, ◌&&◌, [], ◌∷◌}
-use Rattle.std.proofs.Common.{inl, inr, ap, ◌∙◌, sym, subst}
+use Rattle.std.specs.Prelude.{◌≡◌, refl, Bool, true, [], ◌∷◌}
+use Rattle.std.proofs.Common.{inl, inr, ap, sym, subst}
 use Rattle.mini_model.specs.declared.operator.LogicalOperator.TheVariants.{And}
 use Rattle.mini_model.specs.declared.operator.UnaryOperator.TheVariants.{LogicalNot}
 use Rattle.mini_model.specs.declared.place.Position.TheVariants.{Stmt}
 use Rattle.mini_model.specs.declared.seat.StmtSeat.{StmtSeat}
 use Rattle.mini_model.specs.Paths.{append}
-use Rattle.mini_model.specs.Tree.{Tree, Trees, none, ◌▸◌, listed, absent, if_else, negation, logical, empty_statement}
+use Rattle.mini_model.specs.Tree.{Tree, Trees, none, ◌▸◌, listed, absent, empty_statement}
 use Rattle.mini_accept.specs.WellShaped.{Slot, fits}
-use Rattle.mini_rows.specs.Branches.{Surrounding, Consequent, Alternate, WhileBody, DoBody, ForBody, InBody, OfBody, around, bare_continue, Row79, Row78Whole, Row78Never}
+use Rattle.mini_rows.specs.Branches.{Surrounding, Consequent, Alternate, WhileBody, DoBody, ForBody, InBody, OfBody, around, bare_continue}
 use Rattle.mini_rows.specs.Lists.{block, is_unscoped, are_unscoped}
-use Rattle.mini_rows.specs.Loops.{bare_break, Tested, always, while_true, test_of, also, Leaving, alone, or_else, unless, leaves_by, goes_by, runs_on, is_loose, Leading, whole, before, led, others_of, Row84}
+use Rattle.mini_rows.specs.Loops.{bare_break, Tested, always, while_true, test_of, also, Leaving, alone, or_else, unless, leaves_by, goes_by, runs_on, Leading, whole, before, led, others_of, Row84}
 use Rattle.mini_rows.specs.Sketches.{AList, Empty, If, Block, part, under, list, end, ◌▹◌, no_items, item, items, Free, Asked, AsWhole, AsValue, AsBranch, AsItems, AsItem}
 use Rattle.mini_rows.proofs.Arranging.{All, all_of, of_all, Any}
 use Rattle.mini_rows.proofs.ArrangedPlain.{is_plain}
 use Rattle.mini_less.specs.Families.{LessAt, BodyRowsLess}
 use Rattle.mini_less.specs.Less.{AFor, AWhile, ADo, AnIn, AnOf, Plain}
-use Rattle.mini_less.proofs.IfsLess.{block_plain, if_parts, an_if, nothing}
+use Rattle.mini_less.proofs.IfsLess.{block_plain, if_parts, an_if}
 use Rattle.mini_less.proofs.LoopsLess.{loop_less}
 use Rattle.mini_less.proofs.Made.{ByParts, made_statement_less}
 use Rattle.mini_less.proofs.Nodes.{a_unary, a_logical}

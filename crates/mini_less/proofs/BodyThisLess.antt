@@ -1,26 +1,25 @@
 -- Rows that rest on what is known of the body around, of `this` and of members, ask less, whatever is known.
-use Rattle.std.specs.Prelude.{◌≡◌, ◌⊎◌, refl, pos, Bool, true, false, ◌&&◌, []}
+use Rattle.std.specs.Prelude.{◌≡◌, ◌⊎◌, refl, pos, true, false, []}
 use Rattle.std.proofs.Common.{inl, inr, ◌∙◌, sym, subst}
 use Rattle.std.proofs.lemmas.Bool.{and_parts}
 use Rattle.mini_model.specs.declared.operator.AssignmentOperator.TheVariants.{Assign}
-use Rattle.mini_model.specs.declared.operator.LogicalOperator.{LogicalOperator}
 use Rattle.mini_model.specs.declared.operator.UnaryOperator.TheVariants.{Void}
 use Rattle.mini_model.specs.declared.place.Position.TheVariants.{Expr, Stmt}
 use Rattle.mini_model.specs.declared.seat.Seat.{Seat}
 use Rattle.mini_model.specs.declared.seat.StmtSeat.{StmtSeat}
 use Rattle.mini_model.specs.Paths.{append}
-use Rattle.mini_model.specs.Tree.{Tree, Trees, none, ◌▸◌, absent, identifier, logical}
+use Rattle.mini_model.specs.Tree.{Tree, Trees, none, ◌▸◌, absent, identifier}
 use Rattle.mini_node.specs.Kinds.{computed_member}
 use Rattle.mini_laws.specs.declared.names.Declared.TheVariants as declared
 use Rattle.mini_laws.specs.DeclaredNames.{names_of}
 use Rattle.mini_kept.proofs.Quiet.{no_names}
 use Rattle.mini_terms.specs.Reading.{is_plain_part}
 use Rattle.mini_rows.specs.Choices.{deciding, member_on, member_of, ChosenRow, ChosenMemberRow, ChosenIndexedRow}
-use Rattle.mini_rows.specs.Idle.{is_still, is_still_part, Row22This, Row22InitThis, Row22UpdateThis, IdleRow, IdleStatement}
+use Rattle.mini_rows.specs.Idle.{is_still, is_still_part, IdleRow, IdleStatement}
 use Rattle.mini_rows.specs.Lists.{sequence}
 use Rattle.mini_rows.specs.Members.{this, object, member_at, Row38Member, Row38MemberLast, Row35This, MemberRow}
-use Rattle.mini_rows.specs.Sketches.{AbsentPart, Unary, Logical, Assignment, Empty, OfExpression, Asked, AsValue, AsWhole, AsTarget, AsUpdated}
-use Rattle.mini_rows.specs.Spellings.{binary, assignment, numeral, void_zero}
+use Rattle.mini_rows.specs.Sketches.{AbsentPart, Unary, Logical, Assignment, Empty, OfExpression, AsValue, AsWhole}
+use Rattle.mini_rows.specs.Spellings.{binary, assignment, numeral}
 use Rattle.mini_kept.specs.Without.{Assured}
 use Rattle.mini_rows.specs.Still.{Row1This, StillRow}
 use Rattle.mini_rows.proofs.ForPartKept.{plain_is_quiet}
@@ -28,7 +27,7 @@ use Rattle.mini_less.specs.Families.{LessAt, BodyRowsOfThisLess}
 use Rattle.mini_less.specs.Less.{AFor}
 use Rattle.mini_less.proofs.ConditionalsLess.{assigned_parts, retargeted, member_updated, calls_less, chosen_target_less, zero_less}
 use Rattle.mini_less.proofs.LoopsLess.{loop_less}
-use Rattle.mini_less.proofs.Made.{ByParts, made_statement_less}
+use Rattle.mini_less.proofs.Made.{made_statement_less}
 use Rattle.mini_less.proofs.Nodes.{binary_parts, logical_parts, sequence_parts, a_sequence, firsts, lasts, both_of, a_void, made_under}
 use Rattle.mini_less.proofs.OperandsLess.{type_less}
 use Rattle.mini_less.proofs.SequencesLess.{dropped_less, alone_less}

@@ -9,14 +9,14 @@ use Rattle.mini_model.specs.declared.seat.StmtSeat.{StmtSeat}
 use Rattle.mini_model.specs.Position.{left_operand_seat, statement_expression_seat}
 use Rattle.mini_model.specs.Paths.{append}
 use Rattle.mini_model.specs.Terms.{turned}
-use Rattle.mini_model.specs.Tree.{Tree, Trees, none, ◌▸◌, listed, expression_statement, logical}
+use Rattle.mini_model.specs.Tree.{Tree, Trees, none, ◌▸◌, listed, logical}
 use Rattle.mini_accept.specs.WellShaped.{Slot, each, fits, fill}
 use Rattle.mini_laws.specs.declared.names.Declared.TheVariants as declared
 use Rattle.mini_laws.specs.DeclaredNames.{names_of}
 use Rattle.mini_kept.proofs.Expressions.{expression}
 use Rattle.mini_kept.proofs.Quiet.{no_names}
-use Rattle.mini_rows.specs.DeMorgan.{turned_logical, VoidPlace, Alone, Begins, Turns, void_of, ended, Row50, Row50Part, DeMorganRow, DeMorganContracts}
-use Rattle.mini_rows.specs.Lists.{sequence, for_loop}
+use Rattle.mini_rows.specs.DeMorgan.{turned_logical, VoidPlace, Alone, Begins, Turns, void_of, ended, DeMorganRow, DeMorganContracts}
+use Rattle.mini_rows.specs.Lists.{sequence}
 use Rattle.mini_rows.specs.Negations.{lightest}
 use Rattle.mini_rows.specs.Sketches.{Sequence, OfExpression, Asked, AsValue, AsWhole}
 use Rattle.mini_rows.proofs.DeMorganLawful.{in_head, place_inner}

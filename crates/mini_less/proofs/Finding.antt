@@ -11,7 +11,7 @@ use Rattle.mini_accept.specs.WellShaped.{fits}
 use Rattle.mini_laws.specs.declared.names.Use.TheVariants.{Read}
 use Rattle.mini_laws.specs.declared.names.Binding.{Binding}
 use Rattle.mini_laws.specs.declared.names.Around.{Around}
-use Rattle.mini_laws.specs.Scopes.{opened, scopes_by, at_or_empty}
+use Rattle.mini_laws.specs.Scopes.{opened}
 use Rattle.mini_laws.specs.Resolved.{Environment}
 use Rattle.mini_laws.specs.Strict.{is_strict_in}
 use Rattle.mini_laws.specs.Mentions.{around_child}

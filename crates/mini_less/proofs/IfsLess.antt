@@ -1,5 +1,5 @@
 -- Rows of `if` ask less, and that of `return` without a value.
-use Rattle.std.specs.Prelude.{◌≡◌, ◌⊎◌, refl, Bool, true, false, not, [], ◌∷◌, if◌then◌else◌}
+use Rattle.std.specs.Prelude.{◌≡◌, refl, Bool, true, false, [], ◌∷◌, if◌then◌else◌}
 use Rattle.std.proofs.Common.{inl, inr, sym, subst, true≢false}
 use Rattle.mini_model.specs.declared.operator.LogicalOperator.{LogicalOperator}
 use Rattle.mini_model.specs.declared.operator.LogicalOperator.TheVariants.{Or, And}
@@ -10,19 +10,18 @@ use Rattle.mini_model.specs.declared.shape.Shape.TheVariants as shape
 use Rattle.mini_model.specs.Position.{if_test_seat}
 use Rattle.mini_model.specs.Paths.{append}
 use Rattle.mini_model.specs.Terms.{not_of}
-use Rattle.mini_model.specs.Tree.{Tree, Trees, node, none, ◌▸◌, listed, absent, expression_statement, if_else, if_alone, negation, logical}
+use Rattle.mini_model.specs.Tree.{Tree, node, none, ◌▸◌, listed, absent, expression_statement, if_else, if_alone, logical}
 use Rattle.mini_accept.specs.WellShaped.{Slot, fits}
-use Rattle.mini_kept.proofs.Expressions.{expression}
 use Rattle.mini_kept.proofs.Rows.{of_if}
-use Rattle.mini_rows.specs.Branches.{has_else, as_consequent, Row60, conjunct_seat, Ending, not_of_all, after, with_not, without_not, Row82EmptyOr, Row82EmptyAnd, Row82EndsOr, Row82EndsAnd, Row83Alone, Row83Else, Row83Nested, Row83Block, IfRow}
-use Rattle.mini_rows.specs.Lists.{block, sequence, return_statement, is_unscoped}
-use Rattle.mini_rows.specs.Sketches.{AbsentPart, AList, Unary, Logical, OfExpression, Return, If, Block, Sketch, part, under, list, end, ◌▹◌, no_items, item, Parts, Free, Asked, AsWhole, AsValue, AsBranch, AsItems, AsItem}
+use Rattle.mini_rows.specs.Branches.{has_else, as_consequent, Row60, conjunct_seat, Ending, not_of_all, after, with_not, without_not, IfRow}
+use Rattle.mini_rows.specs.Lists.{block, is_unscoped}
+use Rattle.mini_rows.specs.Sketches.{AbsentPart, AList, OfExpression, Return, If, Block, part, under, list, end, ◌▹◌, no_items, item, Free, Asked, AsWhole, AsValue, AsBranch, AsItems}
 use Rattle.mini_rows.proofs.ArrangedPlain.{is_plain}
 use Rattle.mini_less.specs.Families.{LessAt, IfRowsLess}
 use Rattle.mini_less.specs.Less.{Plain}
 use Rattle.mini_less.proofs.Made.{ByParts, made_statement_less}
 use Rattle.mini_less.proofs.Negated.{not_kept}
-use Rattle.mini_less.proofs.Nodes.{unary_part, logical_parts, a_logical, sequence_parts, a_sequence, firsts, lasts, both_of}
+use Rattle.mini_less.proofs.Nodes.{unary_part, a_logical, sequence_parts, a_sequence, firsts, lasts, both_of}
 
 -- a block of an unscoped statement is plain
 abbrev first_moved : Free

@@ -1,5 +1,5 @@
 -- A loop asks less where its parts hold nothing new, under the names that its head declares.
-use Rattle.std.specs.Prelude.{ℕ, zero, suc, ◌≡◌, ◌⊎◌, refl, Bool, true, false, ◌&&◌, ◌||◌, List, [], ◌∷◌, ◌++◌}
+use Rattle.std.specs.Prelude.{ℕ, zero, suc, ◌≡◌, ◌⊎◌, refl, Bool, true, false, ◌||◌, List, [], ◌∷◌, ◌++◌}
 use Rattle.std.proofs.Common.{ap, ◌∙◌, sym, subst, inl, inr, true≢false}
 use Rattle.std.proofs.lemmas.List.{append-nil}
 use Rattle.mini_model.specs.declared.operator.AssignmentOperator.TheVariants.{Assign}
@@ -29,7 +29,7 @@ use Rattle.mini_less.specs.Families.{LessAt}
 use Rattle.mini_less.specs.Less.{Frame, AFor, AWhile, ADo, AnIn, AnOf, frame_shape, headed, TellsPlainly}
 use Rattle.mini_less.proofs.EachFact.{by_fact, found_less}
 use Rattle.mini_less.proofs.Finding.{Lacks, lacks_local, never, setting, setting_below, lacks_below, below_lacks}
-use Rattle.mini_less.proofs.Flags.{none_of, spares_local, numbers_local, spares_below, below_spares, numbers_below, below_numbers, unlike}
+use Rattle.mini_less.proofs.Flags.{spares_local, numbers_local, spares_below, below_spares, numbers_below, below_numbers, unlike}
 use Rattle.mini_less.proofs.Made.{ByParts, by_parts, Spared, spared_by_parts, spared_below, below_spared, lacks_updated, lacks_properties, lacks_moved, calm_moved, calm_updated, calm_properties, spares_properties, numbers_properties}
 use Rattle.mini_less.proofs.Plainly.{is_reads, is_ended, split, join, not_ended, less_by, Calmly, calm_local, calm_below, below_calm, standing, standing_below, none_ended, head_scope, later_scopes}
 

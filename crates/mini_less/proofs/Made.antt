@@ -25,7 +25,7 @@ use Rattle.mini_shrink.specs.Pace.{AtMost, Setting, below, pace}
 use Rattle.mini_shrink.specs.Questions.{Own, asks, any_of, finds, finds_each, early}
 use Rattle.mini_shrink.specs.Shrinking.{AsksLess}
 use Rattle.mini_rows.specs.Sketches.{Head, AList, If, Block, Call, shape_by, Asked, AsValue, AsValues, AsWhole, AsTarget, AsUpdated, AsBranch, AsItem, asked_below, use_by, leaps, is_expression_head, is_statement_head}
-use Rattle.mini_less.specs.Families.{FewerAt, LessAt}
+use Rattle.mini_less.specs.Families.{LessAt}
 use Rattle.mini_less.specs.Flags.{FlagsLess}
 use Rattle.mini_less.specs.Less.{TellsPlainly, Plain}
 use Rattle.mini_rows.proofs.Arranging.{Any, Below, Local}
@@ -35,7 +35,7 @@ use Rattle.mini_less.proofs.EachFact.{AloneToo, Unordered, unordered, by_value, 
 use Rattle.mini_less.proofs.Evals.{no_callee}
 use Rattle.mini_less.proofs.Finding.{Lacks, lacks_local, lacks_anyhow, as_asked, never, setting}
 use Rattle.mini_less.proofs.Flags.{none_of, leaping, spares_local, numbers_local, root_number}
-use Rattle.mini_less.proofs.Plainly.{alone, early_alone, read, is_reads, is_ended, less_by, Calmly, calm_local, calm_anyhow, root_ended, standing}
+use Rattle.mini_less.proofs.Plainly.{alone, early_alone, read, is_ended, less_by, Calmly, calm_local, calm_anyhow, root_ended, standing}
 use Rattle.mini_less.proofs.Statements.{alone as anywhere}
 
 -- no call, of which more is asked than of its parts: a direct eval is one of the name `eval`
