@@ -8,19 +8,19 @@ use Rattle.mini_model.specs.declared.place.Position.TheVariants.{Expr}
 use Rattle.mini_model.specs.declared.seat.Seat.{Seat}
 use Rattle.mini_model.specs.Position.{left_operand_seat}
 use Rattle.mini_model.specs.Terms.{not_of}
-use Rattle.mini_model.specs.Tree.{Tree, none, ◌▸◌, negation, logical, conditional}
+use Rattle.mini_model.specs.Tree.{Tree, none, ◌▸◌, negation, conditional}
 use Rattle.mini_accept.specs.WellShaped.{fits}
 use Rattle.mini_laws.specs.ScopeList.{is_eval_callee}
 use Rattle.mini_kept.proofs.Expressions.{of_conditional}
 use Rattle.mini_terms.specs.Kind.{kind}
 use Rattle.mini_terms.specs.Reading.{stands}
-use Rattle.mini_rows.specs.Booleans.{digit, is_boolean_kind, chosen, joined, is_truth, truth_of, plus, plus_seat, as_boolean, Row24, Row25, KnownBranch, Row47Both, Row48, BooleanRow, BooleanContracts}
+use Rattle.mini_rows.specs.Booleans.{digit, is_boolean_kind, chosen, joined, is_truth, truth_of, plus, plus_seat, as_boolean, Row25, KnownBranch, BooleanRow, BooleanContracts}
 use Rattle.mini_rows.specs.Sketches.{Number, Unary, Logical, Conditional, AsValue}
 use Rattle.mini_rows.specs.Spellings.{numeral, negated_digit}
 use Rattle.mini_less.specs.Families.{LessAt, BooleansReadLess}
 use Rattle.mini_less.proofs.LessRows.{reads_less_by}
 use Rattle.mini_less.proofs.Negated.{not_kept}
-use Rattle.mini_less.proofs.Nodes.{unary_part, a_unary, logical_parts, a_logical, conditional_parts, a_number, made_under, part_of, asked_truth, standing_there, logical_values, conditional_values}
+use Rattle.mini_less.proofs.Nodes.{a_unary, logical_parts, a_logical, conditional_parts, a_number, made_under, part_of, asked_truth, standing_there, logical_values, conditional_values}
 use Rattle.std.proofs.lemmas.Bool.{and_parts}
 
 module _ (q : Seat) (n w : Tree) where

@@ -1,26 +1,24 @@
 -- Rows of optional chains ask less.
 use Rattle.std.specs.Prelude.{◌≡◌, refl, Bool, true, false, List, [], ◌∷◌, pos, if◌then◌else◌}
 use Rattle.std.proofs.Common.{inl, inr, ap, ◌∙◌, sym, subst}
-use Rattle.mini_model.specs.declared.name.Name.{Name}
 use Rattle.mini_model.specs.declared.operator.BinaryOperator.TheVariants as binary_operator
 use Rattle.mini_model.specs.declared.place.Position.TheVariants.{Expr}
 use Rattle.mini_model.specs.declared.seat.Guard.{Guard}
 use Rattle.mini_model.specs.declared.seat.Seat.{Seat}
 use Rattle.mini_model.specs.declared.shape.Shape.TheVariants as shape
-use Rattle.mini_model.specs.Tree.{Tree, Trees, node, none, ◌▸◌, listed, shape_of, identifier, null_literal, conditional}
-use Rattle.mini_accept.specs.WellShaped.{Slot, fits}
+use Rattle.mini_model.specs.Tree.{Tree, Trees, node, none, ◌▸◌, listed, shape_of, identifier, null_literal}
 use Rattle.mini_laws.specs.ScopeList.{is_eval_callee}
 use Rattle.mini_terms.specs.Exact.{is_guarded, by_value, kept_by_value}
-use Rattle.mini_rows.specs.ChainEnds.{Row10, Row10Then, EndRow}
-use Rattle.mini_rows.specs.ChainLinks.{Marked, marked, links_over, has_mark, chain_if, is_lone, is_lone_by, Row64, Row11, ChainRow}
+use Rattle.mini_rows.specs.ChainEnds.{EndRow}
+use Rattle.mini_rows.specs.ChainLinks.{Marked, marked, links_over, has_mark, chain_if, is_lone, Row64, Row11, ChainRow}
 use Rattle.mini_rows.specs.Chains.{Link, a_member, a_computed, a_call, linked, spine, chain, if_nullish, Row46Chain}
-use Rattle.mini_rows.specs.Sketches.{Number, Unary, Conditional, Sequence, Call, StaticMember, ComputedMember, Chain, Head, shape_by, is_expression_head, Asked, AsValue, AsValues}
+use Rattle.mini_rows.specs.Sketches.{Conditional, Sequence, Call, StaticMember, ComputedMember, Chain, Head, shape_by, is_expression_head, Asked, AsValue, AsValues}
 use Rattle.mini_rows.specs.Spellings.{binary, numeral, void_zero}
 use Rattle.mini_rows.proofs.ArrangedValues.{is_value}
 use Rattle.mini_less.specs.Families.{LessAt}
 use Rattle.mini_less.specs.Less.{Plain}
 use Rattle.mini_less.proofs.Made.{ByParts, made_less}
-use Rattle.mini_less.proofs.Nodes.{binary_parts, conditional_parts, a_sequence, a_number, a_void, made_under, MadeOf}
+use Rattle.mini_less.proofs.Nodes.{conditional_parts, a_sequence, a_number, a_void, made_under, MadeOf}
 
 -- ---- it is an expression, and no name
 

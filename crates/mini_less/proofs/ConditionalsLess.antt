@@ -1,10 +1,9 @@
 -- Rows on conditionals, logical expressions and assignments that are written shorter of the same parts, chains aside, ask less.
-use Rattle.std.specs.Prelude.{ℕ, ◌≡◌, refl, Bool, true, false, not, List, Option, Some, None, pos}
-use Rattle.std.proofs.Common.{inl, inr, ap, ◌∙◌, sym, subst}
+use Rattle.std.specs.Prelude.{◌≡◌, refl, Bool, true, false, not, Option, Some, None, pos}
+use Rattle.std.proofs.Common.{inl, inr, sym, subst}
 use Rattle.mini_model.specs.declared.name.Name.{Name}
 use Rattle.mini_model.specs.declared.operator.AssignmentOperator.{AssignmentOperator}
 use Rattle.mini_model.specs.declared.operator.AssignmentOperator.TheVariants.{Assign}
-use Rattle.mini_model.specs.declared.operator.BinaryOperator.{BinaryOperator}
 use Rattle.mini_model.specs.declared.operator.BinaryOperator.TheVariants as binary_operator
 use Rattle.mini_model.specs.declared.operator.LogicalOperator.{LogicalOperator}
 use Rattle.mini_model.specs.declared.operator.LogicalOperator.TheVariants.{Or, And, Coalesce}
@@ -13,14 +12,11 @@ use Rattle.mini_model.specs.declared.place.Position.TheVariants.{Expr}
 use Rattle.mini_model.specs.declared.seat.Seat.{Seat}
 use Rattle.mini_model.specs.declared.shape.Shape.TheVariants as shape
 use Rattle.mini_model.specs.Paths.{append}
-use Rattle.mini_model.specs.Tree.{Tree, Trees, node, none, ◌▸◌, leaf, listed, identifier, negation, logical, conditional, null_literal, call}
-use Rattle.mini_node.specs.Kinds.{computed_member}
-use Rattle.mini_terms.specs.Exact.{by_value}
-use Rattle.mini_rows.specs.Choices.{assign, pair, joined, strictly, loosely, joining, deciding, Key, Named, Spelled, Numbered, member_on, member_of, asks_object, null_compared, held, ended, spread, argument, Row39, Row38, Row35, Row46Equal, Row46Unequal, ChosenRow, Row37, Row37After, Row57, Row57Null, Row35Member, ChosenMemberRow, Row38Last, Row41Or, Row41And, Row42And, Row42Or, Row43Or, Row43And, Row43AndThen, Row43OrThen, Row49, CallRow, Row13Both, ChosenIndexedRow, ZeroRow, LighterRow, OwnRow, HeldRow}
+use Rattle.mini_model.specs.Tree.{Tree, Trees, none, ◌▸◌, leaf, listed, identifier, negation, logical, conditional, null_literal, call}
+use Rattle.mini_rows.specs.Choices.{assign, pair, joined, strictly, loosely, joining, deciding, Key, Named, Spelled, Numbered, member_on, member_of, asks_object, null_compared, held, ended, argument, Row39, Row38, Row35, Row46Equal, Row46Unequal, Row37, Row37After, Row57, Row57Null, Row35Member, Row38Last, CallRow, Row13Both, ZeroRow, LighterRow, OwnRow, HeldRow}
 use Rattle.mini_rows.specs.Lists.{sequence}
-use Rattle.mini_rows.specs.Sketches.{AList, Number, Unary, Binary, Logical, Conditional, Sequence, Call, StaticMember, ComputedMember, Spread, Assignment, Asked, AsValue, AsValues, AsTarget, AsUpdated, target_asked}
+use Rattle.mini_rows.specs.Sketches.{AList, Binary, Logical, Conditional, Sequence, Call, StaticMember, ComputedMember, Spread, Assignment, Asked, AsValue, AsValues, AsTarget, AsUpdated, target_asked}
 use Rattle.mini_rows.specs.Spellings.{binary, numeral, assignment}
-use Rattle.mini_rows.proofs.Arranging.{All, all_of, of_all, Any}
 use Rattle.mini_less.specs.Families.{LessAt}
 use Rattle.mini_less.proofs.Made.{ByParts}
 use Rattle.mini_less.proofs.Nodes.{a_unary, binary_parts, a_binary, logical_parts, a_logical, conditional_parts, a_conditional, sequence_parts, a_sequence, firsts, lasts, both_of, a_number, a_null, made_under}

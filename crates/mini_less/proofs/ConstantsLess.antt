@@ -1,13 +1,11 @@
 -- Rows on constants ask less: a literal is made, and what goes says nothing more.
-use Rattle.std.specs.Prelude.{ℕ, ◌≡◌, refl, ℤ, pos, Bool, true, false, List, length, Option, Some, None, codes}
-use Rattle.std.proofs.Common.{inl, inr, ap, ◌∙◌, sym, subst}
+use Rattle.std.specs.Prelude.{ℕ, ◌≡◌, refl, ℤ, pos, Bool, true, false, List, length, Some, codes}
+use Rattle.std.proofs.Common.{inl, inr, sym, subst}
 use Rattle.mini_model.specs.declared.operator.BinaryOperator.{BinaryOperator}
-use Rattle.mini_model.specs.declared.operator.UnaryOperator.{UnaryOperator}
 use Rattle.mini_model.specs.declared.place.Position.{Position}
 use Rattle.mini_model.specs.declared.place.Position.TheVariants.{Expr}
 use Rattle.mini_model.specs.declared.seat.Seat.{Seat}
 use Rattle.mini_model.specs.Tree.{Tree, none, ◌▸◌, shape_of, null_literal}
-use Rattle.mini_accept.specs.WellShaped.{Slot, fits}
 use Rattle.mini_node.specs.Children.{part}
 use Rattle.mini_laws.specs.ScopeList.{is_eval_callee}
 use Rattle.mini_laws.specs.Value.{Value, Undefined, Null, Boolean, Number as ANumber, String}
@@ -16,8 +14,8 @@ use Rattle.mini_terms.specs.Plain.{lit}
 use Rattle.mini_terms.proofs.Calculated.{Form, of_unary, of_binary, calculated_is}
 use Rattle.mini_rows.specs.Constants.{RowConstant, RowJoined, RowLength, ConstantRow, ConstantContracts}
 use Rattle.mini_rows.specs.Operands.{beside}
-use Rattle.mini_rows.specs.Sketches.{Head, Number, Unary, Binary, StaticMember, Asked, AsValue}
-use Rattle.mini_rows.specs.Spellings.{binary, text, numeral, key, void_zero, negated_digit}
+use Rattle.mini_rows.specs.Sketches.{Number, Unary, Binary, StaticMember, Asked, AsValue}
+use Rattle.mini_rows.specs.Spellings.{text, numeral, key, void_zero, negated_digit}
 use Rattle.mini_rows.proofs.ArrangedValues.{is_value}
 use Rattle.mini_less.specs.Families.{LessAt, ConstantsReadLess}
 use Rattle.mini_less.proofs.LessRows.{reads_less_by}

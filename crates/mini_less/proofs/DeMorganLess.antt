@@ -9,20 +9,21 @@ use Rattle.mini_model.specs.declared.seat.StmtSeat.{StmtSeat}
 use Rattle.mini_model.specs.Position.{left_operand_seat, statement_expression_seat}
 use Rattle.mini_model.specs.Paths.{append}
 use Rattle.mini_model.specs.Terms.{turned}
-use Rattle.mini_model.specs.Tree.{Tree, Trees, none, ◌▸◌, listed, expression_statement, logical}
+use Rattle.mini_model.specs.Tree.{Tree, Trees, none, ◌▸◌, listed, logical}
 use Rattle.mini_accept.specs.WellShaped.{Slot, each, fits, fill}
 use Rattle.mini_laws.specs.declared.names.Declared.TheVariants as declared
 use Rattle.mini_laws.specs.DeclaredNames.{names_of}
 use Rattle.mini_kept.proofs.Expressions.{expression}
 use Rattle.mini_kept.proofs.Quiet.{no_names}
-use Rattle.mini_rows.specs.DeMorgan.{turned_logical, VoidPlace, Alone, Begins, Turns, void_of, ended, Row50, Row50Part, DeMorganRow, DeMorganContracts}
-use Rattle.mini_rows.specs.Lists.{sequence, for_loop}
+use Rattle.mini_rows.specs.DeMorgan.{turned_logical, VoidPlace, Alone, Begins, Turns, void_of, ended, DeMorganRow, DeMorganContracts}
+use Rattle.mini_rows.specs.Lists.{sequence}
 use Rattle.mini_rows.specs.Negations.{lightest}
 use Rattle.mini_rows.specs.Sketches.{Sequence, OfExpression, Asked, AsValue, AsWhole}
 use Rattle.mini_rows.proofs.DeMorganLawful.{in_head, place_inner}
 use Rattle.mini_rows.proofs.SequenceStands.{of_sequence}
 use Rattle.mini_less.specs.Families.{LessAt, DeMorganReadsLess}
-use Rattle.mini_less.proofs.ForLess.{for_less}
+use Rattle.mini_less.specs.Less.{AFor}
+use Rattle.mini_less.proofs.LoopsLess.{loop_less}
 use Rattle.mini_less.proofs.LessRows.{reads_less_by}
 use Rattle.mini_less.proofs.Made.{ByParts, made_statement_less}
 use Rattle.mini_less.proofs.NegationsLess.{operands_fit, parts_fit, one_fits, lightest_made}
@@ -81,10 +82,10 @@ module _ (q : StmtSeat) (n w : Tree) (before : Trees) (o : LogicalOperator) (a b
       made_statement_less q n w OfExpression OfExpression (read ▸ none) (put ▸ none) refl refl e f tt (λ strict x k Q l y.
       subst (Q AsWhole) (sym f) (l.up OfExpression refl AsWhole (put ▸ none) tt (ended_made strict Q l before o a b (fit_there Alone strict x e k) (l.down OfExpression refl AsWhole (read ▸ none) tt (subst (Q AsWhole) e y)).0, tt)))
   place_less (Begins t u c) e f =
-      for_less q n w read put (t ▸ (u ▸ (c ▸ none))) (t ▸ (u ▸ (c ▸ none))) e f (unnamed before (turned o) _ b ∙ sym (unnamed before o a b)) (inr (unnamed before o a b)) (λ strict x k Q l y.
+      loop_less q n w AFor read put (t ▸ (u ▸ (c ▸ none))) (t ▸ (u ▸ (c ▸ none))) e f (unnamed before (turned o) _ b ∙ sym (unnamed before o a b)) (inr (unnamed before o a b)) (λ strict x k Q l y.
       (ended_made strict Q l before o a b (fit_there (Begins t u c) strict x e k) y.0, y.1))
   place_less (Turns i t c) e f =
-      for_less q n w i i (t ▸ (read ▸ (c ▸ none))) (t ▸ (put ▸ (c ▸ none))) e f refl (inl refl) (λ strict x k Q l y.
+      loop_less q n w AFor i i (t ▸ (read ▸ (c ▸ none))) (t ▸ (put ▸ (c ▸ none))) e f refl (inl (refl, refl)) (λ strict x k Q l y.
       (y.0, (y.1.0, (ended_made strict Q l before o a b (fit_there (Turns i t c) strict x e k) y.1.1.0, y.1.1.1))))
 
 row_less : (p : Position) (n w : Tree) → DeMorganRow p n w → LessAt p n w

@@ -15,7 +15,7 @@ use Rattle.mini_shrink.specs.Facts.{Fact, Written, WrittenElsewhere, Given, Give
 use Rattle.mini_shrink.proofs.Finding.{pace_is}
 use Rattle.mini_shrink.proofs.Owns.{implied}
 use Rattle.mini_less.specs.Less.{TellsPlainly}
-use Rattle.mini_less.proofs.Plainly.{mentions_plainly, gives_plainly, pattern_gives_plainly, names_plainly, no_switched, no_pattern, no_caught, no_arguments, no_params, seen_plainly, lexical_plainly, alone, anywhere, lexical_alone}
+use Rattle.mini_less.proofs.Plainly.{mentions_plainly, gives_plainly, pattern_gives_plainly, names_plainly, no_switched, no_pattern, no_caught, no_arguments, no_params, loop_switched, loop_pattern_at, loop_caught, loop_arguments, loop_params, seen_plainly, lexical_plainly, alone, anywhere, lexical_alone}
 use Rattle.mini_rows.proofs.ArrangedValues.{is_value}
 
 -- it doesn't ask whether it stands in a list that declares the name
@@ -34,13 +34,13 @@ by_fact P f r GivenElsewhere c k = f _ (gives_plainly (λ m. is_write (by_symbol
 by_fact P f r MentionedElsewhere c k = f _ (mentions_plainly (λ m. same_variable (by_symbol k) m.name && is_elsewhere c m.around) (λ x a e f. e)) (λ c d env h xs n ts. refl)
 by_fact P f r BoundElsewhere c k = f _ (mentions_plainly (λ m. same_variable (by_symbol k) m.name && m.binds && is_elsewhere c m.around) (λ x a e f. e)) (λ c d env h xs n ts. refl)
 by_fact P f r IsLexical c k = f _ (lexical_plainly k) (λ c d env h xs n ts. refl)
-by_fact P f r IsSwitched c k = f _ (names_plainly switched_at k no_switched (λ c v b h n ts. refl) (λ c k m d b ts. refl) (λ c ts. refl)) (λ c d env h xs n ts. refl)
-by_fact P f r InPattern c k = f _ (names_plainly pattern_at k no_pattern (λ c v b h n ts. refl) (λ c k m d b ts. refl) (λ c ts. refl)) (λ c d env h xs n ts. refl)
+by_fact P f r IsSwitched c k = f _ (names_plainly switched_at k no_switched (λ c v b h n ts. refl) (λ c k m d b ts. refl) loop_switched) (λ c d env h xs n ts. refl)
+by_fact P f r InPattern c k = f _ (names_plainly pattern_at k no_pattern (λ c v b h n ts. refl) (λ c k m d b ts. refl) loop_pattern_at) (λ c d env h xs n ts. refl)
 by_fact P f r GivenByPattern c k = f _ (pattern_gives_plainly k) (λ c d env h xs n ts. refl)
-by_fact P f r UnderCatch c k = f _ (names_plainly caught_at k no_caught (λ c v b h n ts. refl) (λ c k m d b ts. refl) (λ c ts. refl)) (λ c d env h xs n ts. refl)
-by_fact P f r ByArguments c k = f _ (names_plainly arguments_at k no_arguments (λ c v b h n ts. refl) (λ c k m d b ts. refl) (λ c ts. refl)) (λ c d env h xs n ts. refl)
+by_fact P f r UnderCatch c k = f _ (names_plainly caught_at k no_caught (λ c v b h n ts. refl) (λ c k m d b ts. refl) loop_caught) (λ c d env h xs n ts. refl)
+by_fact P f r ByArguments c k = f _ (names_plainly arguments_at k no_arguments (λ c v b h n ts. refl) (λ c k m d b ts. refl) loop_arguments) (λ c d env h xs n ts. refl)
 by_fact P f r ByEval c k = f _ (seen_plainly k) (λ c d env h xs n ts. refl)
-by_fact P f r AmongParameters c k = f _ (names_plainly (params_at c) k (no_params c) (λ c v b h n ts. refl) (λ c k m d b ts. refl) (λ c ts. refl)) (λ c d env h xs n ts. refl)
+by_fact P f r AmongParameters c k = f _ (names_plainly (params_at c) k (no_params c) (λ c v b h n ts. refl) (λ c k m d b ts. refl) (loop_params c)) (λ c d env h xs n ts. refl)
 by_fact P f r ReadEarly c k = r c k
 
 -- nor does an expression ask whether it stands directly in a body
@@ -55,13 +55,13 @@ by_value P f r GivenElsewhere c k = f _ (gives_plainly (λ m. is_write (by_symbo
 by_value P f r MentionedElsewhere c k = f _ (mentions_plainly (λ m. same_variable (by_symbol k) m.name && is_elsewhere c m.around) (λ x a e f. e)) (λ c env t e. anywhere _ (λ c b d env h xs n ts. refl) c false false env t)
 by_value P f r BoundElsewhere c k = f _ (mentions_plainly (λ m. same_variable (by_symbol k) m.name && m.binds && is_elsewhere c m.around) (λ x a e f. e)) (λ c env t e. anywhere _ (λ c b d env h xs n ts. refl) c false false env t)
 by_value P f r IsLexical c k = f _ (lexical_plainly k) (lexical_alone k)
-by_value P f r IsSwitched c k = f _ (names_plainly switched_at k no_switched (λ c v b h n ts. refl) (λ c k m d b ts. refl) (λ c ts. refl)) (λ c env t e. anywhere _ (λ c b d env h xs n ts. refl) c false false env t)
-by_value P f r InPattern c k = f _ (names_plainly pattern_at k no_pattern (λ c v b h n ts. refl) (λ c k m d b ts. refl) (λ c ts. refl)) (λ c env t e. anywhere _ (λ c b d env h xs n ts. refl) c false false env t)
+by_value P f r IsSwitched c k = f _ (names_plainly switched_at k no_switched (λ c v b h n ts. refl) (λ c k m d b ts. refl) loop_switched) (λ c env t e. anywhere _ (λ c b d env h xs n ts. refl) c false false env t)
+by_value P f r InPattern c k = f _ (names_plainly pattern_at k no_pattern (λ c v b h n ts. refl) (λ c k m d b ts. refl) loop_pattern_at) (λ c env t e. anywhere _ (λ c b d env h xs n ts. refl) c false false env t)
 by_value P f r GivenByPattern c k = f _ (pattern_gives_plainly k) (λ c env t e. anywhere _ (λ c b d env h xs n ts. refl) c false false env t)
-by_value P f r UnderCatch c k = f _ (names_plainly caught_at k no_caught (λ c v b h n ts. refl) (λ c k m d b ts. refl) (λ c ts. refl)) (λ c env t e. anywhere _ (λ c b d env h xs n ts. refl) c false false env t)
-by_value P f r ByArguments c k = f _ (names_plainly arguments_at k no_arguments (λ c v b h n ts. refl) (λ c k m d b ts. refl) (λ c ts. refl)) (λ c env t e. anywhere _ (λ c b d env h xs n ts. refl) c false false env t)
+by_value P f r UnderCatch c k = f _ (names_plainly caught_at k no_caught (λ c v b h n ts. refl) (λ c k m d b ts. refl) loop_caught) (λ c env t e. anywhere _ (λ c b d env h xs n ts. refl) c false false env t)
+by_value P f r ByArguments c k = f _ (names_plainly arguments_at k no_arguments (λ c v b h n ts. refl) (λ c k m d b ts. refl) loop_arguments) (λ c env t e. anywhere _ (λ c b d env h xs n ts. refl) c false false env t)
 by_value P f r ByEval c k = f _ (seen_plainly k) (λ c env t e. anywhere _ (λ c b d env h xs n ts. refl) c false false env t)
-by_value P f r AmongParameters c k = f _ (names_plainly (params_at c) k (no_params c) (λ c v b h n ts. refl) (λ c k m d b ts. refl) (λ c ts. refl)) (λ c env t e. anywhere _ (λ c b d env h xs n ts. refl) c false false env t)
+by_value P f r AmongParameters c k = f _ (names_plainly (params_at c) k (no_params c) (λ c v b h n ts. refl) (λ c k m d b ts. refl) (loop_params c)) (λ c env t e. anywhere _ (λ c b d env h xs n ts. refl) c false false env t)
 by_value P f r ReadEarly c k = r c k
 
 -- where nothing is found that wasn't

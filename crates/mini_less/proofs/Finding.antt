@@ -11,15 +11,15 @@ use Rattle.mini_accept.specs.WellShaped.{fits}
 use Rattle.mini_laws.specs.declared.names.Use.TheVariants.{Read}
 use Rattle.mini_laws.specs.declared.names.Binding.{Binding}
 use Rattle.mini_laws.specs.declared.names.Around.{Around}
-use Rattle.mini_laws.specs.Scopes.{opened, scopes_by, at_or_empty}
+use Rattle.mini_laws.specs.Scopes.{opened}
 use Rattle.mini_laws.specs.Resolved.{Environment}
 use Rattle.mini_laws.specs.Strict.{is_strict_in}
 use Rattle.mini_laws.specs.Mentions.{around_child}
 use Rattle.mini_laws.specs.Foreign.{is_body_by}
 use Rattle.mini_shrink.specs.Pace.{Setting, below}
 use Rattle.mini_shrink.specs.Questions.{Own, finds, finds_each, any_of}
-use Rattle.mini_rows.specs.Lists.{is_unscoped_shape}
-use Rattle.mini_rows.specs.Sketches.{Head, AList, Call, New, StaticMember, Property, Spread, Interpolation, Assignment, If, shape_by, part, under, list, filled, Asked, AsWhole, AsWholeList, AsWholeItem, AsValue, AsValues, AsItems, item_asked, asked_below, use_by, leaps, is_expression_head, is_expression, stands_well, parts_of, is_rearranged}
+use Rattle.mini_rows.specs.Lists.{is_unscoped_shape, is_unscoped}
+use Rattle.mini_rows.specs.Sketches.{Head, AList, Call, New, StaticMember, Property, Spread, Interpolation, Assignment, If, shape_by, part, under, list, filled, Asked, AsWhole, AsWholeList, AsWholeItem, AsValue, AsValues, AsItems, item_asked, asked_below, use_by, leaps, is_statement_asked, is_expression_head, is_expression, stands_well, parts_of, is_rearranged}
 use Rattle.mini_less.specs.Less.{TellsPlainly, ExpressionsFindLess}
 use Rattle.mini_rows.proofs.Arranging.{Below, Leaping, Any, Local, to_parts, of_parts}
 use Rattle.mini_rows.proofs.ArrangedNames.{nothing_opened, used_below}
@@ -139,15 +139,18 @@ module _ (o : Own) (plainly : TellsPlainly o) (k : Setting) (env : Environment) 
   same_each sc sc' z ks ks' w i e none = refl
   same_each sc sc' z ks ks' w i e (t ▸ ts) = λ j. finds o (w i j) (e ++ z i j) t ∷ (ap (λ r. finds_each o sc ks (suc i) (e ++ r) ts) (z i) ∙ same_each sc sc' z ks ks' w (suc i) (e ++ sc' i) ts) j
 
-  pub lacks_moves : is_statement_use k.used ≡ true → Moves Lacks
+  pub lacks_anyhow : is_statement_use k.used ≡ true → (c d : Asked) → is_statement_asked c ≡ true → is_statement_asked d ≡ true → (t : Tree) → is_unscoped t ≡ true → Lacks c t → Lacks d t
   unfolding finds
-  lacks_moves a₀ c d x y (node h xs n ts) e m a =
+  lacks_anyhow a₀ c d x y (node h xs n ts) e a =
       let v = use_by k.used c in
       let u = use_by k.used d in
       let scopes : (j : ℕ) → opened v h ts j ≡ opened u h ts j = same_scopes v u h e ts in
       let settings : (j : ℕ) → below false (setting c) h n j ≡ below false (setting d) h n j = λ j i. record { used = same_use v u (statement_use k.used a₀ c x) (statement_use k.used a₀ d y) h j e i; around = around_child h k.around n j; strict = is_strict_in k.strict h; is_body = no_body_below h (body_by k.is_body c) (body_by k.is_body d) e i; belongs = (below false (setting c) h n j).belongs; ordered = false } in
-      let own : o (setting c) env h xs n ts ≡ o (setting d) env h xs n ts = subst (λ ys. o (setting c) env h ys n ts ≡ o (setting d) env h ys n ts) (sym m.0) (plainly.moved (setting c) u (body_by k.is_body d) env h n ts e) in
+      let own : o (setting c) env h xs n ts ≡ o (setting d) env h xs n ts = plainly.moved (setting c) u (body_by k.is_body d) env h xs n ts e in
       sym (λ j. own j || any_of (same_each (opened v h ts) (opened u h ts) scopes (below false (setting c) h n) (below false (setting d) h n) settings 0 env ts j)) ∙ a
+
+  pub lacks_moves : is_statement_use k.used ≡ true → Moves Lacks
+  lacks_moves u c d x y t e m a = lacks_anyhow u c d x y t e a
 
 -- ---- expressions
 

@@ -1,16 +1,12 @@
 -- What is arranged names `arguments` no more, and has no other number.
-use Rattle.std.specs.Prelude.{ℕ, zero, suc, ◌≡◌, refl, nat_eq, Bool, true, false, ◌&&◌, ◌||◌, List, [], ◌∷◌}
-use Rattle.std.proofs.Common.{ap, ◌∙◌, sym, subst, arith, true≢false}
-use Rattle.std.proofs.lemmas.Bool.{and_parts, eqb-true}
+use Rattle.std.specs.Prelude.{ℕ, suc, ◌≡◌, refl, nat_eq, Bool, true, false, ◌&&◌, ◌||◌, List, [], ◌∷◌}
+use Rattle.std.proofs.Common.{ap, ◌∙◌, sym, arith, true≢false}
+use Rattle.std.proofs.lemmas.Bool.{eqb-true}
 use Rattle.mini_model.specs.Tree.{Tree, Trees, node, none, ◌▸◌}
 use Rattle.mini_laws.specs.Shared.{is_of_function, names_arguments, any_names_arguments, is_name_of_variable, is_arguments}
 use Rattle.mini_laws.specs.Foreign.{has_number, any_has_number}
-use Rattle.mini_rows.specs.Sketches.{Head, AList, shape_by, Sketch, part, under, list, Parts, filled, Asked, AsValue, asked_below, leaps, Free, is_rearranged, parts_of, stands_well, is_expression_head, is_expression}
-use Rattle.mini_rows.specs.Arranged.{AreLoose}
-use Rattle.mini_rows.proofs.Arranging.{Below, Leaping, Any, Local, to_parts, of_parts}
-use Rattle.mini_rows.proofs.ArrangedMoves.{anyhow_forth}
-use Rattle.mini_rows.proofs.ArrangedPlain.{is_plain}
-use Rattle.mini_less.proofs.Finding.{never}
+use Rattle.mini_rows.specs.Sketches.{Head, AList, shape_by, Asked, asked_below, leaps}
+use Rattle.mini_rows.proofs.Arranging.{Below, Leaping, Any, Local}
 
 pub none_of : (a b : Bool) → (a || b) ≡ false → (a ≡ false) × (b ≡ false)
 none_of true b e = absurd (true≢false e)
@@ -81,4 +77,3 @@ module _ (b : ℕ) where
 pub root_number : (h : Head) (ts : Trees) → has_number 0 (node (shape_by h) [] 0 ts) ≡ true
 unfolding has_number
 root_number h ts = refl
-

@@ -21,7 +21,8 @@ use Rattle.mini_rows.proofs.ForPartKept.{plain_is_quiet}
 use Rattle.mini_rows.specs.Sketches.{AbsentPart, Number, Binary, Logical, Conditional, StaticMember, Assignment, Update, Empty, OfExpression, AsValue, AsWhole}
 use Rattle.mini_rows.specs.Spellings.{text, key}
 use Rattle.mini_less.specs.Families.{LessAt, FoldingsReadLess}
-use Rattle.mini_less.proofs.ForLess.{for_less}
+use Rattle.mini_less.specs.Less.{AFor}
+use Rattle.mini_less.proofs.LoopsLess.{loop_less}
 use Rattle.mini_less.proofs.LessRows.{reads_less_by}
 use Rattle.mini_less.proofs.Made.{made_statement_less}
 use Rattle.mini_less.proofs.Nodes.{binary_parts, a_binary, logical_parts, conditional_parts, a_number, made_under, part_of, suited, logical_values, conditional_values}
@@ -56,17 +57,17 @@ unnamed t e =
 
 init_less : (q : StmtSeat) (n w : Tree) → Row22Init n w → LessAt (Stmt q) n w
 init_less q n w r =
-    for_less q n w r.init absent (r.test ▸ (r.update ▸ (r.body ▸ none))) (r.test ▸ (r.update ▸ (r.body ▸ none))) r.shape r.written (no_names declared.Lexical absent refl ∙ sym (unnamed r.init r.idle)) (inr (unnamed r.init r.idle)) (λ strict x k Q l y.
+    loop_less q n w AFor r.init absent (r.test ▸ (r.update ▸ (r.body ▸ none))) (r.test ▸ (r.update ▸ (r.body ▸ none))) r.shape r.written (no_names declared.Lexical absent refl ∙ sym (unnamed r.init r.idle)) (inr (unnamed r.init r.idle)) (λ strict x k Q l y.
     (l.up AbsentPart refl AsValue none tt tt, y.1))
 
 update_less : (q : StmtSeat) (n w : Tree) → Row22Update n w → LessAt (Stmt q) n w
 update_less q n w r =
-    for_less q n w r.init r.init (r.test ▸ (r.update ▸ (r.body ▸ none))) (r.test ▸ (absent ▸ (r.body ▸ none))) r.shape r.written refl (inl refl) (λ strict x k Q l y.
+    loop_less q n w AFor r.init r.init (r.test ▸ (r.update ▸ (r.body ▸ none))) (r.test ▸ (absent ▸ (r.body ▸ none))) r.shape r.written refl (inl (refl, refl)) (λ strict x k Q l y.
     (y.0, (y.1.0, (l.up AbsentPart refl AsValue none tt tt, y.1.1.1))))
 
 decrement_less : (q : StmtSeat) (n w : Tree) → Row36 n w → LessAt (Stmt q) n w
 decrement_less q n w r =
-    for_less q n w r.init r.init (r.test ▸ (subtracts r.operator r.name ▸ (r.body ▸ none))) (r.test ▸ (_ ▸ (r.body ▸ none))) r.shape r.written refl (inl refl) (λ strict x k Q l y.
+    loop_less q n w AFor r.init r.init (r.test ▸ (subtracts r.operator r.name ▸ (r.body ▸ none))) (r.test ▸ (_ ▸ (r.body ▸ none))) r.shape r.written refl (inl (refl, refl)) (λ strict x k Q l y.
     (y.0, (y.1.0, (l.up (Update r.operator true) refl AsValue (identifier r.name ▸ none) tt ((l.down (Assignment Subtraction) refl AsValue (identifier r.name ▸ amount r.operator ▸ none) tt y.1.1.0).0, tt), y.1.1.1))))
 
 pub emptied_less : (q : StmtSeat) (n w : Tree) → Row22 n w → LessAt (Stmt q) n w

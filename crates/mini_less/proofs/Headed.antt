@@ -3,7 +3,6 @@ use Rattle.std.specs.Prelude.{ℕ, ◌≡◌, refl, Bool, true, false, ◌&&◌,
 use Rattle.std.proofs.Common.{ap, ◌∙◌, sym, subst}
 use Rattle.std.proofs.lemmas.Bool.{and_parts}
 use Rattle.mini_model.specs.Tree.{Trees, node, ◌▸◌}
-use Rattle.mini_accept.specs.WellShaped.{a_statement, many}
 use Rattle.mini_laws.specs.declared.names.Declared.TheVariants as declared
 use Rattle.mini_laws.specs.DeclaredNames.{names_of}
 use Rattle.mini_laws.specs.Scopes.{opened}
@@ -12,13 +11,10 @@ use Rattle.mini_laws.specs.ScopeList.{by_symbol}
 use Rattle.mini_laws.specs.Mentions.{is_among}
 use Rattle.mini_shrink.specs.Pace.{Pace, followed, ends_after, in_turn, Setting, below, Question, pace, paces}
 use Rattle.mini_shrink.specs.Questions.{hands_on, listed_names, early}
-use Rattle.mini_rows.specs.Sketches.{Head, AList, Empty, OfExpression, Throw, Return, If, Block, shape_by, part, under, list, Items, no_items, item, items, Parts, filled, all_filled, items_filled, AsWholeItem, AsWholeList, parts_in, is_statement_head, items_stand_well, is_rearranged, keeps_statements, are_same_holes, statements, all_settled}
+use Rattle.mini_rows.specs.Sketches.{Head, AList, Empty, OfExpression, Throw, Return, If, Block, shape_by, part, under, list, Items, no_items, item, items, Parts, filled, all_filled, items_filled, AsWholeItem, is_statement_head}
 use Rattle.mini_less.specs.Neighbours.{of_items, items_say, are_headed}
-use Rattle.mini_rows.proofs.Arranging.{All, Any, Each, to_parts_in, of_parts_in}
-use Rattle.mini_rows.proofs.ArrangedMoves.{forth}
-use Rattle.mini_rows.proofs.ArrangedPlain.{items_plain}
-use Rattle.mini_rows.proofs.ArrangedValues.{Valued, sketch_valued}
-use Rattle.mini_less.proofs.Plainly.{is_reads, is_ended, split, join, less_by, Calmly, calm_local, calm_moves, not_ended}
+use Rattle.mini_rows.proofs.Arranging.{All}
+use Rattle.mini_less.proofs.Plainly.{is_reads, is_ended, split, join, Calmly, not_ended}
 
 no_lexical : (h : Head) (ts : Trees) → is_statement_head h ≡ true → names_of declared.Lexical (node (shape_by h) [] 0 ts) ≡ []
 unfolding names_of

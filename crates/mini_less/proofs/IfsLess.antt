@@ -1,5 +1,5 @@
 -- Rows of `if` ask less, and that of `return` without a value.
-use Rattle.std.specs.Prelude.{◌≡◌, ◌⊎◌, refl, Bool, true, false, not, [], ◌∷◌, if◌then◌else◌}
+use Rattle.std.specs.Prelude.{◌≡◌, refl, Bool, true, false, [], ◌∷◌, if◌then◌else◌}
 use Rattle.std.proofs.Common.{inl, inr, sym, subst, true≢false}
 use Rattle.mini_model.specs.declared.operator.LogicalOperator.{LogicalOperator}
 use Rattle.mini_model.specs.declared.operator.LogicalOperator.TheVariants.{Or, And}
@@ -10,20 +10,18 @@ use Rattle.mini_model.specs.declared.shape.Shape.TheVariants as shape
 use Rattle.mini_model.specs.Position.{if_test_seat}
 use Rattle.mini_model.specs.Paths.{append}
 use Rattle.mini_model.specs.Terms.{not_of}
-use Rattle.mini_model.specs.Tree.{Tree, Trees, node, none, ◌▸◌, listed, absent, expression_statement, if_else, if_alone, negation, logical}
+use Rattle.mini_model.specs.Tree.{Tree, node, none, ◌▸◌, listed, absent, expression_statement, if_else, if_alone, logical}
 use Rattle.mini_accept.specs.WellShaped.{Slot, fits}
-use Rattle.mini_kept.proofs.Expressions.{expression}
 use Rattle.mini_kept.proofs.Rows.{of_if}
-use Rattle.mini_rows.specs.Branches.{has_else, as_consequent, Row60, conjunct_seat, Ending, not_of_all, after, with_not, without_not, Row82EmptyOr, Row82EmptyAnd, Row82EndsOr, Row82EndsAnd, Row83Alone, Row83Else, Row83Nested, Row83Block, IfRow}
-use Rattle.mini_rows.specs.Lists.{block, sequence, return_statement, is_unscoped}
-use Rattle.mini_rows.specs.Sketches.{AbsentPart, AList, Unary, Logical, OfExpression, Return, If, Block, Sketch, part, under, list, end, ◌▹◌, no_items, item, Parts, Free, Asked, AsWhole, AsValue, AsBranch, AsItems, AsItem}
+use Rattle.mini_rows.specs.Branches.{has_else, as_consequent, Row60, conjunct_seat, Ending, not_of_all, after, with_not, without_not, IfRow}
+use Rattle.mini_rows.specs.Lists.{block, is_unscoped}
+use Rattle.mini_rows.specs.Sketches.{AbsentPart, AList, OfExpression, Return, If, Block, part, under, list, end, ◌▹◌, no_items, item, Free, Asked, AsWhole, AsValue, AsBranch, AsItems}
 use Rattle.mini_rows.proofs.ArrangedPlain.{is_plain}
-use Rattle.mini_rows.proofs.ArrangedValues.{Calm, head_valued}
 use Rattle.mini_less.specs.Families.{LessAt, IfRowsLess}
 use Rattle.mini_less.specs.Less.{Plain}
 use Rattle.mini_less.proofs.Made.{ByParts, made_statement_less}
 use Rattle.mini_less.proofs.Negated.{not_kept}
-use Rattle.mini_less.proofs.Nodes.{unary_part, logical_parts, a_logical, sequence_parts, a_sequence, firsts, lasts, both_of}
+use Rattle.mini_less.proofs.Nodes.{unary_part, a_logical, sequence_parts, a_sequence, firsts, lasts, both_of}
 
 -- a block of an unscoped statement is plain
 abbrev first_moved : Free
@@ -37,10 +35,10 @@ unscoped_if (node shape.IfStatement xs n ts) e = refl
 unscoped_if (node h xs n ts) e = absurd (true≢false (sym e))
 
 module _ (Q : Asked → Tree → Type 0) (l : ByParts Q) where
-  if_parts : (c : Asked) (a s u : Tree) → Q c (if_else a s u) → Q AsValue a × (Q AsBranch s × Q AsBranch u)
+  pub if_parts : (c : Asked) (a s u : Tree) → Q c (if_else a s u) → Q AsValue a × (Q AsBranch s × Q AsBranch u)
   if_parts c a s u y = let (x, (z, (v, r))) = l.down If refl c (a ▸ s ▸ u ▸ none) tt y in (x, (z, v))
 
-  an_if : (c : Asked) (a s u : Tree) → Q AsValue a → Q AsBranch s → Q AsBranch u → Q c (if_else a s u)
+  pub an_if : (c : Asked) (a s u : Tree) → Q AsValue a → Q AsBranch s → Q AsBranch u → Q c (if_else a s u)
   an_if c a s u x y z = l.up If refl c (a ▸ s ▸ u ▸ none) tt (x, (y, (z, tt)))
 
   said : (c : Asked) (a : Tree) → Q c (expression_statement a) → Q AsValue a
@@ -49,18 +47,18 @@ module _ (Q : Asked → Tree → Type 0) (l : ByParts Q) where
   says : (c : Asked) (a : Tree) → Q AsValue a → Q c (expression_statement a)
   says c a y = l.up OfExpression refl c (a ▸ none) tt (y, tt)
 
-  nothing : (c : Asked) → Q c absent
+  pub nothing : (c : Asked) → Q c absent
   nothing c = l.up AbsentPart refl c none tt tt
 
   -- in a block
-  pub blocked : (u : Tree) → is_unscoped u ≡ true → Calm u → Q AsBranch u → Q AsBranch (block (u ▸ none))
-  blocked u e k y = l.up Block refl AsBranch (listed (u ▸ none) ▸ none) (block_plain u e) (l.up AList refl AsItems (u ▸ none) tt ((l.moved u e k).0 y, tt), tt)
+  pub blocked : (u : Tree) → is_unscoped u ≡ true → Q AsBranch u → Q AsBranch (block (u ▸ none))
+  blocked u e y = l.up Block refl AsBranch (listed (u ▸ none) ▸ none) (block_plain u e) (l.up AList refl AsItems (u ▸ none) tt ((l.moved u e).0 y, tt), tt)
 
-  consequent : (u : Tree) → Calm u → Q AsBranch u → Q AsBranch (as_consequent u)
-  consequent u k y = by (has_else u) refl
+  consequent : (u : Tree) → Q AsBranch u → Q AsBranch (as_consequent u)
+  consequent u y = by (has_else u) refl
     where
       by : (b : Bool) → has_else u ≡ b → Q AsBranch (if b then block (u ▸ none) else u)
-      by true e = blocked u (unscoped_if u e) k y
+      by true e = blocked u (unscoped_if u e) y
       by false e = y
 
   -- without the `!` that ends it
@@ -69,10 +67,6 @@ module _ (Q : Asked → Tree → Type 0) (l : ByParts Q) where
   ending (after a bs c) y =
       let all = sequence_parts Q l (a ▸ append bs (with_not c ▸ none)) y in
       a_sequence Q l (a ▸ append bs (without_not c ▸ none)) (all.0, both_of Q l bs (without_not c ▸ none) (firsts Q l bs (with_not c ▸ none) all.1) (ending c (lasts Q l bs (with_not c ▸ none) all.1).0, tt))
-
--- the branches of a program are calm
-calm_branches : (strict : Bool) (x : Slot) (a s u : Tree) → fits strict x (if_else a s u) ≡ true → Calm s × Calm u
-calm_branches strict x a s u e = let (test, (first, (second, r))) = head_valued (record { trees = a ▸ s ▸ u ▸ none; lists = [] }) strict AsWhole x If (part 0 ▹ part 1 ▹ part 2 ▹ end) refl e in (first, second)
 
 module _ (q : StmtSeat) (n w : Tree) where
   -- an expression for an `if`
@@ -96,7 +90,7 @@ module _ (q : StmtSeat) (n w : Tree) where
       made_statement_less q n w If If (r.a ▸ r.empty ▸ r.u ▸ none) (not_of if_test_seat r.a ▸ as_consequent r.u ▸ absent ▸ none) refl refl r.shape r.written tt (λ strict y k Q l z.
       let there = subst (λ t. fits strict y t ≡ true) r.shape k in
       let (test, (first, second)) = if_parts Q l AsWhole r.a r.empty r.u (subst (Q AsWhole) r.shape z) in
-      subst (Q AsWhole) (sym r.written) (an_if Q l AsWhole (not_of if_test_seat r.a) (as_consequent r.u) absent (not_kept Q l strict r.a if_test_seat (of_if strict y r.a r.empty r.u there).1.0 test) (consequent Q l r.u (calm_branches strict y r.a r.empty r.u there).1 second) (nothing Q l AsBranch)))
+      subst (Q AsWhole) (sym r.written) (an_if Q l AsWhole (not_of if_test_seat r.a) (as_consequent r.u) absent (not_kept Q l strict r.a if_test_seat (of_if strict y r.a r.empty r.u there).1.0 test) (consequent Q l r.u second) (nothing Q l AsBranch)))
   row_here (inr (inl (inr (inr (inl r))))) =
       made_statement_less q n w If If (r.a ▸ if_alone r.b r.s ▸ absent ▸ none) (logical And r.a r.b ▸ r.s ▸ absent ▸ none) refl refl r.shape r.written tt (λ strict y k Q l z.
       let (test, (first, second)) = if_parts Q l AsWhole r.a (if_alone r.b r.s) absent (subst (Q AsWhole) r.shape z) in
@@ -104,9 +98,8 @@ module _ (q : StmtSeat) (n w : Tree) where
       subst (Q AsWhole) (sym r.written) (an_if Q l AsWhole (logical And r.a r.b) r.s absent (a_logical Q l And r.a r.b test inner) body second))
   row_here (inr (inl (inr (inr (inr r))))) =
       made_statement_less q n w If If (r.a ▸ r.c ▸ r.u ▸ none) (r.a ▸ block (r.c ▸ none) ▸ r.u ▸ none) refl refl r.shape r.written tt (λ strict y k Q l z.
-      let there = subst (λ t. fits strict y t ≡ true) r.shape k in
       let (test, (first, second)) = if_parts Q l AsWhole r.a r.c r.u (subst (Q AsWhole) r.shape z) in
-      subst (Q AsWhole) (sym r.written) (an_if Q l AsWhole r.a (block (r.c ▸ none)) r.u test (blocked Q l r.c (unscoped_if r.c r.chooses) (calm_branches strict y r.a r.c r.u there).0 first) second))
+      subst (Q AsWhole) (sym r.written) (an_if Q l AsWhole r.a (block (r.c ▸ none)) r.u test (blocked Q l r.c (unscoped_if r.c r.chooses) first) second))
 
   returned_less : Row60 n w → LessAt (Stmt q) n w
   returned_less r = made_statement_less q n w Return Return (r.argument ▸ none) (absent ▸ none) refl refl r.shape r.written tt (λ strict y k Q l z. subst (Q AsWhole) (sym r.written) (l.up Return refl AsWhole (absent ▸ none) tt (nothing Q l AsValue, tt)))

@@ -1,16 +1,15 @@
 -- Rows on the keys of object literals ask less.
-use Rattle.std.specs.Prelude.{ℕ, ◌≡◌, refl, pos, Bool, true, false, List}
+use Rattle.std.specs.Prelude.{ℕ, refl, pos, Bool, true, false, List}
 use Rattle.std.specs.Fmt.{signed_decimal}
 use Rattle.std.proofs.Common.{inl, inr, sym, subst}
-use Rattle.mini_model.specs.declared.kind.PropertyKind.{PropertyKind}
 use Rattle.mini_model.specs.declared.place.Position.{Position}
 use Rattle.mini_model.specs.declared.place.Position.TheVariants.{Expr}
 use Rattle.mini_model.specs.Paths.{append}
 use Rattle.mini_model.specs.Tree.{Tree, Trees, none, ◌▸◌, listed, identifier}
-use Rattle.mini_rows.specs.Sketches.{AList, Object, Property, Number, String as Text, PropertyName, Asked, AsValue, AsValues, AsWord, key_asked}
-use Rattle.mini_rows.specs.SpellKeys.{property, function_property, object_literal, KeyForm, a_name, a_whole, a_text_in_brackets, a_whole_in_brackets, is_bracketed_form, read_key, written_key, PropertyRow, RowInObject, KeyRow, KeyContracts}
+use Rattle.mini_rows.specs.Sketches.{AList, Object, Property, Number, String as Text, PropertyName, Asked, AsValue, AsValues, AsWord}
+use Rattle.mini_rows.specs.SpellKeys.{property, object_literal, KeyForm, a_name, a_whole, a_text_in_brackets, a_whole_in_brackets, is_bracketed_form, read_key, written_key, PropertyRow, KeyRow, KeyContracts}
 use Rattle.mini_rows.specs.Spellings.{text, numeral, key}
-use Rattle.mini_rows.proofs.Arranging.{All, all_of, of_all, first_all, second_all, both_all, Any}
+use Rattle.mini_rows.proofs.Arranging.{all_of, of_all, first_all, second_all, both_all, Any}
 use Rattle.mini_less.specs.Families.{LessAt, KeysReadLess}
 use Rattle.mini_less.proofs.LessRows.{reads_less_by}
 use Rattle.mini_less.proofs.Made.{ByParts}

@@ -32,7 +32,9 @@ pub mod ChoicesLess
 pub mod Steps
 pub mod WritesLess
 pub mod KeysLess
-pub mod ForLess
+pub mod LoopsLess
 pub mod DeMorganLess
 pub mod Whole
 pub mod IfsLess
+pub mod BodiesLess
+pub mod BodyThisLess

@@ -25,17 +25,17 @@ use Rattle.mini_shrink.specs.Pace.{AtMost, Setting, below, pace}
 use Rattle.mini_shrink.specs.Questions.{Own, asks, any_of, finds, finds_each, early}
 use Rattle.mini_shrink.specs.Shrinking.{AsksLess}
 use Rattle.mini_rows.specs.Sketches.{Head, AList, If, Block, Call, shape_by, Asked, AsValue, AsValues, AsWhole, AsTarget, AsUpdated, AsBranch, AsItem, asked_below, use_by, leaps, is_expression_head, is_statement_head}
-use Rattle.mini_less.specs.Families.{FewerAt, LessAt}
+use Rattle.mini_less.specs.Families.{LessAt}
 use Rattle.mini_less.specs.Flags.{FlagsLess}
 use Rattle.mini_less.specs.Less.{TellsPlainly, Plain}
 use Rattle.mini_rows.proofs.Arranging.{Any, Below, Local}
 use Rattle.mini_rows.specs.Lists.{is_unscoped}
-use Rattle.mini_rows.proofs.ArrangedValues.{is_value, Calm}
+use Rattle.mini_rows.proofs.ArrangedValues.{is_value}
 use Rattle.mini_less.proofs.EachFact.{AloneToo, Unordered, unordered, by_value, by_fact, found_less}
 use Rattle.mini_less.proofs.Evals.{no_callee}
-use Rattle.mini_less.proofs.Finding.{Lacks, lacks_local, lacks_moves, as_asked, never, setting}
+use Rattle.mini_less.proofs.Finding.{Lacks, lacks_local, lacks_anyhow, as_asked, never, setting}
 use Rattle.mini_less.proofs.Flags.{none_of, leaping, spares_local, numbers_local, root_number}
-use Rattle.mini_less.proofs.Plainly.{alone, early_alone, read, is_reads, is_ended, less_by, Calmly, calm_local, calm_moves, root_ended, standing}
+use Rattle.mini_less.proofs.Plainly.{alone, early_alone, read, is_ended, less_by, Calmly, calm_local, calm_anyhow, root_ended, standing}
 use Rattle.mini_less.proofs.Statements.{alone as anywhere}
 
 -- no call, of which more is asked than of its parts: a direct eval is one of the name `eval`
@@ -56,7 +56,7 @@ Properties Q = (k : PropertyKind) (m : Bool) → SameProperty Q k m Init false �
 
 -- an unscoped statement stands as a branch and in a block alike
 abbrev pub Moved : (Asked → Tree → Type 0) → Type 0
-Moved Q = (t : Tree) → is_unscoped t ≡ true → Calm t → (Q AsBranch t → Q AsItem t) × (Q AsItem t → Q AsBranch t)
+Moved Q = (t : Tree) → is_unscoped t ≡ true → (Q AsBranch t → Q AsItem t) × (Q AsItem t → Q AsBranch t)
 
 -- what holds of such a node where it does of what is below, of a call where something more does of what is called, and of a name that is updated
 pub record ByParts (Q : Asked → Tree → Type 0) : Type 1 where
@@ -107,7 +107,7 @@ unfolding has_eval
 spared_by_parts = record {
   updated = λ x e f. e;
   properties = λ k m. (λ c s b ts a. a, λ c s b ts a. a);
-  moved = λ t e k. (λ a. a, λ a. a);
+  moved = λ t e. (λ a. a, λ a. a);
   Called = λ t. is_eval_callee t ≡ false;
   nameless = λ t e. e;
   call_down = λ c f ts a.
@@ -147,10 +147,10 @@ lacks_properties o t c env k m = (
 )
 
 pub lacks_moved : (o : Own) (p : TellsPlainly o) (c : Setting) (env : Environment) → Moved (Lacks o p c env)
-lacks_moved o p c env t e k = (lacks_moves o p (record c { used = Read }) env refl AsBranch AsItem refl refl t e k, lacks_moves o p (record c { used = Read }) env refl AsItem AsBranch refl refl t e k)
+lacks_moved o p c env t e = (lacks_anyhow o p (record c { used = Read }) env refl AsBranch AsItem refl refl t e, lacks_anyhow o p (record c { used = Read }) env refl AsItem AsBranch refl refl t e)
 
 pub calm_moved : (m s : ℕ) (c : Setting) (env : Environment) → Moved (Calmly m s c env)
-calm_moved m s c env t e k = (calm_moves m s (record c { used = Read }) env refl AsBranch AsItem refl refl t e k, calm_moves m s (record c { used = Read }) env refl AsItem AsBranch refl refl t e k)
+calm_moved m s c env t e = (calm_anyhow m s (record c { used = Read }) env refl AsBranch AsItem refl refl t e, calm_anyhow m s (record c { used = Read }) env refl AsItem AsBranch refl refl t e)
 
 pub calm_properties : (m s : ℕ) (c : Setting) (env : Environment) → Properties (Calmly m s c env)
 unfolding pace
@@ -160,11 +160,11 @@ calm_properties m s c env k d = (λ e t b ts a. a, λ e t b ts a. a)
 
 module _ (c : Asked) (n w : Tree) (root : has_number 0 n ≡ true) (made : (Q : Asked → Tree → Type 0) → ByParts Q → Q c n → Q c w) where
   pub flags_made : FlagsLess n w
-  flags_made = record { arguments = never (names_arguments n) (names_arguments w) (made (λ d t. names_arguments t ≡ false) (by_parts (λ d t. names_arguments t ≡ false) (λ x e f. e) spares_properties (λ t e k. (λ a. a, λ a. a)) spares_local)); number = numbers }
+  flags_made = record { arguments = never (names_arguments n) (names_arguments w) (made (λ d t. names_arguments t ≡ false) (by_parts (λ d t. names_arguments t ≡ false) (λ x e f. e) spares_properties (λ t e. (λ a. a, λ a. a)) spares_local)); number = numbers }
     where
       numbers : (k : ℕ) → has_number k w ≡ true → has_number k n ≡ true
       numbers zero e = root
-      numbers (suc k) e = never (has_number (suc k) n) (has_number (suc k) w) (made (λ d t. has_number (suc k) t ≡ false) (by_parts (λ d t. has_number (suc k) t ≡ false) (λ x e f. e) (numbers_properties k) (λ t e k. (λ a. a, λ a. a)) (numbers_local k))) e
+      numbers (suc k) e = never (has_number (suc k) n) (has_number (suc k) w) (made (λ d t. has_number (suc k) t ≡ false) (by_parts (λ d t. has_number (suc k) t ≡ false) (λ x e f. e) (numbers_properties k) (λ t e. (λ a. a, λ a. a)) (numbers_local k))) e
 
   pub evals_made : has_eval w ≡ true → has_eval n ≡ true
   evals_made = never (has_eval n) (has_eval w) (made Spared spared_by_parts)

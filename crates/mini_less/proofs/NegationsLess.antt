@@ -1,32 +1,32 @@
 -- The negations that reach into the operand ask less.
-use Rattle.std.specs.Prelude.{zero, ◌≡◌, refl, nat_le, nat_lt, Bool, true, false, not, ◌&&◌, ◌||◌, [], ◌∷◌, Option, Some, None, is_some, if◌then◌else◌}
+use Rattle.std.specs.Prelude.{zero, ◌≡◌, refl, nat_le, nat_lt, Bool, true, false, not, ◌&&◌, ◌||◌, [], Option, Some, None, is_some, if◌then◌else◌}
 use Rattle.std.proofs.Common.{ap, ◌∙◌, sym, subst, true≢false}
 use Rattle.std.proofs.lemmas.Bool.{and_parts}
 use Rattle.mini_model.specs.declared.operator.BinaryOperator.{BinaryOperator}
 use Rattle.mini_model.specs.declared.operator.LogicalOperator.{LogicalOperator}
 use Rattle.mini_model.specs.declared.operator.LogicalOperator.TheVariants.{Or, And}
-use Rattle.mini_model.specs.declared.operator.UnaryOperator.TheVariants.{LogicalNot, Typeof}
+use Rattle.mini_model.specs.declared.operator.UnaryOperator.TheVariants.{LogicalNot}
 use Rattle.mini_model.specs.declared.place.Position.{Position}
 use Rattle.mini_model.specs.declared.place.Position.TheVariants.{Expr}
 use Rattle.mini_model.specs.declared.seat.Seat.{Seat}
 use Rattle.mini_model.specs.declared.shape.Shape.TheVariants as shape
 use Rattle.mini_model.specs.Position.{left_operand_seat, right_operand_seat, branch_seat}
 use Rattle.mini_model.specs.Terms.{not_of}
-use Rattle.mini_model.specs.Tree.{Tree, Trees, node, none, ◌▸◌, count, listed, shape_of, negation, logical}
+use Rattle.mini_model.specs.Tree.{Tree, Trees, node, none, ◌▸◌, count, shape_of, logical}
 use Rattle.mini_model.specs.Weight.{weight}
-use Rattle.mini_accept.specs.WellShaped.{Slot, each, fits, fill}
+use Rattle.mini_accept.specs.WellShaped.{each, fits, fill}
 use Rattle.mini_node.specs.Children.{part}
 use Rattle.mini_laws.specs.ScopeList.{is_eval_callee}
 use Rattle.mini_kept.proofs.Bools.{left}
 use Rattle.mini_kept.proofs.Expressions.{expression, of_negation}
 use Rattle.mini_node.specs.Kinds.{boolean as boolean_value}
 use Rattle.mini_rows.specs.Lists.{sequence}
-use Rattle.mini_rows.specs.Negations.{reverse_of, negated_leaf, beside_u, whole_by, last_by, whole, lightest, reaches_in, Row23Whole, NegationRow, NegationContracts}
+use Rattle.mini_rows.specs.Negations.{reverse_of, negated_leaf, beside_u, last_by, whole, lightest, reaches_in, NegationRow, NegationContracts}
 use Rattle.mini_rows.specs.Sketches.{Unary, Asked, AsValue}
-use Rattle.mini_rows.specs.Spellings.{binary, text, boolean}
+use Rattle.mini_rows.specs.Spellings.{binary}
 use Rattle.mini_rows.proofs.Arranging.{All}
 use Rattle.mini_rows.proofs.ArrangedValues.{is_value}
-use Rattle.mini_rows.proofs.NegationMeaning.{Reverses, reverses}
+use Rattle.mini_rows.proofs.NegationMeaning.{reverses}
 use Rattle.mini_less.specs.Families.{LessAt, NegationsReadLess}
 use Rattle.mini_less.proofs.LessRows.{reads_less_by}
 use Rattle.mini_less.proofs.Made.{ByParts, made_less}

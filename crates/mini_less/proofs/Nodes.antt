@@ -7,25 +7,23 @@ use Rattle.mini_model.specs.declared.operator.UnaryOperator.{UnaryOperator}
 use Rattle.mini_model.specs.declared.operator.UnaryOperator.TheVariants.{Void, LogicalNot}
 use Rattle.mini_model.specs.declared.place.Position.TheVariants.{Expr}
 use Rattle.mini_model.specs.declared.seat.Seat.{Seat}
-use Rattle.mini_model.specs.declared.shape.Shape.{Shape}
 use Rattle.mini_model.specs.declared.shape.Shape.TheVariants as shape
 use Rattle.mini_model.specs.Position.{callee_seat}
 use Rattle.mini_model.specs.Paths.{append}
-use Rattle.mini_model.specs.Tree.{Tree, Trees, node, none, ◌▸◌, leaf, shape_of, listed, unary, negation, logical, conditional, null_literal}
+use Rattle.mini_model.specs.Tree.{Tree, Trees, node, none, ◌▸◌, shape_of, listed, unary, logical, conditional, null_literal}
 use Rattle.mini_accept.specs.WellShaped.{an_expression, Slot, one, fits}
 use Rattle.mini_laws.specs.ScopeList.{is_eval_callee}
 use Rattle.mini_terms.specs.Parts.{suits}
 use Rattle.mini_terms.specs.Reading.{stands}
 use Rattle.mini_rows.specs.Booleans.{digit}
-use Rattle.mini_rows.specs.Sketches.{Head, AList, shape_by, Null, BooleanValue, Number, String as Text, Unary, Binary, Logical, Conditional, Sequence, Sketch, Sketches, part, end, ◌▹◌, Parts, Asked, AsValue, AsValues, is_expression_head}
+use Rattle.mini_rows.specs.Sketches.{Head, AList, shape_by, Null, BooleanValue, Number, String as Text, Unary, Binary, Logical, Conditional, Sequence, part, end, ◌▹◌, Parts, Asked, AsValue, AsValues, is_expression_head}
 use Rattle.mini_rows.specs.Spellings.{binary, text, numeral, boolean, void_zero, negated_digit}
 use Rattle.mini_rows.specs.Lists.{sequence}
 use Rattle.mini_rows.proofs.Arranging.{All, all_of, of_all, first_all, second_all, both_all, Any}
-use Rattle.mini_rows.proofs.ArrangedValues.{is_value, head_valued, value_fits, suits_anywhere}
+use Rattle.mini_rows.proofs.ArrangedValues.{is_value, head_valued, value_fits}
 use Rattle.mini_less.specs.Families.{LessAt}
 use Rattle.mini_less.specs.Less.{Plain}
 use Rattle.mini_less.proofs.Evals.{no_callee}
-use Rattle.mini_less.proofs.Finding.{not_list}
 use Rattle.mini_less.proofs.Made.{ByParts, made_less, value_of_head}
 
 module _ (Q : Asked → Tree → Type 0) (l : ByParts Q) where

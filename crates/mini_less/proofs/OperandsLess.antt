@@ -1,10 +1,8 @@
 -- Rows on operands whose value is known, and on operators, ask less.
-use Rattle.std.specs.Prelude.{ℕ, ◌≡◌, refl, ℤ, pos, Bool, true, false, not, ◌&&◌, List, [], ◌++◌, if◌then◌else◌}
+use Rattle.std.specs.Prelude.{◌≡◌, refl, ℤ, pos, Bool, true, false, not, ◌&&◌, [], ◌++◌, if◌then◌else◌}
 use Rattle.std.proofs.Common.{inl, inr, ap, ◌∙◌, sym, subst, true≢false}
-use Rattle.mini_model.specs.declared.name.Name.{Name}
 use Rattle.mini_model.specs.declared.operator.BinaryOperator.{BinaryOperator}
 use Rattle.mini_model.specs.declared.operator.BinaryOperator.TheVariants.{Addition, BitwiseOr}
-use Rattle.mini_model.specs.declared.operator.UnaryOperator.{UnaryOperator}
 use Rattle.mini_model.specs.declared.operator.UnaryOperator.TheVariants.{Delete, LogicalNot, Typeof, UnaryPlus}
 use Rattle.mini_model.specs.declared.place.Position.{Position}
 use Rattle.mini_model.specs.declared.place.Position.TheVariants.{Expr}
@@ -18,15 +16,15 @@ use Rattle.mini_terms.specs.Parts.{leaves_nothing}
 use Rattle.mini_rows.specs.Booleans.{digit, plus}
 use Rattle.mini_rows.specs.Choices.{loosely, pair}
 use Rattle.mini_laws.specs.Operators.{same_boolean}
-use Rattle.mini_rows.specs.Operands.{beside, told_by, is_int32, zero_told, Row14, Row7, Row29, Row30, Row4, Row27, Row31, Row32, Row27Asked, Row27Enclosed, OperandRow, OperandContracts}
-use Rattle.mini_rows.specs.Operators.{deleted, says_equal, with_number, Row2, Row16, TypeRow, Row56Left, Row56Right, Row8, OperatorRow}
+use Rattle.mini_rows.specs.Operands.{beside, told_by, is_int32, zero_told, Row14, Row4, OperandRow, OperandContracts}
+use Rattle.mini_rows.specs.Operators.{says_equal, with_number, TypeRow, OperatorRow}
 use Rattle.mini_rows.specs.Sketches.{Head, shape_by, is_expression_head, Unary, Binary, Logical, Sequence, Asked, AsValue}
 use Rattle.mini_rows.specs.Spellings.{binary, text, numeral, negated_digit}
 use Rattle.mini_rows.proofs.ArrangedValues.{is_value}
 use Rattle.mini_less.specs.Families.{LessAt, OperandsReadLess}
 use Rattle.mini_less.proofs.ConstantsLess.{beside_part}
 use Rattle.mini_less.proofs.LessRows.{reads_less_by}
-use Rattle.mini_less.proofs.Made.{ByParts, made_less}
+use Rattle.mini_less.proofs.Made.{ByParts}
 use Rattle.mini_less.proofs.Nodes.{unary_part, a_unary, binary_parts, a_binary, logical_parts, a_logical, a_sequence, a_number, a_text, a_digit, a_truth, made_under, part_of, Uncalled, suited, asked_truth, binary_values}
 
 module _ (q : Seat) (n w : Tree) where

@@ -18,7 +18,7 @@ use Rattle.mini_model.specs.Tree.{Tree, Trees, node, none, ◌▸◌, shape_of}
 use Rattle.mini_laws.specs.declared.names.Use.{Use}
 use Rattle.mini_laws.specs.declared.names.Use.TheVariants.{Read, Write, ReadWrite}
 use Rattle.mini_laws.specs.declared.names.Binding.{Binding}
-use Rattle.mini_laws.specs.DeclaredNames.{names_of, is_inner}
+use Rattle.mini_laws.specs.DeclaredNames.{with_names, names_of, is_inner}
 use Rattle.mini_laws.specs.Scopes.{opened, scopes_by, lexical_scope}
 use Rattle.mini_laws.specs.Resolved.{Environment}
 use Rattle.mini_laws.specs.ScopeList.{names_in, any_has_eval, by_symbol}
@@ -35,10 +35,10 @@ use Rattle.mini_shrink.specs.Shrinking.{AsksLess}
 use Rattle.mini_shrink.specs.Facts.{Written, WrittenElsewhere, Given, GivenElsewhere, GivenByPattern, MentionedElsewhere, BoundElsewhere, IsLexical, IsSwitched, InPattern, UnderCatch, ByArguments, ByEval, AmongParameters, ReadEarly}
 use Rattle.mini_shrink.proofs.Finding.{pace_is}
 use Rattle.mini_shrink.proofs.Owns.{implied}
-use Rattle.mini_rows.specs.Lists.{is_unscoped_shape}
-use Rattle.mini_rows.specs.Sketches.{Head, AList, If, Block, shape_by, Sketch, part, under, list, Parts, filled, all_filled, Asked, AsValue, asked_below, use_by, leaps, Free, rearranges_expression, is_rearranged, parts_of, stands_well, is_expression_head, is_expression}
+use Rattle.mini_rows.specs.Lists.{is_unscoped_shape, is_unscoped}
+use Rattle.mini_rows.specs.Sketches.{Head, AList, If, Block, shape_by, is_statement_asked, Sketch, part, under, list, Parts, filled, all_filled, Asked, AsValue, asked_below, use_by, leaps, Free, rearranges_expression, is_rearranged, parts_of, stands_well, is_expression_head, is_expression}
 use Rattle.mini_rows.specs.Arranged.{AreLoose}
-use Rattle.mini_less.specs.Less.{Plain, TellsPlainly, ArrangedAsksLess}
+use Rattle.mini_less.specs.Less.{Frame, AFor, AWhile, ADo, AnIn, AnOf, frame_shape, headed, Plain, TellsPlainly, ArrangedAsksLess}
 use Rattle.mini_rows.proofs.Arranging.{Below, Leaping, Any, Each, Local, to_parts, of_parts}
 use Rattle.mini_rows.proofs.ArrangedNames.{nothing_opened, used_below}
 use Rattle.mini_rows.proofs.ArrangedMoves.{Moves, forth, valued_there}
@@ -55,6 +55,12 @@ no_mention p c shape.Identifier = refl
 no_mention p c shape.BindingIdentifier = refl
 no_mention p c h = refl
 
+-- an unscoped statement is no name
+pub unscoped_mention : (p : Mention → Bool) (c : Setting) (h : Shape) (xs : List Name) → is_unscoped_shape h ≡ true → list_any p (own_mentions c.used c.around h xs) ≡ false
+unscoped_mention p c shape.Identifier xs e = absurd (cc e)
+unscoped_mention p c shape.BindingIdentifier xs e = absurd (cc e)
+unscoped_mention p c h xs e = refl
+
 -- a mention that is updated is such only if one that is assigned to or one that is read is
 abbrev pub Updates : (Mention → Bool) → Type 0
 Updates p = (x : Name) (a : Around) → p (record { name = x; used = Write; binds = false; around = a }) ≡ false → p (record { name = x; used = Read; binds = false; around = a }) ≡ false → p (record { name = x; used = ReadWrite; binds = false; around = a }) ≡ false
@@ -64,18 +70,79 @@ or_none true = refl
 or_none false = refl
 
 pub mentions_plainly : (p : Mention → Bool) → Updates p → TellsPlainly (mentions_such p)
-mentions_plainly p u = record { property = λ c env k m s b ts. refl; looped = λ c env i j ts us e f g. g; updated = λ c env x e f. or_none _ ∙ u x c.around (sym (or_none _) ∙ e) (sym (or_none _) ∙ f); plain = λ c env h ts q. no_mention p c (shape_by h); moved = λ c v b env h n ts e. no_mention p c h ∙ sym (no_mention p (record c { used = v; is_body = b }) h) }
+mentions_plainly p u = record { property = λ c env k m s b ts. refl; looped = λ c env f i j ts us e h g. absurd (true≢false (sym g ∙ no_mention p c (frame_shape f))); updated = λ c env x e f. or_none _ ∙ u x c.around (sym (or_none _) ∙ e) (sym (or_none _) ∙ f); plain = λ c env h ts q. no_mention p c (shape_by h); moved = λ c v b env h xs n ts e. unscoped_mention p c h xs e ∙ sym (unscoped_mention p (record c { used = v; is_body = b }) h xs e) }
+
+loop_gives : (u : Use) (f : Frame) (ts : Trees) → given_values u (frame_shape f) [] ts ≡ []
+loop_gives u AFor ts = refl
+loop_gives u AWhile ts = refl
+loop_gives u ADo ts = refl
+loop_gives u AnIn ts = refl
+loop_gives u AnOf ts = refl
+
+loop_pattern : (u : Use) (env : Environment) (f : Frame) (ts : Trees) → own_pattern_writes u env (frame_shape f) ts ≡ []
+loop_pattern u env AFor ts = refl
+loop_pattern u env AWhile ts = refl
+loop_pattern u env ADo ts = refl
+loop_pattern u env AnIn ts = refl
+loop_pattern u env AnOf ts = refl
+
+loop_lexical : (b : Bool) (f : Frame) (ts : Trees) → own_lexical b (frame_shape f) ts ≡ []
+loop_lexical true AFor ts = refl
+loop_lexical true AWhile ts = refl
+loop_lexical true ADo ts = refl
+loop_lexical true AnIn ts = refl
+loop_lexical true AnOf ts = refl
+loop_lexical false AFor ts = refl
+loop_lexical false AWhile ts = refl
+loop_lexical false ADo ts = refl
+loop_lexical false AnIn ts = refl
+loop_lexical false AnOf ts = refl
+
+pub loop_switched : (c : Setting) (f : Frame) (ts : Trees) → switched_at c (frame_shape f) 0 ts ≡ []
+loop_switched c AFor ts = refl
+loop_switched c AWhile ts = refl
+loop_switched c ADo ts = refl
+loop_switched c AnIn ts = refl
+loop_switched c AnOf ts = refl
+
+pub loop_pattern_at : (c : Setting) (f : Frame) (ts : Trees) → pattern_at c (frame_shape f) 0 ts ≡ []
+loop_pattern_at c AFor ts = refl
+loop_pattern_at c AWhile ts = refl
+loop_pattern_at c ADo ts = refl
+loop_pattern_at c AnIn ts = refl
+loop_pattern_at c AnOf ts = refl
+
+pub loop_caught : (c : Setting) (f : Frame) (ts : Trees) → caught_at c (frame_shape f) 0 ts ≡ []
+loop_caught c AFor ts = refl
+loop_caught c AWhile ts = refl
+loop_caught c ADo ts = refl
+loop_caught c AnIn ts = refl
+loop_caught c AnOf ts = refl
+
+pub loop_arguments : (c : Setting) (f : Frame) (ts : Trees) → arguments_at c (frame_shape f) 0 ts ≡ []
+loop_arguments c AFor ts = refl
+loop_arguments c AWhile ts = refl
+loop_arguments c ADo ts = refl
+loop_arguments c AnIn ts = refl
+loop_arguments c AnOf ts = refl
+
+pub loop_params : (b : ℕ) (c : Setting) (f : Frame) (ts : Trees) → params_at b c (frame_shape f) 0 ts ≡ []
+loop_params b c AFor ts = refl
+loop_params b c AWhile ts = refl
+loop_params b c ADo ts = refl
+loop_params b c AnIn ts = refl
+loop_params b c AnOf ts = refl
 
 gives_no : (p : Mention → Bool) (c : Setting) (h : Head) (ts : Trees) → list_any p (map (write_at c.around) (given_values c.used (shape_by h) [] ts)) ≡ false
 gives_no p c AList ts = refl
 gives_no p c h ts = refl
 
-gives_anyhow : (p : Mention → Bool) (c : Setting) (v : Use) (h : Shape) (ts : Trees) → is_unscoped_shape h ≡ true → list_any p (map (write_at c.around) (given_values c.used h [] ts)) ≡ list_any p (map (write_at c.around) (given_values v h [] ts))
-gives_anyhow p c v shape.VariableDeclarator ts e = absurd (cc e)
-gives_anyhow p c v h ts e = refl
+gives_anyhow : (p : Mention → Bool) (c : Setting) (v : Use) (h : Shape) (xs : List Name) (ts : Trees) → is_unscoped_shape h ≡ true → list_any p (map (write_at c.around) (given_values c.used h xs ts)) ≡ list_any p (map (write_at c.around) (given_values v h xs ts))
+gives_anyhow p c v shape.VariableDeclarator xs ts e = absurd (cc e)
+gives_anyhow p c v h xs ts e = refl
 
 pub gives_plainly : (p : Mention → Bool) → TellsPlainly (gives_such p)
-gives_plainly p = record { property = λ c env k m s b ts. refl; looped = λ c env i j ts us e f g. g; updated = λ c env x e f. e; plain = λ c env h ts q. gives_no p c h ts; moved = λ c v b env h n ts e. gives_anyhow p c v h ts e }
+gives_plainly p = record { property = λ c env k m s b ts. refl; looped = λ c env f i j ts us e h g. absurd (true≢false (sym g ∙ ap (λ xs. list_any p (map (write_at c.around) xs)) (loop_gives c.used f (j ▸ us)))); updated = λ c env x e f. e; plain = λ c env h ts q. gives_no p c h ts; moved = λ c v b env h xs n ts e. gives_anyhow p c v h xs ts e }
 
 pattern_no : (c : Setting) (env : Environment) (h : Head) (ts : Trees) → own_pattern_writes c.used env (shape_by h) ts ≡ []
 pattern_no c env AList ts = refl
@@ -86,10 +153,10 @@ pattern_anyhow u v env shape.VariableDeclarator ts e = absurd (cc e)
 pattern_anyhow u v env h ts e = refl
 
 pub pattern_gives_plainly : (s : ℕ) → TellsPlainly (pattern_gives s)
-pattern_gives_plainly s = record { property = λ c env k m s b ts. refl; looped = λ c env i j ts us e f g. g; updated = λ c env x e f. e; plain = λ c env h ts q. ap (is_among (by_symbol s)) (pattern_no c env h ts); moved = λ c v b env h n ts e. ap (is_among (by_symbol s)) (pattern_anyhow c.used v env h ts e) }
+pattern_gives_plainly s = record { property = λ c env k m s b ts. refl; looped = λ c env f i j ts us e h g. absurd (true≢false (sym g ∙ ap (is_among (by_symbol s)) (loop_pattern c.used env f (j ▸ us)))); updated = λ c env x e f. e; plain = λ c env h ts q. ap (is_among (by_symbol s)) (pattern_no c env h ts); moved = λ c v b env h xs n ts e. ap (is_among (by_symbol s)) (pattern_anyhow c.used v env h ts e) }
 
-pub names_plainly : (ys : Setting → Shape → ℕ → Trees → List Name) (s : ℕ) → ((c : Setting) (h : Head) (ts : Trees) → ys c (shape_by h) 0 ts ≡ []) → ((c : Setting) (v : Use) (b : Bool) (h : Shape) (n : ℕ) (ts : Trees) → ys c h n ts ≡ ys (record c { used = v; is_body = b }) h n ts) → ((c : Setting) (k : PropertyKind) (m d b : Bool) (ts : Trees) → ys c (shape.ObjectProperty k m d b) 0 ts ≡ ys c (shape.ObjectProperty Init false d b) 0 ts) → ((c : Setting) (ts : Trees) → ys c shape.ForStatement 0 ts ≡ []) → TellsPlainly (names_at ys s)
-names_plainly ys s f g r v = record { property = λ c env k m d b ts. ap (is_among (by_symbol s)) (r c k m d b ts); looped = λ c env i j ts us e x y. absurd (true≢false (sym y ∙ ap (is_among (by_symbol s)) (v c (j ▸ us)))); updated = λ c env x e f. sym (ap (is_among (by_symbol s)) (g (record c { used = Write }) ReadWrite c.is_body shape.Identifier 0 none)) ∙ e; plain = λ c env h ts q. ap (is_among (by_symbol s)) (f c h ts); moved = λ c v b env h n ts e. ap (is_among (by_symbol s)) (g c v b h n ts) }
+pub names_plainly : (ys : Setting → Shape → ℕ → Trees → List Name) (s : ℕ) → ((c : Setting) (h : Head) (ts : Trees) → ys c (shape_by h) 0 ts ≡ []) → ((c : Setting) (v : Use) (b : Bool) (h : Shape) (n : ℕ) (ts : Trees) → ys c h n ts ≡ ys (record c { used = v; is_body = b }) h n ts) → ((c : Setting) (k : PropertyKind) (m d b : Bool) (ts : Trees) → ys c (shape.ObjectProperty k m d b) 0 ts ≡ ys c (shape.ObjectProperty Init false d b) 0 ts) → ((c : Setting) (f : Frame) (ts : Trees) → ys c (frame_shape f) 0 ts ≡ []) → TellsPlainly (names_at ys s)
+names_plainly ys s f g r v = record { property = λ c env k m d b ts. ap (is_among (by_symbol s)) (r c k m d b ts); looped = λ c env f i j ts us e x y. absurd (true≢false (sym y ∙ ap (is_among (by_symbol s)) (v c f (j ▸ us)))); updated = λ c env x e f. sym (ap (is_among (by_symbol s)) (g (record c { used = Write }) ReadWrite c.is_body shape.Identifier 0 none)) ∙ e; plain = λ c env h ts q. ap (is_among (by_symbol s)) (f c h ts); moved = λ c v b env h xs n ts e. ap (is_among (by_symbol s)) (g c v b h n ts) }
 
 pub no_switched : (c : Setting) (h : Head) (ts : Trees) → switched_at c (shape_by h) 0 ts ≡ []
 no_switched c AList ts = refl
@@ -139,30 +206,38 @@ both_true : (a b : Bool) → a ≡ true → b ≡ true → (a && b) ≡ true
 both_true true b e f = f
 both_true false b e f = e
 
--- a `for` opens one scope, for all its parts
-pub head_scope : (u : Use) (i : Tree) (ts : Trees) → opened u shape.ForStatement (i ▸ ts) 0 ≡ lexical_scope (names_of declared.Lexical i)
-unfolding scopes_by
-head_scope u i ts = refl
+-- a loop opens one scope, for all its parts
+pub head_scope : (u : Use) (f : Frame) (i : Tree) (ts : Trees) → opened u (frame_shape f) (i ▸ ts) 0 ≡ lexical_scope (headed f i)
+unfolding scopes_by with_names
+head_scope u AFor i ts = refl
+head_scope u AWhile i ts = refl
+head_scope u ADo i ts = refl
+head_scope u AnIn i ts = refl
+head_scope u AnOf i ts = refl
 
-pub later_scopes : (u : Use) (i : Tree) (ts : Trees) (j : ℕ) → opened u shape.ForStatement (i ▸ ts) (suc j) ≡ []
+pub later_scopes : (u : Use) (f : Frame) (i : Tree) (ts : Trees) (j : ℕ) → opened u (frame_shape f) (i ▸ ts) (suc j) ≡ []
 unfolding scopes_by
-later_scopes u i ts j = refl
+later_scopes u AFor i ts j = refl
+later_scopes u AWhile i ts j = refl
+later_scopes u ADo i ts j = refl
+later_scopes u AnIn i ts j = refl
+later_scopes u AnOf i ts j = refl
 
-seen_looped : (x : Name) (u : Use) (i j : Tree) (ts us : Trees) → names_of declared.Lexical j ≡ names_of declared.Lexical i → (any_has_eval (j ▸ us) ≡ true → any_has_eval (i ▸ ts) ≡ true) → seen_from (opened u shape.ForStatement (j ▸ us)) 0 (j ▸ us) x ≡ true → seen_from (opened u shape.ForStatement (i ▸ ts)) 0 (i ▸ ts) x ≡ true
-seen_looped x u i j ts us e f g =
-    let here = opened u shape.ForStatement (i ▸ ts) in
-    let there = opened u shape.ForStatement (j ▸ us) in
-    let (a, b) = and_parts (any_has_eval (j ▸ us)) (is_among x (names_in (there 0))) (sym (or_off (any_has_eval (j ▸ us) && is_among x (names_in (there 0))) (seen_from there 1 us x) (later_unseen x there (later_scopes u j us) 0 us)) ∙ g) in
-    let same : there 0 ≡ here 0 = head_scope u j us ∙ ap lexical_scope e ∙ sym (head_scope u i ts) in
-    ap (λ y. y || seen_from here 1 ts x) (both_true (any_has_eval (i ▸ ts)) (is_among x (names_in (here 0))) (f a) (sym (ap (λ bs. is_among x (names_in bs)) same) ∙ b))
+seen_looped : (x : Name) (u : Use) (f : Frame) (i j : Tree) (ts us : Trees) → headed f j ≡ headed f i → (any_has_eval (j ▸ us) ≡ true → any_has_eval (i ▸ ts) ≡ true) → seen_from (opened u (frame_shape f) (j ▸ us)) 0 (j ▸ us) x ≡ true → seen_from (opened u (frame_shape f) (i ▸ ts)) 0 (i ▸ ts) x ≡ true
+seen_looped x u f i j ts us e h g =
+    let here = opened u (frame_shape f) (i ▸ ts) in
+    let there = opened u (frame_shape f) (j ▸ us) in
+    let (a, b) = and_parts (any_has_eval (j ▸ us)) (is_among x (names_in (there 0))) (sym (or_off (any_has_eval (j ▸ us) && is_among x (names_in (there 0))) (seen_from there 1 us x) (later_unseen x there (later_scopes u f j us) 0 us)) ∙ g) in
+    let same : there 0 ≡ here 0 = head_scope u f j us ∙ ap lexical_scope e ∙ sym (head_scope u f i ts) in
+    ap (λ y. y || seen_from here 1 ts x) (both_true (any_has_eval (i ▸ ts)) (is_among x (names_in (here 0))) (h a) (sym (ap (λ bs. is_among x (names_in bs)) same) ∙ b))
 
 pub seen_plainly : (s : ℕ) → TellsPlainly (seen_at s)
 seen_plainly s = record {
   property = λ c env k m s b ts. refl;
-  looped = λ c env i j ts us e f g. seen_looped (by_symbol s) c.used i j ts us e f g;
+  looped = λ c env f i j ts us e h g. seen_looped (by_symbol s) c.used f i j ts us e h g;
   updated = λ c env x e f. e;
   plain = λ c env h ts q. unseen (by_symbol s) (opened c.used (shape_by h) ts) (nothing_opened c.used h ts q) 0 ts;
-  moved = λ c v b env h n ts e. seen_alike (by_symbol s) (opened c.used h ts) (opened v h ts) (same_scopes c.used v h e ts) 0 ts;
+  moved = λ c v b env h xs n ts e. seen_alike (by_symbol s) (opened c.used h ts) (opened v h ts) (same_scopes c.used v h e ts) 0 ts;
 }
 
 -- ---- what doesn't ask whether it stands directly in a body
@@ -227,7 +302,7 @@ early_alone b k c env (node h xs n ts) e =
     by o = ap (λ x. x && o) (hands_value h e) ∙ sym (ap (λ x. x && false) (hands_value h e))
 
 pub lexical_plainly : (s : ℕ) → TellsPlainly (names_at lexical_at s)
-lexical_plainly s = record { property = λ c env k m s b ts. refl; looped = λ c env i j ts us e f g. g; updated = λ c env x e f. e; plain = λ c env h ts q. ap (is_among (by_symbol s)) (no_lexical c.is_body h ts); moved = λ c v b env h n ts e. ap (is_among (by_symbol s)) (moved_lexical c.is_body b h ts e) }
+lexical_plainly s = record { property = λ c env k m s b ts. refl; looped = λ c env f i j ts us e h g. absurd (true≢false (sym g ∙ ap (is_among (by_symbol s)) (loop_lexical c.is_body f (j ▸ us)))); updated = λ c env x e f. e; plain = λ c env h ts q. ap (is_among (by_symbol s)) (no_lexical c.is_body h ts); moved = λ c v b env h xs n ts e. ap (is_among (by_symbol s)) (moved_lexical c.is_body b h ts e) }
   where
     no_lexical : (b : Bool) (h : Head) (ts : Trees) → own_lexical b (shape_by h) ts ≡ []
     no_lexical true AList ts = refl
@@ -335,16 +410,19 @@ module _ (b s : ℕ) (k : Setting) (env : Environment) where
   same_paces sc sc' z ks ks' w i e none = refl
   same_paces sc sc' z ks ks' w i e (t ▸ ts) = λ j. ends_after (q.ends (w i j) t) (pace q (w i j) (e ++ z i j) t) ∷ (ap (λ r. paces q sc ks (suc i) (e ++ r) ts) (z i) ∙ same_paces sc sc' z ks ks' w (suc i) (e ++ sc' i) ts) j
 
-  pub calm_moves : is_statement_use k.used ≡ true → Moves Calmly
+  pub calm_anyhow : is_statement_use k.used ≡ true → (c d : Asked) → is_statement_asked c ≡ true → is_statement_asked d ≡ true → (t : Tree) → is_unscoped t ≡ true → Calmly c t → Calmly d t
   unfolding pace
-  calm_moves a₀ c d x y (node h xs n ts) e m a =
+  calm_anyhow a₀ c d x y (node h xs n ts) e a =
       let v = use_by k.used c in
       let u = use_by k.used d in
       let scopes : (j : ℕ) → opened v h ts j ≡ opened u h ts j = same_scopes v u h e ts in
       let o = q.orders (standing c) h ts in
       let settings : (j : ℕ) → below o (standing c) h n j ≡ below o (standing d) h n j = λ j i. record { used = same_use v u (statement_use k.used a₀ c x) (statement_use k.used a₀ d y) h j e i; around = around_child h k.around n j; strict = is_strict_in k.strict h; is_body = no_body_below (mentions_such (λ m. true)) (mentions_plainly (λ m. true) (λ x a e f. e)) k env h (body_by k.is_body c) (body_by k.is_body d) e i; belongs = (below o (standing c) h n j).belongs; ordered = o } in
-      let own : q.before (standing c) env h xs n ts ≡ q.before (standing d) env h xs n ts = subst (λ ys. q.before (standing c) env h ys n ts ≡ q.before (standing d) env h ys n ts) (sym m.0) (ap reads_if (no_mention read_here (standing c) h ∙ sym (no_mention read_here (standing d) h))) in
+      let own : q.before (standing c) env h xs n ts ≡ q.before (standing d) env h xs n ts = ap reads_if (unscoped_mention read_here (standing c) h xs e ∙ sym (unscoped_mention read_here (standing d) h xs e)) in
       sym (λ j. is_reads (followed (own j) (in_turn h (same_paces (opened v h ts) (opened u h ts) scopes (below o (standing c) h n) (below o (standing d) h n) settings 0 env ts j)))) ∙ a
+
+  pub calm_moves : is_statement_use k.used ≡ true → Moves Calmly
+  calm_moves u c d x y t e m a = calm_anyhow u c d x y t e a
 
   -- no end is told at the root
   pub not_ended : (p r : Pace) → is_ended r ≡ false → is_ended (followed (ends_after false p) r) ≡ false
@@ -469,11 +547,11 @@ arranged_asks_less f ps u s r e q n w a b GivenElsewhere c k = asks_less f ps u 
 arranged_asks_less f ps u s r e q n w a b MentionedElsewhere c k = asks_less f ps u q n w _ (mentions_plainly (λ m. same_variable (by_symbol k) m.name && is_elsewhere c m.around) (λ x a e f. e)) (λ c b d env h xs n ts. refl) k s r e a b
 arranged_asks_less f ps u s r e q n w a b BoundElsewhere c k = asks_less f ps u q n w _ (mentions_plainly (λ m. same_variable (by_symbol k) m.name && m.binds && is_elsewhere c m.around) (λ x a e f. e)) (λ c b d env h xs n ts. refl) k s r e a b
 arranged_asks_less f ps u s r e q n w a b IsLexical c k = lexical_less f ps u q n w k s r e a b
-arranged_asks_less f ps u s r e q n w a b IsSwitched c k = asks_less f ps u q n w _ (names_plainly switched_at k no_switched (λ c v b h n ts. refl) (λ c k m d b ts. refl) (λ c ts. refl)) (λ c b d env h xs n ts. refl) k s r e a b
-arranged_asks_less f ps u s r e q n w a b InPattern c k = asks_less f ps u q n w _ (names_plainly pattern_at k no_pattern (λ c v b h n ts. refl) (λ c k m d b ts. refl) (λ c ts. refl)) (λ c b d env h xs n ts. refl) k s r e a b
+arranged_asks_less f ps u s r e q n w a b IsSwitched c k = asks_less f ps u q n w _ (names_plainly switched_at k no_switched (λ c v b h n ts. refl) (λ c k m d b ts. refl) loop_switched) (λ c b d env h xs n ts. refl) k s r e a b
+arranged_asks_less f ps u s r e q n w a b InPattern c k = asks_less f ps u q n w _ (names_plainly pattern_at k no_pattern (λ c v b h n ts. refl) (λ c k m d b ts. refl) loop_pattern_at) (λ c b d env h xs n ts. refl) k s r e a b
 arranged_asks_less f ps u s r e q n w a b GivenByPattern c k = asks_less f ps u q n w _ (pattern_gives_plainly k) (λ c b d env h xs n ts. refl) k s r e a b
-arranged_asks_less f ps u s r e q n w a b UnderCatch c k = asks_less f ps u q n w _ (names_plainly caught_at k no_caught (λ c v b h n ts. refl) (λ c k m d b ts. refl) (λ c ts. refl)) (λ c b d env h xs n ts. refl) k s r e a b
-arranged_asks_less f ps u s r e q n w a b ByArguments c k = asks_less f ps u q n w _ (names_plainly arguments_at k no_arguments (λ c v b h n ts. refl) (λ c k m d b ts. refl) (λ c ts. refl)) (λ c b d env h xs n ts. refl) k s r e a b
+arranged_asks_less f ps u s r e q n w a b UnderCatch c k = asks_less f ps u q n w _ (names_plainly caught_at k no_caught (λ c v b h n ts. refl) (λ c k m d b ts. refl) loop_caught) (λ c b d env h xs n ts. refl) k s r e a b
+arranged_asks_less f ps u s r e q n w a b ByArguments c k = asks_less f ps u q n w _ (names_plainly arguments_at k no_arguments (λ c v b h n ts. refl) (λ c k m d b ts. refl) loop_arguments) (λ c b d env h xs n ts. refl) k s r e a b
 arranged_asks_less f ps u s r e q n w a b ByEval c k = asks_less f ps u q n w _ (seen_plainly k) (λ c b d env h xs n ts. refl) k s r e a b
-arranged_asks_less f ps u s r e q n w a b AmongParameters c k = asks_less f ps u q n w _ (names_plainly (params_at c) k (no_params c) (λ c v b h n ts. refl) (λ c k m d b ts. refl) (λ c ts. refl)) (λ c b d env h xs n ts. refl) k s r e a b
+arranged_asks_less f ps u s r e q n w a b AmongParameters c k = asks_less f ps u q n w _ (names_plainly (params_at c) k (no_params c) (λ c v b h n ts. refl) (λ c k m d b ts. refl) (loop_params c)) (λ c b d env h xs n ts. refl) k s r e a b
 arranged_asks_less f ps u s r e q n w a b ReadEarly c k = early_less f ps u q n w c k s r e a b

@@ -2,7 +2,6 @@
 use Rattle.std.specs.Prelude.{◌≡◌, refl, Bool, true}
 use Rattle.std.proofs.Common.{sym, subst}
 use Rattle.mini_model.specs.declared.operator.LogicalOperator.TheVariants.{Or}
-use Rattle.mini_model.specs.declared.place.Position.TheVariants.{Stmt}
 use Rattle.mini_model.specs.declared.seat.Seat.{Seat}
 use Rattle.mini_model.specs.Position.{statement_expression_seat, left_operand_seat}
 use Rattle.mini_model.specs.Terms.{not_of}
@@ -10,7 +9,7 @@ use Rattle.mini_model.specs.Tree.{Tree, none, ◌▸◌, absent, expression_stat
 use Rattle.mini_accept.specs.WellShaped.{Slot, fits}
 use Rattle.mini_kept.proofs.Rows.{of_if}
 use Rattle.mini_rows.specs.Sketches.{Logical, OfExpression, If, Asked, AsValue, AsWhole, AsBranch}
-use Rattle.mini_less.specs.Families.{LessAt, Row82OrLess}
+use Rattle.mini_less.specs.Families.{Row82OrLess}
 use Rattle.mini_less.proofs.Made.{ByParts, made_statement_less}
 use Rattle.mini_less.proofs.Negated.{not_kept}
 

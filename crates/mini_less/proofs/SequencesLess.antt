@@ -1,5 +1,5 @@
 -- Rows on sequences ask less.
-use Rattle.std.specs.Prelude.{◌≡◌, refl, Bool, true, false, not, ◌&&◌, ◌||◌, List, [], ◌∷◌, nat_le, codes}
+use Rattle.std.specs.Prelude.{◌≡◌, refl, Bool, true, false, not, ◌||◌, List, [], ◌∷◌, codes}
 use Rattle.std.proofs.Common.{inl, inr, ap, ◌∙◌, sym, subst, true≢false}
 use Rattle.mini_model.specs.declared.name.Name.{Name}
 use Rattle.mini_model.specs.declared.operator.UnaryOperator.TheVariants.{LogicalNot}
@@ -9,14 +9,13 @@ use Rattle.mini_model.specs.declared.seat.Seat.{Seat}
 use Rattle.mini_model.specs.declared.shape.Shape.TheVariants as shape
 use Rattle.mini_model.specs.Position.{callee_seat}
 use Rattle.mini_model.specs.Paths.{append}
-use Rattle.mini_model.specs.Tree.{Tree, Trees, node, none, ◌▸◌, listed, shape_of, unary, negation, logical, conditional}
+use Rattle.mini_model.specs.Tree.{Tree, Trees, node, none, ◌▸◌, listed, shape_of}
 use Rattle.mini_accept.specs.WellShaped.{Slot, fits}
 use Rattle.mini_laws.specs.ScopeList.{is_eval, is_eval_callee}
 use Rattle.mini_rows.specs.Decrements.{is_spelled}
 use Rattle.mini_rows.specs.Lists.{sequence}
-use Rattle.mini_rows.specs.Sequences.{conversion_operator, Operation, Decides, Chooses, Negates, Operates, Converts, Yields, over, along, yielded, stays_alone, Row20, Row21, Row21Idle, Row21Alone, SequenceRow, SequenceContracts}
+use Rattle.mini_rows.specs.Sequences.{conversion_operator, Operation, Decides, Chooses, Negates, Operates, Converts, Yields, over, along, stays_alone, Row21, SequenceRow, SequenceContracts}
 use Rattle.mini_rows.specs.Sketches.{Unary, Binary, Logical, Conditional, Sequence, Yield, part, list, end, ◌▹◌, no_items, item, Asked, AsValue}
-use Rattle.mini_rows.specs.Spellings.{binary}
 use Rattle.mini_rows.proofs.ArrangedValues.{is_value, head_valued}
 use Rattle.mini_less.specs.Families.{LessAt, SequencesReadLess}
 use Rattle.mini_less.proofs.LessRows.{reads_less_by}

@@ -1,17 +1,15 @@
 -- Rows on spellings ask less.
 use Rattle.std.specs.Prelude.{ℕ, ◌≡◌, refl, ℤ, pos, Bool, true, false, List, [], Some, codes}
-use Rattle.std.proofs.Common.{inl, inr, ap, ◌∙◌, sym, subst}
-use Rattle.mini_model.specs.declared.operator.AssignmentOperator.{AssignmentOperator}
-use Rattle.mini_model.specs.declared.operator.AssignmentOperator.TheVariants as assigning
+use Rattle.std.proofs.Common.{inl, inr, sym, subst}
 use Rattle.mini_model.specs.declared.operator.UnaryOperator.TheVariants.{LogicalNot, Typeof}
 use Rattle.mini_model.specs.declared.place.Position.{Position}
 use Rattle.mini_model.specs.declared.place.Position.TheVariants.{Expr}
 use Rattle.mini_model.specs.declared.seat.Seat.{Seat}
 use Rattle.mini_model.specs.declared.shape.Shape.TheVariants as shape
 use Rattle.std.specs.Fmt.{signed_decimal}
-use Rattle.mini_model.specs.Tree.{Tree, Trees, node, none, ◌▸◌, listed, unary, absent, null_literal}
-use Rattle.mini_rows.specs.Sketches.{Head, AbsentPart, AList, Null, BooleanValue, Number, String, PropertyName, Unary, Binary, StaticMember, ComputedMember, Yield, Template, Piece, Assignment, Update, Asked, AsValue, AsWord, AsHeld, target_asked}
-use Rattle.mini_rows.specs.Spellings.{binary, text, numeral, key, boolean, void_zero, negated_digit, computed_member, static_member, assignment, update, plain, template, typeof_name, ordered, strict_operator, Row65, Row33Name, Row33Number, Row33, Row33Assigned, Row33Updated, Row58Left, Row58Right, Row54, Row60Yield, Row55, Row55Value, Row19, SpellingRow, SpellingContracts}
+use Rattle.mini_model.specs.Tree.{Tree, node, none, ◌▸◌, listed, unary, absent, null_literal}
+use Rattle.mini_rows.specs.Sketches.{AbsentPart, BooleanValue, String, PropertyName, Unary, Binary, StaticMember, ComputedMember, Yield, Template, Assignment, Update, Asked, AsValue, AsWord, target_asked}
+use Rattle.mini_rows.specs.Spellings.{text, numeral, key, boolean, void_zero, negated_digit, computed_member, static_member, plain, typeof_name, ordered, strict_operator, Row33Name, Row33Number, Row33, Row33Assigned, Row33Updated, Row58Left, Row58Right, Row54, Row60Yield, Row55, Row55Value, Row19, SpellingRow, SpellingContracts}
 use Rattle.mini_less.specs.Families.{LessAt, SpellingsReadLess}
 use Rattle.mini_less.proofs.LessRows.{reads_less_by}
 use Rattle.mini_less.proofs.Made.{ByParts}

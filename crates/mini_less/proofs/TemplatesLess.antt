@@ -1,5 +1,5 @@
 -- Rows on templates ask less.
-use Rattle.std.specs.Prelude.{◌≡◌, refl, List, [], ◌∷◌}
+use Rattle.std.specs.Prelude.{refl, List, [], ◌∷◌}
 use Rattle.std.proofs.Common.{inl, inr, sym, subst}
 use Rattle.mini_model.specs.declared.operator.BinaryOperator.TheVariants.{Addition}
 use Rattle.mini_model.specs.declared.place.Position.{Position}
@@ -9,7 +9,7 @@ use Rattle.mini_model.specs.Paths.{append}
 use Rattle.mini_model.specs.Tree.{Tree, Trees, none, ◌▸◌, listed}
 use Rattle.mini_rows.specs.Sketches.{AList, Binary, Template, Piece as PieceHead, Asked, AsValue, AsHeld}
 use Rattle.mini_rows.specs.Spellings.{binary}
-use Rattle.mini_rows.specs.Templates.{Piece, piece, pieces, template, pair, spelled, Row18, Row5Both, Row5After, Row5Before, Row5, Row6, TemplateRow, TemplateContracts}
+use Rattle.mini_rows.specs.Templates.{Piece, piece, pieces, template, pair, spelled, Row18, Row5, Row6, TemplateRow, TemplateContracts}
 use Rattle.mini_rows.proofs.Arranging.{All, all_of, of_all, first_all, second_all, both_all, Any}
 use Rattle.mini_less.specs.Families.{LessAt, TemplatesReadLess}
 use Rattle.mini_less.proofs.LessRows.{reads_less_by}

@@ -1,12 +1,11 @@
 -- Rows that turn a test ask less.
-use Rattle.std.specs.Prelude.{ℕ, ◌≡◌, refl, Bool, true, []}
-use Rattle.std.proofs.Common.{ap, ◌∙◌, sym, true≢false}
+use Rattle.std.specs.Prelude.{refl, []}
 use Rattle.mini_model.specs.declared.operator.UnaryOperator.TheVariants.{LogicalNot}
 use Rattle.mini_model.specs.declared.place.Position.{Position}
 use Rattle.mini_model.specs.declared.place.Position.TheVariants.{Expr, Stmt}
 use Rattle.mini_model.specs.Tree.{Tree, none, ◌▸◌}
 use Rattle.mini_shrink.proofs.Programs.{reads_less_shrinks}
-use Rattle.mini_rows.specs.Sketches.{Unary, Binary, Conditional, If, Sketch, Parts, part, under, end, ◌▹◌, still, AsValue, AsWhole}
+use Rattle.mini_rows.specs.Sketches.{Unary, Binary, Conditional, If, Parts, part, under, end, ◌▹◌, still}
 use Rattle.mini_rows.specs.Turns.{unequal, equal, TurnRow, TurnContracts}
 use Rattle.mini_less.specs.Families.{TurnsReadLess, TurnsShrink}
 use Rattle.mini_less.specs.Families.{LessAt}

@@ -3,7 +3,6 @@ use Rattle.std.specs.Prelude.{◌⊎◌}
 use Rattle.mini_model.specs.declared.place.Position.{Position}
 use Rattle.mini_model.specs.Tree.{Tree}
 use Rattle.mini_laws.specs.Value.{VariableSet}
-use Rattle.mini_shrink.specs.Facts.{ReadsLess}
 use Rattle.mini_model.specs.Redex.{Contracts}
 use Rattle.mini_rows.specs.Spellings.{SpellingContracts}
 use Rattle.mini_rows.specs.SpellKeys.{KeyContracts}

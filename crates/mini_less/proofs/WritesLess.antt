@@ -1,9 +1,8 @@
 -- Rows of names that can be written ask less.
-use Rattle.std.specs.Prelude.{ℕ, ◌≡◌, refl, Bool, true, false, Option, Some, None}
-use Rattle.std.proofs.Common.{inl, inr, ap, ◌∙◌, sym, subst}
+use Rattle.std.specs.Prelude.{◌≡◌, refl, Bool, true, false, Option, Some, None}
+use Rattle.std.proofs.Common.{inl, inr, sym, subst}
 use Rattle.mini_model.specs.declared.name.Name.{Name}
 use Rattle.mini_model.specs.declared.operator.AssignmentOperator.TheVariants.{Assign}
-use Rattle.mini_model.specs.declared.operator.BinaryOperator.{BinaryOperator}
 use Rattle.mini_model.specs.declared.operator.BinaryOperator.TheVariants.{Equality, Inequality}
 use Rattle.mini_model.specs.declared.operator.LogicalOperator.{LogicalOperator}
 use Rattle.mini_model.specs.declared.operator.LogicalOperator.TheVariants.{Coalesce}
@@ -14,7 +13,7 @@ use Rattle.mini_model.specs.Tree.{Tree, none, ◌▸◌, identifier, logical, nu
 use Rattle.mini_laws.specs.Value.{VariableSet}
 use Rattle.mini_rows.specs.Chains.{spine, chain}
 use Rattle.mini_rows.specs.Choices.{assign, joining, strictly, loosely, deciding, ended}
-use Rattle.mini_rows.specs.Sketches.{Binary, Logical, Conditional, Assignment, Asked, AsValue}
+use Rattle.mini_rows.specs.Sketches.{Logical, Conditional, Assignment, AsValue}
 use Rattle.mini_rows.specs.Spellings.{binary}
 use Rattle.mini_rows.specs.Unused.{resolved}
 use Rattle.mini_rows.specs.Writes.{if_null, Row34, Row46Assigned, Row37Assigned, Row46AssignedChain, WriteRow, WriteContracts}
@@ -23,7 +22,6 @@ use Rattle.mini_less.specs.Families.{LessAt, WritesReadLess}
 use Rattle.mini_less.proofs.ChainsLess.{IsBuilt, built_less, spine_made, a_chain, guarded_made, guarded_built}
 use Rattle.mini_less.proofs.ConditionalsLess.{ended_parts, assigned_parts, retargeted}
 use Rattle.mini_less.proofs.LessRows.{reads_less_by}
-use Rattle.mini_less.proofs.Made.{ByParts}
 use Rattle.mini_less.proofs.Nodes.{binary_parts, a_binary, logical_parts, a_logical, conditional_parts, a_null, made_under}
 
 ended_built : (o : LogicalOperator) (b : Option Tree) (t : Tree) → IsBuilt t → IsBuilt (ended o b t)

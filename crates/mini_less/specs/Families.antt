@@ -23,8 +23,13 @@ use Rattle.mini_kept.specs.Loosely.{undeclared}
 use Rattle.mini_shrink.specs.Pace.{AtMost, pace}
 use Rattle.mini_shrink.specs.Questions.{at_program}
 use Rattle.mini_shrink.specs.Facts.{Fact, question, ReadsLess}
+use Rattle.mini_rows.specs.Loops.{Row84}
+use Rattle.mini_rows.specs.Idle.{IdleRow, IdleStatement}
+use Rattle.mini_rows.specs.Members.{MemberRow}
+use Rattle.mini_kept.specs.Without.{Assured}
+use Rattle.mini_rows.specs.Still.{StillRow}
 use Rattle.mini_rows.specs.Turns.{TurnContracts}
-use Rattle.mini_rows.specs.Branches.{IfRow, Row60}
+use Rattle.mini_rows.specs.Branches.{IfRow, Row60, Row79 as Row79InBody, Row78Whole, Row78Never}
 use Rattle.mini_rows.specs.DeMorgan.{DeMorganContracts}
 use Rattle.mini_rows.specs.Folding.{FoldingContracts}
 use Rattle.mini_rows.specs.SpellKeys.{KeyContracts}
@@ -150,6 +155,20 @@ DeMorganReadsLess = ReadsLess DeMorganContracts
 pub record IfRowsLess : Type 0 where
   pub ifs : (q : StmtSeat) (n w : Tree) → IfRow n w → LessAt (Stmt q) n w
   pub returns : (q : StmtSeat) (n w : Tree) → Row60 n w → LessAt (Stmt q) n w
+
+-- rows of branches and of bodies of loops: 79, 84, and 78 where the body is a jump
+pub record BodyRowsLess : Type 0 where
+  pub row_79 : (q : StmtSeat) (n w : Tree) → Row79InBody n w → LessAt (Stmt q) n w
+  pub row_84 : (q : StmtSeat) (n w : Tree) → Row84 n w → LessAt (Stmt q) n w
+  pub row_78_whole : (q : StmtSeat) (n w : Tree) → Row78Whole n w → LessAt (Stmt q) n w
+  pub row_78_never : (q : StmtSeat) (n w : Tree) → Row78Never n w → LessAt (Stmt q) n w
+
+-- rows that rest on what is known of the body around, whatever is known: of members, and of `this`
+pub record BodyRowsOfThisLess : Type 0 where
+  pub members : (V : Assured) (q : Seat) (n w : Tree) → MemberRow V q n w → LessAt (Expr q) n w
+  pub idle : (V : Assured) (q : Seat) (n w : Tree) → IdleRow V q n w → LessAt (Expr q) n w
+  pub still : (V : Assured) (q : Seat) (n w : Tree) → StillRow V q n w → LessAt (Expr q) n w
+  pub statements : (V : Assured) (q : StmtSeat) (n w : Tree) → IdleStatement V n w → LessAt (Stmt q) n w
 
 -- ---- all families of which each row asks less
 

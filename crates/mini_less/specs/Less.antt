@@ -1,5 +1,5 @@
 -- An expression that is built anew of the parts of another holds nothing of which the other has nothing, whatever is asked of plain heads.
-use Rattle.std.specs.Prelude.{ℕ, ◌≡◌, Bool, true, false, [], ◌∷◌}
+use Rattle.std.specs.Prelude.{ℕ, ◌≡◌, Bool, true, false, List, [], ◌∷◌}
 use Rattle.mini_laws.specs.declared.names.Declared.TheVariants as declared
 use Rattle.mini_laws.specs.DeclaredNames.{names_of}
 use Rattle.mini_laws.specs.Early.{clashing, scope_declarations}
@@ -30,14 +30,35 @@ abbrev pub Plain : Head → Trees → Type 0
 Plain Block ts = (names_of declared.Lexical (child_or_absent ts 0) ≡ []) × (clashing [] (scope_declarations (shape_by Block) [] ts) ≡ [])
 Plain h ts = Unit {0}
 
+-- a loop: `for`, `while`, `do`, `for..in` and `for..of`
+pub data Frame : Type 0 where
+  AFor : Frame
+  AWhile : Frame
+  ADo : Frame
+  AnIn : Frame
+  AnOf : Frame
+
+abbrev pub frame_shape : Frame → Shape
+frame_shape AFor = shape.ForStatement
+frame_shape AWhile = shape.WhileStatement
+frame_shape ADo = shape.DoWhileStatement
+frame_shape AnIn = shape.ForInStatement
+frame_shape AnOf = shape.ForOfStatement
+
+-- the names that its head declares, of its first part
+abbrev pub headed : Frame → Tree → List Name
+headed AWhile i = []
+headed ADo i = []
+headed f i = names_of declared.Lexical i
+
 -- plain heads tell nothing, what an unscoped statement tells doesn't depend on where it stands as one, and a name that is updated tells no more than
--- one that is assigned to and one that is read; whether a property is a method or an accessor isn't asked; and of a `for` no more than whether a
+-- one that is assigned to and one that is read; whether a property is a method or an accessor isn't asked; and of a loop no more than whether a
 -- direct eval stands under the names of its head
 pub record TellsPlainly (o : Own) : Type 0 where
   pub plain : (c : Setting) (env : Environment) (h : Head) (ts : Trees) → Plain h ts → o c env (shape_by h) [] 0 ts ≡ false
-  pub moved : (c : Setting) (v : Use) (b : Bool) (env : Environment) (h : Shape) (n : ℕ) (ts : Trees) → is_unscoped_shape h ≡ true → o c env h [] n ts ≡ o (record c { used = v; is_body = b }) env h [] n ts
+  pub moved : (c : Setting) (v : Use) (b : Bool) (env : Environment) (h : Shape) (xs : List Name) (n : ℕ) (ts : Trees) → is_unscoped_shape h ≡ true → o c env h xs n ts ≡ o (record c { used = v; is_body = b }) env h xs n ts
   pub property : (c : Setting) (env : Environment) (kind : PropertyKind) (is_method is_shorthand is_computed : Bool) (ts : Trees) → o c env (shape.ObjectProperty kind is_method is_shorthand is_computed) [] 0 ts ≡ o c env (shape.ObjectProperty Init false is_shorthand is_computed) [] 0 ts
-  pub looped : (c : Setting) (env : Environment) (i j : Tree) (ts us : Trees) → names_of declared.Lexical j ≡ names_of declared.Lexical i → (any_has_eval (j ▸ us) ≡ true → any_has_eval (i ▸ ts) ≡ true) → o c env shape.ForStatement [] 0 (j ▸ us) ≡ true → o c env shape.ForStatement [] 0 (i ▸ ts) ≡ true
+  pub looped : (c : Setting) (env : Environment) (f : Frame) (i j : Tree) (ts us : Trees) → headed f j ≡ headed f i → (any_has_eval (j ▸ us) ≡ true → any_has_eval (i ▸ ts) ≡ true) → o c env (frame_shape f) [] 0 (j ▸ us) ≡ true → o c env (frame_shape f) [] 0 (i ▸ ts) ≡ true
   pub updated : (c : Setting) (env : Environment) (x : Name) → o (record c { used = Write }) env shape.Identifier (x ∷ []) 0 none ≡ false → o (record c { used = Read }) env shape.Identifier (x ∷ []) 0 none ≡ false → o (record c { used = ReadWrite }) env shape.Identifier (x ∷ []) 0 none ≡ false
 
 abbrev pub ExpressionsFindLess : Type 0

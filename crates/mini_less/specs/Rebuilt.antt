@@ -76,4 +76,3 @@ abbrev pub ListsAskLess : Type 0
 ListsAskLess =
     (f : Free) (ps : Parts) → AreLoose ps f → (is js : Items) → rebuilds_list f is js ≡ true → are_headed is ≡ true → (p : Position) → is_statement_list p ≡ true → (before after a d : Trees) → a ≡ items_filled ps is → d ≡ items_filled ps js
     → (n w : Tree) → n ≡ listed (append before (append a after)) → w ≡ listed (append before (append d after)) → (g : Fact) (b k : ℕ) → AsksLess (question g b k) (Declared k) p n w
-

@@ -1,7 +1,7 @@
 //! What each family of rewrites has to show for Shared and Foreign to shrink. Each function's contract is a law, and its body is empty.
 #![tactic(auto)]
 
-ghost use Rattle.mini_less.specs.Families.{ConstantsReadLess, SequencesReadLess, TemplatesReadLess, BooleansReadLess, NegationsReadLess, ChoicesReadLess, WritesReadLess, KeysReadLess, FoldingsReadLess, DeMorganReadsLess, WholeFamiliesReadLess, IfRowsLess, FirstRowsReadLess, OperandsReadLess, SpellingsReadLess, ReadsLessJoins, ReadsLessNarrows, ListRowsLess, MoreRowsLess, TurnsReadLess, TurnsShrink};
+ghost use Rattle.mini_less.specs.Families.{ConstantsReadLess, SequencesReadLess, TemplatesReadLess, BooleansReadLess, NegationsReadLess, ChoicesReadLess, WritesReadLess, KeysReadLess, FoldingsReadLess, DeMorganReadsLess, WholeFamiliesReadLess, IfRowsLess, BodyRowsLess, BodyRowsOfThisLess, FirstRowsReadLess, OperandsReadLess, SpellingsReadLess, ReadsLessJoins, ReadsLessNarrows, ListRowsLess, MoreRowsLess, TurnsReadLess, TurnsShrink};
 ghost use Rattle.mini_less.specs.Rebuilt.{ListsAskLess, StatementsAskLess};
 
 use mini_laws::Rewrites;
@@ -111,4 +111,14 @@ pub fn whole_families_read_less()
 /// Rows of `if`, and of `return` without a value: 60, 82 and 83.
 pub fn if_rows_less()
     ensures { IfRowsLess }
+{}
+
+/// Rows of branches and of bodies of loops: 79, 84, and 78 of a body that is a jump.
+pub fn body_rows_less()
+    ensures { BodyRowsLess }
+{}
+
+/// Rows that rest on what is known of the body around, of members and of `this`.
+pub fn body_rows_of_this_less()
+    ensures { BodyRowsOfThisLess }
 {}

@@ -107,7 +107,7 @@ pub mod ChainRuns
 pub mod ChainReferences
 pub mod ChainGuards
 pub mod ChainLinkMeaning
-mod SequenceStands
+pub mod SequenceStands
 mod FirstParts
 mod ChainHoles
 pub mod ChainLawful
@@ -120,7 +120,7 @@ mod DecrementMeaning
 mod DecrementKept
 mod ForRowKept
 mod ForPartMeaning
-mod ForPartKept
+pub mod ForPartKept
 mod ChainEnds
 mod ChainGone
 mod ChainRest
