@@ -75,9 +75,9 @@ fn assigns_alike(test: &Node, first: &Node, second: &Node, asked: bool) -> bool
     }
 }
 
-/// `a ? x = b : x = c`, `a ? x += b : x += c`, or `a ? x.k = b : x.k = c`, where the test may come
-/// after what is assigned to is known. It is said whether `this` has an effect, as it has where it
-/// is asked of the world.
+/// Whether the expression is `a ? x = b : x = c`, `a ? x += b : x += c`, or
+/// `a ? x.k = b : x.k = c`, where the test may come after what is assigned to is known. `asked`
+/// says that `this` is asked of the world, and so has an effect.
 pub fn assigns_either(node: &Node, asked: bool) -> bool
     ensures { result ≡ it_assigns_either asked node.now }
 {
@@ -104,7 +104,8 @@ fn assigns_indexed(first: &Node, second: &Node, asked: bool) -> bool
         && is_same_indexed(first.child(0), second.child(0), asked)
 }
 
-/// `a ? x[k] = b : x[k] = c`, where evaluating a has no effect. It is said whether `this` has one.
+/// Whether the expression is `a ? x[k] = b : x[k] = c`, where evaluating a has no effect. `asked`
+/// says that `this` is asked of the world, and so has an effect.
 pub fn indexes_either(node: &Node, asked: bool) -> bool
     ensures { result ≡ it_indexes_either asked node.now }
 {
@@ -134,7 +135,7 @@ pub fn assigned(alloc: Global, node: Node) -> Result<Node, OutOfMemory>
     assignment(alloc, operator, target, value)
 }
 
-/// `a == b`
+/// Whether the expression is `a == b`.
 pub fn is_equal(node: &Node) -> bool
     ensures kind { result ≡ is_equal_in (its_operator node.now) }
     ensures parts { result ≡ true → count (children node.now) ≡ 2 }
@@ -145,7 +146,7 @@ pub fn is_equal(node: &Node) -> bool
     }
 }
 
-/// `a != b`
+/// Whether the expression is `a != b`.
 pub fn is_unequal(node: &Node) -> bool
     ensures kind { result ≡ is_unequal_in (its_operator node.now) }
     ensures parts { result ≡ true → count (children node.now) ≡ 2 }

@@ -300,7 +300,9 @@ pub fn try_fold_coalesce(alloc: Global, node: &mut Node, seat: Seat) -> bool
     }
 }
 
-/// What `try_fold_coalesce` does of `??`, and `try_fold_and_or` of `&&` and `||`.
+/// A logical expression with a side that is known loses one: `??` as `try_fold_coalesce` does it,
+/// `&&` and `||` as `try_fold_and_or` does. The answer says whether it did; the only error is that
+/// memory runs out, and then the expression is fit only to be dropped.
 pub fn fold_logical_expr(alloc: Global, node: &mut Node, seat: Seat) -> Result<bool, OutOfMemory>
     ensures tree { OnOk result (node.new ≡ unwrap_or (name.either_written seat node.old) node.old) }
     ensures said { IfOk result (λ changed. changed ≡ is_some (name.either_written seat node.old)) }

@@ -34,7 +34,7 @@ fn turns_idly(node: &Node) -> bool
     matches!(node.shape(), Shape::ForStatement) && node.is_bare(4) && is_idle(node.child(2))
 }
 
-/// Whether a part of its head goes.
+/// Whether the node is a `for` a part of whose head goes.
 pub fn has_idle_head(node: &Node) -> bool
     ensures { result ≡ row.has_idle_head node.now }
 {
